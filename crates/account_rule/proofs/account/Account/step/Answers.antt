@@ -1,0 +1,91 @@
+-- Each way out of the step is one of the rule's four cases: unknown, stale, transfer, ride.
+use Rattle.std.proofs.Common.{List, [], ◌∷◌, ◌++◌, Some, refl, sym, ◌∙◌}
+use Rattle.account_rule.specs.Replies.{ride_reply}
+use Rattle.account_rule.specs.Rules.{permits_of, rules_of}
+use Rattle.account_rule.specs.Kept.{kept_giver}
+use Rattle.account_rule.specs.Stands.{StandsForSome, Stands}
+use Rattle.account_rule.specs.Taps.{live_at}
+use Rattle.account_rule.specs.declared.tap.TapIn.{TapIn}
+use Rattle.account_rule.proofs.StepLemmas.{GivesNone, IsStep, gives_none-fresh, gives_none-state, ride, room, stale, transfer, unknown}
+use Rattle.account_rule.proofs.account.Account.step.Goals as goal
+use Rattle.account_rule.proofs.account.Account.step.Goals.{in-Some-state+else-tap-state+else-gives_transfer, in_default-state}
+
+-- the tap's validator is not known
+
+pub returns-in_default-clause-reply : goal.returns-in_default-clause-reply
+returns-in_default-clause-reply c =
+    λ taps stands. c.free.ensures ∙ (unknown _ c.args.self.now.state taps c.args.tap stands c.in_default.is).reply
+
+pub returns-in_default-clause-stands : goal.returns-in_default-clause-stands
+returns-in_default-clause-stands c =
+    λ taps stands. (unknown _ c.args.self.now.state taps c.args.tap stands c.in_default.is).stands
+
+-- the tap is not later than the last
+
+pub returns-then-tap-state-clause-reply : goal.returns-then-tap-state-clause-reply
+returns-then-tap-state-clause-reply c =
+    λ taps stands. c.free-then-tap-state.ensures
+    ∙ (stale _ _ _ taps c.args.tap _ c.in-Some-state.is stands c.in-Some.is c.if-tap-state.true).reply
+
+pub returns-then-tap-state-clause-stands : goal.returns-then-tap-state-clause-stands
+returns-then-tap-state-clause-stands c =
+    λ taps stands. (stale _ _ _ taps c.args.tap _ c.in-Some-state.is stands c.in-Some.is c.if-tap-state.true).stands
+
+-- the last tap gives a transfer
+
+pub gives_transfer-requires-clause-giver : goal.gives_transfer-requires-clause-giver
+unfolding StandsForSome kept_giver rules_of live_at
+gives_transfer-requires-clause-giver c =
+    λ giver kept. c.requires.stands.1.mode (live_at c.in-Some-state.state.last giver) (rw (c.in-Some-state.is, kept) refl)
+
+pub returns-then-gives_transfer-clause-reply : goal.returns-then-gives_transfer-clause-reply
+unfolding rules_of
+returns-then-gives_transfer-clause-reply c =
+    λ taps stands. c.free-then-gives_transfer.ensures
+    ∙ (transfer (rules_of c.args.table.now c.args.token.now) _ _ taps c.args.tap c.in-Some.mode c.in-Some-state.is stands c.in-Some.is
+    c.if-tap-state.false (sym c.gives_transfer.ensures ∙ c.if-gives_transfer.true)).reply
+
+pub returns-then-gives_transfer-clause-stands : goal.returns-then-gives_transfer-clause-stands
+unfolding rules_of
+returns-then-gives_transfer-clause-stands c =
+    λ taps stands. (transfer (rules_of c.args.table.now c.args.token.now) _ _ taps c.args.tap c.in-Some.mode c.in-Some-state.is stands c.in-Some.is
+    c.if-tap-state.false (sym c.gives_transfer.ensures ∙ c.if-gives_transfer.true)).stands
+
+pub returns-then-gives_transfer-clause-some : goal.returns-then-gives_transfer-clause-some
+unfolding StandsForSome
+returns-then-gives_transfer-clause-some c =
+    (c.requires.stands.0 ++ c.args.tap ∷ [], returns-then-gives_transfer-clause-stands c c.requires.stands.0 c.requires.stands.1)
+
+-- the tap is a ride
+
+pub add_ride-cents-requires-clause-room : goal.add_ride-cents-requires-clause-room
+unfolding StandsForSome rules_of
+add_ride-cents-requires-clause-room c =
+    room (rules_of c.args.table.now c.args.token.now) c.args.self.now.state c.requires.stands.0 c.args.tap _ _ c.requires.stands.1 c.window_at-window.ensures
+    c.terms-terms.ensures.terms c.terms-terms.ensures.limits
+
+gives_none : (c : goal.After-to_ride) → GivesNone (permits_of c.args.table.now) c.args.self.now.state c.args.tap c.in-Some.mode
+gives_none c = elim c.match-self.branch [
+  | in-Some-state+else-tap-state+else-gives_transfer w ↦
+      gives_none-state _ _ _ c.args.tap _ w.in-Some-state.is w.if-tap-state.false (sym w.gives_transfer.ensures ∙ w.if-gives_transfer.false)
+  | in_default-state w ↦ gives_none-fresh _ _ c.args.tap _ w.in_default-state.is
+]
+
+is_ride : (c : goal.After-to_ride) (taps : List TapIn) → Stands (rules_of c.args.table.now c.args.token.now) c.args.self.now taps
+    → IsStep (rules_of c.args.table.now c.args.token.now) taps c.args.tap (ride_reply c.add_ride-cents.result)
+    (Some (record { last = c.args.tap.moment; giver = Some c.in-Some.mode; terms = c.terms-terms.result; window = c.add_ride-cents.new.self }))
+unfolding rules_of
+is_ride c taps stands =
+    ride (rules_of c.args.table.now c.args.token.now) c.args.self.now.state taps c.args.tap c.in-Some.mode _ _ _ _ stands c.in-Some.is
+    (c.requires.mode _ c.in-Some.is) c.requires.until (gives_none c) c.terms-terms.ensures.terms c.terms-terms.ensures.limits c.window_at-window.ensures
+    c.add_ride-cents.ensures.cost c.add_ride-cents.ensures.counts
+
+pub returns-clause-reply : goal.returns-clause-reply
+returns-clause-reply c = λ taps stands. c.to_ride.ensures ∙ (is_ride c taps stands).reply
+
+pub returns-clause-stands : goal.returns-clause-stands
+returns-clause-stands c = λ taps stands. (is_ride c taps stands).stands
+
+pub returns-clause-some : goal.returns-clause-some
+unfolding StandsForSome
+returns-clause-some c = (c.requires.stands.0 ++ c.args.tap ∷ [], returns-clause-stands c c.requires.stands.0 c.requires.stands.1)

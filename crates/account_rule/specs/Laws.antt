@@ -1,0 +1,84 @@
+use Rattle.std.specs.Prelude.{◌≡◌, ◌↔◌, ℕ, zero, suc, ◌≤◌, Bool, true, false, List, [], ◌∷◌, ◌++◌, length, filter, All, sum_by, count_by}
+use Rattle.std.specs.List.{flat_map}
+use Rattle.fare_table.specs.declared.terms.Terms.{Terms}
+use Rattle.account_rule.specs.declared.reply.Answer.{Answer}
+use Rattle.account_rule.specs.declared.reply.Answer.TheVariants.{Paid, Transfer, Capped, Stale, Unknown}
+use Rattle.account_rule.specs.declared.reply.Reply.{Reply}
+use Rattle.account_rule.specs.declared.tap.TapIn.{TapIn}
+use Rattle.account_rule.specs.Chains.{continues, chains, rides}
+use Rattle.account_rule.specs.Cut.{IsCut}
+use Rattle.account_rule.specs.Replies.{replies, ride_reply}
+use Rattle.account_rule.specs.Rules.{Rules}
+use Rattle.account_rule.specs.Taps.{LiveTap, live}
+use Rattle.account_rule.specs.Windows.{charge, is_within, windows, paid_rides, ride_cents}
+
+-- the chains are the only blocks into which links cut the live taps
+abbrev pub ChainsAreTheOnlyCut : Type 0
+ChainsAreTheOnlyCut =
+    (rules : Rules) (taps : List TapIn) (blocks : List (List LiveTap))
+    → IsCut (continues rules.permits) (live taps) blocks ↔ (blocks ≡ chains rules taps)
+
+-- the windows are the only blocks into which limits cut the rides
+abbrev pub WindowsAreTheOnlyCut : Type 0
+WindowsAreTheOnlyCut =
+    (rules : Rules) (taps : List TapIn) (blocks : List (List LiveTap))
+    → IsCut (is_within rules.until) (rides rules taps) blocks ↔ (blocks ≡ windows rules taps)
+
+-- no window has more paid rides than the terms allow
+abbrev pub WindowsKeepTheRideLimit : Type 0
+WindowsKeepTheRideLimit =
+    (rules : Rules) (taps : List TapIn)
+    → All (λ window. paid_rides rules.terms (length window) ≤ rules.terms.rides) (windows rules taps)
+
+-- no window costs more than the ceiling
+abbrev pub WindowsKeepTheCeiling : Type 0
+WindowsKeepTheCeiling =
+    (rules : Rules) (taps : List TapIn)
+    → All (λ window. ride_cents rules.terms (length window) ≤ rules.terms.ceiling) (windows rules taps)
+
+abbrev pub is_paid : Reply → Bool
+is_paid reply = is_paid_answer reply.answer
+  where
+    is_paid_answer : Answer → Bool
+    is_paid_answer Paid = true
+    is_paid_answer Transfer = false
+    is_paid_answer Capped = false
+    is_paid_answer Stale = false
+    is_paid_answer Unknown = false
+
+-- whether the reply is to a ride, charged or free
+abbrev pub is_ride : Reply → Bool
+is_ride reply = is_ride_answer reply.answer
+  where
+    is_ride_answer : Answer → Bool
+    is_ride_answer Paid = true
+    is_ride_answer Transfer = false
+    is_ride_answer Capped = true
+    is_ride_answer Stale = false
+    is_ride_answer Unknown = false
+
+-- the replies to the first rides of a window, by their places
+unfoldable pub place_replies : Terms → ℕ → List Reply
+place_replies terms zero = []
+place_replies terms (suc place) = place_replies terms place ++ ride_reply (charge terms place) ∷ []
+
+-- the replies to rides are, window by window, those of the places
+abbrev pub WindowsShareTheRides : Type 0
+WindowsShareTheRides =
+    (rules : Rules) (taps : List TapIn)
+    → filter is_ride (replies rules taps)
+    ≡ flat_map (λ window. place_replies rules.terms (length window)) (windows rules taps)
+
+-- the cents of all replies are the cents of all windows
+abbrev pub WindowsShareTheCents : Type 0
+WindowsShareTheCents =
+    (rules : Rules) (taps : List TapIn)
+    → sum_by (λ reply. reply.cents) (replies rules taps)
+    ≡ sum_by (λ window. ride_cents rules.terms (length window)) (windows rules taps)
+
+-- the Paid replies are the paid rides of all windows
+abbrev pub WindowsShareThePaidRides : Type 0
+WindowsShareThePaidRides =
+    (rules : Rules) (taps : List TapIn)
+    → count_by is_paid (replies rules taps)
+    ≡ sum_by (λ window. paid_rides rules.terms (length window)) (windows rules taps)

@@ -1,0 +1,9 @@
+pub mod Cut
+pub mod Rules
+pub mod Taps
+pub mod Chains
+pub mod Windows
+pub mod Replies
+pub mod Kept
+pub mod Stands
+pub mod Laws

@@ -1,0 +1,154 @@
+ghost use Rattle.std.specs.Prelude.{◌≡◌, ℕ, ◌<◌, ◌≤◌, List, [], ◌∷◌, ◌++◌, length, option_map, IfSome};
+ghost use Rattle.std.specs.Option.{ForSome};
+ghost use Rattle.fare_table.specs.Terms.{HasLimits};
+ghost use Rattle.fare_table.specs.Until.{until};
+ghost use Rattle.account_rule.specs.declared.tap.TapIn.{TapIn};
+ghost use Rattle.account_rule.specs.Replies.{reply};
+ghost use Rattle.account_rule.specs.Rules.{Rules, permits_of, rules_of};
+ghost use Rattle.account_rule.specs.Kept.{gives, kept_window, window_at};
+ghost use Rattle.account_rule.specs.Stands.{Stands, StandsForSome};
+ghost use Rattle.account_rule.specs.Taps.{live_at};
+ghost use Rattle.account_rule.specs.Windows.{last_window};
+
+use crate::reply::{Answer, Reply};
+use crate::tap::TapIn;
+use crate::window::{Window, WindowView};
+use fare_table::{FareTable, Mode, Terms};
+
+/// For how long a ride includes a transfer, in milliseconds: two hours (MTA, free transfers), the
+/// limit included (this project's choice).
+const TRANSFER_TIME: u64 = 7_200_000;
+
+/// The account of one token under one table.
+///
+/// It stands for the list of all taps of the token, and keeps of them a few numbers that decide
+/// every later reply.
+#[derive(Clone, Copy, Debug, PartialEq, Eq)]
+pub struct Account {
+    /// None before the first live tap.
+    state: Option<State>,
+}
+
+/// What is kept from the first live tap on, which is a ride and so opens a window.
+#[derive(Clone, Copy, Debug, PartialEq, Eq)]
+struct State {
+    /// The moment of the last live tap.
+    last: u64,
+    /// Its mode, where it is a ride and so can give a transfer.
+    giver: Option<Mode>,
+    /// The token's terms, so that the table is asked for them once.
+    terms: Terms,
+    window: Window,
+}
+
+impl Account {
+    /// An account that has seen no tap.
+    pub fn fresh() -> Self
+        ensures stands { (rules : Rules) → Stands rules result [] }
+        ensures some { (rules : Rules) → StandsForSome rules result }
+    {
+        Account { state: None }
+    }
+
+    /// Takes one more tap of the token, and returns what the rule replies to it.
+    ///
+    /// The table and the token are the same in all calls on an account, the tap's mode is one of
+    /// the table's, and its `until` is the table's limit for its moment. There is no order of
+    /// moments to keep: a tap that comes too late is stale. The step takes no memory, and asks the
+    /// table for the token's terms at the first ride alone.
+    pub fn step(&mut self, table: &FareTable, token: &[u8], tap: TapIn) -> Reply
+        requires token { length token.now ≡ 16 }
+        requires mode { ForSome tap.mode (λ mode. mode.place < length table.now.rules.modes) }
+        requires until { tap.until ≡ until table.now tap.moment }
+        requires stands { StandsForSome (rules_of table.now token.now) self.old }
+
+        // Of every list for which the account stood.
+        ensures reply { (taps : List TapIn) → Stands (rules_of table.now token.now) self.old taps
+            → result ≡ reply (rules_of table.now token.now) taps tap }
+        ensures stands { (taps : List TapIn) → Stands (rules_of table.now token.now) self.old taps
+            → Stands (rules_of table.now token.now) self.new (taps ++ tap ∷ []) }
+        ensures some { StandsForSome (rules_of table.now token.now) self.new }
+    {
+        let Some(mode) = tap.mode else {
+            return Reply::free(Answer::Unknown);
+        };
+        if let Some(state) = self.state {
+            if tap.moment <= state.last {
+                return Reply::free(Answer::Stale);
+            }
+            if state.gives_transfer(table, tap.moment, mode) {
+                self.state = Some(State {
+                    last: tap.moment,
+                    giver: None,
+                    terms: state.terms,
+                    window: state.window,
+                });
+                return Reply::free(Answer::Transfer);
+            }
+        }
+        let terms = self.terms(table, token);
+        let mut window = window_at(self.state, tap);
+        let cents = window.add_ride(terms);
+        self.state = Some(State {
+            last: tap.moment,
+            giver: Some(mode),
+            terms,
+            window,
+        });
+        Reply::to_ride(cents)
+    }
+
+    /// The last window, or `None` before the first ride: its paid rides and its cents are within
+    /// the limits of the token's terms (MTA, fare capping).
+    pub fn window(&self) -> Option<WindowView>
+        ensures window { (rules : Rules) (taps : List TapIn) → Stands rules self.now taps
+            → result ≡ last_window rules taps }
+        ensures paid { (rules : Rules) (taps : List TapIn) → Stands rules self.now taps
+            → IfSome result (λ window. window.paid ≤ rules.terms.rides) }
+        ensures cents { (rules : Rules) (taps : List TapIn) → Stands rules self.now taps
+            → IfSome result (λ window. window.cents ≤ rules.terms.ceiling) }
+    {
+        self.state.map(|state| state.window.shown())
+    }
+
+    /// The token's terms: those that are kept, or before the first live tap the table's.
+    fn terms(&self, table: &FareTable, token: &[u8]) -> Terms
+        requires token { length token.now ≡ 16 }
+        requires stands { StandsForSome (rules_of table.now token.now) self.now }
+        ensures terms { result ≡ (rules_of table.now token.now).terms }
+        ensures limits { HasLimits result }
+    {
+        match self.state {
+            Some(state) => state.terms,
+            None => table.terms_of(token),
+        }
+    }
+}
+
+impl State {
+    /// Whether the last live tap gives a transfer to a live tap at the moment, on the mode.
+    #[tactic(auto, unfolding(crate::specs::Chains::is_linked, crate::specs::Rules::permits_of, crate::specs::Kept::gives, crate::specs::Taps::live_at))]
+    fn gives_transfer(&self, table: &FareTable, moment: u64, mode: Mode) -> bool
+        requires giver { ForSome self.now.giver (λ giver. giver.place < length table.now.rules.modes) }
+        requires mode { mode.place < length table.now.rules.modes }
+        ensures { result ≡ gives (permits_of table.now)
+            (option_map (live_at self.now.last) self.now.giver) (live_at moment mode) }
+    {
+        match self.giver {
+            Some(giver) => moment.saturating_sub(self.last) <= TRANSFER_TIME
+                && table.permits(giver, mode),
+            None => false,
+        }
+    }
+}
+
+/// The window to which a ride belongs: the one that is kept, or one that the ride opens.
+#[tactic(auto, unfolding(crate::specs::Kept::window_at, crate::specs::Kept::kept_window))]
+fn window_at(state: Option<State>, tap: TapIn) -> Window
+    ensures { result ≡ window_at (kept_window state) tap.moment tap.until }
+{
+    match state {
+        Some(state) if tap.moment < state.window.until => state.window,
+        _ => Window::open(tap.moment, tap.until),
+    }
+}

@@ -1,0 +1,26 @@
+//! What holds of every list of taps: laws over the definitions of `specs/`, each the contract of
+//! a function that does nothing.
+
+ghost use Rattle.account_rule.specs.Laws.{ChainsAreTheOnlyCut, WindowsAreTheOnlyCut, WindowsKeepTheCeiling, WindowsKeepTheRideLimit, WindowsShareTheCents, WindowsShareThePaidRides, WindowsShareTheRides};
+
+/// The chains are the only way to cut live taps by links, and the windows the only way to cut rides
+/// by the limits of windows.
+pub fn cuts()
+    ensures chains { ChainsAreTheOnlyCut }
+    ensures windows { WindowsAreTheOnlyCut }
+{}
+
+/// No window of any list has more paid rides than the terms allow, or costs more than their ceiling
+/// (MTA, fare capping).
+pub fn limits()
+    ensures rides { WindowsKeepTheRideLimit }
+    ensures ceiling { WindowsKeepTheCeiling }
+{}
+
+/// What was charged is shared out among the windows: each reply to a ride is that of its place in
+/// its window, and the windows' cents and paid rides add up to those of all replies.
+pub fn shares()
+    ensures rides { WindowsShareTheRides }
+    ensures cents { WindowsShareTheCents }
+    ensures paid { WindowsShareThePaidRides }
+{}

@@ -1,0 +1,51 @@
+ghost use Rattle.std.specs.Prelude.{◌≡◌};
+ghost use Rattle.account_rule.specs.Replies.{reply_of, ride_reply};
+
+/// What became of a tap.
+#[derive(Clone, Copy, Debug, PartialEq, Eq)]
+pub enum Answer {
+    /// A ride that is charged.
+    Paid,
+    /// A free transfer from the ride before it (MTA, free transfers).
+    Transfer,
+    /// A ride that costs nothing, since its window has reached a limit (MTA, fare capping).
+    Capped,
+    /// A known tap that is not later than all known taps before it (this project's choice).
+    Stale,
+    /// A tap at a validator that the table does not know (this project's choice).
+    Unknown,
+}
+
+/// The rule's reply to a tap.
+#[derive(Clone, Copy, Debug, PartialEq, Eq)]
+pub struct Reply {
+    /// What became of the tap.
+    pub answer: Answer,
+    /// What it costs in cents: above 0 where the answer is `Paid`, and else 0.
+    pub cents: u32,
+}
+
+impl Reply {
+    /// A reply that costs nothing.
+    #[tactic(auto, unfolding(crate::specs::Replies::reply_of))]
+    pub(crate) fn free(answer: Answer) -> Self
+        ensures { result ≡ reply_of answer 0 }
+    {
+        Reply { answer, cents: 0 }
+    }
+
+    /// The reply to a ride that costs so much.
+    #[tactic(auto, unfolding(crate::specs::Replies::ride_reply, crate::specs::Replies::reply_of))]
+    pub(crate) fn to_ride(cents: u32) -> Self
+        ensures { result ≡ ride_reply cents }
+    {
+        if cents > 0 {
+            Reply {
+                answer: Answer::Paid,
+                cents,
+            }
+        } else {
+            Reply::free(Answer::Capped)
+        }
+    }
+}

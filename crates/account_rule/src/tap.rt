@@ -1,0 +1,12 @@
+use fare_table::Mode;
+
+/// A tap, as the rule sees it.
+#[derive(Clone, Copy, Debug, PartialEq, Eq)]
+pub struct TapIn {
+    /// When the card was tapped, in milliseconds since 1970-01-01T00:00Z.
+    pub moment: u64,
+    /// The mode of the tap's validator, or `None` where the table does not know the validator.
+    pub mode: Option<Mode>,
+    /// The table's limit of a window that starts at `moment`, in milliseconds since 1970-01-01T00:00Z.
+    pub until: u64,
+}

@@ -1,0 +1,7 @@
+//! Worked rows of one account, and the plain account that keeps all its taps.
+
+mod agreement;
+mod both;
+mod plain;
+mod rows;
+mod tables;

@@ -1,0 +1,94 @@
+ghost use Rattle.std.specs.Prelude.{◌≡◌, ◌+◌, ◌*◌, ◌^◌, ◌<◌, ◌≤◌};
+ghost use Rattle.fare_table.specs.Terms.{HasLimits};
+ghost use Rattle.account_rule.specs.Kept.{IsRoomy, open_window, shown_of, with_ride};
+ghost use Rattle.account_rule.specs.Windows.{charge};
+
+use fare_table::Terms;
+
+/// A window as its owner sees it: the rides of a week, and what they cost together.
+#[derive(Clone, Copy, Debug, PartialEq, Eq)]
+pub struct WindowView {
+    /// The moment of its first ride, in milliseconds since 1970-01-01T00:00Z.
+    pub start: u64,
+    /// The moment from which on a ride opens the next window, in milliseconds since 1970-01-01T00:00Z.
+    pub until: u64,
+    /// How many of its rides were charged.
+    pub paid: u32,
+    /// What they cost together, in cents.
+    pub cents: u32,
+}
+
+/// What an account keeps of its last window.
+#[derive(Clone, Copy, Debug, PartialEq, Eq)]
+pub(crate) struct Window {
+    pub(crate) start: u64,
+    pub(crate) until: u64,
+    pub(crate) cents: u32,
+    /// How many rides it has, counted up to the limit of the terms and no further.
+    pub(crate) rides: u16,
+    /// How many of them were charged.
+    pub(crate) paid: u16,
+}
+
+impl Window {
+    /// A window with no ride yet, for a first ride at `start`.
+    #[tactic(auto, unfolding(crate::specs::Kept::open_window))]
+    pub(crate) fn open(start: u64, until: u64) -> Self
+        ensures { result ≡ open_window start until }
+    {
+        Window {
+            start,
+            until,
+            cents: 0,
+            rides: 0,
+            paid: 0,
+        }
+    }
+
+    /// What its owner sees of it.
+    #[tactic(auto, unfolding(crate::specs::Kept::shown_of))]
+    pub(crate) fn shown(self) -> WindowView
+        ensures { result ≡ shown_of self }
+    {
+        WindowView {
+            start: self.start,
+            until: self.until,
+            paid: u32::from(self.paid),
+            cents: self.cents,
+        }
+    }
+
+    /// Counts one more ride, and returns what it costs.
+    #[tactic(auto, unfolding(crate::specs::Kept::with_ride))]
+    pub(crate) fn add_ride(&mut self, terms: Terms) -> u32
+        requires limits { HasLimits terms }
+        requires room { IsRoomy terms self.old }
+        ensures cost { result ≡ charge terms self.old.rides }
+        ensures counts { self.new ≡ with_ride terms self.old }
+    {
+        let cents = charge(terms, u32::from(self.rides));
+        *self = Window {
+            start: self.start,
+            until: self.until,
+            cents: self.cents + cents,
+            rides: (u32::from(self.rides) + 1).min(terms.rides) as u16,
+            paid: self.paid + u16::from(cents > 0),
+        };
+        cents
+    }
+}
+
+/// What a ride costs at its place in its window, counted from 0.
+#[tactic(auto, unfolding(crate::specs::Windows::charge))]
+fn charge(terms: Terms, place: u32) -> u32
+    requires fits { place * terms.fare < 2 ^ 32 }
+    ensures cost { result ≡ charge terms place }
+    ensures at_most { result ≤ terms.fare }
+{
+    let before = place * terms.fare;
+    if place >= terms.rides || before >= terms.ceiling {
+        0
+    } else {
+        terms.fare.min(terms.ceiling - before)
+    }
+}

@@ -1,0 +1,135 @@
+-- Ranges that rise and stand apart.
+use Rattle.std.proofs.Common.{◌≡◌, ◌⊎◌, ℕ, ◌+◌, ◌-◌, ◌*◌, ◌/◌, ◌<◌, ◌≤◌, ◌&&◌, Bool, true, false, List, [], ◌∷◌, length, get_or, refl, sym, ◌∙◌, arith, zero, suc, take, Option, Some, None, cond, inl, inr, add-one, IfSome}
+use Rattle.std.proofs.lemmas.Bool.{and_parts, cases_Bool, false≢true, leb-true}
+use Rattle.std.proofs.lemmas.List.{get_or_default}
+use Rattle.std.proofs.lemmas.List.Sorted.{IsNonDecreasingBy-from_all_adjacent, IsPartitionedBy-leb}
+use Rattle.std.proofs.lemmas.Option.{slice_get-get_or}
+use Rattle.std.proofs.lemmas.Bool.Decides.{leb_tells, nat_tests}
+use Rattle.std.specs.List.{slice_get, AllWithin, find, list_all}
+use Rattle.std.specs.List.Sorted.{IsNonDecreasingBy, IsPartitionedBy}
+use Rattle.std.specs.Option.{option_or}
+use Rattle.std.specs.Prelude.{nat_le, nat_lt, if◌then◌else◌}
+use Rattle.fare_table.specs.Fares.{has_number}
+use Rattle.fare_table.specs.Validators.{is_chain, last_begun, IsSplit}
+use Rattle.fare_table.specs.declared.validators.Span.{Span}
+
+-- the range, where it reaches the number
+abbrev pub reaching : ℕ → Option (ℕ × Span) → Option (ℕ × Span)
+reaching number None = None
+reaching number (Some range) = if nat_le number range.1.last then Some range else None
+
+pub or_twice : {A : Type 0} (o : Option A) (a b : A) → option_or (option_or o (Some a)) (Some b) ≡ option_or o (Some a)
+or_twice None a b = refl
+or_twice (Some x) a b = refl
+
+-- what two neighbours of a chain say
+pub record AreApart (range next : ℕ × Span) (more : List (ℕ × Span)) : Type 0 where
+  pub begins : range.0 ≤ range.1.last
+  pub ends : range.1.last < next.0
+  pub rest : is_chain (next ∷ more) ≡ true
+
+pub apart : (range next : ℕ × Span) (more : List (ℕ × Span)) → is_chain (range ∷ next ∷ more) ≡ true → AreApart range next more
+apart range next more chain =
+    let both = and_parts (nat_le range.0 range.1.last && nat_lt range.1.last next.0) (is_chain (next ∷ more)) chain in
+    let first = and_parts (nat_le range.0 range.1.last) (nat_lt range.1.last next.0) both.0 in
+    record {
+      begins = leb-true _ _ first.0;
+      ends = leb-true _ _ first.1;
+      rest = both.1;
+    }
+
+found_step : (n : ℕ) (range next : ℕ × Span) (more : List (ℕ × Span)) → AreApart range next more
+    → find (has_number n) (next ∷ more) ≡ reaching n (last_begun n (next ∷ more))
+    → ((nat_le range.0 n ≡ true) × (range.0 ≤ n)) ⊎ ((nat_le range.0 n ≡ false) × (n < range.0))
+    → ((nat_le next.0 n ≡ true) × (next.0 ≤ n)) ⊎ ((nat_le next.0 n ≡ false) × (n < next.0))
+    → find (has_number n) (range ∷ next ∷ more) ≡ reaching n (last_begun n (range ∷ next ∷ more))
+found_step n range next more two ih (inr a) nexts =
+    let later : nat_le next.0 n ≡ false = grind (arith, nat_tests, two.begins, two.ends) in
+    rw (a.0, ih, later)
+found_step n range next more two ih (inl a) (inr b) = rw (ih, a.0, b.0)
+found_step n range next more two ih (inl a) (inl b) =
+    let past : nat_le n range.1.last ≡ false = grind (arith, nat_tests, two.ends) in
+    rw (a.0, past, ih, b.0, or_twice (last_begun n more) next range)
+
+-- the range that has a number is the last one that begins at it or before it, where that reaches it
+pub found : (n : ℕ) (ranges : List (ℕ × Span)) → is_chain ranges ≡ true → find (has_number n) ranges ≡ reaching n (last_begun n ranges)
+found n [] chain = refl
+found n (range ∷ []) chain = elim (leb_tells range.0 n) [ inl a ↦ rw a.0 | inr a ↦ rw a.0 ]
+found n (range ∷ next ∷ more) chain =
+    let two = apart range next more chain in
+    found_step n range next more two (found n (next ∷ more) two.rest) (leb_tells range.0 n) (leb_tells next.0 n)
+
+last_of_cons : (r : ℕ × Span) (t : List (ℕ × Span)) → slice_get (r ∷ t) (length (r ∷ t) - 1) ≡ option_or (slice_get t (length t - 1)) (Some r)
+last_of_cons r [] = refl
+last_of_cons r (x ∷ xs) =
+    let inside : length xs < length (x ∷ xs) = omega arith in
+    let first : length (r ∷ x ∷ xs) - 1 ≡ suc (length xs) = omega arith in
+    let second : length (x ∷ xs) - 1 ≡ length xs = omega arith in
+    rw (first, second, slice_get-get_or (x ∷ xs) (length xs) x inside)
+
+-- the last of a list whose first part begins at the number or before it, and whose other part after it
+pub last_begun-split : (n : ℕ) (ranges : List (ℕ × Span)) (i : ℕ)
+    → AllWithin (λ range. nat_le range.0 n ≡ true) ranges 0 i
+    → AllWithin (λ range. nat_le range.0 n ≡ false) ranges i (length ranges)
+    → slice_get (take i ranges) (length (take i ranges) - 1) ≡ last_begun n ranges
+last_begun-split n [] zero front back = refl
+last_begun-split n [] (suc i) front back = refl
+last_begun-split n (r ∷ rest) zero front back =
+    let after : nat_le r.0 n ≡ false = back 0 r (omega arith) (omega arith) in
+    rw after
+last_begun-split n (r ∷ rest) (suc i) front back =
+    let before : nat_le r.0 n ≡ true = front 0 r (omega arith) (omega arith) in
+    let ih = last_begun-split n rest i (λ k d low high. front (suc k) d (omega arith) (omega arith)) (λ k d low high. back (suc k) d (omega arith) (omega arith)) in
+    rw (last_of_cons r (take i rest), ih, before)
+
+chain_adjacent : (ranges : List (ℕ × Span)) → is_chain ranges ≡ true → (k : ℕ) (d : ℕ × Span) → suc k < length ranges → (get_or ranges k d).0 ≤ (get_or ranges (suc k) d).0
+chain_adjacent [] chain k d inside = absurd (omega arith)
+chain_adjacent (r ∷ []) chain k d inside = absurd (omega arith)
+chain_adjacent (r ∷ s ∷ more) chain zero d inside = let two = apart r s more chain in omega (arith, two.begins, two.ends)
+chain_adjacent (r ∷ s ∷ more) chain (suc k) d inside = chain_adjacent (s ∷ more) (apart r s more chain).rest k d (omega arith)
+
+-- first numbers rise
+pub chain-rises : (ranges : List (ℕ × Span)) → is_chain ranges ≡ true → IsNonDecreasingBy (λ range. range.0) ranges
+chain-rises ranges chain =
+    IsNonDecreasingBy-from_all_adjacent (λ range. range.0) ranges
+    (λ k d inside. rw add-one (chain_adjacent ranges chain k d (omega arith)))
+
+found_one : {A : Type 0} (p q : A → Bool) (x : A) (xs : List A) (b : Bool) → p x ≡ true → IfSome (find q xs) (λ y. p y ≡ true) → IfSome (cond b (Some x) (find q xs)) (λ y. p y ≡ true)
+found_one p q x xs true here later = here
+found_one p q x xs false here later = later
+
+-- what a test says of each element, it says of the one that is found
+pub find-all : {A : Type 0} (p q : A → Bool) (xs : List A) → list_all p xs ≡ true → IfSome (find q xs) (λ x. p x ≡ true)
+find-all p q [] all = tt
+find-all p q (x ∷ xs) all =
+    let both = and_parts (p x) (list_all p xs) all in
+    found_one p q x xs (q x) both.0 (find-all p q xs both.1)
+
+parted : (n : ℕ) (ranges : List (ℕ × Span)) → is_chain ranges ≡ true → IsPartitionedBy (λ range. nat_le range.0 n) ranges
+parted n ranges chain = IsPartitionedBy-leb (λ range. range.0) ranges n (chain-rises ranges chain)
+
+halved : (n : ℕ) (ranges : List (ℕ × Span)) (base size : ℕ) (d : ℕ × Span) → is_chain ranges ≡ true → IsSplit n ranges base size → 1 < size → base + size ≤ length ranges
+    → (b : Bool) → nat_le (get_or ranges (base + size / 2) d).0 n ≡ b
+    → IsSplit n ranges (base + size / 2 * (if b then 1 else 0)) (size - size / 2)
+halved n ranges base size d chain split more inside true is = record {
+  front = λ k e low high.
+      let same : get_or ranges (base + size / 2) d ≡ get_or ranges (base + size / 2) e = get_or_default ranges (base + size / 2) d e (omega arith) in
+      let here : nat_le (get_or ranges (base + size / 2) e).0 n ≡ true = rw (← same) is in
+      parted n ranges chain k (base + size / 2) e (omega arith) (omega arith) here;
+  back = λ k e low high. split.back k e (omega arith) high;
+}
+halved n ranges base size d chain split more inside false is = record {
+  front = λ k e low high. split.front k e low (omega arith);
+  back = λ k e low high.
+      let same : get_or ranges (base + size / 2) d ≡ get_or ranges (base + size / 2) e = get_or_default ranges (base + size / 2) d e (omega arith) in
+      let here : nat_le (get_or ranges (base + size / 2) e).0 n ≡ false = rw (← same) is in
+      elim (cases_Bool (nat_le (get_or ranges k e).0 n)) [
+        | inl begun ↦ absurd (false≢true (sym here ∙ parted n ranges chain (base + size / 2) k e (omega arith) high begun))
+        | inr later ↦ later
+      ];
+}
+
+-- half of what is left is taken where its first range has begun
+pub split-half : (n : ℕ) (ranges : List (ℕ × Span)) (base size : ℕ) (d : ℕ × Span) → is_chain ranges ≡ true → IsSplit n ranges base size → 1 < size → base + size ≤ length ranges
+    → IsSplit n ranges (base + size / 2 * (if nat_le (get_or ranges (base + size / 2) d).0 n then 1 else 0)) (size - size / 2)
+split-half n ranges base size d chain split more inside = halved n ranges base size d chain split more inside (nat_le (get_or ranges (base + size / 2) d).0 n) refl

@@ -1,0 +1,5 @@
+pub mod ChainLemmas
+pub mod MaskLemmas
+pub mod OverlapLemmas
+pub mod UntilLemmas
+pub mod TextFaultLemmas

@@ -1,0 +1,13 @@
+use Rattle.std.proofs.Common.{◌≡◌, [], All}
+use Rattle.std.specs.Map.{values_of}
+use Rattle.toml.specs.View.{members_view}
+use Rattle.fare_table.specs.Riders.{riders_from}
+use Rattle.fare_table.specs.Terms.{HasLimits}
+use Rattle.fare_table.proofs.riders.riders_from.Given as goal
+
+abbrev pub invariant-loop-key : goal.invariant-loop-key
+invariant-loop-key l = record {
+  -- the riders of the whole are those found and those of what is left
+  same : riders_from (members_view l.classes.entries) [] (members_view l.members.entries) ≡ riders_from (members_view l.classes.entries) l.riders.entries (members_view l.key-iterator);
+  limits : All HasLimits (values_of l.riders.entries);
+}

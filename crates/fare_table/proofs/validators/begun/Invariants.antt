@@ -1,0 +1,13 @@
+use Rattle.std.proofs.Common.{◌+◌, ◌<◌, ◌≤◌, length}
+use Rattle.fare_table.specs.Validators.{IsSplit}
+use Rattle.fare_table.proofs.validators.begun.Given as goal
+
+abbrev pub invariant-loop-size : goal.invariant-loop-size
+invariant-loop-size l = record {
+  split : IsSplit l.number l.ranges l.base l.size;
+  some : 0 < l.size;
+  inside : l.base + l.size ≤ length l.ranges;
+}
+
+abbrev pub decreases-loop-size : goal.decreases-loop-size
+decreases-loop-size l = l.size

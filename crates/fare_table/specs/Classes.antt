@@ -1,0 +1,58 @@
+-- The keys `classes` and `default_class`: what rider classes pay.
+use Rattle.std.specs.Prelude.{ℕ, ◌*◌, Bool, true, false, List, Option, Some, None, Ok, Err, codes, if◌then◌else◌}
+use Rattle.std.specs.Option.{ok_or}
+use Rattle.toml.specs.Data.{Data, Members, no_members, member, get_member, as_table}
+use Rattle.fare_table.specs.Members.{number_at, number_in, of_kind, table_at, text_at, hold_tables}
+use Rattle.fare_table.specs.Outcome.{Outcome, ◌>>=◌}
+use Rattle.fare_table.specs.declared.fault.Key.TheVariants as the_key
+use Rattle.fare_table.specs.declared.fault.TableFault.TheVariants.{Kind, Range, Rider}
+use Rattle.fare_table.specs.declared.terms.Terms.{Terms}
+
+-- the ceiling that is named, else the price of all rides
+abbrev pub ceiling_of : ℕ → Option Data → Outcome ℕ
+ceiling_of price None = Ok price
+ceiling_of price (Some value) = number_in the_key.Ceiling 1 100_000_000 value
+
+unfoldable pub class_of : Members → Outcome Terms
+class_of entry = do
+  fare ← number_at (codes "fare") the_key.Fare 1 100_000 entry
+  rides ← number_at (codes "rides") the_key.Rides 1 1_000 entry
+  ceiling ← ceiling_of (rides * fare) (get_member (codes "ceiling") entry)
+  Ok (record {
+    fare = fare;
+    rides = rides;
+    ceiling = ceiling;
+  })
+
+-- the first fault of the classes, class by class
+abbrev pub checked : Members → Outcome (Unit {0})
+checked no_members = Ok tt
+checked (member name value more) = do
+  entry ← of_kind the_key.Classes (as_table value)
+  terms ← class_of entry
+  checked more
+
+abbrev pub is_empty : Members → Bool
+is_empty no_members = true
+is_empty (member name value more) = false
+
+-- the classes as a table of the text, each with terms
+unfoldable pub classes_of : Members → Outcome Members
+classes_of tree = do
+  classes ← table_at (codes "classes") the_key.Classes tree
+  tables ← if hold_tables classes then Ok classes else Err (Kind the_key.Classes)
+  some ← if is_empty tables then Err (Range the_key.Classes) else Ok tables
+  sound ← checked some
+  Ok some
+
+-- the terms of the class of this name
+abbrev pub class_named : Members → List ℕ → Outcome Terms
+class_named classes name = do
+  value ← ok_or (get_member name classes) Rider
+  entry ← of_kind the_key.Classes (as_table value)
+  class_of entry
+
+unfoldable pub default_of : Members → Members → Outcome Terms
+default_of classes tree = do
+  name ← text_at (codes "default_class") the_key.DefaultClass tree
+  class_named classes name

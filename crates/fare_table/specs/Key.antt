@@ -1,0 +1,20 @@
+-- The words that fault lines print for keys.
+use Rattle.std.specs.Prelude.{ℕ, List, codes}
+use Rattle.fare_table.specs.declared.fault.Key.{Key}
+use Rattle.fare_table.specs.declared.fault.Key.TheVariants.{Modes, Transfers, Classes, Fare, Rides, Ceiling, DefaultClass, Validators, First, Last, ModeName, Riders, Zone}
+
+-- the bytes of the variant's name
+abbrev pub key_name : Key → List ℕ
+key_name Modes = codes "Modes"
+key_name Transfers = codes "Transfers"
+key_name Classes = codes "Classes"
+key_name Fare = codes "Fare"
+key_name Rides = codes "Rides"
+key_name Ceiling = codes "Ceiling"
+key_name DefaultClass = codes "DefaultClass"
+key_name Validators = codes "Validators"
+key_name First = codes "First"
+key_name Last = codes "Last"
+key_name ModeName = codes "ModeName"
+key_name Riders = codes "Riders"
+key_name Zone = codes "Zone"

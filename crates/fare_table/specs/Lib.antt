@@ -1,0 +1,15 @@
+pub mod Classes
+pub mod Fares
+pub mod Key
+pub mod Members
+pub mod Modes
+pub mod Outcome
+pub mod PosixRule
+pub mod Riders
+pub mod Rules
+pub mod Table
+pub mod Terms
+pub mod Transfers
+pub mod Until
+pub mod Validators
+pub mod Zone

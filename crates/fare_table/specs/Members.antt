@@ -1,0 +1,60 @@
+-- The values at the keys of a TOML table.
+use Rattle.std.specs.Prelude.{ℕ, ℤ, pos, ◌&&◌, Bool, true, List, Option, Ok, Err, int_le, unsigned_abs, if◌then◌else◌}
+use Rattle.std.specs.Option.{is_some}
+use Rattle.std.specs.Option.{ok_or}
+use Rattle.toml.specs.Data.{Data, Items, no_items, item, Members, no_members, member, get_member, as_str, as_integer, as_array, as_table}
+use Rattle.fare_table.specs.Outcome.{Outcome, ◌>>=◌}
+use Rattle.fare_table.specs.declared.fault.Key.{Key}
+use Rattle.fare_table.specs.declared.fault.TableFault.TheVariants.{Missing, Kind, Range}
+
+-- the value at a key that has to be there
+abbrev pub needed : List ℕ → Key → Members → Outcome Data
+needed name key tree = ok_or (get_member name tree) (Missing key)
+
+-- a part of a value that is to be of one kind
+abbrev pub of_kind : {A : Type 0} → Key → Option A → Outcome A
+of_kind key part = ok_or part (Kind key)
+
+-- the number, where it lies from `low` to `high`
+abbrev pub within : Key → ℕ → ℕ → ℤ → Outcome ℕ
+within key low high number = if int_le (pos low) number && int_le number (pos high) then Ok (unsigned_abs number) else Err (Range key)
+
+abbrev pub text_at : List ℕ → Key → Members → Outcome (List ℕ)
+text_at name key tree = do
+  value ← needed name key tree
+  of_kind key (as_str value)
+
+abbrev pub array_at : List ℕ → Key → Members → Outcome Items
+array_at name key tree = do
+  value ← needed name key tree
+  of_kind key (as_array value)
+
+abbrev pub table_at : List ℕ → Key → Members → Outcome Members
+table_at name key tree = do
+  value ← needed name key tree
+  of_kind key (as_table value)
+
+abbrev pub number_in : Key → ℕ → ℕ → Data → Outcome ℕ
+number_in key low high value = do
+  number ← of_kind key (as_integer value)
+  within key low high number
+
+abbrev pub number_at : List ℕ → Key → ℕ → ℕ → Members → Outcome ℕ
+number_at name key low high tree = do
+  value ← needed name key tree
+  number_in key low high value
+
+-- each item is a table
+abbrev pub are_tables : Items → Bool
+are_tables no_items = true
+are_tables (item value more) = is_some (as_table value) && are_tables more
+
+-- each value is a table
+abbrev pub hold_tables : Members → Bool
+hold_tables no_members = true
+hold_tables (member key value more) = is_some (as_table value) && hold_tables more
+
+-- each value is a string
+abbrev pub hold_strings : Members → Bool
+hold_strings no_members = true
+hold_strings (member key value more) = is_some (as_str value) && hold_strings more

@@ -1,0 +1,55 @@
+-- The key `riders`: the terms of single riders by their tokens.
+use Rattle.std.specs.Prelude.{ℕ, Bool, List, [], Option, Some, None, Ok, Err, codes, if◌then◌else◌}
+use Rattle.std.specs.BTreeMap.{insert_entry, is_at}
+use Rattle.std.specs.Cmp.Lexicographic.{slice_cmp}
+use Rattle.std.specs.Map.{lookup}
+use Rattle.std.specs.Option.{is_some}
+use Rattle.std.specs.Ordering.{nat_cmp}
+use Rattle.std.specs.Option.{ok_or}
+use Rattle.std.specs.Result.{result_ok}
+use Rattle.hex.specs.Hex.{decode_sized}
+use Rattle.toml.specs.Data.{Data, Members, no_members, member, get_member, as_str, as_table}
+use Rattle.fare_table.specs.Classes.{class_named}
+use Rattle.fare_table.specs.Members.{of_kind, hold_strings}
+use Rattle.fare_table.specs.Outcome.{Outcome, ◌>>=◌}
+use Rattle.fare_table.specs.declared.fault.Key.TheVariants as the_key
+use Rattle.fare_table.specs.declared.fault.TableFault.TheVariants.{Kind, Rider}
+use Rattle.fare_table.specs.declared.terms.Terms.{Terms}
+
+-- the token that 32 hexadecimal digits name, of either case
+abbrev pub token_of : List ℕ → Outcome (List ℕ)
+token_of digits = ok_or (result_ok (decode_sized digits 16)) Rider
+
+-- the token is one of the riders'
+abbrev pub is_rider : List (List ℕ × Terms) → List ℕ → Bool
+is_rider riders token = is_some (lookup (is_at (slice_cmp nat_cmp token)) riders)
+
+-- the riders and one more, at its place in the order of tokens
+abbrev pub with_rider : List (List ℕ × Terms) → List ℕ → Terms → Outcome (List (List ℕ × Terms))
+with_rider riders token terms =
+    if is_rider riders token then Err Rider else Ok (insert_entry (slice_cmp nat_cmp) riders token terms)
+
+-- the token and the terms of one key
+abbrev pub rider_of : Members → List ℕ → Data → Outcome (List ℕ × Terms)
+rider_of classes key value = do
+  token ← token_of key
+  name ← of_kind the_key.Riders (as_str value)
+  terms ← class_named classes name
+  Ok (token, terms)
+
+-- the earlier riders and those of the members
+abbrev pub riders_from : Members → List (List ℕ × Terms) → Members → Outcome (List (List ℕ × Terms))
+riders_from classes earlier no_members = Ok earlier
+riders_from classes earlier (member key value more) = do
+  rider ← rider_of classes key value
+  riders ← with_rider earlier rider.0 rider.1
+  riders_from classes riders more
+
+abbrev pub riders_in : Members → Option Data → Outcome (List (List ℕ × Terms))
+riders_in classes None = Ok []
+riders_in classes (Some value) = do
+  riders ← of_kind the_key.Riders (as_table value)
+  if hold_strings riders then riders_from classes [] riders else Err (Kind the_key.Riders)
+
+unfoldable pub riders_of : Members → Members → Outcome (List (List ℕ × Terms))
+riders_of classes tree = riders_in classes (get_member (codes "riders") tree)

@@ -1,0 +1,59 @@
+-- The key `transfers`: the pairs of modes between which a ride includes a transfer.
+use Rattle.std.specs.Prelude.{ℕ, ◌≡◌, ◌<◌, ◌==◌, ◌&&◌, ◌++◌, ◌∷◌, [], Bool, List, Option, None, Ok, codes, if◌then◌else◌, option_map, slice_index}
+use Rattle.std.specs.Int.{bit_at}
+use Rattle.std.specs.List.{list_any}
+use Rattle.std.specs.Option.{option_and_then}
+use Rattle.toml.specs.Data.{Data, Items, no_items, item, Members, as_array, as_str}
+use Rattle.fare_table.specs.Members.{array_at, of_kind}
+use Rattle.fare_table.specs.Modes.{mode_named}
+use Rattle.fare_table.specs.Outcome.{Outcome, ◌>>=◌}
+use Rattle.fare_table.specs.declared.fault.Key.TheVariants as the_key
+
+-- the pair goes from the one place to the other
+abbrev pub joins : ℕ → ℕ → ℕ × ℕ → Bool
+joins from to pair = (pair.0 == from) && (pair.1 == to)
+
+-- one of the pairs goes from the one place to the other
+abbrev pub has_pair : List (ℕ × ℕ) → ℕ → ℕ → Bool
+has_pair pairs from to = list_any (joins from to) pairs
+
+-- the pairs and one more, where it is not yet among them
+abbrev pub with_pair : List (ℕ × ℕ) → ℕ → ℕ → List (ℕ × ℕ)
+with_pair pairs from to = if has_pair pairs from to then pairs else pairs ++ (from, to) ∷ []
+
+-- bit `to` of the word at `from` says whether the pairs have one from `from` to `to`
+abbrev pub AreMasksOf : List ℕ → List (ℕ × ℕ) → Type 0
+AreMasksOf masks pairs = (from to : ℕ) → from < 32 → to < 32 → (bit_at (slice_index masks from) to == 1) ≡ has_pair pairs from to
+
+-- the two strings of an array of exactly two strings
+abbrev pub two_strings : Items → Option (List ℕ × List ℕ)
+two_strings no_items = None
+two_strings (item from no_items) = None
+two_strings (item from (item to no_items)) = option_and_then (λ a. option_map (λ b. (a, b)) (as_str to)) (as_str from)
+two_strings (item from (item to (item third more))) = None
+
+abbrev pub pair_of : Data → Option (List ℕ × List ℕ)
+pair_of value = option_and_then two_strings (as_array value)
+
+-- the pairs of names found and those of the items
+abbrev pub pairs_from : List (List ℕ × List ℕ) → Items → Outcome (List (List ℕ × List ℕ))
+pairs_from found no_items = Ok found
+pairs_from found (item value more) = of_kind the_key.Transfers (pair_of value) >>= (λ pair. pairs_from (found ++ pair ∷ []) more)
+
+-- the places of a pair of names
+abbrev pub places_of : List (List ℕ) → List ℕ × List ℕ → Outcome (ℕ × ℕ)
+places_of modes pair = do
+  from ← mode_named modes pair.0
+  to ← mode_named modes pair.1
+  Ok (from, to)
+
+-- the pairs of places found and those of the pairs of names, each once
+abbrev pub transfers_from : List (List ℕ) → List (ℕ × ℕ) → List (List ℕ × List ℕ) → Outcome (List (ℕ × ℕ))
+transfers_from modes found [] = Ok found
+transfers_from modes found (pair ∷ more) = places_of modes pair >>= (λ places. transfers_from modes (with_pair found places.0 places.1) more)
+
+unfoldable pub transfers_of : List (List ℕ) → Members → Outcome (List (ℕ × ℕ))
+transfers_of modes tree = do
+  items ← array_at (codes "transfers") the_key.Transfers tree
+  pairs ← pairs_from [] items
+  transfers_from modes [] pairs

@@ -1,0 +1,66 @@
+-- Where a window ends that starts at a moment.
+use Rattle.std.specs.Prelude.{◌≡◌, ℕ, ℤ, pos, ◌+◌, ◌*◌, ◌+ℤ◌, ◌-ℤ◌, ◌*ℤ◌, unsigned_abs, int_div, Option, Some, None}
+use Rattle.std.specs.Int.{int_div_euclid}
+use Rattle.jiff.specs.Types.{DateTime, TimeZone, Posix, Offset, AmbiguousOffset, Unambiguous}
+use Rattle.jiff.specs.Words.{epoch_day, civil_nanos, time_nanos, nanos_of_seconds, offset_at, compatible_offset, picked_instant}
+use Rattle.jiff_tz.specs.PosixRule.{ambiguous_by, nanos_per_day, rule_nanos}
+use Rattle.jiff_tz.specs.PosixRule as rule
+use Rattle.jiff_tz.specs.Year.{year_of_day}
+use Rattle.jiff_tz.specs.declared.posix.Dst.{Dst}
+use Rattle.jiff_tz.specs.declared.posix.TimeZone.{TimeZone as PosixRule}
+use Rattle.fare_table.specs.Fares.{Fares}
+
+-- the moment in nanoseconds since 1970-01-01T00:00Z
+abbrev pub moment_nanos : ℕ → ℤ
+moment_nanos moment = pos (moment * 1_000_000)
+
+-- The limit is 00:00 of the seventh civil date after the date that clocks of the zone show at the
+-- start. Where that midnight is skipped it takes the offset before the gap, where it comes twice it
+-- is the earlier one.
+pub record IsCivilLimit (zone : TimeZone) (start limit : ℕ) : Type 0 where
+  pub shown : DateTime
+  pub shows : civil_nanos shown ≡ moment_nanos start +ℤ nanos_of_seconds (offset_at zone (moment_nanos start))
+  pub midnight : DateTime
+  pub date : epoch_day midnight.date ≡ epoch_day shown.date +ℤ pos 7
+  pub time : time_nanos midnight.time ≡ 0
+  pub at : moment_nanos limit ≡ picked_instant zone midnight
+
+-- the limit of a window: seven days after its start, or the civil limit in the zone
+abbrev pub IsLimit : Option PosixRule → ℕ → ℕ → Type 0
+IsLimit None start limit = limit ≡ start + 604_800_000
+IsLimit (Some zone) start limit = IsCivilLimit (Posix zone) start limit
+
+-- the first nanosecond of a day on a civil clock
+abbrev pub midnight_nanos : ℤ → ℤ
+midnight_nanos day = day *ℤ nanos_per_day
+
+-- the offsets of a moment of a year on a clock of the zone
+abbrev pub offsets_by : Offset → Option Dst → ℤ → ℤ → AmbiguousOffset
+offsets_by std None year at = Unambiguous std
+offsets_by std (Some dst) year at = ambiguous_by std dst.offset
+    (rule_nanos year dst.rule.start (pos 0), rule_nanos year dst.rule.end (pos 0)) at
+
+-- the offset that a midnight takes
+abbrev pub midnight_offset : PosixRule → ℤ → Offset
+midnight_offset zone day = compatible_offset (offsets_by zone.std_offset zone.dst (year_of_day day) (midnight_nanos day))
+
+-- the instant of a midnight
+abbrev pub midnight_instant : PosixRule → ℤ → ℤ
+midnight_instant zone day = midnight_nanos day -ℤ nanos_of_seconds (midnight_offset zone day).seconds
+
+-- the day that clocks of the zone show at an instant
+abbrev pub day_at : PosixRule → ℤ → ℤ
+day_at zone instant = int_div_euclid (instant +ℤ nanos_of_seconds (rule.offset_at zone instant).seconds) nanos_per_day
+
+-- the milliseconds of the midnight of the seventh day after the start's day
+unfoldable pub civil_limit : PosixRule → ℕ → ℕ
+civil_limit zone start = unsigned_abs (int_div (midnight_instant zone (day_at zone (moment_nanos start) +ℤ pos 7)) (pos 1_000_000))
+
+-- the limit of a window that starts at the moment
+abbrev pub limit_in : Option PosixRule → ℕ → ℕ
+limit_in None start = start + 604_800_000
+limit_in (Some zone) start = civil_limit zone start
+
+-- the same under a fare table
+abbrev pub until : Fares → ℕ → ℕ
+until fares start = limit_in fares.zone start

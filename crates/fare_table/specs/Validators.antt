@@ -1,0 +1,70 @@
+-- The key `validators`: ranges of validators and their modes.
+use Rattle.std.specs.Prelude.{◌≡◌, ℕ, ◌+◌, ◌&&◌, Bool, true, false, List, [], ◌∷◌, Option, Some, None, Ok, Err, codes, length, nat_le, nat_lt, if◌then◌else◌}
+use Rattle.std.specs.BTreeMap.{insert_entry}
+use Rattle.std.specs.List.{AllWithin, list_all, list_any}
+use Rattle.std.specs.Option.{option_or}
+use Rattle.std.specs.Ordering.{nat_cmp}
+use Rattle.toml.specs.Data.{Data, Items, no_items, item, Members, as_table}
+use Rattle.fare_table.specs.Members.{array_at, number_at, of_kind, text_at, are_tables}
+use Rattle.fare_table.specs.Modes.{mode_named}
+use Rattle.fare_table.specs.Outcome.{Outcome, ◌>>=◌}
+use Rattle.fare_table.specs.declared.fault.Key.TheVariants as the_key
+use Rattle.fare_table.specs.declared.fault.TableFault.TheVariants.{Kind, Overlap}
+use Rattle.fare_table.specs.declared.validators.Span.{Span}
+
+-- each range begins no later than it ends, and ends before the next one begins
+abbrev pub is_chain : List (ℕ × Span) → Bool
+is_chain [] = true
+is_chain (range ∷ []) = nat_le range.0 range.1.last
+is_chain (range ∷ next ∷ more) = nat_le range.0 range.1.last && nat_lt range.1.last next.0 && is_chain (next ∷ more)
+
+-- each range's mode is one of so many
+abbrev pub are_modes_below : ℕ → List (ℕ × Span) → Bool
+are_modes_below count ranges = list_all (λ range. nat_lt range.1.mode count) ranges
+
+-- the last range that begins at the number or before it, of ranges that rise
+abbrev pub last_begun : ℕ → List (ℕ × Span) → Option (ℕ × Span)
+last_begun number [] = None
+last_begun number (range ∷ more) =
+    if nat_le range.0 number then option_or (last_begun number more) (Some range) else None
+
+-- each range before the index begins at the number or before it, and each range from `size` places
+-- after the index on begins after it
+pub record IsSplit (number : ℕ) (ranges : List (ℕ × Span)) (index size : ℕ) : Type 0 where
+  pub front : AllWithin (λ range. nat_le range.0 number ≡ true) ranges 0 index
+  pub back : AllWithin (λ range. nat_le range.0 number ≡ false) ranges (index + size) (length ranges)
+
+-- the two ranges have a validator in common
+abbrev pub share_number : ℕ × Span → ℕ × Span → Bool
+share_number range other = nat_le range.0 other.1.last && nat_le other.0 range.1.last
+
+-- the ranges and one more, at its place in the order of first numbers
+abbrev pub with_range : List (ℕ × Span) → ℕ × Span → Outcome (List (ℕ × Span))
+with_range earlier range =
+    if list_any (share_number range) earlier then Err Overlap else Ok (insert_entry nat_cmp earlier range.0 range.1)
+
+unfoldable pub range_of : List (List ℕ) → Members → Outcome (ℕ × Span)
+range_of modes entry = do
+  first ← number_at (codes "first") the_key.First 0 4_294_967_295 entry
+  last ← number_at (codes "last") the_key.Last first 4_294_967_295 entry
+  name ← text_at (codes "mode") the_key.ModeName entry
+  mode ← mode_named modes name
+  Ok (first, record { last = last; mode = mode })
+
+abbrev pub range_in : List (List ℕ) → Data → Outcome (ℕ × Span)
+range_in modes value = do
+  entry ← of_kind the_key.Validators (as_table value)
+  range_of modes entry
+
+-- the earlier ranges and those of the items
+abbrev pub ranges_from : List (List ℕ) → List (ℕ × Span) → Items → Outcome (List (ℕ × Span))
+ranges_from modes earlier no_items = Ok earlier
+ranges_from modes earlier (item value more) = do
+  range ← range_in modes value
+  ranges ← with_range earlier range
+  ranges_from modes ranges more
+
+unfoldable pub ranges_of : List (List ℕ) → Members → Outcome (List (ℕ × Span))
+ranges_of modes tree = do
+  items ← array_at (codes "validators") the_key.Validators tree
+  if are_tables items then ranges_from modes [] items else Err (Kind the_key.Validators)

@@ -1,0 +1,92 @@
+//! Where windows end.
+ghost use Rattle.std.specs.Prelude.{◌≡◌, ◌<◌, pos, ◌+ℤ◌, ◌≤ℤ◌, neg_ℤ, IfOk, IsOk};
+ghost use Rattle.jiff.specs.Words.{epoch_day};
+ghost use Rattle.jiff.specs.ZoneView.{plain_zone};
+ghost use Rattle.fare_table.specs.Until.{IsCivilLimit, IsLimit, limit_in, moment_nanos};
+
+use crate::fault::NoMemory;
+use jiff::civil::{Date, DateTime};
+use jiff::tz::TimeZone;
+use jiff::{Timestamp, ToSpan};
+use std::marker::Model;
+
+/// Seven days in milliseconds.
+const SEVEN_DAYS: u64 = 604_800_000;
+
+/// Tells where the windows of one fare table end. A worker makes its own from the table.
+#[derive(Drop)]
+pub struct Clock {
+    zone: Option<TimeZone<'static>>,
+}
+
+impl Model for Clock {
+    ghost use Rattle.std.specs.Prelude.{Option};
+    ghost use Rattle.jiff_tz.specs.declared.posix.TimeZone.{TimeZone as PosixRule};
+
+    ghost Value = { Option PosixRule };
+
+    ghost use Rattle.fare_table.specs.PosixRule.{HasRule, rule_of};
+
+    ghost view = { λ c. rule_of c.zone };
+
+    ghost invariant = { λ c. HasRule c.zone };
+}
+
+impl Clock {
+    ghost use Rattle.std.specs.Prelude.{◌≡◌, ◌<◌, IfOk, IsOk};
+    ghost use Rattle.fare_table.specs.PosixRule.{HasRule, rule_of};
+    ghost use Rattle.fare_table.specs.Until.{IsLimit, limit_in};
+
+    pub(crate) fn new(zone: Option<TimeZone<'static>>) -> Clock
+        requires { HasRule zone }
+        ensures { result ≡ rule_of zone.entry }
+    {
+        Clock { zone }
+    }
+
+    /// The limit of a window that starts at the moment, both in milliseconds since
+    /// 1970-01-01T00:00Z; the moment lies before 2100-01-01T00:00Z. It is seven days later, or, where
+    /// the table names a zone, 00:00 of the seventh civil date after the start's (the period of seven
+    /// days is the MTA's, where it ends is this project's choice). A midnight that clocks skip takes
+    /// the offset before the gap, one that comes twice is the earlier. It always answers, since it
+    /// takes no memory.
+    pub fn until(&self, moment: u64) -> Result<u64, NoMemory>
+        requires { moment < 4_102_444_800_000 }
+        ensures answers { IsOk result }
+        ensures value { IfOk result (λ limit. limit ≡ limit_in self.now moment) }
+        ensures limit { IfOk result (IsLimit self.now moment) }
+        ensures after { IfOk result (λ limit. moment < limit) }
+    {
+        match &self.zone {
+            Some(zone) => Ok(civil_limit(zone, moment)),
+            None => Ok(moment + SEVEN_DAYS),
+        }
+    }
+}
+
+fn civil_limit(zone: &TimeZone<'static>, moment: u64) -> u64
+    requires { moment < 4_102_444_800_000 }
+    ensures limit { IsCivilLimit (plain_zone zone.now) moment result }
+    ensures after { moment < result }
+{
+    let start = instant(moment);
+    let shown = zone.to_offset(start).to_datetime(start);
+    let midnight = DateTime::from(week_later(shown.date()));
+    let limit = zone.to_timestamp(midnight).unwrap();
+    limit.as_millisecond() as u64
+}
+
+fn instant(moment: u64) -> Timestamp
+    requires { moment < 4_102_444_800_000 }
+    ensures { result.nanosecond ≡ moment_nanos moment }
+{
+    Timestamp::from_millisecond(moment as i64).unwrap()
+}
+
+fn week_later(date: Date) -> Date
+    requires low { neg_ℤ (pos 10) ≤ℤ epoch_day date }
+    requires high { epoch_day date ≤ℤ pos 50_000 }
+    ensures { epoch_day result ≡ epoch_day date +ℤ pos 7 }
+{
+    date.checked_add(7i64.days()).unwrap()
+}

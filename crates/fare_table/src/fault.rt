@@ -1,0 +1,152 @@
+//! Why a text is no fare table, and want of memory.
+ghost use Rattle.std.specs.Prelude.{◌≡◌};
+ghost use Rattle.fare_table.specs.Key.{key_name};
+
+use std::alloc::{AllocError, AllocFailed};
+use std::fmt;
+use thiserror::Error;
+
+/// A key of the table's text, as faults name it.
+#[derive(Clone, Copy, Debug, PartialEq, Eq)]
+pub enum Key {
+    /// `modes`
+    Modes,
+    /// `transfers`
+    Transfers,
+    /// `classes`
+    Classes,
+    /// `fare` of a class
+    Fare,
+    /// `rides` of a class
+    Rides,
+    /// `ceiling` of a class
+    Ceiling,
+    /// `default_class`
+    DefaultClass,
+    /// `validators`
+    Validators,
+    /// `first` of a range of validators
+    First,
+    /// `last` of a range of validators
+    Last,
+    /// `mode` of a range of validators
+    ModeName,
+    /// `riders`
+    Riders,
+    /// `zone`
+    Zone,
+}
+
+impl Key {
+    /// The variant's name, as a fault line prints it.
+    pub fn name(self) -> &'static str
+        ensures { result.now ≡ key_name self }
+    {
+        match self {
+            Key::Modes => "Modes",
+            Key::Transfers => "Transfers",
+            Key::Classes => "Classes",
+            Key::Fare => "Fare",
+            Key::Rides => "Rides",
+            Key::Ceiling => "Ceiling",
+            Key::DefaultClass => "DefaultClass",
+            Key::Validators => "Validators",
+            Key::First => "First",
+            Key::Last => "Last",
+            Key::ModeName => "ModeName",
+            Key::Riders => "Riders",
+            Key::Zone => "Zone",
+        }
+    }
+}
+
+impl fmt::Display for Key {
+    fn fmt<W: fmt::Write>(&self, f: &mut fmt::Formatter<W>) -> fmt::Result {
+        write!(f, "{}", self.name())
+    }
+}
+
+/// The first fault of a table's text, in the order in which its keys are read: `modes`,
+/// `transfers`, `classes` (class by class in the order of the names: `fare`, `rides`, `ceiling`),
+/// `default_class`, `validators` (entry by entry: `first`, `last`, `mode`, the range), `riders` (in
+/// the order of the tokens), `zone`. Of an array or table the kind of all its elements comes first.
+#[derive(Clone, Copy, Debug, PartialEq, Eq, Error)]
+pub enum TableFault {
+    /// The bytes are no TOML text, or not UTF-8.
+    #[error("the text is not TOML")]
+    Text,
+    /// A key is absent that every table has.
+    #[error("{key} is missing")]
+    Missing { key: Key },
+    /// A value is of another kind than its key takes.
+    #[error("{key} is of another kind")]
+    Kind { key: Key },
+    /// A value is outside its limits.
+    #[error("{key} is out of range")]
+    Range { key: Key },
+    /// A transfer or a range of validators names none of the table's modes.
+    #[error("a name is no mode of the table")]
+    Mode,
+    /// A range of validators shares a number with an earlier entry's.
+    #[error("two ranges share a validator")]
+    Overlap,
+    /// A rider's token is not 32 hexadecimal digits or is named twice, or a class does not exist.
+    #[error("a rider or a class is not one of the table")]
+    Rider,
+    /// A growth of memory was refused.
+    #[error("out of memory")]
+    NoMemory,
+    /// The zone is no POSIX rule text.
+    #[error("the zone is no POSIX rule")]
+    Zone,
+}
+
+/// A growth of memory was refused.
+#[derive(Clone, Copy, Debug, PartialEq, Eq, Error)]
+#[error("out of memory")]
+pub struct NoMemory;
+
+impl From<AllocError> for NoMemory {
+    fn from(_error: AllocError) -> NoMemory {
+        NoMemory
+    }
+}
+
+impl<T: Drop> From<AllocFailed<T>> for NoMemory {
+    fn from(_error: AllocFailed<T>) -> NoMemory {
+        NoMemory
+    }
+}
+
+impl From<AllocError> for TableFault {
+    ghost use Rattle.std.specs.Prelude.{◌≡◌};
+    ghost use Rattle.fare_table.specs.declared.fault.TableFault.TheVariants.{NoMemory as Refused};
+
+    ghost from_gives = { λ _ fault. fault ≡ Refused };
+
+    fn from(_error: AllocError) -> TableFault {
+        TableFault::NoMemory
+    }
+}
+
+impl<T: Drop> From<AllocFailed<T>> for TableFault {
+    ghost use Rattle.std.specs.Prelude.{◌≡◌};
+    ghost use Rattle.fare_table.specs.declared.fault.TableFault.TheVariants.{NoMemory as Refused};
+
+    ghost from_gives = { λ _ fault. fault ≡ Refused };
+
+    fn from(_error: AllocFailed<T>) -> TableFault {
+        TableFault::NoMemory
+    }
+}
+
+impl From<NoMemory> for TableFault {
+    ghost use Rattle.std.specs.Prelude.{◌≡◌};
+    ghost use Rattle.fare_table.specs.declared.fault.TableFault.TheVariants.{NoMemory as Refused};
+
+    ghost from_gives = { λ _ fault. fault ≡ Refused };
+
+    fn from(_error: NoMemory) -> TableFault {
+        TableFault::NoMemory
+    }
+}

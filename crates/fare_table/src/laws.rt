@@ -1,0 +1,17 @@
+//! Laws of fare tables. Each function's contract is the law; it has nothing to do.
+ghost use Rattle.std.specs.Prelude.{◌≡◌, ℕ, ◌<◌};
+ghost use Rattle.fare_table.specs.Fares.{Fares};
+ghost use Rattle.fare_table.specs.Until.{IsLimit, until};
+
+/// A window that starts before 2100-01-01T00:00Z ends after it starts.
+pub fn windows_end_later()
+    ensures { (fares : Fares) (start : ℕ) → start < 4_102_444_800_000
+        → start < until fares start }
+{}
+
+/// A window has one limit: what is seven days after its start, or the civil limit in the zone, is
+/// the limit of the table.
+pub fn windows_have_one_limit()
+    ensures { (fares : Fares) (start limit : ℕ) → IsLimit fares.zone start limit
+        → limit ≡ until fares start }
+{}

@@ -1,0 +1,28 @@
+//! The fare table of an agency: modes, permitted transfers, terms of rider classes, validators and
+//! the zone of its days, read from a TOML text and looked up at every tap.
+//!
+//! That a ride may include one transfer and that paid rides are capped is the rule of the MTA's OMNY;
+//! every number, name, pair and class is data of the table, and the text's layout is this project's.
+#![tactic(auto)]
+
+mod classes;
+mod clock;
+mod fault;
+pub mod laws;
+mod members;
+mod mode;
+mod modes;
+mod riders;
+mod table;
+mod terms;
+#[cfg(test)]
+mod tests;
+mod transfers;
+mod validators;
+mod zone;
+
+pub use clock::Clock;
+pub use fault::{Key, NoMemory, TableFault};
+pub use mode::Mode;
+pub use table::FareTable;
+pub use terms::Terms;

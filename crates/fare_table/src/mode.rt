@@ -1,0 +1,8 @@
+//! A mode of travel.
+
+/// A mode of travel, as subway or bus: its place in one table's list of modes.
+#[derive(Clone, Copy, Debug, PartialEq, Eq)]
+pub struct Mode {
+    /// The place, from 0; at most 31.
+    pub place: u8,
+}

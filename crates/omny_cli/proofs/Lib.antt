@@ -1,0 +1,5 @@
+pub mod Appends
+pub mod Going
+pub mod LastMoments
+pub mod Loads
+pub mod Sizes

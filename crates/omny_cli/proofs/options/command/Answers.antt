@@ -1,0 +1,14 @@
+use Rattle.std.proofs.Common.{◌∙◌, ap, ap₂}
+use Rattle.std.proofs.lemmas.Result.{IfOk-weaker}
+use Rattle.clap.specs.Words.{with_rule}
+use Rattle.clap.specs.Simple.{app_of_fields}
+use Rattle.omny_cli.specs.Options.{program}
+use Rattle.omny_cli.proofs.options.command.Goals as goal
+
+pub returns : goal.returns
+unfolding program
+returns c =
+    let named = ap app_of_fields c.after_help.ensures ∙ ap app_of_fields c.about.ensures ∙ c.new.ensures.app in
+    let one = c.in_ok-arg.ensures.shape c.table_arg-table.ensures.local ∙ ap₂ with_rule named c.table_arg-table.ensures.rule in
+    let two = c.in_ok-arg-2.ensures.shape c.list_arg-list.ensures.local ∙ ap₂ with_rule one c.list_arg-list.ensures.rule in
+    IfOk-weaker c.arg-3.result _ _ (λ command adds. adds.shape c.file_arg-file.ensures.local ∙ ap₂ with_rule two c.file_arg-file.ensures.rule) c.arg-3.ensures

@@ -1,0 +1,49 @@
+//! The program: lists the taps of files, each as live, stale or unknown.
+//!
+//! | module | what it does |
+//! |---|---|
+//! | `options` | the command line, as `clap` reads it |
+//! | `load`, `host` | whole files from a source; the system's files as one |
+//! | `listing` | the word of each tap, from those before it |
+//! | `lines`, `uploads` | the text of a listing |
+//! | `fault` | why the program gives up, and the line that says so |
+//! | `program` | the whole, over any source and any two writers |
+#![tactic(auto)]
+
+mod fault;
+mod host;
+mod lines;
+mod listing;
+mod load;
+mod options;
+mod program;
+#[cfg(test)]
+mod tests;
+mod uploads;
+
+use host::Host;
+use program::{main_over, unread_words};
+use std::env::Env;
+use std::process::ExitCode;
+use std::{env, io};
+
+// The words of the command line, the program's name first.
+fn words_of<R: Env + AllocGlobal>(rt: &R) -> io::Result<Vec<String>> {
+    let words = env::args(rt)?.collect(rt.alloc())?;
+    Ok(words)
+}
+
+fn main(rt: HostRuntime) -> ExitCode {
+    let mut err = rt.stderr();
+    let status = match words_of(&rt) {
+        Ok(words) => main_over(
+            rt.alloc(),
+            &words,
+            &mut Host::new(&rt),
+            &mut rt.stdout(),
+            &mut err,
+        ),
+        Err(error) => unread_words(&error, &mut err),
+    };
+    ExitCode::from(status)
+}

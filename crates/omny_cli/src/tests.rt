@@ -1,0 +1,487 @@
+//! What no clause says: the texts on the second writer, and runs of the whole program on worked
+//! files. Each public function is called once with ample memory.
+ghost use Rattle.std.specs.Prelude.{◌≡◌, ◌++◌, ◌∷◌, [], IfOk, OnOk, Some, map, option_map, string_bytes};
+
+use crate::listing::{ListCounts, Listing, Word};
+use crate::load::{LONGEST, LoadFault, Source, load_from};
+use crate::program::main_over;
+use std::alloc::{AllocError, Global};
+use std::io;
+use std::io::{Read, Write};
+use std::test::Fail;
+use tap_views::Batch;
+
+// Two taps of one token: validator 1000 at 2024-03-08T17:00Z, validator 2000 two hours later.
+const FIRST: &str =
+    "5441503100020000000000000000000000000000000000a1000003e80000018e1f01de80000000000000000000000000000000a1000007d00000018e1f6fbb80";
+
+// The first of them in the other layout.
+const SHARED: &str = "5441503200010000000003e8000000000000000000000000000000a10000018e1f01de80";
+
+// A batch of that tap without its last byte.
+const CUT: &str = "5441503100010000000000000000000000000000000000a1000003e80000018e1f01de";
+
+// One tap at the limit of moments, 2100-01-01T00:00Z.
+const LATE: &str = "5441503100010000000000000000000000000000000000a1000003e8000003bb2cc3d800";
+
+// Another token: validator 9, and then validator 1000 five milliseconds before.
+const OTHER: &str =
+    "5441503100020000000000000000000000000000000000b2000000090000018e1f01de8a000000000000000000000000000000b2000003e80000018e1f01de85";
+
+const FIRST_LINES: &str = "0 0 000000000000000000000000000000a1 1000 1709917200000 live
+0 1 000000000000000000000000000000a1 2000 1709924400000 live
+";
+
+const SAMPLE: &str = "modes = [\"subway\", \"bus\"]
+transfers = [[\"subway\", \"bus\"], [\"bus\", \"subway\"], [\"bus\", \"bus\"]]
+default_class = \"full\"
+
+[classes.full]
+fare = 300
+rides = 12
+ceiling = 3500
+
+[classes.reduced]
+fare = 150
+rides = 12
+
+[[validators]]
+first = 1000
+last = 1999
+mode = \"subway\"
+
+[[validators]]
+first = 2000
+last = 2999
+mode = \"bus\"
+
+[riders]
+000000000000000000000000000000d4 = \"reduced\"
+";
+
+// Tables with one fault each.
+const CEILING_0: &str = "modes = ['subway']
+transfers = []
+classes = {full = {fare = 300, rides = 12, ceiling = 0}}
+";
+
+const OVERLAP: &str = "modes = ['subway']
+transfers = []
+classes = {full = {fare = 300, rides = 12}}
+default_class = 'full'
+validators = [{first = 1000, last = 1999, mode = 'subway'}, {first = 1999, last = 2999, mode = 'subway'}]
+";
+
+const NO_CLASS: &str = "modes = ['subway']
+transfers = []
+classes = {full = {fare = 300, rides = 12}}
+default_class = 'half'
+";
+
+const EST: &str = "modes = ['subway']
+transfers = []
+classes = {full = {fare = 300, rides = 12}}
+default_class = 'full'
+validators = []
+zone = 'EST'
+";
+
+// What a source has under a name.
+#[derive(Clone, Copy)]
+enum Content<'a> {
+    Bytes(&'a [u8]),
+    Fault(LoadFault),
+}
+
+// A load that was answered.
+#[derive(Drop)]
+struct Given {
+    name: Option<String>,
+    bytes: Vec<u8>,
+}
+
+// A source of some named files and an input, which keeps what it loaded.
+#[derive(Drop)]
+struct Shelf<'a> {
+    alloc: Global,
+    files: &'a [(&'a str, Content<'a>)],
+    input: Content<'a>,
+    given: Vec<Given>,
+}
+
+impl<'a> Shelf<'a> {
+    fn new(alloc: Global, files: &'a [(&'a str, Content<'a>)], input: Content<'a>) -> Shelf<'a> {
+        Shelf {
+            alloc,
+            files,
+            input,
+            given: Vec::new(alloc),
+        }
+    }
+
+    fn content(&self, name: &str) -> Content<'a> {
+        for (file, content) in self.files {
+            if *file == name {
+                return *content;
+            }
+        }
+        Content::Fault(LoadFault::Unread)
+    }
+}
+
+impl Source for Shelf<'_> {
+    ghost loaded = { λ s. Some (map (λ g. record { name = option_map string_bytes g.name; bytes = g.bytes.items }) s.given.items) };
+
+    fn load(&mut self, name: &str) -> Result<Vec<u8>, LoadFault> {
+        let content = self.content(name);
+        let name = String::from_str(self.alloc, name)?;
+        let (bytes, kept) = copies(self.alloc, content)?;
+        keep(&mut self.given, Some(name), kept)?;
+        Ok(bytes)
+    }
+
+    fn input(&mut self) -> Result<Vec<u8>, LoadFault> {
+        let (bytes, kept) = copies(self.alloc, self.input)?;
+        keep(&mut self.given, None, kept)?;
+        Ok(bytes)
+    }
+}
+
+// The content's bytes, twice.
+fn copies(alloc: Global, content: Content<'_>) -> Result<(Vec<u8>, Vec<u8>), LoadFault>
+    ensures { IfOk result (λ pair. pair.0.items ≡ pair.1.items) }
+{
+    match content {
+        Content::Bytes(bytes) => {
+            Ok((
+                Vec::from_slice(alloc, bytes)?,
+                Vec::from_slice(alloc, bytes)?,
+            ))
+        }
+        Content::Fault(fault) => Err(fault),
+    }
+}
+
+fn keep(given: &mut Vec<Given>, name: Option<String>, bytes: Vec<u8>) -> Result<(), AllocError>
+    ensures { OnOk result (given.new.items ≡ given.old.items ++ record { name = name; bytes = bytes } ∷ []) }
+{
+    given.push(Given { name, bytes })?;
+    Ok(())
+}
+
+// What a run left behind.
+#[derive(Drop)]
+struct Ran {
+    status: u8,
+    out: Vec<u8>,
+    err: Vec<u8>,
+}
+
+// Runs the program with these words after its name.
+fn run_on(alloc: Global, words: &[&str], shelf: &mut Shelf<'_>) -> Result<Ran, AllocError> {
+    let mut texts = Vec::new(alloc);
+    texts.push(String::from_str(alloc, "omny_cli")?)?;
+    for word in words {
+        texts.push(String::from_str(alloc, word)?)?;
+    }
+    let mut out = Vec::new(alloc);
+    let mut err = Vec::new(alloc);
+    let status = main_over(alloc, &texts, shelf, &mut out, &mut err);
+    Ok(Ran { status, out, err })
+}
+
+#[test]
+fn lists_uploads_of_every_kind(rt: HostRuntime) -> Result<(), Fail> {
+    let alloc = rt.alloc();
+    let none = "taps 0 live 0 stale 0 unknown 0\n";
+    let two = "taps 2 live 2 stale 0 unknown 0\n";
+    let again = "0 2 000000000000000000000000000000a1 1000 1709917200000 stale\n";
+    let three = "taps 3 live 2 stale 1 unknown 0\n";
+    let rows = [
+        (["", ""], ["", "", none], 0u8),
+        (["5441503100000000", ""], ["", "", none], 0),
+        (["54415031000100", ""], ["", "0 refused 0 L1\n", none], 1),
+        (["5441503300000000", ""], ["", "0 refused 0 L2\n", none], 1),
+        (["5441503100020001", ""], ["", "0 refused 0 L3\n", none], 1),
+        (["5441503110010000", ""], ["", "0 refused 0 L4\n", none], 1),
+        ([FIRST, ""], [FIRST_LINES, "", two], 0),
+        ([FIRST, CUT], [FIRST_LINES, "0 refused 64 L5\n", two], 1),
+        ([FIRST, LATE], [FIRST_LINES, "0 refused 64 L6\n", two], 1),
+        ([FIRST, SHARED], [FIRST_LINES, again, three], 0),
+    ];
+    for (digits, lines, status) in rows {
+        let digits = format!(in alloc; "{}{}", digits[0], digits[1])?;
+        let bytes = hex::decode(alloc, digits.as_str())?;
+        let mut shelf = Shelf::new(alloc, &[], Content::Bytes(&bytes));
+        let ran = run_on(alloc, &[], &mut shelf)?;
+        let text = format!(in alloc; "{}{}{}", lines[0], lines[1], lines[2])?;
+        assert_eq!(rt; ran.out.as_slice(), text.as_bytes(), "of {digits}");
+        assert_eq!(rt; ran.status, status, "of {digits}");
+        assert_eq!(rt; ran.err.len(), 0, "of {digits}");
+        assert_eq!(rt; shelf.given.len(), 1, "of {digits}");
+    }
+    Ok(())
+}
+
+// Runs the program on a shelf of a table and three files.
+fn run_on_files<'a>(
+    alloc: Global,
+    table: &'a [u8],
+    first: &'a [u8],
+    other: &'a [u8],
+    cut: &'a [u8],
+) -> Result<Ran, AllocError> {
+    let files = [
+        ("t", Content::Bytes(table)),
+        ("a", Content::Bytes(first)),
+        ("b", Content::Bytes(other)),
+        ("c", Content::Bytes(cut)),
+    ];
+    let mut shelf = Shelf::new(alloc, files.as_slice(), Content::Fault(LoadFault::Unread));
+    run_on(
+        alloc,
+        &["--table", "t", "b", "c", "--list", "a", "a"],
+        &mut shelf,
+    )
+}
+
+#[test]
+fn lists_files_in_their_order_by_the_table(rt: HostRuntime) -> Result<(), Fail> {
+    let alloc = rt.alloc();
+    let first = hex::decode(alloc, FIRST)?;
+    let other = hex::decode(alloc, OTHER)?;
+    let cut = hex::decode(alloc, CUT)?;
+    let ran = run_on_files(alloc, SAMPLE.as_bytes(), &first, &other, &cut)?;
+    let text = "0 0 000000000000000000000000000000b2 9 1709917200010 unknown
+0 1 000000000000000000000000000000b2 1000 1709917200005 live
+1 refused 0 L5
+2 0 000000000000000000000000000000a1 1000 1709917200000 live
+2 1 000000000000000000000000000000a1 2000 1709924400000 live
+3 0 000000000000000000000000000000a1 1000 1709917200000 stale
+3 1 000000000000000000000000000000a1 2000 1709924400000 stale
+taps 6 live 3 stale 2 unknown 1
+";
+    assert_eq!(rt; ran.out.as_slice(), text.as_bytes());
+    assert_eq!(rt; ran.status, 1);
+    assert_eq!(rt; ran.err.len(), 0);
+    Ok(())
+}
+
+#[test]
+fn says_why_it_gives_up(rt: HostRuntime) -> Result<(), Fail> {
+    let alloc = rt.alloc();
+    let files = [
+        ("text", Content::Bytes(b"modes = [".as_slice())),
+        ("missing", Content::Bytes(b"".as_slice())),
+        ("kind", Content::Bytes(b"modes = 1".as_slice())),
+        ("range", Content::Bytes(CEILING_0.as_bytes())),
+        (
+            "mode",
+            Content::Bytes(b"modes = ['subway']\ntransfers = [['subway', 'tram']]".as_slice()),
+        ),
+        ("overlap", Content::Bytes(OVERLAP.as_bytes())),
+        ("rider", Content::Bytes(NO_CLASS.as_bytes())),
+        ("zone", Content::Bytes(EST.as_bytes())),
+        ("long", Content::Fault(LoadFault::TooLong)),
+        ("large", Content::Fault(LoadFault::NoMemory)),
+        ("empty", Content::Bytes(b"".as_slice())),
+    ];
+    let rows = [
+        (["x.tap", "", ""], "fault: cannot read x.tap\n"),
+        (["empty", "long", "x.tap"], "fault: long is too long\n"),
+        (["empty", "large", "x.tap"], "fault: out of memory\n"),
+        (
+            ["--table", "t.toml", "x.tap"],
+            "fault: cannot read t.toml\n",
+        ),
+        (["--table", "long", "x.tap"], "fault: long is too long\n"),
+        (["--table", "text", "x.tap"], "fault: table F1\n"),
+        (["--table", "missing", "x.tap"], "fault: table F2 Modes\n"),
+        (["--table", "kind", "x.tap"], "fault: table F3 Modes\n"),
+        (["--table", "range", "x.tap"], "fault: table F4 Ceiling\n"),
+        (["--table", "mode", "x.tap"], "fault: table F5\n"),
+        (["--table", "overlap", "x.tap"], "fault: table F6\n"),
+        (["--table", "rider", "x.tap"], "fault: table F7\n"),
+        (["--table", "zone", "x.tap"], "fault: table F9\n"),
+        (["--", "-", ""], "fault: cannot read -\n"),
+    ];
+    for (words, line) in rows {
+        let mut shelf = Shelf::new(alloc, files.as_slice(), Content::Fault(LoadFault::Unread));
+        let ran = run_on(alloc, given_of(&words), &mut shelf)?;
+        assert_eq!(rt; ran.err.as_slice(), line.as_bytes(), "{line}");
+        assert_eq!(rt; ran.status, 1, "{line}");
+        assert_eq!(rt; ran.out.len(), 0, "{line}");
+    }
+    let mut shelf = Shelf::new(alloc, &[], Content::Fault(LoadFault::TooLong));
+    let ran = run_on(alloc, &[], &mut shelf)?;
+    assert_eq!(rt;
+        ran.err.as_slice(),
+        b"fault: standard input is too long\n".as_slice()
+    );
+    Ok(())
+}
+
+// The words without the empty ones at the end.
+fn given_of<'a>(words: &'a [&'a str; 3]) -> &'a [&'a str] {
+    if words[1].is_empty() {
+        &words[..1]
+    } else if words[2].is_empty() {
+        &words[..2]
+    } else {
+        &words[..]
+    }
+}
+
+#[test]
+fn answers_the_command_line(rt: HostRuntime) -> Result<(), Fail> {
+    let alloc = rt.alloc();
+    let rows = [
+        (["--help", "x.tap"], 0u8),
+        (["x.tap", "-h"], 0),
+        (["--no", "x.tap"], 2),
+        (["--version", "x.tap"], 2),
+        (["x.tap", "--table"], 2),
+        (["--table", "--list"], 2),
+        (["--list=yes", "x.tap"], 2),
+        (["--list", "--list"], 2),
+    ];
+    for (words, status) in rows {
+        let mut shelf = Shelf::new(alloc, &[], Content::Bytes(&[]));
+        let ran = run_on(alloc, words.as_slice(), &mut shelf)?;
+        assert_eq!(rt; ran.status, status, "{words:?}");
+        assert_eq!(rt; ran.out.is_empty(), status == 2, "{words:?}");
+        assert_eq!(rt; ran.err.is_empty(), status == 0, "{words:?}");
+        assert_eq!(rt; shelf.given.len(), 0, "{words:?}");
+    }
+    let mut shelf = Shelf::new(alloc, &[], Content::Bytes(&[]));
+    let ran = run_on(alloc, &["--help"], &mut shelf)?;
+    let help = std::str::from_utf8(&ran.out).unwrap_or("");
+    for part in [
+        "Usage: omny_cli [OPTIONS] [FILE]...",
+        "--table <F>",
+        "--list",
+        "Exit status:",
+    ] {
+        assert!(rt; help.contains(part), "{part}");
+    }
+    Ok(())
+}
+
+// A reader that gives this many zeros, a buffer at a time, and then fails or ends.
+#[derive(Drop)]
+struct Zeros {
+    left: usize,
+    fails: bool,
+}
+
+impl Read for Zeros {
+    fn read(&mut self, buf: &mut [u8]) -> io::Result<usize> {
+        if self.left == 0 && self.fails {
+            return Err(io::Error::from(io::ErrorKind::Other));
+        }
+        let count = buf.len().min(self.left);
+        for byte in &mut buf[..count] {
+            *byte = 0;
+        }
+        self.left -= count;
+        Ok(count)
+    }
+}
+
+#[test]
+fn loads_up_to_the_limit(rt: HostRuntime) -> Result<(), Fail> {
+    let alloc = rt.alloc();
+    let rows = [
+        (0, false, Ok(0)),
+        (5_000, false, Ok(5_000)),
+        (5_000, true, Err(LoadFault::Unread)),
+        (LONGEST, false, Ok(LONGEST)),
+        (LONGEST, true, Err(LoadFault::Unread)),
+        (LONGEST + 1, false, Err(LoadFault::TooLong)),
+        (usize::MAX, true, Err(LoadFault::TooLong)),
+    ];
+    for (left, fails, answer) in rows {
+        let loaded = load_from(alloc, &mut Zeros { left, fails });
+        assert_eq!(rt; loaded.map(|bytes| bytes.len()), answer, "of {left}");
+    }
+    let loaded = load_from(alloc, &mut b"tap".as_slice())?;
+    assert_eq!(rt; loaded.as_slice(), b"tap".as_slice());
+    Ok(())
+}
+
+// A writer that takes this many bytes and then fails.
+#[derive(Drop)]
+struct Full {
+    room: usize,
+}
+
+impl Write for Full {
+    fn write(&mut self, buf: &[u8]) -> io::Result<usize> {
+        if self.room == 0 {
+            return Err(io::Error::from(io::ErrorKind::Other));
+        }
+        let count = buf.len().min(self.room);
+        self.room -= count;
+        Ok(count)
+    }
+
+    fn flush(&mut self) -> io::Result<()> {
+        Ok(())
+    }
+}
+
+#[test]
+fn tells_of_a_write_that_fails(rt: HostRuntime) -> Result<(), Fail> {
+    let alloc = rt.alloc();
+    let bytes = hex::decode(alloc, FIRST)?;
+    let words = vec![in alloc; String::from_str(alloc, "omny_cli")?]?;
+    let length = FIRST_LINES.len() + 32;
+    for room in 0..length + 1 {
+        let mut shelf = Shelf::new(alloc, &[], Content::Bytes(&bytes));
+        let mut err = Vec::new(alloc);
+        let status = main_over(alloc, &words, &mut shelf, &mut Full { room }, &mut err);
+        let line = if room < length {
+            b"fault: cannot write\n".as_slice()
+        } else {
+            b"".as_slice()
+        };
+        assert_eq!(rt; err.as_slice(), line, "with room for {room}");
+        assert_eq!(rt; status, u8::from(room < length), "with room for {room}");
+    }
+    let mut shelf = Shelf::new(alloc, &[], Content::Fault(LoadFault::Unread));
+    let status = main_over(
+        alloc,
+        &words,
+        &mut shelf,
+        &mut Full { room: 9 },
+        &mut Full { room: 9 },
+    );
+    assert_eq!(rt; status, 1);
+    Ok(())
+}
+
+#[test]
+fn words_of_one_token(rt: HostRuntime) -> Result<(), Fail> {
+    let alloc = rt.alloc();
+    let bytes = hex::decode(alloc, FIRST)?;
+    let (batch, _rest) = Batch::first(&bytes)?;
+    assert_eq!(rt; batch.len(), 2);
+    let tap = batch.tap(0);
+    let mut listing = Listing::new(alloc);
+    for (known, word) in [
+        (false, Word::Unknown),
+        (true, Word::Live),
+        (true, Word::Stale),
+    ] {
+        assert!(rt; listing.counts().taps < 3);
+        assert_eq!(rt; listing.add(&tap, known)?, word);
+    }
+    let counts = ListCounts {
+        taps: 3,
+        live: 1,
+        stale: 1,
+        unknown: 1,
+    };
+    assert_eq!(rt; listing.counts(), counts);
+    Ok(())
+}

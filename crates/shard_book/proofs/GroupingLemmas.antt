@@ -1,0 +1,173 @@
+-- One entry more in the totals of its key.
+use Rattle.std.proofs.Common.{Ordering, take, ◌≡◌, ℕ, ◌+◌, ◌<◌, ◌≤◌, ◌^◌, Bool, true, false, cond, ◌||◌, List, [], ◌∷◌, ◌++◌, length, map, filter, Option, Some, None, refl, sym, ap, subst, ◌∙◌, ◌⊎◌, ⊎_elim, arith}
+use Rattle.std.specs.Cmp.{IsEquivalence, IsTotalOrder}
+use Rattle.std.specs.List.{list_any, IsDistinct, slice_get}
+use Rattle.std.specs.HashMap.{HashMap, get, Updates}
+use Rattle.std.specs.Map.{lookup, keys_of}
+use Rattle.std.specs.List.Sorted.{IsPermutation, IsSorted}
+use Rattle.std.specs.Ordering.{eq_by_cmp, is_eq}
+use Rattle.std.proofs.lemmas.List.Sorted.{list_any-IsPermutation}
+use Rattle.std.proofs.lemmas.Map.Keys.{IsDistinct-IsPermutation}
+use Rattle.std.proofs.lemmas.Map.Made.{is_some-lookup}
+use Rattle.shard_book.specs.Rising.{rising}
+use Rattle.shard_book.proofs.RisingLemmas.{rising-only, sorted-rises}
+use Rattle.account_rule.specs.declared.reply.Reply.{Reply}
+use Rattle.std.specs.Option.{is_some, unwrap_or}
+use Rattle.std.specs.Set.{is_member}
+use Rattle.std.proofs.lemmas.Bool.{cases_Bool}
+use Rattle.std.proofs.lemmas.List.{map-append, append-nil, take_all}
+use Rattle.std.proofs.lemmas.List.Elements.{filter-append}
+use Rattle.std.proofs.lemmas.List.Sums.{length-filter, count_by-le-length}
+use Rattle.std.proofs.lemmas.List.Folds.{list_any-append}
+use Rattle.shard_book.specs.declared.entry.Entry.{Entry}
+use Rattle.shard_book.specs.declared.totals.Totals.{Totals}
+use Rattle.shard_book.specs.Entry.{reply_of, own}
+use Rattle.shard_book.specs.Groups.{group, sums_by, sums_by_token, tokens, all_entries}
+use Rattle.shard_book.specs.Shown.{token_sum}
+use Rattle.shard_book.specs.declared.sums.TokenSum.{TokenSum}
+use Rattle.shard_book.specs.declared.token.Token.{Token}
+use Rattle.shard_book.specs.Book.{Book}
+use Rattle.shard_book.specs.Grouping.{IsGrouped, HasRoom, kept_sums}
+use Rattle.shard_book.specs.Sums.{Sums, sums, sums_of, sums_of_replies, add_sums}
+use Rattle.shard_book.proofs.SumsLemmas.{sums-append, sums-taps}
+
+or-true : (a : Bool) → true ≡ (a || (true || false))
+or-true true = refl
+or-true false = refl
+
+or-false : (a : Bool) → a ≡ (a || (false || false))
+or-false true = refl
+or-false false = refl
+
+-- the totals that an entry is added to hold the sums that were kept for its key
+pub kept-or : (kept : Option Totals) (fresh totals : Totals) → totals ≡ unwrap_or kept fresh → sums_of fresh ≡ sums_of_replies [] → sums_of totals ≡ kept_sums kept
+kept-or None fresh totals is none = ap sums_of is ∙ none
+kept-or (Some kept) fresh totals is none = ap sums_of is
+
+-- a group is no longer than the entries
+pub room-kept : {K : Type 0} (eq : K → K → Bool) (key_of : Entry → K) (pairs : List (K × Totals)) (key : K) (taps : ℕ) → HasRoom eq key_of pairs 1 → taps ≡ (kept_sums (lookup (eq key) pairs)).taps → taps < 2 ^ 95
+unfolding HasRoom group
+room-kept eq key_of pairs key taps room is =
+    let count : taps ≡ length (group eq key_of key room.0) = is ∙ ap (λ (s : Sums). s.taps) (room.1.sums key) ∙ sums-taps (group eq key_of key room.0) in
+    let few : length (group eq key_of key room.0) ≤ length room.0 = omega (arith, length-filter (λ (entry : Entry). eq (key_of entry) key) room.0, count_by-le-length (λ (entry : Entry). eq (key_of entry) key) room.0) in
+    let bound : length room.0 + 1 ≤ 2 ^ 95 = room.2 in
+    omega arith
+
+module _ {K : Type 0} {eq : K → K → Bool} (laws : IsEquivalence eq) (same : (a b : K) → eq a b ≡ true → a ≡ b) (key_of : Entry → K) where
+  group-push : (key : K) (before : List Entry) (entry : Entry) → group eq key_of key (before ++ entry ∷ []) ≡ group eq key_of key before ++ cond (eq (key_of entry) key) (entry ∷ []) []
+  unfolding group
+  group-push key before entry = filter-append (λ e. eq (key_of e) key) before (entry ∷ [])
+
+  -- one entry more in the totals of its key, and the other totals as they were
+  pub grouped-push : (before : List Entry) (entry : Entry) (old new : List (K × Totals)) (totals : Totals)
+      → ((q : K) → lookup (eq q) new ≡ cond (eq (key_of entry) q) (Some totals) (lookup (eq q) old))
+      → sums_of totals ≡ add_sums (kept_sums (lookup (eq (key_of entry)) old)) (sums_of_replies (reply_of entry ∷ []))
+      → IsGrouped eq key_of before old → IsGrouped eq key_of (before ++ entry ∷ []) new
+  grouped-push before entry old new totals updates added grouped = record {
+    sums = λ q.
+        ap kept_sums (updates q)
+        ∙ ⊎_elim
+        (λ (here : eq (key_of entry) q ≡ true).
+        let is : key_of entry ≡ q = same (key_of entry) q here in
+        ap (λ (b : Bool). kept_sums (cond b (Some totals) (lookup (eq q) old))) here
+        ∙ added
+        ∙ ap (λ (s : Sums). add_sums s (sums_of_replies (reply_of entry ∷ []))) (grouped.sums (key_of entry) ∙ ap (λ (k : K). sums (group eq key_of k before)) is)
+        ∙ sym (sums-append (group eq key_of q before) (entry ∷ []))
+        ∙ ap (λ (b : Bool). sums (group eq key_of q before ++ cond b (entry ∷ []) [])) (sym here)
+        ∙ ap sums (sym (group-push q before entry)))
+        (λ (apart : eq (key_of entry) q ≡ false).
+        ap (λ (b : Bool). kept_sums (cond b (Some totals) (lookup (eq q) old))) apart
+        ∙ grouped.sums q
+        ∙ ap sums (sym (append-nil (group eq key_of q before)))
+        ∙ ap (λ (b : Bool). sums (group eq key_of q before ++ cond b (entry ∷ []) [])) (sym apart)
+        ∙ ap sums (sym (group-push q before entry)))
+        (cases_Bool (eq (key_of entry) q));
+    keys = λ q.
+        ap is_some (updates q)
+        ∙ ⊎_elim
+        (λ (here : eq (key_of entry) q ≡ true).
+        ap (λ (b : Bool). is_some (cond b (Some totals) (lookup (eq q) old))) here
+        ∙ or-true (is_member eq (map key_of before) q)
+        ∙ ap (λ (b : Bool). is_member eq (map key_of before) q || (b || false)) (sym (laws.symm q (key_of entry) ∙ here))
+        ∙ sym (member-push q before entry))
+        (λ (apart : eq (key_of entry) q ≡ false).
+        ap (λ (b : Bool). is_some (cond b (Some totals) (lookup (eq q) old))) apart
+        ∙ grouped.keys q
+        ∙ or-false (is_member eq (map key_of before) q)
+        ∙ ap (λ (b : Bool). is_member eq (map key_of before) q || (b || false)) (sym (laws.symm q (key_of entry) ∙ apart))
+        ∙ sym (member-push q before entry))
+        (cases_Bool (eq (key_of entry) q));
+  }
+    where
+      member-push : (q : K) (before : List Entry) (entry : Entry) → is_member eq (map key_of (before ++ entry ∷ [])) q ≡ (is_member eq (map key_of before) q || (eq q (key_of entry) || false))
+      member-push q before entry = ap (λ (ks : List K). list_any (eq q) ks) (map-append key_of before (entry ∷ [])) ∙ list_any-append (eq q) (map key_of before) (key_of entry ∷ [])
+
+  -- the same, as a map's entry tells it once its value was written
+  pub grouped-written : {S : Type 0} (before : List Entry) (entry : Entry) (key : K) (old next : HashMap K Totals S) (pairs : List (K × Totals)) (kept : Totals) (fresh : Totals) (totals : Totals) (answered : Reply)
+      → key ≡ key_of entry
+      → pairs ≡ next.entries
+      → Updates eq old next key (Some totals)
+      → kept ≡ unwrap_or (get eq old key) fresh
+      → sums_of fresh ≡ sums_of_replies []
+      → answered ≡ reply_of entry
+      → sums_of totals ≡ add_sums (sums_of kept) (sums_of_replies (answered ∷ []))
+      → IsGrouped eq key_of before old.entries → IsGrouped eq key_of (before ++ entry ∷ []) pairs
+  grouped-written before entry key old next pairs kept fresh totals answered is_key same_pairs updates is_kept none is_reply added grouped =
+      grouped-push before entry old.entries pairs totals
+      (λ q. ap (λ (es : List (K × Totals)). lookup (eq q) es) same_pairs ∙ updates.0 q ∙ ap (λ (k : K). cond (eq k q) (Some totals) (lookup (eq q) old.entries)) is_key)
+      (added
+      ∙ ap (λ (s : Sums). add_sums s (sums_of_replies (answered ∷ []))) (kept-or (get eq old key) fresh kept is_kept none ∙ ap (λ (k : K). kept_sums (get eq old k)) is_key)
+      ∙ ap (λ (r : Reply). add_sums (kept_sums (get eq old (key_of entry))) (sums_of_replies (r ∷ []))) is_reply)
+      grouped
+
+-- the keys of the totals, once sorted, are the rising keys of the entries
+pub keys-rising : {K : Type 0} {cmp : K → K → Ordering} {eq : K → K → Bool} (total : IsTotalOrder cmp) (laws : IsEquivalence eq) (same : (a b : K) → eq a b ≡ true → a ≡ b) (ties : (a b : K) → eq a b ≡ eq_by_cmp cmp a b)
+    (key_of : Entry → K) (entries : List Entry) (pairs : List (K × Totals)) (keys sorted : List K)
+    → keys ≡ keys_of pairs → IsDistinct eq (keys_of pairs) → IsPermutation keys sorted → IsSorted cmp sorted → IsGrouped eq key_of entries pairs → sorted ≡ rising cmp (map key_of entries)
+keys-rising {K = K} {cmp = cmp} {eq = eq} total laws same ties key_of entries pairs keys sorted is_keys distinct moved in_order grouped =
+    let alike : eq ≡ eq_by_cmp cmp = λ i a b. ties a b i in
+    let apart : IsDistinct eq keys = subst (λ (ks : List K). IsDistinct eq ks) (sym is_keys) distinct in
+    rising-only total (λ a b tied. same a b (ties a b ∙ ap is_eq tied)) (map key_of entries) sorted (record {
+      rises = sorted-rises total (λ a b tied. same a b (ties a b ∙ ap is_eq tied)) sorted in_order
+          (subst (λ (e : K → K → Bool). IsDistinct e sorted) alike (IsDistinct-IsPermutation eq laws.symm keys sorted moved apart));
+      same = λ q. subst (λ (e : K → K → Bool). is_member e sorted q ≡ is_member e (map key_of entries) q) alike
+          (sym (list_any-IsPermutation (eq q) keys sorted moved) ∙ ap (λ (ks : List K). list_any (eq q) ks) is_keys ∙ sym (is_some-lookup (eq q) pairs) ∙ grouped.keys q);
+    })
+
+-- the rising keys, each with its kept sums, are the sums of the entries
+pub sums-listed : {K : Type 0} (cmp : K → K → Ordering) (eq : K → K → Bool) (key_of : Entry → K) (entries : List Entry) (pairs : List (K × Totals)) (keys items : List K) (n : ℕ) (shown : List (K × Sums))
+    → shown ≡ map (λ key. (key, kept_sums (lookup (eq key) pairs))) (take n items)
+    → length items ≤ n
+    → items ≡ keys
+    → keys ≡ rising cmp (map key_of entries)
+    → IsGrouped eq key_of entries pairs
+    → shown ≡ sums_by cmp eq key_of entries
+unfolding sums_by
+sums-listed {K = K} cmp eq key_of entries pairs keys items n shown is whole same_items risen grouped =
+    is
+    ∙ ap (λ (ks : List K). map (λ key. (key, kept_sums (lookup (eq key) pairs))) ks) (take_all n items whole ∙ same_items ∙ risen)
+    ∙ (λ i. map (λ key. (key, grouped.sums key i)) (rising cmp (map key_of entries)))
+
+-- no totals stand for no entries
+pub grouped-none : {K : Type 0} (eq : K → K → Bool) (key_of : Entry → K) (pairs : List (K × Totals)) → pairs ≡ [] → IsGrouped eq key_of [] pairs
+unfolding group
+grouped-none {K = K} eq key_of pairs none = subst (λ (es : List (K × Totals)). IsGrouped eq key_of [] es) (sym none) (record { sums = λ key. refl; keys = λ key. refl })
+
+-- no books have no sums
+pub sums_by-none : {K Y : Type 0} (cmp : K → K → Ordering) (eq : K → K → Bool) (key_of : Entry → K) (shown : Y → K × Sums) (books : List Book) (items : List Y) → items ≡ [] → None ≡ slice_get books 0 → map shown items ≡ sums_by cmp eq key_of (all_entries books)
+unfolding sums_by rising
+sums_by-none cmp eq key_of shown [] items none first = ap (map shown) none
+sums_by-none cmp eq key_of shown (book ∷ books) items none first = absurd (cc)
+
+-- the tokens of the sums by token are the tokens
+map-first : {K : Type 0} (f : K → Sums) (keys : List K) → map (λ (pair : K × Sums). pair.0) (map (λ key. (key, f key)) keys) ≡ keys
+map-first f [] = refl
+map-first f (key ∷ keys) = ap (λ ks. key ∷ ks) (map-first f keys)
+
+map-token : (list : List TokenSum) → map (λ (pair : Token × Sums). pair.0) (map token_sum list) ≡ map (λ (sum : TokenSum). sum.token) list
+map-token [] = refl
+map-token (sum ∷ list) = ap (λ ts. sum.token ∷ ts) (map-token list)
+
+pub tokens-of-sums : (entries : List Entry) (list : List TokenSum) → map token_sum list ≡ sums_by_token entries → map (λ (sum : TokenSum). sum.token) list ≡ tokens entries
+unfolding sums_by_token
+tokens-of-sums entries list is = sym (map-token list) ∙ ap (λ (pairs : List (Token × Sums)). map (λ (pair : Token × Sums). pair.0) pairs) is ∙ map-first (λ token. sums (own token entries)) (tokens entries)

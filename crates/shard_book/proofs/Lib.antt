@@ -1,0 +1,10 @@
+pub mod AccountsLemmas
+pub mod Bytes
+pub mod GroupingLemmas
+pub mod Histories
+pub mod RisingLemmas
+pub mod RunLemmas
+pub mod SoundLemmas
+pub mod SumsLemmas
+pub mod TokenLemmas
+pub mod WindowsLemmas

@@ -1,0 +1,45 @@
+-- Sums of two lists are the sums of both, joined.
+use Rattle.std.proofs.Common.{◌≡◌, ℕ, ◌+◌, ◌<◌, Bool, true, false, List, [], ◌∷◌, ◌++◌, length, take, get_or, map, cond, refl, sym, ap, ◌∙◌, arith}
+use Rattle.std.proofs.lemmas.List.{length-append, map-append, length-map, take_more, append-nil}
+use Rattle.std.proofs.lemmas.Grind.{flat_map-append}
+use Rattle.shard_book.specs.Book.{Book}
+use Rattle.shard_book.specs.Groups.{all_entries}
+use Rattle.std.proofs.lemmas.List.Sums.{sum_by-append}
+use Rattle.account_rule.specs.declared.reply.Reply.{Reply}
+use Rattle.shard_book.specs.declared.entry.Entry.{Entry}
+use Rattle.shard_book.specs.Entry.{reply_of}
+use Rattle.shard_book.specs.Sums.{Sums, sums, sums_of_replies, add_sums, is_paid, is_transfer, is_capped, is_stale, is_unknown}
+
+pub replies-append : (xs ys : List Reply) → sums_of_replies (xs ++ ys) ≡ add_sums (sums_of_replies xs) (sums_of_replies ys)
+unfolding sums_of_replies
+replies-append xs ys = λ i. record {
+  taps = length-append xs ys i;
+  paid = sum_by-append (λ (reply : Reply). cond (is_paid reply.answer) 1 0) xs ys i;
+  transfers = sum_by-append (λ (reply : Reply). cond (is_transfer reply.answer) 1 0) xs ys i;
+  capped = sum_by-append (λ (reply : Reply). cond (is_capped reply.answer) 1 0) xs ys i;
+  stale = sum_by-append (λ (reply : Reply). cond (is_stale reply.answer) 1 0) xs ys i;
+  unknown = sum_by-append (λ (reply : Reply). cond (is_unknown reply.answer) 1 0) xs ys i;
+  cents = sum_by-append (λ (reply : Reply). reply.cents) xs ys i;
+}
+
+pub sums-append : (xs ys : List Entry) → sums (xs ++ ys) ≡ add_sums (sums xs) (sums ys)
+sums-append xs ys = ap sums_of_replies (map-append reply_of xs ys) ∙ replies-append (map reply_of xs) (map reply_of ys)
+
+-- the taps counted are the entries
+pub sums-taps : (entries : List Entry) → (sums entries).taps ≡ length entries
+unfolding sums_of_replies
+sums-taps entries = length-map entries reply_of
+
+-- one entry more in the sums of a front
+pub sums-more : (entries : List Entry) (i : ℕ) (blank : Entry) (answered : Reply) (old new : Sums) → i < length entries → answered ≡ reply_of (get_or entries i blank) → old ≡ sums (take i entries) → new ≡ add_sums old (sums_of_replies (answered ∷ [])) → new ≡ sums (take (i + 1) entries)
+sums-more entries i blank answered old new within is_reply before added =
+    added
+    ∙ ap (λ (s : Sums). add_sums s (sums_of_replies (answered ∷ []))) before
+    ∙ ap (λ (r : Reply). add_sums (sums (take i entries)) (sums_of_replies (r ∷ []))) is_reply
+    ∙ sym (sums-append (take i entries) (get_or entries i blank ∷ []))
+    ∙ ap sums (sym (take_more entries i blank within))
+
+-- all entries of one book more
+pub all-more : (books : List Book) (i : ℕ) (blank : Book) → i < length books → all_entries (take (i + 1) books) ≡ all_entries (take i books) ++ (get_or books i blank).entries
+all-more books i blank within =
+    ap all_entries (take_more books i blank within) ∙ flat_map-append (λ (book : Book). book.entries) (take i books) (get_or books i blank ∷ []) ∙ ap (λ (es : List Entry). all_entries (take i books) ++ es) (append-nil (get_or books i blank).entries)

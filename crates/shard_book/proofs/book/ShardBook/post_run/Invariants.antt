@@ -1,0 +1,10 @@
+use Rattle.std.proofs.Common.{◌≡◌, ◌++◌, length}
+use Rattle.std.specs.List.{AllByRecursion}
+use Rattle.tap_views.specs.Shards.{run_taps, IsShardTap}
+use Rattle.shard_book.specs.History.{IsLegal}
+use Rattle.shard_book.specs.Visits.{PostsTaps}
+use Rattle.shard_book.proofs.RunLemmas.{IsPosting}
+use Rattle.shard_book.proofs.book.ShardBook.post_run.Given as goal
+
+abbrev pub invariant-loop-tap : goal.invariant-loop-tap
+invariant-loop-tap l = IsPosting l.run l.yielded l.tap-iterator l.posted l.initial.self l.self l.initial.out l.out

@@ -1,0 +1,18 @@
+use Rattle.std.proofs.Common.{◌≡◌, length, take, ap, ◌∙◌, arith}
+use Rattle.std.proofs.lemmas.List.{length-take-le}
+use Rattle.shard_book.specs.Sums.{Sums, sums, sums_of}
+use Rattle.shard_book.proofs.SumsLemmas.{sums-taps, sums-more}
+use Rattle.shard_book.proofs.sums.totals_of_entries.Goals as goal
+
+pub add-requires : goal.add-requires
+add-requires c =
+    let count : c.loop-entry.totals.taps ≡ length (take c.loop-entry.entry-index c.args.entries.now) = ap (λ (s : Sums). s.taps) c.loop-entry.invariant ∙ sums-taps (take c.loop-entry.entry-index c.args.entries.now) in
+    omega (arith, length-take-le c.loop-entry.entry-index c.args.entries.now (omega arith))
+
+pub loop-entry-preserved : goal.loop-entry-preserved
+loop-entry-preserved c = sums-more c.args.entries.now c.loop-entry.entry-index _ c.reply.result _ _ c.loop-entry-test.true c.reply.ensures c.loop-entry.invariant c.add.ensures
+
+pub returns-clause-few : goal.returns-clause-few
+returns-clause-few c =
+    let count : c.loop-entry.totals.taps ≡ length (take c.loop-entry.entry-index c.args.entries.now) = ap (λ (s : Sums). s.taps) c.loop-entry.invariant ∙ sums-taps (take c.loop-entry.entry-index c.args.entries.now) in
+    omega (arith, length-take-le c.loop-entry.entry-index c.args.entries.now (omega arith))

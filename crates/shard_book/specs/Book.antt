@@ -1,0 +1,36 @@
+-- What contracts see of a book.
+use Rattle.std.specs.Prelude.{◌≡◌, ℕ, ◌<◌, ◌≤◌, List, [], ◌∷◌, ◌++◌, All}
+use Rattle.tap_views.specs.Layout.{Tap, num}
+use Rattle.tap_views.specs.Shards.{shard_of_token}
+use Rattle.fare_table.specs.Fares.{Fares}
+use Rattle.fare_table.specs.Until.{until}
+use Rattle.account_rule.specs.declared.reply.Reply.{Reply}
+use Rattle.shard_book.specs.declared.entry.Entry.{Entry}
+use Rattle.shard_book.specs.Entry.{IsEntryOf, reply_of}
+use Rattle.shard_book.specs.Token.{bytes_of}
+
+-- a book: its table, its shard of so many, and its whole history
+pub record Book : Type 0 where
+  pub table : Fares
+  pub shard : ℕ
+  pub shards : ℕ
+  pub entries : List Entry
+
+-- each entry's token is of the shard
+pub record AreOfShard (shard shards : ℕ) (entries : List Entry) : Type 0 where
+  pub each : All (λ entry. shard_of_token (bytes_of entry.token) shards ≡ shard) entries
+
+-- the book with more entries
+abbrev pub with_entries : Book → List Entry → Book
+with_entries book more = record { table = book.table; shard = book.shard; shards = book.shards; entries = book.entries ++ more }
+
+-- the limit of a window that would start at the tap
+abbrev pub limit_of : Fares → Tap → ℕ
+limit_of table tap = until table (num tap.moment)
+
+-- exactly one entry was appended: of the tap, with the reply
+pub record PostsTap (book after : Book) (tap : Tap) (reply : Reply) : Type 0 where
+  pub entry : Entry
+  pub of_tap : IsEntryOf tap entry
+  pub replied : reply_of entry ≡ reply
+  pub appended : after ≡ with_entries book (entry ∷ [])

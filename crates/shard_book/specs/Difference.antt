@@ -1,0 +1,13 @@
+-- Where two lists first differ.
+use Rattle.std.specs.Prelude.{◌≡◌, ◌≢◌, ℕ, List, Option, Some, None, take, slice_get}
+use Rattle.shard_book.specs.declared.entry.Entry.{Entry}
+
+-- the lists agree before the place, and at the place they do not: another entry, or one list has ended
+pub record DifferFirstAt (left right : List Entry) (place : ℕ) : Type 0 where
+  pub before : take place left ≡ take place right
+  pub here : slice_get left place ≢ slice_get right place
+
+-- the first place where the lists differ, or none where they are equal
+abbrev pub IsFirstDifference : List Entry → List Entry → Option ℕ → Type 0
+IsFirstDifference left right None = left ≡ right
+IsFirstDifference left right (Some place) = DifferFirstAt left right place

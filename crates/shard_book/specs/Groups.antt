@@ -1,0 +1,52 @@
+-- Sums of a history by the validators and by the tokens of its entries.
+use Rattle.std.specs.Prelude.{◌≡◌, ℕ, Bool, List, Option, Some, None, [], map, filter, flat_map, is_some}
+use Rattle.std.specs.HashMap.{HashMap, get}
+use Rattle.std.specs.Ordering.{nat_cmp}
+use Rattle.std.specs.Set.{is_member}
+use Rattle.std.specs.declared.cmp.Ordering.{Ordering}
+use Rattle.shard_book.specs.declared.entry.Entry.{Entry}
+use Rattle.shard_book.specs.declared.token.Token.{Token}
+use Rattle.shard_book.specs.declared.totals.Totals.{Totals}
+use Rattle.shard_book.specs.Book.{Book}
+use Rattle.shard_book.specs.Entry.{is_at, own}
+use Rattle.shard_book.specs.Rising.{rising}
+use Rattle.shard_book.specs.Sums.{Sums, sums, sums_of, sums_of_replies}
+use Rattle.shard_book.specs.Token.{token_cmp, token_eq}
+
+-- the entries with the key, in order
+unfoldable pub group : {K : Type 0} → (K → K → Bool) → (Entry → K) → K → List Entry → List Entry
+group eq key_of key entries = filter (λ entry. eq (key_of entry) key) entries
+
+-- the keys of the entries, rising, each with the sums of its entries
+unfoldable pub sums_by : {K : Type 0} → (K → K → Ordering) → (K → K → Bool) → (Entry → K) → List Entry → List (K × Sums)
+sums_by cmp eq key_of entries = map (λ key. (key, sums (group eq key_of key entries))) (rising cmp (map key_of entries))
+
+abbrev pub validator_of : Entry → ℕ
+validator_of entry = entry.validator
+
+abbrev pub token_of : Entry → Token
+token_of entry = entry.token
+
+-- the validators of a history, rising, each once
+unfoldable pub validators : List Entry → List ℕ
+validators entries = rising nat_cmp (map validator_of entries)
+
+-- the tokens of a history, rising, each once
+unfoldable pub tokens : List Entry → List Token
+tokens entries = rising token_cmp (map token_of entries)
+
+-- the entries of one validator, in history order
+unfoldable pub at : ℕ → List Entry → List Entry
+at validator entries = filter (is_at validator) entries
+
+-- the validators, rising, each with the sums of its entries
+unfoldable pub sums_by_validator : List Entry → List (ℕ × Sums)
+sums_by_validator entries = map (λ validator. (validator, sums (at validator entries))) (validators entries)
+
+-- the tokens, rising, each with the sums of its own entries
+unfoldable pub sums_by_token : List Entry → List (Token × Sums)
+sums_by_token entries = map (λ token. (token, sums (own token entries))) (tokens entries)
+
+-- the entries of several books, book by book
+abbrev pub all_entries : List Book → List Entry
+all_entries books = flat_map (λ book. book.entries) books

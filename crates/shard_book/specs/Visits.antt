@@ -1,0 +1,45 @@
+-- What one turn appends to a history.
+use Rattle.std.specs.Prelude.{◌≡◌, ℕ, ◌+◌, ◌<◌, List, ◌++◌, length, take, map}
+use Rattle.std.specs.List.{AllZip}
+use Rattle.tap_views.specs.Layout.{Tap, num}
+use Rattle.fare_table.specs.Fares.{Fares}
+use Rattle.fare_table.specs.Until.{until}
+use Rattle.shard_book.specs.declared.entry.Entry.{Entry}
+use Rattle.shard_book.specs.declared.run_end.RunEnd.{RunEnd}
+use Rattle.shard_book.specs.declared.run_end.RunEnd.TheVariants.{Whole, Cut}
+use Rattle.shard_book.specs.Book.{Book, with_entries}
+use Rattle.shard_book.specs.Entry.{IsEntryOf, reply_of}
+use Rattle.shard_book.specs.Replies.{RepliesView}
+
+-- one entry for each tap, in order, with the fields of its bytes
+abbrev pub AreEntriesOf : List Tap → List Entry → Type 0
+AreEntriesOf taps entries = AllZip IsEntryOf taps entries
+
+-- the visit of a run: of all its taps, or, where it was cut, of its first ones and not of all
+abbrev pub IsVisit : List Tap → RunEnd → List Entry → Type 0
+IsVisit taps Whole visit = AreEntriesOf taps visit
+IsVisit taps (Cut posted) visit = (posted < length taps) × AreEntriesOf (take posted taps) visit
+
+-- the run's visit was appended to the book, and its replies to the replies, in the room that was there
+pub record PostsRun (taps : List Tap) (how : RunEnd) (book after : Book) (replies replied : RepliesView) : Type 0 where
+  pub visit : List Entry
+  pub of_run : IsVisit taps how visit
+  pub appended : after ≡ with_entries book visit
+  pub items : replied.items ≡ replies.items ++ map reply_of visit
+  pub spare : replied.spare + length visit ≡ replies.spare
+
+-- the limits of windows that would start at the taps
+abbrev pub limits_by : (ℕ → ℕ) → List Tap → List ℕ
+limits_by limit taps = map (λ tap. limit (num tap.moment)) taps
+
+-- the same under a table
+abbrev pub limits_of : Fares → List Tap → List ℕ
+limits_of table taps = limits_by (until table) taps
+
+-- one entry for each of the taps was appended to the book, and its reply to the replies, in the room that was there
+pub record PostsTaps (taps : List Tap) (book after : Book) (replies replied : RepliesView) : Type 0 where
+  pub visit : List Entry
+  pub of_taps : AreEntriesOf taps visit
+  pub appended : after ≡ with_entries book visit
+  pub items : replied.items ≡ replies.items ++ map reply_of visit
+  pub spare : replied.spare + length visit ≡ replies.spare

@@ -1,0 +1,162 @@
+//! The book of one shard: its table, its accounts and its whole history.
+
+ghost use Rattle.std.specs.Prelude.{◌≡◌, ◌<◌, ◌≤◌, [], length, slice_get, IfOk, OnErr, IsTrue, ◌↔◌, Some};
+ghost use Rattle.tap_views.specs.Shards.{shard_of_token};
+ghost use Rattle.account_rule.specs.Rules.{rules_of};
+ghost use Rattle.account_rule.specs.Stands.{Stands};
+ghost use Rattle.shard_book.specs.Entry.{taps_of};
+ghost use Rattle.shard_book.specs.Token.{bytes_of};
+ghost use Rattle.shard_book.specs.Book.{AreOfShard, PostsTap, limit_of};
+ghost use Rattle.shard_book.specs.History.{IsLegal};
+
+use crate::accounts::Accounts;
+use crate::entry::Entry;
+use crate::keys::TokenKeys;
+use crate::token::Token;
+use account_rule::{Account, Reply, TapIn};
+use fare_table::{FareTable, NoMemory};
+use std::alloc::Global;
+use std::marker::Model;
+use tap_views::TapView;
+
+/// The accounts and the history of one shard.
+///
+/// Contracts see the table, the shard, the number of shards and the list of entries. The history is legal at
+/// all times: each entry has the account rule's reply for its token's earlier taps.
+#[derive(Drop)]
+pub struct ShardBook {
+    table: FareTable,
+    shard: u32,
+    shards: u32,
+    accounts: Accounts,
+    history: Vec<Entry>,
+}
+
+impl Model for ShardBook {
+    ghost use Rattle.shard_book.specs.Book.{Book};
+    ghost use Rattle.shard_book.specs.Sound.{IsSound};
+
+    ghost Value = { Book };
+
+    ghost view = { λ b. record { table = b.table; shard = b.shard; shards = b.shards; entries = b.history.items } };
+
+    ghost invariant = { λ b. IsSound b.table b.shard b.shards b.accounts b.history.items };
+}
+
+impl ShardBook {
+    /// A book without entries. It takes no memory.
+    ///
+    /// The keys are those of the service, made once by `TokenKeys::new`.
+    pub fn open(alloc: Global, keys: TokenKeys, table: FareTable, shard: u32, shards: u32) -> Self
+        requires shard { shard < shards }
+        requires shards { shards ≤ 64 }
+        ensures book { result ≡ record { table = table; shard = shard; shards = shards; entries = [] } }
+        ensures legal { IsLegal result.table result.entries }
+    {
+        ShardBook {
+            table,
+            shard,
+            shards,
+            accounts: Accounts::new(alloc, keys),
+            history: Vec::new(alloc),
+        }
+    }
+
+    /// Posts one tap: the account rule answers it, and one entry is appended to the history.
+    ///
+    /// `until` is the table's limit of a window that starts at the tap. On want of memory the book stays as
+    /// it was: all room is taken first.
+    pub fn post(&mut self, tap: &TapView, until: u64) -> Result<Reply, NoMemory>
+        requires here { shard_of_token tap.now.token self.old.shards ≡ self.old.shard }
+        requires until { until ≡ limit_of self.old.table tap.now }
+        ensures ok { IfOk result (λ reply. PostsTap self.old self.new tap.now reply) }
+        ensures err { OnErr result (self.new ≡ self.old) }
+        ensures legal { IsLegal self.new.table self.new.entries }
+    {
+        self.history.reserve(1)?;
+        let token = Token::of(tap.token());
+        let validator = tap.validator_number();
+        let moment = tap.moment_ms();
+        let mode = self.table.mode_of(validator);
+        let tap_in = TapIn {
+            moment,
+            mode,
+            until,
+        };
+        let reply = self.accounts.step(&self.table, token, tap_in)?;
+        self.history.push_reserved(Entry {
+            token,
+            validator,
+            moment,
+            answer: reply.answer,
+            cents: reply.cents,
+        });
+        Ok(reply)
+    }
+
+    /// The book's fare table.
+    pub fn table(&self) -> &FareTable
+        ensures { result.now ≡ self.now.table }
+    {
+        &self.table
+    }
+
+    /// The book's shard, below the number of shards.
+    pub fn shard(&self) -> u32
+        ensures shard { result ≡ self.now.shard }
+        ensures within { result < self.now.shards }
+    {
+        self.shard
+    }
+
+    /// The number of shards, at most 64.
+    pub fn shards(&self) -> u32
+        ensures shards { result ≡ self.now.shards }
+        ensures few { result ≤ 64 }
+    {
+        self.shards
+    }
+
+    /// How many entries the history has.
+    pub fn len(&self) -> u64
+        ensures len { result ≡ length self.now.entries }
+        ensures legal { IsLegal self.now.table self.now.entries }
+        ensures here { AreOfShard self.now.shard self.now.shards self.now.entries }
+    {
+        self.history.len() as u64
+    }
+
+    /// Whether the history has no entry.
+    pub fn is_empty(&self) -> bool
+        ensures { IsTrue result ↔ (self.now.entries ≡ []) }
+    {
+        self.history.is_empty()
+    }
+
+    /// The entry at place `i` of the history, from 0.
+    pub fn entry(&self, i: u64) -> &Entry
+        requires { i < length self.now.entries }
+        ensures { slice_get self.now.entries i ≡ Some result.now }
+    {
+        &self.history[i as usize]
+    }
+
+    /// The whole history, in order.
+    pub(crate) fn entries(&self) -> &[Entry]
+        ensures { result.now ≡ self.now.entries }
+    {
+        self.history.as_slice()
+    }
+
+    /// The seed under which the book hashes tokens.
+    pub(crate) fn keys(&self) -> TokenKeys {
+        self.accounts.keys()
+    }
+
+    /// The token's account.
+    pub(crate) fn account_of(&self, token: Token) -> Account
+        ensures { Stands (rules_of self.now.table (bytes_of token)) result (taps_of self.now.table token self.now.entries) }
+    {
+        self.accounts.account_of(token)
+    }
+}

@@ -1,0 +1,123 @@
+//! Sums of entries by a key, in one pass over the entries and a sort of the keys.
+
+ghost use Rattle.std.specs.Prelude.{◌≡◌, ◌+◌, ◌≤◌, ◌^◌, List, [], ◌∷◌, ◌++◌, length, map, true, IfOk, OnOk};
+ghost use Rattle.shard_book.specs.declared.entry.Entry.{Entry};
+ghost use Rattle.shard_book.specs.Groups.{sums_by, all_entries};
+ghost use Rattle.shard_book.specs.Grouping.{IsGrouped, HasRoom, kept_sums};
+ghost use Rattle.shard_book.specs.Rising.{rising};
+ghost use Rattle.std.specs.HashMap.{get};
+ghost use Rattle.shard_book.specs.Sums.{Sums, sums_of};
+
+use crate::book::ShardBook;
+use crate::entry::Entry;
+use crate::keys::TokenKeys;
+use crate::totals::Totals;
+use fare_table::NoMemory;
+use std::alloc::Global;
+use std::collections::HashMap;
+use std::hash::Hash;
+
+/// What entries are summed by.
+pub(crate) trait GroupKey: Copy + Ord + Hash + Drop {
+    /// A key with its totals.
+    type Sum: Drop;
+
+    // The entry's key.
+    ghost key_of: { Entry → Self };
+
+    // What a sum shows.
+    ghost shown: { Self.Sum → Self × Sums };
+
+    /// The entry's key.
+    fn of(entry: &Entry) -> Self
+        ensures { result ≡ key_of entry.now };
+
+    /// The key with its totals.
+    fn sum(self, totals: Totals) -> Self::Sum
+        ensures { shown result ≡ (self, sums_of totals) };
+
+    // Keys that are equal by `==` are the same.
+    ghost same: { (a b : Self) → Self.eq a b ≡ true → a ≡ b };
+}
+
+/// Adds one entry to the totals of its key.
+fn add_entry<K: GroupKey>(
+    totals: &mut HashMap<K, Totals, TokenKeys>,
+    entry: &Entry,
+) -> Result<(), NoMemory>
+    requires { HasRoom K.eq K.key_of totals.old.entries 1 }
+    ensures { OnOk result ((before : List Entry) → IsGrouped K.eq K.key_of before totals.old.entries → IsGrouped K.eq K.key_of (before ++ entry.now ∷ []) totals.new.entries) }
+{
+    let kept = totals.entry(K::of(entry))?.or_insert(Totals::new());
+    kept.add(entry.reply());
+    Ok(())
+}
+
+/// Adds entries to the totals of their keys.
+fn add_entries<K: GroupKey>(
+    totals: &mut HashMap<K, Totals, TokenKeys>,
+    entries: &[Entry],
+) -> Result<(), NoMemory>
+    requires { HasRoom K.eq K.key_of totals.old.entries (length entries.now) }
+    ensures { OnOk result ((before : List Entry) → IsGrouped K.eq K.key_of before totals.old.entries → IsGrouped K.eq K.key_of (before ++ entries.now) totals.new.entries) }
+{
+    for entry in entries {
+        add_entry(totals, entry)?;
+    }
+    Ok(())
+}
+
+/// The keys, rising.
+fn rising_keys<K: GroupKey>(
+    alloc: Global,
+    totals: &HashMap<K, Totals, TokenKeys>,
+) -> Result<Vec<K>, NoMemory>
+    ensures { IfOk result (λ keys. (entries : List Entry) → IsGrouped K.eq K.key_of entries totals.now.entries → keys.items ≡ rising K.cmp (map K.key_of entries)) }
+{
+    let mut keys: Vec<K> = totals.keys().copied().collect(alloc)?;
+    keys.sort_unstable();
+    Ok(keys)
+}
+
+/// The totals that are kept for the key, of nothing where there are none.
+fn kept_totals<K: GroupKey>(totals: &HashMap<K, Totals, TokenKeys>, key: K) -> Totals
+    ensures { sums_of result ≡ kept_sums (get K.eq totals.now key) }
+{
+    match totals.get(&key) {
+        Some(kept) => *kept,
+        None => Totals::new(),
+    }
+}
+
+/// Each key with its totals, by rising keys.
+fn listed<K: GroupKey>(
+    alloc: Global,
+    totals: &HashMap<K, Totals, TokenKeys>,
+) -> Result<Vec<K::Sum>, NoMemory>
+    ensures { IfOk result (λ list. (entries : List Entry) → IsGrouped K.eq K.key_of entries totals.now.entries → map K.shown list.items ≡ sums_by K.cmp K.eq K.key_of entries) }
+{
+    let keys = rising_keys(alloc, totals)?;
+    let mut list = Vec::with_capacity(alloc, keys.len())?;
+    for key in &keys {
+        list.push_reserved(key.sum(kept_totals(totals, *key)));
+    }
+    Ok(list)
+}
+
+/// The sums of all entries of the books by their keys.
+pub(crate) fn sums_of_books<K: GroupKey>(
+    alloc: Global,
+    books: &[ShardBook],
+) -> Result<Vec<K::Sum>, NoMemory>
+    requires { length books.now ≤ 64 }
+    ensures { IfOk result (λ list. map K.shown list.items ≡ sums_by K.cmp K.eq K.key_of (all_entries books.now)) }
+{
+    let Some(first) = books.first() else {
+        return Ok(Vec::new(alloc));
+    };
+    let mut totals = HashMap::with_hasher(alloc, first.keys());
+    for book in books {
+        add_entries::<K>(&mut totals, book.entries())?;
+    }
+    listed(alloc, &totals)
+}

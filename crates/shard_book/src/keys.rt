@@ -1,0 +1,104 @@
+//! The seed of the accounts' hash.
+//!
+//! Uploads come from strangers, who could fill one bucket of a hash whose seed they know. So the seed is
+//! random, made once a service, and handed to each book that is opened.
+
+ghost use Rattle.std.specs.Prelude.{◌≡◌};
+ghost use Rattle.shard_book.specs.Folding.{first_word, folded_multiply};
+
+use fare_table::NoMemory;
+use std::hash::{BuildHasher, Hasher, RandomState};
+use std::random::RandomSource;
+
+/// The seed under which a book hashes tokens. One value serves any number of books.
+///
+/// The hash multiplies each word into a state and folds the two halves of the product: a few instructions a
+/// token. State and multiplier are 128 bits from the system's randomness. No proof says that a stranger
+/// cannot find tokens that collide; a collision costs time and changes no answer.
+#[derive(Clone, Copy)]
+pub struct TokenKeys {
+    state: u64,
+    multiplier: u64,
+}
+
+impl TokenKeys {
+    /// A seed from the system's randomness. A seed that the system refuses counts as want of memory.
+    pub fn new<R: RandomSource>(rt: &R) -> Result<Self, NoMemory> {
+        match RandomState::new(rt) {
+            Ok(random) => {
+                Ok(TokenKeys {
+                    state: random.hash_one(1u64),
+                    multiplier: random.hash_one(2u64),
+                })
+            }
+            Err(_) => Err(NoMemory),
+        }
+    }
+}
+
+/// The hasher of a book's accounts: a folded product for each eight bytes.
+#[derive(Clone, Copy)]
+pub struct FoldedProduct {
+    state: u64,
+    multiplier: u64,
+}
+
+/// The whole number in the first eight, four or one of these bytes, the lowest first.
+#[tactic(auto, unfolding(crate::specs::Folding::first_word))]
+fn first_word(bytes: &[u8]) -> u64
+    ensures { result ≡ first_word bytes.now }
+{
+    if bytes.len() >= 8 {
+        u64::from_le_bytes([
+            bytes[0], bytes[1], bytes[2], bytes[3], bytes[4], bytes[5], bytes[6], bytes[7],
+        ])
+    } else if bytes.len() >= 4 {
+        u64::from(u32::from_le_bytes([bytes[0], bytes[1], bytes[2], bytes[3]]))
+    } else if bytes.len() > 0 {
+        u64::from(bytes[0])
+    } else {
+        0
+    }
+}
+
+/// The two halves of the product, joined by xor.
+#[tactic(auto, unfolding(crate::specs::Folding::folded_multiply))]
+fn folded_multiply(a: u64, b: u64) -> u64
+    ensures { result ≡ folded_multiply a b }
+{
+    let product = u128::from(a) * u128::from(b);
+    (product & 0xffff_ffff_ffff_ffff) as u64 ^ (product >> 64) as u64
+}
+
+impl Hasher for FoldedProduct {
+    ghost use Rattle.shard_book.specs.Folding.{written, state_of};
+
+    ghost write = { written };
+
+    ghost finish = { state_of };
+
+    #[tactic(auto, unfolding(crate::specs::Folding::written))]
+    fn write(&mut self, bytes: &[u8]) {
+        self.state = folded_multiply(self.state ^ first_word(bytes), self.multiplier);
+    }
+
+    fn finish(&self) -> u64 {
+        self.state
+    }
+}
+
+impl BuildHasher for TokenKeys {
+    ghost use Rattle.shard_book.specs.Folding.{first_of};
+
+    type Hasher = FoldedProduct;
+
+    ghost build_hasher = { first_of };
+
+    #[tactic(auto, unfolding(crate::specs::Folding::first_of))]
+    fn build_hasher(&self) -> FoldedProduct {
+        FoldedProduct {
+            state: self.state,
+            multiplier: self.multiplier,
+        }
+    }
+}

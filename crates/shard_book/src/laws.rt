@@ -1,0 +1,50 @@
+//! Laws of the definitions, each as the contract of a small function.
+
+ghost use Rattle.std.specs.Prelude.{◌≡◌, ◌↔◌, ◌++◌, ℕ, List};
+ghost use Rattle.std.specs.Ordering.{nat_cmp};
+ghost use Rattle.std.specs.Cmp.Lexicographic.{slice_cmp};
+ghost use Rattle.fare_table.specs.Fares.{Fares};
+ghost use Rattle.shard_book.specs.declared.entry.Entry.{Entry};
+ghost use Rattle.shard_book.specs.declared.token.Token.{Token};
+ghost use Rattle.shard_book.specs.History.{IsLegal};
+ghost use Rattle.shard_book.specs.Rising.{rising, IsRising};
+ghost use Rattle.shard_book.specs.Sums.{sums, add_sums};
+ghost use Rattle.shard_book.specs.Token.{bytes_of, token_cmp};
+ghost use Rattle.shard_book.specs.Windows.{WindowsKeepLimits};
+
+use crate::book::ShardBook;
+use crate::token::Token;
+use std::cmp::Ordering;
+
+/// Tokens are ordered by their bytes.
+pub fn order(a: Token, b: Token) -> Ordering
+    ensures { result ≡ slice_cmp nat_cmp (bytes_of a) (bytes_of b) }
+{
+    a.cmp(&b)
+}
+
+/// The rising list of the keys is the one strictly rising list that has the same members.
+pub fn rising()
+    ensures numbers { (keys risen : List ℕ) → IsRising nat_cmp keys risen ↔ (risen ≡ rising nat_cmp keys) }
+    ensures tokens { (keys risen : List Token) → IsRising token_cmp keys risen ↔ (risen ≡ rising token_cmp keys) }
+{}
+
+/// The sums of one history after another are the sums of both, joined.
+pub fn sums()
+    ensures { (before after : List Entry) → sums (before ++ after) ≡ add_sums (sums before) (sums after) }
+{}
+
+/// The beginning of a legal history is legal.
+pub fn beginnings()
+    ensures { (table : Fares) (before after : List Entry) → IsLegal table (before ++ after) → IsLegal table before }
+{}
+
+/// No window of any token has more paid rides than the ride limit or costs more than the ceiling (MTA, fare
+/// capping), and the token's entries were charged what its windows cost.
+pub fn windows(book: &ShardBook)
+    ensures { (token : Token) → WindowsKeepLimits book.now.table book.now.entries token }
+{
+    let _ = book.len();
+    account_rule::laws::limits();
+    account_rule::laws::shares();
+}

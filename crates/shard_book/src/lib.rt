@@ -1,0 +1,38 @@
+//! The accounts and the whole history of one shard.
+//!
+//! A `ShardBook` posts taps: it answers each by the account rule and appends one entry to its history, which
+//! is legal at all times. Statements and sums are read from the history.
+#![tactic(auto)]
+
+mod accounts;
+mod book;
+mod difference;
+mod ends;
+mod entry;
+mod groups;
+mod keys;
+pub mod laws;
+mod lines;
+mod post_run;
+mod replies;
+mod run_end;
+mod statement;
+mod sums;
+mod token;
+mod totals;
+
+pub use book::ShardBook;
+pub use difference::first_difference;
+pub use ends::Ends;
+pub use entry::Entry;
+pub use keys::TokenKeys;
+pub use lines::Lines;
+pub use replies::Replies;
+pub use run_end::RunEnd;
+pub use statement::Statement;
+pub use sums::{TokenSum, ValidatorSum, sums_by_token, sums_by_validator, totals_of};
+pub use token::Token;
+pub use totals::Totals;
+
+#[cfg(test)]
+mod tests;

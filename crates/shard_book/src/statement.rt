@@ -1,0 +1,60 @@
+//! The statement of one token.
+
+ghost use Rattle.std.specs.Prelude.{◌≡◌, IfOk};
+ghost use Rattle.shard_book.specs.Entry.{own};
+ghost use Rattle.shard_book.specs.Statement.{IsStatement};
+
+use crate::book::ShardBook;
+use crate::entry::Entry;
+use crate::lines::Lines;
+use crate::sums::totals_of_entries;
+use crate::token::Token;
+use crate::totals::Totals;
+use account_rule::WindowView;
+use fare_table::NoMemory;
+use std::alloc::Global;
+
+/// What a book tells of one token.
+#[derive(Drop)]
+pub struct Statement {
+    /// The token.
+    pub token: Token,
+    /// Its entries, in history order.
+    pub lines: Lines,
+    /// The totals of its entries.
+    pub totals: Totals,
+    /// Its last window, if it has one.
+    pub window: Option<WindowView>,
+}
+
+/// The token's entries, in order.
+#[tactic(auto, unfolding(crate::specs::Entry::own))]
+fn own_entries(alloc: Global, entries: &[Entry], token: Token) -> Result<Vec<Entry>, NoMemory>
+    ensures { IfOk result (λ list. list.items ≡ own token entries.now) }
+{
+    let list = entries
+        .iter()
+        .copied()
+        .filter(|entry| entry.token == token)
+        .collect(alloc)?;
+    Ok(list)
+}
+
+impl ShardBook {
+    /// The token's statement: its entries in history order, their totals and its last window, in one pass over
+    /// the history. A token without entries has an empty statement.
+    pub fn statement(&self, alloc: Global, token: &Token) -> Result<Statement, NoMemory>
+        ensures { IfOk result (IsStatement self.now.table self.now.entries token.now) }
+    {
+        let token = *token;
+        let entries = own_entries(alloc, self.entries(), token)?;
+        let totals = totals_of_entries(&entries);
+        let window = self.account_of(token).window();
+        Ok(Statement {
+            token,
+            lines: Lines { entries },
+            totals,
+            window,
+        })
+    }
+}

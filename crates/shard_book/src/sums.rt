@@ -1,0 +1,173 @@
+//! Sums of histories: in all, by validator and by token.
+
+ghost use Rattle.std.specs.Prelude.{◌≡◌, ◌<◌, ◌≤◌, ◌^◌, length, map, IfOk};
+ghost use Rattle.shard_book.specs.Groups.{all_entries, sums_by_validator, sums_by_token, tokens};
+ghost use Rattle.shard_book.specs.Shown.{validator_sum, token_sum};
+ghost use Rattle.shard_book.specs.Sums.{Sums, sums, sums_of};
+
+use crate::book::ShardBook;
+use crate::entry::Entry;
+use crate::groups::{GroupKey, sums_of_books};
+use crate::token::Token;
+use crate::totals::Totals;
+use fare_table::NoMemory;
+use std::alloc::Global;
+
+/// A validator and the totals of its entries.
+#[derive(Clone, Copy, Debug, PartialEq, Eq)]
+pub struct ValidatorSum {
+    /// The number of the validator.
+    pub validator: u32,
+    /// The totals of its entries.
+    pub totals: Totals,
+}
+
+/// A token and the totals of its entries.
+#[derive(Clone, Copy, Debug, PartialEq, Eq)]
+pub struct TokenSum {
+    /// The token.
+    pub token: Token,
+    /// The totals of its entries.
+    pub totals: Totals,
+}
+
+impl GroupKey for u32 {
+    ghost use Rattle.shard_book.specs.Groups.{validator_of};
+    ghost use Rattle.shard_book.specs.Shown.{validator_sum};
+    ghost use Rattle.shard_book.specs.Sums.{sums_of};
+    ghost use Rattle.shard_book.specs.Keys.{same_number};
+
+    type Sum = ValidatorSum;
+
+    ghost key_of = { validator_of };
+
+    ghost shown = { validator_sum };
+
+    ghost same = { same_number };
+
+    fn of(entry: &Entry) -> u32 {
+        entry.validator
+    }
+
+    fn sum(self, totals: Totals) -> ValidatorSum {
+        ValidatorSum {
+            validator: self,
+            totals,
+        }
+    }
+}
+
+impl GroupKey for Token {
+    ghost use Rattle.shard_book.specs.Groups.{token_of};
+    ghost use Rattle.shard_book.specs.Shown.{token_sum};
+    ghost use Rattle.shard_book.specs.Sums.{sums_of};
+    ghost use Rattle.shard_book.specs.Keys.{same_token};
+
+    type Sum = TokenSum;
+
+    ghost key_of = { token_of };
+
+    ghost shown = { token_sum };
+
+    ghost same = { same_token };
+
+    fn of(entry: &Entry) -> Token {
+        entry.token
+    }
+
+    fn sum(self, totals: Totals) -> TokenSum {
+        TokenSum {
+            token: self,
+            totals,
+        }
+    }
+}
+
+/// The totals of a list of entries, in one pass.
+pub(crate) fn totals_of_entries(entries: &[Entry]) -> Totals
+    ensures sums { sums_of result ≡ sums entries.now }
+    ensures few { result.taps < 2 ^ 64 }
+{
+    let mut totals = Totals::new();
+    for entry in entries {
+        totals.add(entry.reply());
+    }
+    totals
+}
+
+/// The totals of all entries of the books, one pass a book.
+pub fn totals_of(books: &[ShardBook]) -> Totals
+    requires { length books.now ≤ 64 }
+    ensures { sums_of result ≡ sums (all_entries books.now) }
+{
+    let mut totals = Totals::new();
+    for book in books {
+        totals.add_all(&book.totals());
+    }
+    totals
+}
+
+/// The validators of the books, rising, each with the totals of its entries: one pass a book, and a sort of the
+/// validators.
+#[tactic(auto, unfolding(crate::specs::Groups::sums_by, crate::specs::Groups::group, crate::specs::Groups::sums_by_validator, crate::specs::Groups::validators, crate::specs::Groups::at))]
+pub fn sums_by_validator(alloc: Global, books: &[ShardBook]) -> Result<Vec<ValidatorSum>, NoMemory>
+    requires { length books.now ≤ 64 }
+    ensures { IfOk result (λ list. map validator_sum list.items ≡ sums_by_validator (all_entries books.now)) }
+{
+    sums_of_books::<u32>(alloc, books)
+}
+
+/// The tokens of the books, rising, each with the totals of its entries: one pass a book, and a sort of the
+/// tokens.
+#[tactic(auto, unfolding(crate::specs::Groups::sums_by, crate::specs::Groups::group, crate::specs::Groups::sums_by_token, crate::specs::Groups::tokens, crate::specs::Entry::own))]
+pub fn sums_by_token(alloc: Global, books: &[ShardBook]) -> Result<Vec<TokenSum>, NoMemory>
+    requires { length books.now ≤ 64 }
+    ensures { IfOk result (λ list. map token_sum list.items ≡ sums_by_token (all_entries books.now)) }
+{
+    sums_of_books::<Token>(alloc, books)
+}
+
+/// The tokens of the sums.
+fn tokens_of(alloc: Global, sums: &[TokenSum]) -> Result<Vec<Token>, NoMemory>
+    ensures { IfOk result (λ list. list.items ≡ map (λ sum. sum.token) sums.now) }
+{
+    let list = sums.iter().map(|sum| sum.token).collect(alloc)?;
+    Ok(list)
+}
+
+impl ShardBook {
+    /// The totals of the whole history.
+    pub fn totals(&self) -> Totals
+        ensures sums { sums_of result ≡ sums self.now.entries }
+        ensures few { result.taps < 2 ^ 64 }
+    {
+        totals_of_entries(self.entries())
+    }
+
+    /// The validators of the history, rising, each with the totals of its entries: one pass over the history,
+    /// and a sort of the validators.
+    #[tactic(auto, unfolding(crate::specs::Groups::sums_by, crate::specs::Groups::group, crate::specs::Groups::sums_by_validator, crate::specs::Groups::validators, crate::specs::Groups::at))]
+    pub fn by_validator(&self, alloc: Global) -> Result<Vec<ValidatorSum>, NoMemory>
+        ensures { IfOk result (λ list. map validator_sum list.items ≡ sums_by_validator self.now.entries) }
+    {
+        sums_of_books::<u32>(alloc, std::slice::from_ref(self))
+    }
+
+    /// The tokens of the history, rising, each with the totals of its entries: one pass over the history, and a
+    /// sort of the tokens.
+    #[tactic(auto, unfolding(crate::specs::Groups::sums_by, crate::specs::Groups::group, crate::specs::Groups::sums_by_token, crate::specs::Groups::tokens, crate::specs::Entry::own))]
+    pub fn by_token(&self, alloc: Global) -> Result<Vec<TokenSum>, NoMemory>
+        ensures { IfOk result (λ list. map token_sum list.items ≡ sums_by_token self.now.entries) }
+    {
+        sums_of_books::<Token>(alloc, std::slice::from_ref(self))
+    }
+
+    /// The tokens of the history, rising, each once.
+    pub fn tokens(&self, alloc: Global) -> Result<Vec<Token>, NoMemory>
+        ensures { IfOk result (λ list. list.items ≡ tokens self.now.entries) }
+    {
+        let sums = self.by_token(alloc)?;
+        let tokens = tokens_of(alloc, &sums)?;
+        Ok(tokens)
+    }
+}

@@ -1,0 +1,78 @@
+//! Counts of answers, and the cents charged.
+
+ghost use Rattle.std.specs.Prelude.{◌≡◌, ◌+◌, ◌*◌, ◌≤◌};
+
+use account_rule::{Answer, Reply};
+
+/// How many taps were posted, how many of each answer, and the cents charged.
+#[derive(Clone, Copy, Debug, PartialEq, Eq)]
+pub struct Totals {
+    /// All taps: the sum of the five counts below.
+    pub taps: u128,
+    /// Rides that were charged.
+    pub paid: u128,
+    /// Free transfers.
+    pub transfers: u128,
+    /// Rides that were free, since the window's limit was reached.
+    pub capped: u128,
+    /// Taps not later than a known tap of their token.
+    pub stale: u128,
+    /// Taps at validators that the table does not know.
+    pub unknown: u128,
+    /// What was charged, in cents.
+    pub cents: u128,
+    ghost counts: { taps ≡ paid + transfers + capped + stale + unknown },
+    ghost in_cents: { cents ≤ taps * 4294967295 },
+}
+
+impl Totals {
+    ghost use Rattle.std.specs.Prelude.{◌≡◌, ◌+◌, ◌^◌, ◌<◌, ◌≤◌, [], ◌∷◌};
+    ghost use Rattle.shard_book.specs.Sums.{sums_of, sums_of_replies, add_sums};
+
+    /// The totals of nothing.
+    #[tactic(auto, unfolding(crate::specs::Sums::sums_of_replies))]
+    pub fn new() -> Self
+        ensures { sums_of result ≡ sums_of_replies [] }
+    {
+        Totals {
+            taps: 0,
+            paid: 0,
+            transfers: 0,
+            capped: 0,
+            stale: 0,
+            unknown: 0,
+            cents: 0,
+        }
+    }
+
+    /// Counts one reply more.
+    #[tactic(auto, unfolding(crate::specs::Sums::sums_of_replies))]
+    pub fn add(&mut self, reply: Reply)
+        requires { self.old.taps < 2 ^ 95 }
+        ensures { sums_of self.new ≡ add_sums (sums_of self.old) (sums_of_replies (reply ∷ [])) }
+    {
+        self.taps += 1;
+        match reply.answer {
+            Answer::Paid => self.paid += 1,
+            Answer::Transfer => self.transfers += 1,
+            Answer::Capped => self.capped += 1,
+            Answer::Stale => self.stale += 1,
+            Answer::Unknown => self.unknown += 1,
+        }
+        self.cents += u128::from(reply.cents);
+    }
+
+    /// Adds what other totals count.
+    pub fn add_all(&mut self, other: &Totals)
+        requires { self.old.taps + other.now.taps ≤ 2 ^ 95 }
+        ensures { sums_of self.new ≡ add_sums (sums_of self.old) (sums_of other.now) }
+    {
+        self.taps += other.taps;
+        self.paid += other.paid;
+        self.transfers += other.transfers;
+        self.capped += other.capped;
+        self.stale += other.stale;
+        self.unknown += other.unknown;
+        self.cents += other.cents;
+    }
+}

@@ -1,0 +1,9 @@
+pub mod Changed
+pub mod Numbers
+pub mod DrawSteps
+pub mod Held
+pub mod MarkLists
+pub mod TurnSteps
+pub mod Passing
+pub mod Handing
+pub mod Reached

@@ -1,0 +1,15 @@
+use Rattle.std.proofs.Common.{◌≡◌, ◌-◌, ◌≤◌}
+use Rattle.shared_books.specs.Hands.{IsHeld}
+use Rattle.shared_books.proofs.drawing.Draw.draw.Given as goal
+
+abbrev pub invariant-loop-drawer : goal.invariant-loop-drawer
+invariant-loop-drawer l = record {
+  held : IsHeld l.drawer-inside.held l.drawer-inside.seen l.drawer-inside.seat.me;
+  home : l.drawer-inside.seat.table_id ≡ l.fn.drawer.source.home;
+  numbers : l.drawer-inside.seat.me.0.numbers ≡ l.fn.drawer.source.numbers;
+  drawn : l.drawer-inside.seat.me.0.drawn ≡ l.fn.drawer.drawn;
+  later : l.fn.drawer.seen ≤ l.drawer-inside.seen;
+}
+
+abbrev pub decreases-loop-drawer : goal.decreases-loop-drawer
+decreases-loop-drawer l = l.self.numbers - l.drawer-inside.seen

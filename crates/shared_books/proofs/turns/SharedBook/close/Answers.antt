@@ -1,0 +1,18 @@
+use Rattle.std.proofs.Common.{subst, arith}
+use Rattle.shared_books.specs.Passes.{HasMadeAll}
+use Rattle.shared_books.proofs.TurnSteps.{closes}
+use Rattle.shared_books.proofs.Passing.{whole_slot, made_whole}
+use Rattle.shared_books.proofs.turns.SharedBook.close.Goals as goal
+
+pub unreachable-requires : goal.unreachable-requires
+unreachable-requires c =
+    let t = closes _ _ _ _ _ _ _ c.close_with-closed.ensures.values.2 c.word-word.ensures c.take-slot.ensures.value c.pass.invariant.free.live in
+    let is = whole_slot _ _ _ _ _ c.pass.invariant t (omega (arith, c.if-held-kept.false, c.self.invariant.0)) in
+    let slot = is.1 in
+    let none_is = c.in-None.is in
+    cc
+
+pub returns-clause-ok : goal.returns-clause-ok
+returns-clause-ok c =
+    let t = closes _ _ _ _ _ _ _ c.close_with-closed.ensures.values.2 c.word-word.ensures c.take-slot.ensures.value c.pass.invariant.free.live in
+    subst (λ p. HasMadeAll p c.into_inner.result) c.pass.view_is (made_whole _ _ _ _ _ _ _ _ c.pass.invariant t (omega (arith, c.if-held-kept.false, c.self.invariant.0)) c.in-Some.is c.into_inner.ensures)

@@ -1,0 +1,9 @@
+use Rattle.std.proofs.Common.{◌≡◌}
+use Rattle.shared_books.specs.Views.{GoesOn}
+use Rattle.shared_books.proofs.turns.SharedBook.take.Given as goal
+
+abbrev pub invariant-loop : goal.invariant-loop
+invariant-loop g l = record {
+  home : l.seat.table_id ≡ l.fn.seat.table_id;
+  goes_on : GoesOn l.fn.seat.me l.seat.me;
+}

@@ -1,0 +1,60 @@
+-- Drawing: the uploads are numbered 0, 1, 2, .., and each is drawn once. One word says how many are drawn.
+use Rattle.std.specs.Prelude.{◌≡◌, ℕ, ◌≤◌, ◌<◌, ◌==◌, List, ◌++◌, length, true, sum_by, count_by, slice_index}
+use mathlib.Core.Option.{some}
+use lib.ListN.{get_elem?}
+use Rattle.atomic_table.specs.Table.{State}
+use Rattle.atomic_table.specs.Seated.{TableId}
+use Rattle.shared_books.specs.declared.drawing.rule.Hand.{Hand}
+
+-- how often a number stands in a list
+abbrev pub times : ℕ → List ℕ → ℕ
+times x xs = count_by (λ y. y == x) xs
+
+-- no number stands there twice
+abbrev pub NoneTwice : List ℕ → Type 0
+NoneTwice xs = (x : ℕ) → times x xs ≤ 1
+
+-- each number is below k
+abbrev pub AllBelow : ℕ → List ℕ → Type 0
+AllBelow k xs = (x : ℕ) → k ≤ x → times x xs ≡ 0
+
+-- each number below k stands there, once
+abbrev pub HasAll : ℕ → List ℕ → Type 0
+HasAll k xs = (x : ℕ) → x < k → times x xs ≡ 1
+
+-- what contracts see of a drawing: which one it is, and how many numbers it has
+pub record Drawing : Type 0 where
+  pub home : TableId
+  pub numbers : ℕ
+
+-- what contracts see of a drawer: the drawing that it belongs to, how many numbers it has seen drawn, and those that it drew
+pub record Drawings : Type 0 where
+  pub source : Drawing
+  pub seen : ℕ
+  pub drawn : List ℕ
+
+-- a drawer that took over what another one holds: no number is there twice, so the two had none in common
+pub record HasMet (old other new : Drawings) : Type 0 where
+  pub source : new.source ≡ old.source
+  pub drawn : new.drawn ≡ old.drawn ++ other.drawn
+  pub apart : NoneTwice new.drawn
+  pub later : old.seen ≤ new.seen
+  pub later_too : other.seen ≤ new.seen
+
+-- what the closing tells of the count of drawn numbers: it is above each number that the drawer holds, and not less than any count that it has seen
+pub record IsCount (count : ℕ) (drawer : Drawings) : Type 0 where
+  pub later : drawer.seen ≤ count
+  pub within : count ≤ drawer.source.numbers
+  pub below : AllBelow count drawer.drawn
+
+-- how often a number was drawn, by all drawers together
+abbrev pub times_drawn : ℕ → List Hand → ℕ
+times_drawn x hands = sum_by (λ h. times x h.drawn) hands
+
+-- between any two steps: each number below the word was drawn by one drawer and once, no other number was, and no drawer has seen more than the word
+pub record IsDrawn (numbers : ℕ) (s : State (Unit {0}) Hand) : Type 0 where
+  pub one_word : length s.words ≡ 1
+  pub within : slice_index s.words 0 ≤ numbers
+  pub once : (x : ℕ) → x < slice_index s.words 0 → times_drawn x s.views ≡ 1
+  pub no_other : (x : ℕ) → slice_index s.words 0 ≤ x → times_drawn x s.views ≡ 0
+  pub each : (j : ℕ) (h : Hand) → get_elem? s.views j ≡ some h → h.live ≡ true → (h.numbers ≡ numbers) × (h.seen ≤ slice_index s.words 0)

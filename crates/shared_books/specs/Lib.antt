@@ -1,0 +1,10 @@
+pub mod Answers
+pub mod Drawing
+pub mod Events
+pub mod Hands
+pub mod Machine
+pub mod Marks
+pub mod Nobody
+pub mod Passes
+pub mod Turns
+pub mod Views

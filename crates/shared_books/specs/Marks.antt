@@ -1,0 +1,49 @@
+-- What a pass knows of a book: the visits from the first on, each marked with whether the pass made it.
+use Rattle.std.specs.Prelude.{◌≡◌, ℕ, zero, suc, ◌+◌, ◌≤◌, Bool, false, cond, ◌||◌, List, [], ◌∷◌, ◌++◌, map}
+use Rattle.shard_book.specs.declared.entry.Entry.{Entry}
+use Rattle.shared_books.specs.declared.turns.rule.Mark.{Mark}
+
+abbrev pub mark : Bool → List Entry → Mark
+mark mine visit = record { mine = mine; visit = visit }
+
+-- visits that others made
+abbrev pub others : List (List Entry) → List Mark
+others visits = map (mark false) visits
+
+abbrev pub visits_of : List Mark → List (List Entry)
+visits_of marks = map (λ m. m.visit) marks
+
+-- the history that visits make
+abbrev pub joined : List (List Entry) → List Entry
+joined [] = []
+joined (visit ∷ visits) = visit ++ joined visits
+
+-- the pass's own visits, each with its number, where the first mark has the number n
+abbrev pub made_from : ℕ → List Mark → List (ℕ × List Entry)
+made_from n [] = []
+made_from n (m ∷ ms) = cond m.mine ((n, m.visit) ∷ made_from (n + 1) ms) (made_from (n + 1) ms)
+
+-- visits with their numbers, from n on
+abbrev pub numbered : ℕ → List (List Entry) → List (ℕ × List Entry)
+numbered n [] = []
+numbered n (visit ∷ visits) = (n, visit) ∷ numbered (n + 1) visits
+
+-- how many of the marks at place i are the pass's own: 1 or 0
+abbrev pub made_at : ℕ → List Mark → ℕ
+made_at i [] = 0
+made_at zero (m ∷ ms) = cond m.mine 1 0
+made_at (suc i) (m ∷ ms) = made_at i ms
+
+-- no visit was made by both
+abbrev pub Apart : List Mark → List Mark → Type 0
+Apart xs ys = (i : ℕ) → made_at i xs + made_at i ys ≤ 1
+
+-- the visits of one begin those of the other
+abbrev pub Begins : List (List Entry) → List (List Entry) → Type 0
+Begins visits longer = (more : List (List Entry)) × (longer ≡ visits ++ more)
+
+-- the longer list, in which what either made is marked
+abbrev pub merged : List Mark → List Mark → List Mark
+merged [] ys = ys
+merged (x ∷ xs) [] = x ∷ xs
+merged (x ∷ xs) (y ∷ ys) = mark (x.mine || y.mine) x.visit ∷ merged xs ys

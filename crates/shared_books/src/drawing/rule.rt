@@ -1,0 +1,64 @@
+//! The rule under which numbers are drawn, and what each step of it tells.
+use atomic_table::{Join, Play, Split, TableRule};
+use std::collections::LinkedList;
+
+/// What a drawer knows. No value of it is made.
+pub struct Hand {
+    // whether it was not joined into another
+    pub live: bool,
+    pub numbers: u64,
+    pub seen: u64,
+    pub drawn: LinkedList<u64>,
+}
+
+/// The rule over the word and all drawers' hands.
+pub struct DrawRule;
+
+impl TableRule<(), Hand, u32> for DrawRule {
+    ghost use Rattle.shared_books.specs.Drawing.{IsDrawn};
+    ghost use Rattle.shared_books.specs.Hands.{empty_hand};
+
+    ghost holds = { IsDrawn };
+
+    ghost first = { λ numbers. empty_hand numbers 0 };
+}
+
+/// A try to draw.
+pub struct Draws;
+
+impl Play<(), Hand> for Draws {
+    ghost use Rattle.shared_books.specs.Hands.{HasTried};
+
+    ghost then = { HasTried };
+}
+
+/// The load that ends a join.
+pub struct Looks;
+
+impl Play<(), Hand> for Looks {
+    ghost use Rattle.shared_books.specs.Hands.{HasLooked};
+
+    ghost then = { HasLooked };
+}
+
+/// A new drawer has seen as much, and drew nothing.
+pub struct Parts;
+
+impl Split<Hand> for Parts {
+    ghost use Rattle.shared_books.specs.Hands.{empty_hand};
+
+    ghost left = { λ h. h };
+
+    ghost right = { λ h. empty_hand h.numbers h.seen };
+}
+
+/// One drawer has what both drew.
+pub struct Meets;
+
+impl Join<Hand> for Meets {
+    ghost use Rattle.shared_books.specs.Hands.{both_hands, spent_hand};
+
+    ghost both = { both_hands };
+
+    ghost spent = { spent_hand };
+}

@@ -1,0 +1,104 @@
+//! The rule under which passes take turns at a book, and what each step of it tells.
+use atomic_table::{Join, Play, Split, TableRule};
+use shard_book::{Entry, ShardBook};
+use std::collections::LinkedList;
+use std::snapshot::Snapshot;
+
+/// What lies in the slot: the book, or nothing while a pass has the turn.
+pub type Slot = Option<Box<ShardBook>>;
+
+/// What a shared book was opened with.
+#[derive(Drop)]
+pub struct Opening {
+    pub first: u64,
+    pub book: Snapshot<ShardBook>,
+}
+
+/// A visit that a pass has seen, and whether the pass made it. No value of it is made.
+pub struct Mark {
+    pub mine: bool,
+    pub visit: LinkedList<Entry>,
+}
+
+/// What a pass knows. No value of it is made.
+pub struct View {
+    // whether the pass was not joined into another
+    pub live: bool,
+    pub opened: Opening,
+    pub turn: bool,
+    pub marks: LinkedList<Mark>,
+    // the marks of a pass that is being joined into this one
+    pub met: LinkedList<Mark>,
+}
+
+/// The rule over the word, the slot and all passes' views: they show a state of the turn machine.
+pub struct TurnRule;
+
+impl TableRule<Slot, View, Opening> for TurnRule {
+    ghost use Rattle.std.specs.Prelude.{false, []};
+    ghost use Rattle.shared_books.specs.Turns.{IsTurn};
+    ghost use Rattle.shared_books.specs.Views.{view};
+
+    ghost holds = { IsTurn };
+
+    ghost first = { λ k. view k false [] [] };
+}
+
+/// A look at the word.
+pub struct Looks;
+
+impl Play<Slot, View> for Looks {
+    ghost use Rattle.shared_books.specs.Views.{HasSeen};
+
+    ghost then = { λ _ before found after. HasSeen before found after };
+}
+
+/// A try to take the turn.
+pub struct Takes;
+
+impl Play<Slot, View> for Takes {
+    ghost use Rattle.shared_books.specs.Views.{HasTriedTurn};
+
+    ghost then = { HasTriedTurn };
+}
+
+/// The turn is given back.
+pub struct Gives;
+
+impl Play<Slot, View> for Gives {
+    ghost use Rattle.std.specs.Prelude.{◌≡◌};
+    ghost use Rattle.shared_books.specs.Views.{given_back};
+
+    ghost then = { λ _ before _ after. after ≡ given_back before };
+}
+
+/// A new pass, which has seen as much and made nothing.
+pub struct Parts;
+
+impl Split<View> for Parts {
+    ghost use Rattle.shared_books.specs.Views.{fresh};
+
+    ghost left = { λ v. v };
+
+    ghost right = { fresh };
+}
+
+/// One pass has what two had.
+pub struct Meets;
+
+impl Join<View> for Meets {
+    ghost use Rattle.shared_books.specs.Views.{both_views, nobody};
+
+    ghost both = { both_views };
+
+    ghost spent = { nobody };
+}
+
+/// The look that ends a join.
+pub struct Settles;
+
+impl Play<Slot, View> for Settles {
+    ghost use Rattle.shared_books.specs.Views.{HasSettled};
+
+    ghost then = { λ _ before _ after. HasSettled before after };
+}

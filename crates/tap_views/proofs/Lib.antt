@@ -1,0 +1,7 @@
+mod Cuts
+mod Deciding
+mod Encodings
+mod Finding
+mod Grammar
+mod Reading
+mod Runs

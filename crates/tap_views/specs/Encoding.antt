@@ -1,0 +1,65 @@
+-- What the encoders write, by what a reader gets back, and when they refuse.
+use Rattle.std.specs.Prelude.{◌≡◌, ℕ, ◌^◌, ◌<◌, ◌≤◌, List, length, map, take, slice_get, All, IsSomeAnd}
+use Rattle.byteorder.specs.Endian.{big_bytes}
+use Rattle.tap_views.specs.Layout.{num, moment_limit, Tap, Tap1, Tap2, IsBatchIn}
+use Rattle.tap_views.specs.declared.encoder.TapFields.{TapFields}
+use Rattle.tap_views.specs.declared.encoder.Tap2Fields.{Tap2Fields}
+use Rattle.tap_views.specs.declared.encoder.EncodeFault.{EncodeFault}
+use Rattle.tap_views.specs.declared.encoder.EncodeFault.TheVariants.{TooMany, Moment, NoMemory}
+
+-- the fields that a reader of a tap gets
+abbrev pub fields_of : Tap → TapFields
+fields_of tap = record { token = tap.token; validator = num tap.validator; moment = num tap.moment }
+
+abbrev pub fields_2_of : Tap → Tap2Fields
+fields_2_of tap = record { token = tap.token; moment = num tap.moment }
+
+-- the bytes are a `TAP1` batch, from which these fields are read again; as no batch begins another, whatever stands behind them
+pub record Encodes (bytes : List ℕ) (fields : List TapFields) : Type 0 where
+  pub taps : List Tap
+  pub batch : IsBatchIn Tap1 bytes taps
+  pub read : map fields_of taps ≡ fields
+
+-- the bytes are a `TAP2` batch, from which this validator and these fields are read again
+pub record Encodes2 (bytes : List ℕ) (validator : ℕ) (fields : List Tap2Fields) : Type 0 where
+  pub written : List ℕ
+  pub taps : List Tap
+  pub batch : IsBatchIn (Tap2 written) bytes taps
+  pub number : num written ≡ validator
+  pub read : map fields_2_of taps ≡ fields
+
+module _ {Fields : Type 0} (moment : Fields → ℕ) (taps : List Fields) where
+  -- every moment is below the limit
+  abbrev pub AreEarly : Type 0
+  AreEarly = All (λ tap. moment tap < moment_limit) taps
+
+  -- the taps may stand in one batch
+  abbrev pub AreEncodable : Type 0
+  AreEncodable = (length taps ≤ 4096) × AreEarly
+
+  -- the tap at this index is the first whose moment is not below it
+  pub record IsFirstLate (index : ℕ) : Type 0 where
+    pub late : IsSomeAnd (slice_get taps index) (λ tap. moment_limit ≤ moment tap)
+    pub earlier : All (λ tap. moment tap < moment_limit) (take index taps)
+
+  -- when taps are refused: for want of memory only where nothing else is wrong
+  abbrev pub IsRefused : EncodeFault → Type 0
+  IsRefused TooMany = 4096 < length taps
+  IsRefused (Moment index) = (length taps ≤ 4096) × IsFirstLate index
+  IsRefused NoMemory = AreEncodable
+
+-- ---- what the private functions tell each other
+-- the taps that are written for these fields
+abbrev pub written : TapFields → Tap
+written fields = record { token = fields.token; validator = big_bytes 4 fields.validator; moment = big_bytes 8 fields.moment }
+
+abbrev pub written_2 : ℕ → Tap2Fields → Tap
+written_2 validator fields = record { token = fields.token; validator = big_bytes 4 validator; moment = big_bytes 8 fields.moment }
+
+-- what the types of the fields say
+pub record IsFields (fields : TapFields) : Type 0 where
+  pub token : length fields.token ≡ 16
+  pub validator : fields.validator < 2 ^ 32
+
+abbrev pub IsFields2 : Tap2Fields → Type 0
+IsFields2 fields = length fields.token ≡ 16

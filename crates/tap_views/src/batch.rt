@@ -1,0 +1,200 @@
+// The first batch of some bytes.
+
+ghost use Rattle.std.specs.Prelude.{◌≡◌, ◌+◌, ◌*◌, ◌<◌, ◌≤◌, ◌++◌, ℕ, List, length, slice_get, Some, IfOk, IfErr, IsErrOf, MatchResult, MatchOption};
+ghost use Rattle.tap_views.specs.Layout.{num, moment_limit, Tap, IsBatch};
+ghost use Rattle.tap_views.specs.Records.{layout_of};
+ghost use Rattle.tap_views.specs.declared.fault.LayoutFault.{LayoutFault};
+ghost use Rattle.tap_views.specs.Faults.{header, width, layout_in, count_in, size_in, moment_in, IsFault, IsHeader, IsMeasured, AllEarly};
+
+use crate::fault::LayoutFault;
+use crate::run::Run;
+use crate::taps::{Taps, record_at, width_of};
+use crate::view::TapView;
+use byteorder::{BigEndian, ByteOrder};
+use std::marker::Model;
+
+const TAP1: [u8; 4] = *b"TAP1";
+
+const TAP2: [u8; 4] = *b"TAP2";
+
+/// The most taps of one batch.
+pub(crate) const MOST: u64 = 4_096;
+
+/// 2100-01-01T00:00Z in milliseconds since 1970-01-01T00:00Z: every moment is below it.
+pub(crate) const LIMIT: u64 = 4_102_444_800_000;
+
+/// A batch of 0 to 4,096 taps, lent from an upload. It copies nothing.
+#[derive(Drop)]
+pub struct Batch<'a> {
+    shared: Option<&'a [u8]>,
+    records: &'a [u8],
+    count: u32,
+}
+
+impl<'a> Model for Batch<'a> {
+    ghost use Rattle.std.specs.Prelude.{List};
+    ghost use Rattle.tap_views.specs.Layout.{Tap};
+    ghost use Rattle.tap_views.specs.Records.{layout_of, taps_in, AreRecords};
+
+    ghost Value = { List Tap };
+
+    ghost view = { λ batch. taps_in (layout_of batch.shared) batch.count batch.records.now };
+
+    ghost invariant = { λ batch. AreRecords (layout_of batch.shared) batch.count batch.records.now };
+}
+
+impl<'a> Batch<'a> {
+    /// The first batch of these bytes, and the bytes after it; else the first layout fault.
+    pub fn first(bytes: &'a [u8]) -> Result<(Batch<'a>, &'a [u8]), LayoutFault>
+        // What is answered is a batch that the bytes begin with, and the bytes after it.
+        ensures found { IfOk result (λ (taps, rest). (front : List ℕ) × IsBatch front taps × (bytes.now ≡ front ++ rest.now)) }
+
+        // Where the bytes begin with a batch, that one is answered: no batch begins another.
+        ensures only { (front rest : List ℕ) (taps : List Tap) → IsBatch front taps → bytes.now ≡ front ++ rest
+            → MatchResult result (λ answer. (answer.0 ≡ taps) × (answer.1.now ≡ rest)) (λ _. ⊥) }
+
+        // The fault is the first row of the table that holds, and wherever a row holds it is answered.
+        ensures fault { IfErr result (IsFault bytes.now) }
+        ensures refused { (fault : LayoutFault) → IsFault bytes.now fault → IsErrOf result fault }
+    {
+        let count = measured(bytes)?;
+        let shared = shared_in(bytes);
+        let (records, rest) = bytes[header_of(bytes)..].split_at(width_of(shared) * count as usize);
+        Ok((
+            Batch {
+                shared,
+                records,
+                count,
+            },
+            rest,
+        ))
+    }
+
+    /// The number of taps, at most 4,096.
+    pub fn len(&self) -> u32
+        ensures number { result ≡ length self.now }
+        ensures most { result ≤ 4096 }
+    {
+        self.count
+    }
+
+    /// The tap at a place, counted from 0.
+    pub fn tap(&self, i: u32) -> TapView<'a>
+        requires { i < length self.now }
+        ensures { slice_get self.now i ≡ Some result }
+    {
+        let width = width_of(self.shared);
+        TapView::of(self.shared, record_at(self.records, width, i as usize))
+    }
+
+    /// All taps, in order from the front, in reverse from the back.
+    pub fn taps(&self) -> Taps<'a>
+        ensures { result ≡ self.now }
+    {
+        Taps {
+            shared: self.shared,
+            records: self.records,
+            left: self.count,
+        }
+    }
+
+    /// The taps of one shard, in their order.
+    pub fn run_of(&self, shard: u32, shards: u32) -> Run<'a>
+        requires below { shard < shards }
+        requires most { shards ≤ 64 }
+        ensures { result ≡ record { batch = self.now; shard = shard; shards = shards } }
+    {
+        Run {
+            shared: self.shared,
+            records: self.records,
+            count: self.count,
+            shard,
+            shards,
+        }
+    }
+}
+
+// The bytes of the header that these bytes ask for.
+fn header_of(bytes: &[u8]) -> usize
+    ensures { result ≡ header (layout_in bytes.now) }
+{
+    if bytes.starts_with(&TAP2) { 12 } else { 8 }
+}
+
+// The validator that all taps of these bytes share, if their layout has one.
+fn shared_in(bytes: &[u8]) -> Option<&[u8]>
+    requires { header (layout_in bytes.now) ≤ length bytes.now }
+    ensures { layout_of result ≡ layout_in bytes.now }
+{
+    if bytes.starts_with(&TAP2) {
+        Some(&bytes[8..12])
+    } else {
+        None
+    }
+}
+
+// The bytes of one tap that these bytes ask for.
+fn width_in(bytes: &[u8]) -> usize
+    ensures { result ≡ width (layout_in bytes.now) }
+{
+    if bytes.starts_with(&TAP2) { 24 } else { 28 }
+}
+
+// The count of a sound header.
+fn count_of(bytes: &[u8]) -> Result<u32, LayoutFault>
+    ensures count { IfOk result (λ count. IsHeader bytes.now count) }
+    ensures fault { IfErr result (IsFault bytes.now) }
+{
+    if bytes.len() < header_of(bytes) {
+        return Err(LayoutFault::Short {
+            have: bytes.len() as u64,
+        });
+    }
+    if !bytes.starts_with(&TAP1) && !bytes.starts_with(&TAP2) {
+        return Err(LayoutFault::Magic);
+    }
+    if BigEndian::read_u16(&bytes[6..8]) != 0 {
+        return Err(LayoutFault::Flags);
+    }
+    let count = BigEndian::read_u16(&bytes[4..6]) as u64;
+    if count > MOST {
+        return Err(LayoutFault::TooMany { count });
+    }
+    Ok(count as u32)
+}
+
+// The first of the batch's taps with a moment past the limit.
+fn first_late(bytes: &[u8], count: u32) -> Option<u32>
+    requires { header (layout_in bytes.now) + width (layout_in bytes.now) * count ≤ length bytes.now }
+    ensures { MatchOption result (AllEarly bytes.now count) (λ index. (index < count) × (moment_limit ≤ moment_in bytes.now index) × AllEarly bytes.now index) }
+{
+    let width = width_in(bytes);
+    for i in 0..count {
+        let at = 28 + width * i as usize;
+        if BigEndian::read_u64(&bytes[at..at + 8]) >= LIMIT {
+            return Some(i);
+        }
+    }
+    None
+}
+
+// The count of the batch that the bytes begin with.
+fn measured(bytes: &[u8]) -> Result<u32, LayoutFault>
+    ensures count { IfOk result (λ count. IsMeasured bytes.now count) }
+    ensures fault { IfErr result (IsFault bytes.now) }
+{
+    let count = count_of(bytes)?;
+    let want = header_of(bytes) + width_in(bytes) * count as usize;
+    if bytes.len() < want {
+        return Err(LayoutFault::Length {
+            want: want as u64,
+            have: bytes.len() as u64,
+        });
+    }
+    match first_late(bytes, count) {
+        Some(index) => Err(LayoutFault::Moment {
+            index: index as u64,
+        }),
+        None => Ok(count),
+    }
+}

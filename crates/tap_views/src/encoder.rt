@@ -1,0 +1,176 @@
+// Batches written from their fields.
+
+ghost use Rattle.std.specs.Prelude.{◌≡◌, ◌≤◌, ◌++◌, ◌∷◌, [], ℕ, length, All, IfOk, IfErr, OnOk, flat_map};
+ghost use Rattle.byteorder.specs.Endian.{big_bytes};
+ghost use Rattle.tap_views.specs.Layout.{magic, Tap1, Tap2, spelling};
+ghost use Rattle.tap_views.specs.Encoding.{Encodes, Encodes2, AreEncodable, IsRefused, IsFields, IsFields2, written, written_2};
+
+use crate::batch::{LIMIT, MOST};
+use std::alloc::{AllocError, Global};
+use thiserror::Error;
+
+/// What a tap is encoded from in a `TAP1` batch.
+#[derive(Clone, Copy, Debug, PartialEq, Eq)]
+pub struct TapFields {
+    /// The token.
+    pub token: [u8; 16],
+    /// The validator's number.
+    pub validator: u32,
+    /// The moment in milliseconds since 1970-01-01T00:00Z, below 2100-01-01T00:00Z.
+    pub moment: u64,
+}
+
+/// What a tap is encoded from in a `TAP2` batch, where all taps share a validator.
+#[derive(Clone, Copy, Debug, PartialEq, Eq)]
+pub struct Tap2Fields {
+    /// The token.
+    pub token: [u8; 16],
+    /// The moment in milliseconds since 1970-01-01T00:00Z, below 2100-01-01T00:00Z.
+    pub moment: u64,
+}
+
+/// Why taps are not encoded: the first of these that holds, in this order.
+#[derive(Clone, Copy, Debug, PartialEq, Eq, Error)]
+pub enum EncodeFault {
+    /// There are more than 4,096 taps.
+    #[error("more than 4096 taps")]
+    TooMany,
+    /// A moment is not below the limit, 2100-01-01T00:00Z.
+    #[error("tap {index} has a moment past the limit")]
+    Moment {
+        /// The first such tap, counted from 0.
+        index: u64,
+    },
+    /// Memory was refused.
+    #[error("out of memory")]
+    NoMemory,
+}
+
+impl From<AllocError> for EncodeFault {
+    ghost use Rattle.std.specs.Prelude.{◌≡◌};
+    ghost use Rattle.tap_views.specs.declared.encoder.EncodeFault.TheVariants.{NoMemory};
+
+    ghost from_gives = { λ _ fault. fault ≡ NoMemory };
+
+    fn from(_refused: AllocError) -> EncodeFault {
+        EncodeFault::NoMemory
+    }
+}
+
+/// The `TAP1` batch of these taps.
+pub fn encode(alloc: Global, taps: &[TapFields]) -> Result<Vec<u8>, EncodeFault>
+    ensures batch { IfOk result (λ bytes. Encodes bytes.items taps.now) }
+    ensures sound { OnOk result (AreEncodable (λ tap. tap.moment) taps.now) }
+    ensures fault { IfErr result (IsRefused (λ tap. tap.moment) taps.now) }
+{
+    check(taps)?;
+    Ok(write(alloc, taps)?)
+}
+
+/// The `TAP2` batch of these taps, which share this validator.
+pub fn encode_tap2(
+    alloc: Global,
+    validator: u32,
+    taps: &[Tap2Fields],
+) -> Result<Vec<u8>, EncodeFault>
+    ensures batch { IfOk result (λ bytes. Encodes2 bytes.items validator taps.now) }
+    ensures sound { OnOk result (AreEncodable (λ tap. tap.moment) taps.now) }
+    ensures fault { IfErr result (IsRefused (λ tap. tap.moment) taps.now) }
+{
+    check(taps)?;
+    Ok(write_tap2(alloc, validator, taps)?)
+}
+
+// What the taps of both layouts are asked.
+trait Timed {
+    ghost moment_of: { Self → ℕ };
+
+    fn moment(&self) -> u64
+        ensures { result ≡ moment_of self.now };
+}
+
+impl Timed for TapFields {
+    ghost moment_of = { λ tap. tap.moment };
+
+    fn moment(&self) -> u64 {
+        self.moment
+    }
+}
+
+impl Timed for Tap2Fields {
+    ghost moment_of = { λ tap. tap.moment };
+
+    fn moment(&self) -> u64 {
+        self.moment
+    }
+}
+
+// Whether the taps may stand in one batch.
+fn check<T: Timed>(taps: &[T]) -> Result<(), EncodeFault>
+    ensures ok { OnOk result (AreEncodable T.moment_of taps.now) }
+    ensures fault { IfErr result (IsRefused T.moment_of taps.now) }
+{
+    if taps.len() > MOST as usize {
+        return Err(EncodeFault::TooMany);
+    }
+    for (i, tap) in taps.iter().enumerate() {
+        if tap.moment() >= LIMIT {
+            return Err(EncodeFault::Moment { index: i as u64 });
+        }
+    }
+    Ok(())
+}
+
+// The bytes of a batch, of taps that may stand in one.
+fn write(alloc: Global, taps: &[TapFields]) -> Result<Vec<u8>, AllocError>
+    requires { length taps.now ≤ 4096 }
+    ensures fields { OnOk result (All IsFields taps.now) }
+    ensures bytes { IfOk result (λ bytes. bytes.items ≡ (magic Tap1 ++ big_bytes 2 (length taps.now) ++ 0 ∷ 0 ∷ []) ++ flat_map (λ tap. spelling Tap1 (written tap)) taps.now) }
+{
+    let mut bytes = Vec::with_capacity(alloc, 8 + 28 * taps.len())?;
+    bytes.extend_from_slice(b"TAP1")?;
+    bytes.extend_from_slice(&(taps.len() as u16).to_be_bytes())?;
+    bytes.extend_from_slice(&[0, 0])?;
+    for tap in taps {
+        put_tap(&mut bytes, tap)?;
+    }
+    Ok(bytes)
+}
+
+// Adds one tap with its validator.
+fn put_tap(bytes: &mut Vec<u8>, tap: &TapFields) -> Result<(), AllocError>
+    ensures bytes { OnOk result (bytes.new.items ≡ bytes.old.items ++ spelling Tap1 (written tap.now)) }
+    ensures fields { OnOk result (IsFields tap.now) }
+{
+    bytes.extend_from_slice(&tap.token)?;
+    bytes.extend_from_slice(&tap.validator.to_be_bytes())?;
+    bytes.extend_from_slice(&tap.moment.to_be_bytes())?;
+    Ok(())
+}
+
+// The bytes of a batch with one validator, of taps that may stand in one.
+fn write_tap2(alloc: Global, validator: u32, taps: &[Tap2Fields]) -> Result<Vec<u8>, AllocError>
+    requires { length taps.now ≤ 4096 }
+    ensures fields { OnOk result (All IsFields2 taps.now) }
+    ensures bytes { IfOk result (λ bytes. bytes.items ≡ (magic (Tap2 []) ++ big_bytes 2 (length taps.now) ++ 0 ∷ 0 ∷ [] ++ big_bytes 4 validator) ++ flat_map (λ tap. spelling (Tap2 []) (written_2 validator tap)) taps.now) }
+{
+    let mut bytes = Vec::with_capacity(alloc, 12 + 24 * taps.len())?;
+    bytes.extend_from_slice(b"TAP2")?;
+    bytes.extend_from_slice(&(taps.len() as u16).to_be_bytes())?;
+    bytes.extend_from_slice(&[0, 0])?;
+    bytes.extend_from_slice(&validator.to_be_bytes())?;
+    for tap in taps {
+        put_tap2(&mut bytes, tap)?;
+    }
+    Ok(bytes)
+}
+
+// Adds one tap without its validator.
+fn put_tap2(bytes: &mut Vec<u8>, bare: &Tap2Fields) -> Result<(), AllocError>
+    ensures bytes { OnOk result ((validator : ℕ) → bytes.new.items ≡ bytes.old.items ++ spelling (Tap2 []) (written_2 validator bare.now)) }
+    ensures fields { OnOk result (IsFields2 bare.now) }
+{
+    bytes.extend_from_slice(&bare.token)?;
+    bytes.extend_from_slice(&bare.moment.to_be_bytes())?;
+    Ok(())
+}

@@ -1,0 +1,31 @@
+//! Batches of taps, read where they lie: lent views over the bytes of an upload, the taps of one
+//! shard, files of many batches, and the encoders.
+//!
+//! A batch begins with a header of 8 bytes (`TAP1`, count, flags) or of 12 (`TAP2`, count, flags,
+//! validator), then come its taps, of 28 or 24 bytes. All numbers are big-endian. The layouts are
+//! this project's own.
+#![tactic(auto)]
+
+mod batch;
+mod encoder;
+mod fault;
+mod file;
+pub mod laws;
+mod run;
+mod shard;
+mod steps;
+mod taps;
+mod view;
+
+pub use batch::Batch;
+pub use encoder::{EncodeFault, Tap2Fields, TapFields, encode, encode_tap2};
+pub use fault::LayoutFault;
+pub use file::batches;
+pub use run::{Run, RunTaps};
+pub use shard::shard_of;
+pub use steps::Batches;
+pub use taps::Taps;
+pub use view::TapView;
+
+#[cfg(test)]
+mod tests;

@@ -1,0 +1,114 @@
+// The taps of one shard.
+
+ghost use Rattle.std.specs.Iterator.{YieldsFirst, item_count};
+ghost use Rattle.std.specs.List.{AllByRecursion};
+ghost use Rattle.std.specs.Prelude.{◌≡◌, ◌<◌, ◌≤◌, length};
+ghost use Rattle.tap_views.specs.Shards.{run_taps, IsShardTap};
+
+use crate::shard::shard_of;
+use crate::taps::Taps;
+use crate::view::TapView;
+use std::marker::Model;
+
+/// The taps of one shard of a batch, in the batch's order. It is a view that passes over the batch
+/// anew at each call, and takes no memory.
+#[derive(Drop)]
+pub struct Run<'a> {
+    pub(crate) shared: Option<&'a [u8]>,
+    pub(crate) records: &'a [u8],
+    pub(crate) count: u32,
+    pub(crate) shard: u32,
+    pub(crate) shards: u32,
+}
+
+impl<'a> Model for Run<'a> {
+    ghost use Rattle.std.specs.Prelude.{◌<◌, ◌≤◌};
+    ghost use Rattle.tap_views.specs.Records.{layout_of, taps_in, AreRecords};
+    ghost use Rattle.tap_views.specs.Shards.{ShardRun};
+
+    ghost Value = { ShardRun };
+
+    ghost view = { λ run. record { batch = taps_in (layout_of run.shared) run.count run.records.now; shard = run.shard; shards = run.shards } };
+
+    ghost invariant = { λ run. AreRecords (layout_of run.shared) run.count run.records.now × (run.shard < run.shards) × (run.shards ≤ 64) };
+}
+
+impl<'a> Run<'a> {
+    /// The number of taps. It passes over the batch.
+    pub fn len(&self) -> u32
+        ensures number { result ≡ length (run_taps self.now) }
+        ensures most { result ≤ 4096 }
+    {
+        self.taps().count() as u32
+    }
+
+    /// The shard whose taps these are.
+    pub fn shard(&self) -> u32
+        ensures value { result ≡ self.now.shard }
+        ensures below { result < self.now.shards }
+    {
+        self.shard
+    }
+
+    /// The number of shards, at most 64.
+    pub fn shards(&self) -> u32
+        ensures value { result ≡ self.now.shards }
+        ensures most { result ≤ 64 }
+    {
+        self.shards
+    }
+
+    /// The taps, in the batch's order.
+    pub fn taps(&self) -> RunTaps<'a>
+        ensures taps { result ≡ run_taps self.now }
+        ensures most { length result ≤ 4096 }
+        ensures own { AllByRecursion (IsShardTap self.now.shard self.now.shards) result }
+    {
+        RunTaps {
+            taps: Taps {
+                shared: self.shared,
+                records: self.records,
+                left: self.count,
+            },
+            shard: self.shard,
+            shards: self.shards,
+        }
+    }
+}
+
+/// The taps of a run in their order.
+#[derive(Drop)]
+pub struct RunTaps<'a> {
+    taps: Taps<'a>,
+    shard: u32,
+    shards: u32,
+}
+
+impl<'a> Model for RunTaps<'a> {
+    ghost use Rattle.std.specs.Prelude.{List, ◌<◌, ◌≤◌};
+    ghost use Rattle.tap_views.specs.Layout.{Tap};
+    ghost use Rattle.tap_views.specs.Shards.{run_of};
+
+    ghost Value = { List Tap };
+
+    ghost view = { λ left. run_of left.shard left.shards left.taps };
+
+    ghost invariant = { λ left. (left.shard < left.shards) × (left.shards ≤ 64) };
+}
+
+impl<'a> Iterator for RunTaps<'a> {
+    type Item = TapView<'a>;
+
+    ghost next_gives = { YieldsFirst (λ left. left) };
+
+    ghost remaining = { item_count (λ left. left) };
+
+    fn next(&mut self) -> Option<TapView<'a>> {
+        while let Some(tap) = self.taps.next() {
+            if shard_of(tap.token(), self.shards) == self.shard {
+                return Some(tap);
+            }
+        }
+        None
+    }
+}
