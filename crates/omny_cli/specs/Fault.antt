@@ -1,5 +1,5 @@
 -- The fault lines, without their line feeds.
-use Rattle.std.specs.Prelude.{ℕ, List, ◌++◌, codes}
+use Rattle.std.specs.Prelude.{◌≡◌, ℕ, List, ◌++◌, codes}
 use Rattle.fare_table.specs.Key.{key_name}
 use Rattle.fare_table.specs.declared.fault.TableFault.{TableFault}
 use Rattle.fare_table.specs.declared.fault.TableFault.TheVariants as table
@@ -32,3 +32,11 @@ abbrev pub load_text : List ℕ → LoadFault → List ℕ
 load_text name load.Unread = codes "fault: cannot read " ++ name
 load_text name load.TooLong = codes "fault: " ++ (name ++ codes " is too long")
 load_text name load.NoMemory = codes "fault: out of memory"
+
+-- the line tells of a load under this name
+abbrev pub IsLoadLine : List ℕ → List ℕ → Type 0
+IsLoadLine name line = (fault : LoadFault) × (line ≡ load_text name fault)
+
+-- the line tells of a table's text
+abbrev pub IsTableLine : List ℕ → Type 0
+IsTableLine line = (fault : TableFault) × (line ≡ table_text fault)

@@ -1,7 +1,8 @@
 //! The whole program, over any source of bytes and any two writers.
-ghost use Rattle.std.specs.Prelude.{◌≡◌, ◌≢◌, ◌≤◌, ◌⊎◌, ◌++◌, ◌∷◌, [], true, None, Some, IfErr, IfOk, OnErr, OnOk, map, option_map, string_bytes};
+ghost use Rattle.std.specs.Prelude.{MatchOption, codes, ◌≡◌, ◌≢◌, ◌≤◌, ◌⊎◌, ◌++◌, ◌∷◌, [], true, None, Some, IfErr, IfOk, OnErr, OnOk, map, option_map, string_bytes};
 ghost use Rattle.clap.specs.Words.{kind_of};
 ghost use Rattle.std.specs.Io.KnownBytes.{Appends, Keeps};
+ghost use Rattle.omny_cli.specs.Fault.{IsLoadLine, IsTableLine, fault_text};
 ghost use Rattle.omny_cli.specs.Options.{AsksForHelp, Parses, files_named, table_named};
 ghost use Rattle.omny_cli.specs.Program.{LoadsFiles, LoadsTable, RunsListing, wanted};
 ghost use Rattle.omny_cli.specs.Source.{TellsOne};
@@ -22,8 +23,9 @@ const STANDARD_INPUT: &str = "standard input";
 
 // All bytes of the file of this name.
 fn load_named<'a, S: Source>(source: &mut S, name: &'a str) -> Result<Vec<u8>, Fault<'a>>
-    ensures { IfOk result (λ bytes. TellsOne (S.loaded source.old) (S.loaded source.new)
+    ensures ok { IfOk result (λ bytes. TellsOne (S.loaded source.old) (S.loaded source.new)
         (Some name.entry.now) bytes.items) }
+    ensures fault { IfErr result (λ fault. IsLoadLine name.entry.now (fault_text fault)) }
 {
     match source.load(name) {
         Ok(bytes) => Ok(bytes),
@@ -33,8 +35,9 @@ fn load_named<'a, S: Source>(source: &mut S, name: &'a str) -> Result<Vec<u8>, F
 
 // All bytes of standard input.
 fn load_input<'a, S: Source>(source: &mut S) -> Result<Vec<u8>, Fault<'a>>
-    ensures { IfOk result (λ bytes. TellsOne (S.loaded source.old) (S.loaded source.new)
+    ensures ok { IfOk result (λ bytes. TellsOne (S.loaded source.old) (S.loaded source.new)
         None bytes.items) }
+    ensures fault { IfErr result (λ fault. IsLoadLine (codes "standard input") (fault_text fault)) }
 {
     match source.input() {
         Ok(bytes) => Ok(bytes),
@@ -48,8 +51,10 @@ fn load_table<'a, S: Source>(
     name: Option<&'a str>,
     source: &mut S,
 ) -> Result<Option<FareTable>, Fault<'a>>
-    ensures { IfOk result (λ table. LoadsTable (option_map (λ n. n.now) name.entry)
+    ensures ok { IfOk result (λ table. LoadsTable (option_map (λ n. n.now) name.entry)
         (S.loaded source.old) (S.loaded source.new) table) }
+    ensures fault { IfErr result (λ fault. MatchOption name.entry ⊥ (λ n.
+        IsLoadLine n.now (fault_text fault) ⊎ IsTableLine (fault_text fault))) }
 {
     let Some(name) = name else {
         return Ok(None);

@@ -14,7 +14,7 @@ loop-name-preserved g c =
     ap (map (λ n. Some n.now)) (take_more names c.loop-name.name-index no_name within) ∙ map-append (λ n. Some n.now) (take c.loop-name.name-index names) _ in
     let bytes : map (λ f. f.items) c.push-in-loop-name.new.files.items ≡ map (λ f. f.items) c.loop-name.files.items ++ c.in_ok-bytes-2.bytes.items ∷ [] =
     ap (map (λ f. f.items)) c.in_ok-push-2.ensures ∙ map-append (λ f. f.items) c.loop-name.files.items _ in
-    rw (more, bytes) (loads_push _ _ _ _ _ _ _ c.loop-name.invariant c.in_ok-bytes-2.ensures)
+    rw (more, bytes) (loads_push _ _ _ _ _ _ _ c.loop-name.invariant c.in_ok-bytes-2.ensures.ok)
 
 pub returns : goal.returns
 returns g c =
