@@ -1,0 +1,152 @@
+-- Books and the drawing are closed.
+use Rattle.std.specs.Prelude.{ℕ, zero, suc, ◌≡◌, ◌≢◌, ◌⊎◌, ◌+◌, ◌<◌, ◌≤◌, List, [], ◌∷◌, ◌++◌, length, map, All, slice_get, Some, option_map}
+use Rattle.std.specs.List.{flat_map}
+use Rattle.std.specs.Prelude.{remove, Result, Ok, Err, OnOk, Bool, true, false, ◌==◌}
+use Rattle.std.proofs.Common.{refl, sym, ◌∙◌, ap, inl, inr, subst, arith, get_or, length-append, eqb-true}
+use Rattle.std.proofs.lemmas.Bool.{cases_lt}
+use Rattle.std.proofs.lemmas.List.Elements.{All-nil, All-weaker}
+use Rattle.std.proofs.lemmas.List.Concat.{length-flat_map}
+use Rattle.std.proofs.lemmas.Option.{slice_get-map}
+use Rattle.shard_book.specs.Book.{Book}
+use Rattle.shared_books.specs.declared.turns.rule.Mark.{Mark}
+use Rattle.shared_books.specs.Drawing.{Drawing, Drawings, NoneTwice, HasAll, AllBelow, IsCount, times}
+use Rattle.shared_books.specs.Marks.{joined, visits_of}
+use Rattle.shared_books.specs.Passes.{Opened, Knowledge}
+use Rattle.fare_service.specs.declared.faults.GatherFault.{GatherFault}
+use Rattle.fare_service.specs.declared.faults.GatherFault.TheVariants.{NoMemory, Missing, Drawn}
+use Rattle.fare_service.specs.Closing.{AreClosed, AreUnseen, IsClosedBy, IsUnseen, IsHistoryOf, IsClosedWork, IsMissing, NoneMissing}
+use Rattle.fare_service.specs.Faults.{IsGatherFault, visits_held, uploads_held}
+use Rattle.fare_service.specs.Gathering.{Signed, by_worker}
+use Rattle.fare_service.specs.Holdings.{Holding}
+use Rattle.fare_service.specs.Joining.{AreSigns, IsJoinedOf}
+use Rattle.fare_service.specs.Shares.{books_of, marks_at, own_at}
+use Rattle.fare_service.proofs.Signing.{all_signed, signs_visits}
+
+-- the first of some elements was taken out
+pub split_first : {A : Type 0} (xs : List A) (first : A) (rest : List A) → 0 < length xs → first ≡ get_or xs 0 first → rest ≡ remove xs 0 → xs ≡ first ∷ rest
+split_first [] first rest some is left = absurd (omega (arith, some))
+split_first (x ∷ xs) first rest some is left = ap (λ y. y ∷ xs) (sym is) ∙ ap (λ ys. first ∷ ys) (sym left)
+
+-- nothing was seen, where there is no share
+pub closed_none : (opened : List Opened) (shares : List Holding) (closed : List Book) → shares ≡ [] → length closed ≡ length opened → AreUnseen opened closed → IsClosedWork opened shares closed
+closed_none opened shares closed none number unseen =
+    let P : List Holding → Type 0 = λ ss. IsClosedWork opened ss closed in
+    subst P (sym none) (record {
+      number = number;
+      books = λ shard book at. history shard book (unseen shard book at);
+      once = λ x. omega arith;
+      undrawn = λ upload h. All-nil (λ share. share.drawer.seen ≤ upload);
+    })
+  where
+    history : (shard : ℕ) (book : Book) → IsUnseen opened shard book → IsHistoryOf opened [] shard book
+    history shard book u = record {
+      visits = [];
+      history = ap (λ b. b.entries) u.none;
+      signed = All-nil (λ v. v.worker < 0);
+      order = λ w share at. absurd (cc);
+      shared = u.shared;
+      at = u.at;
+      table = ap (λ b. b.table) u.none;
+      its_shard = ap (λ b. b.shard) u.none;
+      of_shards = ap (λ b. b.shards) u.none;
+      legal = u.legal;
+    }
+
+marks_of : (shard : ℕ) (passes : List Knowledge) (pass : Knowledge) → slice_get passes shard ≡ Some pass → marks_at shard passes ≡ pass.marks
+marks_of shard [] pass at = absurd (cc)
+marks_of zero (p ∷ passes) pass at = let e : p ≡ pass = cc in ap (λ q. q.marks) e
+marks_of (suc shard) (p ∷ passes) pass at = marks_of shard passes pass at
+
+book_here : (shard : ℕ) (passes : List Knowledge) (pass : Knowledge) → slice_get passes shard ≡ Some pass → slice_get (books_of passes) shard ≡ Some pass.book
+book_here shard passes pass at = slice_get-map (λ p. p.book) passes shard ∙ ap (option_map (λ p. p.book)) at
+
+-- the history of a shard's book
+history_of : (drawing : Drawing) (opened : List Opened) (shares : List Holding) (drawer : Drawings) (passes : List Knowledge) (shard : ℕ) (book : Book)
+    → IsJoinedOf drawing opened (length shares) shares drawer passes → IsClosedBy passes shard book → IsHistoryOf opened shares shard book
+history_of drawing opened shares drawer passes shard book all c =
+    let s = all.signed shard in
+    let marks = marks_of shard passes c.pass c.at in
+    let M : List Mark → Type 0 = AreSigns (length shares) (length shares) s.signs in
+    let signs = subst M marks s.of_marks in
+    let O : List Opened → Type 0 = λ os. slice_get os shard ≡ Some c.pass.book in
+    record {
+      visits = s.signs;
+      history = ap (λ b. b.entries) c.all.book ∙ ap joined (sym (signs_visits (length shares) (length shares) s.signs c.pass.marks signs));
+      signed = all_signed (length shares) (length shares) c.pass.book.first s.signs c.pass.marks signs c.all.made;
+      order = s.own;
+      shared = c.pass.book;
+      at = subst O all.of_books (book_here shard passes c.pass c.at);
+      table = ap (λ b. b.table) c.all.book;
+      its_shard = ap (λ b. b.shard) c.all.book;
+      of_shards = ap (λ b. b.shards) c.all.book;
+      legal = c.legal;
+    }
+
+-- all was closed with what the shares hold
+pub closed_all : (drawing : Drawing) (opened : List Opened) (shares : List Holding) (drawer : Drawings) (passes : List Knowledge) (closed : List Book) (count : ℕ)
+    → IsJoinedOf drawing opened (length shares) shares drawer passes → AreClosed passes closed → length closed ≡ length opened → HasAll count drawer.drawn → IsCount count drawer → IsClosedWork opened shares closed
+closed_all drawing opened shares drawer passes closed count all books number has is =
+    let D : List ℕ → Type 0 = λ ds. (x : ℕ) → times x ds ≤ 1 in
+    record {
+      number = number;
+      books = λ shard book at. history_of drawing opened shares drawer passes shard book all (books shard book at);
+      once = subst D all.drawn once;
+      undrawn = λ upload none. All-weaker (λ s. s.drawer.seen ≤ drawer.seen) (λ s. s.drawer.seen ≤ upload) (λ s h. omega (arith, h, is.later, past upload none)) shares all.seen;
+    }
+  where
+    once : (x : ℕ) → times x drawer.drawn ≤ 1
+    once x = by_count (cases_lt x count)
+      where
+        by_count : (x < count) ⊎ (count ≤ x) → times x drawer.drawn ≤ 1
+        by_count (inl h) = omega (arith, has x h)
+        by_count (inr h) = omega (arith, is.below x h)
+
+    past : (upload : ℕ) → times upload (flat_map (λ share. share.drawer.drawn) shares) ≡ 0 → count ≤ upload
+    past upload none = by_count (cases_lt upload count)
+      where
+        by_count : (upload < count) ⊎ (count ≤ upload) → count ≤ upload
+        by_count (inl h) = absurd (omega (arith, has upload h, ap (times upload) all.drawn, none))
+        by_count (inr h) = h
+
+-- visits are missing
+pub missing_fault : (drawing : Drawing) (opened : List Opened) (nobody : ℕ) (shares : List Holding) (drawer : Drawings) (passes : List Knowledge) (fault : GatherFault)
+    → IsJoinedOf drawing opened nobody shares drawer passes → IsMissing (length opened) passes fault → IsGatherFault (length opened) shares fault
+missing_fault drawing opened nobody shares drawer passes (Missing shard held kept) all m = (m.0, m.1 ∙ all.held shard, m.2)
+missing_fault drawing opened nobody shares drawer passes NoMemory all m = absurd m
+missing_fault drawing opened nobody shares drawer passes (Drawn held drawn) all m = absurd m
+
+pub none_missing : (shards : ℕ) (shares : List Holding) (fault : GatherFault) → shares ≡ [] → NoneMissing shards fault → IsGatherFault shards shares fault
+none_missing shards shares (Missing shard held kept) none m = (m.0, m.1 ∙ sym (ap (visits_held shard) none), m.2)
+none_missing shards shares NoMemory none m = absurd m
+none_missing shards shares (Drawn held drawn) none m = absurd m
+
+-- how many uploads the shares hold
+pub held_drawn : (drawing : Drawing) (opened : List Opened) (nobody : ℕ) (shares : List Holding) (drawer : Drawings) (passes : List Knowledge) → IsJoinedOf drawing opened nobody shares drawer passes
+    → length drawer.drawn ≡ uploads_held shares
+held_drawn drawing opened nobody shares drawer passes all = ap length all.drawn ∙ length-flat_map (λ s. s.drawer.drawn) shares
+
+-- the first share and the others are all shares
+pub joined_whole : (drawing : Drawing) (opened : List Opened) (shares : List Holding) (first : Holding) (others : List Holding) (drawer : Drawings) (passes : List Knowledge)
+    → shares ≡ first ∷ others → IsJoinedOf drawing opened (length others + 1) (first ∷ others) drawer passes → IsJoinedOf drawing opened (length shares) shares drawer passes
+joined_whole drawing opened shares first others drawer passes is all =
+    let number : length others + 1 ≡ length shares = omega (arith, ap length is) in
+    let N : ℕ → Type 0 = λ n. IsJoinedOf drawing opened n (first ∷ others) drawer passes in
+    let S : List Holding → Type 0 = λ ss. IsJoinedOf drawing opened (length shares) ss drawer passes in
+    subst S (sym is) (subst N number all)
+
+-- what holds anyway holds where the result is right
+pub any_ok : {T E : Type 0} (r : Result T E) (P : Type 0) → P → OnOk r P
+any_ok (Ok x) P p = p
+any_ok (Err e) P p = tt
+
+pub no_shares : (shares : List Holding) → length shares ≡ 0 → shares ≡ []
+no_shares [] none = refl
+no_shares (s ∷ shares) none = absurd (omega (arith, none))
+
+pub some_shares : (none : Bool) (number : ℕ) → none ≡ (number == 0) → none ≡ false → 0 < number
+some_shares none zero tells is = let h : (zero == 0) ≡ false = sym tells ∙ is in absurd (cc)
+some_shares none (suc number) tells is = omega arith
+
+pub none_there : (none : Bool) (number : ℕ) → none ≡ (number == 0) → none ≡ true → number ≡ 0
+none_there none zero tells is = refl
+none_there none (suc number) tells is = eqb-true (suc number) 0 (sym tells ∙ is)

@@ -1,0 +1,283 @@
+-- Shares are gathered: what their workers did is an outcome.
+use Rattle.std.specs.Prelude.{ℕ, zero, suc, ◌≡◌, ◌≢◌, ◌⊎◌, ◌+◌, ◌<◌, ◌≤◌, ◌==◌, Bool, true, false, List, [], ◌∷◌, ◌++◌, length, map, replicate, slice_set, All, slice_get, Some, None, cond, sum_by}
+use Rattle.std.specs.List.{flat_map, AllZip}
+use Rattle.std.proofs.Common.{refl, sym, ◌∙◌, ap, inl, inr, subst, arith, eq-eqb, ne_eqb}
+use Rattle.std.proofs.lemmas.Bool.Decides.{eqb_tells}
+use Rattle.std.proofs.lemmas.Grind.{flat_map-append}
+use Rattle.std.proofs.lemmas.List.{map-append, length-map}
+use Rattle.std.proofs.lemmas.List.Sums.{sum_by-cons}
+use Rattle.std.proofs.lemmas.List.Elements.{All-nil, All-cons, All-head, All-tail, All-append, All-map, All-weaker}
+use Rattle.shard_book.specs.Book.{Book}
+use Rattle.shard_book.specs.Groups.{all_entries}
+use Rattle.shard_book.specs.History.{IsLegal}
+use Rattle.fare_table.specs.Fares.{Fares}
+use Rattle.shard_book.specs.Sums.{Sums, sums}
+use Rattle.shared_books.specs.Drawing.{NoneTwice, times}
+use Rattle.shared_books.specs.Passes.{Opened}
+use Rattle.fare_service.specs.Closing.{IsClosedWork, IsHistoryOf}
+use Rattle.fare_service.specs.declared.share.Done.{Done}
+use Rattle.fare_service.specs.declared.upload_end.UploadEnd.{UploadEnd}
+use Rattle.fare_service.specs.declared.upload_end.UploadEnd.TheVariants.{Posted, Refused, Cut, Undrawn}
+use Rattle.fare_service.specs.Gathering.{Signed, by_worker, IsBookOfWork, all_works, end_of, IsGathered, HasOutcome, HasRun, ToldUndrawn}
+use Rattle.fare_service.specs.Halls.{Hall, IsHall, IsBookOf, shards_of, upload_at}
+use Rattle.fare_service.specs.Holdings.{Holding}
+use Rattle.fare_service.specs.Joining.{Belongs, told, told_all}
+use Rattle.fare_service.specs.Outcomes.{Gathered, IsOutcome}
+use Rattle.fare_service.specs.Runs.{entries_to, entries_of}
+use Rattle.fare_service.specs.Shares.{Worked, all_visits, done_of, IsWorked, Keeps, IsShareOf, own_at, books_of, IsEndOf}
+
+-- what each share keeps
+abbrev Kept : Hall → List Holding → List (List Worked) → Type 0
+Kept hall shares works = AllZip (Keeps hall) shares works
+
+pub keepings : (hall : Hall) (shares : List Holding) → All (IsShareOf hall) shares → (works : List (List Worked)) × Kept hall shares works
+keepings hall [] all = ([], tt)
+keepings hall (s ∷ shares) all =
+    let first = All-head (IsShareOf hall) s shares all in
+    let rest = keepings hall shares (All-tail (IsShareOf hall) s shares all) in
+    (first.works ∷ rest.0, (first.keeps, rest.1))
+
+pub belongs_all : (hall : Hall) (shares : List Holding) → All (IsShareOf hall) shares → All (Belongs hall.drawing hall.books) shares
+belongs_all hall shares all = All-weaker (IsShareOf hall) (Belongs hall.drawing hall.books) (λ s h. record { source = h.drawer; of_books = h.passes }) shares all
+
+all_each : (hall : Hall) (shares : List Holding) (works : List (List Worked)) → Kept hall shares works → All (λ done. All (IsWorked hall) done) works
+all_each hall [] [] kept = All-nil (λ done. All (IsWorked hall) done)
+all_each hall [] (w ∷ works) kept = absurd kept
+all_each hall (s ∷ shares) [] kept = absurd kept
+all_each hall (s ∷ shares) (w ∷ works) kept = All-cons (λ done. All (IsWorked hall) done) w works kept.0.each (all_each hall shares works kept.1)
+
+each_work : (hall : Hall) (works : List (List Worked)) → All (λ done. All (IsWorked hall) done) works → All (IsWorked hall) (all_works works)
+each_work hall [] all = All-nil (IsWorked hall)
+each_work hall (w ∷ works) all =
+    All-append (IsWorked hall) w (all_works works) (All-head (λ done. All (IsWorked hall) done) w works all) (each_work hall works (All-tail (λ done. All (IsWorked hall) done) w works all))
+
+drawn_all : (hall : Hall) (shares : List Holding) (works : List (List Worked)) → Kept hall shares works → flat_map (λ share. share.drawer.drawn) shares ≡ map (λ w. w.upload) (all_works works)
+drawn_all hall [] [] kept = refl
+drawn_all hall [] (w ∷ works) kept = absurd kept
+drawn_all hall (s ∷ shares) [] kept = absurd kept
+drawn_all hall (s ∷ shares) (w ∷ works) kept =
+    ap (λ ds. ds ++ flat_map (λ (share : Holding). share.drawer.drawn) shares) kept.0.drawn ∙ ap (λ ds. map (λ (x : Worked). x.upload) w ++ ds) (drawn_all hall shares works kept.1)
+    ∙ sym (map-append (λ x. x.upload) w (all_works works))
+
+totals_all : (hall : Hall) (shares : List Holding) (works : List (List Worked)) → Kept hall shares works
+    → map (λ share. share.totals) shares ≡ map (λ done. sums (entries_of (all_visits done))) works
+totals_all hall [] [] kept = refl
+totals_all hall [] (w ∷ works) kept = absurd kept
+totals_all hall (s ∷ shares) [] kept = absurd kept
+totals_all hall (s ∷ shares) (w ∷ works) kept =
+    ap (λ t. t ∷ map (λ (share : Holding). share.totals) shares) kept.0.totals ∙ ap (λ ts. sums (entries_of (all_visits w)) ∷ ts) (totals_all hall shares works kept.1)
+
+pub kept_length : (hall : Hall) (shares : List Holding) (works : List (List Worked)) → Kept hall shares works → length shares ≡ length works
+kept_length hall [] [] kept = refl
+kept_length hall [] (w ∷ works) kept = absurd kept
+kept_length hall (s ∷ shares) [] kept = absurd kept
+kept_length hall (s ∷ shares) (w ∷ works) kept = ap suc (kept_length hall shares works kept.1)
+
+kept_at : (hall : Hall) (shares : List Holding) (works : List (List Worked)) (worker : ℕ) (done : List Worked) → Kept hall shares works → slice_get works worker ≡ Some done
+    → (share : Holding) × (slice_get shares worker ≡ Some share) × Keeps hall share done
+kept_at hall [] [] worker done kept at = absurd (cc)
+kept_at hall [] (w ∷ works) worker done kept at = absurd kept
+kept_at hall (s ∷ shares) [] worker done kept at = absurd kept
+kept_at hall (s ∷ shares) (w ∷ works) zero done kept at =
+    let same : w ≡ done = cc in
+    let K : List Worked → Type 0 = Keeps hall s in
+    (s, refl, subst K same kept.0)
+kept_at hall (s ∷ shares) (w ∷ works) (suc worker) done kept at = kept_at hall shares works worker done kept.1 at
+
+-- the ends, of what all did
+told-append : (ends : List UploadEnd) (xs ys : List Done) → told ends (xs ++ ys) ≡ told (told ends xs) ys
+told-append ends [] ys = refl
+told-append ends (d ∷ xs) ys = told-append (slice_set ends d.upload d.end) xs ys
+
+told_works : (hall : Hall) (ends : List UploadEnd) (shares : List Holding) (works : List (List Worked)) → Kept hall shares works → told_all ends shares ≡ told ends (map done_of (all_works works))
+told_works hall ends [] [] kept = refl
+told_works hall ends [] (w ∷ works) kept = absurd kept
+told_works hall ends (s ∷ shares) [] kept = absurd kept
+told_works hall ends (s ∷ shares) (w ∷ works) kept =
+    ap (λ ds. told_all (told ends ds) shares) kept.0.done ∙ told_works hall (told ends (map done_of w)) shares works kept.1
+    ∙ sym (told-append ends (map done_of w) (map done_of (all_works works))) ∙ ap (told ends) (sym (map-append done_of w (all_works works)))
+
+set_same : (ends : List UploadEnd) (upload : ℕ) (new end : UploadEnd) → slice_get (slice_set ends upload new) upload ≡ Some end → end ≡ new
+set_same [] upload new end at = absurd (cc)
+set_same (e ∷ ends) zero new end at = let h : new ≡ end = cc in sym h
+set_same (e ∷ ends) (suc upload) new end at = set_same ends upload new end at
+
+set_other : (ends : List UploadEnd) (upload other : ℕ) (new : UploadEnd) → upload ≢ other → slice_get (slice_set ends upload new) other ≡ slice_get ends other
+set_other [] upload other new apart = refl
+set_other (e ∷ ends) zero zero new apart = absurd (apart refl)
+set_other (e ∷ ends) zero (suc other) new apart = refl
+set_other (e ∷ ends) (suc upload) zero new apart = refl
+set_other (e ∷ ends) (suc upload) (suc other) new apart = set_other ends upload other new (λ h. apart (ap suc h))
+
+get_replicate : (number upload : ℕ) (end : UploadEnd) → slice_get (replicate number Undrawn) upload ≡ Some end → end ≡ Undrawn
+get_replicate zero upload end at = absurd (cc)
+get_replicate (suc number) zero end at = let h : Undrawn ≡ end = cc in sym h
+get_replicate (suc number) (suc upload) end at = get_replicate number upload end at
+
+-- how often an upload was drawn
+abbrev drawn_times : ℕ → List Worked → ℕ
+drawn_times upload works = times upload (map (λ w. w.upload) works)
+
+times_same : (w : Worked) (works : List Worked) (upload : ℕ) → (w.upload == upload) ≡ true → drawn_times upload (w ∷ works) ≡ 1 + drawn_times upload works
+times_same w works upload is = sum_by-cons (λ x. cond (x == upload) 1 0) w.upload (map (λ x. x.upload) works) ∙ ap (λ b. cond b 1 0 + drawn_times upload works) is
+
+times_other : (w : Worked) (works : List Worked) (upload : ℕ) → (w.upload == upload) ≡ false → drawn_times upload (w ∷ works) ≡ drawn_times upload works
+times_other w works upload is = omega (arith, sum_by-cons (λ x. cond (x == upload) 1 0) w.upload (map (λ x. x.upload) works), ap {B = ℕ} (λ b. cond b 1 0) is)
+
+end_same : (w : Worked) (works : List Worked) (upload : ℕ) → (w.upload == upload) ≡ true → end_of upload (w ∷ works) ≡ w.end
+end_same w works upload is = ap (λ b. cond b w.end (end_of upload works)) is
+
+end_other : (w : Worked) (works : List Worked) (upload : ℕ) → (w.upload == upload) ≡ false → end_of upload (w ∷ works) ≡ end_of upload works
+end_other w works upload is = ap (λ b. cond b w.end (end_of upload works)) is
+
+fewer_after : (w : Worked) (works : List Worked) → NoneTwice (map (λ x. x.upload) (w ∷ works)) → NoneTwice (map (λ x. x.upload) works)
+fewer_after w works once x = by_test (eqb_tells w.upload x)
+  where
+    by_test : (((w.upload == x) ≡ true) × (w.upload ≡ x)) ⊎ (((w.upload == x) ≡ false) × (w.upload ≢ x)) → drawn_times x works ≤ 1
+    by_test (inl (is, same)) = omega (arith, once x, times_same w works x is)
+    by_test (inr (is, apart)) = omega (arith, once x, times_other w works x is)
+
+-- an upload with its end was not drawn, or it ended as the one that drew it tells
+abbrev Told : List UploadEnd → List Worked → ℕ → UploadEnd → Type 0
+Told ends works upload end = ((drawn_times upload works ≡ 0) × (slice_get ends upload ≡ Some end)) ⊎ ((0 < drawn_times upload works) × (end ≡ end_of upload works))
+
+told_end : (ends : List UploadEnd) (works : List Worked) (upload : ℕ) (end : UploadEnd) → NoneTwice (map (λ w. w.upload) works)
+    → slice_get (told ends (map done_of works)) upload ≡ Some end → Told ends works upload end
+told_end ends [] upload end once at = inl (refl, at)
+told_end ends (w ∷ works) upload end once at = by_test (eqb_tells w.upload upload) (told_end (slice_set ends w.upload w.end) works upload end (fewer_after w works once) at)
+  where
+    by_test : (((w.upload == upload) ≡ true) × (w.upload ≡ upload)) ⊎ (((w.upload == upload) ≡ false) × (w.upload ≢ upload))
+        → Told (slice_set ends w.upload w.end) works upload end → Told ends (w ∷ works) upload end
+    by_test (inl (is, same)) (inl (none, there)) =
+        let S : ℕ → Type 0 = λ u. slice_get (slice_set ends u w.end) upload ≡ Some end in
+        inr (omega (arith, times_same w works upload is), set_same ends upload w.end end (subst S same there) ∙ sym (end_same w works upload is))
+    by_test (inl (is, same)) (inr (some, ended)) = absurd (omega (arith, times_same w works upload is, some, once upload))
+    by_test (inr (is, apart)) (inl (none, there)) = inl (times_other w works upload is ∙ none, sym (set_other ends w.upload upload w.end apart) ∙ there)
+    by_test (inr (is, apart)) (inr (some, ended)) = inr (omega (arith, times_other w works upload is, some), ended ∙ sym (end_other w works upload is))
+
+-- an upload that was drawn ended
+never_undrawn : (hall : Hall) (w : Worked) → IsWorked hall w → w.end ≢ Undrawn
+never_undrawn hall w worked = by_end w.end worked.ended
+  where
+    by_end : (end : UploadEnd) → IsEndOf (shards_of hall) (upload_at hall w.upload) worked.batches worked.rest w.visits end → end ≢ Undrawn
+    by_end Undrawn e is = e
+    by_end (Posted taps) e is = absurd (cc)
+    by_end (Refused taps offset fault) e is = absurd (cc)
+    by_end (Cut taps) e is = absurd (cc)
+
+drawn_ended : (hall : Hall) (works : List Worked) (upload : ℕ) → All (IsWorked hall) works → 0 < drawn_times upload works → end_of upload works ≢ Undrawn
+drawn_ended hall [] upload all some = absurd (omega (arith, some))
+drawn_ended hall (w ∷ works) upload all some =
+    by_test (eqb_tells w.upload upload) (drawn_ended hall works upload (All-tail (IsWorked hall) w works all))
+  where
+    by_test : (((w.upload == upload) ≡ true) × (w.upload ≡ upload)) ⊎ (((w.upload == upload) ≡ false) × (w.upload ≢ upload)) → (0 < drawn_times upload works → end_of upload works ≢ Undrawn)
+        → end_of upload (w ∷ works) ≢ Undrawn
+    by_test (inl (is, same)) rest e = never_undrawn hall w (All-head (IsWorked hall) w works all) (sym (end_same w works upload is) ∙ e)
+    by_test (inr (is, apart)) rest e = rest (omega (arith, some, times_other w works upload is)) (sym (end_other w works upload is) ∙ e)
+
+not_drawn : (works : List Worked) (upload : ℕ) → drawn_times upload works ≡ 0 → end_of upload works ≡ Undrawn
+not_drawn [] upload none = refl
+not_drawn (w ∷ works) upload none = by_test (eqb_tells w.upload upload) (not_drawn works upload)
+  where
+    by_test : (((w.upload == upload) ≡ true) × (w.upload ≡ upload)) ⊎ (((w.upload == upload) ≡ false) × (w.upload ≢ upload)) → (drawn_times upload works ≡ 0 → end_of upload works ≡ Undrawn)
+        → end_of upload (w ∷ works) ≡ Undrawn
+    by_test (inl (is, same)) rest = absurd (omega (arith, none, times_same w works upload is))
+    by_test (inr (is, apart)) rest = end_other w works upload is ∙ rest (omega (arith, none, times_other w works upload is))
+
+-- the ends that the shares tell
+ends_told : (hall : Hall) (shares : List Holding) (works : List (List Worked)) → Kept hall shares works → NoneTwice (map (λ w. w.upload) (all_works works))
+    → (ends : List UploadEnd) → ends ≡ told_all (replicate (length hall.uploads) Undrawn) shares
+    → (upload : ℕ) (end : UploadEnd) → slice_get ends upload ≡ Some end → Told (replicate (length hall.uploads) Undrawn) (all_works works) upload end
+ends_told hall shares works kept once ends are upload end at =
+    let G : List UploadEnd → Type 0 = λ es. slice_get es upload ≡ Some end in
+    told_end (replicate (length hall.uploads) Undrawn) (all_works works) upload end once (subst G (are ∙ told_works hall (replicate (length hall.uploads) Undrawn) shares works kept) at)
+
+book_of_work : (hall : Hall) → IsHall hall → (shares : List Holding) (works : List (List Worked)) → Kept hall shares works
+    → (shard : ℕ) (book : Book) → IsHistoryOf hall.books shares shard book → IsBookOfWork hall.table shard (shards_of hall) works book
+book_of_work hall is shares works kept shard book h =
+    let opened : IsBookOf hall.table shard (shards_of hall) h.shared = is.books shard h.shared h.at in
+    let L : Fares → Type 0 = λ t. IsLegal t book.entries in
+    record {
+      visits = h.visits;
+      history = h.history;
+      signed = All-weaker (λ v. v.worker < length shares) (λ v. v.worker < length works) (λ v p. omega (arith, p, kept_length hall shares works kept)) h.visits h.signed;
+      order = λ worker done at. let k = kept_at hall shares works worker done kept at in h.order worker k.0 k.1 ∙ k.2.visits shard;
+      its_table = h.table ∙ opened.its_table;
+      its_shard = h.its_shard ∙ opened.its_shard;
+      of_shards = h.of_shards ∙ opened.of_shards;
+      legal = subst L (h.table ∙ opened.its_table) h.legal;
+    }
+
+gathered : List Book → List UploadEnd → List Sums → Sums → Gathered
+gathered books ends workers totals = record { books = books; ends = ends; workers = workers; totals = totals }
+
+pub has_outcome : (hall : Hall) → IsHall hall → (shares : List Holding) → All (IsShareOf hall) shares → (closed : List Book) → IsClosedWork hall.books shares closed
+    → (ends : List UploadEnd) → ends ≡ told_all (replicate (length hall.uploads) Undrawn) shares → length ends ≡ length hall.uploads
+    → (workers : List Sums) → workers ≡ map (λ share. share.totals) shares → (totals : Sums) → HasOutcome hall shares (record { books = closed; ends = ends; workers = workers; totals = totals })
+has_outcome hall is shares all closed work ends are number workers sums_are totals =
+    let k = keepings hall shares all in
+    let D : List ℕ → Type 0 = NoneTwice in
+    let once = subst D (drawn_all hall shares k.0 k.1) work.once in
+    let each = all_each hall shares k.0 k.1 in (
+      k.0,
+      k.1,
+      record {
+        each = each;
+        once = once;
+        shards = work.number;
+        books = λ shard book at. book_of_work hall is shares k.0 k.1 shard book (work.books shard book at);
+        uploads = number;
+        ends = λ upload end at. by_told k.0 upload end (ends_told hall shares k.0 k.1 once ends are upload end at);
+        workers = sums_are ∙ totals_all hall shares k.0 k.1;
+      },
+    )
+  where
+    by_told : (works : List (List Worked)) (upload : ℕ) (end : UploadEnd) → Told (replicate (length hall.uploads) Undrawn) (all_works works) upload end → end ≡ end_of upload (all_works works)
+    by_told works upload end (inl (none, there)) = get_replicate (length hall.uploads) upload end there ∙ sym (not_drawn (all_works works) upload none)
+    by_told works upload end (inr (some, e)) = e
+
+get_within : (ends : List UploadEnd) (upload : ℕ) (end : UploadEnd) → slice_get ends upload ≡ Some end → upload < length ends
+get_within [] upload end at = absurd (cc)
+get_within (e ∷ ends) zero end at = omega arith
+get_within (e ∷ ends) (suc upload) end at = omega (arith, get_within ends upload end at)
+
+pub told_undrawn : (hall : Hall) (shares : List Holding) → All (IsShareOf hall) shares → (closed : List Book) → IsClosedWork hall.books shares closed
+    → (ends : List UploadEnd) → ends ≡ told_all (replicate (length hall.uploads) Undrawn) shares → length ends ≡ length hall.uploads
+    → (upload : ℕ) → slice_get ends upload ≡ Some Undrawn → All (λ share. share.drawer.seen < length hall.uploads) shares
+told_undrawn hall shares all closed work ends are number upload at =
+    let k = keepings hall shares all in
+    let D : List ℕ → Type 0 = NoneTwice in
+    let once = subst D (drawn_all hall shares k.0 k.1) work.once in
+    by_told k.0 k.1 (ends_told hall shares k.0 k.1 once ends are upload Undrawn at)
+  where
+    by_told : (works : List (List Worked)) → Kept hall shares works → Told (replicate (length hall.uploads) Undrawn) (all_works works) upload Undrawn → All (λ share. share.drawer.seen < length hall.uploads) shares
+    by_told works kept (inl (none, there)) =
+        let within : upload < length hall.uploads = omega (arith, number, get_within ends upload Undrawn at) in
+        All-weaker (λ s. s.drawer.seen ≤ upload) (λ s. s.drawer.seen < length hall.uploads) (λ s h. omega (arith, h, within)) shares
+        (work.undrawn upload (ap (times upload) (drawn_all hall shares works kept) ∙ none))
+    by_told works kept (inr (some, e)) = absurd (drawn_ended hall (all_works works) upload (each_work hall works (all_each hall shares works kept)) some (sym e))
+
+-- what always holds of an outcome holds
+pub is_outcome : (hall : Hall) → IsHall hall → (shares : List Holding) (closed : List Book) → IsClosedWork hall.books shares closed → (ends : List UploadEnd) → length ends ≡ length hall.uploads
+    → (workers : List Sums) (totals : Sums) → totals ≡ sums (all_entries closed) → IsOutcome (record { books = closed; ends = ends; workers = workers; totals = totals })
+is_outcome hall is shares closed work ends number workers totals of_books = record {
+  some_shard = omega (arith, work.number, is.some_shard);
+  few_shards = omega (arith, work.number, is.few_shards);
+  shards = λ shard book at. let h = work.books shard book at in h.of_shards ∙ (is.books shard h.shared h.at).of_shards ∙ sym work.number;
+  few_uploads = omega (arith, number, is.few_uploads);
+  of_books = of_books;
+}
+
+-- each share's uploads are uploads of the service
+pub done_within : (hall : Hall) (uploads : ℕ) (shares : List Holding) → length hall.uploads ≡ uploads → All (IsShareOf hall) shares → All (λ share. All (λ d. d.upload < uploads) share.done) shares
+done_within hall uploads shares number all =
+    All-weaker (IsShareOf hall) (λ share. All (λ d. d.upload < uploads) share.done) (λ s h. of_share s h) shares all
+  where
+    of_share : (s : Holding) → IsShareOf hall s → All (λ d. d.upload < uploads) s.done
+    of_share s h =
+        let P : List Done → Type 0 = All (λ d. d.upload < uploads) in
+        subst P (sym h.keeps.done) (All-map (λ d. d.upload < uploads) done_of h.works (All-weaker (IsWorked hall) (λ w. w.upload < uploads) (λ w q. omega (arith, q.within, number)) h.works h.keeps.each))
+
+-- a run of so many workers was gathered
+pub has_run : (hall : Hall) (shares : List Holding) (workers : ℕ) (outcome : Gathered) → length shares ≡ workers → HasOutcome hall shares outcome → HasRun hall workers outcome
+has_run hall shares workers outcome number (works, kept, gathered) = (works, sym (kept_length hall shares works kept) ∙ number, gathered)

@@ -1,0 +1,133 @@
+-- Passes that are joined, one shard after another.
+use Rattle.std.specs.Prelude.{ℕ, zero, suc, ◌≡◌, ◌≢◌, ◌⊎◌, ◌+◌, ◌<◌, ◌≤◌, ◌==◌, Bool, true, false, List, [], ◌∷◌, ◌++◌, length, map, All, slice_get, Some}
+use Rattle.std.specs.List.{flat_map}
+use Rattle.std.proofs.Common.{refl, sym, ◌∙◌, ap, inl, inr, subst, arith, get_or, set, append-nil, append_assoc, length-append}
+use Rattle.std.proofs.lemmas.List.{length-map, map-append}
+use Rattle.std.proofs.lemmas.List.Elements.{All-nil, All-cons, All-push, All-weaker}
+use Rattle.std.proofs.lemmas.List.Sums.{sum_by-append, sum_by-cons}
+use Rattle.std.proofs.lemmas.Grind.{flat_map-append}
+use Rattle.std.proofs.lemmas.Bool.Decides.{eqb_tells}
+use Rattle.std.proofs.lemmas.Option.{slice_get_within}
+use Rattle.shared_books.specs.declared.turns.rule.Mark.{Mark}
+use Rattle.shared_books.specs.Drawing.{Drawing, Drawings, HasMet}
+use Rattle.shared_books.specs.Marks.{visits_of, merged, Apart, Begins}
+use Rattle.shared_books.specs.Passes.{Opened, Knowledge, IsJoined}
+use Rattle.fare_service.specs.Faults.{visits_held}
+use Rattle.fare_service.specs.Gathering.{Signed, by_worker}
+use Rattle.fare_service.specs.Holdings.{Holding}
+use Rattle.fare_service.specs.Joining.{AreSigns, AreJoined, AreJoinedAt, AreSignedAt, Belongs, IsJoinedOf}
+use Rattle.fare_service.specs.Shares.{books_of, own_visits, marks_at, own_at}
+use Rattle.fare_service.proofs.PlaceLemmas.{place_more}
+use Rattle.fare_service.proofs.Signing.{signed, signs_more, earlier_stay, new_own, merged-nil, made_own}
+use Rattle.fare_service.proofs.VisitLemmas.{marks-set_same, marks-set_other}
+use Rattle.fare_service.proofs.RunVisits.{marks_here}
+
+marks_beyond : (shard : ℕ) (passes : List Knowledge) → length passes ≤ shard → marks_at shard passes ≡ []
+marks_beyond shard [] h = refl
+marks_beyond zero (p ∷ ps) h = absurd (omega (arith, h))
+marks_beyond (suc shard) (p ∷ ps) h = marks_beyond shard ps (omega arith)
+
+marks_last : (passes : List Knowledge) (pass : Knowledge) → marks_at (length passes) (passes ++ pass ∷ []) ≡ pass.marks
+marks_last [] pass = refl
+marks_last (p ∷ ps) pass = marks_last ps pass
+
+marks_else : (shard : ℕ) (passes : List Knowledge) (pass : Knowledge) → shard ≢ length passes → marks_at shard (passes ++ pass ∷ []) ≡ marks_at shard passes
+marks_else zero [] pass ne = absurd (ne refl)
+marks_else (suc shard) [] pass ne = refl
+marks_else zero (p ∷ ps) pass ne = refl
+marks_else (suc shard) (p ∷ ps) pass ne = marks_else shard ps pass (λ e. ne (ap suc e))
+
+same_joined : (x x' y y' z z' : List Mark) → x ≡ x' → y ≡ y' → z ≡ z' → AreJoined x y z → AreJoined x' y' z'
+same_joined x x' y y' z z' a b c j =
+    subst (λ k. AreJoined k y' z') a (subst (λ k. AreJoined x k z') b (subst (λ k. AreJoined x y k) c j))
+
+-- what two passes that were joined have
+of_joined : (old other new : Knowledge) → IsJoined old other new → AreJoined old.marks other.marks new.marks
+of_joined old other new j = record {
+  marks = j.marks;
+  apart = j.apart;
+  begins = j.begins;
+  held = omega (arith, j.held, made_own new.book.first new.marks, made_own old.book.first old.marks, made_own other.book.first other.marks);
+}
+
+-- the passes of one shard more
+pub join_step : (fn yielded into : List Knowledge) (place : ℕ) (old pass new : Knowledge) (shard : ℕ) → AreJoinedAt shard fn yielded into → place ≡ length yielded → place < length into
+    → old ≡ get_or into place old → IsJoined old pass new → AreJoinedAt shard fn (yielded ++ pass ∷ []) (set into place new)
+join_step fn yielded into place old pass new shard before at within is joined = by_place (eqb_tells shard place)
+  where
+    by_place : (((shard == place) ≡ true) × (shard ≡ place)) ⊎ (((shard == place) ≡ false) × (shard ≢ place)) → AreJoinedAt shard fn (yielded ++ pass ∷ []) (set into place new)
+    by_place (inl (b, e)) =
+        let none : marks_at shard yielded ≡ [] = marks_beyond shard yielded (omega (arith, e, at)) in
+        let first : marks_at shard into ≡ marks_at shard fn = before.marks ∙ (ap (merged (marks_at shard fn)) none ∙ merged-nil (marks_at shard fn)) in
+        let here : old.marks ≡ marks_at shard fn = sym (ap (λ s. marks_at s into) e ∙ marks_here into place old within is) ∙ first in
+        let last : pass.marks ≡ marks_at shard (yielded ++ pass ∷ []) = sym (ap (λ s. marks_at s (yielded ++ pass ∷ [])) (e ∙ at) ∙ marks_last yielded pass) in
+        let there : new.marks ≡ marks_at shard (set into place new) = sym (ap (λ s. marks_at s (set into place new)) e ∙ marks-set_same into place new within) in
+        same_joined old.marks (marks_at shard fn) pass.marks (marks_at shard (yielded ++ pass ∷ [])) new.marks (marks_at shard (set into place new)) here last there (of_joined old pass new joined)
+    by_place (inr (b, ne)) =
+        same_joined (marks_at shard fn) (marks_at shard fn) (marks_at shard yielded) (marks_at shard (yielded ++ pass ∷ [])) (marks_at shard into) (marks_at shard (set into place new))
+        refl (sym (marks_else shard yielded pass (λ e. ne (e ∙ sym at)))) (sym (marks-set_other into place shard new ne)) before
+
+-- the signs of one share more
+pub signed_more : (nobody shard : ℕ) (shares : List Holding) (share : Holding) (passes passes' : List Knowledge) → length shares < nobody → AreSignedAt nobody shard shares passes
+    → AreJoinedAt shard passes share.passes passes' → AreSignedAt nobody shard (shares ++ share ∷ []) passes'
+signed_more nobody shard shares share passes passes' below s j =
+    let i = length shares in
+    let signs = signed i nobody s.signs (marks_at shard share.passes) in
+    let more : length (shares ++ share ∷ []) ≡ suc i = omega (arith, length-append shares (share ∷ [])) in
+    let P : List Mark → Type 0 = AreSigns (suc i) nobody signs in
+    let N : ℕ → Type 0 = λ n. AreSigns n nobody signs (marks_at shard passes') in
+    record {
+      signs = signs;
+      of_marks = subst N (sym more) (subst P (sym j.marks) (signs_more i nobody s.signs (marks_at shard passes) (marks_at shard share.passes) below s.of_marks));
+      own = place_more (λ w h. by_worker w signs ≡ own_at shard h.passes) shares share
+          (λ w h at. earlier_stay i nobody w s.signs (marks_at shard passes) (marks_at shard share.passes) below (slice_get_within shares w h at) s.of_marks j.apart ∙ s.own w h at)
+          (new_own i nobody s.signs (marks_at shard passes) (marks_at shard share.passes) below s.of_marks j.begins);
+    }
+
+-- one share more was joined
+pub joined_more : (drawing : Drawing) (books : List Opened) (nobody : ℕ) (shares : List Holding) (share : Holding) (drawer drawer' : Drawings) (passes passes' : List Knowledge) → length shares < nobody
+    → IsJoinedOf drawing books nobody shares drawer passes → HasMet drawer share.drawer drawer' → books_of passes' ≡ books → ((shard : ℕ) → AreJoinedAt shard passes share.passes passes')
+    → IsJoinedOf drawing books nobody (shares ++ share ∷ []) drawer' passes'
+joined_more drawing books nobody shares share drawer drawer' passes passes' below all met of_books joined = record {
+  source = met.source ∙ all.source;
+  drawn = met.drawn ∙ (ap (λ ds. ds ++ share.drawer.drawn) all.drawn ∙ sym (flat_map-append (λ s. s.drawer.drawn) shares (share ∷ []) ∙ ap (λ ds. flat_map (λ s. s.drawer.drawn) shares ++ ds) (append-nil share.drawer.drawn)));
+  seen = All-push (λ s. s.drawer.seen ≤ drawer'.seen) shares share (All-weaker (λ s. s.drawer.seen ≤ drawer.seen) (λ s. s.drawer.seen ≤ drawer'.seen) (λ s h. omega (arith, h, met.later)) shares all.seen) met.later_too;
+  of_books = of_books;
+  signed = λ shard. signed_more nobody shard shares share passes passes' below (all.signed shard) (joined shard);
+  held = λ shard. omega (arith, (joined shard).held, all.held shard, sum_by-append (λ (s : Holding). length (own_at shard s.passes)) shares (share ∷ []), sum_by-cons (λ (s : Holding). length (own_at shard s.passes)) share []);
+}
+
+-- the first share
+pub joined_first : (drawing : Drawing) (books : List Opened) (nobody : ℕ) (share : Holding) → 0 < nobody → Belongs drawing books share → IsJoinedOf drawing books nobody (share ∷ []) share.drawer share.passes
+joined_first drawing books nobody share some is = record {
+  source = is.source;
+  drawn = sym (append-nil share.drawer.drawn);
+  seen = All-cons (λ s. s.drawer.seen ≤ share.drawer.seen) share [] (omega arith) (All-nil (λ s. s.drawer.seen ≤ share.drawer.seen));
+  of_books = is.of_books;
+  signed = λ shard. record {
+    signs = signed 0 nobody [] (marks_at shard share.passes);
+    of_marks = signs_more 0 nobody [] [] (marks_at shard share.passes) some tt;
+    own = place_more (λ w h. by_worker w (signed 0 nobody [] (marks_at shard share.passes)) ≡ own_at shard h.passes) [] share (λ w h at. absurd (cc))
+        (new_own 0 nobody [] [] (marks_at shard share.passes) some tt (inl (visits_of (marks_at shard share.passes), refl)));
+  };
+  held = λ shard. omega (arith, sum_by-cons (λ (s : Holding). length (own_at shard s.passes)) share []);
+}
+
+pub heads : {A : Type 0} (xs : List A) (a b : A) (more rest : List A) → xs ++ a ∷ more ≡ xs ++ b ∷ rest → a ≡ b
+heads [] a b more rest e = cc
+heads (x ∷ xs) a b more rest e = heads xs a b more rest (cc)
+
+-- a pass that comes next belongs to the book that comes next
+pub next_book : (done rest : List Knowledge) (pass : Knowledge) (passes : List Knowledge) (yielded left : List Opened) (book : Opened) (books : List Opened) → done ++ pass ∷ rest ≡ passes → books_of passes ≡ books
+    → books_of done ≡ yielded → yielded ++ book ∷ left ≡ books → pass.book ≡ book
+next_book done rest pass passes yielded left book books all of same is =
+    heads yielded pass.book book (books_of rest) left
+    (ap (λ ys. ys ++ pass.book ∷ books_of rest) (sym same) ∙ sym (map-append (λ (p : Knowledge). p.book) done (pass ∷ rest)) ∙ (ap books_of all ∙ of) ∙ sym is)
+
+pub at_end : {A : Type 0} (xs : List A) (a : A) (more : List A) → slice_get (xs ++ a ∷ more) (length xs) ≡ Some a
+at_end [] a more = refl
+at_end (x ∷ xs) a more = at_end xs a more
+
+pub marks_mid : (done : List Knowledge) (pass : Knowledge) (rest : List Knowledge) → marks_at (length done) (done ++ pass ∷ rest) ≡ pass.marks
+marks_mid [] pass rest = refl
+marks_mid (p ∷ done) pass rest = marks_mid done pass rest

@@ -1,0 +1,16 @@
+pub mod BatchLemmas
+pub mod CloseLemmas
+pub mod GatherLemmas
+pub mod JoinLemmas
+pub mod MomentLemmas
+pub mod Parts
+pub mod PlaceLemmas
+pub mod ReadingLemmas
+pub mod RunLemmas
+pub mod RunVisits
+pub mod ShareLemmas
+pub mod Signing
+pub mod StatementLines
+pub mod TapCounts
+pub mod UploadLemmas
+pub mod VisitLemmas

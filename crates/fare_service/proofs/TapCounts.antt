@@ -1,0 +1,160 @@
+-- How many taps visits post: no more than the batches have, which their file has room for.
+use Rattle.std.specs.Prelude.{ℕ, zero, suc, ◌≡◌, ◌≢◌, ◌⊎◌, ◌+◌, ◌*◌, ◌<◌, ◌≤◌, ◌==◌, nat_lt, Bool, true, false, cond, List, [], ◌∷◌, ◌++◌, length, map, filter, take, sum_by, All}
+use Rattle.std.specs.List.{flat_map, AllByRecursion}
+use Rattle.std.proofs.Common.{refl, sym, ◌∙◌, ap, inl, inr, subst, append_assoc, append-nil, arith, length-append, length-take, add-zero}
+use Rattle.std.proofs.lemmas.List.{length-map, map-append}
+use Rattle.std.proofs.lemmas.List.Sums.{sum_by-append, sum_by-cons}
+use Rattle.std.proofs.lemmas.List.Concat.{length-flat_map}
+use Rattle.std.proofs.lemmas.List.Elements.{All-head, All-tail}
+use Rattle.std.proofs.lemmas.Bool.Decides.{eqb_tells, nat_tests}
+use Rattle.tap_views.specs.Layout.{Tap, IsTap, IsBatch, IsBatchIn, Layout, Tap1, Tap2, IsTapOf, spelling, magic, shared}
+use Rattle.tap_views.specs.Files.{IsFile}
+use Rattle.tap_views.specs.Shards.{shard_of_token}
+use Rattle.shard_book.specs.declared.entry.Entry.{Entry}
+use Rattle.shard_book.specs.Entry.{IsEntryOf}
+use Rattle.shard_book.specs.Sums.{Sums, sums, sums_of_replies, add_sums}
+use Rattle.fare_service.specs.Runs.{PlacedTap, placed_from, taps_of, of_shard, Run, run, if_any, runs_below, runs_of, Visit, IsEntered, run_of_visit, ArePosted, AreCut, WerePosted, entries_of, taps_posted}
+use Rattle.fare_service.proofs.RunVisits.{AllZip-length}
+
+abbrev pub runs_taps : List Run → ℕ
+runs_taps runs = sum_by (λ r. length r.taps) runs
+
+abbrev pub batches_taps : List (List Tap) → ℕ
+batches_taps batches = sum_by (λ b. length b) batches
+
+-- a visit has as many entries as taps
+pub visits_taps : (shards : ℕ) (visits : List Visit) → All (IsEntered shards) visits → taps_posted visits ≡ runs_taps (map run_of_visit visits)
+visits_taps shards [] all = refl
+visits_taps shards (visit ∷ visits) all =
+    let here : length visit.entries ≡ length visit.taps =
+    sym (AllZip-length IsEntryOf (taps_of visit.taps) visit.entries (All-head (IsEntered shards) visit visits all).fields) ∙ length-map visit.taps (λ (p : PlacedTap). p.tap) in
+    let rest : taps_posted visits ≡ runs_taps (map run_of_visit visits) = visits_taps shards visits (All-tail (IsEntered shards) visit visits all) in
+    let many : length (visit.entries ++ entries_of visits) ≡ length visit.entries + length (entries_of visits) = length-append visit.entries (entries_of visits) in
+    let sum : runs_taps (run_of_visit visit ∷ map run_of_visit visits) ≡ length visit.taps + runs_taps (map run_of_visit visits) =
+    sum_by-cons (λ (r : Run). length r.taps) (run_of_visit visit) (map run_of_visit visits) in
+    omega arith
+
+-- whole runs post all their taps
+pub posted_taps : (shards : ℕ) (runs : List Run) (visits : List Visit) → All (IsEntered shards) visits → ArePosted runs visits → taps_posted visits ≡ runs_taps runs
+posted_taps shards runs visits all posted = visits_taps shards visits all ∙ ap runs_taps posted
+
+-- runs up to a cut post no more
+pub cut_taps : (shards : ℕ) (runs : List Run) (visits : List Visit) → All (IsEntered shards) visits → AreCut runs visits → taps_posted visits ≤ runs_taps runs
+cut_taps shards runs visits all c = made c.made
+  where
+    whole : runs_taps runs ≡ runs_taps c.before + runs_taps (c.cut ∷ c.after)
+    whole = ap runs_taps c.all ∙ sum_by-append (λ r. length r.taps) c.before (c.cut ∷ c.after)
+
+    made : ((map run_of_visit visits ≡ c.before) ⊎ ((posted : ℕ) × (posted < length c.cut.taps) × (map run_of_visit visits ≡ c.before ++ run c.cut.shard (take posted c.cut.taps) ∷ [])))
+        → taps_posted visits ≤ runs_taps runs
+    made (inl e) = omega (arith, whole, posted_taps shards c.before visits all e)
+    made (inr (posted, few, e)) =
+        let part = run c.cut.shard (take posted c.cut.taps) in
+        let all' : taps_posted visits ≡ runs_taps (c.before ++ part ∷ []) = posted_taps shards (c.before ++ part ∷ []) visits all e in
+        let split : runs_taps (c.before ++ part ∷ []) ≡ runs_taps c.before + runs_taps (part ∷ []) = sum_by-append (λ (r : Run). length r.taps) c.before (part ∷ []) in
+        let one : runs_taps (part ∷ []) ≡ length (take posted c.cut.taps) + 0 = sum_by-cons (λ (r : Run). length r.taps) part [] in
+        let rest : runs_taps (c.cut ∷ c.after) ≡ length c.cut.taps + runs_taps c.after = sum_by-cons (λ (r : Run). length r.taps) c.cut c.after in
+        let short : length (take posted c.cut.taps) ≤ length c.cut.taps = omega (arith, length-take {A = PlacedTap}) in
+        omega (arith, whole)
+
+length-cond : {X : Type 0} (b : Bool) (x : X) (xs : List X) → length (cond b (x ∷ xs) xs) ≡ cond b 1 0 + length xs
+length-cond true x xs = omega arith
+length-cond false x xs = omega arith
+
+one_test : (s n : ℕ) → cond (nat_lt s (suc n)) 1 0 ≡ cond (nat_lt s n) 1 0 + cond (s == n) 1 0
+one_test s n = grind (arith, nat_tests)
+
+no_less : (s : ℕ) → nat_lt s 0 ≡ false
+no_less s = grind (arith, nat_tests)
+
+-- the taps before one shard and those of that shard
+split_shards : (shards n : ℕ) (taps : List PlacedTap)
+    → length (filter (λ p. nat_lt (shard_of_token p.tap.token shards) (suc n)) taps)
+    ≡ length (filter (λ p. nat_lt (shard_of_token p.tap.token shards) n) taps) + length (of_shard n shards taps)
+split_shards shards n [] = refl
+split_shards shards n (p ∷ taps) =
+    let s = shard_of_token p.tap.token shards in
+    let below = filter (λ (q : PlacedTap). nat_lt (shard_of_token q.tap.token shards) n) taps in
+    let upto = filter (λ (q : PlacedTap). nat_lt (shard_of_token q.tap.token shards) (suc n)) taps in
+    let rest : length upto ≡ length below + length (of_shard n shards taps) = split_shards shards n taps in
+    omega (arith, length-cond (nat_lt s (suc n)) p upto, length-cond (nat_lt s n) p below, length-cond (s == n) p (of_shard n shards taps), one_test s n)
+
+no_taps_below : (shards : ℕ) (taps : List PlacedTap) → filter (λ p. nat_lt (shard_of_token p.tap.token shards) 0) taps ≡ []
+no_taps_below shards [] = refl
+no_taps_below shards (p ∷ taps) =
+    let below = filter (λ (q : PlacedTap). nat_lt (shard_of_token q.tap.token shards) 0) taps in
+    ap (λ b. cond b (p ∷ below) below) (no_less (shard_of_token p.tap.token shards)) ∙ no_taps_below shards taps
+
+if_any_taps : (shard : ℕ) (taps : List PlacedTap) → runs_taps (if_any shard taps) ≡ length taps
+if_any_taps shard [] = refl
+if_any_taps shard (p ∷ taps) = sum_by-cons (λ (r : Run). length r.taps) (run shard (p ∷ taps)) [] ∙ add-zero (length (p ∷ taps))
+
+-- the runs of the first shards have the taps of those shards
+below_taps : (shards n : ℕ) (taps : List PlacedTap) → runs_taps (runs_below shards n taps) ≡ length (filter (λ p. nat_lt (shard_of_token p.tap.token shards) n) taps)
+below_taps shards zero taps = sym (ap length (no_taps_below shards taps))
+below_taps shards (suc n) taps =
+    sum_by-append (λ (r : Run). length r.taps) (runs_below shards n taps) (if_any n (of_shard n shards taps))
+    ∙ ap (λ k. k + runs_taps (if_any n (of_shard n shards taps))) (below_taps shards n taps)
+    ∙ ap (λ k. length (filter (λ p. nat_lt (shard_of_token p.tap.token shards) n) taps) + k) (if_any_taps n (of_shard n shards taps))
+    ∙ sym (split_shards shards n taps)
+
+length-filter-le : {X : Type 0} (p : X → Bool) (xs : List X) → length (filter p xs) ≤ length xs
+length-filter-le p [] = omega arith
+length-filter-le p (x ∷ xs) =
+    let rest : length (filter p xs) ≤ length xs = length-filter-le p xs in
+    elim (p x) as (λ b. length (cond b (x ∷ filter p xs) (filter p xs)) ≤ length (x ∷ xs)) [ true ↦ omega arith | false ↦ omega arith ]
+
+length-placed : (place : ℕ) (taps : List Tap) → length (placed_from place taps) ≡ length taps
+length-placed place [] = refl
+length-placed place (tap ∷ taps) = ap suc (length-placed (place + 1) taps)
+
+-- the runs of a batch have no more taps than the batch
+pub batch_taps : (shards place : ℕ) (batch : List Tap) → runs_taps (runs_below shards shards (placed_from place batch)) ≤ length batch
+batch_taps shards place batch =
+    omega (
+      arith,
+      below_taps shards shards (placed_from place batch),
+      length-filter-le (λ (p : PlacedTap). nat_lt (shard_of_token p.tap.token shards) shards) (placed_from place batch),
+      length-placed place batch,
+    )
+
+-- nor do those of some batches
+pub runs_few : (shards place : ℕ) (batches : List (List Tap)) → runs_taps (runs_of shards place batches) ≤ batches_taps batches
+runs_few shards place [] = omega arith
+runs_few shards place (batch ∷ batches) =
+    let first : runs_taps (runs_below shards shards (placed_from place batch)) ≤ length batch = batch_taps shards place batch in
+    let rest : runs_taps (runs_of shards (place + length batch) batches) ≤ batches_taps batches = runs_few shards (place + length batch) batches in
+    let both : runs_taps (runs_below shards shards (placed_from place batch) ++ runs_of shards (place + length batch) batches)
+    ≡ runs_taps (runs_below shards shards (placed_from place batch)) + runs_taps (runs_of shards (place + length batch) batches) =
+    sum_by-append (λ (r : Run). length r.taps) (runs_below shards shards (placed_from place batch)) (runs_of shards (place + length batch) batches) in
+    let all : batches_taps (batch ∷ batches) ≡ length batch + batches_taps batches = sum_by-cons (λ (b : List Tap). length b) batch batches in
+    omega arith
+
+-- a batch has 24 bytes at least for each tap
+spelt_room : (layout : Layout) (taps : List Tap) → AllByRecursion (IsTapOf layout) taps → 24 * length taps ≤ length (flat_map (spelling layout) taps)
+spelt_room layout [] all = omega arith
+spelt_room layout (tap ∷ taps) all =
+    let rest : 24 * length taps ≤ length (flat_map (spelling layout) taps) = spelt_room layout taps all.1 in
+    let here : 24 ≤ length (spelling layout tap) = wide layout tap all.0 in
+    let both : length (spelling layout tap ++ flat_map (spelling layout) taps) ≡ length (spelling layout tap) + length (flat_map (spelling layout) taps) = length-append (spelling layout tap) (flat_map (spelling layout) taps) in
+    omega arith
+  where
+    wide : (l : Layout) (t : Tap) → IsTapOf l t → 24 ≤ length (spelling l t)
+    wide Tap1 t is = omega (arith, length-append t.token (t.validator ++ t.moment), length-append t.validator t.moment, is.token, is.validator, is.moment)
+    wide (Tap2 v) t is = omega (arith, length-append t.token t.moment, is.0.token, is.0.moment)
+
+pub batch_room : (front : List ℕ) (taps : List Tap) → IsBatch front taps → 24 * length taps ≤ length front
+batch_room front taps (layout, b) =
+    let spelt = ap length b.spelt in
+    let room = spelt_room layout taps b.each in
+    let spells = flat_map (spelling layout) taps in
+    omega (arith, length-append (magic layout) (b.count ++ (0 ∷ 0 ∷ (shared layout ++ spells))), length-append b.count (0 ∷ 0 ∷ (shared layout ++ spells)), length-append (shared layout) spells)
+
+-- a file has 24 bytes at least for each tap of its batches
+pub file_room : (file : List ℕ) (batches : List (List Tap)) (rest : List ℕ) → IsFile file batches rest → 24 * batches_taps batches ≤ length file
+file_room file [] rest is = omega arith
+file_room file (batch ∷ batches) rest (front, back, is_batch, whole, is) =
+    let first : 24 * length batch ≤ length front = batch_room front batch is_batch in
+    let then : 24 * batches_taps batches ≤ length back = file_room back batches rest is in
+    let all : batches_taps (batch ∷ batches) ≡ length batch + batches_taps batches = sum_by-cons (λ (b : List Tap). length b) batch batches in
+    omega (arith, ap length whole, length-append front back)

@@ -1,0 +1,35 @@
+use Rattle.std.proofs.Common.{ℕ, ◌≡◌, ◌+◌, ◌<◌, ◌≤◌, List, ◌∷◌, [], length, refl, sym, ◌∙◌, ap, subst, arith}
+use Rattle.std.specs.Prelude.{Result, OnOk, Ok, Err}
+use Rattle.fare_service.specs.declared.faults.GatherFault.{GatherFault}
+use Rattle.std.specs.Vec.{vec_len}
+use Rattle.shared_books.specs.Passes.{Opened}
+use Rattle.fare_service.specs.Closing.{IsClosedWork}
+use Rattle.fare_service.specs.Holdings.{Holding}
+use Rattle.fare_service.specs.Joining.{IsJoinedOf}
+use Rattle.fare_service.specs.Faults.{uploads_held}
+use Rattle.fare_service.proofs.CloseLemmas.{split_first, closed_none, closed_all, held_drawn, joined_whole, any_ok, no_shares, some_shares, none_there}
+use Rattle.fare_service.proofs.gathering.close_with.Goals as goal
+
+pub returns-then-is_empty-clause-ok : goal.returns-then-is_empty-clause-ok
+returns-then-is_empty-clause-ok c =
+    let ok = c.in_default.ensures in
+    any_ok c.match-finish_unseen.result (IsClosedWork c.args.books.items c.args.shares.items c.close_unseen.new.closed.items)
+    (closed_none c.args.books.items c.args.shares.items c.close_unseen.new.closed.items (no_shares c.args.shares.items (sym c.args.shares.ok.0 ∙ none_there c.is_empty.result (vec_len c.args.shares) c.is_empty.ensures c.if-is_empty.true)) ok.number ok.ok)
+
+pub returns-in-Ok-finish-clause-ok : goal.returns-in-Ok-finish-clause-ok
+returns-in-Ok-finish-clause-ok c =
+    let ok = c.in_default-close_all.ensures in
+    let done = (c.in-Ok-finish.ensures).ok in
+    let split = split_first c.args.shares.items c.remove-first.result c.remove-first.new.self.items (omega (arith, c.args.shares.ok.0, some_shares c.is_empty.result (vec_len c.args.shares) c.is_empty.ensures c.if-is_empty.false)) c.remove-first.ensures.value c.remove-first.ensures.items in
+    let B : List Opened → Type 0 = λ bs. IsJoinedOf c.args.draw bs (length c.remove-first.new.self.items + 1) (c.remove-first.result ∷ c.remove-first.new.self.items) c.join_shares-drawer.result.0 c.join_shares-drawer.result.1.items in
+    let all = joined_whole c.args.draw c.args.books.items c.args.shares.items c.remove-first.result c.remove-first.new.self.items c.join_shares-drawer.result.0 c.join_shares-drawer.result.1.items split (subst B c.as_slice.ensures.value c.join_shares-drawer.ensures) in
+    closed_all c.args.draw c.args.books.items c.args.shares.items c.join_shares-drawer.result.0 c.join_shares-drawer.result.1.items c.close_all.new.closed.items c.in-Ok-finish.field-0
+    all ok.ok ok.number done.0 done.2
+
+pub returns-in-Err-finish-clause-fault : goal.returns-in-Err-finish-clause-fault
+returns-in-Err-finish-clause-fault c =
+    let missing = (c.in-Err-finish.ensures).err in
+    let split = split_first c.args.shares.items c.remove-first.result c.remove-first.new.self.items (omega (arith, c.args.shares.ok.0, some_shares c.is_empty.result (vec_len c.args.shares) c.is_empty.ensures c.if-is_empty.false)) c.remove-first.ensures.value c.remove-first.ensures.items in
+    let B : List Opened → Type 0 = λ bs. IsJoinedOf c.args.draw bs (length c.remove-first.new.self.items + 1) (c.remove-first.result ∷ c.remove-first.new.self.items) c.join_shares-drawer.result.0 c.join_shares-drawer.result.1.items in
+    let all = joined_whole c.args.draw c.args.books.items c.args.shares.items c.remove-first.result c.remove-first.new.self.items c.join_shares-drawer.result.0 c.join_shares-drawer.result.1.items split (subst B c.as_slice.ensures.value c.join_shares-drawer.ensures) in
+    (missing.0 ∙ held_drawn c.args.draw c.args.books.items (length c.args.shares.items) c.args.shares.items c.join_shares-drawer.result.0 c.join_shares-drawer.result.1.items all, missing.1)

@@ -1,0 +1,56 @@
+use Rattle.std.proofs.Common.{◌≡◌, ℕ, ◌+◌, ◌<◌, ◌≤◌, List, All, length, map, slice_get, Some, [], ◌∷◌, replicate, refl, sym, ◌∙◌, ap, subst, arith}
+use Rattle.std.proofs.lemmas.List.{length-map}
+use Rattle.shard_book.specs.Sums.{Sums, sums, sums_of}
+use Rattle.shard_book.specs.Groups.{all_entries}
+use Rattle.fare_service.specs.declared.upload_end.UploadEnd.{UploadEnd}
+use Rattle.fare_service.specs.declared.upload_end.UploadEnd.TheVariants.{Undrawn}
+use Rattle.fare_service.specs.Joining.{told_all}
+use Rattle.fare_service.specs.Halls.{Hall, IsHall}
+use Rattle.fare_service.specs.Holdings.{Holding}
+use Rattle.fare_service.specs.Shares.{IsShareOf}
+use Rattle.fare_service.specs.Gathering.{HasOutcome, ToldUndrawn}
+use Rattle.fare_service.specs.Outcomes.{Gathered}
+use Rattle.fare_service.proofs.GatherLemmas.{has_outcome, told_undrawn, is_outcome, done_within}
+use Rattle.fare_service.proofs.service.Service.gather.Goals as goal
+
+pub ends_of-requires : goal.ends_of-requires
+ends_of-requires c =
+    let hall : Hall = record { table = c.self.inside.table; drawing = c.self.inside.draw; books = c.self.inside.books.items; uploads = map (λ upload. upload.items) c.self.inside.uploads.now } in
+    let S : Hall → Type 0 = λ h. All (IsShareOf h) c.args.shares.items in
+    let all : All (IsShareOf hall) c.args.shares.items = subst S (sym c.self.view_is) c.requires in
+    let P : List Holding → Type 0 = λ ss. All (λ share. All (λ d. d.upload < length c.self.inside.uploads.now) share.done) ss in
+    subst P (sym c.as_slice.ensures.value) (done_within hall (length c.self.inside.uploads.now) c.args.shares.items (length-map c.self.inside.uploads.now (λ upload. upload.items)) all)
+
+pub invariant_of-result : goal.invariant_of-result
+invariant_of-result c =
+    let hall : Hall = record { table = c.self.inside.table; drawing = c.self.inside.draw; books = c.self.inside.books.items; uploads = map (λ upload. upload.items) c.self.inside.uploads.now } in
+    is_outcome hall c.self.invariant c.args.shares.items c.close_with.new.closed.items c.in_ok-close_with.ensures.ok c.in_ok-ends.ends.items
+    (c.in_ok-ends.ensures.number ∙ sym (length-map c.self.inside.uploads.now (λ upload. upload.items))) (map sums_of c.in_ok-workers.workers.items) (sums_of c.totals_of-totals.result)
+    (c.totals_of-totals.ensures ∙ ap (λ bs. sums (all_entries bs)) c.as_slice-3.ensures.value)
+
+pub returns-clause-outcome : goal.returns-clause-outcome
+returns-clause-outcome c =
+    let hall : Hall = record { table = c.self.inside.table; drawing = c.self.inside.draw; books = c.self.inside.books.items; uploads = map (λ upload. upload.items) c.self.inside.uploads.now } in
+    let S : Hall → Type 0 = λ h. All (IsShareOf h) c.args.shares.items in
+    let all : All (IsShareOf hall) c.args.shares.items = subst S (sym c.self.view_is) c.requires in
+    let number : length hall.uploads ≡ length c.self.inside.uploads.now = length-map c.self.inside.uploads.now (λ upload. upload.items) in
+    let told : c.in_ok-ends.ends.items ≡ told_all (replicate (length hall.uploads) Undrawn) c.args.shares.items =
+    c.in_ok-ends.ensures.ends ∙ ap (told_all (replicate (length c.self.inside.uploads.now) Undrawn)) c.as_slice.ensures.value
+    ∙ ap (λ n. told_all (replicate n Undrawn) c.args.shares.items) (sym number) in
+    let workers : map sums_of c.in_ok-workers.workers.items ≡ map (λ share. share.totals) c.args.shares.items =
+    c.in_ok-workers.ensures ∙ ap (λ ss. map (λ (share : Holding). share.totals) ss) c.as_slice-2.ensures.value in
+    let H : Hall → Type 0 = λ h. HasOutcome h c.args.shares.items (record { books = c.close_with.new.closed.items; ends = c.in_ok-ends.ends.items; workers = map sums_of c.in_ok-workers.workers.items; totals = sums_of c.totals_of-totals.result }) in
+    subst H c.self.view_is (has_outcome hall c.self.invariant c.args.shares.items all c.close_with.new.closed.items c.in_ok-close_with.ensures.ok c.in_ok-ends.ends.items told
+    (c.in_ok-ends.ensures.number ∙ sym number) (map sums_of c.in_ok-workers.workers.items) workers (sums_of c.totals_of-totals.result))
+
+pub returns-clause-undrawn : goal.returns-clause-undrawn
+returns-clause-undrawn c =
+    let hall : Hall = record { table = c.self.inside.table; drawing = c.self.inside.draw; books = c.self.inside.books.items; uploads = map (λ upload. upload.items) c.self.inside.uploads.now } in
+    let S : Hall → Type 0 = λ h. All (IsShareOf h) c.args.shares.items in
+    let all : All (IsShareOf hall) c.args.shares.items = subst S (sym c.self.view_is) c.requires in
+    let number : length hall.uploads ≡ length c.self.inside.uploads.now = length-map c.self.inside.uploads.now (λ upload. upload.items) in
+    let told : c.in_ok-ends.ends.items ≡ told_all (replicate (length hall.uploads) Undrawn) c.args.shares.items =
+    c.in_ok-ends.ensures.ends ∙ ap (told_all (replicate (length c.self.inside.uploads.now) Undrawn)) c.as_slice.ensures.value
+    ∙ ap (λ n. told_all (replicate n Undrawn) c.args.shares.items) (sym number) in
+    let U : Hall → Type 0 = λ h. (upload : ℕ) → slice_get c.in_ok-ends.ends.items upload ≡ Some Undrawn → All (λ share. share.drawer.seen < length h.uploads) c.args.shares.items in
+    subst U c.self.view_is (told_undrawn hall c.args.shares.items all c.close_with.new.closed.items c.in_ok-close_with.ensures.ok c.in_ok-ends.ends.items told (c.in_ok-ends.ensures.number ∙ sym number))

@@ -1,0 +1,33 @@
+use Rattle.std.proofs.Common.{ℕ, ◌≡◌, List, [], map, refl, sym, ◌∙◌, ap, subst, arith}
+use Rattle.std.proofs.lemmas.List.{length-map}
+use Rattle.shard_book.specs.Sums.{sums_of}
+use Rattle.shared_books.specs.Passes.{Knowledge}
+use Rattle.fare_service.specs.Halls.{Hall, AreOpened}
+use Rattle.fare_service.specs.Shares.{own_at, books_of}
+use Rattle.fare_service.proofs.ShareLemmas.{fresh_share, fresh, own_new, books_new}
+use Rattle.fare_service.proofs.service.Service.open.Goals as goal
+
+pub invariant_of-service : goal.invariant_of-service
+invariant_of-service g c =
+    let P : ℕ → Type 0 = λ n. AreOpened c.args.table n c.in_ok-books.books.items in
+    record {
+      some_shard = omega (arith, c.in_ok-books.ensures.number);
+      few_shards = omega (arith, c.in_ok-books.ensures.number);
+      books = subst P (sym c.in_ok-books.ensures.number) c.in_ok-books.ensures.books;
+      numbers = c.in_ok-draw.ensures.draw ∙ sym (length-map c.args.uploads.now (λ upload. upload.items));
+      few_uploads = omega (arith, length-map c.args.uploads.now (λ upload. upload.items), c.if-uploads-gt-MOST_UPLOADS.false);
+    }
+
+pub returns-clause-share : goal.returns-clause-share
+returns-clause-share g c =
+    let hall : Hall = record { table = c.args.table; drawing = c.in_ok-draw.draw; books = c.in_ok-books.books.items; uploads = map (λ upload. upload.items) c.args.uploads.now } in
+    let P : List Knowledge → Type 0 = λ ps. (shard : ℕ) → own_at shard ps ≡ [] in
+    fresh_share hall c.in_ok-draw.drawer c.in_ok-books.passes.items (sums_of c.new-3.result) c.new-4.result.items
+    (ap (λ d. d.source) c.in_ok-draw.ensures.drawer) (ap (λ d. d.drawn) c.in_ok-draw.ensures.drawer) (ap books_of c.in_ok-books.ensures.passes ∙ books_new c.in_ok-books.books.items)
+    (subst P (sym c.in_ok-books.ensures.passes) (λ shard. own_new shard c.in_ok-books.books.items)) c.new-3.ensures c.new-4.ensures.items
+
+pub returns-clause-fresh : goal.returns-clause-fresh
+returns-clause-fresh g c =
+    let P : List Knowledge → Type 0 = λ ps. (shard : ℕ) → own_at shard ps ≡ [] in
+    fresh c.in_ok-draw.drawer c.in_ok-books.passes.items (sums_of c.new-3.result) c.new-4.result.items (ap (λ d. d.drawn) c.in_ok-draw.ensures.drawer)
+    (subst P (sym c.in_ok-books.ensures.passes) (λ shard. own_new shard c.in_ok-books.books.items)) c.new-3.ensures c.new-4.ensures.items

@@ -1,0 +1,16 @@
+use Rattle.std.proofs.Common.{◌≡◌, ℕ, ◌+◌, ◌*◌, ◌≤◌, List}
+use Rattle.shard_book.specs.Sums.{sums_of}
+use Rattle.fare_service.specs.Halls.{shards_of}
+use Rattle.fare_service.specs.Runs.{Visit, ArePosted, placed_from, runs_below}
+use Rattle.fare_service.specs.Shares.{Made, books_of}
+use Rattle.fare_service.proofs.service.Service.post_batch.Given as goal
+
+abbrev pub invariant-loop-shard : goal.invariant-loop-shard
+invariant-loop-shard g l = record {
+  passes : books_of l.posting.passes.items ≡ l.fn.self.books;
+  clock : l.buffers.clock ≡ l.fn.buffers.clock;
+  room : l.posting.totals.taps ≤ l.fn.posting.totals.taps + 4096 * l.shard;
+  within : l.shard ≤ l.shard-end;
+  made : (place : ℕ) → (more : List Visit) × Made (shards_of l.fn.self) l.fn.posting.passes.items l.posting.passes.items (sums_of l.fn.posting.totals) (sums_of l.posting.totals) more
+      × ArePosted (runs_below (shards_of l.fn.self) l.shard (placed_from place l.fn.batch)) more;
+}

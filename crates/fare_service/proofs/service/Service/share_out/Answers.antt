@@ -1,0 +1,16 @@
+use Rattle.std.proofs.Common.{◌≡◌, ℕ, ◌+◌, List, [], ◌∷◌, ◌++◌, All, length, length-append, refl, sym, ◌∙◌, ap, subst, arith}
+use Rattle.std.proofs.lemmas.List.Elements.{All-nil, All-cons, All-append}
+use Rattle.fare_service.specs.Holdings.{Holding}
+use Rattle.fare_service.specs.Shares.{IsShareOf}
+use Rattle.fare_service.proofs.service.Service.share_out.Goals as goal
+
+pub loop-preserved : goal.loop-preserved
+loop-preserved c =
+    let S : Holding → Type 0 = IsShareOf c.args.self.now in
+    let P : List Holding → Type 0 = All S in
+    let share = c.in_ok-share.share in
+    record {
+      first = subst S (sym c.share.ensures.old) c.loop.invariant.first;
+      each = subst P (sym c.in_ok-push.ensures.items) (All-append S c.loop.shares.items (share ∷ []) c.loop.invariant.each (All-cons S share [] c.in_ok-share.ensures.new (All-nil S)));
+      number = omega (arith, c.loop.invariant.number, ap length c.in_ok-push.ensures.items, length-append c.loop.shares.items (share ∷ []));
+    }

@@ -1,0 +1,14 @@
+pub mod Closing
+pub mod Ends
+pub mod Faults
+pub mod Gathering
+pub mod Halls
+pub mod Joining
+pub mod Holdings
+pub mod Moments
+pub mod Outcomes
+pub mod Printed
+pub mod Runs
+pub mod Shares
+pub mod StatementText
+pub mod Text

@@ -1,0 +1,32 @@
+-- What is printed of an outcome, and what a fault of printing leaves.
+use Rattle.std.specs.Prelude.{◌≡◌, ℕ, List, length, slice_get, Some}
+use Rattle.tap_views.specs.Shards.{shard_of_token}
+use Rattle.shard_book.specs.Book.{Book}
+use Rattle.shard_book.specs.declared.statement.Statement.{Statement}
+use Rattle.shard_book.specs.declared.token.Token.{Token}
+use Rattle.shard_book.specs.Groups.{all_entries, sums_by_validator, sums_by_token}
+use Rattle.shard_book.specs.Statement.{IsStatement}
+use Rattle.shard_book.specs.Sums.{sums}
+use Rattle.shard_book.specs.Token.{bytes_of}
+use Rattle.fare_service.specs.declared.print_fault.PrintFault.{PrintFault}
+use Rattle.fare_service.specs.declared.print_fault.PrintFault.TheVariants.{Write, NoMemory}
+use Rattle.fare_service.specs.Outcomes.{Gathered}
+use Rattle.fare_service.specs.StatementText.{IsStatementText}
+use Rattle.fare_service.specs.Text.{report}
+
+-- the report of an outcome: the end of each upload, and the sums of all entries of its books
+abbrev pub report_of : Gathered → List ℕ
+report_of o = report o.ends (sums (all_entries o.books)) (sums_by_validator (all_entries o.books)) (sums_by_token (all_entries o.books))
+
+-- the text of a token's statement, which the book of its shard gives
+pub record IsStatementOf (o : Gathered) (token : Token) (text : List ℕ) : Type 0 where
+  pub book : Book
+  pub at : slice_get o.books (shard_of_token (bytes_of token) (length o.books)) ≡ Some book
+  pub statement : Statement
+  pub of_book : IsStatement book.table book.entries token statement
+  pub shown : IsStatementText book.table statement text
+
+-- a fault of memory leaves this
+abbrev pub KeepsUnlessWrite : PrintFault → Type 0 → Type 0
+KeepsUnlessWrite Write kept = Unit {0}
+KeepsUnlessWrite NoMemory kept = kept

@@ -1,0 +1,94 @@
+-- What is posted of an upload: its batches cut into runs, one for each shard that has a tap, in an order that is fixed.
+use Rattle.std.specs.Prelude.{◌≡◌, ◌⊎◌, ℕ, zero, suc, ◌+◌, ◌<◌, ◌==◌, Bool, true, false, MatchBool, List, [], ◌∷◌, ◌++◌, length, map, filter, take, All}
+use Rattle.std.specs.List.{flat_map}
+use Rattle.tap_views.specs.Layout.{Tap}
+use Rattle.tap_views.specs.Shards.{shard_of_token}
+use Rattle.shard_book.specs.declared.entry.Entry.{Entry}
+use Rattle.shard_book.specs.Visits.{AreEntriesOf}
+
+-- a tap and its place in its upload, where the first tap has place 0
+pub record PlacedTap : Type 0 where
+  pub place : ℕ
+  pub tap : Tap
+
+-- the taps with their places, of which the first is given
+abbrev pub placed_from : ℕ → List Tap → List PlacedTap
+placed_from place [] = []
+placed_from place (tap ∷ taps) = record { place = place; tap = tap } ∷ placed_from (place + 1) taps
+
+abbrev pub taps_of : List PlacedTap → List Tap
+taps_of placed = map (λ p. p.tap) placed
+
+-- the taps of one shard, in their order
+abbrev pub of_shard : ℕ → ℕ → List PlacedTap → List PlacedTap
+of_shard shard shards placed = filter (λ p. shard_of_token p.tap.token shards == shard) placed
+
+-- taps of one shard that one turn posts
+pub record Run : Type 0 where
+  pub shard : ℕ
+  pub taps : List PlacedTap
+
+abbrev pub run : ℕ → List PlacedTap → Run
+run shard taps = record { shard = shard; taps = taps }
+
+-- the run of these taps, if there is one
+abbrev pub if_any : ℕ → List PlacedTap → List Run
+if_any shard [] = []
+if_any shard (tap ∷ taps) = run shard (tap ∷ taps) ∷ []
+
+-- the runs of a batch for the first shards, by rising shard
+abbrev pub runs_below : ℕ → ℕ → List PlacedTap → List Run
+runs_below shards zero taps = []
+runs_below shards (suc shard) taps = runs_below shards shard taps ++ if_any shard (of_shard shard shards taps)
+
+-- the runs of some batches, batch by batch; the first tap has the place
+abbrev pub runs_of : ℕ → ℕ → List (List Tap) → List Run
+runs_of shards place [] = []
+runs_of shards place (batch ∷ batches) = runs_below shards shards (placed_from place batch) ++ runs_of shards (place + length batch) batches
+
+-- a visit that a worker made to a shard: the taps that it posted, and the entries that stand for them
+pub record Visit : Type 0 where
+  pub shard : ℕ
+  pub taps : List PlacedTap
+  pub entries : List Entry
+
+-- the visit has the fields of its taps' bytes, tap by tap, and a tap's shard is the visit's
+pub record IsEntered (shards : ℕ) (visit : Visit) : Type 0 where
+  pub within : visit.shard < shards
+  pub fields : AreEntriesOf (taps_of visit.taps) visit.entries
+
+abbrev pub run_of_visit : Visit → Run
+run_of_visit visit = run visit.shard visit.taps
+
+-- the runs were posted whole, in their order
+abbrev pub ArePosted : List Run → List Visit → Type 0
+ArePosted runs visits = map run_of_visit visits ≡ runs
+
+-- the runs were posted up to one that was cut: nothing of it was posted, or its first taps and not all of them
+pub record AreCut (runs : List Run) (visits : List Visit) : Type 0 where
+  pub before : List Run
+  pub cut : Run
+  pub after : List Run
+  pub all : runs ≡ before ++ cut ∷ after
+  pub some_tap : 0 < length cut.taps
+  pub made : (map run_of_visit visits ≡ before)
+      ⊎ ((posted : ℕ) × (posted < length cut.taps) × (map run_of_visit visits ≡ before ++ run cut.shard (take posted cut.taps) ∷ []))
+
+-- the runs were posted whole, or up to a cut
+abbrev pub WerePosted : List Run → Bool → List Visit → Type 0
+WerePosted runs whole visits = MatchBool whole (ArePosted runs visits) (AreCut runs visits)
+
+-- the entries of the visits to a shard, visit by visit
+abbrev pub visits_to : ℕ → List Visit → List Visit
+visits_to shard visits = filter (λ visit. visit.shard == shard) visits
+
+abbrev pub entries_to : ℕ → List Visit → List (List Entry)
+entries_to shard visits = map (λ visit. visit.entries) (visits_to shard visits)
+
+-- the entries of the visits, visit by visit
+abbrev pub entries_of : List Visit → List Entry
+entries_of visits = flat_map (λ visit. visit.entries) visits
+
+-- how many taps the visits posted
+abbrev pub taps_posted : List Visit → ℕ
+taps_posted visits = length (entries_of visits)

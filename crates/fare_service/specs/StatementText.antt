@@ -1,0 +1,80 @@
+-- The text of a statement: a line for each entry of the token, its totals, and its last window.
+use Rattle.std.specs.Prelude.{◌≡◌, ℕ, List, [], ◌∷◌, ◌++◌, Option, Some, None, codes, slice_index_or}
+use Rattle.std.specs.Fmt.{decimal}
+use Rattle.hex.specs.Hex.{encode_lower}
+use Rattle.fare_table.specs.Fares.{Fares, mode_at}
+use Rattle.account_rule.specs.declared.reply.Answer.{Answer}
+use Rattle.account_rule.specs.declared.reply.Answer.TheVariants.{Paid, Transfer, Capped, Stale, Unknown}
+use Rattle.account_rule.specs.declared.window.WindowView.{WindowView}
+use Rattle.shard_book.specs.Token.{bytes_of}
+use Rattle.shard_book.specs.Sums.{sums_of}
+use Rattle.shard_book.specs.declared.token.Token.{Token}
+use Rattle.shard_book.specs.declared.entry.Entry.{Entry}
+use Rattle.shard_book.specs.declared.statement.Statement.{Statement}
+use Rattle.fare_service.specs.Moments.{IsMomentText}
+use Rattle.fare_service.specs.Text.{totals_line}
+
+abbrev pub answer_text : Answer → List ℕ
+answer_text Paid = codes "paid"
+answer_text Transfer = codes "transfer"
+answer_text Capped = codes "capped"
+answer_text Stale = codes "stale"
+answer_text Unknown = codes "unknown"
+
+-- the name of a mode by its place, or `-` for none
+abbrev pub name_of : List (List ℕ) → Option ℕ → List ℕ
+name_of names None = codes "-"
+name_of names (Some place) = slice_index_or names place []
+
+-- the name of a validator's mode, or `-` where the table does not know the validator
+abbrev pub mode_text : Fares → ℕ → List ℕ
+mode_text fares validator = name_of fares.rules.modes (mode_at fares validator)
+
+-- `statement 000000000000000000000000000000a1`
+unfoldable pub statement_head : Token → List ℕ
+statement_head token = codes "statement " ++ (encode_lower (bytes_of token) ++ codes "\n")
+
+-- ` subway 1000 paid 300`, with the end of the line
+unfoldable pub entry_rest : Fares → Entry → List ℕ
+entry_rest fares entry =
+    codes " " ++ (mode_text fares entry.validator ++ (codes " " ++ (decimal entry.validator
+    ++ (codes " " ++ (answer_text entry.answer ++ (codes " " ++ (decimal entry.cents ++ codes "\n")))))))
+
+-- `2024-03-08T17:00:00.000Z subway 1000 paid 300`
+pub record IsEntryLine (fares : Fares) (entry : Entry) (line : List ℕ) : Type 0 where
+  pub moment : List ℕ
+  pub is : IsMomentText entry.moment moment
+  pub shown : line ≡ moment ++ entry_rest fares entry
+
+-- a line for each entry, in order
+abbrev pub AreEntryLines : Fares → List Entry → List ℕ → Type 0
+AreEntryLines fares [] text = text ≡ []
+AreEntryLines fares (entry ∷ entries) text =
+    (line : List ℕ) × (rest : List ℕ) × IsEntryLine fares entry line × AreEntryLines fares entries rest
+    × (text ≡ line ++ rest)
+
+-- ` paid 1 cents 300`, with the end of the line
+unfoldable pub window_rest : WindowView → List ℕ
+window_rest window =
+    codes " paid " ++ (decimal window.paid ++ (codes " cents " ++ (decimal window.cents ++ codes "\n")))
+
+-- `window 2024-03-08T17:00:00.000Z 2024-03-15T17:00:00.000Z paid 1 cents 300`
+pub record IsLineOf (window : WindowView) (line : List ℕ) : Type 0 where
+  pub start : List ℕ
+  pub starts : IsMomentText window.start start
+  pub until : List ℕ
+  pub ends : IsMomentText window.until until
+  pub shown : line ≡ codes "window " ++ (start ++ (codes " " ++ (until ++ window_rest window)))
+
+-- the line of the last window, or `window none`
+abbrev pub IsWindowLine : Option WindowView → List ℕ → Type 0
+IsWindowLine None line = line ≡ codes "window none\n"
+IsWindowLine (Some window) line = IsLineOf window line
+
+-- the text of the statement
+pub record IsStatementText (fares : Fares) (statement : Statement) (text : List ℕ) : Type 0 where
+  pub lines : List ℕ
+  pub of_entries : AreEntryLines fares statement.lines lines
+  pub window : List ℕ
+  pub of_window : IsWindowLine statement.window window
+  pub whole : text ≡ statement_head statement.token ++ (lines ++ (totals_line (sums_of statement.totals) ++ window))

@@ -1,0 +1,97 @@
+-- The texts of the report and of a statement, as lists of bytes. Each line ends with one line feed,
+-- numbers are decimal, and tokens are hexadecimal digits in lower case.
+use Rattle.std.specs.Prelude.{ℕ, ◌+◌, List, [], ◌∷◌, ◌++◌, length, map, codes}
+use Rattle.std.specs.Fmt.{decimal}
+use Rattle.std.specs.List.{flat_map}
+use Rattle.hex.specs.Hex.{encode_lower}
+use Rattle.tap_views.specs.declared.fault.LayoutFault.{LayoutFault}
+use Rattle.tap_views.specs.declared.fault.LayoutFault.TheVariants.{Short, Magic, Flags, TooMany, Length, Moment}
+use Rattle.shard_book.specs.Token.{bytes_of}
+use Rattle.shard_book.specs.Sums.{Sums}
+use Rattle.shard_book.specs.declared.token.Token.{Token}
+use Rattle.fare_service.specs.declared.upload_end.UploadEnd.{UploadEnd}
+use Rattle.fare_service.specs.declared.upload_end.UploadEnd.TheVariants.{Posted, Refused, Cut, Undrawn}
+
+-- the layout faults by their names
+abbrev pub fault_name : LayoutFault → List ℕ
+fault_name (Short have) = codes "L1"
+fault_name Magic = codes "L2"
+fault_name Flags = codes "L3"
+fault_name (TooMany count) = codes "L4"
+fault_name (Length want have) = codes "L5"
+fault_name (Moment index) = codes "L6"
+
+-- the end of an upload, as `refused 2 at 64 L5`
+abbrev pub end_text : UploadEnd → List ℕ
+end_text (Posted taps) = codes "posted " ++ decimal taps
+end_text (Refused taps offset fault) =
+    codes "refused " ++ (decimal taps ++ (codes " at " ++ (decimal offset ++ (codes " " ++ fault_name fault))))
+end_text (Cut taps) = codes "cut " ++ decimal taps
+end_text Undrawn = codes "undrawn"
+
+-- the counts of live taps, as `taps 2 paid 1 transfers 1 capped 0`
+unfoldable pub live_counts : Sums → List ℕ
+live_counts t =
+    codes "taps " ++ (decimal t.taps ++ (codes " paid " ++ (decimal t.paid
+    ++ (codes " transfers " ++ (decimal t.transfers ++ (codes " capped " ++ decimal t.capped))))))
+
+-- the other counts and the cents, as ` stale 0 unknown 0 cents 300`, with the end of the line
+unfoldable pub other_counts : Sums → List ℕ
+other_counts t =
+    codes " stale " ++ (decimal t.stale ++ (codes " unknown " ++ (decimal t.unknown
+    ++ (codes " cents " ++ (decimal t.cents ++ codes "\n")))))
+
+-- the counts that end a line, as `taps 2 paid 1 transfers 1 capped 0 stale 0 unknown 0 cents 300`
+abbrev pub counts : Sums → List ℕ
+counts t = live_counts t ++ other_counts t
+
+-- `uploads 2`, the head of the uploads
+unfoldable pub uploads_head : ℕ → List ℕ
+uploads_head count = codes "uploads " ++ (decimal count ++ codes "\n")
+
+-- `upload 0 posted 4`
+unfoldable pub upload_line : ℕ → UploadEnd → List ℕ
+upload_line upload end =
+    codes "upload " ++ (decimal upload ++ (codes " " ++ (end_text end ++ codes "\n")))
+
+-- a line for each upload, the first of which has the number `upload`
+abbrev pub upload_lines : ℕ → List UploadEnd → List ℕ
+upload_lines upload [] = []
+upload_lines upload (end ∷ ends) = upload_line upload end ++ upload_lines (upload + 1) ends
+
+-- `totals taps 6 paid 3 ..`
+abbrev pub totals_line : Sums → List ℕ
+totals_line totals = codes "totals " ++ counts totals
+
+-- `validators 3`, the head of the validators
+unfoldable pub validators_head : ℕ → List ℕ
+validators_head count = codes "validators " ++ (decimal count ++ codes "\n")
+
+-- `validator 9 taps 1 paid 0 ..`
+abbrev pub validator_line : ℕ × Sums → List ℕ
+validator_line sum = (codes "validator " ++ (decimal sum.0 ++ codes " ")) ++ counts sum.1
+
+-- `tokens 2`, the head of the tokens
+unfoldable pub tokens_head : ℕ → List ℕ
+tokens_head count = codes "tokens " ++ (decimal count ++ codes "\n")
+
+-- `token 000000000000000000000000000000a1 taps 4 paid 2 ..`
+abbrev pub token_line : Token × Sums → List ℕ
+token_line sum = (codes "token " ++ (encode_lower (bytes_of sum.0) ++ codes " ")) ++ counts sum.1
+
+-- the uploads of a report
+abbrev pub uploads_part : List UploadEnd → List ℕ
+uploads_part ends = uploads_head (length ends) ++ upload_lines 0 ends
+
+-- the validators of a report
+abbrev pub validators_part : List (ℕ × Sums) → List ℕ
+validators_part sums = validators_head (length sums) ++ flat_map validator_line sums
+
+-- the tokens of a report
+abbrev pub tokens_part : List (Token × Sums) → List ℕ
+tokens_part sums = tokens_head (length sums) ++ flat_map token_line sums
+
+-- the report: the end of each upload, the totals, the sums of each validator and those of each token
+abbrev pub report : List UploadEnd → Sums → List (ℕ × Sums) → List (Token × Sums) → List ℕ
+report ends totals validators tokens =
+    uploads_part ends ++ (totals_line totals ++ (validators_part validators ++ tokens_part tokens))

@@ -1,0 +1,87 @@
+//! What was gathered: the books, the end of each upload and the totals of each worker.
+
+use crate::upload_end::UploadEnd;
+use shard_book::{ShardBook, Totals};
+use std::marker::Model;
+
+/// What the work of a service came to. Each shard has a book, whose history is one thread's.
+#[derive(Drop)]
+pub struct Outcome {
+    pub(crate) books: Vec<ShardBook>,
+    pub(crate) ends: Vec<UploadEnd>,
+    pub(crate) workers: Vec<Totals>,
+    pub(crate) totals: Totals,
+}
+
+impl Model for Outcome {
+    ghost use Rattle.std.specs.Prelude.{map};
+    ghost use Rattle.shard_book.specs.Sums.{sums_of};
+    ghost use Rattle.fare_service.specs.Outcomes.{Gathered, IsOutcome};
+
+    ghost Value = { Gathered };
+
+    ghost view = { λ o. record { books = o.books.items; ends = o.ends.items; workers = map sums_of o.workers.items; totals = sums_of o.totals } };
+
+    ghost invariant = { λ o. IsOutcome (record { books = o.books.items; ends = o.ends.items; workers = map sums_of o.workers.items; totals = sums_of o.totals }) };
+}
+
+impl Outcome {
+    ghost use Rattle.std.specs.Prelude.{◌≡◌, ◌<◌, ◌≤◌, length, slice_get, Some};
+    ghost use Rattle.shard_book.specs.Groups.{all_entries};
+    ghost use Rattle.shard_book.specs.Sums.{sums, sums_of};
+
+    /// How many shards there are, 1 to 64.
+    pub fn shards(&self) -> u32
+        ensures number { result ≡ length self.now.books }
+        ensures some { 0 < result }
+        ensures few { result ≤ 64 }
+    {
+        self.books.len() as u32
+    }
+
+    /// The book of a shard.
+    pub fn book(&self, shard: u32) -> &ShardBook
+        requires { shard < length self.now.books }
+        ensures { slice_get self.now.books shard ≡ Some result.now }
+    {
+        &self.books[shard as usize]
+    }
+
+    /// How many uploads there are.
+    pub fn uploads(&self) -> u32
+        ensures { result ≡ length self.now.ends }
+    {
+        self.ends.len() as u32
+    }
+
+    /// How an upload ended.
+    pub fn upload(&self, upload: u32) -> UploadEnd
+        requires { upload < length self.now.ends }
+        ensures { slice_get self.now.ends upload ≡ Some result }
+    {
+        self.ends[upload as usize]
+    }
+
+    /// How many shares were gathered.
+    pub fn workers(&self) -> u64
+        ensures { result ≡ length self.now.workers }
+    {
+        self.workers.len() as u64
+    }
+
+    /// The totals of the replies that a worker got, in the order of the shares.
+    pub fn worker(&self, worker: u64) -> Totals
+        requires { worker < length self.now.workers }
+        ensures { slice_get self.now.workers worker ≡ Some (sums_of result) }
+    {
+        self.workers[worker as usize]
+    }
+
+    /// The totals of all books.
+    pub fn totals(&self) -> Totals
+        ensures totals { sums_of result ≡ self.now.totals }
+        ensures of_books { sums_of result ≡ sums (all_entries self.now.books) }
+    {
+        self.totals
+    }
+}

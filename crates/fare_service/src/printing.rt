@@ -1,0 +1,88 @@
+//! Printing: the whole text is made first, and written at once.
+
+ghost use Rattle.std.specs.Prelude.{◌≡◌, ℕ, List, OnOk, IfOk, IfErr, string_bytes};
+ghost use Rattle.std.specs.Io.KnownBytes.{Appends};
+ghost use Rattle.fare_service.specs.Printed.{report_of, IsStatementOf, KeepsUnlessWrite};
+ghost use Rattle.fare_service.specs.declared.print_fault.PrintFault.TheVariants.{Write as ForWrite};
+
+use crate::outcome::Outcome;
+use crate::print_fault::PrintFault;
+use crate::report::report_text;
+use crate::statement::statement_text;
+use fare_table::NoMemory;
+use shard_book::{Token, sums_by_token, sums_by_validator};
+use std::alloc::Global;
+use std::io::Write;
+use tap_views::shard_of;
+
+/// Writes the text at once.
+fn write_out<W: Write>(text: &String, out: &mut W) -> Result<(), PrintFault>
+    ensures ok { OnOk result (Appends (W.contents out.old) (W.contents out.new) (string_bytes text.now)) }
+    ensures fault { IfErr result (λ fault. fault ≡ ForWrite) }
+{
+    if out.write_all(text.as_bytes()).is_err() {
+        return Err(PrintFault::Write);
+    }
+    Ok(())
+}
+
+impl Outcome {
+    /// The text of the report.
+    fn report(&self, alloc: Global) -> Result<String, NoMemory>
+        ensures { IfOk result (λ text. string_bytes text ≡ report_of self.now) }
+    {
+        let totals = self.totals();
+        let validators = sums_by_validator(alloc, self.books.as_slice())?;
+        let tokens = sums_by_token(alloc, self.books.as_slice())?;
+        let text = report_text(
+            alloc,
+            self.ends.as_slice(),
+            &totals,
+            validators.as_slice(),
+            tokens.as_slice(),
+        )?;
+        Ok(text)
+    }
+
+    /// The text of a token's statement.
+    fn statement(&self, alloc: Global, token: &Token) -> Result<String, NoMemory>
+        ensures { IfOk result (λ text. IsStatementOf self.now token.now (string_bytes text)) }
+    {
+        let bytes = token.bytes();
+        let book = self.book(shard_of(&bytes, self.shards()));
+        let statement = book.statement(alloc, token)?;
+        let text = statement_text(alloc, book.table(), &statement)?;
+        Ok(text)
+    }
+
+    /// Writes the report: the end of each upload, the totals of all books, the sums of each validator, by rising validator, and those
+    /// of each token, by rising token. On a fault of memory nothing was written.
+    pub fn write_report<W: Write>(&self, alloc: Global, out: &mut W) -> Result<(), PrintFault>
+        ensures ok { OnOk result (Appends (W.contents out.old) (W.contents out.new) (report_of self.now)) }
+        ensures fault { IfErr result (λ fault. KeepsUnlessWrite fault (out.new ≡ out.old)) }
+    {
+        let Ok(text) = self.report(alloc) else {
+            return Err(PrintFault::NoMemory);
+        };
+        write_out(&text, out)?;
+        Ok(())
+    }
+
+    /// Writes the statement of a token: its entries in the order of its shard's book, their totals and its last window. A token
+    /// without entries has a statement of no entries. On a fault of memory nothing was written.
+    pub fn write_statement<W: Write>(
+        &self,
+        alloc: Global,
+        token: &Token,
+        out: &mut W,
+    ) -> Result<(), PrintFault>
+        ensures ok { OnOk result ((text : List ℕ) × IsStatementOf self.now token.now text × Appends (W.contents out.old) (W.contents out.new) text) }
+        ensures fault { IfErr result (λ fault. KeepsUnlessWrite fault (out.new ≡ out.old)) }
+    {
+        let Ok(text) = self.statement(alloc, token) else {
+            return Err(PrintFault::NoMemory);
+        };
+        write_out(&text, out)?;
+        Ok(())
+    }
+}

@@ -1,0 +1,190 @@
+//! The text of the report: a function for each line, for each list and for each part.
+
+ghost use Rattle.std.specs.Prelude.{◌≡◌, ◌++◌, IfOk, OnOk, length, map, string_bytes, codes};
+ghost use Rattle.std.specs.Fmt.{decimal};
+ghost use Rattle.hex.specs.Hex.{encode_lower};
+ghost use Rattle.shard_book.specs.Shown.{token_sum, validator_sum};
+ghost use Rattle.shard_book.specs.Sums.{sums_of};
+ghost use Rattle.shard_book.specs.Token.{bytes_of};
+ghost use Rattle.std.specs.List.{flat_map};
+ghost use Rattle.fare_service.specs.Text.{report, uploads_part, validators_part, tokens_part, uploads_head, upload_line, upload_lines, totals_line, counts, live_counts, other_counts, validators_head, validator_line, tokens_head, token_line};
+
+use crate::shown::Digits;
+use crate::upload_end::UploadEnd;
+use shard_book::{Token, TokenSum, Totals, ValidatorSum};
+use std::alloc::{AllocError, Global};
+
+/// The report of an outcome, whole.
+#[tactic(auto, using(crate::proofs::Parts::in_four))]
+pub(crate) fn report_text(
+    alloc: Global,
+    ends: &[UploadEnd],
+    totals: &Totals,
+    validators: &[ValidatorSum],
+    tokens: &[TokenSum],
+) -> Result<String, AllocError>
+    ensures { IfOk result (λ text. string_bytes text ≡ report ends.now (sums_of totals.now) (map validator_sum validators.now) (map token_sum tokens.now)) }
+{
+    let mut text = String::new(alloc);
+    write_uploads(&mut text, ends)?;
+    write_totals(&mut text, totals)?;
+    write_validators(&mut text, validators)?;
+    write_tokens(&mut text, tokens)?;
+    Ok(text)
+}
+
+/// The end of each upload.
+#[tactic(auto, using(crate::proofs::Parts::in_parts))]
+fn write_uploads(text: &mut String, ends: &[UploadEnd]) -> Result<(), AllocError>
+    ensures { OnOk result (string_bytes text.new ≡ string_bytes text.old ++ uploads_part ends.now) }
+{
+    write_uploads_head(text, ends.len())?;
+    write_upload_lines(text, ends)
+}
+
+#[tactic(auto, unfolding(crate::specs::Text::uploads_head))]
+fn write_uploads_head(text: &mut String, count: usize) -> Result<(), AllocError>
+    ensures { OnOk result (string_bytes text.new ≡ string_bytes text.old ++ uploads_head count) }
+{
+    writeln!(text, "uploads {count}")
+}
+
+#[tactic(auto, using(crate::proofs::Parts::lines_more))]
+fn write_upload_lines(text: &mut String, ends: &[UploadEnd]) -> Result<(), AllocError>
+    ensures { OnOk result (string_bytes text.new ≡ string_bytes text.old ++ upload_lines 0 ends.now) }
+{
+    for (upload, end) in ends.iter().enumerate() {
+        write_upload(text, upload, end)?;
+    }
+    Ok(())
+}
+
+#[tactic(auto, unfolding(crate::specs::Text::upload_line))]
+fn write_upload(text: &mut String, upload: usize, end: &UploadEnd) -> Result<(), AllocError>
+    ensures { OnOk result (string_bytes text.new ≡ string_bytes text.old ++ upload_line upload end.now) }
+{
+    writeln!(text, "upload {upload} {end}")
+}
+
+/// The totals over all books, or those of a statement.
+#[tactic(auto, using(crate::proofs::Parts::in_parts))]
+pub(crate) fn write_totals(text: &mut String, totals: &Totals) -> Result<(), AllocError>
+    ensures { OnOk result (string_bytes text.new ≡ string_bytes text.old ++ totals_line (sums_of totals.now)) }
+{
+    text.push_str("totals ")?;
+    write_counts(text, totals)
+}
+
+/// The counts that end a line.
+#[tactic(auto, using(crate::proofs::Parts::in_parts))]
+fn write_counts(text: &mut String, totals: &Totals) -> Result<(), AllocError>
+    ensures { OnOk result (string_bytes text.new ≡ string_bytes text.old ++ counts (sums_of totals.now)) }
+{
+    write_live_counts(text, totals)?;
+    write_other_counts(text, totals)
+}
+
+#[tactic(auto, unfolding(crate::specs::Text::live_counts))]
+fn write_live_counts(text: &mut String, totals: &Totals) -> Result<(), AllocError>
+    ensures { OnOk result (string_bytes text.new ≡ string_bytes text.old ++ live_counts (sums_of totals.now)) }
+{
+    let taps = totals.taps;
+    let paid = totals.paid;
+    let transfers = totals.transfers;
+    let capped = totals.capped;
+    write!(
+        text,
+        "taps {taps} paid {paid} transfers {transfers} capped {capped}"
+    )
+}
+
+#[tactic(auto, unfolding(crate::specs::Text::other_counts))]
+fn write_other_counts(text: &mut String, totals: &Totals) -> Result<(), AllocError>
+    ensures { OnOk result (string_bytes text.new ≡ string_bytes text.old ++ other_counts (sums_of totals.now)) }
+{
+    let stale = totals.stale;
+    let unknown = totals.unknown;
+    let cents = totals.cents;
+    writeln!(text, " stale {stale} unknown {unknown} cents {cents}")
+}
+
+/// The sums of each validator.
+#[tactic(auto, using(crate::proofs::Parts::in_parts))]
+fn write_validators(text: &mut String, sums: &[ValidatorSum]) -> Result<(), AllocError>
+    ensures { OnOk result (string_bytes text.new ≡ string_bytes text.old ++ validators_part (map validator_sum sums.now)) }
+{
+    write_validators_head(text, sums.len())?;
+    write_validator_lines(text, sums)
+}
+
+#[tactic(auto, unfolding(crate::specs::Text::validators_head))]
+fn write_validators_head(text: &mut String, count: usize) -> Result<(), AllocError>
+    ensures { OnOk result (string_bytes text.new ≡ string_bytes text.old ++ validators_head count) }
+{
+    writeln!(text, "validators {count}")
+}
+
+#[tactic(auto, using(std::proofs::lemmas::List::flat_map_more))]
+fn write_validator_lines(text: &mut String, sums: &[ValidatorSum]) -> Result<(), AllocError>
+    ensures { OnOk result (string_bytes text.new ≡ string_bytes text.old ++ flat_map validator_line (map validator_sum sums.now)) }
+{
+    for sum in sums {
+        write_validator(text, sum)?;
+    }
+    Ok(())
+}
+
+#[tactic(auto, using(crate::proofs::Parts::in_parts))]
+fn write_validator(text: &mut String, sum: &ValidatorSum) -> Result<(), AllocError>
+    ensures { OnOk result (string_bytes text.new ≡ string_bytes text.old ++ validator_line (validator_sum sum.now)) }
+{
+    write_validator_name(text, sum.validator)?;
+    write_counts(text, &sum.totals)
+}
+
+fn write_validator_name(text: &mut String, validator: u32) -> Result<(), AllocError>
+    ensures { OnOk result (string_bytes text.new ≡ string_bytes text.old ++ (codes "validator " ++ (decimal validator ++ codes " "))) }
+{
+    write!(text, "validator {validator} ")
+}
+
+/// The sums of each token.
+#[tactic(auto, using(crate::proofs::Parts::in_parts))]
+fn write_tokens(text: &mut String, sums: &[TokenSum]) -> Result<(), AllocError>
+    ensures { OnOk result (string_bytes text.new ≡ string_bytes text.old ++ tokens_part (map token_sum sums.now)) }
+{
+    write_tokens_head(text, sums.len())?;
+    write_token_lines(text, sums)
+}
+
+#[tactic(auto, unfolding(crate::specs::Text::tokens_head))]
+fn write_tokens_head(text: &mut String, count: usize) -> Result<(), AllocError>
+    ensures { OnOk result (string_bytes text.new ≡ string_bytes text.old ++ tokens_head count) }
+{
+    writeln!(text, "tokens {count}")
+}
+
+#[tactic(auto, using(std::proofs::lemmas::List::flat_map_more))]
+fn write_token_lines(text: &mut String, sums: &[TokenSum]) -> Result<(), AllocError>
+    ensures { OnOk result (string_bytes text.new ≡ string_bytes text.old ++ flat_map token_line (map token_sum sums.now)) }
+{
+    for sum in sums {
+        write_token(text, sum)?;
+    }
+    Ok(())
+}
+
+#[tactic(auto, using(crate::proofs::Parts::in_parts))]
+fn write_token(text: &mut String, sum: &TokenSum) -> Result<(), AllocError>
+    ensures { OnOk result (string_bytes text.new ≡ string_bytes text.old ++ token_line (token_sum sum.now)) }
+{
+    write_token_name(text, sum.token)?;
+    write_counts(text, &sum.totals)
+}
+
+fn write_token_name(text: &mut String, token: Token) -> Result<(), AllocError>
+    ensures { OnOk result (string_bytes text.new ≡ string_bytes text.old ++ (codes "token " ++ (encode_lower (bytes_of token) ++ codes " "))) }
+{
+    let digits = Digits(token);
+    write!(text, "token {digits} ")
+}

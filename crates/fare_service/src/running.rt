@@ -1,0 +1,86 @@
+//! A run: a thread for each worker, and the gathering of their shares.
+
+ghost use Rattle.std.specs.Prelude.{◌≡◌, ◌<◌, All, IfOk, IfErr, length};
+ghost use Rattle.fare_service.specs.Faults.{IsRunFault};
+ghost use Rattle.fare_service.specs.Gathering.{HasRun};
+ghost use Rattle.fare_service.specs.Shares.{IsShareOf};
+
+use crate::faults::RunFault;
+use crate::outcome::Outcome;
+use crate::service::Service;
+use crate::share::Share;
+use crate::working::Gate;
+use fare_table::NoMemory;
+use std::alloc::{AllocError, Global};
+use std::marker::Sync;
+use std::sync::Wait;
+use std::thread;
+use std::thread::Threads;
+
+/// The most workers of a run.
+const MOST_WORKERS: u32 = 16;
+
+impl<'a> Service<'a> {
+    /// A share for each worker, of which the given one is the first.
+    fn share_out(&self, alloc: Global, first: Share, workers: u32) -> Result<Vec<Share>, NoMemory>
+        requires first { IsShareOf self.now first }
+        requires some { 0 < workers }
+        ensures shares { IfOk result (λ r. All (IsShareOf self.now) r.items) }
+        ensures number { IfOk result (λ r. length r.items ≡ workers) }
+    {
+        let mut first = first;
+        let mut shares = Vec::new(alloc);
+        for _ in 1..workers {
+            let share = self.share(alloc, &mut first)?;
+            shares.push(share)?;
+        }
+        shares.insert(0, first)?;
+        Ok(shares)
+    }
+
+    /// Works with each share, in a thread of its own.
+    fn work_all<R: Threads + Wait + Sync, G: Gate + Sync>(
+        &self,
+        rt: &R,
+        alloc: Global,
+        shares: Vec<Share>,
+        gate: &G,
+    ) -> Result<Vec<Share>, AllocError>
+        requires { All (IsShareOf self.now) shares.items }
+        ensures shares { IfOk result (λ r. All (IsShareOf self.now) r.items) }
+        ensures number { IfOk result (λ r. length r.items ≡ length shares.items) }
+    {
+        let shares = thread::map_vec(
+            rt,
+            shares,
+            &|share: Share| -> Share
+                requires { IsShareOf self.now share }
+                ensures { IsShareOf self.entry.now result }
+            { self.work(rt, alloc, share, gate) },
+        )?;
+        Ok(shares)
+    }
+
+    /// Runs the service with so many workers, 1 to 16, each in a thread of its own, and gathers their shares. The given share is the
+    /// first worker's.
+    pub fn run<R: Threads + Wait + Sync, G: Gate + Sync>(
+        self,
+        rt: &R,
+        alloc: Global,
+        share: Share,
+        workers: u32,
+        gate: &G,
+    ) -> Result<Outcome, RunFault>
+        requires { IsShareOf self share }
+        ensures outcome { IfOk result (HasRun self.entry workers) }
+        ensures fault { IfErr result (IsRunFault workers) }
+    {
+        if workers == 0 || workers > MOST_WORKERS {
+            return Err(RunFault::Workers);
+        }
+        let shares = self.share_out(alloc, share, workers)?;
+        let shares = self.work_all(rt, alloc, shares, gate)?;
+        let outcome = self.gather(alloc, shares)?;
+        Ok(outcome)
+    }
+}

@@ -1,0 +1,115 @@
+//! A service: uploads that workers draw, and a shared book for each shard.
+
+use crate::faults::OpenFault;
+use crate::opening::open_books;
+use crate::share::{Posting, Share};
+use fare_table::{FareTable, NoMemory};
+use shard_book::{TokenKeys, Totals};
+use shared_books::{Draw, SharedBook};
+use std::alloc::Global;
+use std::marker::Model;
+use std::random::RandomSource;
+
+/// The most shards of a service.
+const MOST_SHARDS: u32 = 64;
+
+/// The most uploads of a service.
+const MOST_UPLOADS: usize = 65_535;
+
+/// The uploads, a shared book for each shard, and the fare table. Many threads may work at it at once.
+#[derive(Drop)]
+pub struct Service<'a> {
+    pub(crate) table: FareTable,
+    pub(crate) draw: Draw,
+    pub(crate) books: Vec<SharedBook>,
+    pub(crate) uploads: &'a [Vec<u8>],
+}
+
+impl<'a> Model for Service<'a> {
+    ghost use Rattle.std.specs.Prelude.{map};
+    ghost use Rattle.fare_service.specs.Halls.{Hall, IsHall};
+
+    ghost Value = { Hall };
+
+    ghost view = { λ s. record { table = s.table; drawing = s.draw; books = s.books.items; uploads = map (λ upload. upload.items) s.uploads.now } };
+
+    ghost invariant = { λ s. IsHall (record { table = s.table; drawing = s.draw; books = s.books.items; uploads = map (λ upload. upload.items) s.uploads.now }) };
+}
+
+impl<'a> Service<'a> {
+    ghost use Rattle.std.specs.Prelude.{◌≡◌, ◌<◌, ◌≤◌, IfOk, IfErr, length, map};
+    ghost use Rattle.fare_service.specs.Halls.{shards_of};
+    ghost use Rattle.fare_service.specs.Faults.{IsOpenFault};
+    ghost use Rattle.fare_service.specs.Shares.{IsFresh, IsShareOf};
+
+    /// Opens a service of so many shards, 1 to 64, over at most 65,535 uploads, none of them drawn, and gives its first share. Every
+    /// shard's visits are numbered from 0. On a fault what was handed in is dropped.
+    pub fn open<R: RandomSource>(
+        rt: &R,
+        alloc: Global,
+        table: FareTable,
+        shards: u32,
+        uploads: &'a [Vec<u8>],
+    ) -> Result<(Service<'a>, Share), OpenFault>
+        ensures table { IfOk result (λ r. r.0.table ≡ table) }
+        ensures shards { IfOk result (λ r. shards_of r.0 ≡ shards) }
+        ensures uploads { IfOk result (λ r. r.0.uploads ≡ map (λ upload. upload.items) uploads.now) }
+        ensures share { IfOk result (λ r. IsShareOf r.0 r.1) }
+        ensures fresh { IfOk result (λ r. IsFresh r.1) }
+        ensures fault { IfErr result (IsOpenFault shards (length uploads.now)) }
+    {
+        if shards == 0 || shards > MOST_SHARDS {
+            return Err(OpenFault::Shards);
+        }
+        if uploads.len() > MOST_UPLOADS {
+            return Err(OpenFault::Uploads);
+        }
+        let keys = TokenKeys::new(rt)?;
+        let (draw, drawer) = Draw::new(alloc, uploads.len() as u32)?;
+        let (books, passes) = open_books(alloc, keys, &table, shards)?;
+        let service = Service {
+            table,
+            draw,
+            books,
+            uploads,
+        };
+        let share = Share {
+            drawer,
+            posting: Posting {
+                passes,
+                totals: Totals::new(),
+            },
+            done: Vec::new(alloc),
+        };
+        Ok((service, share))
+    }
+
+    /// A new share, with no uploads and no visits. The old one keeps all that it has.
+    pub fn share(&self, alloc: Global, old: &mut Share) -> Result<Share, NoMemory>
+        requires { IsShareOf self.now old.old }
+        ensures new { IfOk result (λ new. IsShareOf self.now new) }
+        ensures fresh { IfOk result (λ new. IsFresh new) }
+        ensures old { old.new ≡ old.old }
+    {
+        let mut passes = Vec::with_capacity(alloc, self.books.len())?;
+        let drawer = self.draw.split(&mut old.drawer)?;
+        self.split_passes(&mut old.posting.passes, &mut passes)?;
+        Ok(Share {
+            drawer,
+            posting: Posting {
+                passes,
+                totals: Totals::new(),
+            },
+            done: Vec::new(alloc),
+        })
+    }
+
+    /// How many shards there are, 1 to 64.
+    pub(crate) fn shards(&self) -> u32
+        ensures number { result ≡ shards_of self.now }
+        ensures some { 0 < result }
+        ensures few { result ≤ 64 }
+    {
+        self.books.len() as u32
+    }
+}

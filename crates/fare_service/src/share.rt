@@ -1,0 +1,52 @@
+//! What a worker keeps of its work.
+
+ghost use Rattle.std.specs.Prelude.{◌≡◌};
+
+use crate::upload_end::UploadEnd;
+use shard_book::Totals;
+use shared_books::{Drawer, Pass};
+use std::marker::Model;
+
+/// An upload that a share drew, and how it ended.
+#[derive(Clone, Copy, Debug)]
+pub struct Done {
+    pub upload: u32,
+    pub end: UploadEnd,
+}
+
+/// What a worker posts by: a pass to each shard's book, and the totals of the replies that it got.
+#[derive(Drop)]
+pub(crate) struct Posting {
+    pub(crate) passes: Vec<Pass>,
+    pub(crate) totals: Totals,
+}
+
+/// A worker's share of a service: the uploads that it drew, each with its end, the visits that it made for them, and the totals of
+/// the replies that it got. It keeps no entries.
+#[derive(Drop)]
+pub struct Share {
+    pub(crate) drawer: Drawer,
+    pub(crate) posting: Posting,
+    pub(crate) done: Vec<Done>,
+}
+
+impl Model for Share {
+    ghost use Rattle.fare_service.specs.Holdings.{Holding};
+
+    ghost Value = { Holding };
+
+    ghost use Rattle.shard_book.specs.Sums.{sums_of};
+
+    ghost view = { λ s. record { drawer = s.drawer; passes = s.posting.passes.items; totals = sums_of s.posting.totals; done = s.done.items } };
+}
+
+impl Share {
+    ghost use Rattle.shard_book.specs.Sums.{sums_of};
+
+    /// The totals of the replies that the share got.
+    pub fn sums(&self) -> Totals
+        ensures { sums_of result ≡ self.now.totals }
+    {
+        self.posting.totals
+    }
+}

@@ -1,0 +1,116 @@
+//! The text of a statement: a function for each line and for the list of lines.
+
+ghost use Rattle.std.specs.Prelude.{◌≡◌, ◌++◌, IfOk, OnOk, ◌<◌, length, List, ℕ, slice_get, Some, string_bytes};
+ghost use Rattle.fare_service.specs.Moments.{IsMomentText};
+ghost use Rattle.fare_service.specs.StatementText.{IsStatementText, IsWindowLine, IsLineOf, IsEntryLine, AreEntryLines, statement_head, entry_rest, window_rest, answer_text, mode_text};
+
+use crate::moment::write_moment;
+use crate::report::write_totals;
+use crate::shown::Digits;
+use account_rule::{Answer, WindowView};
+use fare_table::FareTable;
+use shard_book::{Entry, Lines, Statement, Token};
+use std::alloc::{AllocError, Global};
+
+/// The text of the statement, whole.
+pub(crate) fn statement_text(
+    alloc: Global,
+    table: &FareTable,
+    statement: &Statement,
+) -> Result<String, AllocError>
+    ensures { IfOk result (λ text. IsStatementText table.now statement.now (string_bytes text)) }
+{
+    let mut text = String::new(alloc);
+    write_head(&mut text, statement.token)?;
+    write_lines(&mut text, table, &statement.lines)?;
+    write_totals(&mut text, &statement.totals)?;
+    write_window(&mut text, statement.window)?;
+    Ok(text)
+}
+
+#[tactic(auto, unfolding(crate::specs::StatementText::statement_head))]
+fn write_head(text: &mut String, token: Token) -> Result<(), AllocError>
+    ensures { OnOk result (string_bytes text.new ≡ string_bytes text.old ++ statement_head token) }
+{
+    let digits = Digits(token);
+    writeln!(text, "statement {digits}")
+}
+
+fn write_lines(text: &mut String, table: &FareTable, lines: &Lines) -> Result<(), AllocError>
+    ensures { OnOk result ((written : List ℕ) × AreEntryLines table.now lines.now written × (string_bytes text.new ≡ string_bytes text.old ++ written)) }
+{
+    for place in 0..lines.len() {
+        write_entry(text, table, lines.get(place))?;
+    }
+    Ok(())
+}
+
+fn write_entry(text: &mut String, table: &FareTable, entry: &Entry) -> Result<(), AllocError>
+    ensures { OnOk result ((line : List ℕ) × IsEntryLine table.now entry.now line × (string_bytes text.new ≡ string_bytes text.old ++ line)) }
+{
+    write_moment(text, entry.moment)?;
+    write_entry_rest(text, table, entry)?;
+    Ok(())
+}
+
+#[tactic(auto, unfolding(crate::specs::StatementText::entry_rest))]
+fn write_entry_rest(text: &mut String, table: &FareTable, entry: &Entry) -> Result<(), AllocError>
+    ensures { OnOk result (string_bytes text.new ≡ string_bytes text.old ++ entry_rest table.now entry.now) }
+{
+    let mode = mode_name(table, entry.validator);
+    let validator = entry.validator;
+    let answer = answer_name(entry.answer);
+    let cents = entry.cents;
+    writeln!(text, " {mode} {validator} {answer} {cents}")
+}
+
+/// The name of the validator's mode, or `-` where the table does not know the validator.
+fn mode_name(table: &FareTable, validator: u32) -> &str
+    ensures { result.now ≡ mode_text table.now validator }
+{
+    match table.mode_of(validator) {
+        Some(mode) => table.mode_name(mode),
+        None => "-",
+    }
+}
+
+fn answer_name(answer: Answer) -> &'static str
+    ensures { result.now ≡ answer_text answer }
+{
+    match answer {
+        Answer::Paid => "paid",
+        Answer::Transfer => "transfer",
+        Answer::Capped => "capped",
+        Answer::Stale => "stale",
+        Answer::Unknown => "unknown",
+    }
+}
+
+fn write_window(text: &mut String, window: Option<WindowView>) -> Result<(), AllocError>
+    ensures { OnOk result ((line : List ℕ) × IsWindowLine window line × (string_bytes text.new ≡ string_bytes text.old ++ line)) }
+{
+    match window {
+        Some(window) => write_last_window(text, window),
+        None => text.push_str("window none\n"),
+    }
+}
+
+fn write_last_window(text: &mut String, window: WindowView) -> Result<(), AllocError>
+    ensures { OnOk result ((line : List ℕ) × IsLineOf window line × (string_bytes text.new ≡ string_bytes text.old ++ line)) }
+{
+    text.push_str("window ")?;
+    write_moment(text, window.start)?;
+    text.push_str(" ")?;
+    write_moment(text, window.until)?;
+    write_window_rest(text, window)?;
+    Ok(())
+}
+
+#[tactic(auto, unfolding(crate::specs::StatementText::window_rest))]
+fn write_window_rest(text: &mut String, window: WindowView) -> Result<(), AllocError>
+    ensures { OnOk result (string_bytes text.new ≡ string_bytes text.old ++ window_rest window) }
+{
+    let paid = window.paid;
+    let cents = window.cents;
+    writeln!(text, " paid {paid} cents {cents}")
+}

@@ -1,0 +1,264 @@
+//! The work of one thread: it draws uploads and posts their batches, run by run.
+
+ghost use Rattle.std.specs.Prelude.{◌≡◌, ℕ, ◌+◌, ◌*◌, ◌^◌, ◌<◌, ◌≤◌, List, length, OnOk, IfOk, is_ok, is_some, map};
+ghost use Rattle.shard_book.specs.Sums.{sums_of, sums_of_replies, add_sums};
+ghost use Rattle.fare_service.specs.Ends.{end_by};
+
+use crate::service::Service;
+use crate::share::{Done, Posting, Share};
+use crate::upload_end::UploadEnd;
+use fare_table::{Clock, NoMemory};
+use shard_book::{Ends, Replies, RunEnd, Totals};
+use shared_books::Full;
+use std::alloc::Global;
+use std::sync::Wait;
+use tap_views::{Batch, LayoutFault, batches};
+
+/// Where workers tell that they begin an upload and that they are done with it.
+pub trait Gate {
+    /// The upload was drawn, and nothing of it is posted yet.
+    fn before(&self, upload: u32);
+
+    /// Nothing more of the upload will be posted.
+    fn after(&self, upload: u32);
+}
+
+/// What a worker makes once: its clock, and the buffers that it keeps from run to run.
+#[derive(Drop)]
+pub(crate) struct Buffers {
+    pub(crate) clock: Clock,
+    pub(crate) replies: Replies,
+    pub(crate) ends: Ends,
+}
+
+/// Why an upload ends before its last run.
+#[derive(Clone, Copy, Debug, PartialEq, Eq)]
+pub(crate) enum Stop {
+    /// Memory was refused.
+    Memory,
+    /// A shard takes no more visits.
+    Full,
+}
+
+impl From<NoMemory> for Stop {
+    fn from(_: NoMemory) -> Self {
+        Stop::Memory
+    }
+}
+
+impl From<Full> for Stop {
+    fn from(_: Full) -> Self {
+        Stop::Full
+    }
+}
+
+/// Counts the replies.
+fn count(totals: &mut Totals, replies: &Replies)
+    requires { totals.old.taps + length replies.now.items ≤ 2 ^ 95 }
+    ensures { sums_of totals.new ≡ add_sums (sums_of totals.old) (sums_of_replies replies.now.items) }
+{
+    for place in 0..replies.len() {
+        totals.add(replies.get(place));
+    }
+}
+
+/// The end of an upload whose batches before its fault, if it has one, were posted whole.
+fn end_of(taps: u64, found: Option<(u64, LayoutFault)>) -> UploadEnd
+    ensures { result ≡ end_by taps found }
+{
+    match found {
+        None => UploadEnd::Posted { taps },
+        Some((offset, fault)) => UploadEnd::Refused {
+            taps,
+            offset,
+            fault,
+        },
+    }
+}
+
+/// How many bytes the file has.
+fn bytes_in(file: &[u8]) -> usize
+    ensures { result ≡ length file.now }
+{
+    file.len()
+}
+
+impl<'a> Service<'a> {
+    ghost use Rattle.fare_service.specs.Halls.{shards_of};
+    ghost use Rattle.tap_views.specs.Layout.{Tap};
+    ghost use Rattle.tap_views.specs.Files.{IsFile};
+    ghost use Rattle.fare_service.specs.Runs.{Visit, WerePosted, if_any, of_shard, placed_from, runs_below, runs_of};
+    ghost use Rattle.fare_service.specs.Shares.{Made, books_of, IsFaultOf, IsShareOf, IsWorked, WentOn, worked};
+
+    /// Posts a run, if it has a tap. Memory is taken, and the limits of windows are made, before the turn.
+    fn post_run<R: Wait>(
+        &self,
+        rt: &R,
+        posting: &mut Posting,
+        buffers: &mut Buffers,
+        batch: &Batch,
+        shard: u32,
+    ) -> Result<(), Stop>
+        requires shard { shard < shards_of self.now }
+        requires passes { books_of posting.old.passes.items ≡ self.now.books }
+        requires clock { buffers.old.clock ≡ self.now.table.zone }
+        requires room { posting.old.totals.taps + 4096 ≤ 2 ^ 95 }
+        ensures made { (place : ℕ) → (more : List Visit) × Made (shards_of self.now) posting.old.passes.items posting.new.passes.items (sums_of posting.old.totals) (sums_of posting.new.totals) more
+            × WerePosted (if_any shard (of_shard shard (shards_of self.now) (placed_from place batch.now))) (is_ok result) more }
+        ensures clock { buffers.new.clock ≡ buffers.old.clock }
+        ensures few { posting.new.totals.taps ≤ posting.old.totals.taps + 4096 }
+    {
+        let run = batch.run_of(shard, self.shards());
+        let len = run.len();
+        if len == 0 {
+            return Ok(());
+        }
+        buffers.replies.clear();
+        buffers.replies.reserve(len)?;
+        buffers.ends.fill(&buffers.clock, &run)?;
+        let visit = self.books[shard as usize].visit(
+            rt,
+            &mut posting.passes[shard as usize],
+            &run,
+            &buffers.ends,
+            &mut buffers.replies,
+        )?;
+        count(&mut posting.totals, &buffers.replies);
+        match visit.how {
+            RunEnd::Whole => Ok(()),
+            RunEnd::Cut { posted: _ } => Err(Stop::Memory),
+        }
+    }
+
+    /// Posts the runs of a batch, by rising shard.
+    fn post_batch<R: Wait>(
+        &self,
+        rt: &R,
+        posting: &mut Posting,
+        buffers: &mut Buffers,
+        batch: &Batch,
+    ) -> Result<(), Stop>
+        requires passes { books_of posting.old.passes.items ≡ self.now.books }
+        requires clock { buffers.old.clock ≡ self.now.table.zone }
+        requires room { posting.old.totals.taps + 2 ^ 18 ≤ 2 ^ 95 }
+        ensures made { (place : ℕ) → (more : List Visit) × Made (shards_of self.now) posting.old.passes.items posting.new.passes.items (sums_of posting.old.totals) (sums_of posting.new.totals) more
+            × WerePosted (runs_below (shards_of self.now) (shards_of self.now) (placed_from place batch.now)) (is_ok result) more }
+        ensures clock { buffers.new.clock ≡ buffers.old.clock }
+    {
+        for shard in 0..self.shards() {
+            self.post_run(rt, posting, buffers, batch, shard)?;
+        }
+        Ok(())
+    }
+
+    /// Posts the batches of an upload before its first layout fault, and answers that fault with the offset of its batch.
+    fn post_batches<R: Wait>(
+        &self,
+        rt: &R,
+        posting: &mut Posting,
+        buffers: &mut Buffers,
+        file: &[u8],
+    ) -> Result<Option<(u64, LayoutFault)>, Stop>
+        requires passes { books_of posting.old.passes.items ≡ self.now.books }
+        requires clock { buffers.old.clock ≡ self.now.table.zone }
+        requires room { posting.old.totals.taps + 2 ^ 60 ≤ 2 ^ 94 }
+        ensures made { (batches : List (List Tap)) × (rest : List ℕ) × IsFile file.now batches rest
+            × ((more : List Visit) × Made (shards_of self.now) posting.old.passes.items posting.new.passes.items (sums_of posting.old.totals) (sums_of posting.new.totals) more
+            × WerePosted (runs_of (shards_of self.now) 0 batches) (is_ok result) more)
+            × IfOk result (IsFaultOf file.now rest) }
+        ensures clock { buffers.new.clock ≡ buffers.old.clock }
+        ensures few { posting.new.totals.taps ≤ posting.old.totals.taps + 2 ^ 60 }
+    {
+        // a file has fewer than 2^64 bytes, so that the counts of its taps fit
+        let _bytes = bytes_in(file);
+        for item in batches(file) {
+            match item {
+                Ok(batch) => self.post_batch(rt, posting, buffers, &batch)?,
+                Err(fault) => return Ok(Some(fault)),
+            }
+        }
+        Ok(None)
+    }
+
+    /// Posts an upload. Tells how it ended, and whether the worker may go on.
+    fn post_upload<R: Wait>(
+        &self,
+        rt: &R,
+        posting: &mut Posting,
+        buffers: &mut Buffers,
+        upload: u32,
+    ) -> (UploadEnd, bool)
+        requires upload { upload < length self.now.uploads }
+        requires passes { books_of posting.old.passes.items ≡ self.now.books }
+        requires clock { buffers.old.clock ≡ self.now.table.zone }
+        requires room { posting.old.totals.taps + 2 ^ 60 ≤ 2 ^ 94 }
+        ensures worked { (visits : List Visit) × Made (shards_of self.now) posting.old.passes.items posting.new.passes.items (sums_of posting.old.totals) (sums_of posting.new.totals) visits
+            × IsWorked self.now (worked upload result.0 visits) }
+        ensures clock { buffers.new.clock ≡ buffers.old.clock }
+        ensures few { posting.new.totals.taps ≤ posting.old.totals.taps + 2 ^ 60 }
+    {
+        let before = posting.totals.taps;
+        let file = self.uploads[upload as usize].as_slice();
+        let posted = self.post_batches(rt, posting, buffers, file);
+        let taps = (posting.totals.taps - before) as u64;
+        match posted {
+            Ok(found) => (end_of(taps, found), true),
+            Err(stop) => (UploadEnd::Cut { taps }, stop == Stop::Full),
+        }
+    }
+
+    /// Draws an upload and posts it, after room was taken for its result. Tells whether the worker may go on.
+    fn next_upload<R: Wait, G: Gate>(
+        &self,
+        rt: &R,
+        share: &mut Share,
+        buffers: &mut Buffers,
+        gate: &G,
+    ) -> bool
+        requires share { IsShareOf self.now share.old }
+        requires clock { buffers.old.clock ≡ self.now.table.zone }
+        ensures share { IsShareOf self.now share.new }
+        ensures went_on { WentOn self.now share.old share.new }
+        ensures clock { buffers.new.clock ≡ buffers.old.clock }
+    {
+        if share.done.reserve(1).is_err() {
+            return false;
+        }
+        // it holds fewer than 2^32 uploads, so that the totals have room
+        let _held = share.drawer.held();
+        let Some(upload) = self.draw.draw(&mut share.drawer) else {
+            return false;
+        };
+        gate.before(upload);
+        let (end, goes_on) = self.post_upload(rt, &mut share.posting, buffers, upload);
+        gate.after(upload);
+        share.done.push_reserved(Done { upload, end });
+        goes_on
+    }
+
+    /// Draws uploads and posts their batches, until all are drawn or memory is refused. A refusal after the draw ends that upload as
+    /// cut. Where a shard takes no more visits the upload ends as cut, and the work goes on.
+    ///
+    /// Gives the share back with the uploads that it drew, the visits that it made and the totals of their replies. It waits for
+    /// turns at the shards' books.
+    pub fn work<R: Wait, G: Gate>(&self, rt: &R, alloc: Global, mut share: Share, gate: &G) -> Share
+        requires { IsShareOf self.now share }
+        ensures share { IsShareOf self.now result }
+        ensures went_on { WentOn self.now share result }
+    {
+        let Ok(clock) = self.table.clock(alloc) else {
+            return share;
+        };
+        let mut buffers = Buffers {
+            clock,
+            replies: Replies::new(alloc),
+            ends: Ends::new(alloc),
+        };
+        for _ in rt.forever() {
+            if !self.next_upload(rt, &mut share, &mut buffers, gate) {
+                break;
+            }
+        }
+        share
+    }
+}
