@@ -1,10 +1,9 @@
 # make run     the main job on the example data, its text on the terminal
 # make test    everything that must pass: what must not compile, then the proofs, the must-fail edits, the tests and the stored runs
-# make bench   speed and memory beside a peer in plain Rust
 #
-# Nothing but the toolchain (rt), make, bash and, for make bench, rustc and python3 is needed.
+# Nothing but the toolchain (rt), make and bash is needed.
 
-.PHONY: run test bench
+.PHONY: run test
 
 run:
 	@scripts/run_example
@@ -12,6 +11,3 @@ run:
 test:
 	scripts/must_not_compile
 	rt ci
-
-bench:
-	bench/run
