@@ -9,7 +9,7 @@ use Rattle.jiff_fmt.specs.Text.{date_text, pad2}
 abbrev pub pad3 : ℕ → List ℕ
 pad3 n = (48 + n / 100) ∷ pad2 (n % 100)
 
--- the time of day that is so many milliseconds after midnight, as `T17:30:05.250Z`
+-- the time of day that is so many milliseconds after midnight, as 17:30:05.250 between `T` and `Z`
 abbrev pub clock_text : ℕ → List ℕ
 clock_text ms =
     codes "T" ++ (pad2 (ms / 3_600_000) ++ (codes ":" ++ (pad2 (ms / 60_000 % 60) ++ (codes ":"
