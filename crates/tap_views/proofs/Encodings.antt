@@ -1,12 +1,14 @@
 -- What is written is a batch of the grammar, and reads as the fields that it was written from.
-use Rattle.std.proofs.Common.{◌≡◌, ℕ, suc, ◌+◌, ◌^◌, ◌<◌, ◌≤◌, List, [], ◌∷◌, ◌++◌, length, get_or, take, map, flat_map, refl, sym, ap, subst, ◌∙◌, arith}
+use Rattle.std.proofs.Common.{◌≡◌, ℕ, suc, ◌+◌, ◌^◌, ◌<◌, ◌≤◌, List, [], ◌∷◌, ◌++◌, length, get_or, take, map, flat_map, Result, Ok, Err, MatchResult, refl, sym, ap, subst, ◌∙◌, arith}
 use Rattle.std.specs.Prelude.{All}
 use Rattle.std.specs.List.{AllByRecursion}
 use Rattle.std.proofs.lemmas.List.{flat_map_more, length-map, take_more}
 use Rattle.byteorder.specs.Endian.{big_bytes, big_number}
 use Rattle.byteorder.specs.Numbers.{big_number-reads_back}
-use Rattle.tap_views.specs.Layout.{num, moment_limit, IsTap, Tap1, Tap2, IsTapOf, magic, spelling}
-use Rattle.tap_views.specs.Encoding.{fields_of, fields_2_of, Encodes, Encodes2, AreEarly, written, written_2, IsFields, IsFields2}
+use Rattle.std.specs.Borrow.{Bor}
+use Rattle.tap_views.specs.Layout.{num, moment_limit, Tap, IsTap, Tap1, Tap2, IsTapOf, magic, spelling}
+use Rattle.tap_views.specs.declared.fault.LayoutFault.{LayoutFault}
+use Rattle.tap_views.specs.Encoding.{fields_of, fields_2_of, with_validator, Encodes, Encodes2, AreEarly, written, written_2, IsFields, IsFields2}
 use Rattle.tap_views.specs.declared.encoder.TapFields.{TapFields}
 use Rattle.tap_views.specs.declared.encoder.Tap2Fields.{Tap2Fields}
 
@@ -133,3 +135,21 @@ encodes_2 validator fields bytes small most early are is =
       number = num-bytes_4 validator small;
       read = written_all.read;
     }
+
+-- ---- what was encoded is read again
+-- an answer of some taps is one of their fields
+pub fields_read : (result : Result (List Tap × Bor (List ℕ)) LayoutFault) (taps : List Tap) (rest : List ℕ) (fields : List TapFields)
+    → map fields_of taps ≡ fields
+    → MatchResult result (λ answer. (answer.0 ≡ taps) × (answer.1.now ≡ rest)) (λ _. ⊥)
+    → MatchResult result (λ answer. (map fields_of answer.0 ≡ fields) × (answer.1.now ≡ rest)) (λ _. ⊥)
+fields_read (Ok answer) taps rest fields read is = (ap (map fields_of) is.0 ∙ read, is.1)
+fields_read (Err fault) taps rest fields read is = is
+
+-- taps of a batch with one validator have it among their fields
+pub fields_shared : (bytes : List ℕ) (validator : ℕ) (taps : List Tap) → num bytes ≡ validator → AllByRecursion (IsTapOf (Tap2 bytes)) taps
+    → map fields_of taps ≡ map (with_validator validator) (map fields_2_of taps)
+fields_shared bytes validator [] number each = refl
+fields_shared bytes validator (tap ∷ taps) number each =
+    let same : num tap.validator ≡ validator = ap num each.0.1 ∙ number in
+    let more = fields_shared bytes validator taps number each.1 in
+    rw (same, more) refl

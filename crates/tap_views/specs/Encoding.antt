@@ -28,6 +28,10 @@ pub record Encodes2 (bytes : List ℕ) (validator : ℕ) (fields : List Tap2Fiel
   pub number : num written ≡ validator
   pub read : map fields_2_of taps ≡ fields
 
+-- the fields of a tap that was written with the validator of its whole batch
+abbrev pub with_validator : ℕ → Tap2Fields → TapFields
+with_validator validator fields = record { token = fields.token; validator = validator; moment = fields.moment }
+
 module _ {Fields : Type 0} (moment : Fields → ℕ) (taps : List Fields) where
   -- every moment is below the limit
   abbrev pub AreEarly : Type 0

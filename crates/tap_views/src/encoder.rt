@@ -57,7 +57,8 @@ impl From<AllocError> for EncodeFault {
     }
 }
 
-/// The `TAP1` batch of these taps.
+/// The `TAP1` batch of these taps. With any bytes behind it, `Batch::first` reads these taps again and leaves those
+/// bytes: `laws::round_trip`.
 pub fn encode(alloc: Global, taps: &[TapFields]) -> Result<Vec<u8>, EncodeFault>
     ensures batch { IfOk result (λ bytes. Encodes bytes.items taps.now) }
     ensures sound { OnOk result (AreEncodable (λ tap. tap.moment) taps.now) }
@@ -67,7 +68,8 @@ pub fn encode(alloc: Global, taps: &[TapFields]) -> Result<Vec<u8>, EncodeFault>
     Ok(write(alloc, taps)?)
 }
 
-/// The `TAP2` batch of these taps, which share this validator.
+/// The `TAP2` batch of these taps, which share this validator. With any bytes behind it, `Batch::first` reads these
+/// taps again and leaves those bytes: `laws::round_trip`.
 pub fn encode_tap2(
     alloc: Global,
     validator: u32,
