@@ -180,6 +180,7 @@ mod tests {
             cut.fill(&batch);
             for shard in 0..8 {
                 let run = cut.run(&batch, shard);
+                assert_eq!(rt; digits_of(&run), digits_of(&batch.run_of(shard, 8)));
                 if run.len() > 0 {
                     told.push(digits_of(&run))?;
                 }

@@ -286,6 +286,18 @@ fn encoding(rt: HostRuntime) -> Result<(), Fail> {
 }
 
 #[test]
+fn encoded_taps_are_read_before_any_bytes(rt: HostRuntime) -> Result<(), Fail> {
+    let file = joined(&FIRST, &SHARED);
+    let (batch, behind) = laws::round_trip(&file)?;
+    assert_eq!(rt; batch.len(), 2);
+    assert!(rt; behind == &SHARED[..]);
+    let (batch, behind) = laws::round_trip(behind)?;
+    assert_eq!(rt; batch.len(), 1);
+    assert!(rt; behind.is_empty());
+    Ok(())
+}
+
+#[test]
 fn encoding_with_one_validator(rt: HostRuntime) -> Result<(), Fail> {
     let TapFields { token, moment, .. } = fields(0xa1, 1_000, NOON);
     let tap = Tap2Fields { token, moment };
