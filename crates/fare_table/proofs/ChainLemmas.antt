@@ -1,5 +1,5 @@
 -- Ranges that rise and stand apart.
-use Rattle.std.proofs.Common.{◌≡◌, ◌⊎◌, ℕ, ◌+◌, ◌-◌, ◌*◌, ◌/◌, ◌<◌, ◌≤◌, ◌&&◌, Bool, true, false, List, [], ◌∷◌, length, get_or, refl, sym, ◌∙◌, arith, zero, suc, take, Option, Some, None, cond, inl, inr, add-one, IfSome}
+use Rattle.std.proofs.Common.{◌≡◌, ◌⊎◌, ℕ, ◌+◌, ◌-◌, ◌/◌, ◌<◌, ◌≤◌, ◌&&◌, Bool, true, false, List, [], ◌∷◌, length, get_or, refl, sym, ◌∙◌, arith, zero, suc, take, Option, Some, None, cond, inl, inr, add-one, IfSome}
 use Rattle.std.proofs.lemmas.Bool.{and_parts, cases_Bool, false≢true, leb-true}
 use Rattle.std.proofs.lemmas.List.{get_or_default}
 use Rattle.std.proofs.lemmas.List.Sorted.{IsNonDecreasingBy-from_all_adjacent, IsPartitionedBy-leb}
@@ -110,7 +110,7 @@ parted n ranges chain = IsPartitionedBy-leb (λ range. range.0) ranges n (chain-
 
 halved : (n : ℕ) (ranges : List (ℕ × Span)) (base size : ℕ) (d : ℕ × Span) → is_chain ranges ≡ true → IsSplit n ranges base size → 1 < size → base + size ≤ length ranges
     → (b : Bool) → nat_le (get_or ranges (base + size / 2) d).0 n ≡ b
-    → IsSplit n ranges (base + size / 2 * (if b then 1 else 0)) (size - size / 2)
+    → IsSplit n ranges (base + (if b then size / 2 else 0)) (size - size / 2)
 halved n ranges base size d chain split more inside true is = record {
   front = λ k e low high.
       let same : get_or ranges (base + size / 2) d ≡ get_or ranges (base + size / 2) e = get_or_default ranges (base + size / 2) d e (omega arith) in
@@ -131,5 +131,5 @@ halved n ranges base size d chain split more inside false is = record {
 
 -- half of what is left is taken where its first range has begun
 pub split-half : (n : ℕ) (ranges : List (ℕ × Span)) (base size : ℕ) (d : ℕ × Span) → is_chain ranges ≡ true → IsSplit n ranges base size → 1 < size → base + size ≤ length ranges
-    → IsSplit n ranges (base + size / 2 * (if nat_le (get_or ranges (base + size / 2) d).0 n then 1 else 0)) (size - size / 2)
+    → IsSplit n ranges (base + (if nat_le (get_or ranges (base + size / 2) d).0 n then size / 2 else 0)) (size - size / 2)
 split-half n ranges base size d chain split more inside = halved n ranges base size d chain split more inside (nat_le (get_or ranges (base + size / 2) d).0 n) refl

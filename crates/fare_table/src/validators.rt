@@ -47,8 +47,8 @@ fn last_begun(ranges: &[(u32, Span)], number: u32) -> Option<&(u32, Span)>
 }
 
 // How many ranges begin at the number or before it, found by halves. Each half is taken or left by a
-// multiplication and not by a branch, since a processor that guesses wrongly at every second step
-// makes the search three times as slow.
+// mask and not by a branch, since a processor that guesses wrongly at every second step makes the
+// search three times as slow.
 fn begun(ranges: &[(u32, Span)], number: u32) -> usize
     requires { is_chain ranges.now ≡ true }
     ensures bound { result ≤ length ranges.now }
@@ -61,18 +61,19 @@ fn begun(ranges: &[(u32, Span)], number: u32) -> usize
     let mut size = ranges.len();
     while size > 1 {
         let half = size / 2;
-        base += half * one_if_begun(ranges[base + half].0, number);
+        base += taken_if_begun(half, ranges[base + half].0, number);
         size -= half;
     }
-    base + one_if_begun(ranges[base].0, number)
+    base + taken_if_begun(1, ranges[base].0, number)
 }
 
-// 1 for a first number that is not above the number, else 0: the carry of their difference. A
-// comparison in its place would be compiled to a branch again.
-fn one_if_begun(first: u32, number: u32) -> usize
-    ensures { result ≡ (if nat_le first number then 1 else 0) }
+// The places, where the first number is not above the number, else 0. The carry of the difference
+// makes the mask: a comparison in its place would be compiled to a branch again.
+fn taken_if_begun(places: usize, first: u32, number: u32) -> usize
+    ensures { result ≡ (if nat_le first number then places else 0) }
 {
-    ((u64::from(number) + 0x1_0000_0000 - u64::from(first)) >> 32) as usize
+    let carry = (u64::from(number) + 0x1_0000_0000 - u64::from(first)) >> 32;
+    places & carry.wrapping_neg() as usize
 }
 
 /// The ranges of the text by their first numbers, rising.
