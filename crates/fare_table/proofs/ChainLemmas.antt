@@ -1,7 +1,7 @@
 -- Ranges that rise and stand apart.
-use Rattle.std.proofs.Common.{◌≡◌, ◌⊎◌, ℕ, ◌+◌, ◌-◌, ◌*◌, ◌/◌, ◌<◌, ◌≤◌, ◌&&◌, Bool, true, false, List, [], ◌∷◌, length, get_or, refl, sym, ◌∙◌, arith, zero, suc, take, Option, Some, None, cond, inl, inr, add-one, IfSome}
+use Rattle.std.proofs.Common.{◌≡◌, ◌⊎◌, ℕ, ◌+◌, ◌-◌, ◌/◌, ◌<◌, ◌≤◌, ◌&&◌, Bool, true, false, List, [], ◌∷◌, length, map, get_or, refl, sym, ◌∙◌, arith, zero, suc, take, Option, Some, None, cond, inl, inr, add-one, IfSome}
 use Rattle.std.proofs.lemmas.Bool.{and_parts, cases_Bool, false≢true, leb-true}
-use Rattle.std.proofs.lemmas.List.{get_or_default}
+use Rattle.std.proofs.lemmas.List.{get_or_default, get_or-map}
 use Rattle.std.proofs.lemmas.List.Sorted.{IsNonDecreasingBy-from_all_adjacent, IsPartitionedBy-leb}
 use Rattle.std.proofs.lemmas.Option.{slice_get-get_or}
 use Rattle.std.proofs.lemmas.Bool.Decides.{leb_tells, nat_tests}
@@ -10,7 +10,7 @@ use Rattle.std.specs.List.Sorted.{IsNonDecreasingBy, IsPartitionedBy}
 use Rattle.std.specs.Option.{option_or}
 use Rattle.std.specs.Prelude.{nat_le, nat_lt, if◌then◌else◌}
 use Rattle.fare_table.specs.Fares.{has_number}
-use Rattle.fare_table.specs.Validators.{is_chain, last_begun, IsSplit}
+use Rattle.fare_table.specs.Validators.{is_chain, is_rising, last_begun, IsSplit}
 use Rattle.fare_table.specs.declared.validators.Span.{Span}
 
 -- the range, where it reaches the number
@@ -82,17 +82,41 @@ last_begun-split n (r ∷ rest) (suc i) front back =
     let ih = last_begun-split n rest i (λ k d low high. front (suc k) d (omega arith) (omega arith)) (λ k d low high. back (suc k) d (omega arith) (omega arith)) in
     rw (last_of_cons r (take i rest), ih, before)
 
-chain_adjacent : (ranges : List (ℕ × Span)) → is_chain ranges ≡ true → (k : ℕ) (d : ℕ × Span) → suc k < length ranges → (get_or ranges k d).0 ≤ (get_or ranges (suc k) d).0
-chain_adjacent [] chain k d inside = absurd (omega arith)
-chain_adjacent (r ∷ []) chain k d inside = absurd (omega arith)
-chain_adjacent (r ∷ s ∷ more) chain zero d inside = let two = apart r s more chain in omega (arith, two.begins, two.ends)
-chain_adjacent (r ∷ s ∷ more) chain (suc k) d inside = chain_adjacent (s ∷ more) (apart r s more chain).rest k d (omega arith)
+-- the first numbers of a chain rise
+pub chain-rises : (ranges : List (ℕ × Span)) → is_chain ranges ≡ true → is_rising (map (λ range. range.0) ranges) ≡ true
+chain-rises [] chain = refl
+chain-rises (r ∷ []) chain = refl
+chain-rises (r ∷ s ∷ more) chain =
+    let two = apart r s more chain in
+    let below : nat_lt r.0 s.0 ≡ true = grind (arith, nat_tests, two.begins, two.ends) in
+    rw (below, chain-rises (s ∷ more) two.rest)
 
--- first numbers rise
-pub chain-rises : (ranges : List (ℕ × Span)) → is_chain ranges ≡ true → IsNonDecreasingBy (λ range. range.0) ranges
-chain-rises ranges chain =
-    IsNonDecreasingBy-from_all_adjacent (λ range. range.0) ranges
-    (λ k d inside. rw add-one (chain_adjacent ranges chain k d (omega arith)))
+rising_adjacent : (firsts : List ℕ) → is_rising firsts ≡ true → (k d : ℕ) → suc k < length firsts → get_or firsts k d < get_or firsts (suc k) d
+rising_adjacent [] rising k d inside = absurd (omega arith)
+rising_adjacent (x ∷ []) rising k d inside = absurd (omega arith)
+rising_adjacent (x ∷ y ∷ more) rising zero d inside = leb-true _ _ (and_parts (nat_lt x y) (is_rising (y ∷ more)) rising).0
+rising_adjacent (x ∷ y ∷ more) rising (suc k) d inside =
+    rising_adjacent (y ∷ more) (and_parts (nat_lt x y) (is_rising (y ∷ more)) rising).1 k d (omega arith)
+
+rises : (firsts : List ℕ) → is_rising firsts ≡ true → IsNonDecreasingBy (λ first. first) firsts
+rises firsts rising =
+    IsNonDecreasingBy-from_all_adjacent (λ first. first) firsts
+    (λ k d inside. rw add-one (let below = rising_adjacent firsts rising k d (omega arith) in omega (arith, below)))
+
+-- rising numbers are not below their places
+pub rising-reaches : (firsts : List ℕ) → is_rising firsts ≡ true → (k d : ℕ) → k < length firsts → k ≤ get_or firsts k d
+rising-reaches firsts rising zero d inside = omega arith
+rising-reaches firsts rising (suc k) d inside =
+    let below = rising_adjacent firsts rising k d inside in
+    let reached = rising-reaches firsts rising k d (omega arith) in
+    omega (arith, below, reached)
+
+-- what holds of first numbers holds of the ranges' first numbers
+pub within-firsts : (n : ℕ) (b : Bool) (ranges : List (ℕ × Span)) (i j : ℕ) → j ≤ length ranges
+    → AllWithin (λ first. nat_le first n ≡ b) (map (λ range. range.0) ranges) i j → AllWithin (λ range. nat_le range.0 n ≡ b) ranges i j
+within-firsts n b ranges i j inside all = λ k d low high.
+    let here : nat_le (get_or (map (λ (range : ℕ × Span). range.0) ranges) k d.0) n ≡ b = all k d.0 low high in
+    rw (get_or-map (λ (range : ℕ × Span). range.0) ranges k d d.0 (omega arith)) at here
 
 found_one : {A : Type 0} (p q : A → Bool) (x : A) (xs : List A) (b : Bool) → p x ≡ true → IfSome (find q xs) (λ y. p y ≡ true) → IfSome (cond b (Some x) (find q xs)) (λ y. p y ≡ true)
 found_one p q x xs true here later = here
@@ -105,31 +129,31 @@ find-all p q (x ∷ xs) all =
     let both = and_parts (p x) (list_all p xs) all in
     found_one p q x xs (q x) both.0 (find-all p q xs both.1)
 
-parted : (n : ℕ) (ranges : List (ℕ × Span)) → is_chain ranges ≡ true → IsPartitionedBy (λ range. nat_le range.0 n) ranges
-parted n ranges chain = IsPartitionedBy-leb (λ range. range.0) ranges n (chain-rises ranges chain)
+parted : (n : ℕ) (firsts : List ℕ) → is_rising firsts ≡ true → IsPartitionedBy (λ first. nat_le first n) firsts
+parted n firsts rising = IsPartitionedBy-leb (λ first. first) firsts n (rises firsts rising)
 
-halved : (n : ℕ) (ranges : List (ℕ × Span)) (base size : ℕ) (d : ℕ × Span) → is_chain ranges ≡ true → IsSplit n ranges base size → 1 < size → base + size ≤ length ranges
-    → (b : Bool) → nat_le (get_or ranges (base + size / 2) d).0 n ≡ b
-    → IsSplit n ranges (base + size / 2 * (if b then 1 else 0)) (size - size / 2)
-halved n ranges base size d chain split more inside true is = record {
+halved : (n : ℕ) (firsts : List ℕ) (base size : ℕ) (d : ℕ) → is_rising firsts ≡ true → IsSplit n firsts base size → 1 < size → base + size ≤ length firsts
+    → (b : Bool) → nat_le (get_or firsts (base + size / 2) d) n ≡ b
+    → IsSplit n firsts (base + (if b then size / 2 else 0)) (size - size / 2)
+halved n firsts base size d rising split more inside true is = record {
   front = λ k e low high.
-      let same : get_or ranges (base + size / 2) d ≡ get_or ranges (base + size / 2) e = get_or_default ranges (base + size / 2) d e (omega arith) in
-      let here : nat_le (get_or ranges (base + size / 2) e).0 n ≡ true = rw (← same) is in
-      parted n ranges chain k (base + size / 2) e (omega arith) (omega arith) here;
+      let same : get_or firsts (base + size / 2) d ≡ get_or firsts (base + size / 2) e = get_or_default firsts (base + size / 2) d e (omega arith) in
+      let here : nat_le (get_or firsts (base + size / 2) e) n ≡ true = rw (← same) is in
+      parted n firsts rising k (base + size / 2) e (omega arith) (omega arith) here;
   back = λ k e low high. split.back k e (omega arith) high;
 }
-halved n ranges base size d chain split more inside false is = record {
+halved n firsts base size d rising split more inside false is = record {
   front = λ k e low high. split.front k e low (omega arith);
   back = λ k e low high.
-      let same : get_or ranges (base + size / 2) d ≡ get_or ranges (base + size / 2) e = get_or_default ranges (base + size / 2) d e (omega arith) in
-      let here : nat_le (get_or ranges (base + size / 2) e).0 n ≡ false = rw (← same) is in
-      elim (cases_Bool (nat_le (get_or ranges k e).0 n)) [
-        | inl begun ↦ absurd (false≢true (sym here ∙ parted n ranges chain (base + size / 2) k e (omega arith) high begun))
+      let same : get_or firsts (base + size / 2) d ≡ get_or firsts (base + size / 2) e = get_or_default firsts (base + size / 2) d e (omega arith) in
+      let here : nat_le (get_or firsts (base + size / 2) e) n ≡ false = rw (← same) is in
+      elim (cases_Bool (nat_le (get_or firsts k e) n)) [
+        | inl begun ↦ absurd (false≢true (sym here ∙ parted n firsts rising (base + size / 2) k e (omega arith) high begun))
         | inr later ↦ later
       ];
 }
 
--- half of what is left is taken where its first range has begun
-pub split-half : (n : ℕ) (ranges : List (ℕ × Span)) (base size : ℕ) (d : ℕ × Span) → is_chain ranges ≡ true → IsSplit n ranges base size → 1 < size → base + size ≤ length ranges
-    → IsSplit n ranges (base + size / 2 * (if nat_le (get_or ranges (base + size / 2) d).0 n then 1 else 0)) (size - size / 2)
-split-half n ranges base size d chain split more inside = halved n ranges base size d chain split more inside (nat_le (get_or ranges (base + size / 2) d).0 n) refl
+-- half of what is left is taken where its first number is not above the number
+pub split-half : (n : ℕ) (firsts : List ℕ) (base size : ℕ) (d : ℕ) → is_rising firsts ≡ true → IsSplit n firsts base size → 1 < size → base + size ≤ length firsts
+    → IsSplit n firsts (base + (if nat_le (get_or firsts (base + size / 2) d) n then size / 2 else 0)) (size - size / 2)
+split-half n firsts base size d rising split more inside = halved n firsts base size d rising split more inside (nat_le (get_or firsts (base + size / 2) d) n) refl

@@ -1,14 +1,28 @@
--- What holds of the parts of every fare table.
-use Rattle.std.specs.Prelude.{◌≡◌, ◌≤◌, true, All, length}
+-- What holds of the parts of every fare table, and what contracts see of them.
+use Rattle.std.specs.Prelude.{◌≡◌, ◌≤◌, true, All, length, map, string_bytes}
 use Rattle.std.specs.Map.{values_of}
+use Rattle.fare_table.specs.Fares.{Fares}
 use Rattle.fare_table.specs.Terms.{HasLimits}
-use Rattle.fare_table.specs.declared.table.FareTable.TheInside.{Inside}
-use Rattle.fare_table.specs.Validators.{is_chain, are_modes_below}
+use Rattle.fare_table.specs.Zone.{zone_rule, zone_text}
+use Rattle.fare_table.specs.declared.table.Parts.{Parts}
+use Rattle.fare_table.specs.Validators.{are_modes_below}
 
--- at most 32 modes, ranges apart and rising, each of a mode of the table, and terms within their limits
-pub record IsSound (table : Inside) : Type 0 where
-  pub few : length table.modes.items ≤ 32
-  pub apart : is_chain table.ranges.items ≡ true
-  pub known : are_modes_below (length table.modes.items) table.ranges.items ≡ true
-  pub standard : HasLimits table.standard
-  pub riders : All HasLimits (values_of table.riders.entries)
+abbrev pub fares_of : Parts → Fares
+fares_of parts = record {
+  rules = record {
+    modes = map string_bytes parts.modes.items;
+    transfers = parts.transfers;
+    standard = parts.standard;
+    ranges = parts.ranges;
+    riders = parts.riders.entries;
+    zone = zone_text parts.zone;
+  };
+  zone = zone_rule parts.zone;
+}
+
+-- at most 32 modes, ranges of modes of the table, and terms within their limits
+pub record IsSound (parts : Parts) : Type 0 where
+  pub few : length parts.modes.items ≤ 32
+  pub known : are_modes_below (length parts.modes.items) parts.ranges ≡ true
+  pub standard : HasLimits parts.standard
+  pub riders : All HasLimits (values_of parts.riders.entries)

@@ -1,5 +1,5 @@
 -- The key `validators`: ranges of validators and their modes.
-use Rattle.std.specs.Prelude.{◌≡◌, ℕ, ◌+◌, ◌&&◌, Bool, true, false, List, [], ◌∷◌, Option, Some, None, Ok, Err, codes, length, nat_le, nat_lt, if◌then◌else◌}
+use Rattle.std.specs.Prelude.{◌≡◌, ℕ, ◌+◌, ◌&&◌, Bool, true, false, List, [], ◌∷◌, Option, Some, None, Ok, Err, codes, length, map, nat_le, nat_lt, if◌then◌else◌}
 use Rattle.std.specs.BTreeMap.{insert_entry}
 use Rattle.std.specs.List.{AllWithin, list_all, list_any}
 use Rattle.std.specs.Option.{option_or}
@@ -28,11 +28,21 @@ last_begun number [] = None
 last_begun number (range ∷ more) =
     if nat_le range.0 number then option_or (last_begun number more) (Some range) else None
 
--- each range before the index begins at the number or before it, and each range from `size` places
--- after the index on begins after it
-pub record IsSplit (number : ℕ) (ranges : List (ℕ × Span)) (index size : ℕ) : Type 0 where
-  pub front : AllWithin (λ range. nat_le range.0 number ≡ true) ranges 0 index
-  pub back : AllWithin (λ range. nat_le range.0 number ≡ false) ranges (index + size) (length ranges)
+-- each number is below the next one
+abbrev pub is_rising : List ℕ → Bool
+is_rising [] = true
+is_rising (first ∷ []) = true
+is_rising (first ∷ next ∷ more) = nat_lt first next && is_rising (next ∷ more)
+
+-- ranges that rise and stand apart, and their first numbers
+pub record AreSearchable (ranges : List (ℕ × Span)) (firsts : List ℕ) : Type 0 where
+  pub apart : is_chain ranges ≡ true
+  pub same : firsts ≡ map (λ range. range.0) ranges
+
+-- each number before the index is not above `number`, and each from `size` places after the index on is
+pub record IsSplit (number : ℕ) (firsts : List ℕ) (index size : ℕ) : Type 0 where
+  pub front : AllWithin (λ first. nat_le first number ≡ true) firsts 0 index
+  pub back : AllWithin (λ first. nat_le first number ≡ false) firsts (index + size) (length firsts)
 
 -- the two ranges have a validator in common
 abbrev pub share_number : ℕ × Span → ℕ × Span → Bool

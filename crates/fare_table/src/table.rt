@@ -18,49 +18,45 @@ use crate::modes::modes_of;
 use crate::riders::riders_of;
 use crate::terms::Terms;
 use crate::transfers::{Transfers, transfers_of};
-use crate::validators::{Span, range_at, ranges_of};
+use crate::validators::{Ranges, ranges_of};
 use crate::zone::{Zone, zone_of};
 use jiff::tz::TimeZone;
 use std::alloc::Global;
 use std::collections::BTreeMap;
 use std::marker::Model;
+use std::sync::Arc;
 use toml::Table;
 
 /// An agency's fare table. Look-ups take no memory; those of validators and riders are searches by
 /// halves, that of a transfer reads one bit.
 #[derive(Drop)]
 pub struct FareTable {
-    modes: Vec<String>,
-    transfers: Transfers,
-    standard: Terms,
-    // ranges by their first numbers, rising, so that a look-up is a search by halves
-    ranges: Vec<(u32, Span)>,
-    riders: BTreeMap<[u8; 16], Terms>,
-    zone: Option<Zone>,
+    // one for all clones, since each book has a clone and none changes it
+    parts: Arc<Parts>,
 }
 
 impl Model for FareTable {
-    ghost use Rattle.std.specs.Prelude.{map, string_bytes};
+    ghost use Rattle.std.specs.Arc.{arc_value};
     ghost use Rattle.fare_table.specs.Fares.{Fares};
-    ghost use Rattle.fare_table.specs.Zone.{zone_rule, zone_text};
 
     ghost Value = { Fares };
 
-    ghost use Rattle.fare_table.specs.Table.{IsSound};
+    ghost use Rattle.fare_table.specs.Table.{fares_of, IsSound};
 
-    ghost view = { λ t. record {
-      rules = record {
-        modes = map string_bytes t.modes.items;
-        transfers = t.transfers;
-        standard = t.standard;
-        ranges = t.ranges.items;
-        riders = t.riders.entries;
-        zone = zone_text t.zone;
-      };
-      zone = zone_rule t.zone;
-    } };
+    ghost view = { λ t. fares_of (arc_value t.parts) };
 
-    ghost invariant = { IsSound };
+    ghost invariant = { λ t. IsSound (arc_value t.parts) };
+}
+
+/// What a table and its clones share.
+#[derive(Drop)]
+struct Parts {
+    modes: Vec<String>,
+    transfers: Transfers,
+    standard: Terms,
+    ranges: Ranges,
+    riders: BTreeMap<[u8; 16], Terms>,
+    zone: Option<Zone>,
 }
 
 impl FareTable {
@@ -101,20 +97,16 @@ impl FareTable {
         ensures answers { IsOk result }
         ensures zone { IfOk result (λ c. c ≡ self.now.zone) }
     {
-        Ok(Clock::new(rule(&self.zone)))
+        Ok(Clock::new(rule(&self.parts.zone)))
     }
 
-    /// An equal table. `NoMemory` is answered where a growth is refused.
-    pub fn try_clone(&self, alloc: Global) -> Result<FareTable, NoMemory>
+    /// An equal table, which shares this one's memory. `NoMemory` is answered where it is shared too
+    /// often to be counted.
+    pub fn try_clone(&self, _alloc: Global) -> Result<FareTable, NoMemory>
         ensures { IfOk result (λ t. t ≡ self.now) }
     {
         Ok(FareTable {
-            modes: cloned_names(alloc, &self.modes)?,
-            transfers: self.transfers.try_clone(alloc)?,
-            standard: self.standard,
-            ranges: Vec::from_slice(alloc, &self.ranges)?,
-            riders: cloned_riders(&self.riders)?,
-            zone: cloned_zone(alloc, &self.zone)?,
+            parts: Arc::try_clone(&self.parts)?,
         })
     }
 
@@ -124,7 +116,7 @@ impl FareTable {
         ensures within { IfSome result (λ m. m.place < length self.now.rules.modes) }
         ensures few { length self.now.rules.modes ≤ 32 }
     {
-        let (_, span) = range_at(&self.ranges, validator)?;
+        let span = self.parts.ranges.at(validator)?;
         Some(Mode { place: span.mode })
     }
 
@@ -135,7 +127,7 @@ impl FareTable {
         requires to { to.place < length self.now.rules.modes }
         ensures { result ≡ is_permitted self.now from.place to.place }
     {
-        self.transfers.permits(from.place, to.place)
+        self.parts.transfers.permits(from.place, to.place)
     }
 
     /// The mode's name.
@@ -143,7 +135,7 @@ impl FareTable {
         requires { mode.place < length self.now.rules.modes }
         ensures { slice_get self.now.rules.modes mode.place ≡ Some result.now }
     {
-        self.modes[mode.place as usize].as_str()
+        self.parts.modes[mode.place as usize].as_str()
     }
 
     /// What the rider of a token pays: the terms of the rider's class, else of the default class.
@@ -154,9 +146,9 @@ impl FareTable {
     {
         let mut key = [0; 16];
         key.copy_from_slice(token);
-        match self.riders.get(&key) {
+        match self.parts.riders.get(&key) {
             Some(terms) => *terms,
-            None => self.standard,
+            None => self.parts.standard,
         }
     }
 }
@@ -174,40 +166,17 @@ fn table_of(alloc: Global, table: &Table) -> Result<FareTable, TableFault>
     let ranges = ranges_of(alloc, &modes, table)?;
     let riders = riders_of(alloc, classes, table)?;
     let zone = zone_of(alloc, table)?;
-    Ok(FareTable {
+    let parts = Parts {
         modes,
         transfers,
         standard,
         ranges,
         riders,
         zone,
+    };
+    Ok(FareTable {
+        parts: Arc::new(alloc, parts)?,
     })
-}
-
-fn cloned_zone(alloc: Global, zone: &Option<Zone>) -> Result<Option<Zone>, NoMemory>
-    ensures text { IfOk result (λ z. zone_text z ≡ zone_text zone.now) }
-    ensures rule { IfOk result (λ z. zone_rule z ≡ zone_rule zone.now) }
-{
-    match zone {
-        Some(zone) => Ok(Some(zone.try_clone(alloc)?)),
-        None => Ok(None),
-    }
-}
-
-fn cloned_names(alloc: Global, names: &[String]) -> Result<Vec<String>, NoMemory>
-    ensures { IfOk result (λ v. map string_bytes v.items ≡ map string_bytes names.now) }
-{
-    let mut copies = Vec::with_capacity(alloc, names.len())?;
-    for name in names {
-        copies.push(String::from_str(alloc, name.as_str())?)?;
-    }
-    Ok(copies)
-}
-
-fn cloned_riders(riders: &BTreeMap<[u8; 16], Terms>) -> Result<BTreeMap<[u8; 16], Terms>, NoMemory>
-    ensures { IfOk result (λ m. m.entries ≡ riders.now.entries) }
-{
-    Ok(riders.clone()?)
 }
 
 fn rule(zone: &Option<Zone>) -> Option<TimeZone<'static>>

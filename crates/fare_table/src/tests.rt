@@ -118,6 +118,24 @@ fn a_clone_answers_as_the_table(rt: HostRuntime) -> Result<(), Fail> {
     Ok(())
 }
 
+/// Compiles only where the value may be sent to and shared with other threads.
+fn shared<T: Send + Sync>(value: &T) -> &T {
+    value
+}
+
+#[test]
+fn clones_outlive_the_table(rt: HostRuntime) -> Result<(), Fail> {
+    let alloc = rt.alloc();
+    let table = FareTable::read(alloc, SAMPLE.as_bytes())?;
+    let first = table.try_clone(alloc)?;
+    let second = first.try_clone(alloc)?;
+    drop(table);
+    drop(first);
+    assert_eq!(rt; shared(&second).mode_of(1000), Some(SUBWAY));
+    assert_eq!(rt; second.terms_of(&token(0xd4)), REDUCED);
+    Ok(())
+}
+
 #[test]
 fn each_fault_is_named(rt: HostRuntime) -> Result<(), Fail> {
     let alloc = rt.alloc();

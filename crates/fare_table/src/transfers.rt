@@ -67,15 +67,6 @@ impl Transfers {
         }
         Ok(())
     }
-
-    pub fn try_clone(&self, alloc: Global) -> Result<Transfers, NoMemory>
-        ensures { IfOk result (λ t. t ≡ self.now) }
-    {
-        Ok(Transfers {
-            pairs: Vec::from_slice(alloc, &self.pairs)?,
-            masks: self.masks,
-        })
-    }
 }
 
 /// The pairs of places of modes that the text permits.

@@ -4,7 +4,7 @@ ghost use Rattle.std.specs.List.{list_any};
 ghost use Rattle.toml.specs.View.{view, array_view, table_view};
 ghost use Rattle.fare_table.specs.Fares.{range_at};
 ghost use Rattle.fare_table.specs.Outcome.{Answers};
-ghost use Rattle.fare_table.specs.Validators.{is_chain, are_modes_below, last_begun, share_number, IsSplit};
+ghost use Rattle.fare_table.specs.Validators.{is_chain, is_rising, are_modes_below, last_begun, share_number, AreSearchable, IsSplit};
 ghost use Rattle.fare_table.specs.Validators as spec;
 
 use crate::fault::{Key, NoMemory, TableFault};
@@ -12,6 +12,7 @@ use crate::members::{are_tables, array_at, number_at, text_at};
 use crate::modes::mode_named;
 use std::alloc::Global;
 use std::collections::BTreeMap;
+use std::marker::Model;
 use toml::value::Array;
 use toml::{Table, Value};
 
@@ -24,13 +25,56 @@ pub struct Span {
     pub mode: u8,
 }
 
-/// The range of a number.
+/// Ranges that rise and stand apart.
+#[derive(Drop)]
+pub struct Ranges {
+    ranges: Vec<(u32, Span)>,
+    // the first numbers again, side by side, so that a search by halves touches little memory
+    firsts: Vec<u32>,
+}
+
+impl Model for Ranges {
+    ghost use Rattle.std.specs.Prelude.{ℕ, List};
+    ghost use Rattle.fare_table.specs.declared.validators.Span.{Span};
+    ghost use Rattle.fare_table.specs.Validators.{AreSearchable};
+
+    ghost Value = { List (ℕ × Span) };
+
+    ghost view = { λ r. r.ranges.items };
+
+    ghost invariant = { λ r. AreSearchable r.ranges.items r.firsts.items };
+}
+
+impl Ranges {
+    ghost use Rattle.std.specs.Prelude.{◌≡◌, ◌≤◌, true, IfOk, length, nat_le, map, option_copied, option_map};
+    ghost use Rattle.fare_table.specs.Fares.{range_at};
+    ghost use Rattle.fare_table.specs.Validators.{is_chain};
+
+    /// The ranges of a map by their first numbers. `NoMemory` is answered where a growth is refused.
+    pub fn new(alloc: Global, ranges: BTreeMap<u32, Span>) -> Result<Ranges, NoMemory>
+        requires { is_chain ranges.entries ≡ true }
+        ensures { IfOk result (λ r. r ≡ ranges.entries) }
+    {
+        let firsts = ranges.keys().copied().collect(alloc)?;
+        let ranges = ranges.into_iter().collect(alloc)?;
+        Ok(Ranges { ranges, firsts })
+    }
+
+    /// The rest of the range of a number.
+    pub fn at(&self, number: u32) -> Option<Span>
+        ensures { result ≡ option_map (λ range. range.1) (range_at self.now number) }
+    {
+        let (_, span) = range_at(&self.ranges, &self.firsts, number)?;
+        Some(*span)
+    }
+}
+
 #[tactic(auto, using(crate::proofs::ChainLemmas::found))]
-pub fn range_at(ranges: &[(u32, Span)], number: u32) -> Option<&(u32, Span)>
-    requires { is_chain ranges.now ≡ true }
+fn range_at<'a>(ranges: &'a [(u32, Span)], firsts: &[u32], number: u32) -> Option<&'a (u32, Span)>
+    requires { AreSearchable ranges.now firsts.now }
     ensures { option_copied result ≡ range_at ranges.now number }
 {
-    let range = last_begun(ranges, number)?;
+    let range = last_begun(ranges, firsts, number)?;
     if number <= range.1.last {
         Some(range)
     } else {
@@ -39,54 +83,51 @@ pub fn range_at(ranges: &[(u32, Span)], number: u32) -> Option<&(u32, Span)>
 }
 
 // The last range that begins at the number or before it.
-fn last_begun(ranges: &[(u32, Span)], number: u32) -> Option<&(u32, Span)>
-    requires { is_chain ranges.now ≡ true }
+fn last_begun<'a>(ranges: &'a [(u32, Span)], firsts: &[u32], number: u32) -> Option<&'a (u32, Span)>
+    requires { AreSearchable ranges.now firsts.now }
     ensures { option_copied result ≡ last_begun number ranges.now }
 {
-    ranges[..begun(ranges, number)].last()
+    ranges[..begun(firsts, number)].last()
 }
 
-// How many ranges begin at the number or before it, found by halves. Each half is taken or left by a
-// multiplication and not by a branch, since a processor that guesses wrongly at every second step
+// How many of the first numbers are not above the number, found by halves. Each half is taken or
+// left by a mask and not by a branch, since a processor that guesses wrongly at every second step
 // makes the search three times as slow.
-fn begun(ranges: &[(u32, Span)], number: u32) -> usize
-    requires { is_chain ranges.now ≡ true }
-    ensures bound { result ≤ length ranges.now }
-    ensures split { IsSplit number ranges.now result 0 }
+fn begun(firsts: &[u32], number: u32) -> usize
+    requires { is_rising firsts.now ≡ true }
+    ensures bound { result ≤ length firsts.now }
+    ensures split { IsSplit number firsts.now result 0 }
 {
-    if ranges.is_empty() {
+    if firsts.is_empty() {
         return 0;
     }
     let mut base = 0;
-    let mut size = ranges.len();
+    let mut size = firsts.len();
     while size > 1 {
         let half = size / 2;
-        base += half * one_if_begun(ranges[base + half].0, number);
+        base += taken_if_begun(half, firsts[base + half], number);
         size -= half;
     }
-    base + one_if_begun(ranges[base].0, number)
+    base + taken_if_begun(1, firsts[base], number)
 }
 
-// 1 for a first number that is not above the number, else 0: the carry of their difference. A
-// comparison in its place would be compiled to a branch again.
-fn one_if_begun(first: u32, number: u32) -> usize
-    ensures { result ≡ (if nat_le first number then 1 else 0) }
+// The places, where the first number is not above the number, else 0. The upper half of the difference
+// is the mask: a comparison in its place would be compiled to a branch again.
+fn taken_if_begun(places: usize, first: u32, number: u32) -> usize
+    requires { places < 0x1_0000_0000 }
+    ensures { result ≡ (if nat_le first number then places else 0) }
 {
-    ((u64::from(number) + 0x1_0000_0000 - u64::from(first)) >> 32) as usize
+    let mask = u64::from(first).wrapping_sub(u64::from(number) + 1) >> 32;
+    places & mask as usize
 }
 
 /// The ranges of the text by their first numbers, rising.
 #[tactic(auto, unfolding(crate::specs::Validators::ranges_of))]
-pub fn ranges_of(
-    alloc: Global,
-    modes: &[String],
-    table: &Table,
-) -> Result<Vec<(u32, Span)>, TableFault>
+pub fn ranges_of(alloc: Global, modes: &[String], table: &Table) -> Result<Ranges, TableFault>
     requires { length modes.now ≤ 32 }
-    ensures answer { Answers (λ v. v.items) result
+    ensures answer { Answers (λ r. r) result
         (spec.ranges_of (map string_bytes modes.now) (table_view table.now)) }
-    ensures apart { IfOk result (λ v. is_chain v.items ≡ true) }
-    ensures known { IfOk result (λ v. are_modes_below (length modes.now) v.items ≡ true) }
+    ensures known { IfOk result (λ r. are_modes_below (length modes.now) r ≡ true) }
 {
     let array = array_at(table, "validators", Key::Validators)?;
     if !are_tables(array) {
@@ -95,13 +136,7 @@ pub fn ranges_of(
         });
     }
     let ranges = ranges_from(alloc, modes, array)?;
-    Ok(listed(alloc, ranges)?)
-}
-
-fn listed(alloc: Global, ranges: BTreeMap<u32, Span>) -> Result<Vec<(u32, Span)>, NoMemory>
-    ensures { IfOk result (λ v. v.items ≡ ranges.entries) }
-{
-    Ok(ranges.into_iter().collect(alloc)?)
+    Ok(Ranges::new(alloc, ranges)?)
 }
 
 fn ranges_from(

@@ -4,9 +4,9 @@ use Rattle.fare_table.proofs.validators.begun.Given as goal
 
 abbrev pub invariant-loop-size : goal.invariant-loop-size
 invariant-loop-size l = record {
-  split : IsSplit l.number l.ranges l.base l.size;
+  split : IsSplit l.number l.firsts l.base l.size;
   some : 0 < l.size;
-  inside : l.base + l.size ≤ length l.ranges;
+  inside : l.base + l.size ≤ length l.firsts;
 }
 
 abbrev pub decreases-loop-size : goal.decreases-loop-size
