@@ -1,5 +1,5 @@
 -- One entry more: the taps of its token, the legality of the history, and the accounts.
-use Rattle.std.proofs.Common.{◌≡◌, ℕ, ◌<◌, Bool, true, false, cond, List, [], ◌∷◌, ◌++◌, length, map, Option, Some, None, refl, sym, ap, subst, ◌∙◌, ◌⊎◌, inl, inr, ⊎_elim, arith, rules}
+use Rattle.std.proofs.Common.{◌≡◌, ℕ, Bool, true, false, cond, List, [], ◌∷◌, ◌++◌, length, map, Option, Some, None, refl, sym, ap, subst, ◌∙◌, ◌⊎◌, inl, inr, ⊎_elim, arith}
 use Rattle.std.specs.Option.{option_map}
 use Rattle.std.specs.List.{filter}
 use Rattle.std.proofs.lemmas.List.{length-append, map-append, append-nil, append_assoc}
@@ -11,14 +11,12 @@ use Rattle.fare_table.specs.Fares.{Fares, mode_at}
 use Rattle.fare_table.specs.Until.{until}
 use Rattle.fare_table.specs.declared.mode.Mode.{Mode}
 use Rattle.account_rule.specs.declared.tap.TapIn.{TapIn}
-use Rattle.account_rule.specs.declared.reply.Reply.{Reply}
-use Rattle.account_rule.specs.Replies.{reply}
 use Rattle.account_rule.specs.Rules.{rules_of}
 use Rattle.shard_book.specs.declared.accounts.Accounts.{Accounts}
 use Rattle.shard_book.specs.declared.entry.Entry.{Entry}
 use Rattle.shard_book.specs.declared.token.Token.{Token}
 use Rattle.shard_book.specs.Accounts.{account_at, IsKept}
-use Rattle.shard_book.specs.Entry.{is_of, own, tap_of, taps_of, reply_of, mode_of_place}
+use Rattle.shard_book.specs.Entry.{is_of, own, tap_of, taps_of, mode_of_place}
 use Rattle.shard_book.specs.History.{IsReplied, IsLegal}
 use Rattle.shard_book.specs.Sound.{AreKept}
 use Rattle.shard_book.specs.Token.{bytes_of, token_eq}

@@ -1,9 +1,8 @@
 -- A book stays sound when a tap is posted.
-use Rattle.std.proofs.Common.{◌≡◌, ℕ, List, [], ◌∷◌, ◌++◌, Bool, false, refl, sym, ap, subst, ◌∙◌, rules}
+use Rattle.std.proofs.Common.{◌≡◌, ℕ, List, [], ◌∷◌, ◌++◌, false, refl, sym, ap, subst, ◌∙◌}
 use Rattle.std.proofs.Common.{Option, None, ◌<◌, ◌≤◌}
 use Rattle.account_rule.specs.declared.account.Account.{Account}
 use Rattle.std.specs.Option.{option_map}
-use Rattle.std.specs.List.{All}
 use Rattle.std.proofs.lemmas.List.Elements.{All-nil, All-push}
 use Rattle.tap_views.specs.Shards.{shard_of_token}
 use Rattle.fare_table.specs.Fares.{Fares, mode_at}
@@ -16,7 +15,6 @@ use Rattle.shard_book.specs.declared.accounts.Accounts.{Accounts}
 use Rattle.shard_book.specs.declared.entry.Entry.{Entry}
 use Rattle.shard_book.specs.declared.token.Token.{Token}
 use Rattle.shard_book.specs.Accounts.{account_at, IsKept}
-use Rattle.shard_book.specs.Book.{AreOfShard}
 use Rattle.shard_book.specs.Entry.{own, tap_of, taps_of, reply_of}
 use Rattle.shard_book.specs.History.{IsReplied}
 use Rattle.shard_book.specs.Sound.{IsSound, AreKept}

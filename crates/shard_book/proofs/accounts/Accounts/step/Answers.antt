@@ -2,7 +2,6 @@ use Rattle.std.proofs.Common.{rules, Option, ap, ◌∙◌}
 use Rattle.std.specs.Option.{unwrap_or}
 use Rattle.account_rule.specs.declared.account.Account.{Account}
 use Rattle.std.specs.HashMap.Entry.{map_with_value}
-use Rattle.account_rule.specs.Rules.{rules_of}
 use Rattle.account_rule.specs.Stands.{StandsForSome}
 use Rattle.shard_book.specs.Accounts.{account_at}
 use Rattle.shard_book.proofs.AccountsLemmas.{stands_or, other_same}

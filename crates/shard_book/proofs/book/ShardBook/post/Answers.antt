@@ -1,17 +1,12 @@
-use Rattle.std.proofs.Common.{rules, refl, ◌≡◌, ℕ, List, [], ◌∷◌, ◌++◌, subst, sym, ap, ◌∙◌}
+use Rattle.std.proofs.Common.{refl, ◌≡◌, ℕ, List, [], ◌∷◌, ◌++◌, sym, ap, ◌∙◌}
 use Rattle.tap_views.specs.Layout.{num}
 use Rattle.fare_table.specs.Fares.{Fares}
 use Rattle.fare_table.specs.Until.{until}
 use Rattle.shard_book.specs.Book.{Book, with_entries}
-use Rattle.account_rule.specs.Rules.{rules_of}
 use Rattle.tap_views.specs.Shards.{shard_of_token}
 use Rattle.shard_book.specs.declared.entry.Entry.{Entry}
-use Rattle.shard_book.specs.Accounts.{account_at, IsKept}
-use Rattle.shard_book.specs.Entry.{tap_of, taps_of}
-use Rattle.shard_book.specs.History.{IsReplied}
 use Rattle.shard_book.specs.Sound.{AreKept, IsSound}
 use Rattle.shard_book.specs.Token.{bytes_of}
-use Rattle.shard_book.proofs.Histories.{tap_of-post}
 use Rattle.shard_book.proofs.SoundLemmas.{sound-same, sound-post}
 use Rattle.shard_book.proofs.book.ShardBook.post.Goals as goal
 use Rattle.shard_book.proofs.book.ShardBook.post.Goals.{After-push_reserved}
