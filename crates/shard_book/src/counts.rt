@@ -7,16 +7,17 @@ use crate::token::Token;
 use crate::totals::Totals;
 use account_rule::{Answer, Reply};
 
-/// What `Totals` counts, of fewer than 2^64 taps. Of 56 bytes, where `Totals` has 112.
+/// What `Totals` counts, of fewer than 2^64 taps. Of 56 bytes, where `Totals` has 112. What most posts touch
+/// stands first, next to the account.
 #[derive(Clone, Copy, Debug, PartialEq, Eq)]
 pub(crate) struct Counts {
+    // The cents are `carried` times 2^64 and `cents`: a `u128` would be aligned to 16 bytes.
+    cents: u64,
     paid: u64,
     transfers: u64,
     capped: u64,
     stale: u64,
     unknown: u64,
-    // The cents are `carried` times 2^64 and `cents`: a `u128` would be aligned to 16 bytes.
-    cents: u64,
     carried: u64,
     ghost in_cents: { carried * 2 ^ 64 + cents ≤ (paid + transfers + capped + stale + unknown) * 4294967295 },
 }
@@ -32,12 +33,12 @@ impl Counts {
         ensures { sums_of_counts result ≡ sums_of_replies [] }
     {
         Counts {
+            cents: 0,
             paid: 0,
             transfers: 0,
             capped: 0,
             stale: 0,
             unknown: 0,
-            cents: 0,
             carried: 0,
         }
     }
@@ -48,7 +49,6 @@ impl Counts {
         requires { (sums_of_counts self.old).taps < 2 ^ 63 }
         ensures { sums_of_counts self.new ≡ add_sums (sums_of_counts self.old) (sums_of_replies (reply ∷ [])) }
     {
-        let (cents, carried) = self.cents.overflowing_add(u64::from(reply.cents));
         match reply.answer {
             Answer::Paid => self.paid += 1,
             Answer::Transfer => self.transfers += 1,
@@ -56,8 +56,11 @@ impl Counts {
             Answer::Stale => self.stale += 1,
             Answer::Unknown => self.unknown += 1,
         }
+        let (cents, carries) = self.cents.overflowing_add(u64::from(reply.cents));
         self.cents = cents;
-        self.carried += u64::from(carried);
+        if carries {
+            self.carried += 1;
+        }
     }
 
     /// The same as totals.

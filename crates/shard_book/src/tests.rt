@@ -1,7 +1,8 @@
 //! Worked rows on books, sums and statements: the values stand here as the fare rules give them.
 
-ghost use Rattle.std.specs.Prelude.{◌≡◌, IfOk};
+ghost use Rattle.std.specs.Prelude.{◌≡◌, ◌<◌, IfOk};
 
+use crate::sums::added_by_token;
 use crate::*;
 use account_rule::{Answer, Reply, WindowView};
 use fare_table::FareTable;
@@ -412,6 +413,42 @@ fn sums_of_two_books(rt: HostRuntime) -> Result<(), Fail> {
         (token(0xb2), [2, 1, 0, 0, 0, 1, 300]),
     ];
     assert!(rt; are_equal(&tokens, &wanted));
+    Ok(())
+}
+
+/// A book without entries, of one of two shards: the last bit of a token tells which.
+fn book_of_two<R: RandomSource>(alloc: Global, rt: &R, shard: u32) -> Result<ShardBook, Fail>
+    requires { shard < 2 }
+{
+    let keys = TokenKeys::new(rt)?;
+    let table = FareTable::read(alloc, SAMPLE.as_bytes())?;
+    Ok(ShardBook::open(alloc, keys, table, shard, 2))
+}
+
+/// The counts that the books keep and the sums over their entries are the same.
+#[test]
+fn sums_of_two_shards(rt: HostRuntime) -> Result<(), Fail> {
+    let alloc = rt.alloc();
+    let mut even = book_of_two(alloc, &rt, 0)?;
+    let taps = [tap(0xb2, 9, START + 10), tap(0xb2, SUBWAY, START + 5)];
+    posted(alloc, &mut even, &taps)?;
+    let mut odd = book_of_two(alloc, &rt, 1)?;
+    posted(alloc, &mut odd, &four_taps())?;
+    posted(
+        alloc,
+        &mut odd,
+        &[tap(0xc3, BUS, START), tap(0xa1, BUS, START)],
+    )?;
+    let books = [even, odd];
+    let wanted = [
+        (token(0xa1), [5, 2, 2, 0, 1, 0, 600]),
+        (token(0xb2), [2, 1, 0, 0, 0, 1, 300]),
+        (token(0xc3), [1, 1, 0, 0, 0, 0, 300]),
+    ];
+    let kept = by_token(alloc, &sums_by_token(alloc, &books)?)?;
+    assert!(rt; are_equal(&kept, &wanted));
+    let added = by_token(alloc, &added_by_token(alloc, &books)?)?;
+    assert!(rt; are_equal(&added, &wanted));
     Ok(())
 }
 
