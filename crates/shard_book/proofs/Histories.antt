@@ -1,24 +1,22 @@
 -- One entry more: the taps of its token, the legality of the history, and the accounts.
-use Rattle.std.proofs.Common.{◌≡◌, ℕ, ◌<◌, Bool, true, false, cond, List, [], ◌∷◌, ◌++◌, length, map, Option, Some, None, refl, sym, ap, subst, ◌∙◌, ◌⊎◌, inl, inr, ⊎_elim, arith, rules}
+use Rattle.std.proofs.Common.{◌≡◌, ℕ, Bool, true, false, cond, List, [], ◌∷◌, ◌++◌, length, map, Option, Some, None, refl, sym, ap, subst, ◌∙◌, ◌⊎◌, inl, inr, ⊎_elim, arith}
 use Rattle.std.specs.Option.{option_map}
 use Rattle.std.specs.List.{filter}
 use Rattle.std.proofs.lemmas.List.{length-append, map-append, append-nil, append_assoc}
 use Rattle.std.proofs.lemmas.Bool.{cases_Bool}
 use Rattle.std.proofs.lemmas.Bool.Decides.{nat_tests}
-use Rattle.account_rule.specs.declared.account.Account.{Account}
 use Rattle.std.proofs.lemmas.List.Elements.{filter-append}
 use Rattle.fare_table.specs.Fares.{Fares, mode_at}
 use Rattle.fare_table.specs.Until.{until}
 use Rattle.fare_table.specs.declared.mode.Mode.{Mode}
 use Rattle.account_rule.specs.declared.tap.TapIn.{TapIn}
-use Rattle.account_rule.specs.declared.reply.Reply.{Reply}
-use Rattle.account_rule.specs.Replies.{reply}
 use Rattle.account_rule.specs.Rules.{rules_of}
 use Rattle.shard_book.specs.declared.accounts.Accounts.{Accounts}
+use Rattle.shard_book.specs.declared.accounts.Kept.{Kept}
 use Rattle.shard_book.specs.declared.entry.Entry.{Entry}
 use Rattle.shard_book.specs.declared.token.Token.{Token}
-use Rattle.shard_book.specs.Accounts.{account_at, IsKept}
-use Rattle.shard_book.specs.Entry.{is_of, own, tap_of, taps_of, reply_of, mode_of_place}
+use Rattle.shard_book.specs.Accounts.{kept_at, IsKept}
+use Rattle.shard_book.specs.Entry.{is_of, own, tap_of, taps_of, mode_of_place}
 use Rattle.shard_book.specs.History.{IsReplied, IsLegal}
 use Rattle.shard_book.specs.Sound.{AreKept}
 use Rattle.shard_book.specs.Token.{bytes_of, token_eq}
@@ -75,27 +73,27 @@ mode_at_place (Some mode) place is = ap (λ (p : Option ℕ). option_map mode_of
 
 -- the accounts stand for the history with one entry more, where its token's account does and the others stayed
 pub kept-push : (table : Fares) (accounts after : Accounts) (entries : List Entry) (entry : Entry) → AreKept table accounts entries
-    → IsKept (rules_of table (bytes_of entry.token)) (account_at after entry.token) (taps_of table entry.token entries ++ tap_of table entry ∷ [])
-    → ((other : Token) → token_eq entry.token other ≡ false → account_at after other ≡ account_at accounts other)
+    → IsKept (rules_of table (bytes_of entry.token)) (kept_at after entry.token) (taps_of table entry.token entries ++ tap_of table entry ∷ [])
+    → ((other : Token) → token_eq entry.token other ≡ false → kept_at after other ≡ kept_at accounts other)
     → AreKept table after (entries ++ entry ∷ [])
 unfolding AreKept
 kept-push table accounts after entries entry kept own_kept others = λ token.
-    subst (λ (taps : List TapIn). IsKept (rules_of table (bytes_of token)) (account_at after token) taps) (sym (taps-push table token entries entry))
+    subst (λ (taps : List TapIn). IsKept (rules_of table (bytes_of token)) (kept_at after token) taps) (sym (taps-push table token entries entry))
     (⊎_elim
     (λ (same : token_eq entry.token token ≡ true).
     let is : entry.token ≡ token = same_token entry.token token same in
-    subst (λ (b : Bool). IsKept (rules_of table (bytes_of token)) (account_at after token) (cond b (taps_of table token entries ++ tap_of table entry ∷ []) (taps_of table token entries))) (sym same)
-    (subst (λ (t : Token). IsKept (rules_of table (bytes_of t)) (account_at after t) (taps_of table t entries ++ tap_of table entry ∷ [])) is own_kept))
+    subst (λ (b : Bool). IsKept (rules_of table (bytes_of token)) (kept_at after token) (cond b (taps_of table token entries ++ tap_of table entry ∷ []) (taps_of table token entries))) (sym same)
+    (subst (λ (t : Token). IsKept (rules_of table (bytes_of t)) (kept_at after t) (taps_of table t entries ++ tap_of table entry ∷ [])) is own_kept))
     (λ (apart : token_eq entry.token token ≡ false).
-    subst (λ (b : Bool). IsKept (rules_of table (bytes_of token)) (account_at after token) (cond b (taps_of table token entries ++ tap_of table entry ∷ []) (taps_of table token entries))) (sym apart)
-    (subst (λ (a : Option Account). IsKept (rules_of table (bytes_of token)) a (taps_of table token entries)) (sym (others token apart)) (kept token)))
+    subst (λ (b : Bool). IsKept (rules_of table (bytes_of token)) (kept_at after token) (cond b (taps_of table token entries ++ tap_of table entry ∷ []) (taps_of table token entries))) (sym apart)
+    (subst (λ (a : Option Kept). IsKept (rules_of table (bytes_of token)) a (taps_of table token entries)) (sym (others token apart)) (kept token)))
     (cases_Bool (token_eq entry.token token)))
 
 -- nothing changes where all accounts stayed
-pub kept-same : (table : Fares) (accounts after : Accounts) (entries : List Entry) → AreKept table accounts entries → ((other : Token) → account_at after other ≡ account_at accounts other) → AreKept table after entries
+pub kept-same : (table : Fares) (accounts after : Accounts) (entries : List Entry) → AreKept table accounts entries → ((other : Token) → kept_at after other ≡ kept_at accounts other) → AreKept table after entries
 unfolding AreKept
 kept-same table accounts after entries kept others = λ token.
-    subst (λ (a : Option Account). IsKept (rules_of table (bytes_of token)) a (taps_of table token entries)) (sym (others token)) (kept token)
+    subst (λ (a : Option Kept). IsKept (rules_of table (bytes_of token)) a (taps_of table token entries)) (sym (others token)) (kept token)
 
 -- the tap that the account rule is given is the entry's
 pub tap_of-post : (table : Fares) (entry : Entry) (mode : Option Mode) (limit : ℕ)

@@ -1,10 +1,12 @@
 pub mod AccountsLemmas
 pub mod Bytes
+pub mod CountingLemmas
 pub mod GroupingLemmas
 pub mod Histories
 pub mod RisingLemmas
 pub mod RunLemmas
 pub mod SoundLemmas
+pub mod SummedLemmas
 pub mod SumsLemmas
 pub mod TokenLemmas
 pub mod WindowsLemmas

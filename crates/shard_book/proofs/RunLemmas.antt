@@ -1,16 +1,16 @@
 -- A run, posted tap by tap.
-use Rattle.std.proofs.Common.{◌≡◌, ℕ, ◌+◌, ◌<◌, ◌≤◌, List, [], ◌∷◌, ◌++◌, length, map, take, slice_index, refl, sym, ap, subst, ◌∙◌, arith}
-use Rattle.std.specs.List.{AllZip, AllByRecursion}
+use Rattle.std.proofs.Common.{◌≡◌, ℕ, ◌+◌, ◌<◌, ◌≤◌, List, [], ◌∷◌, ◌++◌, length, map, refl, sym, ap, subst, ◌∙◌, arith}
+use Rattle.std.specs.List.{AllByRecursion}
 use Rattle.std.proofs.lemmas.List.{length-append, map-append, append_assoc, append-nil}
 use Rattle.tap_views.specs.Layout.{Tap}
-use Rattle.tap_views.specs.Shards.{ShardRun, run_taps, IsShardTap, shard_of_token}
+use Rattle.tap_views.specs.Shards.{ShardRun, run_taps, IsShardTap}
 use Rattle.account_rule.specs.declared.reply.Reply.{Reply}
 use Rattle.shard_book.specs.declared.entry.Entry.{Entry}
-use Rattle.shard_book.specs.Book.{Book, PostsTap, with_entries, limit_of}
+use Rattle.shard_book.specs.Book.{Book, PostsTap, with_entries}
 use Rattle.shard_book.specs.Entry.{IsEntryOf, reply_of}
 use Rattle.shard_book.specs.History.{IsLegal}
 use Rattle.shard_book.specs.Replies.{RepliesView}
-use Rattle.shard_book.specs.Visits.{AreEntriesOf, PostsTaps, PostsRun, IsVisit, limits_of}
+use Rattle.shard_book.specs.Visits.{AreEntriesOf, PostsTaps}
 
 -- the first taps of the run are posted, and the others are left
 pub record IsPosting (run : ShardRun) (done left : List Tap) (posted : ℕ) (book after : Book) (replies replied : RepliesView) : Type 0 where

@@ -1,9 +1,7 @@
 -- A book stays sound when a tap is posted.
-use Rattle.std.proofs.Common.{◌≡◌, ℕ, List, [], ◌∷◌, ◌++◌, Bool, false, refl, sym, ap, subst, ◌∙◌, rules}
+use Rattle.std.proofs.Common.{◌≡◌, ℕ, List, [], ◌∷◌, ◌++◌, true, false, refl, sym, ap, subst, ◌∙◌}
 use Rattle.std.proofs.Common.{Option, None, ◌<◌, ◌≤◌}
-use Rattle.account_rule.specs.declared.account.Account.{Account}
-use Rattle.std.specs.Option.{option_map}
-use Rattle.std.specs.List.{All}
+use Rattle.std.specs.Option.{option_map, is_some}
 use Rattle.std.proofs.lemmas.List.Elements.{All-nil, All-push}
 use Rattle.tap_views.specs.Shards.{shard_of_token}
 use Rattle.fare_table.specs.Fares.{Fares, mode_at}
@@ -12,19 +10,22 @@ use Rattle.fare_table.specs.declared.mode.Mode.{Mode}
 use Rattle.account_rule.specs.declared.tap.TapIn.{TapIn}
 use Rattle.account_rule.specs.Replies.{reply}
 use Rattle.account_rule.specs.Rules.{rules_of}
+use Rattle.account_rule.specs.declared.reply.Reply.{Reply}
 use Rattle.shard_book.specs.declared.accounts.Accounts.{Accounts}
+use Rattle.shard_book.specs.declared.accounts.Kept.{Kept}
 use Rattle.shard_book.specs.declared.entry.Entry.{Entry}
 use Rattle.shard_book.specs.declared.token.Token.{Token}
-use Rattle.shard_book.specs.Accounts.{account_at, IsKept}
-use Rattle.shard_book.specs.Book.{AreOfShard}
+use Rattle.shard_book.specs.Accounts.{kept_at, counted, IsKept}
 use Rattle.shard_book.specs.Entry.{own, tap_of, taps_of, reply_of}
 use Rattle.shard_book.specs.History.{IsReplied}
 use Rattle.shard_book.specs.Sound.{IsSound, AreKept}
 use Rattle.shard_book.specs.Token.{bytes_of, token_eq}
+use Rattle.shard_book.specs.Sums.{sums_of_replies, add_sums}
+use Rattle.shard_book.proofs.CountingLemmas.{counted-same, counted-push, counted-none}
 use Rattle.shard_book.proofs.Histories.{legal-none, legal-push, kept-push, kept-same, tap_of-post}
 
 -- nothing was posted: the entries are the same, and all accounts stayed
-pub sound-same : {table : Fares} {shard shards : ℕ} {accounts after : Accounts} {entries items : List Entry} → items ≡ entries → ((other : Token) → account_at after other ≡ account_at accounts other) → IsSound table shard shards accounts entries → IsSound table shard shards after items
+pub sound-same : {table : Fares} {shard shards : ℕ} {accounts after : Accounts} {entries items : List Entry} → items ≡ entries → ((other : Token) → kept_at after other ≡ kept_at accounts other) → IsSound table shard shards accounts entries → IsSound table shard shards after items
 sound-same {table} {shard} {shards} {accounts} {after} {entries} {items} same others sound =
     subst (λ (es : List Entry). IsSound table shard shards after es) (sym same) (record {
       within = sound.within;
@@ -32,6 +33,7 @@ sound-same {table} {shard} {shards} {accounts} {after} {entries} {items} same ot
       legal = sound.legal;
       here = sound.here;
       kept = kept-same table accounts after entries sound.kept others;
+      counted = counted-same accounts after entries sound.counted others;
     })
 
 -- one entry was posted
@@ -39,16 +41,19 @@ pub sound-push : {table : Fares} {shard shards : ℕ} {accounts after : Accounts
     → IsSound table shard shards accounts entries
     → shard_of_token (bytes_of entry.token) shards ≡ shard
     → IsReplied table entries entry
-    → IsKept (rules_of table (bytes_of entry.token)) (account_at after entry.token) (taps_of table entry.token entries ++ tap_of table entry ∷ [])
-    → ((other : Token) → token_eq entry.token other ≡ false → account_at after other ≡ account_at accounts other)
+    → IsKept (rules_of table (bytes_of entry.token)) (kept_at after entry.token) (taps_of table entry.token entries ++ tap_of table entry ∷ [])
+    → counted (kept_at after entry.token) ≡ add_sums (counted (kept_at accounts entry.token)) (sums_of_replies (reply_of entry ∷ []))
+    → is_some (kept_at after entry.token) ≡ true
+    → ((other : Token) → token_eq entry.token other ≡ false → kept_at after other ≡ kept_at accounts other)
     → IsSound table shard shards after items
-sound-push {table} {shard} {shards} {accounts} {after} {entries} {items} entry pushed sound here replied own_kept others =
+sound-push {table} {shard} {shards} {accounts} {after} {entries} {items} entry pushed sound here replied own_kept added there others =
     subst (λ (es : List Entry). IsSound table shard shards after es) (sym pushed) (record {
       within = sound.within;
       few = sound.few;
       legal = legal-push table entries entry sound.legal replied;
       here = record { each = All-push (λ (e : Entry). shard_of_token (bytes_of e.token) shards ≡ shard) entries entry sound.here.each here };
       kept = kept-push table accounts after entries entry sound.kept own_kept others;
+      counted = counted-push accounts after entries entry sound.counted added there others;
     })
 
 -- one tap was posted: what the account's step tells makes the book sound again
@@ -58,22 +63,24 @@ pub sound-post : {table : Fares} {shard shards : ℕ} {accounts after : Accounts
     → shard_of_token (bytes_of entry.token) shards ≡ shard
     → option_map (λ m. m.place) mode ≡ mode_at table entry.validator
     → limit ≡ until table entry.moment
-    → ((taps : List TapIn) → IsKept (rules_of table (bytes_of entry.token)) (account_at accounts entry.token) taps
+    → ((taps : List TapIn) → IsKept (rules_of table (bytes_of entry.token)) (kept_at accounts entry.token) taps
     → reply_of entry ≡ reply (rules_of table (bytes_of entry.token)) taps (record { moment = entry.moment; mode = mode; until = limit }))
-    → ((taps : List TapIn) → IsKept (rules_of table (bytes_of entry.token)) (account_at accounts entry.token) taps
-    → IsKept (rules_of table (bytes_of entry.token)) (account_at after entry.token) (taps ++ record { moment = entry.moment; mode = mode; until = limit } ∷ []))
-    → ((other : Token) → token_eq entry.token other ≡ false → account_at after other ≡ account_at accounts other)
+    → ((taps : List TapIn) → IsKept (rules_of table (bytes_of entry.token)) (kept_at accounts entry.token) taps
+    → IsKept (rules_of table (bytes_of entry.token)) (kept_at after entry.token) (taps ++ record { moment = entry.moment; mode = mode; until = limit } ∷ []))
+    → counted (kept_at after entry.token) ≡ add_sums (counted (kept_at accounts entry.token)) (sums_of_replies (reply_of entry ∷ []))
+    → is_some (kept_at after entry.token) ≡ true
+    → ((other : Token) → token_eq entry.token other ≡ false → kept_at after other ≡ kept_at accounts other)
     → IsSound table shard shards after items
 unfolding AreKept IsReplied
-sound-post {table} {shard} {shards} {accounts} {after} {entries} {items} entry mode limit pushed sound here is_mode is_limit by_rule stands others =
+sound-post {table} {shard} {shards} {accounts} {after} {entries} {items} entry mode limit pushed sound here is_mode is_limit by_rule stands added there others =
     let tap_is : tap_of table entry ≡ record { moment = entry.moment; mode = mode; until = limit } = tap_of-post table entry mode limit is_mode is_limit in
     sound-push entry pushed sound here
     (by_rule _ (sound.kept entry.token) ∙ ap (λ (tap : TapIn). reply (rules_of table (bytes_of entry.token)) (taps_of table entry.token entries) tap) (sym tap_is))
-    (subst (λ (tap : TapIn). IsKept (rules_of table (bytes_of entry.token)) (account_at after entry.token) (taps_of table entry.token entries ++ tap ∷ [])) (sym tap_is) (stands _ (sound.kept entry.token)))
-    others
+    (subst (λ (tap : TapIn). IsKept (rules_of table (bytes_of entry.token)) (kept_at after entry.token) (taps_of table entry.token entries ++ tap ∷ [])) (sym tap_is) (stands _ (sound.kept entry.token)))
+    added there others
 
 -- a book without entries and without accounts is sound
-pub sound-none : {table : Fares} {shard shards : ℕ} {accounts : Accounts} {items : List Entry} → items ≡ [] → shard < shards → shards ≤ 64 → ((token : Token) → account_at accounts token ≡ None) → IsSound table shard shards accounts items
+pub sound-none : {table : Fares} {shard shards : ℕ} {accounts : Accounts} {items : List Entry} → items ≡ [] → shard < shards → shards ≤ 64 → ((token : Token) → kept_at accounts token ≡ None) → IsSound table shard shards accounts items
 unfolding AreKept taps_of own
 sound-none {table} {shard} {shards} {accounts} {items} empty within few none =
     subst (λ (es : List Entry). IsSound table shard shards accounts es) (sym empty) (record {
@@ -81,5 +88,6 @@ sound-none {table} {shard} {shards} {accounts} {items} empty within few none =
       few = few;
       legal = legal-none table;
       here = record { each = All-nil (λ (e : Entry). shard_of_token (bytes_of e.token) shards ≡ shard) };
-      kept = λ token. subst (λ (a : Option Account). IsKept (rules_of table (bytes_of token)) a []) (sym (none token)) refl;
+      kept = λ token. subst (λ (a : Option Kept). IsKept (rules_of table (bytes_of token)) a []) (sym (none token)) refl;
+      counted = counted-none accounts none;
     })

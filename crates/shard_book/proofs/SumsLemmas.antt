@@ -1,5 +1,5 @@
 -- Sums of two lists are the sums of both, joined.
-use Rattle.std.proofs.Common.{◌≡◌, ℕ, ◌+◌, ◌<◌, Bool, true, false, List, [], ◌∷◌, ◌++◌, length, take, get_or, map, cond, refl, sym, ap, ◌∙◌, arith}
+use Rattle.std.proofs.Common.{◌≡◌, ℕ, ◌+◌, ◌<◌, List, [], ◌∷◌, ◌++◌, length, take, get_or, map, cond, sym, ap, ◌∙◌}
 use Rattle.std.proofs.lemmas.List.{length-append, map-append, length-map, take_more, append-nil}
 use Rattle.std.proofs.lemmas.Grind.{flat_map-append}
 use Rattle.shard_book.specs.Book.{Book}

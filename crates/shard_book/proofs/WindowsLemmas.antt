@@ -1,5 +1,5 @@
 -- A token's entries carry the account rule's replies to its taps.
-use Rattle.std.proofs.Common.{◌≡◌, ℕ, Bool, true, false, cond, List, [], ◌∷◌, ◌++◌, map, filter, count_by, sum_by, refl, sym, ap, subst, ◌∙◌}
+use Rattle.std.proofs.Common.{◌≡◌, true, false, cond, List, [], ◌∷◌, ◌++◌, map, count_by, sum_by, refl, sym, ap, subst, ◌∙◌}
 use Rattle.std.proofs.lemmas.List.{append_assoc}
 use Rattle.fare_table.specs.Fares.{Fares}
 use Rattle.account_rule.specs.declared.reply.Reply.{Reply}
@@ -14,7 +14,7 @@ use Rattle.shard_book.specs.declared.token.Token.{Token}
 use Rattle.shard_book.specs.Entry.{is_of, own, tap_of, taps_of, reply_of}
 use Rattle.shard_book.specs.History.{IsReplied, IsLegal}
 use Rattle.shard_book.specs.Keys.{same_token}
-use Rattle.shard_book.specs.Token.{bytes_of, token_eq}
+use Rattle.shard_book.specs.Token.{bytes_of}
 use Rattle.shard_book.proofs.Histories.{taps-push}
 
 -- the replies of the token's entries after some others

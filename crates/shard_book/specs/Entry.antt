@@ -1,5 +1,5 @@
 -- Entries of a history, and the taps of one token among them.
-use Rattle.std.specs.Prelude.{◌≡◌, ℕ, Bool, List, Option, option_map, map, filter, ◌==◌}
+use Rattle.std.specs.Prelude.{◌≡◌, ℕ, Bool, List, option_map, map, filter, ◌==◌}
 use Rattle.tap_views.specs.Layout.{Tap, num}
 use Rattle.fare_table.specs.Fares.{Fares, mode_at}
 use Rattle.fare_table.specs.Until.{until}

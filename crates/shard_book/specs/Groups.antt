@@ -1,17 +1,14 @@
 -- Sums of a history by the validators and by the tokens of its entries.
-use Rattle.std.specs.Prelude.{◌≡◌, ℕ, Bool, List, Option, Some, None, [], map, filter, flat_map, is_some}
-use Rattle.std.specs.HashMap.{HashMap, get}
+use Rattle.std.specs.Prelude.{ℕ, Bool, List, map, filter, flat_map}
 use Rattle.std.specs.Ordering.{nat_cmp}
-use Rattle.std.specs.Set.{is_member}
 use Rattle.std.specs.declared.cmp.Ordering.{Ordering}
 use Rattle.shard_book.specs.declared.entry.Entry.{Entry}
 use Rattle.shard_book.specs.declared.token.Token.{Token}
-use Rattle.shard_book.specs.declared.totals.Totals.{Totals}
 use Rattle.shard_book.specs.Book.{Book}
 use Rattle.shard_book.specs.Entry.{is_at, own}
 use Rattle.shard_book.specs.Rising.{rising}
-use Rattle.shard_book.specs.Sums.{Sums, sums, sums_of, sums_of_replies}
-use Rattle.shard_book.specs.Token.{token_cmp, token_eq}
+use Rattle.shard_book.specs.Sums.{Sums, sums}
+use Rattle.shard_book.specs.Token.{token_cmp}
 
 -- the entries with the key, in order
 unfoldable pub group : {K : Type 0} → (K → K → Bool) → (Entry → K) → K → List Entry → List Entry

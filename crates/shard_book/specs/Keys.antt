@@ -1,5 +1,5 @@
 -- Keys that are equal by `==` are the same.
-use Rattle.std.specs.Prelude.{◌≡◌, ℕ, Bool, true, ◌==◌}
+use Rattle.std.specs.Prelude.{◌≡◌, ℕ, true, ◌==◌}
 use Rattle.std.proofs.Common.{arith}
 use Rattle.std.proofs.lemmas.Bool.Decides.{nat_tests}
 use Rattle.shard_book.specs.declared.token.Token.{Token}

@@ -1,5 +1,7 @@
 pub mod Accounts
 pub mod Book
+pub mod Counting
+pub mod Counts
 pub mod Difference
 pub mod Entry
 pub mod Folding

@@ -1,5 +1,5 @@
 -- Sums over replies and over entries.
-use Rattle.std.specs.Prelude.{ℕ, ◌+◌, Bool, true, false, List, [], ◌∷◌, length, map, count_by, sum_by}
+use Rattle.std.specs.Prelude.{ℕ, ◌+◌, Bool, true, false, List, length, map, count_by, sum_by}
 use Rattle.account_rule.specs.declared.reply.Answer.{Answer}
 use Rattle.account_rule.specs.declared.reply.Answer.TheVariants.{Paid, Transfer, Capped, Stale, Unknown}
 use Rattle.account_rule.specs.declared.reply.Reply.{Reply}

@@ -1,5 +1,5 @@
 -- What holds of the windows of a token's taps.
-use Rattle.std.specs.Prelude.{◌≡◌, ℕ, ◌≤◌, List, length, map, filter, flat_map, All, sum_by}
+use Rattle.std.specs.Prelude.{◌≡◌, ◌≤◌, List, length, map, filter, flat_map, All, sum_by}
 use Rattle.fare_table.specs.Fares.{Fares}
 use Rattle.fare_table.specs.declared.terms.Terms.{Terms}
 use Rattle.account_rule.specs.declared.reply.Reply.{Reply}

@@ -1,15 +1,18 @@
 //! The book of one shard: its table, its accounts and its whole history.
 
-ghost use Rattle.std.specs.Prelude.{◌≡◌, ◌<◌, ◌≤◌, [], length, slice_get, IfOk, OnErr, IsTrue, ◌↔◌, Some};
+ghost use Rattle.std.specs.Prelude.{◌≡◌, ◌<◌, ◌≤◌, [], length, map, slice_get, IfOk, OnOk, OnErr, IsTrue, ◌↔◌, Some};
 ghost use Rattle.tap_views.specs.Shards.{shard_of_token};
 ghost use Rattle.account_rule.specs.Rules.{rules_of};
 ghost use Rattle.account_rule.specs.Stands.{Stands};
+ghost use Rattle.shard_book.specs.Counting.{AddsSums};
+ghost use Rattle.shard_book.specs.Counts.{token_counts};
 ghost use Rattle.shard_book.specs.Entry.{taps_of};
 ghost use Rattle.shard_book.specs.Token.{bytes_of};
 ghost use Rattle.shard_book.specs.Book.{AreOfShard, PostsTap, limit_of};
 ghost use Rattle.shard_book.specs.History.{IsLegal};
 
 use crate::accounts::Accounts;
+use crate::counts::TokenCounts;
 use crate::entry::Entry;
 use crate::keys::TokenKeys;
 use crate::token::Token;
@@ -151,6 +154,14 @@ impl ShardBook {
     /// The seed under which the book hashes tokens.
     pub(crate) fn keys(&self) -> TokenKeys {
         self.accounts.keys()
+    }
+
+    /// Appends each token of the history with the counts of its entries, in no order.
+    pub(crate) fn push_counts(&self, list: &mut Vec<TokenCounts>) -> Result<(), NoMemory>
+        ensures sums { OnOk result (AddsSums self.now.entries (map token_counts list.old.items) (map token_counts list.new.items)) }
+        ensures here { AreOfShard self.now.shard self.now.shards self.now.entries }
+    {
+        self.accounts.push_counts(list)
     }
 
     /// The token's account.

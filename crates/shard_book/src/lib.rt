@@ -6,6 +6,8 @@
 
 mod accounts;
 mod book;
+mod by_token;
+mod counts;
 mod difference;
 mod ends;
 mod entry;

@@ -1,11 +1,14 @@
 //! Sums of histories: in all, by validator and by token.
 
 ghost use Rattle.std.specs.Prelude.{◌≡◌, ◌<◌, ◌≤◌, ◌^◌, length, map, IfOk};
+ghost use Rattle.shard_book.specs.Counts.{token_counts};
 ghost use Rattle.shard_book.specs.Groups.{all_entries, sums_by_validator, sums_by_token, tokens};
 ghost use Rattle.shard_book.specs.Shown.{validator_sum, token_sum};
 ghost use Rattle.shard_book.specs.Sums.{Sums, sums, sums_of};
 
 use crate::book::ShardBook;
+use crate::by_token::rising_counts;
+use crate::counts::TokenCounts;
 use crate::entry::Entry;
 use crate::groups::{GroupKey, sums_of_books};
 use crate::token::Token;
@@ -117,14 +120,36 @@ pub fn sums_by_validator(alloc: Global, books: &[ShardBook]) -> Result<Vec<Valid
     sums_of_books::<u32>(alloc, books)
 }
 
-/// The tokens of the books, rising, each with the totals of its entries: one pass a book, and a sort of the
-/// tokens.
-#[tactic(auto, unfolding(crate::specs::Groups::sums_by, crate::specs::Groups::group, crate::specs::Groups::sums_by_token, crate::specs::Groups::tokens, crate::specs::Entry::own))]
+/// The tokens of the books, rising, each with the totals of its entries: one pass over what the books keep of
+/// their tokens, and a sort of the tokens. Where two books may share a token, a pass over the histories.
 pub fn sums_by_token(alloc: Global, books: &[ShardBook]) -> Result<Vec<TokenSum>, NoMemory>
     requires { length books.now ≤ 64 }
     ensures { IfOk result (λ list. map token_sum list.items ≡ sums_by_token (all_entries books.now)) }
 {
+    match rising_counts(alloc, books)? {
+        Some(list) => token_sums(alloc, &list),
+        None => added_by_token(alloc, books),
+    }
+}
+
+/// The same, added up entry by entry.
+#[tactic(auto, unfolding(crate::specs::Groups::sums_by, crate::specs::Groups::group, crate::specs::Groups::sums_by_token, crate::specs::Groups::tokens, crate::specs::Entry::own))]
+pub(crate) fn added_by_token(alloc: Global, books: &[ShardBook]) -> Result<Vec<TokenSum>, NoMemory>
+    requires { length books.now ≤ 64 }
+    ensures { IfOk result (λ list. map token_sum list.items ≡ sums_by_token (all_entries books.now)) }
+{
     sums_of_books::<Token>(alloc, books)
+}
+
+/// The sums that the counts are.
+fn token_sums(alloc: Global, list: &[TokenCounts]) -> Result<Vec<TokenSum>, NoMemory>
+    ensures { IfOk result (λ sums. map token_sum sums.items ≡ map token_counts list.now) }
+{
+    let mut sums = Vec::with_capacity(alloc, list.len())?;
+    for counts in list {
+        sums.push_reserved(counts.sum());
+    }
+    Ok(sums)
 }
 
 /// The tokens of the sums.
@@ -153,13 +178,12 @@ impl ShardBook {
         sums_of_books::<u32>(alloc, std::slice::from_ref(self))
     }
 
-    /// The tokens of the history, rising, each with the totals of its entries: one pass over the history, and a
-    /// sort of the tokens.
-    #[tactic(auto, unfolding(crate::specs::Groups::sums_by, crate::specs::Groups::group, crate::specs::Groups::sums_by_token, crate::specs::Groups::tokens, crate::specs::Entry::own))]
+    /// The tokens of the history, rising, each with the totals of its entries: one pass over what the book keeps
+    /// of its tokens, and a sort of them.
     pub fn by_token(&self, alloc: Global) -> Result<Vec<TokenSum>, NoMemory>
         ensures { IfOk result (λ list. map token_sum list.items ≡ sums_by_token self.now.entries) }
     {
-        sums_of_books::<Token>(alloc, std::slice::from_ref(self))
+        sums_by_token(alloc, std::slice::from_ref(self))
     }
 
     /// The tokens of the history, rising, each once.

@@ -1,7 +1,8 @@
 //! Worked rows on books, sums and statements: the values stand here as the fare rules give them.
 
-ghost use Rattle.std.specs.Prelude.{◌≡◌, IfOk};
+ghost use Rattle.std.specs.Prelude.{◌≡◌, ◌<◌, IfOk};
 
+use crate::sums::added_by_token;
 use crate::*;
 use account_rule::{Answer, Reply, WindowView};
 use fare_table::FareTable;
@@ -121,6 +122,11 @@ fn post(
     Ok(book.post_run(&run, &ends, out))
 }
 
+/// Whether two lists are the same.
+fn are_equal<T: PartialEq>(left: &[T], right: &[T]) -> bool {
+    left == right
+}
+
 /// Posts the taps as one run, all of them, and gives their replies.
 fn posted(alloc: Global, book: &mut ShardBook, taps: &[TapFields]) -> Result<Vec<Reply>, Fail> {
     let mut out = Replies::new(alloc);
@@ -187,13 +193,10 @@ fn stale_when_posted_again(rt: HostRuntime) -> Result<(), Fail> {
     let first = posted(alloc, &mut book, &four_taps())?;
     let paid = reply(Answer::Paid, 300);
     let transfer = reply(Answer::Transfer, 0);
-    assert_eq!(rt;
-        first.as_slice(),
-        [paid, transfer, paid, transfer].as_slice()
-    );
+    assert!(rt; are_equal(&first, &[paid, transfer, paid, transfer]));
     let again = posted(alloc, &mut book, &four_taps())?;
-    assert_eq!(rt; again.as_slice(), [reply(Answer::Stale, 0); 4].as_slice());
-    assert_eq!(rt; shown(&book.totals()), [8, 2, 2, 0, 4, 0, 600]);
+    assert!(rt; are_equal(&again, &[reply(Answer::Stale, 0); 4]));
+    assert!(rt; are_equal(&shown(&book.totals()), &[8, 2, 2, 0, 4, 0, 600]));
     Ok(())
 }
 
@@ -214,6 +217,14 @@ fn forty_entries(alloc: Global, count: u64) -> Result<Vec<Entry>, Fail> {
         }
     }
     Ok(entries)
+}
+
+fn forty_replies(alloc: Global) -> Result<Vec<Reply>, Fail> {
+    let mut replies = Vec::new(alloc);
+    for _ in 0..40 {
+        replies.push(reply(Answer::Paid, 300))?;
+    }
+    Ok(replies)
 }
 
 /// The taps that a cut run has left, none where it was posted whole.
@@ -238,15 +249,12 @@ fn forty_tokens_in_one_run(rt: HostRuntime) -> Result<(), Fail> {
     let count = 40u64.saturating_sub(rest.len() as u64);
     assert_eq!(rt; out.len(), count);
     let first = forty_entries(alloc, count)?;
-    assert_eq!(rt; entries_of(alloc, &book)?.as_slice(), first.as_slice());
+    assert!(rt; are_equal(&entries_of(alloc, &book)?, &first));
     assert_eq!(rt; post(alloc, &mut book, rest, &mut out)?, RunEnd::Whole);
     let replies = replies_of(alloc, &out)?;
-    assert_eq!(rt;
-        replies.as_slice(),
-        [reply(Answer::Paid, 300); 40].as_slice()
-    );
+    assert!(rt; are_equal(&replies, &forty_replies(alloc)?));
     let all = forty_entries(alloc, 40)?;
-    assert_eq!(rt; entries_of(alloc, &book)?.as_slice(), all.as_slice());
+    assert!(rt; are_equal(&entries_of(alloc, &book)?, &all));
     Ok(())
 }
 
@@ -256,9 +264,11 @@ fn unknown_validator_moves_nothing(rt: HostRuntime) -> Result<(), Fail> {
     let mut book = book_of(alloc, &rt, SAMPLE)?;
     let taps = [tap(0xb2, 9, START + 10), tap(0xb2, SUBWAY, START + 5)];
     let replies = posted(alloc, &mut book, &taps)?;
-    assert_eq!(rt;
-        replies.as_slice(),
-        [reply(Answer::Unknown, 0), reply(Answer::Paid, 300)].as_slice()
+    assert!(rt;
+        are_equal(
+            &replies,
+            &[reply(Answer::Unknown, 0), reply(Answer::Paid, 300)]
+        )
     );
     Ok(())
 }
@@ -278,8 +288,8 @@ fn statement_of_a_transfer_within_two_hours(rt: HostRuntime) -> Result<(), Fail>
         entry(ride, Answer::Paid, 300),
         entry(transfer, Answer::Transfer, 0),
     ];
-    assert_eq!(rt; lines.as_slice(), wanted.as_slice());
-    assert_eq!(rt; shown(&statement.totals), [2, 1, 1, 0, 0, 0, 300]);
+    assert!(rt; are_equal(&lines, &wanted));
+    assert!(rt; are_equal(&shown(&statement.totals), &[2, 1, 1, 0, 0, 0, 300]));
     let window = WindowView {
         start: START,
         until: START + 604_800_000,
@@ -297,7 +307,7 @@ fn statement_of_a_token_without_entries(rt: HostRuntime) -> Result<(), Fail> {
     posted(alloc, &mut book, &four_taps())?;
     let statement = book.statement(alloc, &token(0xc3))?;
     assert!(rt; statement.lines.is_empty());
-    assert_eq!(rt; shown(&statement.totals), [0; 7]);
+    assert!(rt; are_equal(&shown(&statement.totals), &[0; 7]));
     assert_eq!(rt; statement.window, None);
     Ok(())
 }
@@ -332,44 +342,31 @@ fn civil_window_ends_at_midnight(rt: HostRuntime) -> Result<(), Fail> {
     Ok(())
 }
 
-/// Posts one tap by itself, to a book that is the only one of its service.
-fn post_one(alloc: Global, book: &mut ShardBook, fields: TapFields) -> Result<Reply, Fail>
-    requires shard { book.old.shard ≡ 0 }
-    requires shards { book.old.shards ≡ 1 }
-    ensures shard { book.new.shard ≡ 0 }
-    ensures shards { book.new.shards ≡ 1 }
-{
-    let bytes = tap_views::encode(alloc, &[fields])?;
-    let (batch, _) = Batch::first(&bytes)?;
-    let Some(tap) = batch.taps().next() else {
-        return Err(Fail::from("no tap"));
-    };
-    let clock = book.table().clock(alloc)?;
-    let until = clock.until(tap.moment_ms())?;
-    Ok(book.post(&tap, until)?)
+/// A book with a ride and a transfer of one token.
+fn two_taps<R: RandomSource>(alloc: Global, rt: &R) -> Result<ShardBook, Fail> {
+    let mut book = book_of(alloc, rt, SAMPLE)?;
+    posted(
+        alloc,
+        &mut book,
+        &[tap(0xa1, SUBWAY, START), tap(0xa1, BUS, START + 7_200_000)],
+    )?;
+    Ok(book)
+}
+
+fn two_entries(cents: u32) -> [Entry; 2] {
+    [
+        entry(tap(0xa1, SUBWAY, START), Answer::Paid, 300),
+        entry(tap(0xa1, BUS, START + 7_200_000), Answer::Transfer, cents),
+    ]
 }
 
 #[test]
 fn differences_from_a_list(rt: HostRuntime) -> Result<(), Fail> {
     let alloc = rt.alloc();
-    let mut book = book_of(alloc, &rt, SAMPLE)?;
-    let ride = tap(0xa1, SUBWAY, START);
-    let transfer = tap(0xa1, BUS, START + 7_200_000);
-    assert_eq!(rt; post_one(alloc, &mut book, ride)?, reply(Answer::Paid, 300));
-    assert_eq!(rt;
-        post_one(alloc, &mut book, transfer)?,
-        reply(Answer::Transfer, 0)
-    );
-    let first = entry(ride, Answer::Paid, 300);
-    assert_eq!(rt;
-        first_difference(&book, &[first, entry(transfer, Answer::Transfer, 0)]),
-        None
-    );
-    assert_eq!(rt;
-        first_difference(&book, &[first, entry(transfer, Answer::Transfer, 300)]),
-        Some(1)
-    );
-    assert_eq!(rt; first_difference(&book, &[first]), Some(1));
+    let book = two_taps(alloc, &rt)?;
+    assert_eq!(rt; first_difference(&book, &two_entries(0)), None);
+    assert_eq!(rt; first_difference(&book, &two_entries(300)), Some(1));
+    assert_eq!(rt; first_difference(&book, &two_entries(0)[..1]), Some(1));
     Ok(())
 }
 
@@ -402,20 +399,56 @@ fn sums_of_two_books(rt: HostRuntime) -> Result<(), Fail> {
     let mut other = book_of(alloc, &rt, SAMPLE)?;
     posted(alloc, &mut other, &four_taps())?;
     let books = [one, other];
-    assert_eq!(rt; shown(&totals_of(&books)), [6, 3, 2, 0, 0, 1, 900]);
+    assert!(rt; are_equal(&shown(&totals_of(&books)), &[6, 3, 2, 0, 0, 1, 900]));
     let validators = by_validator(alloc, &sums_by_validator(alloc, &books)?)?;
     let wanted = [
         (9, [1, 0, 0, 0, 0, 1, 0]),
         (SUBWAY, [3, 2, 1, 0, 0, 0, 600]),
         (BUS, [2, 1, 1, 0, 0, 0, 300]),
     ];
-    assert_eq!(rt; validators.as_slice(), wanted.as_slice());
+    assert!(rt; are_equal(&validators, &wanted));
     let tokens = by_token(alloc, &sums_by_token(alloc, &books)?)?;
     let wanted = [
         (token(0xa1), [4, 2, 2, 0, 0, 0, 600]),
         (token(0xb2), [2, 1, 0, 0, 0, 1, 300]),
     ];
-    assert_eq!(rt; tokens.as_slice(), wanted.as_slice());
+    assert!(rt; are_equal(&tokens, &wanted));
+    Ok(())
+}
+
+/// A book without entries, of one of two shards: the last bit of a token tells which.
+fn book_of_two<R: RandomSource>(alloc: Global, rt: &R, shard: u32) -> Result<ShardBook, Fail>
+    requires { shard < 2 }
+{
+    let keys = TokenKeys::new(rt)?;
+    let table = FareTable::read(alloc, SAMPLE.as_bytes())?;
+    Ok(ShardBook::open(alloc, keys, table, shard, 2))
+}
+
+/// The counts that the books keep and the sums over their entries are the same.
+#[test]
+fn sums_of_two_shards(rt: HostRuntime) -> Result<(), Fail> {
+    let alloc = rt.alloc();
+    let mut even = book_of_two(alloc, &rt, 0)?;
+    let taps = [tap(0xb2, 9, START + 10), tap(0xb2, SUBWAY, START + 5)];
+    posted(alloc, &mut even, &taps)?;
+    let mut odd = book_of_two(alloc, &rt, 1)?;
+    posted(alloc, &mut odd, &four_taps())?;
+    posted(
+        alloc,
+        &mut odd,
+        &[tap(0xc3, BUS, START), tap(0xa1, BUS, START)],
+    )?;
+    let books = [even, odd];
+    let wanted = [
+        (token(0xa1), [5, 2, 2, 0, 1, 0, 600]),
+        (token(0xb2), [2, 1, 0, 0, 0, 1, 300]),
+        (token(0xc3), [1, 1, 0, 0, 0, 0, 300]),
+    ];
+    let kept = by_token(alloc, &sums_by_token(alloc, &books)?)?;
+    assert!(rt; are_equal(&kept, &wanted));
+    let added = by_token(alloc, &added_by_token(alloc, &books)?)?;
+    assert!(rt; are_equal(&added, &wanted));
     Ok(())
 }
 
@@ -436,9 +469,7 @@ fn tokens_of_one_book(rt: HostRuntime) -> Result<(), Fail> {
     let alloc = rt.alloc();
     let book = three_taps(alloc, &rt)?;
     let tokens = book.tokens(alloc)?;
-    assert_eq!(rt; tokens.len(), 2);
-    assert_eq!(rt; tokens.first().copied(), Some(token(0xa1)));
-    assert_eq!(rt; tokens.last().copied(), Some(token(0xb2)));
+    assert!(rt; are_equal(&tokens, &[token(0xa1), token(0xb2)]));
     Ok(())
 }
 
@@ -447,24 +478,25 @@ fn sums_of_one_book(rt: HostRuntime) -> Result<(), Fail> {
     let alloc = rt.alloc();
     let book = three_taps(alloc, &rt)?;
     let validators = by_validator(alloc, &book.by_validator(alloc)?)?;
-    let wanted = [
-        (SUBWAY, [1, 1, 0, 0, 0, 0, 300]),
-        (BUS, [2, 1, 0, 0, 1, 0, 300]),
-    ];
-    assert_eq!(rt; validators.as_slice(), wanted.as_slice());
-    Ok(())
-}
-
-#[test]
-fn sums_by_token_of_one_book(rt: HostRuntime) -> Result<(), Fail> {
-    let alloc = rt.alloc();
-    let book = three_taps(alloc, &rt)?;
+    assert!(rt;
+        are_equal(
+            &validators,
+            &[
+                (SUBWAY, [1, 1, 0, 0, 0, 0, 300]),
+                (BUS, [2, 1, 0, 0, 1, 0, 300])
+            ]
+        )
+    );
     let tokens = by_token(alloc, &book.by_token(alloc)?)?;
-    let wanted = [
-        (token(0xa1), [1, 1, 0, 0, 0, 0, 300]),
-        (token(0xb2), [2, 1, 0, 0, 1, 0, 300]),
-    ];
-    assert_eq!(rt; tokens.as_slice(), wanted.as_slice());
+    assert!(rt;
+        are_equal(
+            &tokens,
+            &[
+                (token(0xa1), [1, 1, 0, 0, 0, 0, 300]),
+                (token(0xb2), [2, 1, 0, 0, 1, 0, 300])
+            ]
+        )
+    );
     Ok(())
 }
 

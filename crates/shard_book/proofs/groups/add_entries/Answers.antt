@@ -1,4 +1,4 @@
-use Rattle.std.proofs.Common.{◌++◌, take, length, arith}
+use Rattle.std.proofs.Common.{◌++◌, take, arith}
 use Rattle.std.proofs.lemmas.List.{length-append, length-take-le}
 use Rattle.shard_book.specs.Grouping.{HasRoom}
 use Rattle.shard_book.proofs.groups.add_entries.Goals as goal

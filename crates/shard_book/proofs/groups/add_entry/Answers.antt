@@ -1,9 +1,8 @@
-use Rattle.std.proofs.Common.{rules, Option, ap, sym, ◌∙◌}
+use Rattle.std.proofs.Common.{rules, Option, ap, ◌∙◌}
 use Rattle.std.specs.HashMap.{get}
 use Rattle.std.specs.HashMap.Entry.{map_with_value}
 use Rattle.std.specs.Option.{unwrap_or}
 use Rattle.shard_book.specs.declared.totals.Totals.{Totals}
-use Rattle.shard_book.specs.Grouping.{IsGrouped, HasRoom}
 use Rattle.shard_book.specs.Sums.{Sums}
 use Rattle.shard_book.proofs.GroupingLemmas.{kept-or, room-kept, grouped-written}
 use Rattle.shard_book.proofs.groups.add_entry.Goals as goal

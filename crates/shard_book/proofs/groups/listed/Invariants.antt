@@ -1,4 +1,4 @@
-use Rattle.std.proofs.Common.{◌≡◌, List, map, take, length, vec_len, vec_capacity}
+use Rattle.std.proofs.Common.{◌≡◌, map, take, length, vec_len, vec_capacity}
 use Rattle.std.specs.HashMap.{get}
 use Rattle.shard_book.specs.Grouping.{kept_sums}
 use Rattle.shard_book.proofs.groups.listed.Given as goal

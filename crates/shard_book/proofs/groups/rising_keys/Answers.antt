@@ -1,4 +1,4 @@
-use Rattle.std.proofs.Common.{rules, ◌≡◌, List}
+use Rattle.std.proofs.Common.{rules, ◌≡◌}
 use Rattle.std.specs.HashMap.{keys}
 use Rattle.shard_book.proofs.GroupingLemmas.{keys-rising}
 use Rattle.shard_book.proofs.groups.rising_keys.Goals as goal

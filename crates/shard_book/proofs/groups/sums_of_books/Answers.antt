@@ -1,4 +1,4 @@
-use Rattle.std.proofs.Common.{◌≡◌, ◌≤◌, ◌*◌, ◌^◌, length, take, sym, ap, ◌∙◌, arith, Option}
+use Rattle.std.proofs.Common.{◌≤◌, ◌*◌, ◌^◌, length, take, sym, ap, ◌∙◌, arith}
 use Rattle.std.specs.Option.{option_copied}
 use Rattle.shard_book.specs.Groups.{all_entries}
 use Rattle.shard_book.specs.Grouping.{HasRoom}

@@ -1,6 +1,6 @@
 use Rattle.std.proofs.Common.{◌≡◌, length, take, ap, ◌∙◌, arith}
 use Rattle.std.proofs.lemmas.List.{length-take-le}
-use Rattle.shard_book.specs.Sums.{Sums, sums, sums_of}
+use Rattle.shard_book.specs.Sums.{Sums}
 use Rattle.shard_book.proofs.SumsLemmas.{sums-taps, sums-more}
 use Rattle.shard_book.proofs.sums.totals_of_entries.Goals as goal
 

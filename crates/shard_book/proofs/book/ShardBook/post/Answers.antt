@@ -1,17 +1,13 @@
-use Rattle.std.proofs.Common.{rules, refl, ◌≡◌, ℕ, List, [], ◌∷◌, ◌++◌, subst, sym, ap, ◌∙◌}
+use Rattle.std.proofs.Common.{refl, ◌≡◌, ℕ, List, [], ◌∷◌, ◌++◌, sym, ap, ◌∙◌, arith}
 use Rattle.tap_views.specs.Layout.{num}
 use Rattle.fare_table.specs.Fares.{Fares}
 use Rattle.fare_table.specs.Until.{until}
 use Rattle.shard_book.specs.Book.{Book, with_entries}
-use Rattle.account_rule.specs.Rules.{rules_of}
 use Rattle.tap_views.specs.Shards.{shard_of_token}
 use Rattle.shard_book.specs.declared.entry.Entry.{Entry}
-use Rattle.shard_book.specs.Accounts.{account_at, IsKept}
-use Rattle.shard_book.specs.Entry.{tap_of, taps_of}
-use Rattle.shard_book.specs.History.{IsReplied}
 use Rattle.shard_book.specs.Sound.{AreKept, IsSound}
 use Rattle.shard_book.specs.Token.{bytes_of}
-use Rattle.shard_book.proofs.Histories.{tap_of-post}
+use Rattle.shard_book.proofs.CountingLemmas.{counted-few}
 use Rattle.shard_book.proofs.SoundLemmas.{sound-same, sound-post}
 use Rattle.shard_book.proofs.book.ShardBook.post.Goals as goal
 use Rattle.shard_book.proofs.book.ShardBook.post.Goals.{After-push_reserved}
@@ -19,6 +15,10 @@ use Rattle.shard_book.proofs.book.ShardBook.post.Goals.{After-push_reserved}
 pub step-requires-clause-kept : goal.step-requires-clause-kept
 unfolding AreKept
 step-requires-clause-kept c = (_, c.self.invariant.kept c.of-token.result)
+
+pub step-requires-clause-room : goal.step-requires-clause-room
+step-requires-clause-room c =
+    omega (arith, counted-few c.self.inside.accounts c.self.inside.history.items c.of-token.result c.self.invariant.counted, c.self.inside.history.ok.0, c.self.inside.history.ok.1, c.self.inside.history.small)
 
 pub invariant_of-self-in_err-reply : goal.invariant_of-self-in_err-reply
 invariant_of-self-in_err-reply c = sound-same c.reserve.ensures.items c.in_err-reply.ensures.err c.self.invariant
@@ -48,6 +48,8 @@ sound c =
     (c.requires.until ∙ sym (ap (λ (b : Book). until b.table (num tap.moment)) view) ∙ sym (ap (λ (m : ℕ). until c.self.inside.table m) c.moment_ms-moment.ensures.number))
     c.in_ok-reply.ensures.reply
     c.in_ok-reply.ensures.kept
+    c.in_ok-reply.ensures.counted
+    c.in_ok-reply.ensures.there
     c.in_ok-reply.ensures.others
 
 pub invariant_of-self-2 : goal.invariant_of-self-2

@@ -1,8 +1,3 @@
-use Rattle.std.proofs.Common.{◌≡◌, ◌++◌, length}
-use Rattle.std.specs.List.{AllByRecursion}
-use Rattle.tap_views.specs.Shards.{run_taps, IsShardTap}
-use Rattle.shard_book.specs.History.{IsLegal}
-use Rattle.shard_book.specs.Visits.{PostsTaps}
 use Rattle.shard_book.proofs.RunLemmas.{IsPosting}
 use Rattle.shard_book.proofs.book.ShardBook.post_run.Given as goal
 
