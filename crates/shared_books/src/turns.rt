@@ -11,7 +11,7 @@ use std::hint;
 use std::marker::Model;
 use std::snapshot::Snapshot;
 use std::sync::Wait;
-use std::sync::atomic::{AtomicU64, Ordering};
+use std::sync::atomic::{AtomicBool, Ordering};
 use tap_views::Run;
 
 pub(crate) mod answers;
@@ -20,7 +20,7 @@ pub(crate) mod rule;
 // The word at which `2^62` visits are counted.
 const FULL: u64 = 1 << 63;
 
-// How often a waiting visit looks at the word before it sleeps.
+// How often a waiting visit looks at the word before it sleeps. It looks no more where others sleep already.
 const LOOKS: u32 = 100;
 
 /// A shard's book that passes take turns at. One word is `2k` where `k` visits are counted and nobody has the turn, and `2k + 1`
@@ -29,8 +29,8 @@ const LOOKS: u32 = 100;
 pub struct SharedBook {
     table: Table<Slot, View, Opening, TurnRule, Global>,
     first: u64,
-    // how many visits sleep until the turn is given back
-    sleepers: AtomicU64,
+    // whether a visit may be asleep for which no wake is under way
+    asleep: AtomicBool,
 }
 
 impl Model for SharedBook {
@@ -111,29 +111,30 @@ impl SharedBook {
         ensures given { (visit : List Entry) → book.value.entries ≡ joined (visits_of seat.old.me.0.marks) ++ visit → seat.new.me ≡ (view seat.old.me.0.opened false (seat.old.me.0.marks ++ mark true visit ∷ []) seat.old.me.0.met, []) }
     {
         let _ = self.table.shared.exchange(seat, 0, Some(book));
+        let slept = self.asleep.load(Ordering::SeqCst);
+        if slept {
+            self.asleep.store(false, Ordering::SeqCst);
+        }
         self.table.shared.store::<Gives>(seat, 0, 2 * number + 2);
-        self.wake();
-    }
-
-    // Wakes a visit that sleeps, if one does. Whoever gives the turn back does so, and whoever finds the book full, so that each
-    // sleeper hears of it.
-    fn wake(&self) {
-        if self.sleepers.load(Ordering::SeqCst) > 0 {
+        if slept || self.asleep.load(Ordering::SeqCst) {
             self.table.shared.wake_one(0);
         }
     }
 
-    // Waits until the word is no longer the one that was found: by some looks at it, then asleep. It may return sooner.
-    fn rest<R: Wait>(&self, rt: &R, found: u64) {
+    // Waits until the word is no longer the one that was found, and tells whether it slept. It may return sooner.
+    fn rest<R: Wait>(&self, rt: &R, found: u64) -> bool {
         for _ in 0..LOOKS {
             if self.table.shared.peek(0) != found {
-                return;
+                return false;
+            }
+            if self.asleep.load(Ordering::SeqCst) {
+                break;
             }
             hint::spin_loop();
         }
-        self.sleepers.fetch_add(1, Ordering::SeqCst);
+        self.asleep.store(true, Ordering::SeqCst);
         self.table.shared.park(rt, 0, (found & 0xffff_ffff) as u32);
-        self.sleepers.fetch_sub(1, Ordering::SeqCst);
+        true
     }
 }
 
@@ -172,7 +173,7 @@ impl SharedBook {
         let shared = SharedBook {
             table,
             first,
-            sleepers: AtomicU64::new(0),
+            asleep: AtomicBool::new(false),
         };
         Ok((shared, Pass { seat, held: 0 }))
     }
@@ -189,15 +190,21 @@ impl SharedBook {
         ensures taken { IfOk result (λ taken. HasBookOut seat.old.me seat.new.me taken.0 taken.1.value) }
         ensures full { IfErr result (λ _. FindsFull seat.old.me seat.new.me) }
     {
+        let mut slept = false;
         for _ in rt.forever() {
             let found = self.look(seat);
             if found == FULL {
-                self.wake();
+                // Each sleeper hears of it from the one before.
+                self.table.shared.wake_one(0);
                 return Err(Full);
             }
             if found % 2 == 1 {
-                self.rest(rt, found);
+                slept |= self.rest(rt, found);
             } else if let Some(book) = self.try_take(seat, found) {
+                if slept {
+                    // Others may still sleep: who was woken wakes the next with the turn that it gives back.
+                    self.asleep.store(true, Ordering::SeqCst);
+                }
                 return Ok((found / 2, book));
             }
         }
@@ -298,7 +305,7 @@ impl SharedBook {
         let SharedBook {
             table,
             first,
-            sleepers: _,
+            asleep: _,
         } = self;
         let Pass { seat, held } = pass;
         let mut closed = table.close_with(seat);
@@ -323,7 +330,7 @@ impl SharedBook {
         let SharedBook {
             table,
             first,
-            sleepers: _,
+            asleep: _,
         } = self;
         let mut closed = table.close();
         let word = closed.word(0);

@@ -4,7 +4,7 @@ ghost use Rattle.std.specs.Prelude.{◌≡◌};
 
 use super::both::{B, M0, S, WEEK, X, step_both, tap_of, transfers};
 use super::plain::PlainAccount;
-use super::tables::{LOW_CEILING, NEW_YORK, SAMPLE};
+use super::tables::{FEW_RIDES, LOW_CEILING, NEW_YORK, SAMPLE};
 use crate::Answer::{Capped, Paid, Stale, Transfer, Unknown};
 use crate::{Account, Answer, Reply, WindowView};
 use fare_table::{Clock, FareTable, Terms};
@@ -137,6 +137,15 @@ fn worked_rows(rt: HostRuntime) -> Result<(), Fail> {
             ceiling: 200,
         },
     };
+    let few = Rider {
+        table: FEW_RIDES,
+        token: 0xa1,
+        terms: Terms {
+            fare: 300,
+            rides: 2,
+            ceiling: 3500,
+        },
+    };
     let civil = Rider {
         table: NEW_YORK,
         token: 0xa1,
@@ -158,6 +167,14 @@ fn worked_rows(rt: HostRuntime) -> Result<(), Fail> {
             opening: &[],
             taps: &[(S, 0, Paid, 300), (B, 7_200_001, Paid, 300)],
             window: window(M0, M0 + WEEK, 2, 600),
+        },
+        Row {
+            name: "bus_to_bus_is_permitted",
+            rider: full,
+            from: M0,
+            opening: &[],
+            taps: &[(B, 0, Paid, 300), (B, 1_200_000, Transfer, 0)],
+            window: window(M0, M0 + WEEK, 1, 300),
         },
         Row {
             name: "only_the_last_tap_gives_a_transfer",
@@ -207,6 +224,14 @@ fn worked_rows(rt: HostRuntime) -> Result<(), Fail> {
             opening: &[],
             taps: &[(X, 10, Unknown, 0), (S, 5, Paid, 300)],
             window: window(M0 + 5, M0 + 5 + WEEK, 1, 300),
+        },
+        Row {
+            name: "unknown_is_asked_before_stale",
+            rider: full,
+            from: M0,
+            opening: &[],
+            taps: &[(S, 10, Paid, 300), (X, 5, Unknown, 0)],
+            window: window(M0 + 10, M0 + 10 + WEEK, 1, 300),
         },
         Row {
             name: "ceiling_cuts_the_twelfth_ride",
@@ -294,6 +319,18 @@ fn worked_rows(rt: HostRuntime) -> Result<(), Fail> {
             opening: &[],
             taps: &[(S, 0, Paid, 200), (S, 10_800_000, Capped, 0)],
             window: window(M0, M0 + WEEK, 1, 200),
+        },
+        Row {
+            name: "ride_limit_below_the_ceiling",
+            rider: few,
+            from: M0,
+            opening: &[],
+            taps: &[
+                (S, 0, Paid, 300),
+                (S, 10_800_000, Paid, 300),
+                (S, 21_600_000, Capped, 0),
+            ],
+            window: window(M0, M0 + WEEK, 2, 600),
         },
         Row {
             name: "civil_window_ends_at_midnight",

@@ -51,6 +51,16 @@ fn a_drawer_held_back_is_missing(rt: HostRuntime) -> Result<(), Fail> {
 }
 
 #[test]
+fn drawing_ends_well_before_all_are_drawn(rt: HostRuntime) -> Result<(), Fail> {
+    let (draw, drawer) = Draw::new(rt.alloc(), 2)?;
+    assert_eq!(rt; draw.finish(drawer).ok(), Some(0));
+    let (draw, mut drawer) = Draw::new(rt.alloc(), 2)?;
+    assert_eq!(rt; draw.draw(&mut drawer), Some(0));
+    assert_eq!(rt; draw.finish(drawer).ok(), Some(1));
+    Ok(())
+}
+
+#[test]
 fn an_owner_without_a_drawer_finishes_too(rt: HostRuntime) -> Result<(), Fail> {
     let (draw, _) = Draw::new(rt.alloc(), 2)?;
     assert!(rt; draw.finish_unseen().is_ok());
