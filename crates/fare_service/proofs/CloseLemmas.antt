@@ -1,25 +1,24 @@
 -- Books and the drawing are closed.
-use Rattle.std.specs.Prelude.{ℕ, zero, suc, ◌≡◌, ◌≢◌, ◌⊎◌, ◌+◌, ◌<◌, ◌≤◌, List, [], ◌∷◌, ◌++◌, length, map, All, slice_get, Some, option_map}
+use Rattle.std.specs.Prelude.{ℕ, zero, suc, ◌≡◌, ◌⊎◌, ◌+◌, ◌<◌, ◌≤◌, List, [], ◌∷◌, length, slice_get, Some, option_map}
 use Rattle.std.specs.List.{flat_map}
 use Rattle.std.specs.Prelude.{remove, Result, Ok, Err, OnOk, Bool, true, false, ◌==◌}
-use Rattle.std.proofs.Common.{refl, sym, ◌∙◌, ap, inl, inr, subst, arith, get_or, length-append, eqb-true}
+use Rattle.std.proofs.Common.{refl, sym, ◌∙◌, ap, inl, inr, subst, arith, get_or, eqb-true}
 use Rattle.std.proofs.lemmas.Bool.{cases_lt}
 use Rattle.std.proofs.lemmas.List.Elements.{All-nil, All-weaker}
 use Rattle.std.proofs.lemmas.List.Concat.{length-flat_map}
 use Rattle.std.proofs.lemmas.Option.{slice_get-map}
 use Rattle.shard_book.specs.Book.{Book}
 use Rattle.shared_books.specs.declared.turns.rule.Mark.{Mark}
-use Rattle.shared_books.specs.Drawing.{Drawing, Drawings, NoneTwice, HasAll, AllBelow, IsCount, times}
-use Rattle.shared_books.specs.Marks.{joined, visits_of}
+use Rattle.shared_books.specs.Drawing.{Drawing, Drawings, HasAll, IsCount, times}
+use Rattle.shared_books.specs.Marks.{joined}
 use Rattle.shared_books.specs.Passes.{Opened, Knowledge}
 use Rattle.fare_service.specs.declared.faults.GatherFault.{GatherFault}
 use Rattle.fare_service.specs.declared.faults.GatherFault.TheVariants.{NoMemory, Missing, Drawn}
 use Rattle.fare_service.specs.Closing.{AreClosed, AreUnseen, IsClosedBy, IsUnseen, IsHistoryOf, IsClosedWork, IsMissing, NoneMissing}
 use Rattle.fare_service.specs.Faults.{IsGatherFault, visits_held, uploads_held}
-use Rattle.fare_service.specs.Gathering.{Signed, by_worker}
 use Rattle.fare_service.specs.Holdings.{Holding}
 use Rattle.fare_service.specs.Joining.{AreSigns, IsJoinedOf}
-use Rattle.fare_service.specs.Shares.{books_of, marks_at, own_at}
+use Rattle.fare_service.specs.Shares.{books_of, marks_at}
 use Rattle.fare_service.proofs.Signing.{all_signed, signs_visits}
 
 -- the first of some elements was taken out

@@ -1,10 +1,9 @@
 -- Shares are gathered: what their workers did is an outcome.
-use Rattle.std.specs.Prelude.{ℕ, zero, suc, ◌≡◌, ◌≢◌, ◌⊎◌, ◌+◌, ◌<◌, ◌≤◌, ◌==◌, Bool, true, false, List, [], ◌∷◌, ◌++◌, length, map, replicate, slice_set, All, slice_get, Some, None, cond, sum_by}
+use Rattle.std.specs.Prelude.{ℕ, zero, suc, ◌≡◌, ◌≢◌, ◌⊎◌, ◌+◌, ◌<◌, ◌≤◌, ◌==◌, true, false, List, [], ◌∷◌, ◌++◌, length, map, replicate, slice_set, All, slice_get, Some, cond}
 use Rattle.std.specs.List.{flat_map, AllZip}
-use Rattle.std.proofs.Common.{refl, sym, ◌∙◌, ap, inl, inr, subst, arith, eq-eqb, ne_eqb}
+use Rattle.std.proofs.Common.{refl, sym, ◌∙◌, ap, inl, inr, subst, arith}
 use Rattle.std.proofs.lemmas.Bool.Decides.{eqb_tells}
-use Rattle.std.proofs.lemmas.Grind.{flat_map-append}
-use Rattle.std.proofs.lemmas.List.{map-append, length-map}
+use Rattle.std.proofs.lemmas.List.{map-append}
 use Rattle.std.proofs.lemmas.List.Sums.{sum_by-cons}
 use Rattle.std.proofs.lemmas.List.Elements.{All-nil, All-cons, All-head, All-tail, All-append, All-map, All-weaker}
 use Rattle.shard_book.specs.Book.{Book}
@@ -13,18 +12,17 @@ use Rattle.shard_book.specs.History.{IsLegal}
 use Rattle.fare_table.specs.Fares.{Fares}
 use Rattle.shard_book.specs.Sums.{Sums, sums}
 use Rattle.shared_books.specs.Drawing.{NoneTwice, times}
-use Rattle.shared_books.specs.Passes.{Opened}
 use Rattle.fare_service.specs.Closing.{IsClosedWork, IsHistoryOf}
 use Rattle.fare_service.specs.declared.share.Done.{Done}
 use Rattle.fare_service.specs.declared.upload_end.UploadEnd.{UploadEnd}
 use Rattle.fare_service.specs.declared.upload_end.UploadEnd.TheVariants.{Posted, Refused, Cut, Undrawn}
-use Rattle.fare_service.specs.Gathering.{Signed, by_worker, IsBookOfWork, all_works, end_of, IsGathered, HasOutcome, HasRun, ToldUndrawn}
+use Rattle.fare_service.specs.Gathering.{IsBookOfWork, all_works, end_of, HasOutcome, HasRun}
 use Rattle.fare_service.specs.Halls.{Hall, IsHall, IsBookOf, shards_of, upload_at}
 use Rattle.fare_service.specs.Holdings.{Holding}
 use Rattle.fare_service.specs.Joining.{Belongs, told, told_all}
 use Rattle.fare_service.specs.Outcomes.{Gathered, IsOutcome}
-use Rattle.fare_service.specs.Runs.{entries_to, entries_of}
-use Rattle.fare_service.specs.Shares.{Worked, all_visits, done_of, IsWorked, Keeps, IsShareOf, own_at, books_of, IsEndOf}
+use Rattle.fare_service.specs.Runs.{entries_of}
+use Rattle.fare_service.specs.Shares.{Worked, all_visits, done_of, IsWorked, Keeps, IsShareOf, IsEndOf}
 
 -- what each share keeps
 abbrev Kept : Hall → List Holding → List (List Worked) → Type 0

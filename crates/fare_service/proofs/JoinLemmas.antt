@@ -1,8 +1,8 @@
 -- Passes that are joined, one shard after another.
-use Rattle.std.specs.Prelude.{ℕ, zero, suc, ◌≡◌, ◌≢◌, ◌⊎◌, ◌+◌, ◌<◌, ◌≤◌, ◌==◌, Bool, true, false, List, [], ◌∷◌, ◌++◌, length, map, All, slice_get, Some}
+use Rattle.std.specs.Prelude.{ℕ, zero, suc, ◌≡◌, ◌≢◌, ◌⊎◌, ◌<◌, ◌≤◌, ◌==◌, true, false, List, [], ◌∷◌, ◌++◌, length, slice_get, Some}
 use Rattle.std.specs.List.{flat_map}
-use Rattle.std.proofs.Common.{refl, sym, ◌∙◌, ap, inl, inr, subst, arith, get_or, set, append-nil, append_assoc, length-append}
-use Rattle.std.proofs.lemmas.List.{length-map, map-append}
+use Rattle.std.proofs.Common.{refl, sym, ◌∙◌, ap, inl, inr, subst, arith, get_or, set, append-nil, length-append}
+use Rattle.std.proofs.lemmas.List.{map-append}
 use Rattle.std.proofs.lemmas.List.Elements.{All-nil, All-cons, All-push, All-weaker}
 use Rattle.std.proofs.lemmas.List.Sums.{sum_by-append, sum_by-cons}
 use Rattle.std.proofs.lemmas.Grind.{flat_map-append}
@@ -10,13 +10,12 @@ use Rattle.std.proofs.lemmas.Bool.Decides.{eqb_tells}
 use Rattle.std.proofs.lemmas.Option.{slice_get_within}
 use Rattle.shared_books.specs.declared.turns.rule.Mark.{Mark}
 use Rattle.shared_books.specs.Drawing.{Drawing, Drawings, HasMet}
-use Rattle.shared_books.specs.Marks.{visits_of, merged, Apart, Begins}
+use Rattle.shared_books.specs.Marks.{visits_of, merged}
 use Rattle.shared_books.specs.Passes.{Opened, Knowledge, IsJoined}
-use Rattle.fare_service.specs.Faults.{visits_held}
-use Rattle.fare_service.specs.Gathering.{Signed, by_worker}
+use Rattle.fare_service.specs.Gathering.{by_worker}
 use Rattle.fare_service.specs.Holdings.{Holding}
 use Rattle.fare_service.specs.Joining.{AreSigns, AreJoined, AreJoinedAt, AreSignedAt, Belongs, IsJoinedOf}
-use Rattle.fare_service.specs.Shares.{books_of, own_visits, marks_at, own_at}
+use Rattle.fare_service.specs.Shares.{books_of, marks_at, own_at}
 use Rattle.fare_service.proofs.PlaceLemmas.{place_more}
 use Rattle.fare_service.proofs.Signing.{signed, signs_more, earlier_stay, new_own, merged-nil, made_own}
 use Rattle.fare_service.proofs.VisitLemmas.{marks-set_same, marks-set_other}

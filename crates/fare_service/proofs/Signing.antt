@@ -1,14 +1,13 @@
 -- Who made which visit to a book. A sign is a visit with the worker that made it; a visit that no joined worker made is signed by nobody, who
 -- is told by a number above all workers.
 use Rattle.std.specs.Prelude.{ℕ, zero, suc, ◌≡◌, ◌≢◌, ◌⊎◌, ◌+◌, ◌<◌, ◌≤◌, ◌==◌, ◌||◌, nat_lt, Bool, true, false, cond, List, [], ◌∷◌, ◌++◌, length, map, filter, All}
-use Rattle.std.specs.List.{AllZip}
 use Rattle.std.proofs.Common.{refl, sym, ◌∙◌, ap, inl, inr, subst, arith, eq-eqb, ne_eqb}
-use Rattle.std.proofs.lemmas.Bool.Decides.{eqb_tells, nat_tests}
+use Rattle.std.proofs.lemmas.Bool.Decides.{nat_tests}
 use Rattle.std.proofs.lemmas.List.{length-map}
 use Rattle.std.proofs.lemmas.List.Elements.{All-nil, All-cons}
 use Rattle.shard_book.specs.declared.entry.Entry.{Entry}
 use Rattle.shared_books.specs.declared.turns.rule.Mark.{Mark}
-use Rattle.shared_books.specs.Marks.{mark, visits_of, merged, Apart, Begins, made_at, made_from, numbered, joined}
+use Rattle.shared_books.specs.Marks.{mark, visits_of, merged, Apart, Begins, made_at, made_from, numbered}
 use Rattle.fare_service.specs.Gathering.{Signed, by_worker}
 use Rattle.fare_service.specs.Joining.{IsSign, AreSigns, AreJoined}
 use Rattle.fare_service.specs.Shares.{own_visits}

@@ -15,6 +15,8 @@ mod service;
 mod share;
 mod shown;
 mod statement;
+#[cfg(test)]
+mod tests;
 mod upload_end;
 mod working;
 

@@ -1,11 +1,11 @@
-use Rattle.std.proofs.Common.{ℕ, ◌≡◌, ◌+◌, ◌<◌, ◌≤◌, List, ◌∷◌, [], ◌++◌, length, refl, sym, ◌∙◌, ap, subst, arith, append_assoc, length-append, map}
+use Rattle.std.proofs.Common.{ℕ, ◌≡◌, List, ◌∷◌, [], ◌++◌, length, sym, ◌∙◌, ap, subst, arith, append_assoc, length-append}
 use Rattle.std.specs.Prelude.{slice_get, Some}
 use Rattle.std.proofs.lemmas.List.{length-map, map-append}
-use Rattle.std.specs.Vec.Iter.{into_iter_items, into_iter_len}
+use Rattle.std.specs.Vec.Iter.{into_iter_items}
 use Rattle.shard_book.specs.Book.{Book}
-use Rattle.shared_books.specs.Passes.{Knowledge, Opened}
+use Rattle.shared_books.specs.Passes.{Knowledge}
 use Rattle.fare_service.specs.Closing.{AreClosed, IsClosedBy}
-use Rattle.fare_service.specs.Shares.{marks_at, own_at, own_visits, books_of}
+use Rattle.fare_service.specs.Shares.{marks_at, own_visits}
 use Rattle.fare_service.proofs.PlaceLemmas.{place_more}
 use Rattle.fare_service.proofs.Signing.{made_own}
 use Rattle.fare_service.proofs.JoinLemmas.{next_book, at_end, marks_mid}

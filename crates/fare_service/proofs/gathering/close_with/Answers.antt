@@ -1,12 +1,8 @@
-use Rattle.std.proofs.Common.{ℕ, ◌≡◌, ◌+◌, ◌<◌, ◌≤◌, List, ◌∷◌, [], length, refl, sym, ◌∙◌, ap, subst, arith}
-use Rattle.std.specs.Prelude.{Result, OnOk, Ok, Err}
-use Rattle.fare_service.specs.declared.faults.GatherFault.{GatherFault}
+use Rattle.std.proofs.Common.{◌+◌, List, ◌∷◌, length, sym, ◌∙◌, subst, arith}
 use Rattle.std.specs.Vec.{vec_len}
 use Rattle.shared_books.specs.Passes.{Opened}
 use Rattle.fare_service.specs.Closing.{IsClosedWork}
-use Rattle.fare_service.specs.Holdings.{Holding}
 use Rattle.fare_service.specs.Joining.{IsJoinedOf}
-use Rattle.fare_service.specs.Faults.{uploads_held}
 use Rattle.fare_service.proofs.CloseLemmas.{split_first, closed_none, closed_all, held_drawn, joined_whole, any_ok, no_shares, some_shares, none_there}
 use Rattle.fare_service.proofs.gathering.close_with.Goals as goal
 

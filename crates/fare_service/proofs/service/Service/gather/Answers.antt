@@ -1,15 +1,13 @@
-use Rattle.std.proofs.Common.{◌≡◌, ℕ, ◌+◌, ◌<◌, ◌≤◌, List, All, length, map, slice_get, Some, [], ◌∷◌, replicate, refl, sym, ◌∙◌, ap, subst, arith}
+use Rattle.std.proofs.Common.{◌≡◌, ℕ, ◌<◌, List, All, length, map, slice_get, Some, replicate, sym, ◌∙◌, ap, subst}
 use Rattle.std.proofs.lemmas.List.{length-map}
-use Rattle.shard_book.specs.Sums.{Sums, sums, sums_of}
+use Rattle.shard_book.specs.Sums.{sums, sums_of}
 use Rattle.shard_book.specs.Groups.{all_entries}
-use Rattle.fare_service.specs.declared.upload_end.UploadEnd.{UploadEnd}
 use Rattle.fare_service.specs.declared.upload_end.UploadEnd.TheVariants.{Undrawn}
 use Rattle.fare_service.specs.Joining.{told_all}
-use Rattle.fare_service.specs.Halls.{Hall, IsHall}
+use Rattle.fare_service.specs.Halls.{Hall}
 use Rattle.fare_service.specs.Holdings.{Holding}
 use Rattle.fare_service.specs.Shares.{IsShareOf}
-use Rattle.fare_service.specs.Gathering.{HasOutcome, ToldUndrawn}
-use Rattle.fare_service.specs.Outcomes.{Gathered}
+use Rattle.fare_service.specs.Gathering.{HasOutcome}
 use Rattle.fare_service.proofs.GatherLemmas.{has_outcome, told_undrawn, is_outcome, done_within}
 use Rattle.fare_service.proofs.service.Service.gather.Goals as goal
 

@@ -1,7 +1,7 @@
-use Rattle.std.proofs.Common.{ℕ, ◌≡◌, ◌+◌, ◌*◌, ◌≤◌, List, [], sym, ◌∙◌, ap, subst, refl, arith}
+use Rattle.std.proofs.Common.{ℕ, ◌≡◌, [], ◌∙◌, subst, refl, arith}
 use Rattle.shard_book.specs.Sums.{sums_of}
 use Rattle.fare_service.specs.Halls.{shards_of}
-use Rattle.fare_service.specs.Runs.{placed_from, of_shard, if_any, runs_below}
+use Rattle.fare_service.specs.Runs.{placed_from, runs_below}
 use Rattle.fare_service.proofs.VisitLemmas.{made_none}
 use Rattle.fare_service.proofs.BatchLemmas.{Posts, batch_more, batch_cut, cuts_told}
 use Rattle.fare_service.proofs.service.Service.post_batch.Goals as goal

@@ -1,13 +1,10 @@
-use Rattle.std.proofs.Common.{ℕ, List, [], ◌++◌, ◌∷◌, map, Ok, Err, ◌≡◌, ◌≤◌, ◌+◌, ◌*◌, ◌<◌, ◌^◌, length, true, false, ap, ◌∙◌, sym, refl, subst, append_assoc, append-nil, arith, Result}
+use Rattle.std.proofs.Common.{List, [], ◌++◌, ◌∷◌, map, Ok, Err, ◌≤◌, ◌+◌, ◌*◌, ◌<◌, ◌^◌, length, true, false, ap, ◌∙◌, sym, refl, subst, append_assoc, append-nil, arith}
 use Rattle.std.proofs.lemmas.List.{map-append}
 use Rattle.tap_views.specs.Layout.{Tap}
 use Rattle.tap_views.specs.Files.{Item, IsReading, IsFile}
-use Rattle.tap_views.specs.declared.fault.LayoutFault.{LayoutFault}
 use Rattle.shard_book.specs.Sums.{sums_of}
 use Rattle.fare_service.specs.Halls.{shards_of}
-use Rattle.fare_service.specs.Runs.{runs_of}
 use Rattle.fare_service.proofs.VisitLemmas.{made_none}
-use Rattle.fare_service.proofs.BatchLemmas.{Posts, Cuts}
 use Rattle.fare_service.proofs.TapCounts.{batches_taps}
 use Rattle.fare_service.proofs.ReadingLemmas.{same_items, read_all, read_fault, read_batch, done_room, posted_few, batches_more, batches_cut, cut_upload}
 use Rattle.fare_service.proofs.service.Service.post_batches.Goals as goal

@@ -1,4 +1,4 @@
-use Rattle.std.proofs.Common.{◌≡◌, ℕ, ◌+◌, ◌*◌, ◌≤◌, List, ◌++◌, map, Ok}
+use Rattle.std.proofs.Common.{◌≡◌, List, ◌++◌, map, Ok}
 use Rattle.tap_views.specs.Layout.{Tap}
 use Rattle.tap_views.specs.Files.{IsReading}
 use Rattle.shard_book.specs.Sums.{sums_of}
