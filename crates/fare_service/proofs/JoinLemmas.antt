@@ -83,6 +83,12 @@ signed_more nobody shard shares share passes passes' below s j =
           (new_own i nobody s.signs (marks_at shard passes) (marks_at shard share.passes) below s.of_marks j.begins);
     }
 
+-- two lists of marks that were joined are no shorter
+merged_longer : (xs ys : List Mark) → (length xs ≤ length (merged xs ys)) × (length ys ≤ length (merged xs ys))
+merged_longer [] ys = (omega arith, omega arith)
+merged_longer (x ∷ xs) [] = (omega arith, omega arith)
+merged_longer (x ∷ xs) (y ∷ ys) = let rest = merged_longer xs ys in (omega (arith, rest.0), omega (arith, rest.1))
+
 -- one share more was joined
 pub joined_more : (drawing : Drawing) (books : List Opened) (nobody : ℕ) (shares : List Holding) (share : Holding) (drawer drawer' : Drawings) (passes passes' : List Knowledge) → length shares < nobody
     → IsJoinedOf drawing books nobody shares drawer passes → HasMet drawer share.drawer drawer' → books_of passes' ≡ books → ((shard : ℕ) → AreJoinedAt shard passes share.passes passes')
@@ -94,6 +100,10 @@ joined_more drawing books nobody shares share drawer drawer' passes passes' belo
   of_books = of_books;
   signed = λ shard. signed_more nobody shard shares share passes passes' below (all.signed shard) (joined shard);
   held = λ shard. omega (arith, (joined shard).held, all.held shard, sum_by-append (λ (s : Holding). length (own_at shard s.passes)) shares (share ∷ []), sum_by-cons (λ (s : Holding). length (own_at shard s.passes)) share []);
+  longest = λ shard. let long = merged_longer (marks_at shard passes) (marks_at shard share.passes) in let new : length (marks_at shard passes') ≡ length (merged (marks_at shard passes) (marks_at shard share.passes)) = ap length (joined shard).marks in
+      All-push (λ s. length (marks_at shard s.passes) ≤ length (marks_at shard passes')) shares share
+      (All-weaker (λ s. length (marks_at shard s.passes) ≤ length (marks_at shard passes)) (λ s. length (marks_at shard s.passes) ≤ length (marks_at shard passes')) (λ s h. omega (arith, h, long.0, new)) shares (all.longest shard))
+      (omega (arith, long.1, new));
 }
 
 -- the first share
@@ -110,6 +120,7 @@ joined_first drawing books nobody share some is = record {
         (new_own 0 nobody [] [] (marks_at shard share.passes) some tt (inl (visits_of (marks_at shard share.passes), refl)));
   };
   held = λ shard. omega (arith, sum_by-cons (λ (s : Holding). length (own_at shard s.passes)) share []);
+  longest = λ shard. All-cons (λ s. length (marks_at shard s.passes) ≤ length (marks_at shard share.passes)) share [] (omega arith) (All-nil (λ s. length (marks_at shard s.passes) ≤ length (marks_at shard share.passes)));
 }
 
 pub heads : {A : Type 0} (xs : List A) (a b : A) (more rest : List A) → xs ++ a ∷ more ≡ xs ++ b ∷ rest → a ≡ b

@@ -1,3 +1,4 @@
+pub mod AddingLemmas
 pub mod BatchLemmas
 pub mod CloseLemmas
 pub mod GatherLemmas
@@ -5,6 +6,8 @@ pub mod JoinLemmas
 pub mod MomentLemmas
 pub mod Parts
 pub mod PlaceLemmas
+pub mod PlacedVisits
+pub mod PlacingLemmas
 pub mod ReadingLemmas
 pub mod RunLemmas
 pub mod RunVisits

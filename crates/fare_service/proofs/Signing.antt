@@ -83,10 +83,10 @@ signs_more i nobody (s ∷ signs) (x ∷ old) [] below all = kept_all i nobody (
 signs_more i nobody (s ∷ signs) (x ∷ old) (y ∷ other) below all =
     (sign_by i nobody s x y.mine below (sign_kept i nobody s x x.mine refl below all.0), signs_more i nobody signs old other below all.1)
 
-step_no : (w : ℕ) (s : Signed) (ss : List Signed) → (s.worker == w) ≡ false → by_worker w (s ∷ ss) ≡ by_worker w ss
+pub step_no : (w : ℕ) (s : Signed) (ss : List Signed) → (s.worker == w) ≡ false → by_worker w (s ∷ ss) ≡ by_worker w ss
 step_no w s ss e = ap (λ b. map (λ v. v.entries) (cond b (s ∷ filter (λ v. v.worker == w) ss) (filter (λ v. v.worker == w) ss))) e
 
-step_yes : (w : ℕ) (s : Signed) (ss : List Signed) → (s.worker == w) ≡ true → by_worker w (s ∷ ss) ≡ s.entries ∷ by_worker w ss
+pub step_yes : (w : ℕ) (s : Signed) (ss : List Signed) → (s.worker == w) ≡ true → by_worker w (s ∷ ss) ≡ s.entries ∷ by_worker w ss
 step_yes w s ss e = ap (λ b. map (λ v. v.entries) (cond b (s ∷ filter (λ v. v.worker == w) ss) (filter (λ v. v.worker == w) ss))) e
 
 same_step : (w : ℕ) (s t : Signed) (ss ts : List Signed) → (s.worker == w) ≡ (t.worker == w) → s.entries ≡ t.entries → by_worker w ss ≡ by_worker w ts → by_worker w (s ∷ ss) ≡ by_worker w (t ∷ ts)

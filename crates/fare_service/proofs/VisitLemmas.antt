@@ -21,10 +21,10 @@ use Rattle.fare_service.specs.Runs.{Visit, IsEntered, visits_to, entries_to, ent
 use Rattle.fare_service.specs.Shares.{own_visits, marks_at, own_at, Made}
 
 -- sums are their seven numbers
-abbrev seven : ℕ → ℕ → ℕ → ℕ → ℕ → ℕ → ℕ → Sums
+abbrev pub seven : ℕ → ℕ → ℕ → ℕ → ℕ → ℕ → ℕ → Sums
 seven a b c d e f g = record { taps = a; paid = b; transfers = c; capped = d; stale = e; unknown = f; cents = g }
 
-same_seven : (a a' b b' c c' d d' e e' f f' g g' : ℕ) → a ≡ a' → b ≡ b' → c ≡ c' → d ≡ d' → e ≡ e' → f ≡ f' → g ≡ g' → seven a b c d e f g ≡ seven a' b' c' d' e' f' g'
+pub same_seven : (a a' b b' c c' d d' e e' f f' g g' : ℕ) → a ≡ a' → b ≡ b' → c ≡ c' → d ≡ d' → e ≡ e' → f ≡ f' → g ≡ g' → seven a b c d e f g ≡ seven a' b' c' d' e' f' g'
 same_seven a a' b b' c c' d d' e e' f f' g g' p q r s t u v = cc
 
 -- the sums of two lists of replies

@@ -61,3 +61,4 @@ pub record IsJoinedOf (drawing : Drawing) (books : List Opened) (nobody : ℕ) (
   pub of_books : books_of passes ≡ books
   pub signed : (shard : ℕ) → AreSignedAt nobody shard shares passes
   pub held : (shard : ℕ) → length (own_at shard passes) ≡ visits_held shard shares
+  pub longest : (shard : ℕ) → All (λ share. length (marks_at shard share.passes) ≤ length (marks_at shard passes)) shares

@@ -1,8 +1,12 @@
 //! A run: a thread for each worker, and the gathering of their shares.
 
 ghost use Rattle.std.specs.Prelude.{◌≡◌, ◌<◌, All, IfOk, IfErr, length};
+ghost use Rattle.fare_service.specs.Adding.{AddUp};
 ghost use Rattle.fare_service.specs.Faults.{IsRunFault};
 ghost use Rattle.fare_service.specs.Gathering.{HasRun};
+ghost use Rattle.fare_service.specs.Limits.{AllKeepLimits};
+ghost use Rattle.fare_service.specs.Placing.{StandOnce};
+ghost use Rattle.fare_service.specs.Refusals.{WasNotGathered};
 ghost use Rattle.fare_service.specs.Shares.{IsShareOf};
 
 use crate::faults::RunFault;
@@ -115,7 +119,11 @@ impl<'a> Service<'a> {
     ) -> Result<Outcome, RunFault>
         requires { IsShareOf self share }
         ensures outcome { IfOk result (HasRun self.entry workers) }
+        ensures places { IfOk result (StandOnce self.entry) }
+        ensures totals { IfOk result AddUp }
+        ensures limits { IfOk result AllKeepLimits }
         ensures fault { IfErr result (IsRunFault workers) }
+        ensures gathered { IfErr result (WasNotGathered self.entry workers) }
     {
         if workers == 0 || workers > MOST_WORKERS {
             return Err(RunFault::Workers);
