@@ -5,3 +5,4 @@ mod Finding
 mod Grammar
 mod Reading
 mod Runs
+mod Sorted

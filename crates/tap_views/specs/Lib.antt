@@ -5,3 +5,4 @@ pub mod Readings
 pub mod Shards
 pub mod Files
 pub mod Encoding
+pub mod Cut

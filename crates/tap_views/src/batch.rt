@@ -2,6 +2,7 @@
 
 ghost use Rattle.std.specs.Prelude.{◌≡◌, ◌+◌, ◌*◌, ◌<◌, ◌≤◌, ◌++◌, ℕ, List, length, slice_get, Some, IfOk, IfErr, IsErrOf, MatchResult, MatchOption};
 ghost use Rattle.tap_views.specs.Layout.{num, moment_limit, Tap, IsBatch};
+ghost use Rattle.tap_views.specs.Cut.{places_from};
 ghost use Rattle.tap_views.specs.Records.{layout_of};
 ghost use Rattle.tap_views.specs.declared.fault.LayoutFault.{LayoutFault};
 ghost use Rattle.tap_views.specs.Faults.{header, width, layout_in, count_in, size_in, moment_in, IsFault, IsHeader, IsMeasured, AllEarly};
@@ -83,8 +84,7 @@ impl<'a> Batch<'a> {
         requires { i < length self.now }
         ensures { slice_get self.now i ≡ Some result }
     {
-        let width = width_of(self.shared);
-        TapView::of(self.shared, record_at(self.records, width, i as usize))
+        self.taps().at(i)
     }
 
     /// All taps, in order from the front, in reverse from the back.
@@ -110,6 +110,28 @@ impl<'a> Batch<'a> {
             count: self.count,
             shard,
             shards,
+            places: None,
+        }
+    }
+
+    /// The same, where the places of the shard's taps are known.
+    pub(crate) fn run_at<'b>(&'b self, places: &'b [u16], own: u32, shards: u32) -> Run<'b>
+        requires below { own < shards }
+        requires most { shards ≤ 64 }
+        requires places { places.now ≡ places_from own shards 0 self.now }
+        ensures { result ≡ record { batch = self.now; shard = own; shards = shards } }
+    {
+        let shared = match self.shared {
+            None => None,
+            Some(validator) => Some(validator),
+        };
+        Run {
+            shared,
+            records: self.records,
+            count: self.count,
+            shard: own,
+            shards,
+            places: Some(places),
         }
     }
 }

@@ -7,6 +7,7 @@
 #![tactic(auto)]
 
 mod batch;
+mod cut;
 mod encoder;
 mod fault;
 mod file;
@@ -18,6 +19,7 @@ mod taps;
 mod view;
 
 pub use batch::Batch;
+pub use cut::Cut;
 pub use encoder::{EncodeFault, Tap2Fields, TapFields, encode, encode_tap2};
 pub use fault::LayoutFault;
 pub use file::batches;

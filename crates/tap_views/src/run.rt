@@ -3,15 +3,15 @@
 ghost use Rattle.std.specs.Iterator.{YieldsFirst, item_count};
 ghost use Rattle.std.specs.List.{AllByRecursion};
 ghost use Rattle.std.specs.Prelude.{◌≡◌, ◌<◌, ◌≤◌, length};
-ghost use Rattle.tap_views.specs.Shards.{run_taps, IsShardTap};
+ghost use Rattle.tap_views.specs.Shards.{run_of, run_taps, IsShardTap};
 
 use crate::shard::shard_of;
 use crate::taps::Taps;
 use crate::view::TapView;
 use std::marker::Model;
 
-/// The taps of one shard of a batch, in the batch's order. It is a view that passes over the batch
-/// anew at each call, and takes no memory.
+/// The taps of one shard of a batch, in the batch's order. It takes no memory: a run of `run_of` passes
+/// over the batch anew at each call, and one of a `Cut` over its own taps alone.
 #[derive(Drop)]
 pub struct Run<'a> {
     pub(crate) shared: Option<&'a [u8]>,
@@ -19,27 +19,33 @@ pub struct Run<'a> {
     pub(crate) count: u32,
     pub(crate) shard: u32,
     pub(crate) shards: u32,
+    pub(crate) places: Option<&'a [u16]>,
 }
 
 impl<'a> Model for Run<'a> {
     ghost use Rattle.std.specs.Prelude.{◌<◌, ◌≤◌};
     ghost use Rattle.tap_views.specs.Records.{layout_of, taps_in, AreRecords};
     ghost use Rattle.tap_views.specs.Shards.{ShardRun};
+    ghost use Rattle.tap_views.specs.Cut.{AreKept, places_from};
 
     ghost Value = { ShardRun };
 
     ghost view = { λ run. record { batch = taps_in (layout_of run.shared) run.count run.records.now; shard = run.shard; shards = run.shards } };
 
-    ghost invariant = { λ run. AreRecords (layout_of run.shared) run.count run.records.now × (run.shard < run.shards) × (run.shards ≤ 64) };
+    ghost invariant = { λ run. AreRecords (layout_of run.shared) run.count run.records.now × (run.shard < run.shards) × (run.shards ≤ 64)
+        × AreKept run.places (places_from run.shard run.shards 0 (taps_in (layout_of run.shared) run.count run.records.now)) };
 }
 
 impl<'a> Run<'a> {
-    /// The number of taps. It passes over the batch.
+    /// The number of taps. It passes over the batch where the places of the taps are not known.
     pub fn len(&self) -> u32
         ensures number { result ≡ length (run_taps self.now) }
         ensures most { result ≤ 4096 }
     {
-        self.taps().count() as u32
+        match self.places {
+            Some(places) => places.len() as u32,
+            None => self.taps().count() as u32,
+        }
     }
 
     /// The shard whose taps these are.
@@ -70,6 +76,7 @@ impl<'a> Run<'a> {
                 records: self.records,
                 left: self.count,
             },
+            places: self.places,
             shard: self.shard,
             shards: self.shards,
         }
@@ -79,21 +86,23 @@ impl<'a> Run<'a> {
 /// The taps of a run in their order.
 #[derive(Drop)]
 pub struct RunTaps<'a> {
+    // What is left of the batch; the whole batch where the places of the taps are known.
     taps: Taps<'a>,
+    places: Option<&'a [u16]>,
     shard: u32,
     shards: u32,
 }
 
 impl<'a> Model for RunTaps<'a> {
-    ghost use Rattle.std.specs.Prelude.{List, ◌<◌, ◌≤◌};
+    ghost use Rattle.std.specs.Prelude.{List, ◌<◌, ◌≤◌, length};
     ghost use Rattle.tap_views.specs.Layout.{Tap};
-    ghost use Rattle.tap_views.specs.Shards.{run_of};
+    ghost use Rattle.tap_views.specs.Cut.{left_of, AreBelow};
 
     ghost Value = { List Tap };
 
-    ghost view = { λ left. run_of left.shard left.shards left.taps };
+    ghost view = { λ left. left_of left.places left.shard left.shards left.taps };
 
-    ghost invariant = { λ left. (left.shard < left.shards) × (left.shards ≤ 64) };
+    ghost invariant = { λ left. (left.shard < left.shards) × (left.shards ≤ 64) × AreBelow left.places (length left.taps) };
 }
 
 impl<'a> Iterator for RunTaps<'a> {
@@ -104,11 +113,27 @@ impl<'a> Iterator for RunTaps<'a> {
     ghost remaining = { item_count (λ left. left) };
 
     fn next(&mut self) -> Option<TapView<'a>> {
-        while let Some(tap) = self.taps.next() {
-            if shard_of(tap.token(), self.shards) == self.shard {
-                return Some(tap);
+        match self.places {
+            Some(places) => {
+                let (first, rest) = places.split_first()?;
+                self.places = Some(rest);
+                Some(self.taps.at(u32::from(*first)))
             }
+            None => next_of(&mut self.taps, self.shard, self.shards),
         }
-        None
     }
+}
+
+// The next tap of the shard.
+fn next_of<'a>(taps: &mut Taps<'a>, shard: u32, shards: u32) -> Option<TapView<'a>>
+    requires below { shard < shards }
+    requires most { shards ≤ 64 }
+    ensures { YieldsFirst (λ taps. run_of shard shards taps) taps.old result taps.new }
+{
+    while let Some(tap) = taps.next() {
+        if shard_of(tap.token(), shards) == shard {
+            return Some(tap);
+        }
+    }
+    None
 }

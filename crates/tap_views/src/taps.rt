@@ -1,7 +1,7 @@
 // The taps of a batch, from both ends.
 
 ghost use Rattle.std.specs.Iterator.{YieldsFirst, YieldsLast, item_count};
-ghost use Rattle.std.specs.Prelude.{◌≡◌, ◌+◌, ◌*◌, ◌≤◌, length, take, drop};
+ghost use Rattle.std.specs.Prelude.{◌≡◌, ◌+◌, ◌*◌, ◌<◌, ◌≤◌, length, take, drop, slice_get, Some};
 ghost use Rattle.tap_views.specs.Faults.{width};
 ghost use Rattle.tap_views.specs.Records.{layout_of};
 
@@ -46,6 +46,17 @@ pub(crate) fn record_at(records: &[u8], width: usize, i: usize) -> &[u8]
 {
     let at = width * i;
     &records[at..at + width]
+}
+
+impl<'a> Taps<'a> {
+    /// The tap at a place of those that are left, counted from 0.
+    pub(crate) fn at(&self, i: u32) -> TapView<'a>
+        requires { i < length self.now }
+        ensures { slice_get self.now i ≡ Some result }
+    {
+        let width = width_of(self.shared);
+        TapView::of(self.shared, record_at(self.records, width, i as usize))
+    }
 }
 
 impl<'a> Iterator for Taps<'a> {
