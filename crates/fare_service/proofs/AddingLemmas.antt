@@ -30,7 +30,7 @@ abbrev pub sum_below : (ℕ → ℕ) → ℕ → ℕ
 sum_below f zero = 0
 sum_below f (suc n) = f 0 + sum_below (λ i. f (suc i)) n
 
-sum_below-same : (n : ℕ) (f g : ℕ → ℕ) → ((i : ℕ) → f i ≡ g i) → sum_below f n ≡ sum_below g n
+pub sum_below-same : (n : ℕ) (f g : ℕ → ℕ) → ((i : ℕ) → f i ≡ g i) → sum_below f n ≡ sum_below g n
 sum_below-same zero f g e = refl
 sum_below-same (suc n) f g e =
     let first : f 0 ≡ g 0 = e 0 in
@@ -72,7 +72,7 @@ kept_sum g true x xs = sum_by-cons g x xs
 kept_sum g false x xs = omega arith
 
 -- a sum by keys is the sum over the keys
-sum_by_key : {X : Type 0} (key g : X → ℕ) (n : ℕ) (xs : List X) → All (λ x. key x < n) xs → sum_by g xs ≡ sum_below (λ k. sum_by g (filter (λ x. key x == k) xs)) n
+pub sum_by_key : {X : Type 0} (key g : X → ℕ) (n : ℕ) (xs : List X) → All (λ x. key x < n) xs → sum_by g xs ≡ sum_below (λ k. sum_by g (filter (λ x. key x == k) xs)) n
 sum_by_key key g n [] all = sym (sum_below-none n)
 sum_by_key key g n (x ∷ xs) all =
     sum_by-cons g x xs
@@ -163,7 +163,7 @@ sum_of_books f hall works outcome is =
         All-weaker (λ done. All (IsWorked hall) done)
         (λ done. sum_below (λ s. sum_by (λ (v : Visit). sum_by f v.entries) (visits_to s (all_visits done))) (shards_of hall) ≡ sum_by f (entries_of (all_visits done))) here works is.each
 
-length_sum : {X : Type 0} (xs : List X) → length xs ≡ sum_by (λ x. 1) xs
+pub length_sum : {X : Type 0} (xs : List X) → length xs ≡ sum_by (λ x. 1) xs
 length_sum [] = refl
 length_sum (x ∷ xs) = omega (arith, length_sum xs, sum_by-cons (λ y. 1) x xs)
 

@@ -4,6 +4,7 @@ pub mod CloseLemmas
 pub mod GatherLemmas
 pub mod JoinLemmas
 pub mod MomentLemmas
+pub mod OrderLemmas
 pub mod Parts
 pub mod PlaceLemmas
 pub mod PlacedVisits

@@ -38,7 +38,7 @@ All-unmap P f (x ∷ xs) all = All-cons (λ y. P (f y)) x xs (All-head P (f x) (
 pub IsOwnRun : ℕ → Run → Type 0
 IsOwnRun shards r = All (λ p. shard_of_token p.tap.token shards ≡ r.shard) r.taps
 
-own_taps : (shard shards : ℕ) (placed : List PlacedTap) → All (λ p. shard_of_token p.tap.token shards ≡ shard) (of_shard shard shards placed)
+pub own_taps : (shard shards : ℕ) (placed : List PlacedTap) → All (λ p. shard_of_token p.tap.token shards ≡ shard) (of_shard shard shards placed)
 own_taps shard shards placed =
     All-weaker (λ p. (shard_of_token p.tap.token shards == shard) ≡ true) (λ p. shard_of_token p.tap.token shards ≡ shard) (λ p is. eqb-true (shard_of_token p.tap.token shards) shard is)
     (of_shard shard shards placed) (filter_passes (λ p. shard_of_token p.tap.token shards == shard) placed)
@@ -106,7 +106,7 @@ own_worked hall w is = by_end w.end is.ended
     by_end Undrawn e = absurd e
 
 -- a test that all pass, or none
-filter_all : {X : Type 0} (p : X → Bool) (xs : List X) → All (λ x. p x ≡ true) xs → filter p xs ≡ xs
+pub filter_all : {X : Type 0} (p : X → Bool) (xs : List X) → All (λ x. p x ≡ true) xs → filter p xs ≡ xs
 filter_all p [] all = refl
 filter_all p (x ∷ xs) all =
     ap (λ b. cond b (x ∷ filter p xs) (filter p xs)) (All-head (λ y. p y ≡ true) x xs all) ∙ ap (λ ys. x ∷ ys) (filter_all p xs (All-tail (λ y. p y ≡ true) x xs all))

@@ -101,7 +101,7 @@ length-filter-le p (x ∷ xs) =
     let rest : length (filter p xs) ≤ length xs = length-filter-le p xs in
     elim (p x) as (λ b. length (cond b (x ∷ filter p xs) (filter p xs)) ≤ length (x ∷ xs)) [ true ↦ omega arith | false ↦ omega arith ]
 
-length-placed : (place : ℕ) (taps : List Tap) → length (placed_from place taps) ≡ length taps
+pub length-placed : (place : ℕ) (taps : List Tap) → length (placed_from place taps) ≡ length taps
 length-placed place [] = refl
 length-placed place (tap ∷ taps) = ap suc (length-placed (place + 1) taps)
 

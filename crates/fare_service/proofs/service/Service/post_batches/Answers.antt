@@ -18,6 +18,7 @@ loop-item-init g c =
       reading = subst P (sym c.into_iter-item-iterator.ensures.into_iter_gives) c.batches-item-items.ensures;
       passes = c.requires.passes;
       clock = refl;
+      cut = refl;
       made = ([], refl, ([], made_none (shards_of c.args.self.now) c.args.posting.now.passes.items (sums_of c.args.posting.now.totals), refl));
     }
 
@@ -44,6 +45,7 @@ loop-item-preserved g c =
       reading = subst P (ap (λ left. c.loop-item.yielded ++ left) c.in-Some.ensures.steps ∙ sym (append_assoc c.loop-item.yielded (c.in-Some.item ∷ []) c.next.new.self)) c.loop-item.invariant.reading;
       passes = (c.in_ok-post_batch-in-Ok.ensures.made 0).1.books ∙ c.loop-item.invariant.passes;
       clock = c.in_ok-post_batch-in-Ok.ensures.clock ∙ c.loop-item.invariant.clock;
+      cut = c.in_ok-post_batch-in-Ok.ensures.cut ∙ c.loop-item.invariant.cut;
       made = (
         made.0 ++ c.in-Ok.batch ∷ [],
         ap (λ ys. ys ++ c.in-Some.item ∷ []) made.1 ∙ (ap (λ i. map (λ (b : List Tap). Ok b) made.0 ++ i ∷ []) c.in-Ok.is ∙ sym (map-append (λ (b : List Tap). Ok b) made.0 (c.in-Ok.batch ∷ []))),
