@@ -1,7 +1,8 @@
 //! Worked rows on ends, on texts and on shares.
-ghost use Rattle.std.specs.Prelude.{◌≡◌, IfOk};
+ghost use Rattle.std.specs.Prelude.{◌≡◌, All, IfOk};
 ghost use Rattle.fare_service.specs.Shares.{IsShareOf};
 
+use crate::report::report_text;
 use crate::{
     Gate, GatherFault, OpenFault, Outcome, PrintFault, RunFault, Service, Share, UploadEnd,
 };
@@ -64,8 +65,36 @@ totals taps 0 paid 0 transfers 0 capped 0 stale 0 unknown 0 cents 0
 window none
 ";
 
-const EMPTY_REPORT: &str = "uploads 1
+const REFUSED_REPORT: &str = "uploads 2
+upload 0 posted 4
+upload 1 refused 2 at 64 L5
+totals taps 6 paid 3 transfers 2 capped 0 stale 0 unknown 1 cents 900
+validators 3
+validator 9 taps 1 paid 0 transfers 0 capped 0 stale 0 unknown 1 cents 0
+validator 1000 taps 3 paid 2 transfers 1 capped 0 stale 0 unknown 0 cents 600
+validator 2000 taps 2 paid 1 transfers 1 capped 0 stale 0 unknown 0 cents 300
+tokens 2
+token 000000000000000000000000000000a1 taps 4 paid 2 transfers 2 capped 0 stale 0 unknown 0 cents 600
+token 000000000000000000000000000000b2 taps 2 paid 1 transfers 0 capped 0 stale 0 unknown 1 cents 300
+";
+
+const CUT_REPORT: &str = "uploads 2
+upload 0 cut 3
+upload 1 undrawn
+totals taps 0 paid 0 transfers 0 capped 0 stale 0 unknown 0 cents 0
+validators 0
+tokens 0
+";
+
+const NO_REPORT: &str = "uploads 0
+totals taps 0 paid 0 transfers 0 capped 0 stale 0 unknown 0 cents 0
+validators 0
+tokens 0
+";
+
+const EMPTY_REPORT: &str = "uploads 2
 upload 0 undrawn
+upload 1 undrawn
 totals taps 0 paid 0 transfers 0 capped 0 stale 0 unknown 0 cents 0
 validators 0
 tokens 0
@@ -184,6 +213,41 @@ fn the_report_is_the_same_for_every_schedule(rt: HostRuntime) -> Result<(), Fail
         assert_eq!(rt; (outcome.shards(), outcome.uploads()), (shards, 2));
         assert_eq!(rt; outcome.totals().cents, 900);
     }
+    Ok(())
+}
+
+#[test]
+fn a_refused_upload_is_reported(rt: HostRuntime) -> Result<(), Fail> {
+    let alloc = rt.alloc();
+    let mut refused = an_unknown_one(alloc)?;
+    refused.extend_from_slice(cut_off(alloc)?.as_slice())?;
+    let uploads = vec![in alloc; four_rides(alloc)?, refused]?;
+    let outcome = run(&rt, alloc, uploads.as_slice(), 8, 2, &Open)?;
+    assert_eq!(rt;
+        report_of(alloc, &outcome)?.as_slice(),
+        REFUSED_REPORT.as_bytes()
+    );
+    Ok(())
+}
+
+#[test]
+fn a_cut_upload_is_reported(rt: HostRuntime) -> Result<(), Fail> {
+    let ends = [UploadEnd::Cut { taps: 3 }, UploadEnd::Undrawn];
+    let text = report_text(rt.alloc(), &ends, &Totals::new(), &[], &[])?;
+    assert_eq!(rt; text.as_bytes(), CUT_REPORT.as_bytes());
+    Ok(())
+}
+
+#[test]
+fn no_uploads_are_reported(rt: HostRuntime) -> Result<(), Fail> {
+    let alloc = rt.alloc();
+    let uploads = Vec::new(alloc);
+    let outcome = run(&rt, alloc, uploads.as_slice(), 64, 16, &Open)?;
+    assert_eq!(rt; (outcome.uploads(), outcome.totals()), (0, Totals::new()));
+    assert_eq!(rt;
+        report_of(alloc, &outcome)?.as_slice(),
+        NO_REPORT.as_bytes()
+    );
     Ok(())
 }
 
@@ -317,6 +381,8 @@ fn two_workers_post_at_once(rt: HostRuntime) -> Result<(), Fail> {
     assert!(rt; !gate.gave_up.load(Ordering::SeqCst));
     assert_eq!(rt; end_of(&outcome, 0), Some(UploadEnd::Posted { taps: 4 }));
     assert_eq!(rt; end_of(&outcome, 1), Some(UploadEnd::Posted { taps: 2 }));
+    let first = totals_of(&outcome, 0).map(|totals| totals.taps);
+    assert!(rt; first == Some(4) || first == Some(2));
     assert_eq!(rt; report_of(alloc, &outcome)?.as_slice(), REPORT.as_bytes());
     Ok(())
 }
@@ -380,14 +446,56 @@ fn a_share_held_back_is_missing(rt: HostRuntime) -> Result<(), Fail> {
     Ok(())
 }
 
+// Two shares of a service, to be gathered.
+fn pair(service: &Service, alloc: Global, one: Share, two: Share) -> Result<Vec<Share>, Fail>
+    requires one { IsShareOf service.now one }
+    requires two { IsShareOf service.now two }
+    ensures { IfOk result (λ shares. All (IsShareOf service.now) shares.items) }
+{
+    let mut shares = Vec::new(alloc);
+    shares.push(one)?;
+    shares.push(two)?;
+    Ok(shares)
+}
+
+#[test]
+fn both_shares_are_gathered(rt: HostRuntime) -> Result<(), Fail> {
+    let alloc = rt.alloc();
+    let uploads = vec![in alloc;
+        encode(alloc, &[tap(0xa1, SUBWAY, 0)])?,
+        encode(alloc, &[tap(0xb2, SUBWAY, 0)])?,
+    ]?;
+    let (service, one, two) = both_worked(&rt, alloc, uploads.as_slice())?;
+    let shares = pair(&service, alloc, one, two)?;
+    let outcome = service.gather(alloc, shares)?;
+    assert_eq!(rt; (outcome.workers(), outcome.totals().taps), (2, 2));
+    Ok(())
+}
+
+#[test]
+fn an_upload_held_back_is_missing(rt: HostRuntime) -> Result<(), Fail> {
+    let alloc = rt.alloc();
+    let uploads = vec![in alloc; encode(alloc, &[])?, encode(alloc, &[])?]?;
+    let (service, one, two) = both_worked(&rt, alloc, uploads.as_slice())?;
+    drop(two);
+    let fault = service.gather(alloc, vec![in alloc; one]?).err();
+    assert_eq!(rt; fault, Some(GatherFault::Drawn { held: 1, drawn: 2 }));
+    let (service, one, two) = both_worked(&rt, alloc, uploads.as_slice())?;
+    drop((one, two));
+    let fault = service.gather(alloc, Vec::new(alloc)).err();
+    assert_eq!(rt; fault, Some(GatherFault::Drawn { held: 0, drawn: 2 }));
+    Ok(())
+}
+
 #[test]
 fn an_unused_share_is_gathered(rt: HostRuntime) -> Result<(), Fail> {
     let alloc = rt.alloc();
-    let uploads = vec![in alloc; four_rides(alloc)?]?;
+    let uploads = vec![in alloc; four_rides(alloc)?, an_unknown_one(alloc)?]?;
     let table = FareTable::read(alloc, TABLE.as_bytes())?;
     let (service, share) = Service::open(&rt, alloc, table, 8, uploads.as_slice())?;
     let outcome = service.gather(alloc, vec![in alloc; share]?)?;
     assert_eq!(rt; end_of(&outcome, 0), Some(UploadEnd::Undrawn));
+    assert_eq!(rt; end_of(&outcome, 1), Some(UploadEnd::Undrawn));
     assert_eq!(rt; (outcome.workers(), outcome.totals()), (1, Totals::new()));
     assert_eq!(rt;
         report_of(alloc, &outcome)?.as_slice(),
@@ -410,6 +518,22 @@ fn numbers_out_of_range_are_refused(rt: HostRuntime) -> Result<(), Fail> {
         let (service, share) = Service::open(&rt, alloc, table, 1, uploads.as_slice())?;
         let fault = service.run(&rt, alloc, share, workers, &Open).err();
         assert_eq!(rt; fault, Some(RunFault::Workers));
+    }
+    Ok(())
+}
+
+#[test]
+fn uploads_past_the_most_are_refused(rt: HostRuntime) -> Result<(), Fail> {
+    let alloc = rt.alloc();
+    let mut uploads = Vec::new(alloc);
+    for _ in 0..65_536 {
+        uploads.push(Vec::new(alloc))?;
+    }
+    for most in [Some(OpenFault::Uploads), None] {
+        let table = FareTable::read(alloc, TABLE.as_bytes())?;
+        let fault = Service::open(&rt, alloc, table, 1, uploads.as_slice()).err();
+        assert_eq!(rt; fault, most);
+        uploads.pop();
     }
     Ok(())
 }
