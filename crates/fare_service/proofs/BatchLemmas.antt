@@ -1,15 +1,13 @@
 -- A batch, posted run by run.
-use Rattle.std.specs.Prelude.{ℕ, zero, suc, ◌≡◌, ◌⊎◌, ◌+◌, ◌-◌, ◌*◌, ◌<◌, ◌≤◌, ◌==◌, nat_lt, Bool, true, false, cond, List, [], ◌∷◌, ◌++◌, length, map, filter, take, All, Result, Ok, Err, is_ok, IsErr}
-use Rattle.std.proofs.Common.{refl, sym, ◌∙◌, ap, inl, inr, subst, append_assoc, append-nil, arith}
-use Rattle.tap_views.specs.Layout.{Tap}
+use Rattle.std.specs.Prelude.{ℕ, ◌≡◌, ◌+◌, ◌-◌, ◌<◌, List, ◌++◌, Result, Ok, Err, is_ok, IsErr}
+use Rattle.std.proofs.Common.{sym, subst, arith}
 use Rattle.shard_book.specs.Sums.{Sums}
 use Rattle.shared_books.specs.Passes.{Knowledge}
 use Rattle.fare_service.specs.declared.working.Stop.{Stop}
-use Rattle.fare_service.specs.Runs.{PlacedTap, placed_from, of_shard, Run, run, if_any, runs_below, runs_of, Visit, ArePosted, AreCut, WerePosted}
+use Rattle.fare_service.specs.Runs.{PlacedTap, of_shard, Run, if_any, runs_below, Visit, ArePosted, AreCut, WerePosted}
 use Rattle.fare_service.specs.Shares.{Made}
 use Rattle.fare_service.proofs.RunLemmas.{posted_posted, posted_cut, below_more, below_cut}
-use Rattle.fare_service.proofs.VisitLemmas.{made_none, made_more}
-use Rattle.fare_service.proofs.RunVisits.{was_cut}
+use Rattle.fare_service.proofs.VisitLemmas.{made_more}
 
 -- some runs were posted whole, and then others, whole or up to a cut
 abbrev pub Posts : ℕ → List Knowledge → List Knowledge → Sums → Sums → List Run → Type 0

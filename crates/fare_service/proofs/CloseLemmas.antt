@@ -1,25 +1,24 @@
 -- Books and the drawing are closed.
-use Rattle.std.specs.Prelude.{ℕ, zero, suc, ◌≡◌, ◌≢◌, ◌⊎◌, ◌+◌, ◌<◌, ◌≤◌, List, [], ◌∷◌, ◌++◌, length, map, All, slice_get, Some, option_map}
+use Rattle.std.specs.Prelude.{ℕ, zero, suc, ◌≡◌, ◌⊎◌, ◌+◌, ◌<◌, ◌≤◌, List, [], ◌∷◌, length, slice_get, Some, option_map}
 use Rattle.std.specs.List.{flat_map}
 use Rattle.std.specs.Prelude.{remove, Result, Ok, Err, OnOk, Bool, true, false, ◌==◌}
-use Rattle.std.proofs.Common.{refl, sym, ◌∙◌, ap, inl, inr, subst, arith, get_or, length-append, eqb-true}
+use Rattle.std.proofs.Common.{refl, sym, ◌∙◌, ap, inl, inr, subst, arith, get_or, eqb-true}
 use Rattle.std.proofs.lemmas.Bool.{cases_lt}
 use Rattle.std.proofs.lemmas.List.Elements.{All-nil, All-weaker}
 use Rattle.std.proofs.lemmas.List.Concat.{length-flat_map}
 use Rattle.std.proofs.lemmas.Option.{slice_get-map}
 use Rattle.shard_book.specs.Book.{Book}
 use Rattle.shared_books.specs.declared.turns.rule.Mark.{Mark}
-use Rattle.shared_books.specs.Drawing.{Drawing, Drawings, NoneTwice, HasAll, AllBelow, IsCount, times}
-use Rattle.shared_books.specs.Marks.{joined, visits_of}
+use Rattle.shared_books.specs.Drawing.{Drawing, Drawings, HasAll, IsCount, times}
+use Rattle.shared_books.specs.Marks.{joined}
 use Rattle.shared_books.specs.Passes.{Opened, Knowledge}
 use Rattle.fare_service.specs.declared.faults.GatherFault.{GatherFault}
 use Rattle.fare_service.specs.declared.faults.GatherFault.TheVariants.{NoMemory, Missing, Drawn}
-use Rattle.fare_service.specs.Closing.{AreClosed, AreUnseen, IsClosedBy, IsUnseen, IsHistoryOf, IsClosedWork, IsMissing, NoneMissing}
+use Rattle.fare_service.specs.Closing.{AreClosed, AreUnseen, IsClosedBy, IsUnseen, IsHistoryOf, IsClosedWork, IsMissing, NoneMissing, IsWhole, IsFirst, IsFirstMissing, IsFirstUnseen}
 use Rattle.fare_service.specs.Faults.{IsGatherFault, visits_held, uploads_held}
-use Rattle.fare_service.specs.Gathering.{Signed, by_worker}
 use Rattle.fare_service.specs.Holdings.{Holding}
 use Rattle.fare_service.specs.Joining.{AreSigns, IsJoinedOf}
-use Rattle.fare_service.specs.Shares.{books_of, marks_at, own_at}
+use Rattle.fare_service.specs.Shares.{books_of, marks_at}
 use Rattle.fare_service.proofs.Signing.{all_signed, signs_visits}
 
 -- the first of some elements was taken out
@@ -27,30 +26,32 @@ pub split_first : {A : Type 0} (xs : List A) (first : A) (rest : List A) → 0 <
 split_first [] first rest some is left = absurd (omega (arith, some))
 split_first (x ∷ xs) first rest some is left = ap (λ y. y ∷ xs) (sym is) ∙ ap (λ ys. first ∷ ys) (sym left)
 
+-- the history of a book without a visit
+unseen_history : (opened : List Opened) (shard : ℕ) (book : Book) → IsUnseen opened shard book → IsHistoryOf opened [] shard book
+unseen_history opened shard book u = record {
+  visits = [];
+  history = ap (λ b. b.entries) u.none;
+  signed = All-nil (λ v. v.worker < 0);
+  order = λ w share at. absurd (cc);
+  shared = u.shared;
+  at = u.at;
+  table = ap (λ b. b.table) u.none;
+  its_shard = ap (λ b. b.shard) u.none;
+  of_shards = ap (λ b. b.shards) u.none;
+  legal = u.legal;
+  limits = u.limits;
+}
+
 -- nothing was seen, where there is no share
 pub closed_none : (opened : List Opened) (shares : List Holding) (closed : List Book) → shares ≡ [] → length closed ≡ length opened → AreUnseen opened closed → IsClosedWork opened shares closed
 closed_none opened shares closed none number unseen =
     let P : List Holding → Type 0 = λ ss. IsClosedWork opened ss closed in
     subst P (sym none) (record {
       number = number;
-      books = λ shard book at. history shard book (unseen shard book at);
+      books = λ shard book at. unseen_history opened shard book (unseen shard book at);
       once = λ x. omega arith;
       undrawn = λ upload h. All-nil (λ share. share.drawer.seen ≤ upload);
     })
-  where
-    history : (shard : ℕ) (book : Book) → IsUnseen opened shard book → IsHistoryOf opened [] shard book
-    history shard book u = record {
-      visits = [];
-      history = ap (λ b. b.entries) u.none;
-      signed = All-nil (λ v. v.worker < 0);
-      order = λ w share at. absurd (cc);
-      shared = u.shared;
-      at = u.at;
-      table = ap (λ b. b.table) u.none;
-      its_shard = ap (λ b. b.shard) u.none;
-      of_shards = ap (λ b. b.shards) u.none;
-      legal = u.legal;
-    }
 
 marks_of : (shard : ℕ) (passes : List Knowledge) (pass : Knowledge) → slice_get passes shard ≡ Some pass → marks_at shard passes ≡ pass.marks
 marks_of shard [] pass at = absurd (cc)
@@ -80,6 +81,7 @@ history_of drawing opened shares drawer passes shard book all c =
       its_shard = ap (λ b. b.shard) c.all.book;
       of_shards = ap (λ b. b.shards) c.all.book;
       legal = c.legal;
+      limits = c.limits;
     }
 
 -- all was closed with what the shares hold
@@ -108,17 +110,53 @@ closed_all drawing opened shares drawer passes closed count all books number has
         by_count (inl h) = absurd (omega (arith, has upload h, ap (times upload) all.drawn, none))
         by_count (inr h) = h
 
--- visits are missing
-pub missing_fault : (drawing : Drawing) (opened : List Opened) (nobody : ℕ) (shares : List Holding) (drawer : Drawings) (passes : List Knowledge) (fault : GatherFault)
-    → IsJoinedOf drawing opened nobody shares drawer passes → IsMissing (length opened) passes fault → IsGatherFault (length opened) shares fault
-missing_fault drawing opened nobody shares drawer passes (Missing shard held kept) all m = (m.0, m.1 ∙ all.held shard, m.2)
-missing_fault drawing opened nobody shares drawer passes NoMemory all m = absurd m
-missing_fault drawing opened nobody shares drawer passes (Drawn held drawn) all m = absurd m
+-- an element stands at each place
+pub there : {A : Type 0} (xs : List A) (i : ℕ) → i < length xs → (x : A) × (slice_get xs i ≡ Some x)
+there [] i within = absurd (omega (arith, within))
+there (x ∷ xs) zero within = (x, refl)
+there (x ∷ xs) (suc i) within = there xs i (omega (arith, within))
 
-pub none_missing : (shards : ℕ) (shares : List Holding) (fault : GatherFault) → shares ≡ [] → NoneMissing shards fault → IsGatherFault shards shares fault
-none_missing shards shares (Missing shard held kept) none m = (m.0, m.1 ∙ sym (ap (visits_held shard) none), m.2)
-none_missing shards shares NoMemory none m = absurd m
-none_missing shards shares (Drawn held drawn) none m = absurd m
+-- of a shard whose book was closed the shares hold all visits
+whole_closed : (drawing : Drawing) (opened : List Opened) (shares : List Holding) (drawer : Drawings) (passes : List Knowledge) (closed : List Book) → IsJoinedOf drawing opened (length shares) shares drawer passes
+    → AreClosed passes closed → (shard : ℕ) → shard < length closed → IsWhole opened shares shard
+whole_closed drawing opened shares drawer passes closed all books shard within =
+    let b = there closed shard within in
+    (b.0, history_of drawing opened shares drawer passes shard b.0 all (books shard b.0 b.1))
+
+whole_unseen : (opened : List Opened) (closed : List Book) → AreUnseen opened closed → (shard : ℕ) → shard < length closed → IsWhole opened [] shard
+whole_unseen opened closed unseen shard within = let b = there closed shard within in (b.0, unseen_history opened shard b.0 (unseen shard b.0 b.1))
+
+-- the first shard that misses visits
+pub first_missing : (drawing : Drawing) (opened : List Opened) (uploads : ℕ) (shares : List Holding) (drawer : Drawings) (passes : List Knowledge) (closed : List Book) (fault : GatherFault)
+    → IsJoinedOf drawing opened (length shares) shares drawer passes → IsFirstMissing passes closed fault → IsFirst opened uploads shares fault
+first_missing drawing opened uploads shares drawer passes closed (Missing shard held kept) all m = (
+  λ earlier h. whole_closed drawing opened shares drawer passes closed all m.1 earlier (omega (arith, h, m.0)),
+  All-weaker (λ share. length (marks_at shard share.passes) ≤ length (marks_at shard passes)) (λ share. length (marks_at shard share.passes) ≤ kept) (λ s h. omega (arith, h, m.2)) shares (all.longest shard),
+)
+first_missing drawing opened uploads shares drawer passes closed NoMemory all m = absurd m
+first_missing drawing opened uploads shares drawer passes closed (Drawn held drawn) all m = absurd m
+
+pub first_unseen : (opened : List Opened) (uploads : ℕ) (shares : List Holding) (closed : List Book) (fault : GatherFault) → shares ≡ [] → IsFirstUnseen opened closed fault → IsFirst opened uploads shares fault
+first_unseen opened uploads shares closed (Missing shard held kept) none m =
+    let P : List Holding → Type 0 = λ ss. IsFirst opened uploads ss (Missing shard held kept) in
+    subst P (sym none) (λ earlier h. whole_unseen opened closed m.1 earlier (omega (arith, h, m.0)), All-nil (λ share. length (marks_at shard share.passes) ≤ kept))
+first_unseen opened uploads shares closed NoMemory none m = absurd m
+first_unseen opened uploads shares closed (Drawn held drawn) none m = absurd m
+
+-- missing uploads, where all books were closed
+pub first_drawn : (drawing : Drawing) (opened : List Opened) (shares : List Holding) (drawer : Drawings) (passes : List Knowledge) (closed : List Book) (held drawn : ℕ)
+    → IsJoinedOf drawing opened (length shares) shares drawer passes → AreClosed passes closed → length closed ≡ length opened → IsCount drawn drawer → IsFirst opened drawing.numbers shares (Drawn held drawn)
+first_drawn drawing opened shares drawer passes closed held drawn all books number is = (
+  λ shard h. whole_closed drawing opened shares drawer passes closed all books shard (omega (arith, h, number)),
+  All-weaker (λ share. share.drawer.seen ≤ drawer.seen) (λ share. share.drawer.seen ≤ drawn) (λ s h. omega (arith, h, is.later)) shares all.seen,
+  omega (arith, is.within, ap (λ d. d.numbers) all.source),
+)
+
+pub first_undrawn : (opened : List Opened) (uploads : ℕ) (shares : List Holding) (closed : List Book) (held drawn : ℕ) → shares ≡ [] → AreUnseen opened closed → length closed ≡ length opened → drawn ≤ uploads
+    → IsFirst opened uploads shares (Drawn held drawn)
+first_undrawn opened uploads shares closed held drawn none unseen number few =
+    let P : List Holding → Type 0 = λ ss. IsFirst opened uploads ss (Drawn held drawn) in
+    subst P (sym none) (λ shard h. whole_unseen opened closed unseen shard (omega (arith, h, number)), All-nil (λ share. share.drawer.seen ≤ drawn), few)
 
 -- how many uploads the shares hold
 pub held_drawn : (drawing : Drawing) (opened : List Opened) (nobody : ℕ) (shares : List Holding) (drawer : Drawings) (passes : List Knowledge) → IsJoinedOf drawing opened nobody shares drawer passes

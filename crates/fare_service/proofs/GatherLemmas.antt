@@ -1,10 +1,9 @@
 -- Shares are gathered: what their workers did is an outcome.
-use Rattle.std.specs.Prelude.{ℕ, zero, suc, ◌≡◌, ◌≢◌, ◌⊎◌, ◌+◌, ◌<◌, ◌≤◌, ◌==◌, Bool, true, false, List, [], ◌∷◌, ◌++◌, length, map, replicate, slice_set, All, slice_get, Some, None, cond, sum_by}
+use Rattle.std.specs.Prelude.{ℕ, zero, suc, ◌≡◌, ◌≢◌, ◌⊎◌, ◌+◌, ◌<◌, ◌≤◌, ◌==◌, true, false, List, [], ◌∷◌, ◌++◌, length, map, replicate, slice_set, All, slice_get, Some, cond}
 use Rattle.std.specs.List.{flat_map, AllZip}
-use Rattle.std.proofs.Common.{refl, sym, ◌∙◌, ap, inl, inr, subst, arith, eq-eqb, ne_eqb}
+use Rattle.std.proofs.Common.{refl, sym, ◌∙◌, ap, inl, inr, subst, arith}
 use Rattle.std.proofs.lemmas.Bool.Decides.{eqb_tells}
-use Rattle.std.proofs.lemmas.Grind.{flat_map-append}
-use Rattle.std.proofs.lemmas.List.{map-append, length-map}
+use Rattle.std.proofs.lemmas.List.{map-append}
 use Rattle.std.proofs.lemmas.List.Sums.{sum_by-cons}
 use Rattle.std.proofs.lemmas.List.Elements.{All-nil, All-cons, All-head, All-tail, All-append, All-map, All-weaker}
 use Rattle.shard_book.specs.Book.{Book}
@@ -13,18 +12,17 @@ use Rattle.shard_book.specs.History.{IsLegal}
 use Rattle.fare_table.specs.Fares.{Fares}
 use Rattle.shard_book.specs.Sums.{Sums, sums}
 use Rattle.shared_books.specs.Drawing.{NoneTwice, times}
-use Rattle.shared_books.specs.Passes.{Opened}
 use Rattle.fare_service.specs.Closing.{IsClosedWork, IsHistoryOf}
 use Rattle.fare_service.specs.declared.share.Done.{Done}
 use Rattle.fare_service.specs.declared.upload_end.UploadEnd.{UploadEnd}
 use Rattle.fare_service.specs.declared.upload_end.UploadEnd.TheVariants.{Posted, Refused, Cut, Undrawn}
-use Rattle.fare_service.specs.Gathering.{Signed, by_worker, IsBookOfWork, all_works, end_of, IsGathered, HasOutcome, HasRun, ToldUndrawn}
+use Rattle.fare_service.specs.Gathering.{IsBookOfWork, all_works, end_of, HasOutcome, HasRun}
 use Rattle.fare_service.specs.Halls.{Hall, IsHall, IsBookOf, shards_of, upload_at}
 use Rattle.fare_service.specs.Holdings.{Holding}
 use Rattle.fare_service.specs.Joining.{Belongs, told, told_all}
 use Rattle.fare_service.specs.Outcomes.{Gathered, IsOutcome}
-use Rattle.fare_service.specs.Runs.{entries_to, entries_of}
-use Rattle.fare_service.specs.Shares.{Worked, all_visits, done_of, IsWorked, Keeps, IsShareOf, own_at, books_of, IsEndOf}
+use Rattle.fare_service.specs.Runs.{entries_of}
+use Rattle.fare_service.specs.Shares.{Worked, all_visits, done_of, IsWorked, Keeps, IsShareOf, IsEndOf}
 
 -- what each share keeps
 abbrev Kept : Hall → List Holding → List (List Worked) → Type 0
@@ -46,7 +44,7 @@ all_each hall [] (w ∷ works) kept = absurd kept
 all_each hall (s ∷ shares) [] kept = absurd kept
 all_each hall (s ∷ shares) (w ∷ works) kept = All-cons (λ done. All (IsWorked hall) done) w works kept.0.each (all_each hall shares works kept.1)
 
-each_work : (hall : Hall) (works : List (List Worked)) → All (λ done. All (IsWorked hall) done) works → All (IsWorked hall) (all_works works)
+pub each_work : (hall : Hall) (works : List (List Worked)) → All (λ done. All (IsWorked hall) done) works → All (IsWorked hall) (all_works works)
 each_work hall [] all = All-nil (IsWorked hall)
 each_work hall (w ∷ works) all =
     All-append (IsWorked hall) w (all_works works) (All-head (λ done. All (IsWorked hall) done) w works all) (each_work hall works (All-tail (λ done. All (IsWorked hall) done) w works all))
@@ -115,22 +113,22 @@ get_replicate (suc number) zero end at = let h : Undrawn ≡ end = cc in sym h
 get_replicate (suc number) (suc upload) end at = get_replicate number upload end at
 
 -- how often an upload was drawn
-abbrev drawn_times : ℕ → List Worked → ℕ
+abbrev pub drawn_times : ℕ → List Worked → ℕ
 drawn_times upload works = times upload (map (λ w. w.upload) works)
 
-times_same : (w : Worked) (works : List Worked) (upload : ℕ) → (w.upload == upload) ≡ true → drawn_times upload (w ∷ works) ≡ 1 + drawn_times upload works
+pub times_same : (w : Worked) (works : List Worked) (upload : ℕ) → (w.upload == upload) ≡ true → drawn_times upload (w ∷ works) ≡ 1 + drawn_times upload works
 times_same w works upload is = sum_by-cons (λ x. cond (x == upload) 1 0) w.upload (map (λ x. x.upload) works) ∙ ap (λ b. cond b 1 0 + drawn_times upload works) is
 
-times_other : (w : Worked) (works : List Worked) (upload : ℕ) → (w.upload == upload) ≡ false → drawn_times upload (w ∷ works) ≡ drawn_times upload works
+pub times_other : (w : Worked) (works : List Worked) (upload : ℕ) → (w.upload == upload) ≡ false → drawn_times upload (w ∷ works) ≡ drawn_times upload works
 times_other w works upload is = omega (arith, sum_by-cons (λ x. cond (x == upload) 1 0) w.upload (map (λ x. x.upload) works), ap {B = ℕ} (λ b. cond b 1 0) is)
 
-end_same : (w : Worked) (works : List Worked) (upload : ℕ) → (w.upload == upload) ≡ true → end_of upload (w ∷ works) ≡ w.end
+pub end_same : (w : Worked) (works : List Worked) (upload : ℕ) → (w.upload == upload) ≡ true → end_of upload (w ∷ works) ≡ w.end
 end_same w works upload is = ap (λ b. cond b w.end (end_of upload works)) is
 
-end_other : (w : Worked) (works : List Worked) (upload : ℕ) → (w.upload == upload) ≡ false → end_of upload (w ∷ works) ≡ end_of upload works
+pub end_other : (w : Worked) (works : List Worked) (upload : ℕ) → (w.upload == upload) ≡ false → end_of upload (w ∷ works) ≡ end_of upload works
 end_other w works upload is = ap (λ b. cond b w.end (end_of upload works)) is
 
-fewer_after : (w : Worked) (works : List Worked) → NoneTwice (map (λ x. x.upload) (w ∷ works)) → NoneTwice (map (λ x. x.upload) works)
+pub fewer_after : (w : Worked) (works : List Worked) → NoneTwice (map (λ x. x.upload) (w ∷ works)) → NoneTwice (map (λ x. x.upload) works)
 fewer_after w works once x = by_test (eqb_tells w.upload x)
   where
     by_test : (((w.upload == x) ≡ true) × (w.upload ≡ x)) ⊎ (((w.upload == x) ≡ false) × (w.upload ≢ x)) → drawn_times x works ≤ 1
@@ -175,7 +173,7 @@ drawn_ended hall (w ∷ works) upload all some =
     by_test (inl (is, same)) rest e = never_undrawn hall w (All-head (IsWorked hall) w works all) (sym (end_same w works upload is) ∙ e)
     by_test (inr (is, apart)) rest e = rest (omega (arith, some, times_other w works upload is)) (sym (end_other w works upload is) ∙ e)
 
-not_drawn : (works : List Worked) (upload : ℕ) → drawn_times upload works ≡ 0 → end_of upload works ≡ Undrawn
+pub not_drawn : (works : List Worked) (upload : ℕ) → drawn_times upload works ≡ 0 → end_of upload works ≡ Undrawn
 not_drawn [] upload none = refl
 not_drawn (w ∷ works) upload none = by_test (eqb_tells w.upload upload) (not_drawn works upload)
   where

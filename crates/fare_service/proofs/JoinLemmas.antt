@@ -1,8 +1,8 @@
 -- Passes that are joined, one shard after another.
-use Rattle.std.specs.Prelude.{ℕ, zero, suc, ◌≡◌, ◌≢◌, ◌⊎◌, ◌+◌, ◌<◌, ◌≤◌, ◌==◌, Bool, true, false, List, [], ◌∷◌, ◌++◌, length, map, All, slice_get, Some}
+use Rattle.std.specs.Prelude.{ℕ, zero, suc, ◌≡◌, ◌≢◌, ◌⊎◌, ◌<◌, ◌≤◌, ◌==◌, true, false, List, [], ◌∷◌, ◌++◌, length, slice_get, Some}
 use Rattle.std.specs.List.{flat_map}
-use Rattle.std.proofs.Common.{refl, sym, ◌∙◌, ap, inl, inr, subst, arith, get_or, set, append-nil, append_assoc, length-append}
-use Rattle.std.proofs.lemmas.List.{length-map, map-append}
+use Rattle.std.proofs.Common.{refl, sym, ◌∙◌, ap, inl, inr, subst, arith, get_or, set, append-nil, length-append}
+use Rattle.std.proofs.lemmas.List.{map-append}
 use Rattle.std.proofs.lemmas.List.Elements.{All-nil, All-cons, All-push, All-weaker}
 use Rattle.std.proofs.lemmas.List.Sums.{sum_by-append, sum_by-cons}
 use Rattle.std.proofs.lemmas.Grind.{flat_map-append}
@@ -10,13 +10,12 @@ use Rattle.std.proofs.lemmas.Bool.Decides.{eqb_tells}
 use Rattle.std.proofs.lemmas.Option.{slice_get_within}
 use Rattle.shared_books.specs.declared.turns.rule.Mark.{Mark}
 use Rattle.shared_books.specs.Drawing.{Drawing, Drawings, HasMet}
-use Rattle.shared_books.specs.Marks.{visits_of, merged, Apart, Begins}
+use Rattle.shared_books.specs.Marks.{visits_of, merged}
 use Rattle.shared_books.specs.Passes.{Opened, Knowledge, IsJoined}
-use Rattle.fare_service.specs.Faults.{visits_held}
-use Rattle.fare_service.specs.Gathering.{Signed, by_worker}
+use Rattle.fare_service.specs.Gathering.{by_worker}
 use Rattle.fare_service.specs.Holdings.{Holding}
 use Rattle.fare_service.specs.Joining.{AreSigns, AreJoined, AreJoinedAt, AreSignedAt, Belongs, IsJoinedOf}
-use Rattle.fare_service.specs.Shares.{books_of, own_visits, marks_at, own_at}
+use Rattle.fare_service.specs.Shares.{books_of, marks_at, own_at}
 use Rattle.fare_service.proofs.PlaceLemmas.{place_more}
 use Rattle.fare_service.proofs.Signing.{signed, signs_more, earlier_stay, new_own, merged-nil, made_own}
 use Rattle.fare_service.proofs.VisitLemmas.{marks-set_same, marks-set_other}
@@ -84,6 +83,12 @@ signed_more nobody shard shares share passes passes' below s j =
           (new_own i nobody s.signs (marks_at shard passes) (marks_at shard share.passes) below s.of_marks j.begins);
     }
 
+-- two lists of marks that were joined are no shorter
+merged_longer : (xs ys : List Mark) → (length xs ≤ length (merged xs ys)) × (length ys ≤ length (merged xs ys))
+merged_longer [] ys = (omega arith, omega arith)
+merged_longer (x ∷ xs) [] = (omega arith, omega arith)
+merged_longer (x ∷ xs) (y ∷ ys) = let rest = merged_longer xs ys in (omega (arith, rest.0), omega (arith, rest.1))
+
 -- one share more was joined
 pub joined_more : (drawing : Drawing) (books : List Opened) (nobody : ℕ) (shares : List Holding) (share : Holding) (drawer drawer' : Drawings) (passes passes' : List Knowledge) → length shares < nobody
     → IsJoinedOf drawing books nobody shares drawer passes → HasMet drawer share.drawer drawer' → books_of passes' ≡ books → ((shard : ℕ) → AreJoinedAt shard passes share.passes passes')
@@ -95,6 +100,10 @@ joined_more drawing books nobody shares share drawer drawer' passes passes' belo
   of_books = of_books;
   signed = λ shard. signed_more nobody shard shares share passes passes' below (all.signed shard) (joined shard);
   held = λ shard. omega (arith, (joined shard).held, all.held shard, sum_by-append (λ (s : Holding). length (own_at shard s.passes)) shares (share ∷ []), sum_by-cons (λ (s : Holding). length (own_at shard s.passes)) share []);
+  longest = λ shard. let long = merged_longer (marks_at shard passes) (marks_at shard share.passes) in let new : length (marks_at shard passes') ≡ length (merged (marks_at shard passes) (marks_at shard share.passes)) = ap length (joined shard).marks in
+      All-push (λ s. length (marks_at shard s.passes) ≤ length (marks_at shard passes')) shares share
+      (All-weaker (λ s. length (marks_at shard s.passes) ≤ length (marks_at shard passes)) (λ s. length (marks_at shard s.passes) ≤ length (marks_at shard passes')) (λ s h. omega (arith, h, long.0, new)) shares (all.longest shard))
+      (omega (arith, long.1, new));
 }
 
 -- the first share
@@ -111,6 +120,7 @@ joined_first drawing books nobody share some is = record {
         (new_own 0 nobody [] [] (marks_at shard share.passes) some tt (inl (visits_of (marks_at shard share.passes), refl)));
   };
   held = λ shard. omega (arith, sum_by-cons (λ (s : Holding). length (own_at shard s.passes)) share []);
+  longest = λ shard. All-cons (λ s. length (marks_at shard s.passes) ≤ length (marks_at shard share.passes)) share [] (omega arith) (All-nil (λ s. length (marks_at shard s.passes) ≤ length (marks_at shard share.passes)));
 }
 
 pub heads : {A : Type 0} (xs : List A) (a b : A) (more rest : List A) → xs ++ a ∷ more ≡ xs ++ b ∷ rest → a ≡ b

@@ -1,10 +1,14 @@
+pub mod AddingLemmas
 pub mod BatchLemmas
 pub mod CloseLemmas
 pub mod GatherLemmas
 pub mod JoinLemmas
 pub mod MomentLemmas
+pub mod OrderLemmas
 pub mod Parts
 pub mod PlaceLemmas
+pub mod PlacedVisits
+pub mod PlacingLemmas
 pub mod ReadingLemmas
 pub mod RunLemmas
 pub mod RunVisits

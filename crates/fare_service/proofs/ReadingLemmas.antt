@@ -1,17 +1,17 @@
 -- A file, read batch by batch.
-use Rattle.std.specs.Prelude.{ℕ, zero, suc, ◌≡◌, ◌+◌, ◌-◌, ◌*◌, ◌^◌, ◌<◌, ◌≤◌, Bool, true, false, List, [], ◌∷◌, ◌++◌, length, map, Result, Ok, Err, IfOk, is_ok, IsErr, Option, Some, None}
-use Rattle.std.proofs.Common.{refl, sym, ◌∙◌, ap, inl, inr, subst, append_assoc, append-nil, add_assoc, add-zero, arith, length-append}
+use Rattle.std.specs.Prelude.{ℕ, ◌≡◌, ◌+◌, ◌-◌, ◌*◌, ◌^◌, ◌<◌, ◌≤◌, Bool, true, false, List, [], ◌∷◌, ◌++◌, length, map, Result, Ok, Err, IfOk, is_ok, IsErr, Option}
+use Rattle.std.proofs.Common.{refl, sym, ◌∙◌, ap, subst, append_assoc, append-nil, add_assoc, add-zero, arith, length-append}
 use Rattle.std.proofs.lemmas.List.{length-map}
 use Rattle.std.proofs.lemmas.List.Sums.{sum_by-append, sum_by-cons}
-use Rattle.tap_views.specs.Layout.{Tap, IsBatch}
+use Rattle.tap_views.specs.Layout.{Tap}
 use Rattle.tap_views.specs.Faults.{IsFault}
 use Rattle.tap_views.specs.Files.{IsFile, IsReading, IsEnd, Item}
 use Rattle.tap_views.specs.declared.fault.LayoutFault.{LayoutFault}
 use Rattle.shard_book.specs.Entry.{reply_of}
-use Rattle.shard_book.specs.Sums.{Sums, sums, add_sums}
+use Rattle.shard_book.specs.Sums.{Sums}
 use Rattle.shared_books.specs.Passes.{Knowledge}
 use Rattle.fare_service.specs.declared.working.Stop.{Stop}
-use Rattle.fare_service.specs.Runs.{Run, Visit, placed_from, runs_below, runs_of, ArePosted, AreCut, WerePosted, entries_of, taps_posted}
+use Rattle.fare_service.specs.Runs.{Run, Visit, placed_from, runs_below, runs_of, AreCut, WerePosted, entries_of, taps_posted}
 use Rattle.fare_service.specs.Shares.{Made, IsRefusal, IsFaultOf}
 use Rattle.fare_service.proofs.RunLemmas.{cut_early}
 use Rattle.fare_service.proofs.VisitLemmas.{taps_after}

@@ -1,10 +1,10 @@
 -- Runs that were posted, one list of them after another.
-use Rattle.std.specs.Prelude.{ℕ, zero, suc, ◌≡◌, ◌⊎◌, ◌+◌, ◌<◌, ◌==◌, Bool, true, false, cond, List, [], ◌∷◌, ◌++◌, length, map, filter, take, MatchBool}
-use Rattle.std.proofs.Common.{refl, sym, ◌∙◌, ap, inl, inr, subst, append_assoc, append-nil, arith}
+use Rattle.std.specs.Prelude.{ℕ, zero, suc, ◌≡◌, ◌⊎◌, ◌+◌, ◌<◌, ◌==◌, true, false, cond, List, [], ◌∷◌, ◌++◌, length, map, take}
+use Rattle.std.proofs.Common.{refl, sym, ◌∙◌, ap, inl, inr, subst, append_assoc, arith}
 use Rattle.std.proofs.lemmas.List.{map-append, length-map}
 use Rattle.tap_views.specs.Layout.{Tap}
 use Rattle.tap_views.specs.Shards.{shard_of_token, run_of}
-use Rattle.fare_service.specs.Runs.{PlacedTap, placed_from, taps_of, of_shard, Run, run, if_any, runs_below, runs_of, Visit, run_of_visit, ArePosted, AreCut, WerePosted}
+use Rattle.fare_service.specs.Runs.{PlacedTap, placed_from, taps_of, of_shard, Run, run, if_any, runs_below, Visit, run_of_visit, ArePosted, AreCut}
 
 -- the placed taps of a shard are the run's taps
 pub taps-of_shard : (shard shards place : ℕ) (taps : List Tap) → taps_of (of_shard shard shards (placed_from place taps)) ≡ run_of shard shards taps

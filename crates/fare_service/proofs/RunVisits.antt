@@ -1,25 +1,24 @@
 -- One run: the visit that it makes, and what that changes.
-use Rattle.std.specs.Prelude.{ℕ, ◌≡◌, ◌≢◌, ◌+◌, ◌<◌, ◌≤◌, ◌==◌, Bool, true, false, cond, zero, suc, ◌⊎◌, List, [], ◌∷◌, ◌++◌, length, map, filter, take, All, Result, Ok, Err, is_ok, IsErr, Some, slice_get}
+use Rattle.std.specs.Prelude.{ℕ, ◌≡◌, ◌≢◌, ◌<◌, ◌≤◌, ◌==◌, Bool, true, false, cond, zero, suc, ◌⊎◌, List, [], ◌∷◌, ◌++◌, length, map, take, Result, Ok, Err, is_ok, IsErr, Some}
 use Rattle.std.specs.List.{AllZip}
-use Rattle.std.proofs.Common.{refl, sym, ◌∙◌, ap, inl, inr, subst, append-nil, arith, get_or, set, eq-eqb, length-append, length-take}
-use Rattle.std.proofs.lemmas.List.{length-map, take-map}
+use Rattle.std.proofs.Common.{refl, sym, ◌∙◌, ap, inl, inr, subst, append-nil, arith, get_or, set, eq-eqb, length-take}
+use Rattle.std.proofs.lemmas.List.{take-map}
 use Rattle.std.proofs.lemmas.List.Elements.{All-nil, All-cons}
 use Rattle.std.proofs.lemmas.Option.{slice_get-get_or}
 use Rattle.std.proofs.lemmas.Bool.Decides.{eqb_tells}
 use Rattle.tap_views.specs.Layout.{Tap}
 use Rattle.tap_views.specs.Shards.{run_of, run_taps, ShardRun}
-use Rattle.account_rule.specs.declared.reply.Reply.{Reply}
 use Rattle.shard_book.specs.declared.entry.Entry.{Entry}
 use Rattle.shard_book.specs.declared.run_end.RunEnd.{RunEnd}
 use Rattle.shard_book.specs.declared.run_end.RunEnd.TheVariants.{Whole, Cut}
-use Rattle.shard_book.specs.Entry.{reply_of, IsEntryOf}
-use Rattle.shard_book.specs.Sums.{Sums, sums, sums_of_replies, add_sums}
+use Rattle.shard_book.specs.Entry.{IsEntryOf}
+use Rattle.shard_book.specs.Sums.{Sums, sums, add_sums}
 use Rattle.shard_book.specs.Visits.{AreEntriesOf, IsVisit}
 use Rattle.shared_books.specs.Passes.{Knowledge, Opened, IsLater, Visits}
 use Rattle.fare_service.specs.declared.working.Stop.{Stop}
 use Rattle.fare_service.specs.Halls.{Hall, IsHall, IsBookOf, shards_of}
-use Rattle.fare_service.specs.Runs.{PlacedTap, placed_from, taps_of, of_shard, Run, run, if_any, Visit, IsEntered, run_of_visit, ArePosted, AreCut, WerePosted, entries_to, entries_of}
-use Rattle.fare_service.specs.Shares.{books_of, own_visits, marks_at, own_at, Made}
+use Rattle.fare_service.specs.Runs.{PlacedTap, placed_from, of_shard, Run, if_any, Visit, IsEntered, ArePosted, AreCut, WerePosted, entries_to}
+use Rattle.fare_service.specs.Shares.{own_visits, marks_at, own_at, Made}
 use Rattle.fare_service.proofs.RunLemmas.{taps-of_shard, length-of_shard, no_run, cut_none, cut_some, whole_run}
 use Rattle.fare_service.proofs.VisitLemmas.{made_none, made_by_pass, own-visits, own-later, add_none}
 

@@ -1,14 +1,13 @@
 -- Who made which visit to a book. A sign is a visit with the worker that made it; a visit that no joined worker made is signed by nobody, who
 -- is told by a number above all workers.
 use Rattle.std.specs.Prelude.{ℕ, zero, suc, ◌≡◌, ◌≢◌, ◌⊎◌, ◌+◌, ◌<◌, ◌≤◌, ◌==◌, ◌||◌, nat_lt, Bool, true, false, cond, List, [], ◌∷◌, ◌++◌, length, map, filter, All}
-use Rattle.std.specs.List.{AllZip}
 use Rattle.std.proofs.Common.{refl, sym, ◌∙◌, ap, inl, inr, subst, arith, eq-eqb, ne_eqb}
-use Rattle.std.proofs.lemmas.Bool.Decides.{eqb_tells, nat_tests}
+use Rattle.std.proofs.lemmas.Bool.Decides.{nat_tests}
 use Rattle.std.proofs.lemmas.List.{length-map}
 use Rattle.std.proofs.lemmas.List.Elements.{All-nil, All-cons}
 use Rattle.shard_book.specs.declared.entry.Entry.{Entry}
 use Rattle.shared_books.specs.declared.turns.rule.Mark.{Mark}
-use Rattle.shared_books.specs.Marks.{mark, visits_of, merged, Apart, Begins, made_at, made_from, numbered, joined}
+use Rattle.shared_books.specs.Marks.{mark, visits_of, merged, Apart, Begins, made_at, made_from, numbered}
 use Rattle.fare_service.specs.Gathering.{Signed, by_worker}
 use Rattle.fare_service.specs.Joining.{IsSign, AreSigns, AreJoined}
 use Rattle.fare_service.specs.Shares.{own_visits}
@@ -84,10 +83,10 @@ signs_more i nobody (s ∷ signs) (x ∷ old) [] below all = kept_all i nobody (
 signs_more i nobody (s ∷ signs) (x ∷ old) (y ∷ other) below all =
     (sign_by i nobody s x y.mine below (sign_kept i nobody s x x.mine refl below all.0), signs_more i nobody signs old other below all.1)
 
-step_no : (w : ℕ) (s : Signed) (ss : List Signed) → (s.worker == w) ≡ false → by_worker w (s ∷ ss) ≡ by_worker w ss
+pub step_no : (w : ℕ) (s : Signed) (ss : List Signed) → (s.worker == w) ≡ false → by_worker w (s ∷ ss) ≡ by_worker w ss
 step_no w s ss e = ap (λ b. map (λ v. v.entries) (cond b (s ∷ filter (λ v. v.worker == w) ss) (filter (λ v. v.worker == w) ss))) e
 
-step_yes : (w : ℕ) (s : Signed) (ss : List Signed) → (s.worker == w) ≡ true → by_worker w (s ∷ ss) ≡ s.entries ∷ by_worker w ss
+pub step_yes : (w : ℕ) (s : Signed) (ss : List Signed) → (s.worker == w) ≡ true → by_worker w (s ∷ ss) ≡ s.entries ∷ by_worker w ss
 step_yes w s ss e = ap (λ b. map (λ v. v.entries) (cond b (s ∷ filter (λ v. v.worker == w) ss) (filter (λ v. v.worker == w) ss))) e
 
 same_step : (w : ℕ) (s t : Signed) (ss ts : List Signed) → (s.worker == w) ≡ (t.worker == w) → s.entries ≡ t.entries → by_worker w ss ≡ by_worker w ts → by_worker w (s ∷ ss) ≡ by_worker w (t ∷ ts)

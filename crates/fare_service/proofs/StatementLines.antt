@@ -1,16 +1,13 @@
 -- The lines of a statement, written one after another.
-use Rattle.std.specs.Prelude.{ℕ, ◌≡◌, ◌+◌, ◌<◌, List, [], ◌∷◌, ◌++◌, length, take, Option, Some, slice_get}
-use Rattle.std.proofs.Common.{refl, sym, ◌∙◌, ap, subst, append_assoc, append-nil, get_or}
+use Rattle.std.specs.Prelude.{ℕ, ◌≡◌, ◌+◌, List, [], ◌∷◌, ◌++◌, take, Some, slice_get}
+use Rattle.std.proofs.Common.{refl, sym, ◌∙◌, ap, subst, append_assoc, append-nil}
 use Rattle.std.proofs.lemmas.List.{take_more}
 use Rattle.std.proofs.lemmas.Option.{slice_get_within, get_or_from_slice_get}
 use Rattle.fare_table.specs.Fares.{Fares}
 use Rattle.account_rule.specs.declared.window.WindowView.{WindowView}
 use Rattle.shard_book.specs.declared.entry.Entry.{Entry}
-use Rattle.shard_book.specs.declared.statement.Statement.{Statement}
 use Rattle.fare_service.specs.Moments.{IsMomentText}
-use Rattle.fare_service.specs.Text.{totals_line}
-use Rattle.fare_service.specs.StatementText.{AreEntryLines, IsEntryLine, IsLineOf, IsWindowLine, IsStatementText, entry_rest, window_rest, statement_head}
-use Rattle.fare_service.proofs.Parts.{in_parts}
+use Rattle.fare_service.specs.StatementText.{AreEntryLines, IsEntryLine, window_rest}
 
 -- one entry more
 entries_more : (fares : Fares) (entries : List Entry) (entry : Entry) (text line : List ℕ)

@@ -1,19 +1,16 @@
 -- How many taps visits post: no more than the batches have, which their file has room for.
-use Rattle.std.specs.Prelude.{ℕ, zero, suc, ◌≡◌, ◌≢◌, ◌⊎◌, ◌+◌, ◌*◌, ◌<◌, ◌≤◌, ◌==◌, nat_lt, Bool, true, false, cond, List, [], ◌∷◌, ◌++◌, length, map, filter, take, sum_by, All}
+use Rattle.std.specs.Prelude.{ℕ, zero, suc, ◌≡◌, ◌⊎◌, ◌+◌, ◌*◌, ◌<◌, ◌≤◌, ◌==◌, nat_lt, Bool, true, false, cond, List, [], ◌∷◌, ◌++◌, length, map, filter, take, sum_by, All}
 use Rattle.std.specs.List.{flat_map, AllByRecursion}
-use Rattle.std.proofs.Common.{refl, sym, ◌∙◌, ap, inl, inr, subst, append_assoc, append-nil, arith, length-append, length-take, add-zero}
-use Rattle.std.proofs.lemmas.List.{length-map, map-append}
+use Rattle.std.proofs.Common.{refl, sym, ◌∙◌, ap, inl, inr, arith, length-append, length-take, add-zero}
+use Rattle.std.proofs.lemmas.List.{length-map}
 use Rattle.std.proofs.lemmas.List.Sums.{sum_by-append, sum_by-cons}
-use Rattle.std.proofs.lemmas.List.Concat.{length-flat_map}
 use Rattle.std.proofs.lemmas.List.Elements.{All-head, All-tail}
-use Rattle.std.proofs.lemmas.Bool.Decides.{eqb_tells, nat_tests}
-use Rattle.tap_views.specs.Layout.{Tap, IsTap, IsBatch, IsBatchIn, Layout, Tap1, Tap2, IsTapOf, spelling, magic, shared}
+use Rattle.std.proofs.lemmas.Bool.Decides.{nat_tests}
+use Rattle.tap_views.specs.Layout.{Tap, IsBatch, Layout, Tap1, Tap2, IsTapOf, spelling, magic, shared}
 use Rattle.tap_views.specs.Files.{IsFile}
 use Rattle.tap_views.specs.Shards.{shard_of_token}
-use Rattle.shard_book.specs.declared.entry.Entry.{Entry}
 use Rattle.shard_book.specs.Entry.{IsEntryOf}
-use Rattle.shard_book.specs.Sums.{Sums, sums, sums_of_replies, add_sums}
-use Rattle.fare_service.specs.Runs.{PlacedTap, placed_from, taps_of, of_shard, Run, run, if_any, runs_below, runs_of, Visit, IsEntered, run_of_visit, ArePosted, AreCut, WerePosted, entries_of, taps_posted}
+use Rattle.fare_service.specs.Runs.{PlacedTap, placed_from, taps_of, of_shard, Run, run, if_any, runs_below, runs_of, Visit, IsEntered, run_of_visit, ArePosted, AreCut, entries_of, taps_posted}
 use Rattle.fare_service.proofs.RunVisits.{AllZip-length}
 
 abbrev pub runs_taps : List Run → ℕ
@@ -104,7 +101,7 @@ length-filter-le p (x ∷ xs) =
     let rest : length (filter p xs) ≤ length xs = length-filter-le p xs in
     elim (p x) as (λ b. length (cond b (x ∷ filter p xs) (filter p xs)) ≤ length (x ∷ xs)) [ true ↦ omega arith | false ↦ omega arith ]
 
-length-placed : (place : ℕ) (taps : List Tap) → length (placed_from place taps) ≡ length taps
+pub length-placed : (place : ℕ) (taps : List Tap) → length (placed_from place taps) ≡ length taps
 length-placed place [] = refl
 length-placed place (tap ∷ taps) = ap suc (length-placed (place + 1) taps)
 

@@ -1,6 +1,6 @@
 -- An upload that was posted: how it ended.
-use Rattle.std.specs.Prelude.{ℕ, ◌≡◌, ◌+◌, ◌-◌, ◌<◌, List, [], Result, Ok, Err, IfOk, is_ok, Option, Some, None, length}
-use Rattle.std.proofs.Common.{refl, sym, ◌∙◌, ap, subst, arith, get_or, map}
+use Rattle.std.specs.Prelude.{ℕ, ◌≡◌, ◌-◌, ◌<◌, List, [], Result, Ok, Err, IfOk, is_ok, Option, Some, None, length}
+use Rattle.std.proofs.Common.{sym, ◌∙◌, ap, subst, arith, get_or, map}
 use Rattle.std.proofs.lemmas.List.{length-map}
 use Rattle.fare_service.proofs.RunVisits.{get_or-map}
 use Rattle.tap_views.specs.Layout.{Tap}
@@ -9,7 +9,7 @@ use Rattle.tap_views.specs.declared.fault.LayoutFault.{LayoutFault}
 use Rattle.shard_book.specs.Sums.{Sums}
 use Rattle.shared_books.specs.Passes.{Knowledge}
 use Rattle.fare_service.specs.declared.upload_end.UploadEnd.{UploadEnd}
-use Rattle.fare_service.specs.declared.upload_end.UploadEnd.TheVariants.{Posted, Refused, Cut}
+use Rattle.fare_service.specs.declared.upload_end.UploadEnd.TheVariants.{Cut}
 use Rattle.fare_service.specs.declared.working.Stop.{Stop}
 use Rattle.fare_service.specs.Ends.{end_by}
 use Rattle.fare_service.specs.Halls.{Hall, shards_of, upload_at}

@@ -1,8 +1,8 @@
 -- What a worker's visits change.
-use Rattle.std.specs.Prelude.{ℕ, ◌≡◌, ◌≢◌, ◌⊎◌, ◌+◌, ◌<◌, ◌==◌, Bool, true, false, cond, List, [], ◌∷◌, ◌++◌, length, map, filter, take, All}
+use Rattle.std.specs.Prelude.{ℕ, ◌≡◌, ◌≢◌, ◌⊎◌, ◌+◌, ◌<◌, ◌==◌, true, false, cond, List, [], ◌∷◌, ◌++◌, length, map, filter, take, All}
 use Rattle.std.proofs.Common.{refl, sym, ◌∙◌, ap, inl, inr, subst, append_assoc, append-nil, arith, get_or, set, length-append, add-zero, add_assoc}
 use Rattle.std.proofs.lemmas.List.{map-append, map-set, length-map, get_or-set_same, get_or-set_other}
-use Rattle.std.proofs.lemmas.List.Elements.{filter-append, All-nil, All-append, All-cons}
+use Rattle.std.proofs.lemmas.List.Elements.{filter-append, All-nil, All-append}
 use Rattle.std.proofs.lemmas.List.Sums.{sum_by-append}
 use Rattle.std.proofs.lemmas.Grind.{flat_map-append}
 use Rattle.std.specs.Prelude.{slice_get, Some}
@@ -10,22 +10,21 @@ use Rattle.std.proofs.lemmas.List.{take_more}
 use Rattle.std.proofs.lemmas.Option.{slice_get_within, get_or_from_slice_get}
 use Rattle.std.proofs.lemmas.Bool.Decides.{eqb_tells}
 use Rattle.std.proofs.Math.Seq.{map-set_same}
-use Rattle.std.specs.List.{flat_map}
 use Rattle.account_rule.specs.declared.reply.Reply.{Reply}
 use Rattle.shard_book.specs.declared.entry.Entry.{Entry}
 use Rattle.shard_book.specs.Entry.{reply_of}
 use Rattle.shard_book.specs.Sums.{Sums, sums, sums_of_replies, add_sums, is_paid, is_transfer, is_capped, is_stale, is_unknown}
 use Rattle.shared_books.specs.declared.turns.rule.Mark.{Mark}
 use Rattle.shared_books.specs.Marks.{mark, others}
-use Rattle.shared_books.specs.Passes.{Knowledge, Opened, IsLater, Visits}
+use Rattle.shared_books.specs.Passes.{Knowledge, IsLater, Visits}
 use Rattle.fare_service.specs.Runs.{Visit, IsEntered, visits_to, entries_to, entries_of}
-use Rattle.fare_service.specs.Shares.{books_of, own_visits, marks_at, own_at, Made}
+use Rattle.fare_service.specs.Shares.{own_visits, marks_at, own_at, Made}
 
 -- sums are their seven numbers
-abbrev seven : ℕ → ℕ → ℕ → ℕ → ℕ → ℕ → ℕ → Sums
+abbrev pub seven : ℕ → ℕ → ℕ → ℕ → ℕ → ℕ → ℕ → Sums
 seven a b c d e f g = record { taps = a; paid = b; transfers = c; capped = d; stale = e; unknown = f; cents = g }
 
-same_seven : (a a' b b' c c' d d' e e' f f' g g' : ℕ) → a ≡ a' → b ≡ b' → c ≡ c' → d ≡ d' → e ≡ e' → f ≡ f' → g ≡ g' → seven a b c d e f g ≡ seven a' b' c' d' e' f' g'
+pub same_seven : (a a' b b' c c' d d' e e' f f' g g' : ℕ) → a ≡ a' → b ≡ b' → c ≡ c' → d ≡ d' → e ≡ e' → f ≡ f' → g ≡ g' → seven a b c d e f g ≡ seven a' b' c' d' e' f' g'
 same_seven a a' b b' c c' d d' e e' f f' g g' p q r s t u v = cc
 
 -- the sums of two lists of replies

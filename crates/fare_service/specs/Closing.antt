@@ -9,8 +9,9 @@ use Rattle.fare_service.specs.declared.faults.GatherFault.TheVariants.{NoMemory,
 use Rattle.shared_books.specs.Drawing.{NoneTwice, times}
 use Rattle.shared_books.specs.Marks.{joined}
 use Rattle.fare_service.specs.Gathering.{Signed, by_worker}
+use Rattle.fare_service.specs.Limits.{KeepsLimits}
 use Rattle.fare_service.specs.Holdings.{Holding}
-use Rattle.fare_service.specs.Shares.{own_at}
+use Rattle.fare_service.specs.Shares.{marks_at, own_at}
 
 -- the book of a shard was closed by its pass, which had made all visits
 pub record IsClosedBy (passes : List Knowledge) (shard : ℕ) (book : Book) : Type 0 where
@@ -18,6 +19,7 @@ pub record IsClosedBy (passes : List Knowledge) (shard : ℕ) (book : Book) : Ty
   pub at : slice_get passes shard ≡ Some pass
   pub all : HasMadeAll pass book
   pub legal : IsLegal book.table book.entries
+  pub limits : KeepsLimits book
 
 abbrev pub AreClosed : List Knowledge → List Book → Type 0
 AreClosed passes books = (shard : ℕ) (book : Book) → slice_get books shard ≡ Some book → IsClosedBy passes shard book
@@ -28,6 +30,7 @@ pub record IsUnseen (opened : List Opened) (shard : ℕ) (book : Book) : Type 0 
   pub at : slice_get opened shard ≡ Some shared
   pub none : book ≡ book_of shared []
   pub legal : IsLegal book.table book.entries
+  pub limits : KeepsLimits book
 
 abbrev pub AreUnseen : List Opened → List Book → Type 0
 AreUnseen opened books = (shard : ℕ) (book : Book) → slice_get books shard ≡ Some book → IsUnseen opened shard book
@@ -56,6 +59,32 @@ pub record IsHistoryOf (opened : List Opened) (shares : List Holding) (shard : �
   pub its_shard : book.shard ≡ shared.shard
   pub of_shards : book.shards ≡ shared.shards
   pub legal : IsLegal book.table book.entries
+  pub limits : KeepsLimits book
+
+-- the shares hold all visits to a shard: they are the history of its book
+abbrev pub IsWhole : List Opened → List Holding → ℕ → Type 0
+IsWhole opened shares shard = (book : Book) × IsHistoryOf opened shares shard book
+
+-- Of the shards that miss visits the first one is told, and missing uploads are told where no visits are missing. A count leaves out nothing
+-- that a share has seen.
+abbrev pub IsFirst : List Opened → ℕ → List Holding → GatherFault → Type 0
+IsFirst opened uploads shares NoMemory = Unit {0}
+IsFirst opened uploads shares (Missing shard held kept) =
+    ((earlier : ℕ) → earlier < shard → IsWhole opened shares earlier) × All (λ share. length (marks_at shard share.passes) ≤ kept) shares
+IsFirst opened uploads shares (Drawn held drawn) =
+    ((shard : ℕ) → shard < length opened → IsWhole opened shares shard) × All (λ share. share.drawer.seen ≤ drawn) shares × (drawn ≤ uploads)
+
+-- the shards before the one that misses visits were closed, and no visit that the pass has seen is left out of the count
+abbrev pub IsFirstMissing : List Knowledge → List Book → GatherFault → Type 0
+IsFirstMissing passes closed (Missing shard held kept) = (shard ≡ length closed) × AreClosed passes closed × (length (marks_at shard passes) ≤ kept)
+IsFirstMissing passes closed NoMemory = ⊥
+IsFirstMissing passes closed (Drawn held drawn) = ⊥
+
+-- the shards before the one that misses visits were closed, and they had none
+abbrev pub IsFirstUnseen : List Opened → List Book → GatherFault → Type 0
+IsFirstUnseen opened closed (Missing shard held kept) = (shard ≡ length closed) × AreUnseen opened closed
+IsFirstUnseen opened closed NoMemory = ⊥
+IsFirstUnseen opened closed (Drawn held drawn) = ⊥
 
 -- all books and the drawing were closed with what the shares hold
 pub record IsClosedWork (opened : List Opened) (shares : List Holding) (closed : List Book) : Type 0 where

@@ -1,11 +1,11 @@
 -- The headline: what the books of an outcome are, by what its shares did.
-use Rattle.std.specs.Prelude.{◌≡◌, ℕ, ◌<◌, ◌≤◌, ◌==◌, Bool, if◌then◌else◌, List, [], ◌∷◌, ◌++◌, length, map, filter, All, slice_get, Some}
+use Rattle.std.specs.Prelude.{◌≡◌, ℕ, ◌<◌, ◌==◌, if◌then◌else◌, List, [], ◌∷◌, length, map, filter, All, slice_get, Some}
 use Rattle.std.specs.List.{flat_map, AllZip}
 use Rattle.fare_table.specs.Fares.{Fares}
 use Rattle.shard_book.specs.declared.entry.Entry.{Entry}
 use Rattle.shard_book.specs.Book.{Book}
 use Rattle.shard_book.specs.History.{IsLegal}
-use Rattle.shard_book.specs.Sums.{Sums, sums}
+use Rattle.shard_book.specs.Sums.{sums}
 use Rattle.shared_books.specs.Drawing.{NoneTwice}
 use Rattle.shared_books.specs.Marks.{joined}
 use Rattle.fare_service.specs.declared.upload_end.UploadEnd.{UploadEnd}
@@ -13,7 +13,7 @@ use Rattle.fare_service.specs.declared.upload_end.UploadEnd.TheVariants.{Undrawn
 use Rattle.fare_service.specs.Halls.{Hall, shards_of}
 use Rattle.fare_service.specs.Holdings.{Holding}
 use Rattle.fare_service.specs.Outcomes.{Gathered}
-use Rattle.fare_service.specs.Runs.{Visit, entries_to, entries_of}
+use Rattle.fare_service.specs.Runs.{entries_to, entries_of}
 use Rattle.fare_service.specs.Shares.{Worked, all_visits, IsWorked, Keeps}
 
 -- a visit to a shard's book, and the worker that made it

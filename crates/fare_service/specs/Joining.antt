@@ -1,5 +1,5 @@
 -- Shares that are joined into one.
-use Rattle.std.specs.Prelude.{◌≡◌, ◌⊎◌, ℕ, ◌+◌, ◌<◌, ◌≤◌, nat_lt, Bool, true, false, List, [], ◌∷◌, ◌++◌, length, map, All, slice_get, Some, slice_set}
+use Rattle.std.specs.Prelude.{◌≡◌, ◌⊎◌, ℕ, ◌+◌, ◌≤◌, nat_lt, false, List, [], ◌∷◌, length, All, slice_get, Some, slice_set}
 use Rattle.std.specs.List.{flat_map}
 use Rattle.shared_books.specs.declared.turns.rule.Mark.{Mark}
 use Rattle.shared_books.specs.Drawing.{Drawing, Drawings}
@@ -61,3 +61,4 @@ pub record IsJoinedOf (drawing : Drawing) (books : List Opened) (nobody : ℕ) (
   pub of_books : books_of passes ≡ books
   pub signed : (shard : ℕ) → AreSignedAt nobody shard shares passes
   pub held : (shard : ℕ) → length (own_at shard passes) ≡ visits_held shard shares
+  pub longest : (shard : ℕ) → All (λ share. length (marks_at shard share.passes) ≤ length (marks_at shard passes)) shares

@@ -1,6 +1,5 @@
 -- What contracts see of an outcome.
 use Rattle.std.specs.Prelude.{◌≡◌, ℕ, ◌<◌, ◌≤◌, List, length, Some, slice_get}
-use Rattle.fare_table.specs.Fares.{Fares}
 use Rattle.shard_book.specs.Book.{Book}
 use Rattle.shard_book.specs.Groups.{all_entries}
 use Rattle.shard_book.specs.Sums.{Sums, sums}

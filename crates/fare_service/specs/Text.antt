@@ -1,6 +1,6 @@
 -- The texts of the report and of a statement, as lists of bytes. Each line ends with one line feed,
 -- numbers are decimal, and tokens are hexadecimal digits in lower case.
-use Rattle.std.specs.Prelude.{ℕ, ◌+◌, List, [], ◌∷◌, ◌++◌, length, map, codes}
+use Rattle.std.specs.Prelude.{ℕ, ◌+◌, List, [], ◌∷◌, ◌++◌, length, codes}
 use Rattle.std.specs.Fmt.{decimal}
 use Rattle.std.specs.List.{flat_map}
 use Rattle.hex.specs.Hex.{encode_lower}

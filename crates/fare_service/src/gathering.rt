@@ -4,7 +4,7 @@ ghost use Rattle.std.specs.Prelude.{◌≡◌, ℕ, ◌+◌, ◌<◌, ◌≤◌,
 ghost use Rattle.std.specs.List.{flat_map};
 ghost use Rattle.shard_book.specs.Sums.{sums_of};
 ghost use Rattle.shared_books.specs.Passes.{Knowledge};
-ghost use Rattle.fare_service.specs.Closing.{AreClosed, AreUnseen, IsClosedWork, IsMissing, NoneMissing};
+ghost use Rattle.fare_service.specs.Closing.{AreClosed, AreUnseen, IsClosedWork, IsFirst, IsFirstMissing, IsFirstUnseen, IsMissing, NoneMissing};
 ghost use Rattle.fare_service.specs.Joining.{AreJoinedAt, Belongs, IsJoinedOf, told, told_all};
 ghost use Rattle.fare_service.specs.Faults.{IsGatherFault};
 ghost use Rattle.fare_service.specs.Shares.{books_of, own_at};
@@ -15,7 +15,7 @@ use crate::service::Service;
 use crate::share::{Done, Posting, Share};
 use crate::upload_end::UploadEnd;
 use fare_table::NoMemory;
-use shard_book::{ShardBook, Totals, totals_of};
+use shard_book::{ShardBook, Totals, laws, totals_of};
 use shared_books::{Draw, Drawer, Pass, SharedBook};
 use std::alloc::Global;
 
@@ -113,6 +113,7 @@ fn close_all(
     ensures ok { OnOk result (AreClosed passes.items closed.new.items) }
     ensures number { OnOk result (length closed.new.items ≡ length books.items) }
     ensures missing { IfErr result (IsMissing (length books.items) passes.items) }
+    ensures first { IfErr result (IsFirstMissing passes.items closed.new.items) }
 {
     let mut passes = passes.into_iter();
     let mut shard = 0;
@@ -123,6 +124,7 @@ fn close_all(
         match book.close(pass) {
             Ok(book) => {
                 let _entries = book.len();
+                laws::windows(&book);
                 closed.push_reserved(book);
             }
             Err(missing) => {
@@ -146,12 +148,14 @@ fn close_unseen(books: Vec<SharedBook>, closed: &mut Vec<ShardBook>) -> Result<(
     ensures ok { OnOk result (AreUnseen books.items closed.new.items) }
     ensures number { OnOk result (length closed.new.items ≡ length books.items) }
     ensures missing { IfErr result (NoneMissing (length books.items)) }
+    ensures first { IfErr result (IsFirstUnseen books.items closed.new.items) }
 {
     let mut shard = 0;
     for book in books {
         match book.close_unseen() {
             Ok(book) => {
                 let _entries = book.len();
+                laws::windows(&book);
                 closed.push_reserved(book);
             }
             Err(missing) => {
@@ -180,6 +184,7 @@ fn close_with(
     requires room { length books.items ≤ vec_capacity closed.old }
     ensures ok { OnOk result (IsClosedWork books.items shares.items closed.new.items) }
     ensures fault { IfErr result (IsGatherFault (length books.items) shares.items) }
+    ensures first { IfErr result (IsFirst books.items draw.numbers shares.items) }
 {
     if shares.is_empty() {
         if let Err(fault) = close_unseen(books, closed) {
@@ -208,17 +213,25 @@ fn close_with(
 }
 
 impl<'a> Service<'a> {
+    ghost use Rattle.fare_service.specs.Adding.{AddUp};
     ghost use Rattle.fare_service.specs.Gathering.{HasOutcome, ToldUndrawn};
     ghost use Rattle.fare_service.specs.Halls.{shards_of};
+    ghost use Rattle.fare_service.specs.Limits.{AllKeepLimits};
+    ghost use Rattle.fare_service.specs.Placing.{StandOnce};
     ghost use Rattle.fare_service.specs.Shares.{IsShareOf};
 
     /// Gathers shares: joins what their workers did, closes the shards' books, and gives these with the end of each upload and the
-    /// totals of each share, in the order of the shares. All memory is taken first. On a fault service and shares are dropped.
+    /// totals of each share, in the order of the shares. All memory is taken first; then missing visits are told, of the first shard that
+    /// misses some, and then missing uploads. On a fault service and shares are dropped.
     pub fn gather(self, alloc: Global, shares: Vec<Share>) -> Result<Outcome, GatherFault>
         requires { All (IsShareOf self) shares.items }
         ensures outcome { IfOk result (HasOutcome self.entry shares.items) }
         ensures undrawn { IfOk result (ToldUndrawn self.entry shares.items) }
+        ensures places { IfOk result (StandOnce self.entry) }
+        ensures totals { IfOk result AddUp }
+        ensures limits { IfOk result AllKeepLimits }
         ensures fault { IfErr result (IsGatherFault (shards_of self.entry) shares.items) }
+        ensures first { IfErr result (IsFirst self.entry.books (length self.entry.uploads) shares.items) }
     {
         let mut closed = Vec::with_capacity(alloc, self.books.len())?;
         let ends = ends_of(alloc, self.uploads.len(), shares.as_slice())?;

@@ -4,6 +4,7 @@
 
 mod faults;
 mod gathering;
+pub mod laws;
 mod moment;
 mod opening;
 mod outcome;
@@ -15,6 +16,8 @@ mod service;
 mod share;
 mod shown;
 mod statement;
+#[cfg(test)]
+mod tests;
 mod upload_end;
 mod working;
 

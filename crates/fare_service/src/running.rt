@@ -1,8 +1,12 @@
 //! A run: a thread for each worker, and the gathering of their shares.
 
 ghost use Rattle.std.specs.Prelude.{◌≡◌, ◌<◌, All, IfOk, IfErr, length};
+ghost use Rattle.fare_service.specs.Adding.{AddUp};
 ghost use Rattle.fare_service.specs.Faults.{IsRunFault};
 ghost use Rattle.fare_service.specs.Gathering.{HasRun};
+ghost use Rattle.fare_service.specs.Limits.{AllKeepLimits};
+ghost use Rattle.fare_service.specs.Placing.{StandOnce};
+ghost use Rattle.fare_service.specs.Refusals.{WasNotGathered};
 ghost use Rattle.fare_service.specs.Shares.{IsShareOf};
 
 use crate::faults::RunFault;
@@ -15,10 +19,18 @@ use std::alloc::{AllocError, Global};
 use std::marker::Sync;
 use std::sync::Wait;
 use std::thread;
-use std::thread::Threads;
+use std::thread::{Promise, Scope, Threads};
 
 /// The most workers of a run.
 const MOST_WORKERS: u32 = 16;
+
+/// The service that a thread gives a share of.
+#[derive(Clone, Copy)]
+struct OfService<'s, 'a>(&'s Service<'a>);
+
+impl<'s, 'a> Promise<Share> for OfService<'s, 'a> {
+    ghost kept_by = { λ p share. IsShareOf p.0.now share };
+}
 
 impl<'a> Service<'a> {
     /// A share for each worker, of which the given one is the first.
@@ -38,6 +50,39 @@ impl<'a> Service<'a> {
         Ok(shares)
     }
 
+    /// Starts a thread for each share, and joins them. Where one is refused, those that were started end with the scope.
+    fn work_in<'s, E, R: Threads + Wait + Sync, G: Gate + Sync>(
+        &'s self,
+        scope: &Scope<'s, E>,
+        rt: &'s R,
+        alloc: Global,
+        shares: Vec<Share>,
+        gate: &'s G,
+    ) -> Result<Vec<Share>, NoMemory>
+        requires { All (IsShareOf self.now) shares.items }
+        ensures shares { IfOk result (λ r. All (IsShareOf self.now) r.items) }
+        ensures number { IfOk result (λ r. length r.items ≡ length shares.items) }
+    {
+        let mut threads = Vec::new(alloc);
+        for share in shares {
+            let started = scope.spawn_with(
+                OfService(self),
+                move || -> Share
+                    requires { IsShareOf self.now share }
+                    ensures { IsShareOf self.entry.now result }
+                { self.work(rt, alloc, share, gate) },
+            );
+            let Ok(thread) = started else {
+                return Err(NoMemory);
+            };
+            threads.push(thread)?;
+        }
+        let Ok(worked) = thread::join_promised(rt, threads) else {
+            return Err(NoMemory);
+        };
+        Ok(worked)
+    }
+
     /// Works with each share, in a thread of its own.
     fn work_all<R: Threads + Wait + Sync, G: Gate + Sync>(
         &self,
@@ -45,20 +90,21 @@ impl<'a> Service<'a> {
         alloc: Global,
         shares: Vec<Share>,
         gate: &G,
-    ) -> Result<Vec<Share>, AllocError>
+    ) -> Result<Vec<Share>, NoMemory>
         requires { All (IsShareOf self.now) shares.items }
         ensures shares { IfOk result (λ r. All (IsShareOf self.now) r.items) }
         ensures number { IfOk result (λ r. length r.items ≡ length shares.items) }
     {
-        let shares = thread::map_vec(
+        let worked = thread::scope(
+            thread::scope_env(),
             rt,
-            shares,
-            &|share: Share| -> Share
-                requires { IsShareOf self.now share }
-                ensures { IsShareOf self.entry.now result }
-            { self.work(rt, alloc, share, gate) },
+            |scope| -> Result<Vec<Share>, NoMemory>
+                requires { All (IsShareOf self.now) shares.items }
+                ensures { IfOk result (λ r. All (IsShareOf self.entry.now) r.items)
+                    × IfOk result (λ r. length r.items ≡ length shares.items) }
+            { self.work_in(scope, rt, alloc, shares, gate) },
         )?;
-        Ok(shares)
+        Ok(worked)
     }
 
     /// Runs the service with so many workers, 1 to 16, each in a thread of its own, and gathers their shares. The given share is the
@@ -73,7 +119,11 @@ impl<'a> Service<'a> {
     ) -> Result<Outcome, RunFault>
         requires { IsShareOf self share }
         ensures outcome { IfOk result (HasRun self.entry workers) }
+        ensures places { IfOk result (StandOnce self.entry) }
+        ensures totals { IfOk result AddUp }
+        ensures limits { IfOk result AllKeepLimits }
         ensures fault { IfErr result (IsRunFault workers) }
+        ensures gathered { IfErr result (WasNotGathered self.entry workers) }
     {
         if workers == 0 || workers > MOST_WORKERS {
             return Err(RunFault::Workers);

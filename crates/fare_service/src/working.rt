@@ -12,7 +12,7 @@ use shard_book::{Ends, Replies, RunEnd, Totals};
 use shared_books::Full;
 use std::alloc::Global;
 use std::sync::Wait;
-use tap_views::{Batch, LayoutFault, batches};
+use tap_views::{Batch, Cut, LayoutFault, batches};
 
 /// Where workers tell that they begin an upload and that they are done with it.
 pub trait Gate {
@@ -25,10 +25,17 @@ pub trait Gate {
 
 /// What a worker makes once: its clock, and the buffers that it keeps from run to run.
 #[derive(Drop)]
-pub(crate) struct Buffers {
+pub(crate) struct RunBuffers {
     pub(crate) clock: Clock,
     pub(crate) replies: Replies,
     pub(crate) ends: Ends,
+}
+
+/// What a worker makes once: a cut that it fills for each batch, and what it keeps from run to run.
+#[derive(Drop)]
+pub(crate) struct Buffers {
+    pub(crate) cut: Cut,
+    pub(crate) run: RunBuffers,
 }
 
 /// Why an upload ends before its last run.
@@ -85,21 +92,25 @@ fn bytes_in(file: &[u8]) -> usize
 
 impl<'a> Service<'a> {
     ghost use Rattle.fare_service.specs.Halls.{shards_of};
+    ghost use Rattle.tap_views.specs.Cut.{IsCut};
     ghost use Rattle.tap_views.specs.Layout.{Tap};
     ghost use Rattle.tap_views.specs.Files.{IsFile};
     ghost use Rattle.fare_service.specs.Runs.{Visit, WerePosted, if_any, of_shard, placed_from, runs_below, runs_of};
     ghost use Rattle.fare_service.specs.Shares.{Made, books_of, IsFaultOf, IsShareOf, IsWorked, WentOn, worked};
 
-    /// Posts a run, if it has a tap. Memory is taken, and the limits of windows are made, before the turn.
-    fn post_run<R: Wait>(
+    /// Posts a run of the batch that was cut, if it has a tap. Memory is taken, and the limits of windows are made, before the turn.
+    fn post_run<'b, R: Wait>(
         &self,
         rt: &R,
         posting: &mut Posting,
-        buffers: &mut Buffers,
-        batch: &Batch,
+        buffers: &mut RunBuffers,
+        cut: &'b Cut,
+        batch: &'b Batch<'_>,
         shard: u32,
     ) -> Result<(), Stop>
         requires shard { shard < shards_of self.now }
+        requires cut { IsCut batch.now cut.now }
+        requires shards { length cut.now ≡ shards_of self.now }
         requires passes { books_of posting.old.passes.items ≡ self.now.books }
         requires clock { buffers.old.clock ≡ self.now.table.zone }
         requires room { posting.old.totals.taps + 4096 ≤ 2 ^ 95 }
@@ -108,7 +119,7 @@ impl<'a> Service<'a> {
         ensures clock { buffers.new.clock ≡ buffers.old.clock }
         ensures few { posting.new.totals.taps ≤ posting.old.totals.taps + 4096 }
     {
-        let run = batch.run_of(shard, self.shards());
+        let run = cut.run(batch, shard);
         let len = run.len();
         if len == 0 {
             return Ok(());
@@ -136,17 +147,20 @@ impl<'a> Service<'a> {
         rt: &R,
         posting: &mut Posting,
         buffers: &mut Buffers,
-        batch: &Batch,
+        batch: &Batch<'_>,
     ) -> Result<(), Stop>
         requires passes { books_of posting.old.passes.items ≡ self.now.books }
-        requires clock { buffers.old.clock ≡ self.now.table.zone }
+        requires clock { buffers.old.run.clock ≡ self.now.table.zone }
+        requires cut { length buffers.old.cut ≡ shards_of self.now }
         requires room { posting.old.totals.taps + 2 ^ 18 ≤ 2 ^ 95 }
         ensures made { (place : ℕ) → (more : List Visit) × Made (shards_of self.now) posting.old.passes.items posting.new.passes.items (sums_of posting.old.totals) (sums_of posting.new.totals) more
             × WerePosted (runs_below (shards_of self.now) (shards_of self.now) (placed_from place batch.now)) (is_ok result) more }
-        ensures clock { buffers.new.clock ≡ buffers.old.clock }
+        ensures clock { buffers.new.run.clock ≡ buffers.old.run.clock }
+        ensures cut { length buffers.new.cut ≡ length buffers.old.cut }
     {
+        buffers.cut.fill(batch);
         for shard in 0..self.shards() {
-            self.post_run(rt, posting, buffers, batch, shard)?;
+            self.post_run(rt, posting, &mut buffers.run, &buffers.cut, &*batch, shard)?;
         }
         Ok(())
     }
@@ -160,13 +174,15 @@ impl<'a> Service<'a> {
         file: &[u8],
     ) -> Result<Option<(u64, LayoutFault)>, Stop>
         requires passes { books_of posting.old.passes.items ≡ self.now.books }
-        requires clock { buffers.old.clock ≡ self.now.table.zone }
+        requires clock { buffers.old.run.clock ≡ self.now.table.zone }
+        requires cut { length buffers.old.cut ≡ shards_of self.now }
         requires room { posting.old.totals.taps + 2 ^ 60 ≤ 2 ^ 94 }
         ensures made { (batches : List (List Tap)) × (rest : List ℕ) × IsFile file.now batches rest
             × ((more : List Visit) × Made (shards_of self.now) posting.old.passes.items posting.new.passes.items (sums_of posting.old.totals) (sums_of posting.new.totals) more
             × WerePosted (runs_of (shards_of self.now) 0 batches) (is_ok result) more)
             × IfOk result (IsFaultOf file.now rest) }
-        ensures clock { buffers.new.clock ≡ buffers.old.clock }
+        ensures clock { buffers.new.run.clock ≡ buffers.old.run.clock }
+        ensures cut { length buffers.new.cut ≡ length buffers.old.cut }
         ensures few { posting.new.totals.taps ≤ posting.old.totals.taps + 2 ^ 60 }
     {
         // a file has fewer than 2^64 bytes, so that the counts of its taps fit
@@ -190,11 +206,13 @@ impl<'a> Service<'a> {
     ) -> (UploadEnd, bool)
         requires upload { upload < length self.now.uploads }
         requires passes { books_of posting.old.passes.items ≡ self.now.books }
-        requires clock { buffers.old.clock ≡ self.now.table.zone }
+        requires clock { buffers.old.run.clock ≡ self.now.table.zone }
+        requires cut { length buffers.old.cut ≡ shards_of self.now }
         requires room { posting.old.totals.taps + 2 ^ 60 ≤ 2 ^ 94 }
         ensures worked { (visits : List Visit) × Made (shards_of self.now) posting.old.passes.items posting.new.passes.items (sums_of posting.old.totals) (sums_of posting.new.totals) visits
             × IsWorked self.now (worked upload result.0 visits) }
-        ensures clock { buffers.new.clock ≡ buffers.old.clock }
+        ensures clock { buffers.new.run.clock ≡ buffers.old.run.clock }
+        ensures cut { length buffers.new.cut ≡ length buffers.old.cut }
         ensures few { posting.new.totals.taps ≤ posting.old.totals.taps + 2 ^ 60 }
     {
         let before = posting.totals.taps;
@@ -216,10 +234,12 @@ impl<'a> Service<'a> {
         gate: &G,
     ) -> bool
         requires share { IsShareOf self.now share.old }
-        requires clock { buffers.old.clock ≡ self.now.table.zone }
+        requires clock { buffers.old.run.clock ≡ self.now.table.zone }
+        requires cut { length buffers.old.cut ≡ shards_of self.now }
         ensures share { IsShareOf self.now share.new }
         ensures went_on { WentOn self.now share.old share.new }
-        ensures clock { buffers.new.clock ≡ buffers.old.clock }
+        ensures clock { buffers.new.run.clock ≡ buffers.old.run.clock }
+        ensures cut { length buffers.new.cut ≡ length buffers.old.cut }
     {
         if share.done.reserve(1).is_err() {
             return false;
@@ -249,11 +269,15 @@ impl<'a> Service<'a> {
         let Ok(clock) = self.table.clock(alloc) else {
             return share;
         };
-        let mut buffers = Buffers {
+        let Ok(cut) = Cut::new(alloc, self.shards()) else {
+            return share;
+        };
+        let run = RunBuffers {
             clock,
             replies: Replies::new(alloc),
             ends: Ends::new(alloc),
         };
+        let mut buffers = Buffers { cut, run };
         for _ in rt.forever() {
             if !self.next_upload(rt, &mut share, &mut buffers, gate) {
                 break;

@@ -1,11 +1,12 @@
-use Rattle.std.proofs.Common.{ℕ, ◌≡◌, ◌+◌, ◌<◌, ◌≤◌, List, ◌∷◌, [], ◌++◌, length, refl, sym, ◌∙◌, ap, subst, arith, append_assoc, length-append, map}
+use Rattle.std.proofs.Common.{ℕ, ◌≡◌, List, ◌∷◌, [], ◌++◌, length, sym, ◌∙◌, ap, subst, arith, append_assoc, length-append}
 use Rattle.std.specs.Prelude.{slice_get, Some}
 use Rattle.std.proofs.lemmas.List.{length-map, map-append}
-use Rattle.std.specs.Vec.Iter.{into_iter_items, into_iter_len}
+use Rattle.std.specs.Vec.Iter.{into_iter_items}
 use Rattle.shard_book.specs.Book.{Book}
-use Rattle.shared_books.specs.Passes.{Knowledge, Opened}
+use Rattle.shared_books.specs.declared.turns.rule.Mark.{Mark}
+use Rattle.shared_books.specs.Passes.{Knowledge}
 use Rattle.fare_service.specs.Closing.{AreClosed, IsClosedBy}
-use Rattle.fare_service.specs.Shares.{marks_at, own_at, own_visits, books_of}
+use Rattle.fare_service.specs.Shares.{marks_at, own_visits}
 use Rattle.fare_service.proofs.PlaceLemmas.{place_more}
 use Rattle.fare_service.proofs.Signing.{made_own}
 use Rattle.fare_service.proofs.JoinLemmas.{next_book, at_end, marks_mid}
@@ -26,6 +27,20 @@ returns-in-Err-clause-missing c =
       missing.fewer,
     )
 
+pub returns-in-Err-clause-first : goal.returns-in-Err-clause-first
+returns-in-Err-clause-first c =
+    let p = c.loop-book.invariant.passes in
+    let rest = into_iter_items c.next-in-loop-book.new.self in
+    let all : p.0 ++ c.in-Some-next.pass ∷ rest ≡ c.args.passes.items = ap (λ ps. p.0 ++ ps) (sym c.in-Some-next.ensures.items) ∙ p.1 in
+    let place : length p.0 ≡ c.loop-book.shard = omega (arith, ap length p.2, length-map p.0 (λ (k : Knowledge). k.book), c.loop-book.invariant.shard) in
+    let marks : marks_at c.loop-book.shard c.args.passes.items ≡ c.in-Some-next.pass.marks =
+    ap (λ s. marks_at s c.args.passes.items) (sym place) ∙ ap (marks_at (length p.0)) (sym all) ∙ marks_mid p.0 c.in-Some-next.pass rest in
+    let missing = c.in-Err.ensures.err in (
+      c.loop-book.invariant.shard ∙ sym c.loop-book.invariant.number,
+      c.loop-book.invariant.closed,
+      omega (arith, missing.seen, length-map c.in-Some-next.pass.marks (λ (m : Mark). m.visit), ap length marks),
+    )
+
 pub loop-book-preserved : goal.loop-book-preserved
 loop-book-preserved c =
     let steps = c.in-Some.ensures.steps in
@@ -38,7 +53,7 @@ loop-book-preserved c =
     let A : List Knowledge → Type 0 = λ ps. slice_get ps (length c.loop-book.closed.items) ≡ Some c.in-Some-next.pass in
     let N : ℕ → Type 0 = λ n. slice_get (p.0 ++ c.in-Some-next.pass ∷ rest) n ≡ Some c.in-Some-next.pass in
     let here : IsClosedBy c.args.passes.items (length c.loop-book.closed.items) c.in-Ok.book =
-    record { pass = c.in-Some-next.pass; at = subst A all (subst N place (at_end p.0 c.in-Some-next.pass rest)); all = c.in-Ok.ensures.ok; legal = c.len-entries.ensures.legal } in
+    record { pass = c.in-Some-next.pass; at = subst A all (subst N place (at_end p.0 c.in-Some-next.pass rest)); all = c.in-Ok.ensures.ok; legal = c.len-entries.ensures.legal; limits = record { windows = c.windows.ensures } } in
     let P : List Book → Type 0 = AreClosed c.args.passes.items in
     record {
       may = tt;

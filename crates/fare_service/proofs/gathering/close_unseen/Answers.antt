@@ -1,6 +1,6 @@
-use Rattle.std.proofs.Common.{ℕ, ◌≡◌, ◌+◌, ◌<◌, ◌≤◌, List, ◌∷◌, [], ◌++◌, length, refl, sym, ◌∙◌, ap, subst, arith, append_assoc, length-append}
+use Rattle.std.proofs.Common.{ℕ, ◌≡◌, List, ◌∷◌, [], ◌++◌, length, sym, ◌∙◌, ap, subst, arith, append_assoc, length-append}
 use Rattle.std.specs.Prelude.{slice_get, Some}
-use Rattle.std.specs.Vec.Iter.{into_iter_items, into_iter_len}
+use Rattle.std.specs.Vec.Iter.{into_iter_items}
 use Rattle.shard_book.specs.Book.{Book}
 use Rattle.shared_books.specs.Passes.{Opened}
 use Rattle.fare_service.specs.Closing.{AreUnseen, IsUnseen}
@@ -16,7 +16,7 @@ loop-book-preserved c =
     let A : List Opened → Type 0 = λ bs. slice_get bs (length c.loop-book.closed.items) ≡ Some c.in-Some.book in
     let N : ℕ → Type 0 = λ n. slice_get (c.loop-book.yielded ++ c.in-Some.book ∷ rest) n ≡ Some c.in-Some.book in
     let here : IsUnseen c.args.books.items (length c.loop-book.closed.items) c.in-Ok.book =
-    record { shared = c.in-Some.book; at = subst A books (subst N (sym c.loop-book.invariant.number) (at_end c.loop-book.yielded c.in-Some.book rest)); none = c.in-Ok.ensures.ok; legal = c.len-entries.ensures.legal } in
+    record { shared = c.in-Some.book; at = subst A books (subst N (sym c.loop-book.invariant.number) (at_end c.loop-book.yielded c.in-Some.book rest)); none = c.in-Ok.ensures.ok; legal = c.len-entries.ensures.legal; limits = record { windows = c.windows.ensures } } in
     let P : List Book → Type 0 = AreUnseen c.args.books.items in
     record {
       may = tt;

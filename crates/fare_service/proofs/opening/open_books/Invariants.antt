@@ -1,4 +1,4 @@
-use Rattle.std.proofs.Common.{◌≡◌, ◌≤◌, ℕ, length, map, vec_len, vec_capacity, slice_get, Some}
+use Rattle.std.proofs.Common.{◌≡◌, ◌≤◌, ℕ, length, map, vec_capacity, slice_get, Some}
 use Rattle.shared_books.specs.Passes.{Opened, new_pass}
 use Rattle.fare_service.specs.Halls.{IsBookOf}
 use Rattle.fare_service.proofs.opening.open_books.Given as goal

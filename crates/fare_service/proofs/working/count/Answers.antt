@@ -1,4 +1,4 @@
-use Rattle.std.proofs.Common.{ℕ, ◌≡◌, ◌+◌, [], ◌∷◌, sym, ◌∙◌, ap, arith, add-zero}
+use Rattle.std.proofs.Common.{◌≡◌, ◌+◌, [], ◌∷◌, sym, ◌∙◌, ap, arith, add-zero}
 use Rattle.shard_book.specs.Sums.{sums_of, sums_of_replies, add_sums}
 use Rattle.fare_service.proofs.VisitLemmas.{add_none, replies_more, one_tap}
 use Rattle.fare_service.proofs.working.count.Goals as goal

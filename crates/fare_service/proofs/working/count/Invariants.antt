@@ -1,4 +1,4 @@
-use Rattle.std.proofs.Common.{◌≡◌, ◌+◌, ◌≤◌, take}
+use Rattle.std.proofs.Common.{◌≡◌, ◌+◌, take}
 use Rattle.shard_book.specs.Sums.{sums_of, sums_of_replies, add_sums}
 use Rattle.fare_service.proofs.working.count.Given as goal
 

@@ -1,5 +1,5 @@
-use Rattle.std.proofs.Common.{◌≡◌, ℕ, List, length, refl, sym, ◌∙◌, ap, subst}
-use Rattle.std.specs.Prelude.{slice_get, Some, string_bytes}
+use Rattle.std.proofs.Common.{sym, ◌∙◌, ap, subst}
+use Rattle.std.specs.Prelude.{slice_get, string_bytes}
 use Rattle.fare_table.specs.Fares.{Fares}
 use Rattle.fare_service.specs.StatementText.{IsStatementText}
 use Rattle.shard_book.specs.Token.{bytes_of}

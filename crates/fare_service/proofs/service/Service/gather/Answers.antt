@@ -1,15 +1,18 @@
-use Rattle.std.proofs.Common.{◌≡◌, ℕ, ◌+◌, ◌<◌, ◌≤◌, List, All, length, map, slice_get, Some, [], ◌∷◌, replicate, refl, sym, ◌∙◌, ap, subst, arith}
+use Rattle.std.proofs.Common.{◌≡◌, ℕ, ◌<◌, List, All, length, map, slice_get, Some, replicate, sym, ◌∙◌, ap, subst}
+use Rattle.std.specs.Prelude.{Result, Ok, Err, IfErr, IsErrAnd}
 use Rattle.std.proofs.lemmas.List.{length-map}
-use Rattle.shard_book.specs.Sums.{Sums, sums, sums_of}
+use Rattle.shard_book.specs.Sums.{sums, sums_of}
 use Rattle.shard_book.specs.Groups.{all_entries}
-use Rattle.fare_service.specs.declared.upload_end.UploadEnd.{UploadEnd}
 use Rattle.fare_service.specs.declared.upload_end.UploadEnd.TheVariants.{Undrawn}
+use Rattle.fare_service.specs.declared.faults.GatherFault.{GatherFault}
+use Rattle.fare_service.specs.Closing.{IsFirst}
 use Rattle.fare_service.specs.Joining.{told_all}
-use Rattle.fare_service.specs.Halls.{Hall, IsHall}
+use Rattle.fare_service.specs.Halls.{Hall}
 use Rattle.fare_service.specs.Holdings.{Holding}
 use Rattle.fare_service.specs.Shares.{IsShareOf}
-use Rattle.fare_service.specs.Gathering.{HasOutcome, ToldUndrawn}
-use Rattle.fare_service.specs.Outcomes.{Gathered}
+use Rattle.fare_service.specs.Gathering.{HasOutcome}
+use Rattle.fare_service.proofs.AddingLemmas.{gathered_sums}
+use Rattle.fare_service.proofs.PlacingLemmas.{gathered_places}
 use Rattle.fare_service.proofs.GatherLemmas.{has_outcome, told_undrawn, is_outcome, done_within}
 use Rattle.fare_service.proofs.service.Service.gather.Goals as goal
 
@@ -54,3 +57,29 @@ returns-clause-undrawn c =
     ∙ ap (λ n. told_all (replicate n Undrawn) c.args.shares.items) (sym number) in
     let U : Hall → Type 0 = λ h. (upload : ℕ) → slice_get c.in_ok-ends.ends.items upload ≡ Some Undrawn → All (λ share. share.drawer.seen < length h.uploads) c.args.shares.items in
     subst U c.self.view_is (told_undrawn hall c.args.shares.items all c.close_with.new.closed.items c.in_ok-close_with.ensures.ok c.in_ok-ends.ends.items told (c.in_ok-ends.ensures.number ∙ sym number))
+
+pub returns-clause-places : goal.returns-clause-places
+returns-clause-places c =
+    let o = returns-clause-outcome c in
+    gathered_places _ o.0 _ o.2
+
+pub returns-clause-totals : goal.returns-clause-totals
+returns-clause-totals c =
+    let o = returns-clause-outcome c in
+    gathered_sums _ o.0 _ o.2 (c.totals_of-totals.ensures ∙ ap (λ bs. sums (all_entries bs)) c.as_slice-3.ensures.value)
+
+pub returns-clause-limits : goal.returns-clause-limits
+returns-clause-limits c = λ shard book at. (c.in_ok-close_with.ensures.ok.books shard book at).limits
+
+-- an error that was handed on
+handed_on : {T E : Type 0} (r : Result T E) (fault : E) (P : E → Type 0) → IsErrAnd r (λ e. e ≡ fault) → P fault → IfErr r P
+handed_on (Ok x) fault P is holds = tt
+handed_on (Err e) fault P is holds = subst P (sym is) holds
+
+pub returns-in_err-close_with-clause-first : goal.returns-in_err-close_with-clause-first
+returns-in_err-close_with-clause-first c =
+    let fault : GatherFault = c.in_err-close_with.field-0.0 in
+    let F : ℕ → Type 0 = λ n. IsFirst c.self.inside.books.items n c.args.shares.items fault in
+    let H : Hall → Type 0 = λ h. IsFirst h.books (length h.uploads) c.args.shares.items fault in
+    handed_on c.from_residual-in_err-close_with.result fault (IsFirst c.args.self.books (length c.args.self.uploads) c.args.shares.items) c.from_residual-in_err-close_with.ensures.1
+    (subst H c.self.view_is (subst F c.self.invariant.numbers c.in_err-close_with.ensures.first))

@@ -1,9 +1,7 @@
-use Rattle.std.proofs.Common.{ℕ, ◌≡◌, ◌+◌, ◌*◌, ◌^◌, ◌≤◌, ◌<◌, List, [], ◌∷◌, ◌++◌, length, refl, sym, ◌∙◌, ap, subst, arith}
+use Rattle.std.proofs.Common.{List, [], ◌∷◌, ◌++◌, refl, ◌∙◌, ap}
 use Rattle.shard_book.specs.Sums.{sums_of}
-use Rattle.fare_service.specs.Holdings.{Holding}
-use Rattle.fare_service.specs.Shares.{IsShareOf}
 use Rattle.fare_service.specs.declared.share.Done.{Done}
-use Rattle.fare_service.proofs.ShareLemmas.{stayed, next_went_on, next_share, has_room}
+use Rattle.fare_service.proofs.ShareLemmas.{stayed, next_went_on, next_share}
 use Rattle.fare_service.proofs.service.Service.next_upload.Goals as goal
 
 pub returns-then-is_err-clause-went_on : goal.returns-then-is_err-clause-went_on

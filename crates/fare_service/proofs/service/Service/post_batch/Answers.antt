@@ -1,7 +1,7 @@
-use Rattle.std.proofs.Common.{ℕ, ◌≡◌, ◌+◌, ◌*◌, ◌≤◌, List, [], sym, ◌∙◌, ap, subst, refl, arith}
+use Rattle.std.proofs.Common.{ℕ, ◌≡◌, [], ◌∙◌, subst, refl, arith}
 use Rattle.shard_book.specs.Sums.{sums_of}
 use Rattle.fare_service.specs.Halls.{shards_of}
-use Rattle.fare_service.specs.Runs.{placed_from, of_shard, if_any, runs_below}
+use Rattle.fare_service.specs.Runs.{placed_from, runs_below}
 use Rattle.fare_service.proofs.VisitLemmas.{made_none}
 use Rattle.fare_service.proofs.BatchLemmas.{Posts, batch_more, batch_cut, cuts_told}
 use Rattle.fare_service.proofs.service.Service.post_batch.Goals as goal
@@ -10,6 +10,8 @@ pub loop-shard-init : goal.loop-shard-init
 loop-shard-init g c = record {
   passes = c.requires.passes;
   clock = refl;
+  cut = c.fill.ensures.cut;
+  shards = c.fill.ensures.shards ∙ c.requires.cut;
   room = omega arith;
   within = omega arith;
   made = λ place. ([], made_none (shards_of c.args.self.now) c.args.posting.now.passes.items (sums_of c.args.posting.now.totals), refl);
@@ -21,6 +23,8 @@ loop-shard-preserved g c =
     record {
       passes = (c.in_ok-post_run.ensures.made 0).1.books ∙ c.loop-shard.invariant.passes;
       clock = c.in_ok-post_run.ensures.clock ∙ c.loop-shard.invariant.clock;
+      cut = c.loop-shard.invariant.cut;
+      shards = c.loop-shard.invariant.shards;
       room = omega (arith, c.in_ok-post_run.ensures.few, c.loop-shard.invariant.room);
       within = omega (arith, c.loop-shard-test.true);
       made = λ place. batch_more shards c.loop-shard.shard (placed_from place c.args.batch.now) c.args.posting.now.passes.items c.loop-shard.posting.passes.items c.post_run.new.posting.passes.items

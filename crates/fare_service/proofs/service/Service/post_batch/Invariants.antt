@@ -1,4 +1,5 @@
-use Rattle.std.proofs.Common.{◌≡◌, ℕ, ◌+◌, ◌*◌, ◌≤◌, List}
+use Rattle.std.proofs.Common.{◌≡◌, ℕ, ◌+◌, ◌*◌, ◌≤◌, List, length}
+use Rattle.tap_views.specs.Cut.{IsCut}
 use Rattle.shard_book.specs.Sums.{sums_of}
 use Rattle.fare_service.specs.Halls.{shards_of}
 use Rattle.fare_service.specs.Runs.{Visit, ArePosted, placed_from, runs_below}
@@ -8,7 +9,9 @@ use Rattle.fare_service.proofs.service.Service.post_batch.Given as goal
 abbrev pub invariant-loop-shard : goal.invariant-loop-shard
 invariant-loop-shard g l = record {
   passes : books_of l.posting.passes.items ≡ l.fn.self.books;
-  clock : l.buffers.clock ≡ l.fn.buffers.clock;
+  clock : l.buffers.run.clock ≡ l.fn.buffers.run.clock;
+  cut : IsCut l.batch l.buffers.cut;
+  shards : length l.buffers.cut ≡ shards_of l.fn.self;
   room : l.posting.totals.taps ≤ l.fn.posting.totals.taps + 4096 * l.shard;
   within : l.shard ≤ l.shard-end;
   made : (place : ℕ) → (more : List Visit) × Made (shards_of l.fn.self) l.fn.posting.passes.items l.posting.passes.items (sums_of l.fn.posting.totals) (sums_of l.posting.totals) more

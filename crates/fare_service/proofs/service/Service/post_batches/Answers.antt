@@ -1,13 +1,10 @@
-use Rattle.std.proofs.Common.{ℕ, List, [], ◌++◌, ◌∷◌, map, Ok, Err, ◌≡◌, ◌≤◌, ◌+◌, ◌*◌, ◌<◌, ◌^◌, length, true, false, ap, ◌∙◌, sym, refl, subst, append_assoc, append-nil, arith, Result}
+use Rattle.std.proofs.Common.{List, [], ◌++◌, ◌∷◌, map, Ok, Err, ◌≤◌, ◌+◌, ◌*◌, ◌<◌, ◌^◌, length, true, false, ap, ◌∙◌, sym, refl, subst, append_assoc, append-nil, arith}
 use Rattle.std.proofs.lemmas.List.{map-append}
 use Rattle.tap_views.specs.Layout.{Tap}
 use Rattle.tap_views.specs.Files.{Item, IsReading, IsFile}
-use Rattle.tap_views.specs.declared.fault.LayoutFault.{LayoutFault}
 use Rattle.shard_book.specs.Sums.{sums_of}
 use Rattle.fare_service.specs.Halls.{shards_of}
-use Rattle.fare_service.specs.Runs.{runs_of}
 use Rattle.fare_service.proofs.VisitLemmas.{made_none}
-use Rattle.fare_service.proofs.BatchLemmas.{Posts, Cuts}
 use Rattle.fare_service.proofs.TapCounts.{batches_taps}
 use Rattle.fare_service.proofs.ReadingLemmas.{same_items, read_all, read_fault, read_batch, done_room, posted_few, batches_more, batches_cut, cut_upload}
 use Rattle.fare_service.proofs.service.Service.post_batches.Goals as goal
@@ -21,6 +18,7 @@ loop-item-init g c =
       reading = subst P (sym c.into_iter-item-iterator.ensures.into_iter_gives) c.batches-item-items.ensures;
       passes = c.requires.passes;
       clock = refl;
+      cut = refl;
       made = ([], refl, ([], made_none (shards_of c.args.self.now) c.args.posting.now.passes.items (sums_of c.args.posting.now.totals), refl));
     }
 
@@ -47,6 +45,7 @@ loop-item-preserved g c =
       reading = subst P (ap (λ left. c.loop-item.yielded ++ left) c.in-Some.ensures.steps ∙ sym (append_assoc c.loop-item.yielded (c.in-Some.item ∷ []) c.next.new.self)) c.loop-item.invariant.reading;
       passes = (c.in_ok-post_batch-in-Ok.ensures.made 0).1.books ∙ c.loop-item.invariant.passes;
       clock = c.in_ok-post_batch-in-Ok.ensures.clock ∙ c.loop-item.invariant.clock;
+      cut = c.in_ok-post_batch-in-Ok.ensures.cut ∙ c.loop-item.invariant.cut;
       made = (
         made.0 ++ c.in-Ok.batch ∷ [],
         ap (λ ys. ys ++ c.in-Some.item ∷ []) made.1 ∙ (ap (λ i. map (λ (b : List Tap). Ok b) made.0 ++ i ∷ []) c.in-Ok.is ∙ sym (map-append (λ (b : List Tap). Ok b) made.0 (c.in-Ok.batch ∷ []))),

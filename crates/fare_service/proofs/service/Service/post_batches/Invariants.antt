@@ -1,4 +1,4 @@
-use Rattle.std.proofs.Common.{◌≡◌, ℕ, ◌+◌, ◌*◌, ◌≤◌, List, ◌++◌, map, Ok}
+use Rattle.std.proofs.Common.{◌≡◌, List, ◌++◌, length, map, Ok}
 use Rattle.tap_views.specs.Layout.{Tap}
 use Rattle.tap_views.specs.Files.{IsReading}
 use Rattle.shard_book.specs.Sums.{sums_of}
@@ -14,7 +14,8 @@ invariant-loop-item g l = record {
   ends : (goal.iterator-loop-item g).is_finite l.item-iterator;
   reading : IsReading l.file (l.yielded ++ l.item-iterator);
   passes : books_of l.posting.passes.items ≡ l.fn.self.books;
-  clock : l.buffers.clock ≡ l.fn.buffers.clock;
+  clock : l.buffers.run.clock ≡ l.fn.buffers.run.clock;
+  cut : length l.buffers.cut ≡ length l.fn.buffers.cut;
   made : (done : List (List Tap)) × (l.yielded ≡ map Ok done)
       × Posts (shards_of l.fn.self) l.fn.posting.passes.items l.posting.passes.items (sums_of l.fn.posting.totals) (sums_of l.posting.totals) (runs_of (shards_of l.fn.self) 0 done);
 }

@@ -1,4 +1,4 @@
-use Rattle.std.proofs.Common.{ℕ, ◌≡◌, ◌+◌, ◌<◌, ◌≤◌, List, ◌++◌, length, map, sym, ◌∙◌, ap, subst, arith}
+use Rattle.std.proofs.Common.{◌≡◌, ◌<◌, List, ◌++◌, length, map, sym, ◌∙◌, ap, subst, arith}
 use Rattle.std.proofs.lemmas.List.{length-map}
 use Rattle.tap_views.specs.Layout.{Tap}
 use Rattle.tap_views.specs.Shards.{run_of, run_taps}
@@ -6,7 +6,7 @@ use Rattle.fare_table.specs.Until.{limit_in}
 use Rattle.shard_book.specs.declared.run_end.RunEnd.{RunEnd}
 use Rattle.shard_book.specs.declared.run_end.RunEnd.TheVariants.{Whole, Cut}
 use Rattle.shard_book.specs.Entry.{reply_of}
-use Rattle.shard_book.specs.Sums.{sums_of, sums_of_replies, add_sums, sums}
+use Rattle.shard_book.specs.Sums.{sums_of, sums_of_replies, add_sums}
 use Rattle.shard_book.specs.Visits.{IsVisit, limits_by}
 use Rattle.shared_books.specs.Passes.{Knowledge}
 use Rattle.fare_service.specs.Halls.{shards_of}
@@ -16,20 +16,20 @@ use Rattle.fare_service.proofs.service.Service.post_run.Goals as goal
 
 pub returns-then-len-eq0-clause-made : goal.returns-then-len-eq0-clause-made
 returns-then-len-eq0-clause-made g c =
-    let same = same_run c.run_of-run.result c.args.batch.now c.args.shard c.shards.result (shards_of c.args.self.now) c.run_of-run.ensures c.shards.ensures.number in
+    let same = same_run c.run-run.result c.args.batch.now c.args.shard (length c.args.cut.now) (shards_of c.args.self.now) c.run-run.ensures c.requires.shards in
     λ place. run_empty (shards_of c.args.self.now) c.args.shard place c.args.batch.now c.args.posting.now.passes.items (sums_of c.args.posting.now.totals)
     (sym (ap length same) ∙ (sym c.len-len.ensures.number ∙ c.if-len-eq0.true))
 
 pub returns-in_err-reserve-clause-made : goal.returns-in_err-reserve-clause-made
 returns-in_err-reserve-clause-made g c =
-    let same = same_run c.run_of-run.result c.args.batch.now c.args.shard c.shards.result (shards_of c.args.self.now) c.run_of-run.ensures c.shards.ensures.number in
+    let same = same_run c.run-run.result c.args.batch.now c.args.shard (length c.args.cut.now) (shards_of c.args.self.now) c.run-run.ensures c.requires.shards in
     let some : 0 < length (run_of c.args.shard (shards_of c.args.self.now) c.args.batch.now) = omega (arith, ap length same, c.len-len.ensures.number) in
     λ place. run_refused (shards_of c.args.self.now) c.args.shard place c.args.batch.now c.args.posting.now.passes.items (sums_of c.args.posting.now.totals)
     c.from_residual.result some c.from_residual.ensures.0
 
 pub returns-in_err-fill-clause-made : goal.returns-in_err-fill-clause-made
 returns-in_err-fill-clause-made g c =
-    let same = same_run c.run_of-run.result c.args.batch.now c.args.shard c.shards.result (shards_of c.args.self.now) c.run_of-run.ensures c.shards.ensures.number in
+    let same = same_run c.run-run.result c.args.batch.now c.args.shard (length c.args.cut.now) (shards_of c.args.self.now) c.run-run.ensures c.requires.shards in
     let some : 0 < length (run_of c.args.shard (shards_of c.args.self.now) c.args.batch.now) = omega (arith, ap length same, c.len-len.ensures.number) in
     λ place. run_refused (shards_of c.args.self.now) c.args.shard place c.args.batch.now c.args.posting.now.passes.items (sums_of c.args.posting.now.totals)
     c.from_residual-in_err-fill.result some c.from_residual-in_err-fill.ensures.0
@@ -38,25 +38,25 @@ pub visit-requires-clause-shard : goal.visit-requires-clause-shard
 visit-requires-clause-shard g c =
     let count = ap shards_of c.self.view_is in
     let book = book_at _ c.args.shard c.index.result.now c.self.invariant (omega (arith, c.requires.shard, count)) c.index.ensures in
-    let run = c.run_of-run.ensures in
+    let run = c.run-run.ensures in
     ap (λ r. r.shard) run ∙ sym book.its_shard
 
 pub visit-requires-clause-shards : goal.visit-requires-clause-shards
 visit-requires-clause-shards g c =
     let count = ap shards_of c.self.view_is in
     let book = book_at _ c.args.shard c.index.result.now c.self.invariant (omega (arith, c.requires.shard, count)) c.index.ensures in
-    ap (λ r. r.shards) c.run_of-run.ensures ∙ (c.shards.ensures.number ∙ (sym count ∙ sym book.of_shards))
+    ap (λ r. r.shards) c.run-run.ensures ∙ (c.requires.shards ∙ (sym count ∙ sym book.of_shards))
 
 pub visit-requires-clause-ends : goal.visit-requires-clause-ends
 visit-requires-clause-ends g c =
     let count = ap shards_of c.self.view_is in
     let book = book_at _ c.args.shard c.index.result.now c.self.invariant (omega (arith, c.requires.shard, count)) c.index.ensures in
     let zone = c.requires.clock ∙ (sym (ap (λ h. h.table.zone) c.self.view_is) ∙ sym (ap (λ t. t.zone) book.its_table)) in
-    c.in_ok-fill.ensures.ok ∙ ap (λ z. limits_by (limit_in z) (run_taps c.run_of-run.result)) zone
+    c.in_ok-fill.ensures.ok ∙ ap (λ z. limits_by (limit_in z) (run_taps c.run-run.result)) zone
 
 pub returns-in_err-visit-clause-made : goal.returns-in_err-visit-clause-made
 returns-in_err-visit-clause-made g c =
-    let same = same_run c.run_of-run.result c.args.batch.now c.args.shard c.shards.result (shards_of c.args.self.now) c.run_of-run.ensures c.shards.ensures.number in
+    let same = same_run c.run-run.result c.args.batch.now c.args.shard (length c.args.cut.now) (shards_of c.args.self.now) c.run-run.ensures c.requires.shards in
     let some : 0 < length (run_of c.args.shard (shards_of c.args.self.now) c.args.batch.now) = omega (arith, ap length same, c.len-len.ensures.number) in
     let within : c.args.shard < length c.args.posting.now.passes.items =
     omega (arith, c.requires.shard, ap length c.requires.passes, length-map c.args.posting.now.passes.items (λ (p : Knowledge). p.book)) in
@@ -66,13 +66,13 @@ returns-in_err-visit-clause-made g c =
 pub count-requires : goal.count-requires
 count-requires g c =
     let made = c.in_ok-visit.ensures.visit in
-    let few = visit_length (run_taps c.run_of-run.result) c.in_ok-visit.visit.how made.visit made.of_run in
+    let few = visit_length (run_taps c.run-run.result) c.in_ok-visit.visit.how made.visit made.of_run in
     let items : c.visit.new.out.items ≡ map reply_of made.visit = made.items ∙ ap (λ xs. xs ++ map reply_of made.visit) (c.in_ok-reserve.ensures.items ∙ c.clear.ensures.items) in
     omega (arith, c.requires.room, few, c.len-len.ensures.number, c.len-len.ensures.most, ap length items, length-map made.visit reply_of)
 
 pub returns-in-Whole-clause-made : goal.returns-in-Whole-clause-made
 returns-in-Whole-clause-made g c =
-    let same = same_run c.run_of-run.result c.args.batch.now c.args.shard c.shards.result (shards_of c.args.self.now) c.run_of-run.ensures c.shards.ensures.number in
+    let same = same_run c.run-run.result c.args.batch.now c.args.shard (length c.args.cut.now) (shards_of c.args.self.now) c.run-run.ensures c.requires.shards in
     let some : 0 < length (run_of c.args.shard (shards_of c.args.self.now) c.args.batch.now) = omega (arith, ap length same, c.len-len.ensures.number) in
     let within : c.args.shard < length c.args.posting.now.passes.items =
     omega (arith, c.requires.shard, ap length c.requires.passes, length-map c.args.posting.now.passes.items (λ (p : Knowledge). p.book)) in
@@ -80,7 +80,7 @@ returns-in-Whole-clause-made g c =
     let items : c.visit.new.out.items ≡ map reply_of made.visit = made.items ∙ ap (λ xs. xs ++ map reply_of made.visit) (c.in_ok-reserve.ensures.items ∙ c.clear.ensures.items) in
     let P : List Tap → RunEnd → Type 0 = λ taps how. IsVisit taps how made.visit in
     let of_run : IsVisit (run_of c.args.shard (shards_of c.args.self.now) c.args.batch.now) Whole made.visit =
-    subst (λ (taps : List Tap). P taps Whole) same (subst (λ (how : RunEnd). P (run_taps c.run_of-run.result) how) c.in-Whole.is made.of_run) in
+    subst (λ (taps : List Tap). P taps Whole) same (subst (λ (how : RunEnd). P (run_taps c.run-run.result) how) c.in-Whole.is made.of_run) in
     λ place. run_visited (shards_of c.args.self.now) c.args.shard place c.args.batch.now c.args.posting.now.passes.items c.index_mut.result.now c.visit.new.pass c.in_ok-visit.visit.number Whole made.visit
     (sums_of c.args.posting.now.totals) (sums_of c.count.new.totals) some c.requires.shard within c.index_mut.ensures.value made.stands of_run
     (c.count.ensures ∙ ap (λ xs. add_sums (sums_of c.args.posting.now.totals) (sums_of_replies xs)) items)
@@ -88,14 +88,14 @@ returns-in-Whole-clause-made g c =
 pub returns-in-Whole-clause-few : goal.returns-in-Whole-clause-few
 returns-in-Whole-clause-few g c =
     let made = c.in_ok-visit.ensures.visit in
-    let few = visit_length (run_taps c.run_of-run.result) c.in_ok-visit.visit.how made.visit made.of_run in
+    let few = visit_length (run_taps c.run-run.result) c.in_ok-visit.visit.how made.visit made.of_run in
     let items : c.visit.new.out.items ≡ map reply_of made.visit = made.items ∙ ap (λ xs. xs ++ map reply_of made.visit) (c.in_ok-reserve.ensures.items ∙ c.clear.ensures.items) in
     let more = ap (λ s. s.taps) c.count.ensures ∙ taps_after (sums_of c.args.posting.now.totals) c.visit.new.out.items in
     omega (arith, few, c.len-len.ensures.number, c.len-len.ensures.most, ap length items, length-map made.visit reply_of, more)
 
 pub returns-in-Cut-clause-made : goal.returns-in-Cut-clause-made
 returns-in-Cut-clause-made g c =
-    let same = same_run c.run_of-run.result c.args.batch.now c.args.shard c.shards.result (shards_of c.args.self.now) c.run_of-run.ensures c.shards.ensures.number in
+    let same = same_run c.run-run.result c.args.batch.now c.args.shard (length c.args.cut.now) (shards_of c.args.self.now) c.run-run.ensures c.requires.shards in
     let some : 0 < length (run_of c.args.shard (shards_of c.args.self.now) c.args.batch.now) = omega (arith, ap length same, c.len-len.ensures.number) in
     let within : c.args.shard < length c.args.posting.now.passes.items =
     omega (arith, c.requires.shard, ap length c.requires.passes, length-map c.args.posting.now.passes.items (λ (p : Knowledge). p.book)) in
@@ -103,7 +103,7 @@ returns-in-Cut-clause-made g c =
     let items : c.visit.new.out.items ≡ map reply_of made.visit = made.items ∙ ap (λ xs. xs ++ map reply_of made.visit) (c.in_ok-reserve.ensures.items ∙ c.clear.ensures.items) in
     let P : List Tap → RunEnd → Type 0 = λ taps how. IsVisit taps how made.visit in
     let of_run : IsVisit (run_of c.args.shard (shards_of c.args.self.now) c.args.batch.now) (Cut c.in-Cut.posted) made.visit =
-    subst (λ (taps : List Tap). P taps (Cut c.in-Cut.posted)) same (subst (λ (how : RunEnd). P (run_taps c.run_of-run.result) how) c.in-Cut.is made.of_run) in
+    subst (λ (taps : List Tap). P taps (Cut c.in-Cut.posted)) same (subst (λ (how : RunEnd). P (run_taps c.run-run.result) how) c.in-Cut.is made.of_run) in
     λ place. run_visited (shards_of c.args.self.now) c.args.shard place c.args.batch.now c.args.posting.now.passes.items c.index_mut.result.now c.visit.new.pass c.in_ok-visit.visit.number (Cut c.in-Cut.posted) made.visit
     (sums_of c.args.posting.now.totals) (sums_of c.count.new.totals) some c.requires.shard within c.index_mut.ensures.value made.stands of_run
     (c.count.ensures ∙ ap (λ xs. add_sums (sums_of c.args.posting.now.totals) (sums_of_replies xs)) items)
@@ -111,7 +111,7 @@ returns-in-Cut-clause-made g c =
 pub returns-in-Cut-clause-few : goal.returns-in-Cut-clause-few
 returns-in-Cut-clause-few g c =
     let made = c.in_ok-visit.ensures.visit in
-    let few = visit_length (run_taps c.run_of-run.result) c.in_ok-visit.visit.how made.visit made.of_run in
+    let few = visit_length (run_taps c.run-run.result) c.in_ok-visit.visit.how made.visit made.of_run in
     let items : c.visit.new.out.items ≡ map reply_of made.visit = made.items ∙ ap (λ xs. xs ++ map reply_of made.visit) (c.in_ok-reserve.ensures.items ∙ c.clear.ensures.items) in
     let more = ap (λ s. s.taps) c.count.ensures ∙ taps_after (sums_of c.args.posting.now.totals) c.visit.new.out.items in
     omega (arith, few, c.len-len.ensures.number, c.len-len.ensures.most, ap length items, length-map made.visit reply_of, more)

@@ -1,7 +1,6 @@
-use Rattle.std.proofs.Common.{ℕ, ◌≡◌, ap, ◌∙◌, sym, refl, subst}
+use Rattle.std.proofs.Common.{ap, ◌∙◌, sym, refl, subst}
 use Rattle.fare_service.specs.declared.upload_end.UploadEnd.{UploadEnd}
 use Rattle.shard_book.specs.Sums.{sums_of}
-use Rattle.fare_service.specs.Halls.{upload_at}
 use Rattle.fare_service.proofs.UploadLemmas.{Worked_as, upload_whole, upload_cut, the_upload}
 use Rattle.fare_service.proofs.service.Service.post_upload.Goals as goal
 

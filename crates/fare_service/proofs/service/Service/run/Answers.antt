@@ -1,4 +1,4 @@
-use Rattle.std.proofs.Common.{◌≡◌, ℕ, List, length, refl, sym, ◌∙◌, ap, subst}
+use Rattle.std.proofs.Common.{◌∙◌}
 use Rattle.fare_service.proofs.GatherLemmas.{has_run}
 use Rattle.fare_service.proofs.service.Service.run.Goals as goal
 

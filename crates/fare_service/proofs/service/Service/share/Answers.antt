@@ -1,4 +1,4 @@
-use Rattle.std.proofs.Common.{ℕ, ◌≡◌, List, [], map, refl, sym, ◌∙◌, ap, subst, arith}
+use Rattle.std.proofs.Common.{ℕ, ◌≡◌, List, [], sym, ◌∙◌, ap, subst}
 use Rattle.shard_book.specs.Sums.{sums_of}
 use Rattle.shared_books.specs.Passes.{Knowledge}
 use Rattle.fare_service.specs.Shares.{own_at, books_of}

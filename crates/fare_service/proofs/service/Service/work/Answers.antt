@@ -8,11 +8,15 @@ use Rattle.fare_service.proofs.service.Service.work.Goals.{in-None, in-Some+then
 pub returns-in_default-clause-went_on : goal.returns-in_default-clause-went_on
 returns-in_default-clause-went_on g c = ([], worked_none c.args.self.now c.args.share c.args.share refl refl refl refl)
 
+pub returns-in_default-new-clause-went_on : goal.returns-in_default-new-clause-went_on
+returns-in_default-new-clause-went_on g c = ([], worked_none c.args.self.now c.args.share c.args.share refl refl refl refl)
+
 pub loop-init : goal.loop-init
 loop-init g c = record {
   share = c.requires;
   went_on = ([], worked_none c.args.self.now c.args.share c.args.share refl refl refl refl);
   clock = c.in-Ok.ensures.zone ∙ ap (λ h. h.table.zone) c.self.view_is;
+  cut = c.in-Ok-new.ensures ∙ c.shards.ensures.number;
 }
 
 pub loop-preserved : goal.loop-preserved
@@ -20,6 +24,7 @@ loop-preserved g c = record {
   share = c.next_upload.ensures.share;
   went_on = went_on_more c.args.self.now c.args.share c.loop.share c.next_upload.new.share c.loop.invariant.went_on c.next_upload.ensures.went_on;
   clock = c.next_upload.ensures.clock ∙ c.loop.invariant.clock;
+  cut = c.next_upload.ensures.cut ∙ c.loop.invariant.cut;
 }
 
 pub returns-clause-went_on : goal.returns-clause-went_on

@@ -1,0 +1,265 @@
+-- Sums over the books, over the workers and over the uploads are one.
+use Rattle.std.specs.Prelude.{ℕ, zero, suc, ◌≡◌, ◌≢◌, ◌⊎◌, ◌+◌, ◌<◌, ◌≤◌, ◌==◌, Bool, true, false, cond, List, [], ◌∷◌, ◌++◌, length, map, filter, All, slice_get, Some, sum_by, count_by}
+use Rattle.std.specs.List.{flat_map}
+use Rattle.std.proofs.Common.{refl, sym, ◌∙◌, ap, inl, inr, subst, arith, eq-eqb, ne_eqb}
+use Rattle.std.proofs.lemmas.Bool.Decides.{eqb_tells}
+use Rattle.std.proofs.lemmas.List.Sums.{sum_by-cons, sum_by-append}
+use Rattle.std.proofs.lemmas.List.Elements.{All-nil, All-cons, All-head, All-tail, All-append, All-weaker}
+use Rattle.account_rule.specs.declared.reply.Reply.{Reply}
+use Rattle.shard_book.specs.declared.entry.Entry.{Entry}
+use Rattle.shard_book.specs.Book.{Book}
+use Rattle.shard_book.specs.Entry.{reply_of}
+use Rattle.shard_book.specs.Groups.{all_entries}
+use Rattle.shard_book.specs.Sums.{Sums, sums, sums_of_replies, add_sums, is_paid, is_transfer, is_capped, is_stale, is_unknown}
+use Rattle.shared_books.specs.Drawing.{NoneTwice, times}
+use Rattle.shared_books.specs.Marks.{joined}
+use Rattle.fare_table.specs.Fares.{Fares}
+use Rattle.fare_service.specs.declared.upload_end.UploadEnd.{UploadEnd}
+use Rattle.fare_service.specs.declared.upload_end.UploadEnd.TheVariants.{Posted, Refused, Cut, Undrawn}
+use Rattle.fare_service.specs.Adding.{add_all, taps_told, AddUp}
+use Rattle.fare_service.specs.Gathering.{Signed, by_worker, IsBookOfWork, all_works, end_of, IsGathered}
+use Rattle.fare_service.specs.Halls.{Hall, shards_of, upload_at}
+use Rattle.fare_service.specs.Outcomes.{Gathered}
+use Rattle.fare_service.specs.Runs.{Visit, IsEntered, visits_to, entries_to, entries_of, taps_posted}
+use Rattle.fare_service.specs.Shares.{Worked, all_visits, IsWorked, IsEndOf}
+use Rattle.fare_service.proofs.GatherLemmas.{drawn_times, times_same, times_other, fewer_after, not_drawn, end_same, end_other}
+use Rattle.fare_service.proofs.VisitLemmas.{same_seven, sums-append}
+
+-- f of the first n numbers, added up
+abbrev pub sum_below : (ℕ → ℕ) → ℕ → ℕ
+sum_below f zero = 0
+sum_below f (suc n) = f 0 + sum_below (λ i. f (suc i)) n
+
+pub sum_below-same : (n : ℕ) (f g : ℕ → ℕ) → ((i : ℕ) → f i ≡ g i) → sum_below f n ≡ sum_below g n
+sum_below-same zero f g e = refl
+sum_below-same (suc n) f g e =
+    let first : f 0 ≡ g 0 = e 0 in
+    let rest : sum_below (λ i. f (suc i)) n ≡ sum_below (λ i. g (suc i)) n = sum_below-same n (λ i. f (suc i)) (λ i. g (suc i)) (λ i. e (suc i)) in
+    omega arith
+
+sum_below-add : (n : ℕ) (f g : ℕ → ℕ) → sum_below (λ i. f i + g i) n ≡ sum_below f n + sum_below g n
+sum_below-add zero f g = refl
+sum_below-add (suc n) f g =
+    let rest : sum_below (λ i. f (suc i) + g (suc i)) n ≡ sum_below (λ i. f (suc i)) n + sum_below (λ i. g (suc i)) n = sum_below-add n (λ i. f (suc i)) (λ i. g (suc i)) in
+    omega arith
+
+sum_below-none : (n : ℕ) → sum_below (λ i. 0) n ≡ 0
+sum_below-none zero = refl
+sum_below-none (suc n) = omega (arith, sum_below-none n)
+
+suc_eqb : (k i : ℕ) → (suc k == suc i) ≡ (k == i)
+suc_eqb k i = by_test (eqb_tells k i)
+  where
+    by_test : (((k == i) ≡ true) × (k ≡ i)) ⊎ (((k == i) ≡ false) × (k ≢ i)) → (suc k == suc i) ≡ (k == i)
+    by_test (inl (b, e)) = eq-eqb (suc k) (suc i) (ap suc e) ∙ sym b
+    by_test (inr (b, ne)) = ne_eqb (suc k) (suc i) (λ h. ne (omega (arith, h))) ∙ sym b
+
+sum_below-one : (n k x : ℕ) → k < n → sum_below (λ i. cond (k == i) x 0) n ≡ x
+sum_below-one zero k x within = absurd (omega (arith, within))
+sum_below-one (suc n) zero x within =
+    let rest : sum_below (λ i. cond (0 == suc i) x 0) n ≡ 0 =
+    sum_below-same n (λ i. cond (0 == suc i) x 0) (λ i. 0) (λ i. ap (λ b. cond b x 0) (ne_eqb 0 (suc i) (λ h. omega (arith, h)))) ∙ sum_below-none n in
+    omega arith
+sum_below-one (suc n) (suc k) x within =
+    let first : cond (suc k == 0) x 0 ≡ 0 = ap (λ b. cond b x 0) (ne_eqb (suc k) 0 (λ h. omega (arith, h))) in
+    let rest : sum_below (λ i. cond (suc k == suc i) x 0) n ≡ x =
+    sum_below-same n (λ i. cond (suc k == suc i) x 0) (λ i. cond (k == i) x 0) (λ i. ap (λ b. cond b x 0) (suc_eqb k i)) ∙ sum_below-one n k x (omega (arith, within)) in
+    omega arith
+
+-- one element more, if it is kept
+kept_sum : {X : Type 0} (g : X → ℕ) (b : Bool) (x : X) (xs : List X) → sum_by g (cond b (x ∷ xs) xs) ≡ cond b (g x) 0 + sum_by g xs
+kept_sum g true x xs = sum_by-cons g x xs
+kept_sum g false x xs = omega arith
+
+-- a sum by keys is the sum over the keys
+pub sum_by_key : {X : Type 0} (key g : X → ℕ) (n : ℕ) (xs : List X) → All (λ x. key x < n) xs → sum_by g xs ≡ sum_below (λ k. sum_by g (filter (λ x. key x == k) xs)) n
+sum_by_key key g n [] all = sym (sum_below-none n)
+sum_by_key key g n (x ∷ xs) all =
+    sum_by-cons g x xs
+    ∙ (ap (λ s. g x + s) (sum_by_key key g n xs (All-tail (λ y. key y < n) x xs all))
+    ∙ (ap (λ s. s + sum_below (λ k. sum_by g (filter (λ y. key y == k) xs)) n) (sym (sum_below-one n (key x) (g x) (All-head (λ y. key y < n) x xs all)))
+    ∙ (sym (sum_below-add n (λ k. cond (key x == k) (g x) 0) (λ k. sum_by g (filter (λ y. key y == k) xs)))
+    ∙ sym (sum_below-same n (λ k. sum_by g (filter (λ y. key y == k) (x ∷ xs))) (λ k. cond (key x == k) (g x) 0 + sum_by g (filter (λ y. key y == k) xs)) (λ k. kept_sum g (key x == k) x (filter (λ y. key y == k) xs))))))
+
+-- a sum over places is the sum of the list
+sum_of_places : {X : Type 0} (g : X → ℕ) (xs : List X) (h : ℕ → ℕ) → ((i : ℕ) (x : X) → slice_get xs i ≡ Some x → h i ≡ g x) → sum_below h (length xs) ≡ sum_by g xs
+sum_of_places g [] h e = refl
+sum_of_places g (x ∷ xs) h e =
+    let first : h 0 ≡ g x = e 0 x refl in
+    let rest : sum_below (λ i. h (suc i)) (length xs) ≡ sum_by g xs = sum_of_places g xs (λ i. h (suc i)) (λ i y at. e (suc i) y at) in
+    let both : sum_by g (x ∷ xs) ≡ g x + sum_by g xs = sum_by-cons g x xs in
+    omega arith
+
+-- sums in either order
+swapped : {X : Type 0} (g : ℕ → X → ℕ) (n : ℕ) (xs : List X) → sum_below (λ i. sum_by (g i) xs) n ≡ sum_by (λ x. sum_below (λ i. g i x) n) xs
+swapped g n [] = sum_below-none n
+swapped g n (x ∷ xs) =
+    sum_below-same n (λ i. sum_by (g i) (x ∷ xs)) (λ i. g i x + sum_by (g i) xs) (λ i. sum_by-cons (g i) x xs)
+    ∙ (sum_below-add n (λ i. g i x) (λ i. sum_by (g i) xs)
+    ∙ (ap (λ s. sum_below (λ i. g i x) n + s) (swapped g n xs) ∙ sym (sum_by-cons (λ y. sum_below (λ i. g i y) n) x xs)))
+
+same_sum : {X : Type 0} (f g : X → ℕ) (xs : List X) → All (λ x. f x ≡ g x) xs → sum_by f xs ≡ sum_by g xs
+same_sum f g [] all = refl
+same_sum f g (x ∷ xs) all =
+    let first : f x ≡ g x = All-head (λ y. f y ≡ g y) x xs all in
+    let rest : sum_by f xs ≡ sum_by g xs = same_sum f g xs (All-tail (λ y. f y ≡ g y) x xs all) in
+    sum_by-cons f x xs ∙ (ap (λ k. k + sum_by f xs) first ∙ ap (λ k. g x + k) rest) ∙ sym (sum_by-cons g x xs)
+
+sum_by-flat_map : {X Y : Type 0} (f : Y → ℕ) (g : X → List Y) (xs : List X) → sum_by f (flat_map g xs) ≡ sum_by (λ x. sum_by f (g x)) xs
+sum_by-flat_map f g [] = refl
+sum_by-flat_map f g (x ∷ xs) = sum_by-append f (g x) (flat_map g xs) ∙ ap (λ k. sum_by f (g x) + k) (sum_by-flat_map f g xs) ∙ sym (sum_by-cons (λ y. sum_by f (g y)) x xs)
+
+sum_by-joined : {X : Type 0} (f : Entry → ℕ) (g : X → List Entry) (xs : List X) → sum_by f (joined (map g xs)) ≡ sum_by (λ x. sum_by f (g x)) xs
+sum_by-joined f g [] = refl
+sum_by-joined f g (x ∷ xs) = sum_by-append f (g x) (joined (map g xs)) ∙ ap (λ k. sum_by f (g x) + k) (sum_by-joined f g xs) ∙ sym (sum_by-cons (λ y. sum_by f (g y)) x xs)
+
+sum_by-map : {X Y : Type 0} (f : Y → ℕ) (g : X → Y) (xs : List X) → sum_by f (map g xs) ≡ sum_by (λ x. f (g x)) xs
+sum_by-map f g [] = refl
+sum_by-map f g (x ∷ xs) = sum_by-cons f (g x) (map g xs) ∙ ap (λ k. f (g x) + k) (sum_by-map f g xs) ∙ sym (sum_by-cons (λ y. f (g y)) x xs)
+
+-- f of the entries of a shard's book is f of the entries of the workers' visits to the shard
+sum_of_book : (f : Entry → ℕ) (table : Fares) (shard shards : ℕ) (works : List (List Worked)) (book : Book) → IsBookOfWork table shard shards works book
+    → sum_by f book.entries ≡ sum_by (λ done. sum_by (λ v. sum_by f v.entries) (visits_to shard (all_visits done))) works
+sum_of_book f table shard shards works book is =
+    let ent : Signed → ℕ = λ v. sum_by f v.entries in
+    ap (sum_by f) is.history
+    ∙ (sum_by-joined f (λ (v : Signed). v.entries) is.visits
+    ∙ (sum_by_key (λ (v : Signed). v.worker) ent (length works) is.visits is.signed
+    ∙ sum_of_places (λ done. sum_by (λ (v : Visit). sum_by f v.entries) (visits_to shard (all_visits done))) works (λ w. sum_by ent (filter (λ v. v.worker == w) is.visits)) own))
+  where
+    own : (worker : ℕ) (done : List Worked) → slice_get works worker ≡ Some done
+        → sum_by (λ v. sum_by f v.entries) (filter (λ v. v.worker == worker) is.visits) ≡ sum_by (λ v. sum_by f v.entries) (visits_to shard (all_visits done))
+    own worker done at =
+        sym (sum_by-joined f (λ (v : Signed). v.entries) (filter (λ v. v.worker == worker) is.visits))
+        ∙ (ap (λ vs. sum_by f (joined vs)) (is.order worker done at) ∙ sum_by-joined f (λ (v : Visit). v.entries) (visits_to shard (all_visits done)))
+
+all_within : (hall : Hall) (done : List Worked) → All (IsWorked hall) done → All (λ v. v.shard < shards_of hall) (all_visits done)
+all_within hall [] all = All-nil (λ (v : Visit). v.shard < shards_of hall)
+all_within hall (w ∷ done) all =
+    All-append (λ (v : Visit). v.shard < shards_of hall) w.visits (all_visits done)
+    (All-weaker (IsEntered (shards_of hall)) (λ v. v.shard < shards_of hall) (λ v e. e.within) w.visits (All-head (IsWorked hall) w done all).entered) (all_within hall done (All-tail (IsWorked hall) w done all))
+
+-- f of all books' entries is f of all entries that the workers' visits made
+sum_of_books : (f : Entry → ℕ) (hall : Hall) (works : List (List Worked)) (outcome : Gathered) → IsGathered hall works outcome
+    → sum_by f (all_entries outcome.books) ≡ sum_by f (flat_map (λ done. entries_of (all_visits done)) works)
+sum_of_books f hall works outcome is =
+    let ent : Visit → ℕ = λ v. sum_by f v.entries in
+    let at_shard : ℕ → List Worked → ℕ = λ s done. sum_by ent (visits_to s (all_visits done)) in
+    let h : ℕ → ℕ = λ s. sum_by (at_shard s) works in
+    sum_by-flat_map f (λ (b : Book). b.entries) outcome.books
+    ∙ (sym (sum_of_places (λ (b : Book). sum_by f b.entries) outcome.books h (λ s b at. sym (sum_of_book f hall.table s (shards_of hall) works b (is.books s b at))))
+    ∙ (ap (sum_below h) is.shards
+    ∙ (swapped at_shard (shards_of hall) works
+    ∙ (same_sum (λ done. sum_below (λ s. at_shard s done) (shards_of hall)) (λ done. sum_by f (entries_of (all_visits done))) works each
+    ∙ sym (sum_by-flat_map f (λ done. entries_of (all_visits done)) works)))))
+  where
+    here : (done : List Worked) → All (IsWorked hall) done → sum_below (λ s. sum_by (λ v. sum_by f v.entries) (visits_to s (all_visits done))) (shards_of hall) ≡ sum_by f (entries_of (all_visits done))
+    here done all =
+        sym (sum_by_key (λ (v : Visit). v.shard) (λ v. sum_by f v.entries) (shards_of hall) (all_visits done) (all_within hall done all))
+        ∙ sym (sum_by-flat_map f (λ (v : Visit). v.entries) (all_visits done))
+
+    each : All (λ done. sum_below (λ s. sum_by (λ (v : Visit). sum_by f v.entries) (visits_to s (all_visits done))) (shards_of hall) ≡ sum_by f (entries_of (all_visits done))) works
+    each =
+        All-weaker (λ done. All (IsWorked hall) done)
+        (λ done. sum_below (λ s. sum_by (λ (v : Visit). sum_by f v.entries) (visits_to s (all_visits done))) (shards_of hall) ≡ sum_by f (entries_of (all_visits done))) here works is.each
+
+pub length_sum : {X : Type 0} (xs : List X) → length xs ≡ sum_by (λ x. 1) xs
+length_sum [] = refl
+length_sum (x ∷ xs) = omega (arith, length_sum xs, sum_by-cons (λ y. 1) x xs)
+
+-- lists of entries on which all such functions agree have the same sums
+same_sums : (xs ys : List Entry) → ((f : Entry → ℕ) → sum_by f xs ≡ sum_by f ys) → sums xs ≡ sums ys
+unfolding sums_of_replies
+same_sums xs ys same =
+    same_seven _ _ _ _ _ _ _ _ _ _ _ _ _ _
+    (length_sum (map reply_of xs) ∙ each (λ r. 1) ∙ sym (length_sum (map reply_of ys)))
+    (each (λ r. cond (is_paid r.answer) 1 0))
+    (each (λ r. cond (is_transfer r.answer) 1 0))
+    (each (λ r. cond (is_capped r.answer) 1 0))
+    (each (λ r. cond (is_stale r.answer) 1 0))
+    (each (λ r. cond (is_unknown r.answer) 1 0))
+    (each (λ r. r.cents))
+  where
+    each : (f : Reply → ℕ) → sum_by f (map reply_of xs) ≡ sum_by f (map reply_of ys)
+    each f = sum_by-map f reply_of xs ∙ same (λ e. f (reply_of e)) ∙ sym (sum_by-map f reply_of ys)
+
+-- the sums of lists, one after another
+add_flat : {X : Type 0} (g : X → List Entry) (xs : List X) → sums (flat_map g xs) ≡ add_all (map (λ x. sums (g x)) xs)
+add_flat g [] = refl
+add_flat g (x ∷ xs) = sums-append (g x) (flat_map g xs) ∙ ap (add_sums (sums (g x))) (add_flat g xs)
+
+pub taps_of_sums : (entries : List Entry) → (sums entries).taps ≡ sum_by (λ e. 1) entries
+unfolding sums_of_replies
+taps_of_sums entries = length_sum (map reply_of entries) ∙ sum_by-map (λ r. 1) reply_of entries
+
+-- what an upload's end tells of its taps
+told_end_taps : (hall : Hall) (w : Worked) → IsWorked hall w → taps_told w.end ≡ taps_posted w.visits
+told_end_taps hall w is = by_end w.end is.ended
+  where
+    by_end : (end : UploadEnd) → IsEndOf (shards_of hall) (upload_at hall w.upload) is.batches is.rest w.visits end → taps_told end ≡ taps_posted w.visits
+    by_end (Posted taps) e = e.2
+    by_end (Refused taps offset fault) e = e.2
+    by_end (Cut taps) e = e.1
+    by_end Undrawn e = absurd e
+
+-- the taps that the ends tell, of each upload
+ends_sum : (n : ℕ) (works : List Worked) → NoneTwice (map (λ w. w.upload) works) → All (λ w. w.upload < n) works → sum_below (λ u. taps_told (end_of u works)) n ≡ sum_by (λ w. taps_told w.end) works
+ends_sum n [] once all = sum_below-none n
+ends_sum n (w ∷ works) once all =
+    sum_below-same n (λ u. taps_told (end_of u (w ∷ works))) (λ u. cond (w.upload == u) (taps_told w.end) 0 + taps_told (end_of u works)) (λ u. step u (eqb_tells w.upload u))
+    ∙ (sum_below-add n (λ u. cond (w.upload == u) (taps_told w.end) 0) (λ u. taps_told (end_of u works))
+    ∙ (ap (λ k. k + sum_below (λ u. taps_told (end_of u works)) n) (sum_below-one n w.upload (taps_told w.end) (All-head (λ x. x.upload < n) w works all))
+    ∙ (ap (λ k. taps_told w.end + k) (ends_sum n works (fewer_after w works once) (All-tail (λ x. x.upload < n) w works all))
+    ∙ sym (sum_by-cons (λ x. taps_told x.end) w works))))
+  where
+    step : (u : ℕ) → (((w.upload == u) ≡ true) × (w.upload ≡ u)) ⊎ (((w.upload == u) ≡ false) × (w.upload ≢ u))
+        → taps_told (end_of u (w ∷ works)) ≡ cond (w.upload == u) (taps_told w.end) 0 + taps_told (end_of u works)
+    step u (inl (b, e)) =
+        let none : taps_told (end_of u works) ≡ 0 = ap taps_told (not_drawn works u (omega (arith, once u, times_same w works u b))) in
+        let left : taps_told (end_of u (w ∷ works)) ≡ taps_told w.end = ap taps_told (end_same w works u b) in
+        let right : cond (w.upload == u) (taps_told w.end) 0 ≡ taps_told w.end = ap (λ t. cond t (taps_told w.end) 0) b in
+        omega arith
+    step u (inr (b, ne)) =
+        let left : taps_told (end_of u (w ∷ works)) ≡ taps_told (end_of u works) = ap taps_told (end_other w works u b) in
+        let right : cond (w.upload == u) (taps_told w.end) 0 ≡ 0 = ap (λ t. cond t (taps_told w.end) 0) b in
+        omega arith
+
+-- the taps that the uploads' ends tell are those of the workers' visits
+uploads_sum : (hall : Hall) (works : List (List Worked)) → All (λ done. All (IsWorked hall) done) works
+    → sum_by (λ w. taps_told w.end) (all_works works) ≡ sum_by (λ e. 1) (flat_map (λ done. entries_of (all_visits done)) works)
+uploads_sum hall works each =
+    sum_by-flat_map (λ w. taps_told w.end) (λ (done : List Worked). done) works
+    ∙ (same_sum (λ done. sum_by (λ w. taps_told w.end) done) (λ done. sum_by (λ e. 1) (entries_of (all_visits done))) works
+    (All-weaker (λ done. All (IsWorked hall) done) (λ done. sum_by (λ w. taps_told w.end) done ≡ sum_by (λ e. 1) (entries_of (all_visits done))) here works each)
+    ∙ sym (sum_by-flat_map (λ e. 1) (λ done. entries_of (all_visits done)) works))
+  where
+    one : (w : Worked) → IsWorked hall w → taps_told w.end ≡ sum_by (λ v. sum_by (λ e. 1) v.entries) w.visits
+    one w is = told_end_taps hall w is ∙ (length_sum (entries_of w.visits) ∙ sum_by-flat_map (λ e. 1) (λ (v : Visit). v.entries) w.visits)
+
+    here : (done : List Worked) → All (IsWorked hall) done → sum_by (λ w. taps_told w.end) done ≡ sum_by (λ e. 1) (entries_of (all_visits done))
+    here done all =
+        same_sum (λ w. taps_told w.end) (λ w. sum_by (λ v. sum_by (λ e. 1) v.entries) w.visits) done
+        (All-weaker (IsWorked hall) (λ w. taps_told w.end ≡ sum_by (λ v. sum_by (λ e. 1) v.entries) w.visits) one done all)
+        ∙ (sym (sum_by-flat_map (λ (v : Visit). sum_by (λ e. 1) v.entries) (λ (w : Worked). w.visits) done)
+        ∙ sym (sum_by-flat_map (λ e. 1) (λ (v : Visit). v.entries) (all_visits done)))
+
+all_uploads : (hall : Hall) (works : List (List Worked)) → All (λ done. All (IsWorked hall) done) works → All (λ w. w.upload < length hall.uploads) (all_works works)
+all_uploads hall [] each = All-nil (λ (w : Worked). w.upload < length hall.uploads)
+all_uploads hall (done ∷ works) each =
+    All-append (λ (w : Worked). w.upload < length hall.uploads) done (all_works works)
+    (All-weaker (IsWorked hall) (λ w. w.upload < length hall.uploads) (λ w is. is.within) done (All-head (λ d. All (IsWorked hall) d) done works each))
+    (all_uploads hall works (All-tail (λ d. All (IsWorked hall) d) done works each))
+
+-- what was gathered adds up
+pub gathered_sums : (hall : Hall) (works : List (List Worked)) (outcome : Gathered) → IsGathered hall works outcome → outcome.totals ≡ sums (all_entries outcome.books) → AddUp outcome
+gathered_sums hall works outcome is totals =
+    let made : List Entry = flat_map (λ done. entries_of (all_visits done)) works in
+    let by_works : outcome.totals ≡ sums made = totals ∙ same_sums (all_entries outcome.books) made (λ f. sum_of_books f hall works outcome is) in
+    record {
+      books = totals ∙ add_flat (λ (b : Book). b.entries) outcome.books;
+      workers = by_works ∙ (add_flat (λ done. entries_of (all_visits done)) works ∙ ap add_all (sym is.workers));
+      uploads = ap (λ s. s.taps) by_works ∙ (taps_of_sums made ∙ (sym (uploads_sum hall works is.each)
+          ∙ (sym (ends_sum (length hall.uploads) (all_works works) is.once (all_uploads hall works is.each))
+          ∙ (ap (sum_below (λ u. taps_told (end_of u (all_works works)))) (sym is.uploads)
+          ∙ sum_of_places taps_told outcome.ends (λ u. taps_told (end_of u (all_works works))) (λ u end at. ap taps_told (sym (is.ends u end at)))))));
+    }

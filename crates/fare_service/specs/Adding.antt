@@ -1,0 +1,24 @@
+-- Totals that add up: over the books, over the workers and, of taps, over the uploads.
+use Rattle.std.specs.Prelude.{◌≡◌, ℕ, List, [], ◌∷◌, map, sum_by}
+use Rattle.shard_book.specs.Sums.{Sums, sums, add_sums}
+use Rattle.fare_service.specs.declared.upload_end.UploadEnd.{UploadEnd}
+use Rattle.fare_service.specs.declared.upload_end.UploadEnd.TheVariants.{Posted, Refused, Cut, Undrawn}
+use Rattle.fare_service.specs.Outcomes.{Gathered}
+
+-- some sums, added up
+abbrev pub add_all : List Sums → Sums
+add_all [] = sums []
+add_all (s ∷ more) = add_sums s (add_all more)
+
+-- how many taps of an upload were posted, as its end tells
+abbrev pub taps_told : UploadEnd → ℕ
+taps_told (Posted taps) = taps
+taps_told (Refused taps offset fault) = taps
+taps_told (Cut taps) = taps
+taps_told Undrawn = 0
+
+-- the totals are the sum of the books' totals and of the workers', and their taps are those that the uploads' ends tell
+pub record AddUp (outcome : Gathered) : Type 0 where
+  pub books : outcome.totals ≡ add_all (map (λ book. sums book.entries) outcome.books)
+  pub workers : outcome.totals ≡ add_all outcome.workers
+  pub uploads : outcome.totals.taps ≡ sum_by taps_told outcome.ends

@@ -1,0 +1,66 @@
+-- Where the posted taps stand: each in one entry of its shard's book, and the books have no other entries.
+use Rattle.std.specs.Prelude.{◌≡◌, ℕ, ◌<◌, ◌==◌, List, [], length, map, filter, take, All, count_by, slice_get, Some}
+use Rattle.std.specs.List.{flat_map, AllZip}
+use Rattle.tap_views.specs.Layout.{Tap}
+use Rattle.tap_views.specs.Files.{IsFile}
+use Rattle.tap_views.specs.Shards.{shard_of_token}
+use Rattle.shard_book.specs.declared.entry.Entry.{Entry}
+use Rattle.shard_book.specs.Book.{Book}
+use Rattle.shard_book.specs.Entry.{IsEntryOf}
+use Rattle.fare_service.specs.declared.upload_end.UploadEnd.{UploadEnd}
+use Rattle.fare_service.specs.declared.upload_end.UploadEnd.TheVariants.{Posted, Refused, Cut, Undrawn}
+use Rattle.fare_service.specs.Halls.{Hall, shards_of, upload_at}
+use Rattle.fare_service.specs.Outcomes.{Gathered}
+use Rattle.fare_service.specs.Runs.{PlacedTap, placed_from, of_shard, runs_of}
+use Rattle.fare_service.specs.Shares.{IsRefusal}
+
+-- the taps of an upload's batches in the order in which they are posted: batch by batch, and each batch by rising shard
+abbrev pub in_posting_order : ℕ → List (List Tap) → List PlacedTap
+in_posting_order shards batches = flat_map (λ run. run.taps) (runs_of shards 0 batches)
+
+-- What was posted of an upload that ended so: all taps before its first fault, or, where it was cut, the first of them in posting order, as
+-- many as the end tells.
+abbrev pub WerePostedOf : ℕ → List ℕ → UploadEnd → List PlacedTap → Type 0
+WerePostedOf shards file (Posted taps) posted =
+    (batches : List (List Tap)) × IsFile file batches [] × (posted ≡ in_posting_order shards batches) × (taps ≡ length posted)
+WerePostedOf shards file (Refused taps offset fault) posted =
+    (batches : List (List Tap)) × (rest : List ℕ) × IsFile file batches rest × IsRefusal file rest offset fault
+    × (posted ≡ in_posting_order shards batches) × (taps ≡ length posted)
+WerePostedOf shards file (Cut taps) posted =
+    (batches : List (List Tap)) × (rest : List ℕ) × IsFile file batches rest × (taps < length (in_posting_order shards batches))
+    × (posted ≡ take taps (in_posting_order shards batches))
+WerePostedOf shards file Undrawn posted = posted ≡ []
+
+-- a tap of an upload
+pub record Origin : Type 0 where
+  pub upload : ℕ
+  pub placed : PlacedTap
+
+-- the taps of one upload, in their order
+abbrev pub of_upload : ℕ → List Origin → List PlacedTap
+of_upload upload origins = map (λ o. o.placed) (filter (λ o. o.upload == upload) origins)
+
+-- the entry has the fields of the tap's bytes
+abbrev pub IsEntryOfOrigin : Origin → Entry → Type 0
+IsEntryOfOrigin origin entry = IsEntryOf origin.placed.tap entry
+
+-- Each entry of a book stands for a tap of an upload. Of each upload these are exactly its posted taps of the book's shard, each once, in the
+-- order of the upload.
+pub record StandOnce (hall : Hall) (outcome : Gathered) : Type 0 where
+  pub posted : ℕ → List PlacedTap
+  pub ended : (upload : ℕ) (end : UploadEnd) → slice_get outcome.ends upload ≡ Some end → WerePostedOf (shards_of hall) (upload_at hall upload) end (posted upload)
+  pub origins : ℕ → List Origin
+  pub fields : (shard : ℕ) (book : Book) → slice_get outcome.books shard ≡ Some book → AllZip IsEntryOfOrigin (origins shard) book.entries
+  pub uploads : (shard : ℕ) → shard < shards_of hall → All (λ o. o.upload < length hall.uploads) (origins shard)
+  pub exactly : (shard upload : ℕ) → shard < shards_of hall → of_upload upload (origins shard) ≡ of_shard shard (shards_of hall) (posted upload)
+
+-- The same taps in another order: those of each shard stand in the same order, and each place that is there stands there once.
+pub record IsReordered (shards : ℕ) (taps ordered : List PlacedTap) : Type 0 where
+  pub same : (shard : ℕ) → shard < shards → of_shard shard shards ordered ≡ of_shard shard shards taps
+  pub within : All (λ p. shard_of_token p.tap.token shards < shards) taps
+  pub number : length ordered ≡ length taps
+  pub once : (place : ℕ) → place < length taps → count_by (λ p. p.place == place) ordered ≡ 1
+
+-- the taps of the batches, in file order
+abbrev pub in_file_order : List (List Tap) → List PlacedTap
+in_file_order batches = placed_from 0 (flat_map (λ batch. batch) batches)

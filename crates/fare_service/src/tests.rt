@@ -1,0 +1,551 @@
+//! Worked rows on ends, on texts and on shares.
+ghost use Rattle.std.specs.Prelude.{◌≡◌, All, IfOk};
+ghost use Rattle.fare_service.specs.Shares.{IsShareOf};
+
+use crate::report::report_text;
+use crate::{
+    Gate, GatherFault, OpenFault, Outcome, PrintFault, RunFault, Service, Share, UploadEnd,
+};
+use fare_table::FareTable;
+use shard_book::{Token, Totals};
+use std::alloc::Global;
+use std::marker::Sync;
+use std::process::Abort;
+use std::random::RandomSource;
+use std::sync::Wait;
+use std::sync::atomic::{AtomicBool, Ordering};
+use std::test::Fail;
+use std::thread;
+use std::thread::Threads;
+use tap_views::{LayoutFault, TapFields, encode};
+
+// One class, two modes and their pairs.
+const TABLE: &str = r#"modes = ["subway", "bus"]
+transfers = [["subway", "bus"], ["bus", "subway"], ["bus", "bus"]]
+default_class = "full"
+
+[classes.full]
+fare = 300
+rides = 12
+ceiling = 3500
+
+[[validators]]
+first = 1000
+last = 1999
+mode = "subway"
+
+[[validators]]
+first = 2000
+last = 2999
+mode = "bus"
+"#;
+
+const REPORT: &str = "uploads 2
+upload 0 posted 4
+upload 1 posted 2
+totals taps 6 paid 3 transfers 2 capped 0 stale 0 unknown 1 cents 900
+validators 3
+validator 9 taps 1 paid 0 transfers 0 capped 0 stale 0 unknown 1 cents 0
+validator 1000 taps 3 paid 2 transfers 1 capped 0 stale 0 unknown 0 cents 600
+validator 2000 taps 2 paid 1 transfers 1 capped 0 stale 0 unknown 0 cents 300
+tokens 2
+token 000000000000000000000000000000a1 taps 4 paid 2 transfers 2 capped 0 stale 0 unknown 0 cents 600
+token 000000000000000000000000000000b2 taps 2 paid 1 transfers 0 capped 0 stale 0 unknown 1 cents 300
+";
+
+const STATEMENT: &str = "statement 000000000000000000000000000000a1
+2024-03-08T17:00:00.000Z subway 1000 paid 300
+2024-03-08T19:00:00.000Z bus 2000 transfer 0
+totals taps 2 paid 1 transfers 1 capped 0 stale 0 unknown 0 cents 300
+window 2024-03-08T17:00:00.000Z 2024-03-15T17:00:00.000Z paid 1 cents 300
+";
+
+const EMPTY_STATEMENT: &str = "statement 000000000000000000000000000000b2
+totals taps 0 paid 0 transfers 0 capped 0 stale 0 unknown 0 cents 0
+window none
+";
+
+const REFUSED_REPORT: &str = "uploads 2
+upload 0 posted 4
+upload 1 refused 2 at 64 L5
+totals taps 6 paid 3 transfers 2 capped 0 stale 0 unknown 1 cents 900
+validators 3
+validator 9 taps 1 paid 0 transfers 0 capped 0 stale 0 unknown 1 cents 0
+validator 1000 taps 3 paid 2 transfers 1 capped 0 stale 0 unknown 0 cents 600
+validator 2000 taps 2 paid 1 transfers 1 capped 0 stale 0 unknown 0 cents 300
+tokens 2
+token 000000000000000000000000000000a1 taps 4 paid 2 transfers 2 capped 0 stale 0 unknown 0 cents 600
+token 000000000000000000000000000000b2 taps 2 paid 1 transfers 0 capped 0 stale 0 unknown 1 cents 300
+";
+
+const CUT_REPORT: &str = "uploads 2
+upload 0 cut 3
+upload 1 undrawn
+totals taps 0 paid 0 transfers 0 capped 0 stale 0 unknown 0 cents 0
+validators 0
+tokens 0
+";
+
+const NO_REPORT: &str = "uploads 0
+totals taps 0 paid 0 transfers 0 capped 0 stale 0 unknown 0 cents 0
+validators 0
+tokens 0
+";
+
+const EMPTY_REPORT: &str = "uploads 2
+upload 0 undrawn
+upload 1 undrawn
+totals taps 0 paid 0 transfers 0 capped 0 stale 0 unknown 0 cents 0
+validators 0
+tokens 0
+";
+
+// 2024-03-08T17:00:00.000Z
+const START: u64 = 1_709_917_200_000;
+
+const SUBWAY: u32 = 1000;
+
+const BUS: u32 = 2000;
+
+fn bytes_of(last: u8) -> [u8; 16] {
+    let mut token = [0; 16];
+    token[15] = last;
+    token
+}
+
+fn tap(last: u8, validator: u32, after: u64) -> TapFields {
+    TapFields {
+        token: bytes_of(last),
+        validator,
+        moment: START.saturating_add(after),
+    }
+}
+
+// Subway, bus, bus, subway within an hour: paid, transfer, paid, transfer.
+fn four_rides(alloc: Global) -> Result<Vec<u8>, Fail> {
+    Ok(encode(
+        alloc,
+        &[
+            tap(0xa1, SUBWAY, 0),
+            tap(0xa1, BUS, 1_200_000),
+            tap(0xa1, BUS, 2_400_000),
+            tap(0xa1, SUBWAY, 3_600_000),
+        ],
+    )?)
+}
+
+// A tap at a validator that the table does not know, and then an earlier one: unknown, paid.
+fn an_unknown_one(alloc: Global) -> Result<Vec<u8>, Fail> {
+    Ok(encode(alloc, &[tap(0xb2, 9, 10), tap(0xb2, SUBWAY, 5)])?)
+}
+
+// A batch without its last byte.
+fn cut_off(alloc: Global) -> Result<Vec<u8>, Fail> {
+    let mut bytes = encode(alloc, &[tap(0xa1, SUBWAY, 0)])?;
+    bytes.pop();
+    Ok(bytes)
+}
+
+// A gate that keeps nobody waiting.
+#[derive(Drop)]
+struct Open;
+
+impl Gate for Open {
+    fn before(&self, _: u32) {}
+
+    fn after(&self, _: u32) {}
+}
+
+fn run<R: Threads + Wait + RandomSource + Sync, G: Gate + Sync>(
+    rt: &R,
+    alloc: Global,
+    uploads: &[Vec<u8>],
+    shards: u32,
+    workers: u32,
+    gate: &G,
+) -> Result<Outcome, Fail> {
+    let table = FareTable::read(alloc, TABLE.as_bytes())?;
+    let (service, share) = Service::open(rt, alloc, table, shards, uploads)?;
+    Ok(service.run(rt, alloc, share, workers, gate)?)
+}
+
+// The end of an upload, or nothing where there is no such upload.
+fn end_of(outcome: &Outcome, upload: u32) -> Option<UploadEnd> {
+    if upload < outcome.uploads() {
+        Some(outcome.upload(upload))
+    } else {
+        None
+    }
+}
+
+// The totals of a worker, or nothing where there is no such worker.
+fn totals_of(outcome: &Outcome, worker: u64) -> Option<Totals> {
+    if worker < outcome.workers() {
+        Some(outcome.worker(worker))
+    } else {
+        None
+    }
+}
+
+// How many entries the book of a shard has, or nothing where there is no such shard.
+fn entries_of(outcome: &Outcome, shard: u32) -> Option<u64> {
+    if shard < outcome.shards() {
+        Some(outcome.book(shard).len())
+    } else {
+        None
+    }
+}
+
+fn report_of(alloc: Global, outcome: &Outcome) -> Result<Vec<u8>, Fail> {
+    let mut text = Vec::new(alloc);
+    outcome.write_report(alloc, &mut text)?;
+    Ok(text)
+}
+
+#[test]
+fn the_report_is_the_same_for_every_schedule(rt: HostRuntime) -> Result<(), Fail> {
+    let alloc = rt.alloc();
+    let uploads = vec![in alloc; four_rides(alloc)?, an_unknown_one(alloc)?]?;
+    for (shards, workers) in [(1, 1), (8, 1), (1, 2), (2, 2), (8, 3), (64, 16)] {
+        let outcome = run(&rt, alloc, uploads.as_slice(), shards, workers, &Open)?;
+        assert_eq!(rt; report_of(alloc, &outcome)?.as_slice(), REPORT.as_bytes());
+        assert_eq!(rt; outcome.workers(), u64::from(workers));
+        assert_eq!(rt; (outcome.shards(), outcome.uploads()), (shards, 2));
+        assert_eq!(rt; outcome.totals().cents, 900);
+    }
+    Ok(())
+}
+
+#[test]
+fn a_refused_upload_is_reported(rt: HostRuntime) -> Result<(), Fail> {
+    let alloc = rt.alloc();
+    let mut refused = an_unknown_one(alloc)?;
+    refused.extend_from_slice(cut_off(alloc)?.as_slice())?;
+    let uploads = vec![in alloc; four_rides(alloc)?, refused]?;
+    let outcome = run(&rt, alloc, uploads.as_slice(), 8, 2, &Open)?;
+    assert_eq!(rt;
+        report_of(alloc, &outcome)?.as_slice(),
+        REFUSED_REPORT.as_bytes()
+    );
+    Ok(())
+}
+
+#[test]
+fn a_cut_upload_is_reported(rt: HostRuntime) -> Result<(), Fail> {
+    let ends = [UploadEnd::Cut { taps: 3 }, UploadEnd::Undrawn];
+    let text = report_text(rt.alloc(), &ends, &Totals::new(), &[], &[])?;
+    assert_eq!(rt; text.as_bytes(), CUT_REPORT.as_bytes());
+    Ok(())
+}
+
+#[test]
+fn no_uploads_are_reported(rt: HostRuntime) -> Result<(), Fail> {
+    let alloc = rt.alloc();
+    let uploads = Vec::new(alloc);
+    let outcome = run(&rt, alloc, uploads.as_slice(), 64, 16, &Open)?;
+    assert_eq!(rt; (outcome.uploads(), outcome.totals()), (0, Totals::new()));
+    assert_eq!(rt;
+        report_of(alloc, &outcome)?.as_slice(),
+        NO_REPORT.as_bytes()
+    );
+    Ok(())
+}
+
+#[test]
+fn a_statement_is_printed(rt: HostRuntime) -> Result<(), Fail> {
+    let alloc = rt.alloc();
+    let taps = [tap(0xa1, SUBWAY, 0), tap(0xa1, BUS, 7_200_000)];
+    let uploads = vec![in alloc; encode(alloc, &taps)?]?;
+    let outcome = run(&rt, alloc, uploads.as_slice(), 8, 1, &Open)?;
+    let mut text = Vec::new(alloc);
+    outcome.write_statement(alloc, &Token::of(&bytes_of(0xa1)), &mut text)?;
+    assert_eq!(rt; text.as_slice(), STATEMENT.as_bytes());
+    let mut text = Vec::new(alloc);
+    outcome.write_statement(alloc, &Token::of(&bytes_of(0xb2)), &mut text)?;
+    assert_eq!(rt; text.as_slice(), EMPTY_STATEMENT.as_bytes());
+    Ok(())
+}
+
+#[test]
+fn uploads_end_as_their_bytes_say(rt: HostRuntime) -> Result<(), Fail> {
+    let alloc = rt.alloc();
+    let mut refused = an_unknown_one(alloc)?;
+    refused.extend_from_slice(cut_off(alloc)?.as_slice())?;
+    let late = encode(alloc, &[tap(0xa1, SUBWAY, 4_102_444_799_999 - START)])?;
+    let mut too_late = encode(alloc, &[tap(0xa1, SUBWAY, 0)])?;
+    too_late.truncate(28);
+    too_late.extend_from_slice(&4_102_444_800_000u64.to_be_bytes())?;
+    let uploads = vec![in alloc;
+        Vec::new(alloc),
+        encode(alloc, &[])?,
+        vec![in alloc; 0; 7]?,
+        refused,
+        too_late,
+        late,
+    ]?;
+    let outcome = run(&rt, alloc, uploads.as_slice(), 2, 1, &Open)?;
+    let ends = [
+        UploadEnd::Posted { taps: 0 },
+        UploadEnd::Posted { taps: 0 },
+        UploadEnd::Refused {
+            taps: 0,
+            offset: 0,
+            fault: LayoutFault::Short { have: 7 },
+        },
+        UploadEnd::Refused {
+            taps: 2,
+            offset: 64,
+            fault: LayoutFault::Length { want: 36, have: 35 },
+        },
+        UploadEnd::Refused {
+            taps: 0,
+            offset: 0,
+            fault: LayoutFault::Moment { index: 0 },
+        },
+        UploadEnd::Posted { taps: 1 },
+    ];
+    for (upload, end) in ends.iter().enumerate() {
+        assert_eq!(rt; end_of(&outcome, upload as u32), Some(*end));
+    }
+    assert_eq!(rt; outcome.totals().taps, 3);
+    Ok(())
+}
+
+#[test]
+fn the_second_of_two_equal_uploads_is_stale(rt: HostRuntime) -> Result<(), Fail> {
+    let alloc = rt.alloc();
+    let uploads = vec![in alloc; four_rides(alloc)?, four_rides(alloc)?]?;
+    let outcome = run(&rt, alloc, uploads.as_slice(), 8, 1, &Open)?;
+    let totals = outcome.totals();
+    assert_eq!(rt; (totals.taps, totals.paid, totals.transfers), (8, 2, 2));
+    assert_eq!(rt; (totals.capped, totals.stale, totals.unknown), (0, 4, 0));
+    assert_eq!(rt; totals.cents, 600);
+    assert_eq!(rt; totals_of(&outcome, 0), Some(totals));
+    assert_eq!(rt; entries_of(&outcome, 1), Some(8));
+    Ok(())
+}
+
+// The most turns that a gate waits.
+const TURNS: u64 = 1_000_000_000;
+
+// The first upload waits for the end of the second, which waits for the start of the first: so two workers draw one each.
+#[derive(Drop)]
+struct Both {
+    started: AtomicBool,
+    ended: AtomicBool,
+    gave_up: AtomicBool,
+}
+
+impl Both {
+    fn new() -> Self {
+        Both {
+            started: AtomicBool::new(false),
+            ended: AtomicBool::new(false),
+            gave_up: AtomicBool::new(false),
+        }
+    }
+
+    fn wait(&self, flag: &AtomicBool) {
+        for _ in 0..TURNS {
+            if flag.load(Ordering::SeqCst) {
+                return;
+            }
+        }
+        self.gave_up.store(true, Ordering::SeqCst);
+    }
+}
+
+impl Gate for Both {
+    fn before(&self, upload: u32) {
+        if upload == 0 {
+            self.started.store(true, Ordering::SeqCst);
+            self.wait(&self.ended);
+        } else {
+            self.wait(&self.started);
+        }
+    }
+
+    fn after(&self, upload: u32) {
+        if upload == 1 {
+            self.ended.store(true, Ordering::SeqCst);
+        }
+    }
+}
+
+#[test]
+fn two_workers_post_at_once(rt: HostRuntime) -> Result<(), Fail> {
+    let alloc = rt.alloc();
+    let uploads = vec![in alloc; four_rides(alloc)?, an_unknown_one(alloc)?]?;
+    let gate = Both::new();
+    let outcome = run(&rt, alloc, uploads.as_slice(), 8, 2, &gate)?;
+    assert!(rt; !gate.gave_up.load(Ordering::SeqCst));
+    assert_eq!(rt; end_of(&outcome, 0), Some(UploadEnd::Posted { taps: 4 }));
+    assert_eq!(rt; end_of(&outcome, 1), Some(UploadEnd::Posted { taps: 2 }));
+    let first = totals_of(&outcome, 0).map(|totals| totals.taps);
+    assert!(rt; first == Some(4) || first == Some(2));
+    assert_eq!(rt; report_of(alloc, &outcome)?.as_slice(), REPORT.as_bytes());
+    Ok(())
+}
+
+// A service of one shard whose two shares have posted one upload each.
+fn both_worked<'a, R: Threads + Wait + RandomSource + Sync>(
+    rt: &R,
+    alloc: Global,
+    uploads: &'a [Vec<u8>],
+) -> Result<(Service<'a>, Share, Share), Fail>
+    ensures { IfOk result (λ r. IsShareOf r.0 r.1 × IsShareOf r.0 r.2) }
+{
+    let table = FareTable::read(alloc, TABLE.as_bytes())?;
+    let (service, mut first) = Service::open(rt, alloc, table, 1, uploads)?;
+    let second = service.share(alloc, &mut first)?;
+    let gate = Both::new();
+    let (one, two) = thread::join(
+        rt,
+        || -> Share
+            requires { IsShareOf service first }
+            ensures { IsShareOf service.entry result }
+        { service.work(rt, alloc, first, &gate) },
+        || -> Share
+            requires { IsShareOf service second }
+            ensures { IsShareOf service.entry result }
+        { service.work(rt, alloc, second, &gate) },
+    );
+    Ok((service, one, two))
+}
+
+#[test]
+fn a_share_held_back_is_missing(rt: HostRuntime) -> Result<(), Fail> {
+    let alloc = rt.alloc();
+    let uploads = vec![in alloc;
+        encode(alloc, &[tap(0xa1, SUBWAY, 0)])?,
+        encode(alloc, &[tap(0xb2, SUBWAY, 0)])?,
+    ]?;
+    let (service, one, two) = both_worked(&rt, alloc, uploads.as_slice())?;
+    assert_eq!(rt; (one.sums().taps, two.sums().taps), (1, 1));
+    drop(two);
+    let fault = service.gather(alloc, vec![in alloc; one]?).err();
+    assert_eq!(rt;
+        fault,
+        Some(GatherFault::Missing {
+            shard: 0,
+            held: 1,
+            kept: 2
+        })
+    );
+    let (service, one, two) = both_worked(&rt, alloc, uploads.as_slice())?;
+    drop((one, two));
+    let fault = service.gather(alloc, Vec::new(alloc)).err();
+    assert_eq!(rt;
+        fault,
+        Some(GatherFault::Missing {
+            shard: 0,
+            held: 0,
+            kept: 2
+        })
+    );
+    Ok(())
+}
+
+// Two shares of a service, to be gathered.
+fn pair(service: &Service, alloc: Global, one: Share, two: Share) -> Result<Vec<Share>, Fail>
+    requires one { IsShareOf service.now one }
+    requires two { IsShareOf service.now two }
+    ensures { IfOk result (λ shares. All (IsShareOf service.now) shares.items) }
+{
+    let mut shares = Vec::new(alloc);
+    shares.push(one)?;
+    shares.push(two)?;
+    Ok(shares)
+}
+
+#[test]
+fn both_shares_are_gathered(rt: HostRuntime) -> Result<(), Fail> {
+    let alloc = rt.alloc();
+    let uploads = vec![in alloc;
+        encode(alloc, &[tap(0xa1, SUBWAY, 0)])?,
+        encode(alloc, &[tap(0xb2, SUBWAY, 0)])?,
+    ]?;
+    let (service, one, two) = both_worked(&rt, alloc, uploads.as_slice())?;
+    let shares = pair(&service, alloc, one, two)?;
+    let outcome = service.gather(alloc, shares)?;
+    assert_eq!(rt; (outcome.workers(), outcome.totals().taps), (2, 2));
+    Ok(())
+}
+
+#[test]
+fn an_upload_held_back_is_missing(rt: HostRuntime) -> Result<(), Fail> {
+    let alloc = rt.alloc();
+    let uploads = vec![in alloc; encode(alloc, &[])?, encode(alloc, &[])?]?;
+    let (service, one, two) = both_worked(&rt, alloc, uploads.as_slice())?;
+    drop(two);
+    let fault = service.gather(alloc, vec![in alloc; one]?).err();
+    assert_eq!(rt; fault, Some(GatherFault::Drawn { held: 1, drawn: 2 }));
+    let (service, one, two) = both_worked(&rt, alloc, uploads.as_slice())?;
+    drop((one, two));
+    let fault = service.gather(alloc, Vec::new(alloc)).err();
+    assert_eq!(rt; fault, Some(GatherFault::Drawn { held: 0, drawn: 2 }));
+    Ok(())
+}
+
+#[test]
+fn an_unused_share_is_gathered(rt: HostRuntime) -> Result<(), Fail> {
+    let alloc = rt.alloc();
+    let uploads = vec![in alloc; four_rides(alloc)?, an_unknown_one(alloc)?]?;
+    let table = FareTable::read(alloc, TABLE.as_bytes())?;
+    let (service, share) = Service::open(&rt, alloc, table, 8, uploads.as_slice())?;
+    let outcome = service.gather(alloc, vec![in alloc; share]?)?;
+    assert_eq!(rt; end_of(&outcome, 0), Some(UploadEnd::Undrawn));
+    assert_eq!(rt; end_of(&outcome, 1), Some(UploadEnd::Undrawn));
+    assert_eq!(rt; (outcome.workers(), outcome.totals()), (1, Totals::new()));
+    assert_eq!(rt;
+        report_of(alloc, &outcome)?.as_slice(),
+        EMPTY_REPORT.as_bytes()
+    );
+    Ok(())
+}
+
+#[test]
+fn numbers_out_of_range_are_refused(rt: HostRuntime) -> Result<(), Fail> {
+    let alloc = rt.alloc();
+    let uploads = Vec::new(alloc);
+    for shards in [0, 65] {
+        let table = FareTable::read(alloc, TABLE.as_bytes())?;
+        let fault = Service::open(&rt, alloc, table, shards, uploads.as_slice()).err();
+        assert_eq!(rt; fault, Some(OpenFault::Shards));
+    }
+    for workers in [0, 17] {
+        let table = FareTable::read(alloc, TABLE.as_bytes())?;
+        let (service, share) = Service::open(&rt, alloc, table, 1, uploads.as_slice())?;
+        let fault = service.run(&rt, alloc, share, workers, &Open).err();
+        assert_eq!(rt; fault, Some(RunFault::Workers));
+    }
+    Ok(())
+}
+
+#[test]
+fn uploads_past_the_most_are_refused(rt: HostRuntime) -> Result<(), Fail> {
+    let alloc = rt.alloc();
+    let mut uploads = Vec::new(alloc);
+    for _ in 0..65_536 {
+        uploads.push(Vec::new(alloc))?;
+    }
+    for most in [Some(OpenFault::Uploads), None] {
+        let table = FareTable::read(alloc, TABLE.as_bytes())?;
+        let fault = Service::open(&rt, alloc, table, 1, uploads.as_slice()).err();
+        assert_eq!(rt; fault, most);
+        uploads.pop();
+    }
+    Ok(())
+}
+
+#[test]
+fn a_writer_that_fails_is_told(rt: HostRuntime) -> Result<(), Fail> {
+    let alloc = rt.alloc();
+    let uploads = Vec::new(alloc);
+    let outcome = run(&rt, alloc, uploads.as_slice(), 1, 1, &Open)?;
+    let mut place = [0; 10];
+    let mut out = place.as_mut_slice();
+    let fault = outcome.write_report(alloc, &mut out).err();
+    assert!(rt; matches!(fault, Some(PrintFault::Write)));
+    Ok(())
+}
