@@ -5,6 +5,11 @@ pub mod JoinLemmas
 pub mod MomentLemmas
 pub mod Parts
 pub mod PlaceLemmas
+pub mod PlainBooks
+pub mod PlainLists
+pub mod PlainReplies
+pub mod PlainRuns
+pub mod PlainUploads
 pub mod ReadingLemmas
 pub mod RunLemmas
 pub mod RunVisits

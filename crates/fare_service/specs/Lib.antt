@@ -7,6 +7,7 @@ pub mod Joining
 pub mod Holdings
 pub mod Moments
 pub mod Outcomes
+pub mod Plain
 pub mod Printed
 pub mod Runs
 pub mod Shares

@@ -4,6 +4,7 @@
 
 mod faults;
 mod gathering;
+pub mod laws;
 mod moment;
 mod opening;
 mod outcome;

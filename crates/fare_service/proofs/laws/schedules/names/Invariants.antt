@@ -1,0 +1,7 @@
+use Rattle.std.proofs.Common.{◌≡◌, ℕ, ◌<◌, All, Some, slice_get}
+use Rattle.shard_book.specs.Book.{Book}
+use Rattle.fare_service.specs.Plain.{IsNamed}
+use Rattle.fare_service.proofs.laws.schedules.names.Given as goal
+
+abbrev pub invariant-loop-shard : goal.invariant-loop-shard
+invariant-loop-shard l = (shard : ℕ) (book : Book) → shard < l.shard → slice_get l.outcome.books shard ≡ Some book → All IsNamed book.entries

@@ -1,0 +1,82 @@
+//! Schedule independence: what was gathered against the plain history of the uploads.
+
+ghost use Rattle.std.specs.Prelude.{◌≡◌, ◌↔◌, ℕ, List, All, Some, map, length, slice_get};
+ghost use Rattle.fare_table.specs.Fares.{Fares};
+ghost use Rattle.tap_views.specs.Layout.{Tap};
+ghost use Rattle.tap_views.specs.Shards.{shard_of_token};
+ghost use Rattle.shard_book.specs.declared.entry.Entry.{Entry};
+ghost use Rattle.shard_book.specs.declared.token.Token.{Token};
+ghost use Rattle.shard_book.specs.Book.{Book};
+ghost use Rattle.shard_book.specs.Entry.{own};
+ghost use Rattle.shard_book.specs.History.{IsLegal};
+ghost use Rattle.shard_book.specs.Token.{bytes_of};
+ghost use Rattle.fare_service.specs.Halls.{Hall};
+ghost use Rattle.fare_service.specs.Plain.{AreTapsOf, HasOneCut, IsNamed, IsPlain, IsStatementOver, IsWhole, token_of};
+ghost use Rattle.fare_service.specs.Printed.{IsStatementOf};
+
+use crate::outcome::Outcome;
+use shard_book::{ShardBook, Token};
+use tap_views::laws::one_cut;
+
+fn name(token: Token)
+    ensures { token ≡ token_of (bytes_of token) }
+{}
+
+fn book_names(book: &ShardBook)
+    ensures { All IsNamed book.now.entries }
+{
+    for place in 0..book.len() {
+        name(book.entry(place).token);
+    }
+}
+
+/// The tokens of an outcome's books are those that their bytes name. Reads each entry once.
+pub fn names(outcome: &Outcome)
+    ensures { (shard : ℕ) (book : Book) → slice_get outcome.now.books shard ≡ Some book → All IsNamed book.entries }
+{
+    for shard in 0..outcome.shards() {
+        book_names(outcome.book(shard));
+    }
+}
+
+/// Each upload has one cut into batches at most.
+pub fn cuts(uploads: &[Vec<u8>])
+    ensures { All HasOneCut (map (λ upload. upload.items) uploads.now) }
+{
+    for upload in uploads {
+        one_cut(upload.as_slice());
+    }
+}
+
+fn taps_of(file: &[u8])
+    ensures { (taps : List Tap) × AreTapsOf file.now taps }
+{
+    let _ = tap_views::batches(file);
+}
+
+/// Uploads have exactly one plain history under a table, and it is legal.
+pub fn plain_history(uploads: &[Vec<u8>])
+    ensures some { (fares : Fares) → (history : List Entry) × IsPlain fares (map (λ upload. upload.items) uploads.now) history }
+    ensures one { (fares : Fares) (history other : List Entry) → IsPlain fares (map (λ upload. upload.items) uploads.now) history
+        → IsPlain fares (map (λ upload. upload.items) uploads.now) other → history ≡ other }
+    ensures legal { (fares : Fares) (history : List Entry) → IsPlain fares (map (λ upload. upload.items) uploads.now) history → IsLegal fares history }
+{
+    for upload in uploads {
+        taps_of(upload.as_slice());
+    }
+    cuts(uploads);
+}
+
+/// Where no upload was cut or left undrawn and no token has taps in two uploads, the entries of each token are those of the plain history
+/// of the uploads, and so is the text of its statement: for every schedule, number of workers and number of shards.
+pub fn statements(uploads: &[Vec<u8>], outcome: &Outcome)
+    ensures entries { (hall : Hall) (history : List Entry) → hall.uploads ≡ map (λ upload. upload.items) uploads.now → IsWhole hall outcome.now history
+        → (token : Token) (book : Book) → slice_get outcome.now.books (shard_of_token (bytes_of token) (length outcome.now.books)) ≡ Some book
+        → own token book.entries ≡ own token history }
+    ensures texts { (hall : Hall) (history : List Entry) → hall.uploads ≡ map (λ upload. upload.items) uploads.now → IsWhole hall outcome.now history
+        → (token : Token) (text : List ℕ) → IsStatementOf outcome.now token text ↔ IsStatementOver hall.table history token text }
+{
+    let _ = outcome.shards();
+    names(outcome);
+    cuts(uploads);
+}
