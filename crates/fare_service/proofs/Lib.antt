@@ -6,9 +6,11 @@ pub mod MomentLemmas
 pub mod Parts
 pub mod PlaceLemmas
 pub mod PlainBooks
+pub mod PlainEnds
 pub mod PlainLists
 pub mod PlainReplies
 pub mod PlainRuns
+pub mod PlainSums
 pub mod PlainUploads
 pub mod ReadingLemmas
 pub mod RunLemmas

@@ -121,7 +121,7 @@ abbrev Tells : ℕ → ℕ → Type 0
 Tells m n = (((m == n) ≡ true) × (m ≡ n)) ⊎ (((m == n) ≡ false) × (m ≢ n))
 
 -- an upload that ended was drawn
-drawn_by : (P : Worked → Type 0) (works : List Worked) → All P works → (upload : ℕ) → end_of upload works ≢ Undrawn → (w : Worked) × P w × (w.upload ≡ upload)
+pub drawn_by : (P : Worked → Type 0) (works : List Worked) → All P works → (upload : ℕ) → end_of upload works ≢ Undrawn → (w : Worked) × P w × (w.upload ≡ upload)
 drawn_by P [] all upload ended = absurd (ended refl)
 drawn_by P (w ∷ works) all upload ended = by_test (eqb_tells w.upload upload) (drawn_by P works (All-tail P w works all) upload)
   where

@@ -1,6 +1,6 @@
 -- The plain history of uploads: the taps of all batches before each upload's first fault, uploads in order, each with the account rule's
 -- reply. It has no shards, no visits and no workers.
-use Rattle.std.specs.Prelude.{◌≡◌, ℕ, List, [], ◌∷◌, ◌++◌, take, drop, slice_get, Some, All, Contains}
+use Rattle.std.specs.Prelude.{◌≡◌, ℕ, List, [], ◌∷◌, ◌++◌, length, take, drop, slice_get, Option, Some, All, Contains}
 use Rattle.std.specs.List.{flat_map, AllZip}
 use Rattle.std.specs.Int.{from_be_bytes, w64}
 use Rattle.tap_views.specs.Layout.{Tap, num}
@@ -19,7 +19,12 @@ use Rattle.shard_book.specs.declared.statement.Statement.{Statement}
 use Rattle.fare_service.specs.Gathering.{IsGathered}
 use Rattle.fare_service.specs.Halls.{Hall}
 use Rattle.fare_service.specs.Outcomes.{Gathered}
-use Rattle.fare_service.specs.Shares.{Worked}
+use Rattle.fare_service.specs.Shares.{Worked, IsFaultOf}
+use Rattle.fare_service.specs.Ends.{end_by}
+use Rattle.fare_service.specs.Text.{report}
+use Rattle.shard_book.specs.Groups.{sums_by_validator, sums_by_token}
+use Rattle.shard_book.specs.Sums.{sums}
+use Rattle.tap_views.specs.declared.fault.LayoutFault.{LayoutFault}
 use Rattle.fare_service.specs.StatementText.{IsStatementText}
 use Rattle.fare_service.specs.declared.upload_end.UploadEnd.{UploadEnd}
 use Rattle.fare_service.specs.declared.upload_end.UploadEnd.TheVariants.{Posted, Refused, Cut, Undrawn}
@@ -99,8 +104,27 @@ pub record IsWhole (hall : Hall) (outcome : Gathered) (history : List Entry) : T
   pub plain_is : IsPlain hall.table hall.uploads history
   pub apart : AreApart plain_is.taps
 
+-- How an upload of these bytes ends where all batches before its first fault are posted: with the number of their taps, and the fault, if
+-- there is one.
+pub record IsPlainEnd (file : List ℕ) (end : UploadEnd) : Type 0 where
+  pub batches : List (List Tap)
+  pub rest : List ℕ
+  pub fault : Option (ℕ × LayoutFault)
+  pub is_file : IsFile file batches rest
+  pub is_fault : IsFaultOf file rest fault
+  pub ended : end ≡ end_by (length (flat_map (λ batch. batch) batches)) fault
+
+abbrev pub ArePlainEnds : List (List ℕ) → List UploadEnd → Type 0
+ArePlainEnds uploads ends = AllZip IsPlainEnd uploads ends
+
 -- the text of a token's statement over a history
 pub record IsStatementOver (fares : Fares) (history : List Entry) (token : Token) (text : List ℕ) : Type 0 where
   pub statement : Statement
   pub of_history : IsStatement fares history token statement
   pub shown : IsStatementText fares statement text
+
+-- the text of a report over a history of uploads
+pub record IsReportOver (uploads : List (List ℕ)) (history : List Entry) (text : List ℕ) : Type 0 where
+  pub ends : List UploadEnd
+  pub of_uploads : ArePlainEnds uploads ends
+  pub shown : text ≡ report ends (sums history) (sums_by_validator history) (sums_by_token history)

@@ -2,4 +2,4 @@
 
 mod schedules;
 
-pub use schedules::{cuts, names, plain_history, statements};
+pub use schedules::{cuts, ends, names, plain_history, report, statements};

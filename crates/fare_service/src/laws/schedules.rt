@@ -6,15 +6,18 @@ ghost use Rattle.tap_views.specs.Layout.{Tap};
 ghost use Rattle.tap_views.specs.Shards.{shard_of_token};
 ghost use Rattle.shard_book.specs.declared.entry.Entry.{Entry};
 ghost use Rattle.shard_book.specs.declared.token.Token.{Token};
-ghost use Rattle.shard_book.specs.Book.{Book};
+ghost use Rattle.shard_book.specs.Book.{AreOfShard, Book};
 ghost use Rattle.shard_book.specs.Entry.{own};
 ghost use Rattle.shard_book.specs.History.{IsLegal};
 ghost use Rattle.shard_book.specs.Token.{bytes_of};
+ghost use Rattle.fare_service.specs.Gathering.{IsGathered};
 ghost use Rattle.fare_service.specs.Halls.{Hall};
-ghost use Rattle.fare_service.specs.Plain.{AreTapsOf, HasOneCut, IsNamed, IsPlain, IsStatementOver, IsWhole, token_of};
-ghost use Rattle.fare_service.specs.Printed.{IsStatementOf};
+ghost use Rattle.fare_service.specs.Plain.{ArePlainEnds, AreTapsOf, HasOneCut, IsNamed, IsPlain, IsReportOver, IsStatementOver, IsWhole, WasWhole, token_of};
+ghost use Rattle.fare_service.specs.Printed.{IsStatementOf, report_of};
+ghost use Rattle.fare_service.specs.Shares.{Worked};
 
 use crate::outcome::Outcome;
+use shard_book::laws::rising;
 use shard_book::{ShardBook, Token};
 use tap_views::laws::one_cut;
 
@@ -23,16 +26,18 @@ fn name(token: Token)
 {}
 
 fn book_names(book: &ShardBook)
-    ensures { All IsNamed book.now.entries }
+    ensures named { All IsNamed book.now.entries }
+    ensures here { AreOfShard book.now.shard book.now.shards book.now.entries }
 {
     for place in 0..book.len() {
         name(book.entry(place).token);
     }
 }
 
-/// The tokens of an outcome's books are those that their bytes name. Reads each entry once.
+/// The tokens of an outcome's books are those that their bytes name, and are of their book's shard. Reads each entry once.
 pub fn names(outcome: &Outcome)
-    ensures { (shard : ℕ) (book : Book) → slice_get outcome.now.books shard ≡ Some book → All IsNamed book.entries }
+    ensures named { (shard : ℕ) (book : Book) → slice_get outcome.now.books shard ≡ Some book → All IsNamed book.entries }
+    ensures here { (shard : ℕ) (book : Book) → slice_get outcome.now.books shard ≡ Some book → AreOfShard book.shard book.shards book.entries }
 {
     for shard in 0..outcome.shards() {
         book_names(outcome.book(shard));
@@ -79,4 +84,23 @@ pub fn statements(uploads: &[Vec<u8>], outcome: &Outcome)
     let _ = outcome.shards();
     names(outcome);
     cuts(uploads);
+}
+
+/// Where no upload was cut or left undrawn, each ends as its bytes call for.
+pub fn ends(outcome: &Outcome)
+    ensures { (hall : Hall) (works : List (List Worked)) → IsGathered hall works outcome.now → All WasWhole outcome.now.ends → ArePlainEnds hall.uploads outcome.now.ends }
+{
+    let _ = outcome.shards();
+}
+
+/// Where no upload was cut or left undrawn and no token has taps in two uploads, the report is that of the plain history of the uploads,
+/// each upload posted or refused as its bytes call for: for every schedule, number of workers and number of shards.
+pub fn report(uploads: &[Vec<u8>], outcome: &Outcome)
+    ensures { (hall : Hall) (history : List Entry) → hall.uploads ≡ map (λ upload. upload.items) uploads.now → IsWhole hall outcome.now history
+        → IsReportOver hall.uploads history (report_of outcome.now) }
+{
+    let _ = outcome.shards();
+    names(outcome);
+    cuts(uploads);
+    rising();
 }

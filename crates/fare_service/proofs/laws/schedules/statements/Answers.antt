@@ -7,10 +7,10 @@ pub returns-clause-entries : goal.returns-clause-entries
 returns-clause-entries c = λ hall history same whole.
     let H : List (List ℕ) → Type 0 = All HasOneCut in
     let some : 0 < length c.args.outcome.now.books = omega (arith, c.shards.ensures.some, c.shards.ensures.number) in
-    same_own hall c.args.outcome.now history some c.names.ensures (subst H (sym same) c.cuts.ensures) whole
+    same_own hall c.args.outcome.now history some c.names.ensures.named (subst H (sym same) c.cuts.ensures) whole
 
 pub returns-clause-texts : goal.returns-clause-texts
 returns-clause-texts c = λ hall history same whole.
     let H : List (List ℕ) → Type 0 = All HasOneCut in
     let some : 0 < length c.args.outcome.now.books = omega (arith, c.shards.ensures.some, c.shards.ensures.number) in
-    same_statement hall c.args.outcome.now history some c.names.ensures (subst H (sym same) c.cuts.ensures) whole
+    same_statement hall c.args.outcome.now history some c.names.ensures.named (subst H (sym same) c.cuts.ensures) whole
