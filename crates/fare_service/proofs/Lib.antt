@@ -7,9 +7,11 @@ pub mod Parts
 pub mod PlaceLemmas
 pub mod PlainBooks
 pub mod PlainEnds
+pub mod PlainFields
 pub mod PlainLists
 pub mod PlainReplies
 pub mod PlainRuns
+pub mod PlainSame
 pub mod PlainSums
 pub mod PlainUploads
 pub mod ReadingLemmas

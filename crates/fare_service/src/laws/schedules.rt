@@ -1,6 +1,6 @@
 //! Schedule independence: what was gathered against the plain history of the uploads.
 
-ghost use Rattle.std.specs.Prelude.{◌≡◌, ◌↔◌, ℕ, List, All, Some, map, length, slice_get};
+ghost use Rattle.std.specs.Prelude.{◌≡◌, ◌↔◌, ℕ, ◌<◌, List, All, Decides, Some, flat_map, map, length, slice_get};
 ghost use Rattle.fare_table.specs.Fares.{Fares};
 ghost use Rattle.tap_views.specs.Layout.{Tap};
 ghost use Rattle.tap_views.specs.Shards.{shard_of_token};
@@ -10,6 +10,7 @@ ghost use Rattle.shard_book.specs.Book.{AreOfShard, Book};
 ghost use Rattle.shard_book.specs.Entry.{own};
 ghost use Rattle.shard_book.specs.History.{IsLegal};
 ghost use Rattle.shard_book.specs.Token.{bytes_of};
+ghost use Rattle.shard_book.specs.Visits.{AreEntriesOf};
 ghost use Rattle.fare_service.specs.Gathering.{IsGathered};
 ghost use Rattle.fare_service.specs.Halls.{Hall};
 ghost use Rattle.fare_service.specs.Plain.{ArePlainEnds, AreTapsOf, HasOneCut, IsNamed, IsPlain, IsReportOver, IsStatementOver, IsWhole, WasWhole, token_of};
@@ -17,6 +18,7 @@ ghost use Rattle.fare_service.specs.Printed.{IsStatementOf, report_of};
 ghost use Rattle.fare_service.specs.Shares.{Worked};
 
 use crate::outcome::Outcome;
+use crate::upload_end::UploadEnd;
 use shard_book::laws::rising;
 use shard_book::{ShardBook, Token};
 use tap_views::laws::one_cut;
@@ -54,17 +56,20 @@ pub fn cuts(uploads: &[Vec<u8>])
 }
 
 fn taps_of(file: &[u8])
-    ensures { (taps : List Tap) × AreTapsOf file.now taps }
+    ensures taps { (taps : List Tap) × AreTapsOf file.now taps }
+    ensures bytes { All (λ byte. byte < 256) file.now }
 {
     let _ = tap_views::batches(file);
 }
 
-/// Uploads have exactly one plain history under a table, and it is legal.
+/// Uploads have exactly one plain history under a table. It is legal, and its entries have the fields of the uploads' taps, in their order.
 pub fn plain_history(uploads: &[Vec<u8>])
     ensures some { (fares : Fares) → (history : List Entry) × IsPlain fares (map (λ upload. upload.items) uploads.now) history }
     ensures one { (fares : Fares) (history other : List Entry) → IsPlain fares (map (λ upload. upload.items) uploads.now) history
         → IsPlain fares (map (λ upload. upload.items) uploads.now) other → history ≡ other }
     ensures legal { (fares : Fares) (history : List Entry) → IsPlain fares (map (λ upload. upload.items) uploads.now) history → IsLegal fares history }
+    ensures fields { (fares : Fares) (history : List Entry) (plain : IsPlain fares (map (λ upload. upload.items) uploads.now) history)
+        → AreEntriesOf (flat_map (λ upload. upload) plain.taps) history }
 {
     for upload in uploads {
         taps_of(upload.as_slice());
@@ -103,4 +108,46 @@ pub fn report(uploads: &[Vec<u8>], outcome: &Outcome)
     names(outcome);
     cuts(uploads);
     rising();
+}
+
+/// Two outcomes over the same uploads and under one table have the same report and the same text of each statement, where no upload was cut
+/// or left undrawn and no token has taps in two uploads: whatever their schedules, workers and shards were.
+pub fn same_texts(uploads: &[Vec<u8>], one: &Outcome, other: &Outcome)
+    ensures report { (first second : Hall) (history again : List Entry) → first.uploads ≡ map (λ upload. upload.items) uploads.now
+        → second.uploads ≡ map (λ upload. upload.items) uploads.now → first.table ≡ second.table
+        → IsWhole first one.now history → IsWhole second other.now again → report_of one.now ≡ report_of other.now }
+    ensures statements { (first second : Hall) (history again : List Entry) → first.uploads ≡ map (λ upload. upload.items) uploads.now
+        → second.uploads ≡ map (λ upload. upload.items) uploads.now → first.table ≡ second.table
+        → IsWhole first one.now history → IsWhole second other.now again
+        → (token : Token) (text : List ℕ) → IsStatementOf one.now token text ↔ IsStatementOf other.now token text }
+{
+    plain_history(uploads);
+    cuts(uploads);
+    report(uploads, one);
+    report(uploads, other);
+    statements(uploads, one);
+    statements(uploads, other);
+}
+
+fn was_whole(end: UploadEnd) -> bool
+    ensures { Decides result (WasWhole end) }
+{
+    match end {
+        UploadEnd::Posted { .. } => true,
+        UploadEnd::Refused { .. } => true,
+        UploadEnd::Cut { .. } => false,
+        UploadEnd::Undrawn => false,
+    }
+}
+
+/// Whether no upload was cut or left undrawn.
+pub fn ended_whole(outcome: &Outcome) -> bool
+    ensures { Decides result (All WasWhole outcome.now.ends) }
+{
+    for upload in 0..outcome.uploads() {
+        if !was_whole(outcome.upload(upload)) {
+            return false;
+        }
+    }
+    true
 }
