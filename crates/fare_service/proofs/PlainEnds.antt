@@ -1,22 +1,18 @@
 -- The ends of uploads that were posted whole are those that their bytes call for.
-use Rattle.std.specs.Prelude.{ℕ, zero, suc, ◌≡◌, ◌≢◌, ◌<◌, List, [], ◌∷◌, length, All, Option, Some, None, slice_get, slice_index_or}
+use Rattle.std.specs.Prelude.{ℕ, suc, ◌≡◌, ◌<◌, List, [], ◌∷◌, length, All, Some, None, slice_get}
 use Rattle.std.specs.List.{flat_map, AllZip}
 use Rattle.std.proofs.Common.{refl, sym, ◌∙◌, ap, subst, arith, mod-lt}
 use Rattle.std.proofs.lemmas.List.Concat.{length-flat_map}
 use Rattle.std.proofs.lemmas.Option.{get_or_from_slice_get}
-use Rattle.tap_views.specs.Layout.{Tap, num}
-use Rattle.tap_views.specs.Files.{IsFile}
-use Rattle.tap_views.specs.Shards.{shard_of_token}
-use Rattle.tap_views.specs.declared.fault.LayoutFault.{LayoutFault}
+use Rattle.tap_views.specs.Layout.{Tap}
 use Rattle.fare_service.specs.declared.upload_end.UploadEnd.{UploadEnd}
 use Rattle.fare_service.specs.declared.upload_end.UploadEnd.TheVariants.{Posted, Refused, Cut, Undrawn}
-use Rattle.fare_service.specs.Ends.{end_by}
 use Rattle.fare_service.specs.Gathering.{IsGathered, all_works, end_of}
 use Rattle.fare_service.specs.Halls.{Hall, shards_of, upload_at}
 use Rattle.fare_service.specs.Outcomes.{Gathered}
 use Rattle.fare_service.specs.Plain.{WasWhole, IsPlainEnd, ArePlainEnds}
 use Rattle.fare_service.specs.Runs.{Visit, IsEntered, ArePosted, runs_of, taps_posted}
-use Rattle.fare_service.specs.Shares.{Worked, IsWorked, IsEndOf, IsFaultOf}
+use Rattle.fare_service.specs.Shares.{Worked, IsWorked, IsEndOf}
 use Rattle.fare_service.proofs.PlainBooks.{drawn_by, end_told, whole_posted}
 use Rattle.fare_service.proofs.PlainLists.{All-flat, All-at}
 use Rattle.fare_service.proofs.TapCounts.{posted_taps, all_runs_taps}

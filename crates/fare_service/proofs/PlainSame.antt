@@ -1,21 +1,19 @@
 -- Two gatherings of the same uploads under one table have the same texts.
-use Rattle.std.specs.Prelude.{ℕ, ◌≡◌, ◌⊎◌, ◌+◌, ◌<◌, ◌≤◌, List, [], ◌∷◌, length, All, Option, Some, None}
-use Rattle.std.specs.List.{flat_map, AllZip}
+use Rattle.std.specs.Prelude.{ℕ, ◌≡◌, ◌⊎◌, ◌<◌, ◌≤◌, List, [], ◌∷◌, length, All, Option, Some, None}
+use Rattle.std.specs.List.{flat_map}
 use Rattle.std.proofs.Common.{refl, sym, ◌∙◌, ap, inl, inr, subst, arith}
 use Rattle.std.proofs.lemmas.Bool.{cases_lt}
 use Rattle.std.proofs.lemmas.List.Elements.{All-head, All-tail}
-use Rattle.fare_table.specs.Fares.{Fares}
 use Rattle.tap_views.specs.Layout.{Tap}
 use Rattle.tap_views.specs.Faults.{IsFault, Row, place}
 use Rattle.tap_views.specs.declared.fault.LayoutFault.{LayoutFault}
 use Rattle.tap_views.specs.declared.fault.LayoutFault.TheVariants.{Short, Magic, Flags, TooMany, Length, Moment}
 use Rattle.shard_book.specs.declared.entry.Entry.{Entry}
-use Rattle.shard_book.specs.declared.token.Token.{Token}
 use Rattle.shard_book.specs.Groups.{sums_by_validator, sums_by_token}
 use Rattle.shard_book.specs.Sums.{sums}
 use Rattle.fare_service.specs.declared.upload_end.UploadEnd.{UploadEnd}
 use Rattle.fare_service.specs.Ends.{end_by}
-use Rattle.fare_service.specs.Plain.{HasOneCut, IsPlainEnd, ArePlainEnds, IsReportOver, IsStatementOver}
+use Rattle.fare_service.specs.Plain.{HasOneCut, IsPlainEnd, ArePlainEnds, IsReportOver}
 use Rattle.fare_service.specs.Shares.{IsFaultOf}
 use Rattle.fare_service.specs.Text.{report}
 

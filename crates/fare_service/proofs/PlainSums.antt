@@ -1,8 +1,7 @@
 -- The sums over the books are those over the plain history.
-use Rattle.std.specs.Prelude.{ℕ, zero, suc, ◌≡◌, ◌≢◌, ◌↔◌, ◌<◌, ◌==◌, Bool, true, false, cond, List, [], ◌∷◌, ◌++◌, length, map, filter, All, Some, slice_get, IsPermutation}
-use Rattle.std.specs.List.{flat_map, list_any}
+use Rattle.std.specs.Prelude.{ℕ, zero, suc, ◌≡◌, ◌≢◌, ◌↔◌, ◌<◌, Bool, true, false, cond, List, [], ◌∷◌, ◌++◌, length, map, filter, All, Some, slice_get, IsPermutation}
+use Rattle.std.specs.List.{flat_map}
 use Rattle.std.specs.Ordering.{eq_by_cmp, nat_cmp}
-use Rattle.std.specs.Set.{is_member}
 use Rattle.std.specs.declared.cmp.Ordering.{Ordering}
 use Rattle.std.proofs.Common.{refl, sym, ◌∙◌, ap, subst, arith, get_or, mod-lt}
 use Rattle.std.proofs.lemmas.Bool.Decides.{nat_tests}
@@ -18,9 +17,9 @@ use Rattle.shard_book.specs.Entry.{is_of, is_at, own, reply_of}
 use Rattle.shard_book.specs.Groups.{all_entries, at, validators, tokens, sums_by_validator, sums_by_token, validator_of, token_of}
 use Rattle.shard_book.specs.Keys.{same_token}
 use Rattle.shard_book.specs.Rising.{rising, IsRising}
-use Rattle.shard_book.specs.Sums.{Sums, sums, sums_of_replies, is_paid, is_transfer, is_capped, is_stale, is_unknown}
+use Rattle.shard_book.specs.Sums.{sums, sums_of_replies, is_paid, is_transfer, is_capped, is_stale, is_unknown}
 use Rattle.shard_book.specs.Token.{bytes_of, token_cmp, token_eq}
-use Rattle.fare_service.specs.Halls.{Hall, shards_of}
+use Rattle.fare_service.specs.Halls.{Hall}
 use Rattle.fare_service.specs.Outcomes.{Gathered}
 use Rattle.fare_service.specs.Plain.{HasOneCut, IsWhole, IsReportOver}
 use Rattle.fare_service.specs.Printed.{report_of}

@@ -1,33 +1,33 @@
 -- The plain history of uploads: the taps of all batches before each upload's first fault, uploads in order, each with the account rule's
 -- reply. It has no shards, no visits and no workers.
-use Rattle.std.specs.Prelude.{◌≡◌, ℕ, List, [], ◌∷◌, ◌++◌, length, take, drop, slice_get, Option, Some, All, Contains}
-use Rattle.std.specs.List.{flat_map, AllZip}
 use Rattle.std.specs.Int.{from_be_bytes, w64}
-use Rattle.tap_views.specs.Layout.{Tap, num}
+use Rattle.std.specs.List.{flat_map, AllZip}
+use Rattle.std.specs.Prelude.{◌≡◌, ℕ, List, [], ◌∷◌, ◌++◌, length, take, drop, slice_get, Option, Some, All, Contains}
 use Rattle.tap_views.specs.Files.{IsFile}
+use Rattle.tap_views.specs.Layout.{Tap, num}
+use Rattle.tap_views.specs.declared.fault.LayoutFault.{LayoutFault}
 use Rattle.fare_table.specs.Fares.{Fares}
 use Rattle.account_rule.specs.Replies.{reply}
 use Rattle.account_rule.specs.Rules.{rules_of}
-use Rattle.account_rule.specs.declared.reply.Reply.{Reply}
 use Rattle.account_rule.specs.declared.reply.Answer.TheVariants.{Unknown}
-use Rattle.shard_book.specs.declared.entry.Entry.{Entry}
-use Rattle.shard_book.specs.declared.token.Token.{Token}
+use Rattle.account_rule.specs.declared.reply.Reply.{Reply}
 use Rattle.shard_book.specs.Entry.{tap_of, taps_of}
+use Rattle.shard_book.specs.Groups.{sums_by_validator, sums_by_token}
 use Rattle.shard_book.specs.Statement.{IsStatement}
+use Rattle.shard_book.specs.Sums.{sums}
 use Rattle.shard_book.specs.Token.{bytes_of}
+use Rattle.shard_book.specs.declared.entry.Entry.{Entry}
 use Rattle.shard_book.specs.declared.statement.Statement.{Statement}
+use Rattle.shard_book.specs.declared.token.Token.{Token}
+use Rattle.fare_service.specs.Ends.{end_by}
 use Rattle.fare_service.specs.Gathering.{IsGathered}
 use Rattle.fare_service.specs.Halls.{Hall}
 use Rattle.fare_service.specs.Outcomes.{Gathered}
 use Rattle.fare_service.specs.Shares.{Worked, IsFaultOf}
-use Rattle.fare_service.specs.Ends.{end_by}
-use Rattle.fare_service.specs.Text.{report}
-use Rattle.shard_book.specs.Groups.{sums_by_validator, sums_by_token}
-use Rattle.shard_book.specs.Sums.{sums}
-use Rattle.tap_views.specs.declared.fault.LayoutFault.{LayoutFault}
 use Rattle.fare_service.specs.StatementText.{IsStatementText}
-use Rattle.fare_service.specs.declared.upload_end.UploadEnd.{UploadEnd}
+use Rattle.fare_service.specs.Text.{report}
 use Rattle.fare_service.specs.declared.upload_end.UploadEnd.TheVariants.{Posted, Refused, Cut, Undrawn}
+use Rattle.fare_service.specs.declared.upload_end.UploadEnd.{UploadEnd}
 
 -- the taps of an upload: those of all its batches before its first fault, in order
 pub record AreTapsOf (file : List ℕ) (taps : List Tap) : Type 0 where

@@ -78,7 +78,7 @@ pub fn plain_history(uploads: &[Vec<u8>])
 }
 
 /// Where no upload was cut or left undrawn and no token has taps in two uploads, the entries of each token are those of the plain history
-/// of the uploads, and so is the text of its statement: for every schedule, number of workers and number of shards.
+/// of the uploads, and so is the text of its statement: for every schedule, number of workers and number of shards. Reads each entry once.
 pub fn statements(uploads: &[Vec<u8>], outcome: &Outcome)
     ensures entries { (hall : Hall) (history : List Entry) → hall.uploads ≡ map (λ upload. upload.items) uploads.now → IsWhole hall outcome.now history
         → (token : Token) (book : Book) → slice_get outcome.now.books (shard_of_token (bytes_of token) (length outcome.now.books)) ≡ Some book
@@ -99,7 +99,7 @@ pub fn ends(outcome: &Outcome)
 }
 
 /// Where no upload was cut or left undrawn and no token has taps in two uploads, the report is that of the plain history of the uploads,
-/// each upload posted or refused as its bytes call for: for every schedule, number of workers and number of shards.
+/// each upload posted or refused as its bytes call for: for every schedule, number of workers and number of shards. Reads each entry once.
 pub fn report(uploads: &[Vec<u8>], outcome: &Outcome)
     ensures { (hall : Hall) (history : List Entry) → hall.uploads ≡ map (λ upload. upload.items) uploads.now → IsWhole hall outcome.now history
         → IsReportOver hall.uploads history (report_of outcome.now) }
@@ -111,7 +111,7 @@ pub fn report(uploads: &[Vec<u8>], outcome: &Outcome)
 }
 
 /// Two outcomes over the same uploads and under one table have the same report and the same text of each statement, where no upload was cut
-/// or left undrawn and no token has taps in two uploads: whatever their schedules, workers and shards were.
+/// or left undrawn and no token has taps in two uploads: whatever their schedules, workers and shards were. Reads each entry twice.
 pub fn same_texts(uploads: &[Vec<u8>], one: &Outcome, other: &Outcome)
     ensures report { (first second : Hall) (history again : List Entry) → first.uploads ≡ map (λ upload. upload.items) uploads.now
         → second.uploads ≡ map (λ upload. upload.items) uploads.now → first.table ≡ second.table

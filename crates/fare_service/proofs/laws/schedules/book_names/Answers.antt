@@ -1,4 +1,4 @@
-use Rattle.std.proofs.Common.{All, List, length, arith, sym, subst, take_all}
+use Rattle.std.proofs.Common.{All, List, arith, sym, subst, take_all}
 use Rattle.std.proofs.lemmas.List.Elements.{All-more}
 use Rattle.std.proofs.lemmas.Option.{slice_get_within, get_or_from_slice_get}
 use Rattle.shard_book.specs.declared.entry.Entry.{Entry}

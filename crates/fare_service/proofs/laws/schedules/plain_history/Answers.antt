@@ -1,4 +1,4 @@
-use Rattle.std.proofs.Common.{List, [], ◌∷◌, ◌++◌, Vec, Global, ℕ, All, map, take, get_or, sym, ap, ◌∙◌, subst, take_all}
+use Rattle.std.proofs.Common.{List, [], ◌∷◌, ◌++◌, Vec, Global, ℕ, All, map, take, sym, ap, ◌∙◌, subst, take_all}
 use Rattle.std.proofs.lemmas.List.{map_more}
 use Rattle.std.proofs.lemmas.List.Elements.{All-map, All-more}
 use Rattle.fare_service.specs.Plain.{AreTapsOf, AreTapsOfEach}

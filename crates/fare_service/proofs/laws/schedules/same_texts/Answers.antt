@@ -1,9 +1,9 @@
-use Rattle.std.proofs.Common.{◌≡◌, ◌↔◌, List, ℕ, Vec, Global, All, map, sym, ◌∙◌, subst}
+use Rattle.std.proofs.Common.{◌≡◌, ◌↔◌, List, ℕ, Vec, Global, map, sym, subst}
 use Rattle.fare_table.specs.Fares.{Fares}
 use Rattle.shard_book.specs.declared.entry.Entry.{Entry}
 use Rattle.fare_service.specs.Halls.{Hall}
 use Rattle.fare_service.specs.Outcomes.{Gathered}
-use Rattle.fare_service.specs.Plain.{HasOneCut, IsPlain, IsReportOver, IsStatementOver, IsWhole}
+use Rattle.fare_service.specs.Plain.{IsPlain, IsReportOver, IsStatementOver, IsWhole}
 use Rattle.fare_service.specs.Printed.{report_of}
 use Rattle.fare_service.proofs.PlainSame.{one_report}
 use Rattle.fare_service.proofs.laws.schedules.same_texts.Goals as goal

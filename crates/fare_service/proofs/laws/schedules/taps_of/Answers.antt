@@ -1,4 +1,4 @@
-use Rattle.std.proofs.Common.{ℕ, ◌<◌, length, get_or, refl, flat_map, arith}
+use Rattle.std.proofs.Common.{◌<◌, refl, flat_map, arith}
 use Rattle.std.proofs.lemmas.List.Elements.{All-from_get_or}
 use Rattle.fare_service.proofs.laws.schedules.taps_of.Goals as goal
 
