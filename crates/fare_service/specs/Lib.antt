@@ -7,9 +7,9 @@ pub mod Joining
 pub mod Holdings
 pub mod Moments
 pub mod Outcomes
-pub mod Plain
 pub mod Printed
 pub mod Runs
 pub mod Shares
 pub mod StatementText
 pub mod Text
+pub mod Plain
