@@ -21,7 +21,7 @@ use Rattle.shard_book.specs.Sums.{sums, sums_of_replies, is_paid, is_transfer, i
 use Rattle.shard_book.specs.Token.{bytes_of, token_cmp, token_eq}
 use Rattle.fare_service.specs.Halls.{Hall}
 use Rattle.fare_service.specs.Outcomes.{Gathered}
-use Rattle.fare_service.specs.Plain.{HasOneCut, IsWhole, IsReportOver}
+use Rattle.fare_service.specs.Plain.{HasOneCut, IsWholeGathering, IsReportOver}
 use Rattle.fare_service.specs.Printed.{report_of}
 use Rattle.fare_service.specs.Text.{report}
 use Rattle.fare_service.proofs.PlainEnds.{plain_ends}
@@ -111,7 +111,7 @@ own_elsewhere token shard shards (entry ∷ entries) here apart =
 abbrev pub AllHere : Gathered → Type 0
 AllHere outcome = (shard : ℕ) (book : Book) → slice_get outcome.books shard ≡ Some book → AreOfShard book.shard book.shards book.entries
 
-module _ (hall : Hall) (outcome : Gathered) (history : List Entry) (some : 0 < length outcome.books) (named : AllNamed outcome) (here : AllHere outcome) (cuts : All HasOneCut hall.uploads) (w : IsWhole hall outcome history) where
+module _ (hall : Hall) (outcome : Gathered) (history : List Entry) (some : 0 < length outcome.books) (named : AllNamed outcome) (here : AllHere outcome) (cuts : All HasOneCut hall.uploads) (w : IsWholeGathering hall outcome history) where
   -- the entries of a token in all books are those of the plain history
   pub own_all : (token : Token) → own token (all_entries outcome.books) ≡ own token history
   own_all token =

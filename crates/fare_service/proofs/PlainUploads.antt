@@ -20,7 +20,7 @@ use Rattle.shard_book.specs.Sums.{sums}
 use Rattle.shard_book.specs.Token.{bytes_of}
 use Rattle.fare_service.specs.Halls.{Hall}
 use Rattle.fare_service.specs.Outcomes.{Gathered}
-use Rattle.fare_service.specs.Plain.{AreTapsOf, AreTapsOfEach, HasOneCut, IsNamed, IsPlain, IsWhole, IsStatementOver, plain}
+use Rattle.fare_service.specs.Plain.{AreTapsOf, AreTapsOfEach, HasOneCut, IsNamed, IsPlain, IsWholeGathering, IsStatementOver, plain}
 use Rattle.fare_service.specs.Printed.{IsStatementOf}
 use Rattle.fare_service.specs.StatementText.{IsStatementText}
 use Rattle.fare_service.proofs.PlainBooks.{Stands, own_plain}
@@ -59,7 +59,7 @@ legal_plain fares files history is =
 abbrev pub AllNamed : Gathered → Type 0
 AllNamed outcome = (shard : ℕ) (book : Book) → slice_get outcome.books shard ≡ Some book → All IsNamed book.entries
 
-pub stands : (hall : Hall) (outcome : Gathered) (history : List Entry) → 0 < length outcome.books → AllNamed outcome → All HasOneCut hall.uploads → (w : IsWhole hall outcome history)
+pub stands : (hall : Hall) (outcome : Gathered) (history : List Entry) → 0 < length outcome.books → AllNamed outcome → All HasOneCut hall.uploads → (w : IsWholeGathering hall outcome history)
     → Stands hall w.works outcome w.plain_is.taps
 stands hall outcome history some named cuts w = record {
   gathered = w.gathered;
@@ -71,7 +71,7 @@ stands hall outcome history some named cuts w = record {
 }
 
 -- the entries of a token in the book of its shard are those of the plain history
-pub same_own : (hall : Hall) (outcome : Gathered) (history : List Entry) → 0 < length outcome.books → AllNamed outcome → All HasOneCut hall.uploads → IsWhole hall outcome history
+pub same_own : (hall : Hall) (outcome : Gathered) (history : List Entry) → 0 < length outcome.books → AllNamed outcome → All HasOneCut hall.uploads → IsWholeGathering hall outcome history
     → (token : Token) (book : Book) → slice_get outcome.books (shard_of_token (bytes_of token) (length outcome.books)) ≡ Some book → own token book.entries ≡ own token history
 same_own hall outcome history some named cuts w token book at =
     let S : ℕ → Type 0 = λ n. slice_get outcome.books (shard_of_token (bytes_of token) n) ≡ Some book in
@@ -89,7 +89,7 @@ statement_same fares xs ys token statement same is = record {
 }
 
 -- the text of a token's statement is that over the plain history
-pub same_statement : (hall : Hall) (outcome : Gathered) (history : List Entry) → 0 < length outcome.books → AllNamed outcome → All HasOneCut hall.uploads → IsWhole hall outcome history
+pub same_statement : (hall : Hall) (outcome : Gathered) (history : List Entry) → 0 < length outcome.books → AllNamed outcome → All HasOneCut hall.uploads → IsWholeGathering hall outcome history
     → (token : Token) (text : List ℕ) → IsStatementOf outcome token text ↔ IsStatementOver hall.table history token text
 same_statement hall outcome history some named cuts w token text = (there, back)
   where

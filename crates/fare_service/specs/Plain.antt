@@ -97,7 +97,7 @@ HasOneCut file =
 
 -- What was gathered is whole: no upload was cut or left undrawn, and no token has taps in two uploads. The history is the plain one of the
 -- service's uploads.
-pub record IsWhole (hall : Hall) (outcome : Gathered) (history : List Entry) : Type 0 where
+pub record IsWholeGathering (hall : Hall) (outcome : Gathered) (history : List Entry) : Type 0 where
   pub works : List (List Worked)
   pub gathered : IsGathered hall works outcome
   pub whole : All WasWhole outcome.ends

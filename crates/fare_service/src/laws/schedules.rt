@@ -13,7 +13,7 @@ ghost use Rattle.shard_book.specs.Token.{bytes_of};
 ghost use Rattle.shard_book.specs.Visits.{AreEntriesOf};
 ghost use Rattle.fare_service.specs.Gathering.{IsGathered};
 ghost use Rattle.fare_service.specs.Halls.{Hall};
-ghost use Rattle.fare_service.specs.Plain.{ArePlainEnds, AreTapsOf, HasOneCut, IsNamed, IsPlain, IsReportOver, IsStatementOver, IsWhole, WasWhole, token_of};
+ghost use Rattle.fare_service.specs.Plain.{ArePlainEnds, AreTapsOf, HasOneCut, IsNamed, IsPlain, IsReportOver, IsStatementOver, IsWholeGathering, WasWhole, token_of};
 ghost use Rattle.fare_service.specs.Printed.{IsStatementOf, report_of};
 ghost use Rattle.fare_service.specs.Shares.{Worked};
 
@@ -80,10 +80,10 @@ pub fn plain_history(uploads: &[Vec<u8>])
 /// Where no upload was cut or left undrawn and no token has taps in two uploads, the entries of each token are those of the plain history
 /// of the uploads, and so is the text of its statement: for every schedule, number of workers and number of shards. Reads each entry once.
 pub fn statements(uploads: &[Vec<u8>], outcome: &Outcome)
-    ensures entries { (hall : Hall) (history : List Entry) → hall.uploads ≡ map (λ upload. upload.items) uploads.now → IsWhole hall outcome.now history
+    ensures entries { (hall : Hall) (history : List Entry) → hall.uploads ≡ map (λ upload. upload.items) uploads.now → IsWholeGathering hall outcome.now history
         → (token : Token) (book : Book) → slice_get outcome.now.books (shard_of_token (bytes_of token) (length outcome.now.books)) ≡ Some book
         → own token book.entries ≡ own token history }
-    ensures texts { (hall : Hall) (history : List Entry) → hall.uploads ≡ map (λ upload. upload.items) uploads.now → IsWhole hall outcome.now history
+    ensures texts { (hall : Hall) (history : List Entry) → hall.uploads ≡ map (λ upload. upload.items) uploads.now → IsWholeGathering hall outcome.now history
         → (token : Token) (text : List ℕ) → IsStatementOf outcome.now token text ↔ IsStatementOver hall.table history token text }
 {
     let _ = outcome.shards();
@@ -101,7 +101,7 @@ pub fn ends(outcome: &Outcome)
 /// Where no upload was cut or left undrawn and no token has taps in two uploads, the report is that of the plain history of the uploads,
 /// each upload posted or refused as its bytes call for: for every schedule, number of workers and number of shards. Reads each entry once.
 pub fn report(uploads: &[Vec<u8>], outcome: &Outcome)
-    ensures { (hall : Hall) (history : List Entry) → hall.uploads ≡ map (λ upload. upload.items) uploads.now → IsWhole hall outcome.now history
+    ensures { (hall : Hall) (history : List Entry) → hall.uploads ≡ map (λ upload. upload.items) uploads.now → IsWholeGathering hall outcome.now history
         → IsReportOver hall.uploads history (report_of outcome.now) }
 {
     let _ = outcome.shards();
@@ -115,10 +115,10 @@ pub fn report(uploads: &[Vec<u8>], outcome: &Outcome)
 pub fn same_texts(uploads: &[Vec<u8>], one: &Outcome, other: &Outcome)
     ensures report { (first second : Hall) (history again : List Entry) → first.uploads ≡ map (λ upload. upload.items) uploads.now
         → second.uploads ≡ map (λ upload. upload.items) uploads.now → first.table ≡ second.table
-        → IsWhole first one.now history → IsWhole second other.now again → report_of one.now ≡ report_of other.now }
+        → IsWholeGathering first one.now history → IsWholeGathering second other.now again → report_of one.now ≡ report_of other.now }
     ensures statements { (first second : Hall) (history again : List Entry) → first.uploads ≡ map (λ upload. upload.items) uploads.now
         → second.uploads ≡ map (λ upload. upload.items) uploads.now → first.table ≡ second.table
-        → IsWhole first one.now history → IsWhole second other.now again
+        → IsWholeGathering first one.now history → IsWholeGathering second other.now again
         → (token : Token) (text : List ℕ) → IsStatementOf one.now token text ↔ IsStatementOf other.now token text }
 {
     plain_history(uploads);

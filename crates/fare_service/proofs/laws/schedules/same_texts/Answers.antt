@@ -3,13 +3,13 @@ use Rattle.fare_table.specs.Fares.{Fares}
 use Rattle.shard_book.specs.declared.entry.Entry.{Entry}
 use Rattle.fare_service.specs.Halls.{Hall}
 use Rattle.fare_service.specs.Outcomes.{Gathered}
-use Rattle.fare_service.specs.Plain.{IsPlain, IsReportOver, IsStatementOver, IsWhole}
+use Rattle.fare_service.specs.Plain.{IsPlain, IsReportOver, IsStatementOver, IsWholeGathering}
 use Rattle.fare_service.specs.Printed.{report_of}
 use Rattle.fare_service.proofs.PlainSame.{one_report}
 use Rattle.fare_service.proofs.laws.schedules.same_texts.Goals as goal
 
 -- the plain history, by the uploads' bytes and another name of the table
-plain_by : (hall : Hall) (files : List (List ℕ)) (table : Fares) (outcome : Gathered) (history : List Entry) → hall.uploads ≡ files → hall.table ≡ table → IsWhole hall outcome history → IsPlain table files history
+plain_by : (hall : Hall) (files : List (List ℕ)) (table : Fares) (outcome : Gathered) (history : List Entry) → hall.uploads ≡ files → hall.table ≡ table → IsWholeGathering hall outcome history → IsPlain table files history
 plain_by hall files table outcome history of_files of_table whole =
     let F : List (List ℕ) → Type 0 = λ fs. IsPlain hall.table fs history in
     let T : Fares → Type 0 = λ t. IsPlain t files history in
