@@ -18,3 +18,12 @@ pub mod StatementLines
 pub mod TapCounts
 pub mod UploadLemmas
 pub mod VisitLemmas
+pub mod PlainBooks
+pub mod PlainEnds
+pub mod PlainFields
+pub mod PlainLists
+pub mod PlainReplies
+pub mod PlainRuns
+pub mod PlainSame
+pub mod PlainSums
+pub mod PlainUploads

@@ -155,3 +155,25 @@ file_room file (batch ∷ batches) rest (front, back, is_batch, whole, is) =
     let then : 24 * batches_taps batches ≤ length back = file_room back batches rest is in
     let all : batches_taps (batch ∷ batches) ≡ length batch + batches_taps batches = sum_by-cons (λ (b : List Tap). length b) batch batches in
     omega (arith, ap length whole, length-append front back)
+
+below_tells : (a b : ℕ) → a < b → nat_lt a b ≡ true
+below_tells a b h = grind (arith, nat_tests)
+
+all_below : (shards : ℕ) (taps : List PlacedTap) → ((token : List ℕ) → shard_of_token token shards < shards) → filter (λ p. nat_lt (shard_of_token p.tap.token shards) shards) taps ≡ taps
+all_below shards [] within = refl
+all_below shards (p ∷ taps) within =
+    let below = filter (λ (q : PlacedTap). nat_lt (shard_of_token q.tap.token shards) shards) taps in
+    ap (λ b. cond b (p ∷ below) below) (below_tells (shard_of_token p.tap.token shards) shards (within p.tap.token)) ∙ ap (λ ps. p ∷ ps) (all_below shards taps within)
+
+-- where each token has one of the shards, the runs of batches have all their taps
+pub all_runs_taps : (shards place : ℕ) (batches : List (List Tap)) → ((token : List ℕ) → shard_of_token token shards < shards) → runs_taps (runs_of shards place batches) ≡ batches_taps batches
+all_runs_taps shards place [] within = refl
+all_runs_taps shards place (batch ∷ batches) within =
+    let first : runs_taps (runs_below shards shards (placed_from place batch)) ≡ length batch =
+    below_taps shards shards (placed_from place batch) ∙ ap length (all_below shards (placed_from place batch) within) ∙ length-placed place batch in
+    let rest : runs_taps (runs_of shards (place + length batch) batches) ≡ batches_taps batches = all_runs_taps shards (place + length batch) batches within in
+    let both : runs_taps (runs_below shards shards (placed_from place batch) ++ runs_of shards (place + length batch) batches)
+    ≡ runs_taps (runs_below shards shards (placed_from place batch)) + runs_taps (runs_of shards (place + length batch) batches) =
+    sum_by-append (λ (r : Run). length r.taps) (runs_below shards shards (placed_from place batch)) (runs_of shards (place + length batch) batches) in
+    let all : batches_taps (batch ∷ batches) ≡ length batch + batches_taps batches = sum_by-cons (λ (b : List Tap). length b) batch batches in
+    omega arith

@@ -16,3 +16,4 @@ pub mod Runs
 pub mod Shares
 pub mod StatementText
 pub mod Text
+pub mod Plain

@@ -1,5 +1,11 @@
-//! Laws of the definitions, each as the contract of a small function.
+//! Laws of the definitions and of what was gathered, each as the contract of a small function.
 
+#[cfg(test)]
+mod callers;
 mod places;
+mod schedules;
 
 pub use places::posting_order;
+pub use schedules::{
+    cuts, ended_whole, ends, names, plain_history, report, same_texts, statements,
+};

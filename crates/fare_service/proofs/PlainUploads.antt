@@ -1,0 +1,125 @@
+-- The plain history of uploads is there, and there is one; and what laws on it stand on.
+use Rattle.std.specs.Prelude.{ℕ, ◌≡◌, ◌↔◌, ◌<◌, List, [], ◌∷◌, ◌++◌, length, map, All, Some, slice_get}
+use Rattle.std.specs.List.{flat_map}
+use Rattle.std.proofs.Common.{refl, sym, ◌∙◌, ap, subst, arith, get_or, mod-lt}
+use Rattle.std.proofs.lemmas.List.Elements.{All-head, All-tail}
+use Rattle.std.proofs.lemmas.Option.{slice_get-get_or}
+use Rattle.account_rule.specs.Rules.{rules_of}
+use Rattle.account_rule.specs.Windows.{last_window}
+use Rattle.fare_table.specs.Fares.{Fares}
+use Rattle.tap_views.specs.Layout.{Tap}
+use Rattle.tap_views.specs.Shards.{shard_of_token}
+use Rattle.shard_book.specs.Book.{Book}
+use Rattle.shard_book.specs.declared.entry.Entry.{Entry}
+use Rattle.shard_book.specs.declared.statement.Statement.{Statement}
+use Rattle.shard_book.specs.declared.token.Token.{Token}
+use Rattle.shard_book.specs.Entry.{own, tap_of, taps_of}
+use Rattle.shard_book.specs.History.{IsLegal}
+use Rattle.shard_book.specs.Statement.{IsStatement}
+use Rattle.shard_book.specs.Sums.{sums}
+use Rattle.shard_book.specs.Token.{bytes_of}
+use Rattle.fare_service.specs.Halls.{Hall}
+use Rattle.fare_service.specs.Outcomes.{Gathered}
+use Rattle.fare_service.specs.Plain.{AreTapsOf, AreTapsOfEach, HasOneCut, IsNamed, IsPlain, IsWholeGathering, IsStatementOver, plain}
+use Rattle.fare_service.specs.Printed.{IsStatementOf}
+use Rattle.fare_service.specs.StatementText.{IsStatementText}
+use Rattle.fare_service.proofs.PlainBooks.{Stands, own_plain}
+use Rattle.fare_service.proofs.PlainReplies.{plain_legal}
+use Rattle.fare_service.proofs.PlainRuns.{AllZip-append}
+
+-- one upload more
+pub each_more : (files : List (List ℕ)) (taps : List (List Tap)) (file : List ℕ) (ts : List Tap) → AreTapsOfEach files taps → AreTapsOf file ts → AreTapsOfEach (files ++ file ∷ []) (taps ++ ts ∷ [])
+each_more files taps file ts each is = AllZip-append AreTapsOf files taps (file ∷ []) (ts ∷ []) each (is, tt)
+
+-- files with one cut have one list of taps each
+one_list : (files : List (List ℕ)) (taps others : List (List Tap)) → All HasOneCut files → AreTapsOfEach files taps → AreTapsOfEach files others → taps ≡ others
+one_list [] [] [] cuts each other = refl
+one_list [] [] (o ∷ others) cuts each other = absurd other
+one_list [] (t ∷ taps) others cuts each other = absurd each
+one_list (file ∷ files) [] others cuts each other = absurd each
+one_list (file ∷ files) (t ∷ taps) [] cuts each other = absurd other
+one_list (file ∷ files) (t ∷ taps) (o ∷ others) cuts each other =
+    let same = All-head HasOneCut file files cuts each.0.batches other.0.batches each.0.rest other.0.rest each.0.is_file other.0.is_file in
+    let here : t ≡ o = each.0.all ∙ ap (flat_map (λ (batch : List Tap). batch)) same.0 ∙ sym other.0.all in
+    ap (λ x. x ∷ taps) here ∙ ap (λ xs. o ∷ xs) (one_list files taps others (All-tail HasOneCut file files cuts) each.1 other.1)
+
+pub one_plain : (fares : Fares) (files : List (List ℕ)) (history other : List Entry) → All HasOneCut files → IsPlain fares files history → IsPlain fares files other → history ≡ other
+one_plain fares files history other cuts a b =
+    a.entries ∙ ap (λ taps. plain fares (flat_map (λ ts. ts) taps)) (one_list files a.taps b.taps cuts a.each b.each) ∙ sym b.entries
+
+pub some_plain : (fares : Fares) (files : List (List ℕ)) (taps : List (List Tap)) → AreTapsOfEach files taps → (history : List Entry) × IsPlain fares files history
+some_plain fares files taps each = (plain fares (flat_map (λ ts. ts) taps), record { taps = taps; each = each; entries = refl })
+
+pub legal_plain : (fares : Fares) (files : List (List ℕ)) (history : List Entry) → IsPlain fares files history → IsLegal fares history
+legal_plain fares files history is =
+    let L : List Entry → Type 0 = λ es. IsLegal fares es in
+    subst L (sym is.entries) (plain_legal fares (flat_map (λ ts. ts) is.taps))
+
+-- ---- statements
+abbrev pub AllNamed : Gathered → Type 0
+AllNamed outcome = (shard : ℕ) (book : Book) → slice_get outcome.books shard ≡ Some book → All IsNamed book.entries
+
+pub stands : (hall : Hall) (outcome : Gathered) (history : List Entry) → 0 < length outcome.books → AllNamed outcome → All HasOneCut hall.uploads → (w : IsWholeGathering hall outcome history)
+    → Stands hall w.works outcome w.plain_is.taps
+stands hall outcome history some named cuts w = record {
+  gathered = w.gathered;
+  some_shard = omega (arith, some, w.gathered.shards);
+  named = named;
+  whole = w.whole;
+  cuts = cuts;
+  each = w.plain_is.each;
+}
+
+-- the entries of a token in the book of its shard are those of the plain history
+pub same_own : (hall : Hall) (outcome : Gathered) (history : List Entry) → 0 < length outcome.books → AllNamed outcome → All HasOneCut hall.uploads → IsWholeGathering hall outcome history
+    → (token : Token) (book : Book) → slice_get outcome.books (shard_of_token (bytes_of token) (length outcome.books)) ≡ Some book → own token book.entries ≡ own token history
+same_own hall outcome history some named cuts w token book at =
+    let S : ℕ → Type 0 = λ n. slice_get outcome.books (shard_of_token (bytes_of token) n) ≡ Some book in
+    own_plain hall w.works outcome w.plain_is.taps (stands hall outcome history some named cuts w) w.apart token book (subst S w.gathered.shards at)
+    ∙ ap (own token) (sym w.plain_is.entries)
+
+-- a statement is a function of the token's own entries
+statement_same : (fares : Fares) (xs ys : List Entry) (token : Token) (statement : Statement) → own token xs ≡ own token ys → IsStatement fares xs token statement → IsStatement fares ys token statement
+unfolding taps_of
+statement_same fares xs ys token statement same is = record {
+  token = is.token;
+  lines = is.lines ∙ same;
+  totals = is.totals ∙ ap sums same;
+  window = is.window ∙ ap (λ es. last_window (rules_of fares (bytes_of token)) (map (tap_of fares) es)) same;
+}
+
+-- the text of a token's statement is that over the plain history
+pub same_statement : (hall : Hall) (outcome : Gathered) (history : List Entry) → 0 < length outcome.books → AllNamed outcome → All HasOneCut hall.uploads → IsWholeGathering hall outcome history
+    → (token : Token) (text : List ℕ) → IsStatementOf outcome token text ↔ IsStatementOver hall.table history token text
+same_statement hall outcome history some named cuts w token text = (there, back)
+  where
+    table_of : (shard : ℕ) (book : Book) → slice_get outcome.books shard ≡ Some book → book.table ≡ hall.table
+    table_of shard book at = (w.gathered.books shard book at).its_table
+
+    there : IsStatementOf outcome token text → IsStatementOver hall.table history token text
+    there s =
+        let table = table_of (shard_of_token (bytes_of token) (length outcome.books)) s.book s.at in
+        let F : Fares → Type 0 = λ f. IsStatement f s.book.entries token s.statement in
+        let T : Fares → Type 0 = λ f. IsStatementText f s.statement text in
+        record {
+          statement = s.statement;
+          of_history = statement_same hall.table s.book.entries history token s.statement (same_own hall outcome history some named cuts w token s.book s.at) (subst F table s.of_book);
+          shown = subst T table s.shown;
+        }
+
+    back : IsStatementOver hall.table history token text → IsStatementOf outcome token text
+    back s =
+        let shard = shard_of_token (bytes_of token) (length outcome.books) in
+        let empty : Book = record { table = hall.table; shard = 0; shards = 0; entries = [] } in
+        let at = slice_get-get_or outcome.books shard empty (mod-lt _ some) in
+        let book = get_or outcome.books shard empty in
+        let table = table_of shard book at in
+        let F : Fares → Type 0 = λ f. IsStatement f book.entries token s.statement in
+        let T : Fares → Type 0 = λ f. IsStatementText f s.statement text in
+        record {
+          book = book;
+          at = at;
+          statement = s.statement;
+          of_book = subst F (sym table) (statement_same hall.table history book.entries token s.statement (sym (same_own hall outcome history some named cuts w token book at)) s.of_history);
+          shown = subst T (sym table) s.shown;
+        }

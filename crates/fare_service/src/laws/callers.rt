@@ -1,0 +1,98 @@
+//! How a caller of `run` uses the laws.
+
+ghost use Rattle.std.specs.Prelude.{◌≡◌, All, IfOk, List, map};
+ghost use Rattle.shard_book.specs.declared.entry.Entry.{Entry};
+ghost use Rattle.fare_service.specs.Plain.{AreApart, IsPlain, IsReportOver, WasWhole};
+ghost use Rattle.fare_service.specs.Printed.{report_of};
+ghost use Rattle.fare_service.specs.Shares.{IsShareOf};
+
+use crate::{Gate, Outcome, RunFault, Service, Share, laws};
+use fare_table::FareTable;
+use std::alloc::Global;
+use std::marker::Sync;
+use std::process::Abort;
+use std::sync::Wait;
+use std::test::Fail;
+use std::thread::Threads;
+use tap_views::{TapFields, encode};
+
+const TABLE: &str = r#"modes = ["subway"]
+transfers = []
+default_class = "full"
+
+[classes.full]
+fare = 300
+rides = 12
+ceiling = 3500
+
+[[validators]]
+first = 1
+last = 9
+mode = "subway"
+"#;
+
+// A gate that keeps nobody waiting.
+#[derive(Drop)]
+struct Open;
+
+impl Gate for Open {
+    fn before(&self, _: u32) {}
+
+    fn after(&self, _: u32) {}
+}
+
+// Runs a service of these uploads, and knows of the outcome that its report is that of their plain history.
+fn run<R: Threads + Wait + Sync, G: Gate + Sync>(
+    service: Service,
+    uploads: &[Vec<u8>],
+    rt: &R,
+    alloc: Global,
+    share: Share,
+    workers: u32,
+    gate: &G,
+) -> Result<Outcome, RunFault>
+    requires share { IsShareOf service share }
+    requires uploads { service.uploads ≡ map (λ upload. upload.items) uploads.now }
+    ensures { IfOk result (λ outcome. All WasWhole outcome.ends → (history : List Entry) (plain : IsPlain service.entry.table service.entry.uploads history)
+        → AreApart plain.taps → IsReportOver service.entry.uploads history (report_of outcome)) }
+{
+    let outcome = service.run(rt, alloc, share, workers, gate)?;
+    laws::report(uploads, &outcome);
+    Ok(outcome)
+}
+
+fn upload(alloc: Global, last: u8) -> Result<Vec<u8>, Fail> {
+    let mut token = [0; 16];
+    token[15] = last;
+    let tap = TapFields {
+        token,
+        validator: 7,
+        moment: 1_709_917_200_000,
+    };
+    Ok(encode(alloc, &[tap])?)
+}
+
+fn report_text(alloc: Global, outcome: &Outcome) -> Result<Vec<u8>, Fail> {
+    let mut text = Vec::new(alloc);
+    outcome.write_report(alloc, &mut text)?;
+    Ok(text)
+}
+
+#[test]
+fn two_runs_have_one_report(rt: HostRuntime) -> Result<(), Fail> {
+    let alloc = rt.alloc();
+    let uploads = vec![in alloc; upload(alloc, 1)?, upload(alloc, 2)?]?;
+    let table = FareTable::read(alloc, TABLE.as_bytes())?;
+    let (service, share) = Service::open(&rt, alloc, table, 1, uploads.as_slice())?;
+    let one = run(service, uploads.as_slice(), &rt, alloc, share, 1, &Open)?;
+    let table = FareTable::read(alloc, TABLE.as_bytes())?;
+    let (service, share) = Service::open(&rt, alloc, table, 5, uploads.as_slice())?;
+    let other = run(service, uploads.as_slice(), &rt, alloc, share, 3, &Open)?;
+    assert!(rt; laws::ended_whole(&one) && laws::ended_whole(&other));
+    laws::same_texts(uploads.as_slice(), &one, &other);
+    assert_eq!(rt;
+        report_text(alloc, &one)?.as_slice(),
+        report_text(alloc, &other)?.as_slice()
+    );
+    Ok(())
+}

@@ -1,0 +1,153 @@
+//! Schedule independence: what was gathered against the plain history of the uploads.
+
+ghost use Rattle.std.specs.Prelude.{◌≡◌, ◌↔◌, ℕ, ◌<◌, List, All, Decides, Some, flat_map, map, length, slice_get};
+ghost use Rattle.fare_table.specs.Fares.{Fares};
+ghost use Rattle.tap_views.specs.Layout.{Tap};
+ghost use Rattle.tap_views.specs.Shards.{shard_of_token};
+ghost use Rattle.shard_book.specs.declared.entry.Entry.{Entry};
+ghost use Rattle.shard_book.specs.declared.token.Token.{Token};
+ghost use Rattle.shard_book.specs.Book.{AreOfShard, Book};
+ghost use Rattle.shard_book.specs.Entry.{own};
+ghost use Rattle.shard_book.specs.History.{IsLegal};
+ghost use Rattle.shard_book.specs.Token.{bytes_of};
+ghost use Rattle.shard_book.specs.Visits.{AreEntriesOf};
+ghost use Rattle.fare_service.specs.Gathering.{IsGathered};
+ghost use Rattle.fare_service.specs.Halls.{Hall};
+ghost use Rattle.fare_service.specs.Plain.{ArePlainEnds, AreTapsOf, HasOneCut, IsNamed, IsPlain, IsReportOver, IsStatementOver, IsWholeGathering, WasWhole, token_of};
+ghost use Rattle.fare_service.specs.Printed.{IsStatementOf, report_of};
+ghost use Rattle.fare_service.specs.Shares.{Worked};
+
+use crate::outcome::Outcome;
+use crate::upload_end::UploadEnd;
+use shard_book::laws::rising;
+use shard_book::{ShardBook, Token};
+use tap_views::laws::one_cut;
+
+fn name(token: Token)
+    ensures { token ≡ token_of (bytes_of token) }
+{}
+
+fn book_names(book: &ShardBook)
+    ensures named { All IsNamed book.now.entries }
+    ensures here { AreOfShard book.now.shard book.now.shards book.now.entries }
+{
+    for place in 0..book.len() {
+        name(book.entry(place).token);
+    }
+}
+
+/// The tokens of an outcome's books are those that their bytes name, and are of their book's shard. Reads each entry once.
+pub fn names(outcome: &Outcome)
+    ensures named { (shard : ℕ) (book : Book) → slice_get outcome.now.books shard ≡ Some book → All IsNamed book.entries }
+    ensures here { (shard : ℕ) (book : Book) → slice_get outcome.now.books shard ≡ Some book → AreOfShard book.shard book.shards book.entries }
+{
+    for shard in 0..outcome.shards() {
+        book_names(outcome.book(shard));
+    }
+}
+
+/// Each upload has one cut into batches at most.
+pub fn cuts(uploads: &[Vec<u8>])
+    ensures { All HasOneCut (map (λ upload. upload.items) uploads.now) }
+{
+    for upload in uploads {
+        one_cut(upload.as_slice());
+    }
+}
+
+fn taps_of(file: &[u8])
+    ensures taps { (taps : List Tap) × AreTapsOf file.now taps }
+    ensures bytes { All (λ byte. byte < 256) file.now }
+{
+    let _ = tap_views::batches(file);
+}
+
+/// Uploads have exactly one plain history under a table. It is legal, and its entries have the fields of the uploads' taps, in their order.
+pub fn plain_history(uploads: &[Vec<u8>])
+    ensures some { (fares : Fares) → (history : List Entry) × IsPlain fares (map (λ upload. upload.items) uploads.now) history }
+    ensures one { (fares : Fares) (history other : List Entry) → IsPlain fares (map (λ upload. upload.items) uploads.now) history
+        → IsPlain fares (map (λ upload. upload.items) uploads.now) other → history ≡ other }
+    ensures legal { (fares : Fares) (history : List Entry) → IsPlain fares (map (λ upload. upload.items) uploads.now) history → IsLegal fares history }
+    ensures fields { (fares : Fares) (history : List Entry) (plain : IsPlain fares (map (λ upload. upload.items) uploads.now) history)
+        → AreEntriesOf (flat_map (λ upload. upload) plain.taps) history }
+{
+    for upload in uploads {
+        taps_of(upload.as_slice());
+    }
+    cuts(uploads);
+}
+
+/// Where no upload was cut or left undrawn and no token has taps in two uploads, the entries of each token are those of the plain history
+/// of the uploads, and so is the text of its statement: for every schedule, number of workers and number of shards. Reads each entry once.
+pub fn statements(uploads: &[Vec<u8>], outcome: &Outcome)
+    ensures entries { (hall : Hall) (history : List Entry) → hall.uploads ≡ map (λ upload. upload.items) uploads.now → IsWholeGathering hall outcome.now history
+        → (token : Token) (book : Book) → slice_get outcome.now.books (shard_of_token (bytes_of token) (length outcome.now.books)) ≡ Some book
+        → own token book.entries ≡ own token history }
+    ensures texts { (hall : Hall) (history : List Entry) → hall.uploads ≡ map (λ upload. upload.items) uploads.now → IsWholeGathering hall outcome.now history
+        → (token : Token) (text : List ℕ) → IsStatementOf outcome.now token text ↔ IsStatementOver hall.table history token text }
+{
+    let _ = outcome.shards();
+    names(outcome);
+    cuts(uploads);
+}
+
+/// Where no upload was cut or left undrawn, each ends as its bytes call for.
+pub fn ends(outcome: &Outcome)
+    ensures { (hall : Hall) (works : List (List Worked)) → IsGathered hall works outcome.now → All WasWhole outcome.now.ends → ArePlainEnds hall.uploads outcome.now.ends }
+{
+    let _ = outcome.shards();
+}
+
+/// Where no upload was cut or left undrawn and no token has taps in two uploads, the report is that of the plain history of the uploads,
+/// each upload posted or refused as its bytes call for: for every schedule, number of workers and number of shards. Reads each entry once.
+pub fn report(uploads: &[Vec<u8>], outcome: &Outcome)
+    ensures { (hall : Hall) (history : List Entry) → hall.uploads ≡ map (λ upload. upload.items) uploads.now → IsWholeGathering hall outcome.now history
+        → IsReportOver hall.uploads history (report_of outcome.now) }
+{
+    let _ = outcome.shards();
+    names(outcome);
+    cuts(uploads);
+    rising();
+}
+
+/// Two outcomes over the same uploads and under one table have the same report and the same text of each statement, where no upload was cut
+/// or left undrawn and no token has taps in two uploads: whatever their schedules, workers and shards were. Reads each entry twice.
+pub fn same_texts(uploads: &[Vec<u8>], one: &Outcome, other: &Outcome)
+    ensures report { (first second : Hall) (history again : List Entry) → first.uploads ≡ map (λ upload. upload.items) uploads.now
+        → second.uploads ≡ map (λ upload. upload.items) uploads.now → first.table ≡ second.table
+        → IsWholeGathering first one.now history → IsWholeGathering second other.now again → report_of one.now ≡ report_of other.now }
+    ensures statements { (first second : Hall) (history again : List Entry) → first.uploads ≡ map (λ upload. upload.items) uploads.now
+        → second.uploads ≡ map (λ upload. upload.items) uploads.now → first.table ≡ second.table
+        → IsWholeGathering first one.now history → IsWholeGathering second other.now again
+        → (token : Token) (text : List ℕ) → IsStatementOf one.now token text ↔ IsStatementOf other.now token text }
+{
+    plain_history(uploads);
+    cuts(uploads);
+    report(uploads, one);
+    report(uploads, other);
+    statements(uploads, one);
+    statements(uploads, other);
+}
+
+fn was_whole(end: UploadEnd) -> bool
+    ensures { Decides result (WasWhole end) }
+{
+    match end {
+        UploadEnd::Posted { .. } => true,
+        UploadEnd::Refused { .. } => true,
+        UploadEnd::Cut { .. } => false,
+        UploadEnd::Undrawn => false,
+    }
+}
+
+/// Whether no upload was cut or left undrawn.
+pub fn ended_whole(outcome: &Outcome) -> bool
+    ensures { Decides result (All WasWhole outcome.now.ends) }
+{
+    for upload in 0..outcome.uploads() {
+        if !was_whole(outcome.upload(upload)) {
+            return false;
+        }
+    }
+    true
+}
