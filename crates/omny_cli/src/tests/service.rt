@@ -70,7 +70,7 @@ struct Uploads {
     first: Vec<u8>,
 }
 
-fn uploads(alloc: Global) -> Result<Uploads, Fail> {
+fn sample_uploads(alloc: Global) -> Result<Uploads, Fail> {
     let cut = format!(in alloc; "{OTHER}{CUT}")?;
     Ok(Uploads {
         four: hex::decode(alloc, FOUR)?,
@@ -108,7 +108,7 @@ fn run_line<R: Threads + Wait + RandomSource + Sync>(
 #[test]
 fn prints_reports_and_statements(rt: HostRuntime) -> Result<(), Fail> {
     let alloc = rt.alloc();
-    let uploads = uploads(alloc)?;
+    let uploads = sample_uploads(alloc)?;
     let files = names(&uploads);
     let posted = [HEAD, OTHER_POSTED, SUMS];
     let refused = [HEAD, OTHER_REFUSED, SUMS];
@@ -213,7 +213,7 @@ fn says_what_is_wrong_with_the_words(rt: HostRuntime) -> Result<(), Fail> {
 #[test]
 fn says_why_it_prints_no_report(rt: HostRuntime) -> Result<(), Fail> {
     let alloc = rt.alloc();
-    let uploads = uploads(alloc)?;
+    let uploads = sample_uploads(alloc)?;
     let files = names(&uploads);
     for (line, fault) in [
         ("--table none a", "fault: cannot read none\n"),
@@ -233,7 +233,7 @@ fn says_why_it_prints_no_report(rt: HostRuntime) -> Result<(), Fail> {
 #[test]
 fn tells_of_a_report_that_cannot_be_written(rt: HostRuntime) -> Result<(), Fail> {
     let alloc = rt.alloc();
-    let uploads = uploads(alloc)?;
+    let uploads = sample_uploads(alloc)?;
     let files = names(&uploads);
     let words = vec![in alloc;
         String::from_str(alloc, "omny_cli")?,
