@@ -1,4 +1,4 @@
-# make run     the main job on the example data, its text on the terminal
+# make run     the main job: two uploads of examples/ posted under the sample table, their report on the terminal
 # make test    everything that must pass: what must not compile, then the proofs, the must-fail edits, the tests and the stored runs
 #
 # Nothing but the toolchain (rt), make and bash is needed.

@@ -1,12 +1,18 @@
--- The fault lines, without their line feeds.
-use Rattle.std.specs.Prelude.{◌≡◌, ℕ, List, ◌++◌, codes}
+-- The fault lines, without their line feeds, and their statuses.
+use Rattle.std.specs.Prelude.{◌≡◌, ◌<◌, ℕ, List, ◌++◌, Option, Some, None, codes, if◌then◌else◌, is_ok, is_some}
+use Rattle.hex.specs.Hex.{decode_sized}
 use Rattle.fare_table.specs.Key.{key_name}
 use Rattle.fare_table.specs.declared.fault.TableFault.{TableFault}
 use Rattle.fare_table.specs.declared.fault.TableFault.TheVariants as table
+use Rattle.fare_service.specs.declared.faults.GatherFault.{GatherFault}
+use Rattle.fare_service.specs.declared.faults.GatherFault.TheVariants as gather
+use Rattle.fare_service.specs.declared.print_fault.PrintFault.{PrintFault}
+use Rattle.fare_service.specs.declared.print_fault.PrintFault.TheVariants as print
+use Rattle.omny_cli.specs.Options.{Asked}
 use Rattle.omny_cli.specs.declared.load.LoadFault.{LoadFault}
 use Rattle.omny_cli.specs.declared.load.LoadFault.TheVariants as load
 use Rattle.omny_cli.specs.declared.fault.Fault.{Fault}
-use Rattle.omny_cli.specs.declared.fault.Fault.TheVariants.{Unread, TooLong, Table, Write, NoMemory}
+use Rattle.omny_cli.specs.declared.fault.Fault.TheVariants.{Digits, NoTable, Unread, TooLong, Table, Uploads, Gather, Write, NoMemory}
 
 -- a fault of a table by its number, and the key where it has one
 abbrev pub table_text : TableFault → List ℕ
@@ -20,12 +26,33 @@ table_text table.Rider = codes "fault: table F7"
 table_text table.NoMemory = codes "fault: out of memory"
 table_text table.Zone = codes "fault: table F9"
 
+-- a run whose workers' shares were not gathered
+abbrev pub gather_text : GatherFault → List ℕ
+gather_text (gather.Missing shard held kept) = codes "fault: run U3 G1"
+gather_text (gather.Drawn held drawn) = codes "fault: run U3 G4"
+gather_text gather.NoMemory = codes "fault: out of memory"
+
 abbrev pub fault_text : Fault → List ℕ
+fault_text Digits = codes "fault: --token needs 32 hexadecimal digits"
+fault_text NoTable = codes "fault: --token needs --table"
 fault_text (Unread name) = codes "fault: cannot read " ++ name.now
 fault_text (TooLong name) = codes "fault: " ++ (name.now ++ codes " is too long")
 fault_text (Table fault) = table_text fault
+fault_text Uploads = codes "fault: too many uploads"
+fault_text (Gather fault) = gather_text fault
 fault_text Write = codes "fault: cannot write"
 fault_text NoMemory = codes "fault: out of memory"
+
+-- a mistake of the command line is told from all that may happen later
+abbrev pub status_of : Fault → ℕ
+status_of Digits = 2
+status_of NoTable = 2
+status_of _ = 1
+
+-- why a report or a statement was not printed
+abbrev pub printed_as : PrintFault → Fault
+printed_as print.Write = Write
+printed_as print.NoMemory = NoMemory
 
 -- the line of a file of this name that was not loaded
 abbrev pub load_text : List ℕ → LoadFault → List ℕ
@@ -40,3 +67,19 @@ IsLoadLine name line = (fault : LoadFault) × (line ≡ load_text name fault)
 -- the line tells of a table's text
 abbrev pub IsTableLine : List ℕ → Type 0
 IsTableLine line = (fault : TableFault) × (line ≡ table_text fault)
+
+-- What is wrong with the token that is asked for, if anything: first its digits, and then that there is no table.
+abbrev pub token_fault_of : Option (List ℕ) → Option (List ℕ) → Option Fault
+token_fault_of None table = None
+token_fault_of (Some digits) table =
+    if is_ok (decode_sized digits 16) then (if is_some table then None else Some NoTable) else Some Digits
+
+abbrev pub token_fault : Asked → Option Fault
+token_fault asked = token_fault_of asked.token asked.table
+
+-- why a run over so many uploads came to nothing: there were too many of them, or memory or the gathering failed
+abbrev pub IsRunFailure : ℕ → Fault → Type 0
+IsRunFailure uploads Uploads = 65535 < uploads
+IsRunFailure uploads NoMemory = Unit {0}
+IsRunFailure uploads (Gather fault) = Unit {0}
+IsRunFailure uploads _ = ⊥

@@ -1,9 +1,20 @@
--- A run of the program that lists.
-use Rattle.std.specs.Prelude.{◌≡◌, ℕ, Bool, List, [], ◌∷◌, map, Option, None, Some, Ok}
+-- What a run of the program does.
+use Rattle.std.specs.Prelude.{◌≡◌, ℕ, Bool, true, false, List, [], ◌∷◌, map, Option, None, Some, Ok, MatchBool}
 use Rattle.std.specs.Io.KnownBytes.{Appends}
+use Rattle.std.specs.List.{list_all}
+use Rattle.hex.specs.Hex.{decode_sized}
 use Rattle.fare_table.specs.Fares.{Fares}
 use Rattle.fare_table.specs.Rules.{rules_in}
 use Rattle.fare_table.specs.Zone.{IsZoneOf}
+use Rattle.shard_book.specs.Token.{bytes_of}
+use Rattle.shard_book.specs.declared.token.Token.{Token}
+use Rattle.fare_service.specs.declared.upload_end.UploadEnd.{UploadEnd}
+use Rattle.fare_service.specs.declared.upload_end.UploadEnd.TheVariants.{Posted}
+use Rattle.fare_service.specs.Gathering.{HasRun}
+use Rattle.fare_service.specs.Halls.{Hall, shards_of}
+use Rattle.fare_service.specs.Outcomes.{Gathered}
+use Rattle.fare_service.specs.Printed.{IsStatementOf, report_of}
+use Rattle.omny_cli.specs.Options.{Asked, lists}
 use Rattle.omny_cli.specs.Source.{Loaded, Tells, TellsOne}
 use Rattle.omny_cli.specs.Uploads.{IsListing}
 
@@ -29,15 +40,67 @@ pub record LoadsFiles (names : List (Option (List ℕ))) (told told' : Option (L
   pub bytes : map (λ load. load.bytes) loads ≡ files
   pub told_is : Tells told told' loads
 
--- The named table was loaded, then the named files, or standard input where none is named; what was
--- appended to the writer is the listing of these files, with the validators known that the table
+-- The named table was loaded, then the named files, or standard input where none is named.
+pub record Loads (table : Option (List ℕ)) (names : List (List ℕ)) (told told' : Option (List Loaded)) (fares : Option Fares) (files : List (List ℕ)) : Type 0 where
+  pub between : Option (List Loaded)
+  pub loads_table : LoadsTable table told between fares
+  pub loads_files : LoadsFiles (wanted names) between told' files
+
+-- Table and files were loaded; what was appended to the writer is the listing of these files, with the validators known that the table
 -- knows. It is clean where no file has a layout fault.
 pub record RunsListing (table : Option (List ℕ)) (names : List (List ℕ)) (told told' : Option (List Loaded)) (out out' : Option (List ℕ)) (clean : Bool) : Type 0 where
   pub fares : Option Fares
-  pub between : Option (List Loaded)
   pub files : List (List ℕ)
+  pub loads : Loads table names told told' fares files
   pub text : List ℕ
-  pub loads_table : LoadsTable table told between fares
-  pub loads_files : LoadsFiles (wanted names) between told' files
   pub listing : IsListing fares files text clean
   pub written : Appends out out' text
+
+-- A service of so many shards, over these files and by these fares, was run by so many workers to this outcome: each book's history is
+-- legal and is what the workers did to it.
+pub record IsRun (fares : Fares) (shards workers : ℕ) (files : List (List ℕ)) (outcome : Gathered) : Type 0 where
+  pub hall : Hall
+  pub its_table : hall.table ≡ fares
+  pub its_shards : shards_of hall ≡ shards
+  pub its_uploads : hall.uploads ≡ files
+  pub run : HasRun hall workers outcome
+
+abbrev pub is_posted : UploadEnd → Bool
+is_posted (Posted taps) = true
+is_posted _ = false
+
+-- each upload was posted whole
+abbrev pub are_posted : List UploadEnd → Bool
+are_posted = list_all is_posted
+
+-- the text is the report, or the statement of this token
+abbrev pub Shows : Option Token → Gathered → List ℕ → Type 0
+Shows None outcome text = text ≡ report_of outcome
+Shows (Some token) outcome text = IsStatementOf outcome token text
+
+-- the token that is asked for, if any, is that of these 32 hexadecimal digits
+abbrev pub IsTokenIn : Option (List ℕ) → Option Token → Type 0
+IsTokenIn None None = Unit {0}
+IsTokenIn (Some digits) (Some token) = decode_sized digits 16 ≡ Ok (bytes_of token)
+IsTokenIn _ _ = ⊥
+
+-- Table and files were loaded, and a service was run over them; what was appended to the writer is the report of its outcome, or the
+-- statement of the token that is asked for. It is well where each upload was posted whole.
+pub record RunsService (asked : Asked) (told told' : Option (List Loaded)) (out out' : Option (List ℕ)) (well : Bool) : Type 0 where
+  pub fares : Fares
+  pub files : List (List ℕ)
+  pub loads : Loads asked.table asked.files told told' (Some fares) files
+  pub outcome : Gathered
+  pub run : IsRun fares asked.shards asked.workers files outcome
+  pub token : Option Token
+  pub is_token : IsTokenIn asked.token token
+  pub text : List ℕ
+  pub shows : Shows token outcome text
+  pub written : Appends out out' text
+  pub is_well : well ≡ are_posted outcome.ends
+
+-- what is asked for was done
+abbrev pub Does : Asked → Option (List Loaded) → Option (List Loaded) → Option (List ℕ) → Option (List ℕ) → Bool → Type 0
+Does asked told told' out out' well = MatchBool (lists asked)
+    (RunsListing asked.table asked.files told told' out out' well)
+    (RunsService asked told told' out out' well)

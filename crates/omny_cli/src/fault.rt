@@ -1,20 +1,30 @@
 //! Why the program gives up, with the line that says so and the status.
-ghost use Rattle.std.specs.Prelude.{◌≡◌, Some, codes};
-ghost use Rattle.omny_cli.specs.Fault.{fault_text, load_text, table_text};
+ghost use Rattle.std.specs.Prelude.{◌≡◌, ◌≢◌, Some};
+ghost use Rattle.fare_service.specs.declared.faults.GatherFault.{GatherFault};
+ghost use Rattle.omny_cli.specs.Fault.{fault_text, gather_text, load_text, status_of, table_text};
 
 use crate::load::LoadFault;
+use fare_service::{GatherFault, OpenFault, PrintFault, RunFault};
 use fare_table::{NoMemory, TableFault};
 use std::fmt;
 
 /// Why the program gives up. Its `Display` is the fault line without its line feed.
 #[derive(Clone, Copy, Debug)]
 pub enum Fault<'a> {
+    /// The token is not 32 hexadecimal digits.
+    Digits,
+    /// A statement is asked for without a fare table.
+    NoTable,
     /// The file of this name could not be read.
     Unread(&'a str),
     /// The file of this name is longer than the limit.
     TooLong(&'a str),
     /// The fare table's text is no table.
     Table(TableFault),
+    /// There are more uploads than a service takes.
+    Uploads,
+    /// What the workers did was not gathered.
+    Gather(GatherFault),
     /// A write failed.
     Write,
     /// A growth of memory was refused.
@@ -24,7 +34,8 @@ pub enum Fault<'a> {
 impl<'a> Fault<'a> {
     /// Why the file of this name was not loaded.
     pub fn of_load(name: &'a str, fault: LoadFault) -> Fault<'a>
-        ensures { fault_text result ≡ load_text name.entry.now fault }
+        ensures line { fault_text result ≡ load_text name.entry.now fault }
+        ensures status { status_of result ≡ 1 }
     {
         match fault {
             LoadFault::Unread => Fault::Unread(name),
@@ -33,22 +44,47 @@ impl<'a> Fault<'a> {
         }
     }
 
+    /// Why the service was not opened, with a number of shards that it takes.
+    pub fn of_open(fault: OpenFault) -> Fault<'a>
+        requires { fault ≢ OpenFault.Shards }
+        ensures uploads { fault ≡ OpenFault.Uploads → result ≡ Fault.Uploads }
+        ensures memory { fault ≡ OpenFault.NoMemory → result ≡ Fault.NoMemory }
+    {
+        match fault {
+            OpenFault::Shards => unreachable!(),
+            OpenFault::Uploads => Fault::Uploads,
+            OpenFault::NoMemory => Fault::NoMemory,
+        }
+    }
+
+    /// Why the service was not run, with a number of workers that it takes.
+    pub fn of_run(fault: RunFault) -> Fault<'a>
+        requires { fault ≢ RunFault.Workers }
+        ensures memory { fault ≡ RunFault.NoMemory → result ≡ Fault.NoMemory }
+        ensures gather { (why : GatherFault) → fault ≡ RunFault.Gather why → result ≡ Fault.Gather why }
+    {
+        match fault {
+            RunFault::Workers => unreachable!(),
+            RunFault::NoMemory => Fault::NoMemory,
+            RunFault::Gather(fault) => Fault::Gather(fault),
+        }
+    }
+
     /// The status with which the program ends.
     pub fn status(&self) -> u8
-        ensures { result ≡ 1 }
+        ensures { result ≡ status_of self.now }
     {
         match self {
-            Fault::Unread(_) => 1,
-            Fault::TooLong(_) => 1,
-            Fault::Table(_) => 1,
-            Fault::Write => 1,
-            Fault::NoMemory => 1,
+            Fault::Digits | Fault::NoTable => 2,
+            _ => 1,
         }
     }
 }
 
 impl From<NoMemory> for Fault<'_> {
-    ghost from_gives = { λ _ fault. fault_text fault ≡ codes "fault: out of memory" };
+    ghost use Rattle.omny_cli.specs.declared.fault.Fault.TheVariants.{NoMemory as ForMemory};
+
+    ghost from_gives = { λ _ fault. fault ≡ ForMemory };
 
     fn from(_refused: NoMemory) -> Self {
         Fault::NoMemory
@@ -56,10 +92,23 @@ impl From<NoMemory> for Fault<'_> {
 }
 
 impl From<TableFault> for Fault<'_> {
-    ghost from_gives = { λ refused fault. fault_text fault ≡ table_text refused };
+    ghost from_gives = { λ refused fault. (fault_text fault ≡ table_text refused) × (status_of fault ≡ 1) };
 
     fn from(fault: TableFault) -> Self {
         Fault::Table(fault)
+    }
+}
+
+impl From<PrintFault> for Fault<'_> {
+    ghost use Rattle.omny_cli.specs.Fault.{printed_as};
+
+    ghost from_gives = { λ refused fault. fault ≡ printed_as refused };
+
+    fn from(fault: PrintFault) -> Self {
+        match fault {
+            PrintFault::Write => Fault::Write,
+            PrintFault::NoMemory => Fault::NoMemory,
+        }
     }
 }
 
@@ -85,14 +134,34 @@ impl fmt::Display for TableLine {
     }
 }
 
+// The line of a run that was not gathered.
+#[derive(Clone, Copy)]
+struct GatherLine(GatherFault);
+
+impl fmt::Display for GatherLine {
+    ghost output = { λ line. Some (gather_text line.0) };
+
+    fn fmt<W: fmt::Write>(&self, f: &mut fmt::Formatter<W>) -> fmt::Result {
+        f.write_str(match self.0 {
+            GatherFault::Missing { .. } => "fault: run U3 G1",
+            GatherFault::Drawn { .. } => "fault: run U3 G4",
+            GatherFault::NoMemory => "fault: out of memory",
+        })
+    }
+}
+
 impl fmt::Display for Fault<'_> {
     ghost output = { λ fault. Some (fault_text fault) };
 
     fn fmt<W: fmt::Write>(&self, f: &mut fmt::Formatter<W>) -> fmt::Result {
         match self {
+            Fault::Digits => f.write_str("fault: --token needs 32 hexadecimal digits"),
+            Fault::NoTable => f.write_str("fault: --token needs --table"),
             Fault::Unread(name) => write!(f, "fault: cannot read {name}"),
             Fault::TooLong(name) => write!(f, "fault: {name} is too long"),
             Fault::Table(fault) => TableLine(*fault).fmt(f),
+            Fault::Uploads => f.write_str("fault: too many uploads"),
+            Fault::Gather(fault) => GatherLine(*fault).fmt(f),
             Fault::Write => f.write_str("fault: cannot write"),
             Fault::NoMemory => f.write_str("fault: out of memory"),
         }

@@ -1,22 +1,28 @@
-//! The program: lists the taps of files, each as live, stale or unknown.
+//! The program: charges the taps of upload files by a fare table and prints what they cost, or lists
+//! them, each as live, stale or unknown.
 //!
 //! | module | what it does |
 //! |---|---|
-//! | `options` | the command line, as `clap` reads it |
+//! | `asked`, `options` | what a command line asks for; its words, as `clap` reads them |
 //! | `load`, `host` | whole files from a source; the system's files as one |
 //! | `listing` | the word of each tap, from those before it |
 //! | `lines`, `uploads` | the text of a listing |
+//! | `run` | a run of the service, and the text of its outcome |
+//! | `output` | texts written out whole |
 //! | `fault` | why the program gives up, and the line that says so |
 //! | `program` | the whole, over any source and any two writers |
 #![tactic(auto)]
 
+mod asked;
 mod fault;
 mod host;
 mod lines;
 mod listing;
 mod load;
 mod options;
+mod output;
 mod program;
+mod run;
 #[cfg(test)]
 mod tests;
 mod uploads;
@@ -37,6 +43,7 @@ fn main(rt: HostRuntime) -> ExitCode {
     let mut err = rt.stderr();
     let status = match words_of(&rt) {
         Ok(words) => main_over(
+            &rt,
             rt.alloc(),
             &words,
             &mut Host::new(&rt),

@@ -1,46 +1,53 @@
 //! The command line.
-ghost use Rattle.std.specs.Prelude.{◌≡◌, IfOk, [], codes, false, map, option_map, string_bytes, unwrap_or};
+ghost use Rattle.std.specs.Prelude.{◌≡◌, ◌≤◌, ◌^◌, ◌<◌, ℕ, IfOk, [], codes, false, map, option_map, string_bytes, unwrap_or};
 ghost use Rattle.clap.specs.Words.{FailsBy, all_of, app_of, fault_of, first_of, found_of, matches_of};
 ghost use Rattle.clap.specs.Words.{rows_of, rule_of};
-ghost use Rattle.omny_cli.specs.Options.{file_rule, files_named, list_rule, program, table_named, table_rule};
+ghost use Rattle.omny_cli.specs.Options.{HasNumber, asked_by, asked_of, file_rule, is_given, list_rule, number_of, program};
+ghost use Rattle.omny_cli.specs.Options.{shards_rule, table_rule, token_rule, workers_rule};
 
-use clap::{Arg, ArgAction, ArgMatches, Command, Error};
+use crate::asked::Options;
+use clap::{Arg, ArgAction, ArgMatches, Command, Error, value_parser};
 use std::alloc::{AllocError, Global};
 
-/// What the words ask for.
-#[derive(Drop)]
-pub struct Options<'a> {
-    /// The file of the fare table, where one is named.
-    pub table: Option<&'a str>,
-    /// The files to list, in order; none stands for standard input.
-    pub files: Vec<&'a str>,
-}
+const ABOUT: &str = "Charges the taps of upload files by a fare table, and reports what they cost.
 
-const ABOUT: &str = "Lists the taps of upload files, each as live, stale or unknown.
+With --table the uploads are posted to accounts, by worker threads, and the report is printed, or
+with --token the statement of one card. Without --table, or with --list, the taps are only listed,
+each as live, stale or unknown.";
 
-A tap is unknown where the fare table has no range for its validator. A known tap is live
-where it is later than every known tap of its token before it, and else stale.";
+const NOTES: &str = "What is printed:
+  report     how each upload ended, then the sums of all taps, of each validator, of each token
+  statement  each tap of the token, what it was and cost, the token's sums, its last window
+  listing    each tap: number of its file, its number there (both from 0), token, validator,
+             moment in milliseconds since 1970-01-01T00:00Z, and live (later than every known tap
+             of its token before it), stale (not so) or unknown (the table lacks its validator)
+Amounts are cents. Of a file with a layout fault the batches before it count, and its line tells
+the fault: `upload 1 refused 2 at 64 L5` in a report, `1 refused 64 L5` in a listing.
 
-const NOTES: &str =
-    "Each tap has a line: number of the file, number of the tap in it (both from 0), token,
-validator, moment in milliseconds since 1970-01-01T00:00Z, word. A file with a layout fault
-ends with the line `FILE refused OFFSET L1` (or L2 to L6).
-
-Example: omny_cli --table table.toml a.tap b.tap
+Examples:
+  omny_cli --table table.toml a.tap b.tap
+  omny_cli --table table.toml --token 000000000000000000000000000000a1 a.tap b.tap
+  omny_cli a.tap
 
 Exit status:
-  0  every file was listed whole
-  1  a file has a layout fault (the listing is whole), or reading, the table, writing or
-     memory failed (nothing is listed)
+  0  all is done, and every upload was posted, or listed without a fault
+  1  an upload was not, as the text tells; or a file, the table, the run, memory or writing
+     failed, as a line `fault: ..` on the standard error tells, and nothing is printed
   2  the command line is wrong";
 
-const TABLE_HELP: &str =
-    "The fare table, a TOML file of at most 67108864 bytes [default: every validator is known]";
+const TABLE_HELP: &str = "The fare table, a TOML file [default: every validator is known]";
 
-const LIST_HELP: &str = "List the taps, which is also what is done without this flag";
+const LIST_HELP: &str = "List the taps, also where there is a fare table";
+
+const WORKERS_HELP: &str = "How many threads post the uploads, 1 to 16";
+
+const SHARDS_HELP: &str = "Over how many shards the accounts are spread, 1 to 64";
+
+const TOKEN_HELP: &str =
+    "Print the statement of this token, 32 hexadecimal digits, in place of the report";
 
 const FILE_HELP: &str =
-    "Files of TAP1 and TAP2 batches, each of at most 67108864 bytes [default: standard input]";
+    "Uploads, files of TAP1 and TAP2 batches of at most 67108864 bytes [default: standard input]";
 
 fn table_arg<'a>(alloc: Global) -> Arg<'a>
     ensures rule { rule_of result ≡ table_rule }
@@ -63,6 +70,43 @@ fn list_arg<'a>(alloc: Global) -> Arg<'a>
         .help(LIST_HELP)
 }
 
+fn workers_arg<'a>(alloc: Global) -> Arg<'a>
+    ensures rule { rule_of result ≡ workers_rule }
+    ensures local { result.global ≡ false }
+{
+    Arg::new(alloc, "workers")
+        .long("workers")
+        .value_name("N")
+        .action(ArgAction::Set)
+        .value_parser(value_parser!(u32).range(1..=16))
+        .default_value("2")
+        .help(WORKERS_HELP)
+}
+
+fn shards_arg<'a>(alloc: Global) -> Arg<'a>
+    ensures rule { rule_of result ≡ shards_rule }
+    ensures local { result.global ≡ false }
+{
+    Arg::new(alloc, "shards")
+        .long("shards")
+        .value_name("N")
+        .action(ArgAction::Set)
+        .value_parser(value_parser!(u32).range(1..=64))
+        .default_value("8")
+        .help(SHARDS_HELP)
+}
+
+fn token_arg<'a>(alloc: Global) -> Arg<'a>
+    ensures rule { rule_of result ≡ token_rule }
+    ensures local { result.global ≡ false }
+{
+    Arg::new(alloc, "token")
+        .long("token")
+        .value_name("HEX")
+        .action(ArgAction::Set)
+        .help(TOKEN_HELP)
+}
+
 fn file_arg<'a>(alloc: Global) -> Arg<'a>
     ensures rule { rule_of result ≡ file_rule }
     ensures local { result.global ≡ false }
@@ -78,12 +122,18 @@ fn command<'a>(alloc: Global) -> Result<Command<'a>, AllocError>
 {
     let table = table_arg(alloc);
     let list = list_arg(alloc);
+    let workers = workers_arg(alloc);
+    let shards = shards_arg(alloc);
+    let token = token_arg(alloc);
     let file = file_arg(alloc);
     Command::new(alloc, "omny_cli")
         .about(ABOUT)
         .after_help(NOTES)
         .arg(table)?
         .arg(list)?
+        .arg(workers)?
+        .arg(shards)?
+        .arg(token)?
         .arg(file)
 }
 
@@ -91,6 +141,8 @@ fn command<'a>(alloc: Global) -> Result<Command<'a>, AllocError>
 fn matched<'a>(alloc: Global, words: &'a [String]) -> Result<ArgMatches<'a>, Error>
     ensures rows { IfOk result (λ matches. rows_of (found_of matches)
         ≡ matches_of program (map string_bytes words.entry.now)) }
+    ensures workers { IfOk result (λ matches. HasNumber 16 (codes "workers") (rows_of (found_of matches))) }
+    ensures shards { IfOk result (λ matches. HasNumber 64 (codes "shards") (rows_of (found_of matches))) }
     ensures kinds { FailsBy (fault_of program (map string_bytes words.entry.now)) result }
 {
     command(alloc)?.try_get_matches_from(words)
@@ -107,18 +159,39 @@ fn files_in<'a>(alloc: Global, matches: &ArgMatches<'a>) -> Result<Vec<&'a str>,
     }
 }
 
+// Whether a flag was given. The contract of `get_flag` says less of what it answers.
+fn flag_in<'a>(matches: &ArgMatches<'a>, name: &str) -> bool
+    ensures { result ≡ is_given name.now (rows_of (found_of matches.now)) }
+{
+    matches.get_one(name).unwrap_or(false)
+}
+
+// The number of an option that has a default.
+fn number_in<'a>(matches: &ArgMatches<'a>, name: &str) -> u32
+    requires { HasNumber 64 name.now (rows_of (found_of matches.now)) }
+    ensures number { result ≡ number_of name.now (rows_of (found_of matches.now)) }
+    ensures range { (most : ℕ) → most < 2 ^ 32 → HasNumber most name.now (rows_of (found_of matches.now))
+        → (1 ≤ result) × (result ≤ most) }
+{
+    match matches.get_one(name) {
+        Some(number) => number,
+        None => unreachable!(),
+    }
+}
+
 impl<'a> Options<'a> {
     /// What the words ask for; else clap's error, which may be a call for help.
     pub fn read(alloc: Global, words: &'a [String]) -> Result<Options<'a>, Error>
-        ensures table { IfOk result (λ options. option_map (λ f. f.now) options.table
-            ≡ table_named (map string_bytes words.entry.now)) }
-        ensures files { IfOk result (λ options. map (λ f. f.now) options.files.items
-            ≡ files_named (map string_bytes words.entry.now)) }
+        ensures asked { IfOk result (λ options. asked_of options ≡ asked_by (map string_bytes words.entry.now)) }
         ensures kinds { FailsBy (fault_of program (map string_bytes words.entry.now)) result }
     {
         let matches = matched(alloc, words)?;
         Ok(Options {
             table: matches.get_str("table"),
+            list: flag_in(&matches, "list"),
+            workers: number_in(&matches, "workers"),
+            shards: number_in(&matches, "shards"),
+            token: matches.get_str("token"),
             files: files_in(alloc, &matches)?,
         })
     }

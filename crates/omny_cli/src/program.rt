@@ -1,22 +1,32 @@
 //! The whole program, over any source of bytes and any two writers.
-ghost use Rattle.std.specs.Prelude.{MatchOption, codes, ◌≡◌, ◌≢◌, ◌≤◌, ◌⊎◌, ◌++◌, ◌∷◌, [], true, None, Some, IfErr, IfOk, OnErr, OnOk, map, option_map, string_bytes};
+ghost use Rattle.std.specs.Prelude.{MatchOption, codes, ◌≡◌, ◌≢◌, ◌≤◌, ◌⊎◌, ◌++◌, ◌∷◌, [], ℕ, List, true, false, None, Some, IfErr, IfOk, OnOk, is_some, map, option_map, string_bytes};
 ghost use Rattle.clap.specs.Words.{kind_of};
 ghost use Rattle.std.specs.Io.KnownBytes.{Appends, Keeps};
-ghost use Rattle.omny_cli.specs.Fault.{IsLoadLine, IsTableLine, fault_text};
-ghost use Rattle.omny_cli.specs.Options.{AsksForHelp, Parses, files_named, table_named};
-ghost use Rattle.omny_cli.specs.Program.{LoadsFiles, LoadsTable, RunsListing, wanted};
+ghost use Rattle.fare_service.specs.Outcomes.{Gathered};
+ghost use Rattle.omny_cli.specs.Fault.{IsLoadLine, IsTableLine, fault_text, status_of, token_fault};
+ghost use Rattle.omny_cli.specs.Options.{AsksForHelp, Parses, asked_by, asked_of};
+ghost use Rattle.omny_cli.specs.Program.{Does, IsRun, IsTokenIn, Loads, LoadsFiles, LoadsTable, Shows, are_posted, wanted};
 ghost use Rattle.omny_cli.specs.Source.{TellsOne};
+ghost use Rattle.omny_cli.specs.Uploads.{IsListing};
 
+use crate::asked::Options;
 use crate::fault::Fault;
 use crate::load::Source;
-use crate::options::Options;
+use crate::output::write_text;
+use crate::run::{are_posted, outcome_of, write_outcome};
 use crate::uploads::listing_text;
 use clap::Error;
 use clap::error::ErrorKind;
 use fare_table::{FareTable, NoMemory};
+use hex::FromHex;
+use shard_book::Token;
 use std::alloc::Global;
 use std::io;
 use std::io::Write;
+use std::marker::Sync;
+use std::random::RandomSource;
+use std::sync::Wait;
+use std::thread::Threads;
 
 /// What standard input is called in a fault line.
 const STANDARD_INPUT: &str = "standard input";
@@ -26,6 +36,7 @@ fn load_named<'a, S: Source>(source: &mut S, name: &'a str) -> Result<Vec<u8>, F
     ensures ok { IfOk result (λ bytes. TellsOne (S.loaded source.old) (S.loaded source.new)
         (Some name.entry.now) bytes.items) }
     ensures fault { IfErr result (λ fault. IsLoadLine name.entry.now (fault_text fault)) }
+    ensures status { IfErr result (λ fault. status_of fault ≡ 1) }
 {
     match source.load(name) {
         Ok(bytes) => Ok(bytes),
@@ -38,6 +49,7 @@ fn load_input<'a, S: Source>(source: &mut S) -> Result<Vec<u8>, Fault<'a>>
     ensures ok { IfOk result (λ bytes. TellsOne (S.loaded source.old) (S.loaded source.new)
         None bytes.items) }
     ensures fault { IfErr result (λ fault. IsLoadLine (codes "standard input") (fault_text fault)) }
+    ensures status { IfErr result (λ fault. status_of fault ≡ 1) }
 {
     match source.input() {
         Ok(bytes) => Ok(bytes),
@@ -55,6 +67,7 @@ fn load_table<'a, S: Source>(
         (S.loaded source.old) (S.loaded source.new) table) }
     ensures fault { IfErr result (λ fault. MatchOption name.entry ⊥ (λ n.
         IsLoadLine n.now (fault_text fault) ⊎ IsTableLine (fault_text fault))) }
+    ensures status { IfErr result (λ fault. status_of fault ≡ 1) }
 {
     let Some(name) = name else {
         return Ok(None);
@@ -70,8 +83,9 @@ fn load_files<'a, S: Source>(
     names: &[&'a str],
     source: &mut S,
 ) -> Result<Vec<Vec<u8>>, Fault<'a>>
-    ensures { IfOk result (λ files. LoadsFiles (wanted (map (λ n. n.now) names.now))
+    ensures ok { IfOk result (λ files. LoadsFiles (wanted (map (λ n. n.now) names.now))
         (S.loaded source.old) (S.loaded source.new) (map (λ f. f.items) files.items)) }
+    ensures status { IfErr result (λ fault. status_of fault ≡ 1) }
 {
     let mut files = Vec::new(alloc);
     if names.is_empty() {
@@ -93,45 +107,112 @@ fn push(files: &mut Vec<Vec<u8>>, bytes: Vec<u8>) -> Result<(), NoMemory>
     Ok(())
 }
 
-// Writes the whole text, through to where the writer brings it.
-fn write_text<'a, W: Write>(out: &mut W, text: &str) -> Result<(), Fault<'a>>
-    ensures fault { IfErr result (λ fault. fault ≡ Fault.Write) }
-    ensures text { OnOk result (Appends (W.contents out.old) (W.contents out.new) text.now) }
-{
-    if out.write_all(text.as_bytes()).is_err() {
-        return Err(Fault::Write);
-    }
-    match out.flush() {
-        Ok(()) => Ok(()),
-        Err(_) => Err(Fault::Write),
-    }
-}
-
-// Lists the files that the words name, and says whether none of them has a layout fault. All files
-// are loaded first, the table before them, and the whole text is made before it is written.
-fn list<'a, S: Source, W: Write>(
+// Table and files, the table first.
+fn load<'a, S: Source>(
     alloc: Global,
     options: &Options<'a>,
     source: &mut S,
-    out: &mut W,
-) -> Result<bool, Fault<'a>>
-    ensures ok { IfOk result (λ clean. RunsListing (option_map (λ f. f.now) options.now.table)
-        (map (λ f. f.now) options.now.files.items) (S.loaded source.old) (S.loaded source.new)
-        (W.contents out.old) (W.contents out.new) clean) }
-
-    // Only a write that fails leaves something of a text behind.
-    ensures fault { IfErr result (λ fault. fault ≢ Fault.Write → Keeps (W.contents out.old) (W.contents out.new)) }
+) -> Result<(Option<FareTable>, Vec<Vec<u8>>), Fault<'a>>
+    ensures loads { IfOk result (λ loaded. Loads (asked_of options.now).table (asked_of options.now).files
+        (S.loaded source.old) (S.loaded source.new) loaded.0 (map (λ f. f.items) loaded.1.items)) }
+    ensures status { IfErr result (λ fault. status_of fault ≡ 1) }
 {
     let table = load_table(alloc, options.table, source)?;
     let files = load_files(alloc, &options.files, source)?;
+    Ok((table, files))
+}
+
+// The token whose statement is asked for, if any: 32 hexadecimal digits, and a table to charge by.
+fn token_of<'a>(options: &Options<'a>) -> Result<Option<Token>, Fault<'a>>
+    ensures token { IfOk result (IsTokenIn (asked_of options.now).token) }
+    ensures right { OnOk result (token_fault (asked_of options.now) ≡ None) }
+    ensures fault { IfErr result (λ fault. token_fault (asked_of options.now) ≡ Some fault) }
+{
+    let Some(digits) = options.token else {
+        return Ok(None);
+    };
+    let Ok(token) = <[u8; 16] as FromHex>::from_hex(digits) else {
+        return Err(Fault::Digits);
+    };
+    if options.table.is_none() {
+        return Err(Fault::NoTable);
+    }
+    Ok(Some(Token::of(&token)))
+}
+
+// Lists the files, and says whether none of them has a layout fault. The whole text is made before
+// it is written.
+fn list<'a, W: Write>(
+    alloc: Global,
+    table: Option<FareTable>,
+    files: &[Vec<u8>],
+    out: &mut W,
+) -> Result<bool, Fault<'a>>
+    ensures ok { IfOk result (λ clean. (text : List ℕ) × IsListing table (map (λ f. f.items) files.now) text clean
+        × Appends (W.contents out.old) (W.contents out.new) text) }
+    ensures fault { IfErr result (λ fault. fault ≢ Fault.Write → Keeps (W.contents out.old) (W.contents out.new)) }
+    ensures status { IfErr result (λ fault. status_of fault ≡ 1) }
+{
     let (text, clean) = listing_text(alloc, table.as_ref(), &files)?;
     write_text(out, text.as_str())?;
     Ok(clean)
 }
 
+// Runs the service over the files, and writes the text that is asked for. Says whether each upload
+// was posted whole.
+fn charge<'a, R: Threads + Wait + RandomSource + Sync, W: Write>(
+    rt: &R,
+    alloc: Global,
+    options: &Options<'a>,
+    table: FareTable,
+    token: Option<Token>,
+    files: &[Vec<u8>],
+    out: &mut W,
+) -> Result<bool, Fault<'a>>
+    ensures ok { IfOk result (λ well. (outcome : Gathered) × (text : List ℕ)
+        × IsRun table options.now.shards options.now.workers (map (λ f. f.items) files.now) outcome
+        × Shows token outcome text × Appends (W.contents out.old) (W.contents out.new) text
+        × (well ≡ are_posted outcome.ends)) }
+    ensures fault { IfErr result (λ fault. fault ≢ Fault.Write → Keeps (W.contents out.old) (W.contents out.new)) }
+    ensures status { IfErr result (λ fault. status_of fault ≡ 1) }
+{
+    let outcome = outcome_of(rt, alloc, table, options, files)?;
+    write_outcome(alloc, &outcome, token, out)?;
+    Ok(are_posted(&outcome))
+}
+
+// Does what is asked for, and says whether each upload was listed without a layout fault, or posted
+// whole. The token is looked at first, then the table is loaded, then the files, and the whole text
+// is made before it is written.
+fn work<'a, R: Threads + Wait + RandomSource + Sync, S: Source, W: Write>(
+    rt: &R,
+    alloc: Global,
+    options: &Options<'a>,
+    source: &mut S,
+    out: &mut W,
+) -> Result<bool, Fault<'a>>
+    ensures ok { IfOk result (λ well. Does (asked_of options.now) (S.loaded source.old) (S.loaded source.new)
+        (W.contents out.old) (W.contents out.new) well) }
+    ensures right { OnOk result (token_fault (asked_of options.now) ≡ None) }
+
+    // Only a write that fails leaves something of a text behind.
+    ensures fault { IfErr result (λ fault. fault ≢ Fault.Write → Keeps (W.contents out.old) (W.contents out.new)) }
+
+    // Only a mistake in the token has the status of a wrong command line, and then nothing was loaded.
+    ensures mistake { IfErr result (λ fault. status_of fault ≡ 2 → token_fault (asked_of options.now) ≡ Some fault) }
+    ensures unloaded { IfErr result (λ fault. status_of fault ≡ 2 → S.loaded source.new ≡ S.loaded source.old) }
+{
+    let token = token_of(options)?;
+    let (table, files) = load(alloc, options, source)?;
+    match table {
+        Some(table) if !options.list => charge(rt, alloc, options, table, token, &files, out),
+        table => list(alloc, table, &files, out),
+    }
+}
+
 // Says why the program gives up, where that can be written, and gives the status.
 fn tell<E: Write>(err: &mut E, fault: &Fault) -> u8
-    ensures { result ≡ 1 }
+    ensures { result ≡ status_of fault.now }
 {
     let _ = write!(err, "{fault}\n");
     fault.status()
@@ -159,23 +240,30 @@ fn show<W: Write, E: Write>(error: &Error, out: &mut W, err: &mut E) -> u8
 }
 
 /// The whole program: reads the words, of which the first is the program's name, loads what they name
-/// from the source, and writes the text to `out`, and mistakes and faults to `err`. Gives the status:
-/// 0 where all is well, 1 after a fault, or a text that tells of one, 2 where the words are no
-/// command line.
-pub fn main_over<S: Source, W: Write, E: Write>(
+/// from the source, does what they ask for, and writes its text to `out`, and mistakes and faults to
+/// `err`. Gives the status: 0 where all is well, 1 after a fault, or a text that tells of one, 2 where
+/// the words are no command line.
+pub fn main_over<R: Threads + Wait + RandomSource + Sync, S: Source, W: Write, E: Write>(
+    rt: &R,
     alloc: Global,
     words: &[String],
     source: &mut S,
     out: &mut W,
     err: &mut E,
 ) -> u8
-    ensures listed { Parses (map string_bytes words.now) → result ≡ 0
-        → RunsListing (table_named (map string_bytes words.now)) (files_named (map string_bytes words.now))
-        (S.loaded source.old) (S.loaded source.new) (W.contents out.old) (W.contents out.new) true }
+    // With status 0 the whole text was written, and each upload is well.
+    ensures done { Parses (map string_bytes words.now) → result ≡ 0
+        → Does (asked_by (map string_bytes words.now)) (S.loaded source.old) (S.loaded source.new)
+        (W.contents out.old) (W.contents out.new) true }
 
     // Words that are no command line end well only where they ask for help.
     ensures helped { ¬ Parses (map string_bytes words.now) → result ≡ 0 → AsksForHelp (map string_bytes words.now) }
-    ensures mistaken { result ≡ 2 → ¬ Parses (map string_bytes words.now) }
+
+    // A mistake in the token is one of the command line.
+    ensures mistaken { result ≡ 2 → (¬ Parses (map string_bytes words.now))
+        ⊎ (is_some (token_fault (asked_by (map string_bytes words.now))) ≡ true) }
+    ensures token { Parses (map string_bytes words.now)
+        → is_some (token_fault (asked_by (map string_bytes words.now))) ≡ true → result ≢ 0 }
 
     // Nothing is said on `err` where all is well.
     ensures quiet { result ≡ 0 → Keeps (E.contents err.old) (E.contents err.new) }
@@ -189,7 +277,7 @@ pub fn main_over<S: Source, W: Write, E: Write>(
         Ok(options) => options,
         Err(error) => return show(&error, out, err),
     };
-    match list(alloc, &options, source, out) {
+    match work(rt, alloc, &options, source, out) {
         Ok(true) => 0,
         Ok(false) => 1,
         Err(fault) => tell(err, &fault),

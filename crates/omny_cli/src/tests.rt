@@ -8,8 +8,14 @@ use crate::program::main_over;
 use std::alloc::{AllocError, Global};
 use std::io;
 use std::io::{Read, Write};
+use std::marker::Sync;
+use std::random::RandomSource;
+use std::sync::Wait;
 use std::test::Fail;
+use std::thread::Threads;
 use tap_views::Batch;
+
+mod service;
 
 // Two taps of one token: validator 1000 at 2024-03-08T17:00Z, validator 2000 two hours later.
 const FIRST: &str =
@@ -178,7 +184,12 @@ struct Ran {
 }
 
 // Runs the program with these words after its name.
-fn run_on(alloc: Global, words: &[&str], shelf: &mut Shelf<'_>) -> Result<Ran, AllocError> {
+fn run_on<R: Threads + Wait + RandomSource + Sync>(
+    rt: &R,
+    alloc: Global,
+    words: &[&str],
+    shelf: &mut Shelf<'_>,
+) -> Result<Ran, AllocError> {
     let mut texts = Vec::new(alloc);
     texts.push(String::from_str(alloc, "omny_cli")?)?;
     for word in words {
@@ -186,7 +197,7 @@ fn run_on(alloc: Global, words: &[&str], shelf: &mut Shelf<'_>) -> Result<Ran, A
     }
     let mut out = Vec::new(alloc);
     let mut err = Vec::new(alloc);
-    let status = main_over(alloc, &texts, shelf, &mut out, &mut err);
+    let status = main_over(rt, alloc, &texts, shelf, &mut out, &mut err);
     Ok(Ran { status, out, err })
 }
 
@@ -213,7 +224,7 @@ fn lists_uploads_of_every_kind(rt: HostRuntime) -> Result<(), Fail> {
         let digits = format!(in alloc; "{}{}", digits[0], digits[1])?;
         let bytes = hex::decode(alloc, digits.as_str())?;
         let mut shelf = Shelf::new(alloc, &[], Content::Bytes(&bytes));
-        let ran = run_on(alloc, &[], &mut shelf)?;
+        let ran = run_on(&rt, alloc, &[], &mut shelf)?;
         let text = format!(in alloc; "{}{}{}", lines[0], lines[1], lines[2])?;
         assert_eq!(rt; ran.out.as_slice(), text.as_bytes(), "of {digits}");
         assert_eq!(rt; ran.status, status, "of {digits}");
@@ -224,7 +235,8 @@ fn lists_uploads_of_every_kind(rt: HostRuntime) -> Result<(), Fail> {
 }
 
 // Runs the program on a shelf of a table and three files.
-fn run_on_files<'a>(
+fn run_on_files<'a, R: Threads + Wait + RandomSource + Sync>(
+    rt: &R,
     alloc: Global,
     table: &'a [u8],
     first: &'a [u8],
@@ -239,6 +251,7 @@ fn run_on_files<'a>(
     ];
     let mut shelf = Shelf::new(alloc, files.as_slice(), Content::Fault(LoadFault::Unread));
     run_on(
+        rt,
         alloc,
         &["--table", "t", "b", "c", "--list", "a", "a"],
         &mut shelf,
@@ -251,7 +264,7 @@ fn lists_files_in_their_order_by_the_table(rt: HostRuntime) -> Result<(), Fail> 
     let first = hex::decode(alloc, FIRST)?;
     let other = hex::decode(alloc, OTHER)?;
     let cut = hex::decode(alloc, CUT)?;
-    let ran = run_on_files(alloc, SAMPLE.as_bytes(), &first, &other, &cut)?;
+    let ran = run_on_files(&rt, alloc, SAMPLE.as_bytes(), &first, &other, &cut)?;
     let text = "0 0 000000000000000000000000000000b2 9 1709917200010 unknown
 0 1 000000000000000000000000000000b2 1000 1709917200005 live
 1 refused 0 L5
@@ -307,13 +320,13 @@ fn says_why_it_gives_up(rt: HostRuntime) -> Result<(), Fail> {
     ];
     for (words, line) in rows {
         let mut shelf = Shelf::new(alloc, files.as_slice(), Content::Fault(LoadFault::Unread));
-        let ran = run_on(alloc, given_of(&words), &mut shelf)?;
+        let ran = run_on(&rt, alloc, given_of(&words), &mut shelf)?;
         assert_eq!(rt; ran.err.as_slice(), line.as_bytes(), "{line}");
         assert_eq!(rt; ran.status, 1, "{line}");
         assert_eq!(rt; ran.out.len(), 0, "{line}");
     }
     let mut shelf = Shelf::new(alloc, &[], Content::Fault(LoadFault::TooLong));
-    let ran = run_on(alloc, &[], &mut shelf)?;
+    let ran = run_on(&rt, alloc, &[], &mut shelf)?;
     assert_eq!(rt;
         ran.err.as_slice(),
         b"fault: standard input is too long\n".as_slice()
@@ -347,14 +360,14 @@ fn answers_the_command_line(rt: HostRuntime) -> Result<(), Fail> {
     ];
     for (words, status) in rows {
         let mut shelf = Shelf::new(alloc, &[], Content::Bytes(&[]));
-        let ran = run_on(alloc, words.as_slice(), &mut shelf)?;
+        let ran = run_on(&rt, alloc, words.as_slice(), &mut shelf)?;
         assert_eq!(rt; ran.status, status, "{words:?}");
         assert_eq!(rt; ran.out.is_empty(), status == 2, "{words:?}");
         assert_eq!(rt; ran.err.is_empty(), status == 0, "{words:?}");
         assert_eq!(rt; shelf.given.len(), 0, "{words:?}");
     }
     let mut shelf = Shelf::new(alloc, &[], Content::Bytes(&[]));
-    let ran = run_on(alloc, &["--help"], &mut shelf)?;
+    let ran = run_on(&rt, alloc, &["--help"], &mut shelf)?;
     let help = std::str::from_utf8(&ran.out).unwrap_or("");
     for part in [
         "Usage: omny_cli [OPTIONS] [FILE]...",
@@ -439,7 +452,7 @@ fn tells_of_a_write_that_fails(rt: HostRuntime) -> Result<(), Fail> {
     for room in 0..length + 1 {
         let mut shelf = Shelf::new(alloc, &[], Content::Bytes(&bytes));
         let mut err = Vec::new(alloc);
-        let status = main_over(alloc, &words, &mut shelf, &mut Full { room }, &mut err);
+        let status = main_over(&rt, alloc, &words, &mut shelf, &mut Full { room }, &mut err);
         let line = if room < length {
             b"fault: cannot write\n".as_slice()
         } else {
@@ -450,6 +463,7 @@ fn tells_of_a_write_that_fails(rt: HostRuntime) -> Result<(), Fail> {
     }
     let mut shelf = Shelf::new(alloc, &[], Content::Fault(LoadFault::Unread));
     let status = main_over(
+        &rt,
         alloc,
         &words,
         &mut shelf,

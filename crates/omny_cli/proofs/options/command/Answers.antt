@@ -11,4 +11,7 @@ returns c =
     let named = ap app_of_fields c.after_help.ensures ∙ ap app_of_fields c.about.ensures ∙ c.new.ensures.app in
     let one = c.in_ok-arg.ensures.shape c.table_arg-table.ensures.local ∙ ap₂ with_rule named c.table_arg-table.ensures.rule in
     let two = c.in_ok-arg-2.ensures.shape c.list_arg-list.ensures.local ∙ ap₂ with_rule one c.list_arg-list.ensures.rule in
-    IfOk-weaker c.arg-3.result _ _ (λ command adds. adds.shape c.file_arg-file.ensures.local ∙ ap₂ with_rule two c.file_arg-file.ensures.rule) c.arg-3.ensures
+    let three = c.in_ok-arg-3.ensures.shape c.workers_arg-workers.ensures.local ∙ ap₂ with_rule two c.workers_arg-workers.ensures.rule in
+    let four = c.in_ok-arg-4.ensures.shape c.shards_arg-shards.ensures.local ∙ ap₂ with_rule three c.shards_arg-shards.ensures.rule in
+    let five = c.in_ok-arg-5.ensures.shape c.token_arg-token.ensures.local ∙ ap₂ with_rule four c.token_arg-token.ensures.rule in
+    IfOk-weaker c.arg-6.result _ _ (λ command adds. adds.shape c.file_arg-file.ensures.local ∙ ap₂ with_rule five c.file_arg-file.ensures.rule) c.arg-6.ensures

@@ -16,8 +16,8 @@ loop-name-preserved g c =
     ap (map (λ f. f.items)) c.in_ok-push-2.ensures ∙ map-append (λ f. f.items) c.loop-name.files.items _ in
     rw (more, bytes) (loads_push _ _ _ _ _ _ _ c.loop-name.invariant c.in_ok-bytes-2.ensures.ok)
 
-pub returns : goal.returns
-returns g c =
+pub returns-clause-ok : goal.returns-clause-ok
+returns-clause-ok g c =
     let none : c.is_empty.result ≡ nat_eq (length c.args.names.now) 0 = c.is_empty.ensures in
     let some : 0 < length c.args.names.now = grind (arith, nat_tests) in
     let all : take c.loop-name.name-index c.args.names.now ≡ c.args.names.now = take_all _ c.args.names.now c.loop-name-test.false in

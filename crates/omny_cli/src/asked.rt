@@ -1,0 +1,23 @@
+//! What a command line asks for.
+ghost use Rattle.std.specs.Prelude.{◌≤◌};
+
+/// What the words ask for.
+#[derive(Drop)]
+pub struct Options<'a> {
+    /// The file of the fare table, where one is named.
+    pub table: Option<&'a str>,
+    /// Whether the taps are listed, also by a table.
+    pub list: bool,
+    /// How many workers post the uploads.
+    pub workers: u32,
+    /// Over how many shards the accounts are spread.
+    pub shards: u32,
+    /// The token whose statement is wanted, as it is written.
+    pub token: Option<&'a str>,
+    /// The uploads, in order; none stands for standard input.
+    pub files: Vec<&'a str>,
+    ghost some_worker: { 1 ≤ workers },
+    ghost few_workers: { workers ≤ 16 },
+    ghost some_shard: { 1 ≤ shards },
+    ghost few_shards: { shards ≤ 64 },
+}
