@@ -16,8 +16,8 @@ OUT = BENCH / "out"
 RUSTC = ["rustc", "--edition", "2024", "-C", "opt-level=3", "-C", "codegen-units=1", "-C", "panic=abort"]
 if os.uname().machine == "x86_64":
     RUSTC += ["-C", "target-cpu=x86-64-v2"]
-# In the peer rustc inlines std's hash; with all cases in one program it would call it, which costs them a third.
-INLINED = ["-C", "llvm-args=-inline-threshold=600"]
+# A higher limit for inlining: without it std's hash is a call in some cases of `rust`. The peer gains 3 of 100 instructions.
+RUSTC += ["-C", "llvm-args=-inline-threshold=600"]
 
 
 def build_rust(name):
@@ -27,8 +27,7 @@ def build_rust(name):
     sources = list(BENCH.rglob("*.rs"))
     newest = max(path.stat().st_mtime for path in sources)
     if not built.exists() or built.stat().st_mtime < newest:
-        more = INLINED if name == "rust" else []
-        subprocess.run(RUSTC + more + [str(BENCH / name / "main.rs"), "-o", str(built)], check=True)
+        subprocess.run(RUSTC + [str(BENCH / name / "main.rs"), "-o", str(built)], check=True)
     return str(built)
 
 
