@@ -16,7 +16,7 @@ OUT = BENCH / "out"
 RUSTC = ["rustc", "--edition", "2024", "-C", "opt-level=3", "-C", "codegen-units=1", "-C", "panic=abort"]
 if os.uname().machine == "x86_64":
     RUSTC += ["-C", "target-cpu=x86-64-v2"]
-# A higher limit for inlining: without it std's hash is a call in some cases of `rust`. The peer gains 3 of 100 instructions.
+# A higher limit for inlining: without it std's hash is a call in some cases. The peer gains 3 of 100 instructions.
 RUSTC += ["-C", "llvm-args=-inline-threshold=600"]
 
 
