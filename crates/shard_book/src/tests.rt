@@ -425,21 +425,26 @@ fn book_of_two<R: RandomSource>(alloc: Global, rt: &R, shard: u32) -> Result<Sha
     Ok(ShardBook::open(alloc, keys, table, shard, 2))
 }
 
-/// The counts that the books keep and the sums over their entries are the same.
-#[test]
-fn sums_of_two_shards(rt: HostRuntime) -> Result<(), Fail> {
-    let alloc = rt.alloc();
-    let mut even = book_of_two(alloc, &rt, 0)?;
+/// The books of two shards, with taps of three tokens.
+fn two_shards<R: RandomSource>(alloc: Global, rt: &R) -> Result<[ShardBook; 2], Fail> {
+    let mut even = book_of_two(alloc, rt, 0)?;
     let taps = [tap(0xb2, 9, START + 10), tap(0xb2, SUBWAY, START + 5)];
     posted(alloc, &mut even, &taps)?;
-    let mut odd = book_of_two(alloc, &rt, 1)?;
+    let mut odd = book_of_two(alloc, rt, 1)?;
     posted(alloc, &mut odd, &four_taps())?;
     posted(
         alloc,
         &mut odd,
         &[tap(0xc3, BUS, START), tap(0xa1, BUS, START)],
     )?;
-    let books = [even, odd];
+    Ok([even, odd])
+}
+
+/// The counts that the books keep and the sums over their entries are the same.
+#[test]
+fn sums_of_two_shards(rt: HostRuntime) -> Result<(), Fail> {
+    let alloc = rt.alloc();
+    let books = two_shards(alloc, &rt)?;
     let wanted = [
         (token(0xa1), [5, 2, 2, 0, 1, 0, 600]),
         (token(0xb2), [2, 1, 0, 0, 0, 1, 300]),
