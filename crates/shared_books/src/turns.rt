@@ -111,6 +111,7 @@ impl SharedBook {
         ensures given { (visit : List Entry) → book.value.entries ≡ joined (visits_of seat.old.me.0.marks) ++ visit → seat.new.me ≡ (view seat.old.me.0.opened false (seat.old.me.0.marks ++ mark true visit ∷ []) seat.old.me.0.met, []) }
     {
         let _ = self.table.shared.exchange(seat, 0, Some(book));
+        // Cleared while the turn is held: later, it would lose the wake of a visit that falls asleep in between.
         let slept = self.asleep.load(Ordering::SeqCst);
         if slept {
             self.asleep.store(false, Ordering::SeqCst);
