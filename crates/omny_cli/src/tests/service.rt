@@ -1,6 +1,6 @@
 //! Runs of the service by the whole program: reports, statements, and what keeps it from them.
 
-use super::{CUT, Content, FIRST, Full, OTHER, Ran, SAMPLE, Shelf, run_on};
+use super::{CUT, Content, FIRST, Full, OTHER, Ran, SAMPLE, Shelf, Stuck, run_on};
 use crate::load::LoadFault;
 use crate::program::main_over;
 use std::alloc::{AllocError, Global};
@@ -253,6 +253,15 @@ fn tells_of_a_report_that_cannot_be_written(rt: HostRuntime) -> Result<(), Fail>
         };
         assert_eq!(rt; err.as_slice(), line, "with room for {room}");
         assert_eq!(rt; status, u8::from(room < length), "with room for {room}");
+    }
+    let words = [words.as_slice(), &words[..1]];
+    for words in words {
+        let input = Content::Bytes(&uploads.first);
+        let mut shelf = Shelf::new(alloc, files.as_slice(), input);
+        let mut err = Vec::new(alloc);
+        let status = main_over(&rt, alloc, words, &mut shelf, &mut Stuck, &mut err);
+        assert_eq!(rt; err.as_slice(), b"fault: cannot write\n".as_slice());
+        assert_eq!(rt; status, 1);
     }
     Ok(())
 }
