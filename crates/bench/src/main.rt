@@ -9,6 +9,7 @@ mod input;
 mod step;
 mod table;
 mod timing;
+mod turn;
 mod views;
 
 use anyhow::bail;
@@ -16,7 +17,12 @@ use std::alloc::Global;
 use std::env;
 
 /// The cases, and the files that each takes.
-const CASES: &str = "views FILE..\ntable TABLE FILE\nstep TABLE FILE\nbook TABLE FILE..\n";
+const CASES: &str = "views FILE..
+table TABLE FILE
+step TABLE FILE
+book TABLE FILE..
+turn TABLE
+";
 
 fn main(rt: HostRuntime) -> anyhow::Result<()> {
     let mut words = Vec::new(rt.alloc());
@@ -25,6 +31,7 @@ fn main(rt: HostRuntime) -> anyhow::Result<()> {
     }
     match words.get(1) {
         None => Ok(print!(rt; "{CASES}")?),
+        Some(case) if case.as_str() == "turn" => turn::run(&rt, &words[2..]),
         Some(case) => run_case(&rt, case.as_str(), &words[2..]),
     }
 }

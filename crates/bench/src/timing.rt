@@ -11,23 +11,23 @@ pub struct Watch {
 }
 
 impl Watch {
-    pub fn start(rt: &HostRuntime) -> anyhow::Result<Watch> {
+    pub fn start<R: Clock + CpuClock>(rt: &R) -> anyhow::Result<Watch> {
         let used = rt.process_cpu_time()?;
         let start = Instant::now(rt)?;
         Ok(Watch { start, used })
     }
 
     /// Nanoseconds by the clock and by the processor since the start.
-    fn read(&self, rt: &HostRuntime) -> anyhow::Result<(u128, u128)> {
+    fn read<R: Clock + CpuClock>(&self, rt: &R) -> anyhow::Result<(u128, u128)> {
         let clock = self.start.elapsed(rt)?.as_nanos();
         let processor = rt.process_cpu_time()?.saturating_sub(self.used).as_nanos();
         Ok((clock, processor))
     }
 
     /// Prints the line of work that is done once.
-    pub fn stop(
+    pub fn stop<R: Clock + CpuClock + Print>(
         self,
-        rt: &HostRuntime,
+        rt: &R,
         name: &str,
         operations: u64,
         sum: u64,
@@ -39,8 +39,8 @@ impl Watch {
 }
 
 /// Does the work as often as `rounds` says, and prints the least times and the checksum.
-pub fn timed<F: Fn() -> anyhow::Result<u64>>(
-    rt: &HostRuntime,
+pub fn timed<R: Clock + CpuClock + Print, F: Fn() -> anyhow::Result<u64>>(
+    rt: &R,
     name: &str,
     rounds: u32,
     operations: u64,
