@@ -1,0 +1,44 @@
+//! The cases by their names.
+
+use crate::books::{cut_run, lists, posts, window_ends};
+use crate::service::{prints_report, prints_statement, run};
+use crate::stop::{Case, Stop};
+use crate::tables::{clock, clone, encodes, read};
+use std::alloc::Global;
+use std::marker::Sync;
+use std::random::RandomSource;
+use std::sync::Wait;
+use std::thread::Threads;
+
+/// The cases, in the order in which they are made.
+pub const CASES: [&str; 11] = [
+    "encode",
+    "read",
+    "try_clone",
+    "clock",
+    "ends",
+    "post",
+    "post_run",
+    "lists",
+    "run",
+    "report",
+    "statement",
+];
+
+/// Makes the case of this name.
+pub fn made<R: Threads + Wait + RandomSource + Sync>(rt: &R, alloc: Global, name: &str) -> Case {
+    match name {
+        "encode" => encodes(alloc),
+        "read" => read(alloc),
+        "try_clone" => clone(alloc),
+        "clock" => clock(alloc),
+        "ends" => window_ends(alloc),
+        "post" => posts(rt, alloc),
+        "post_run" => cut_run(rt, alloc),
+        "lists" => lists(rt, alloc),
+        "run" => run(rt, alloc),
+        "report" => prints_report(rt, alloc),
+        "statement" => prints_statement(rt, alloc),
+        _ => Err(Stop::Wrong("is no case")),
+    }
+}

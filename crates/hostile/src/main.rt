@@ -1,0 +1,61 @@
+//! Hostile use of the service's libraries: memory that is refused, uploads that are damaged, writers that fail.
+//!
+//! `hostile CASE` makes one case of calls that take memory, and looks at what a refused call left behind. Its status is 0
+//! where all was answered, 3 where memory was refused and all stood as promised, and 1 where something else was found,
+//! which it names. The script `hostile/refuse` runs each case with its first allocation refused, then with its second, and
+//! so on, until a run meets no refusal. Without a word the program makes every case with the memory that there is.
+#![tactic(auto)]
+
+mod books;
+mod cases;
+mod sample;
+mod service;
+mod stop;
+mod tables;
+#[cfg(test)]
+mod tests;
+
+use cases::{CASES, made};
+use std::env::Env;
+use std::process::ExitCode;
+use std::{env, io};
+use stop::{Case, Stop};
+
+/// The status of a case.
+fn status_of(case: &Case) -> u8 {
+    match case {
+        Ok(()) => 0,
+        Err(Stop::Refused) => 3,
+        Err(Stop::Wrong(_)) => 1,
+    }
+}
+
+fn word_of(case: &Case) -> &'static str {
+    match case {
+        Ok(()) => "answered",
+        Err(Stop::Refused) => "refused",
+        Err(Stop::Wrong(what)) => what,
+    }
+}
+
+/// The word after the program's name, if there is one.
+fn word<R: Env + AllocGlobal>(rt: &R) -> io::Result<Option<String>> {
+    let mut words = env::args(rt)?;
+    let _program = words.next();
+    Ok(words.next())
+}
+
+fn main(rt: HostRuntime) -> ExitCode {
+    let Ok(wanted) = word(&rt) else {
+        return ExitCode::from(3);
+    };
+    let mut status = 0;
+    for name in CASES {
+        if wanted.as_ref().is_none_or(|wanted| wanted.as_str() == name) {
+            let case = made(&rt, rt.alloc(), name);
+            let _printed = println!(rt; "{name} {}", word_of(&case));
+            status = status.max(status_of(&case));
+        }
+    }
+    ExitCode::from(status)
+}

@@ -1,0 +1,101 @@
+//! Why a case stops before all is answered.
+
+use fare_service::{GatherFault, OpenFault, PrintFault, RunFault};
+use fare_table::{NoMemory, TableFault};
+use std::alloc::{AllocError, AllocFailed};
+use tap_views::{EncodeFault, LayoutFault};
+
+/// Why a case stops before all is answered.
+#[derive(Clone, Copy, Debug, PartialEq, Eq)]
+pub enum Stop {
+    /// Memory was refused, and what stood then was as promised.
+    Refused,
+    /// What was found in place of what is promised.
+    Wrong(&'static str),
+}
+
+/// What became of a case: `Ok` where all was answered.
+pub type Case = Result<(), Stop>;
+
+/// Stops with `what` where the promise does not hold.
+pub fn promise(holds: bool, what: &'static str) -> Case {
+    if holds {
+        Ok(())
+    } else {
+        Err(Stop::Wrong(what))
+    }
+}
+
+/// How a case ends that went on after a refusal.
+pub fn ended(refused: bool) -> Case {
+    if refused { Err(Stop::Refused) } else { Ok(()) }
+}
+
+impl From<NoMemory> for Stop {
+    fn from(_: NoMemory) -> Self {
+        Stop::Refused
+    }
+}
+
+impl From<AllocError> for Stop {
+    fn from(_: AllocError) -> Self {
+        Stop::Refused
+    }
+}
+
+impl<T: Drop> From<AllocFailed<T>> for Stop {
+    fn from(_: AllocFailed<T>) -> Self {
+        Stop::Refused
+    }
+}
+
+impl From<LayoutFault> for Stop {
+    fn from(_: LayoutFault) -> Self {
+        Stop::Wrong("refuses a whole batch")
+    }
+}
+
+impl From<EncodeFault> for Stop {
+    fn from(fault: EncodeFault) -> Self {
+        match fault {
+            EncodeFault::NoMemory => Stop::Refused,
+            _ => Stop::Wrong("refuses taps that can be encoded"),
+        }
+    }
+}
+
+impl From<TableFault> for Stop {
+    fn from(fault: TableFault) -> Self {
+        match fault {
+            TableFault::NoMemory => Stop::Refused,
+            _ => Stop::Wrong("refuses a right table"),
+        }
+    }
+}
+
+impl From<OpenFault> for Stop {
+    fn from(fault: OpenFault) -> Self {
+        match fault {
+            OpenFault::NoMemory => Stop::Refused,
+            _ => Stop::Wrong("does not open"),
+        }
+    }
+}
+
+impl From<RunFault> for Stop {
+    fn from(fault: RunFault) -> Self {
+        match fault {
+            RunFault::NoMemory | RunFault::Gather(GatherFault::NoMemory) => Stop::Refused,
+            _ => Stop::Wrong("a run is refused for another cause than memory"),
+        }
+    }
+}
+
+impl From<PrintFault> for Stop {
+    fn from(fault: PrintFault) -> Self {
+        match fault {
+            PrintFault::NoMemory => Stop::Refused,
+            PrintFault::Write => Stop::Wrong("a writer that takes all is said to fail"),
+        }
+    }
+}
