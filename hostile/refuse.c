@@ -1,14 +1,21 @@
-/* Refuses one allocation of a program: the one whose number, from 1, stands in REFUSE. Loaded before the C library
- * (LD_PRELOAD), under a program that is built as ever. Where that allocation was reached, one byte goes to the file
- * descriptor named in REFUSE_TOLD, so that a script knows when a run has met none. REFUSE=0 refuses nothing.
+/* Makes a call of the C library fail under a program that is built as ever: loaded before the library (LD_PRELOAD), it takes the
+ * place of a few of its functions. Which call fails stands in the environment, each number from 1:
  *
- * The number counts the allocations of all threads; those of the C library for itself come through here too. */
+ *   REFUSE_ALLOCATION=N  the Nth allocation, of all threads, finds no memory
+ *   REFUSE_READ=N        the Nth read fails
+ *   REFUSE_THREAD=N      the Nth thread is not started
+ *   REFUSE_SEED=1        the system gives no random bytes
+ *   REFUSE_AFTER=N       the standard output takes N bytes, and then fails (N from 0)
+ *   REFUSE_TOLD=D        one byte goes to the file descriptor D where a call failed so
+ */
 #define _GNU_SOURCE
 #include <dlfcn.h>
 #include <errno.h>
+#include <pthread.h>
 #include <stdatomic.h>
 #include <stddef.h>
 #include <stdlib.h>
+#include <sys/syscall.h>
 #include <unistd.h>
 
 extern void *__libc_malloc(size_t);
@@ -16,22 +23,33 @@ extern void *__libc_calloc(size_t, size_t);
 extern void *__libc_realloc(void *, size_t);
 extern void *__libc_memalign(size_t, size_t);
 
-static atomic_long met;
-static long refused;
-static int told = -1;
+static atomic_long allocations, reads, threads, written;
+static long refused_allocation, refused_read, refused_thread, refused_seed, room = -1, told = -1;
+
+static long number_in(const char *name, long otherwise) {
+    const char *text = getenv(name);
+    return text ? atol(text) : otherwise;
+}
 
 __attribute__((constructor)) static void start(void) {
-    const char *number = getenv("REFUSE"), *descriptor = getenv("REFUSE_TOLD");
-    told = descriptor ? atoi(descriptor) : -1;
-    atomic_store(&met, 0);
-    refused = number ? atol(number) : 0;
+    refused_allocation = number_in("REFUSE_ALLOCATION", 0);
+    refused_read = number_in("REFUSE_READ", 0);
+    refused_thread = number_in("REFUSE_THREAD", 0);
+    refused_seed = number_in("REFUSE_SEED", 0);
+    room = number_in("REFUSE_AFTER", -1);
+    told = number_in("REFUSE_TOLD", -1);
+    atomic_store(&allocations, 0);
+}
+
+static long fails(int error) {
+    if (told >= 0) (void)!syscall(SYS_write, told, "!", 1);
+    errno = error;
+    return -1;
 }
 
 static int is_refused(void) {
-    if (refused == 0 || atomic_fetch_add(&met, 1) + 1 != refused) return 0;
-    if (told >= 0 && write(told, "!", 1) != 1) abort();
-    errno = ENOMEM;
-    return 1;
+    if (refused_allocation == 0 || atomic_fetch_add(&allocations, 1) + 1 != refused_allocation) return 0;
+    return fails(ENOMEM) != 0;
 }
 
 void *malloc(size_t size) { return is_refused() ? NULL : __libc_malloc(size); }
@@ -45,4 +63,31 @@ int posix_memalign(void **out, size_t alignment, size_t size) {
     if (block == NULL) return ENOMEM;
     *out = block;
     return 0;
+}
+
+ssize_t read(int descriptor, void *buffer, size_t size) {
+    if (refused_read != 0 && atomic_fetch_add(&reads, 1) + 1 == refused_read) return fails(EIO);
+    return syscall(SYS_read, descriptor, buffer, size);
+}
+
+ssize_t write(int descriptor, const void *buffer, size_t size) {
+    if (descriptor == 1 && room >= 0) {
+        size_t left = room - atomic_load(&written);
+        if (left == 0) return fails(ENOSPC);
+        if (size > left) size = left;
+        atomic_fetch_add(&written, size);
+    }
+    return syscall(SYS_write, descriptor, buffer, size);
+}
+
+int pthread_create(pthread_t *thread, const pthread_attr_t *attributes, void *(*start)(void *), void *argument) {
+    static int (*create)(pthread_t *, const pthread_attr_t *, void *(*)(void *), void *);
+    if (refused_thread != 0 && atomic_fetch_add(&threads, 1) + 1 == refused_thread) return fails(EAGAIN), EAGAIN;
+    if (create == NULL) *(void **)&create = dlsym(RTLD_NEXT, "pthread_create");
+    return create(thread, attributes, start, argument);
+}
+
+int getentropy(void *buffer, size_t size) {
+    if (refused_seed != 0) return (int)fails(EIO);
+    return syscall(SYS_getrandom, buffer, size, 0) == (long)size ? 0 : -1;
 }

@@ -4,10 +4,11 @@ use anyhow::bail;
 use byteorder::{BigEndian, ByteOrder};
 use std::alloc::Global;
 use std::fs;
+use std::rt::Files;
 use tap_views::{Batch, TapFields, TapView, batches};
 
 /// The bytes of each file.
-pub fn load(rt: &HostRuntime, names: &[String]) -> anyhow::Result<Vec<Vec<u8>>> {
+pub fn load<R: Files + AllocGlobal>(rt: &R, names: &[String]) -> anyhow::Result<Vec<Vec<u8>>> {
     let mut files = Vec::new(rt.alloc());
     for name in names {
         files.push(fs::read(rt, name.as_str())?)?;

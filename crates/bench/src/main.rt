@@ -5,7 +5,9 @@
 #![tactic(auto)]
 
 mod book;
+mod cuts;
 mod input;
+mod report;
 mod step;
 mod table;
 mod timing;
@@ -22,6 +24,7 @@ table TABLE FILE
 step TABLE FILE
 book TABLE FILE..
 turn TABLE
+report TABLE FILE..
 ";
 
 fn main(rt: HostRuntime) -> anyhow::Result<()> {
@@ -32,6 +35,7 @@ fn main(rt: HostRuntime) -> anyhow::Result<()> {
     match words.get(1) {
         None => Ok(print!(rt; "{CASES}")?),
         Some(case) if case.as_str() == "turn" => turn::run(&rt, &words[2..]),
+        Some(case) if case.as_str() == "report" => report::run(&rt, &words[2..]),
         Some(case) => run_case(&rt, case.as_str(), &words[2..]),
     }
 }

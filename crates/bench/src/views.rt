@@ -2,18 +2,22 @@
 
 ghost use Rattle.std.specs.Prelude.{◌<◌};
 
+use crate::cuts::cuts;
 use crate::input::{count, load};
 use crate::timing::timed;
 use byteorder::{BigEndian, ByteOrder};
 use tap_views::{Batch, Run, TapView};
 
-const SHARDS: u32 = 8;
+pub const SHARDS: u32 = 8;
 
 pub fn run(rt: &HostRuntime, names: &[String]) -> anyhow::Result<()> {
     let files = load(rt, names)?;
     let taps = count(&files);
     timed(rt, "views/pass", 9, taps, || Ok(pass(&files)))?;
-    timed(rt, "views/runs-of-8-shards", 5, taps, || Ok(runs(&files)))
+    timed(rt, "views/runs-of-8-shards", 5, taps, || Ok(runs(&files)))?;
+    timed(rt, "views/cut-into-8-shards", 5, taps, || {
+        cuts(rt.alloc(), &files)
+    })
 }
 
 #[inline(never)]
@@ -79,7 +83,7 @@ fn run_sum(before: u64, batch: &Batch<'_>, shard: u32) -> u64
     taps_sum(before, &batch.run_of(shard, SHARDS))
 }
 
-fn taps_sum(before: u64, run: &Run<'_>) -> u64 {
+pub fn taps_sum(before: u64, run: &Run<'_>) -> u64 {
     let mut sum = before;
     for tap in run.taps() {
         sum = sum

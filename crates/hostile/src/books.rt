@@ -180,8 +180,13 @@ pub fn lists<R: RandomSource>(rt: &R, alloc: Global) -> Case {
 fn listed(alloc: Global, book: &ShardBook) -> Case {
     let tokens = book.tokens(alloc)?;
     promise(tokens.len() == 40, "another number of tokens")?;
-    for (last, token) in tokens.iter().enumerate() {
-        promise(*token == Token::of(&bytes_of(last as u8)), "another token")?;
+    for last in 0..40u8 {
+        let wanted = Token::of(&bytes_of(last));
+        let listed = tokens.get(usize::from(last));
+        promise(
+            listed.is_some_and(|token| *token == wanted),
+            "another token",
+        )?;
     }
     let validators = book.by_validator(alloc)?;
     promise(validators.len() == 1, "another number of validators")?;
