@@ -160,21 +160,18 @@ pub fn lists<R: RandomSource>(rt: &R, alloc: Global) -> Case {
     let mut book = book(rt, alloc)?;
     let mut out = Replies::new(alloc);
     let taps = forty_taps(alloc)?;
-    promise(
-        post(alloc, &mut book, &taps, &mut out)? == RunEnd::Whole,
-        "a run is cut in its set-up",
-    )?;
-    let mut refused = false;
-    for _ in 0..2 {
-        let listed = listed(alloc, &book);
-        refused = refused || listed == Err(Stop::Refused);
-        if let Err(Stop::Wrong(_)) = listed {
-            return listed;
-        }
-        has_rides(&book, 40)?;
+    if post(alloc, &mut book, &taps, &mut out)? != RunEnd::Whole {
+        return Err(Stop::Refused);
     }
-    listed(alloc, &book)?;
-    ended(refused)
+    let listed_first = listed(alloc, &book);
+    has_rides(&book, 40)?;
+    match listed_first {
+        Err(Stop::Refused) => {
+            listed(alloc, &book)?;
+            ended(true)
+        }
+        answered => answered,
+    }
 }
 
 fn listed(alloc: Global, book: &ShardBook) -> Case {
