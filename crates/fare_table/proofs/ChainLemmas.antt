@@ -157,3 +157,22 @@ halved n firsts base size d rising split more inside false is = record {
 pub split-half : (n : ℕ) (firsts : List ℕ) (base size : ℕ) (d : ℕ) → is_rising firsts ≡ true → IsSplit n firsts base size → 1 < size → base + size ≤ length firsts
     → IsSplit n firsts (base + (if nat_le (get_or firsts (base + size / 2) d) n then size / 2 else 0)) (size - size / 2)
 split-half n firsts base size d rising split more inside = halved n firsts base size d rising split more inside (nat_le (get_or firsts (base + size / 2) d) n) refl
+
+-- where a number is not above `n`, none before it is
+pub begun-before : (n : ℕ) (firsts : List ℕ) (place : ℕ) → is_rising firsts ≡ true → 0 < place → place ≤ length firsts
+    → nat_le (get_or firsts (place - 1) 0) n ≡ true → AllWithin (λ first. nat_le first n ≡ true) firsts 0 place
+begun-before n firsts place rising some inside last = λ k e low high.
+    let same : get_or firsts (place - 1) 0 ≡ get_or firsts (place - 1) e = get_or_default firsts (place - 1) 0 e (omega arith) in
+    let here : nat_le (get_or firsts (place - 1) e) n ≡ true = rw (← same) last in
+    parted n firsts rising k (place - 1) e (omega arith) (omega arith) here
+
+-- where a number is above `n`, all from it on are
+pub later-from : (n : ℕ) (firsts : List ℕ) (place : ℕ) → is_rising firsts ≡ true
+    → nat_le (get_or firsts place 0) n ≡ false → AllWithin (λ first. nat_le first n ≡ false) firsts place (length firsts)
+later-from n firsts place rising first = λ k e low high.
+    let same : get_or firsts place 0 ≡ get_or firsts place e = get_or_default firsts place 0 e (omega arith) in
+    let here : nat_le (get_or firsts place e) n ≡ false = rw (← same) first in
+    elim (cases_Bool (nat_le (get_or firsts k e) n)) [
+      | inl begun ↦ absurd (false≢true (sym here ∙ parted n firsts rising place k e low high begun))
+      | inr later ↦ later
+    ]

@@ -8,6 +8,7 @@
 mod classes;
 mod clock;
 mod fault;
+mod guesses;
 pub mod laws;
 mod members;
 mod mode;

@@ -1,6 +1,6 @@
 //! The key `validators`: ranges of validators and their modes.
-ghost use Rattle.std.specs.Prelude.{◌≡◌, ◌<◌, ◌≤◌, [], true, if◌then◌else◌, IfOk, length, nat_le, map, option_copied, option_map, string_bytes};
-ghost use Rattle.std.specs.List.{list_any};
+ghost use Rattle.std.specs.Prelude.{◌≡◌, ◌<◌, ◌≤◌, [], true, if◌then◌else◌, IfOk, length, nat_le, map, option_copied, option_map, string_bytes, IsTrue, false};
+ghost use Rattle.std.specs.List.{AllWithin, list_any};
 ghost use Rattle.toml.specs.View.{view, array_view, table_view};
 ghost use Rattle.fare_table.specs.Fares.{range_at};
 ghost use Rattle.fare_table.specs.Outcome.{Answers};
@@ -8,6 +8,7 @@ ghost use Rattle.fare_table.specs.Validators.{is_chain, is_rising, are_modes_bel
 ghost use Rattle.fare_table.specs.Validators as spec;
 
 use crate::fault::{Key, NoMemory, TableFault};
+use crate::guesses::Guesses;
 use crate::members::{are_tables, array_at, number_at, text_at};
 use crate::modes::mode_named;
 use std::alloc::Global;
@@ -29,8 +30,10 @@ pub struct Span {
 #[derive(Drop)]
 pub struct Ranges {
     ranges: Vec<(u32, Span)>,
-    // the first numbers again, side by side, so that a search by halves touches little memory
+    // the first numbers again, side by side, so that a search touches little memory
     firsts: Vec<u32>,
+    // where to look first: a table has hundreds of ranges, and a search by halves costs a tap ten steps
+    guesses: Guesses,
 }
 
 impl Model for Ranges {
@@ -55,26 +58,37 @@ impl Ranges {
         requires { is_chain ranges.entries ≡ true }
         ensures { IfOk result (λ r. r ≡ ranges.entries) }
     {
-        let firsts = ranges.keys().copied().collect(alloc)?;
+        let firsts: Vec<u32> = ranges.keys().copied().collect(alloc)?;
+        let guesses = Guesses::new(alloc, &firsts)?;
         let ranges = ranges.into_iter().collect(alloc)?;
-        Ok(Ranges { ranges, firsts })
+        Ok(Ranges {
+            ranges,
+            firsts,
+            guesses,
+        })
     }
 
     /// The rest of the range of a number.
     pub fn at(&self, number: u32) -> Option<Span>
         ensures { result ≡ option_map (λ range. range.1) (range_at self.now number) }
     {
-        let (_, span) = range_at(&self.ranges, &self.firsts, number)?;
+        let guess = self.guesses.at(number);
+        let (_, span) = range_at(&self.ranges, &self.firsts, guess, number)?;
         Some(*span)
     }
 }
 
 #[tactic(auto, using(crate::proofs::ChainLemmas::found))]
-fn range_at<'a>(ranges: &'a [(u32, Span)], firsts: &[u32], number: u32) -> Option<&'a (u32, Span)>
+fn range_at<'a>(
+    ranges: &'a [(u32, Span)],
+    firsts: &[u32],
+    guess: usize,
+    number: u32,
+) -> Option<&'a (u32, Span)>
     requires { AreSearchable ranges.now firsts.now }
     ensures { option_copied result ≡ range_at ranges.now number }
 {
-    let range = last_begun(ranges, firsts, number)?;
+    let range = last_begun(ranges, firsts, guess, number)?;
     if number <= range.1.last {
         Some(range)
     } else {
@@ -83,17 +97,79 @@ fn range_at<'a>(ranges: &'a [(u32, Span)], firsts: &[u32], number: u32) -> Optio
 }
 
 // The last range that begins at the number or before it.
-fn last_begun<'a>(ranges: &'a [(u32, Span)], firsts: &[u32], number: u32) -> Option<&'a (u32, Span)>
+fn last_begun<'a>(
+    ranges: &'a [(u32, Span)],
+    firsts: &[u32],
+    guess: usize,
+    number: u32,
+) -> Option<&'a (u32, Span)>
     requires { AreSearchable ranges.now firsts.now }
     ensures { option_copied result ≡ last_begun number ranges.now }
 {
-    ranges[..begun(firsts, number)].last()
+    ranges[..begun(firsts, guess, number)].last()
 }
 
-// How many of the first numbers are not above the number, found by halves. Each half is taken or
-// left by a mask and not by a branch, since a processor that guesses wrongly at every second step
-// makes the search three times as slow.
-fn begun(firsts: &[u32], number: u32) -> usize
+// How many of the first numbers are not above the number: as many as was guessed or one more, where that is right.
+fn begun(firsts: &[u32], guess: usize, number: u32) -> usize
+    requires { is_rising firsts.now ≡ true }
+    ensures bound { result ≤ length firsts.now }
+    ensures split { IsSplit number firsts.now result 0 }
+{
+    let near = near_guess(firsts, guess, number);
+    if parts(firsts, near, number) {
+        near
+    } else {
+        begun_by_halves(firsts, number)
+    }
+}
+
+// The place that was guessed, or the next one where the first number there is not above the number.
+fn near_guess(firsts: &[u32], guess: usize, number: u32) -> usize
+    ensures { result ≤ length firsts.now }
+{
+    if guess < firsts.len() && firsts[guess] <= number {
+        guess + 1
+    } else {
+        guess.min(firsts.len())
+    }
+}
+
+// Whether the first numbers before the place are not above the number, and the others are.
+fn parts(firsts: &[u32], place: usize, number: u32) -> bool
+    requires rising { is_rising firsts.now ≡ true }
+    requires inside { place ≤ length firsts.now }
+    ensures { IsTrue result → IsSplit number firsts.now place 0 }
+{
+    is_begun_before(firsts, place, number) && is_later_from(firsts, place, number)
+}
+
+// Whether the numbers before the place are not above the number, as the last of them says.
+fn is_begun_before(firsts: &[u32], place: usize, number: u32) -> bool
+    requires rising { is_rising firsts.now ≡ true }
+    requires inside { place ≤ length firsts.now }
+    ensures { IsTrue result → AllWithin (λ first. nat_le first number ≡ true) firsts.now 0 place }
+{
+    if place == 0 {
+        return true;
+    }
+    firsts[place - 1] <= number
+}
+
+// Whether the numbers from the place on are above the number, as the first of them says.
+fn is_later_from(firsts: &[u32], place: usize, number: u32) -> bool
+    requires rising { is_rising firsts.now ≡ true }
+    requires inside { place ≤ length firsts.now }
+    ensures { IsTrue result → AllWithin (λ first. nat_le first number ≡ false) firsts.now place (length firsts.now) }
+{
+    if place == firsts.len() {
+        return true;
+    }
+    firsts[place] > number
+}
+
+// The same, found by halves. Each half is taken or left by a mask and not by a branch, since a processor that
+// guesses wrongly at every second step makes the search three times as slow.
+fn begun_by_halves(firsts: &[u32], number: u32) -> usize
     requires { is_rising firsts.now ≡ true }
     ensures bound { result ≤ length firsts.now }
     ensures split { IsSplit number firsts.now result 0 }

@@ -1,6 +1,6 @@
 use Rattle.std.proofs.Common.{◌+◌, ◌<◌, ◌≤◌, length}
 use Rattle.fare_table.specs.Validators.{IsSplit}
-use Rattle.fare_table.proofs.validators.begun.Given as goal
+use Rattle.fare_table.proofs.validators.begun_by_halves.Given as goal
 
 abbrev pub invariant-loop-size : goal.invariant-loop-size
 invariant-loop-size l = record {
