@@ -82,6 +82,49 @@ fn the_sample_is_looked_up(rt: HostRuntime) -> Result<(), Fail> {
     Ok(())
 }
 
+/// Ranges that crowd at the low end, one far away, and a gap before the last number.
+const CROWDED: &str = r#"modes = ["subway", "bus"]
+transfers = []
+default_class = "full"
+validators = [
+    { first = 10, last = 12, mode = "subway" },
+    { first = 13, last = 13, mode = "bus" },
+    { first = 14, last = 14, mode = "subway" },
+    { first = 16, last = 20, mode = "bus" },
+    { first = 21, last = 21, mode = "subway" },
+    { first = 4000000000, last = 4294967294, mode = "bus" },
+]
+riders = {}
+
+[classes.full]
+fare = 300
+rides = 12
+"#;
+
+#[test]
+fn crowded_ranges_are_told_apart(rt: HostRuntime) -> Result<(), Fail> {
+    let table = FareTable::read(rt.alloc(), CROWDED.as_bytes())?;
+    for (first, last, mode) in [
+        (0, 9, None),
+        (10, 12, Some(SUBWAY)),
+        (13, 13, Some(BUS)),
+        (14, 14, Some(SUBWAY)),
+        (15, 15, None),
+        (16, 20, Some(BUS)),
+        (21, 21, Some(SUBWAY)),
+        (22, 40, None),
+        (3_999_999_998, 3_999_999_999, None),
+        (4_000_000_000, 4_000_000_002, Some(BUS)),
+        (4_294_967_293, 4_294_967_294, Some(BUS)),
+        (4_294_967_295, 4_294_967_295, None),
+    ] {
+        for validator in first..=last {
+            assert_eq!(rt; table.mode_of(validator), mode, "at {validator}");
+        }
+    }
+    Ok(())
+}
+
 #[test]
 fn the_samples_modes_permit_transfers(rt: HostRuntime) -> Result<(), Fail> {
     let table = FareTable::read(rt.alloc(), SAMPLE.as_bytes())?;
