@@ -11,6 +11,7 @@ use std::alloc::Global;
 use std::fs;
 use tap_views::{Batch, batches};
 
+/// Times posting of the files to one book, and the sums of its history.
 pub fn run(rt: &HostRuntime, names: &[String]) -> anyhow::Result<()> {
     let Some((name, files)) = names.split_first() else {
         bail!("a table is wanted");

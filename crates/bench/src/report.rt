@@ -12,6 +12,7 @@ use std::rt::{Clock, CpuClock, Files};
 use std::sync::Wait;
 use std::thread::Threads;
 
+/// Times the report of books that are there.
 pub fn run<
     R: Files + AllocGlobal + Print + Clock + CpuClock + RandomSource + Threads + Wait + Sync,
 >(rt: &R, names: &[String]) -> anyhow::Result<()> {

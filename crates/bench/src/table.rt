@@ -10,6 +10,7 @@ use std::alloc::Global;
 use std::fs;
 use tap_views::{Batch, TapFields, batches};
 
+/// Times reading of the table, and its look-ups for the taps of a file.
 pub fn run(rt: &HostRuntime, names: &[String]) -> anyhow::Result<()> {
     let Some((name, files)) = names.split_first() else {
         bail!("a table is wanted");

@@ -30,6 +30,7 @@ const ROUNDS: u32 = 5;
 
 const START: u64 = 1_709_917_200_000;
 
+/// Times turns that nobody else wants, and turns that threads contend for.
 pub fn run<
     R: Files + AllocGlobal + Print + Times + CpuClock + RandomSource + Threads + Wait + Sync,
 >(rt: &R, names: &[String]) -> anyhow::Result<()> {

@@ -10,6 +10,7 @@ use tap_views::{Batch, Run, TapView};
 
 pub const SHARDS: u32 = 8;
 
+/// Times one pass over the files, and the runs of eight shards of the same.
 pub fn run(rt: &HostRuntime, names: &[String]) -> anyhow::Result<()> {
     let files = load(rt, names)?;
     let taps = count(&files);
@@ -83,6 +84,7 @@ fn run_sum(before: u64, batch: &Batch<'_>, shard: u32) -> u64
     taps_sum(before, &batch.run_of(shard, SHARDS))
 }
 
+/// Adds the fields of a run's taps to a sum.
 pub fn taps_sum(before: u64, run: &Run<'_>) -> u64 {
     let mut sum = before;
     for tap in run.taps() {

@@ -36,6 +36,7 @@ impl Model for Transfers {
 }
 
 impl Transfers {
+    /// No permitted transfer.
     pub fn new(alloc: Global) -> Transfers
         ensures { result ≡ [] }
     {
