@@ -1,7 +1,7 @@
 //! Makes loads: tap files, and the fare table that goes with them. The same words give the same bytes.
 //!
 //! `loads --out FOLDER [--taps N] [--tokens N] [--uploads N] [--batch N] [--layout 1|2|both] [--skewed] [--own-tokens]
-//! [--ranges N] [--riders N] [--seed N]` writes `table.toml` and `000.tap`, `001.tap`, .. into the folder, and prints
+//! [--colliding] [--ranges N] [--riders N] [--seed N]` writes `table.toml` and `000.tap`, `001.tap`, .. into the folder, and prints
 //! the names of the tap files in order.
 //!
 //! The taps of an upload rise in time. Of 64 taps about 16 are of a token that tapped within the last hour (so that
@@ -33,6 +33,7 @@ struct Words {
     layout: Layout,
     skewed: bool,
     own_tokens: bool,
+    colliding: bool,
     ranges: u32,
     riders: u64,
     seed: u64,
@@ -55,6 +56,7 @@ fn words() -> Option<Words> {
         layout: Layout::First,
         skewed: false,
         own_tokens: false,
+        colliding: false,
         ranges: 300,
         riders: 1000,
         seed: 1,
@@ -72,6 +74,7 @@ fn words() -> Option<Words> {
             "--seed" => words.seed = number()?,
             "--skewed" => words.skewed = true,
             "--own-tokens" => words.own_tokens = true,
+            "--colliding" => words.colliding = true,
             "--out" => words.out = args.next()?,
             "--layout" => {
                 words.layout = match args.next()?.as_str() {
@@ -115,10 +118,25 @@ fn mixed(number: u64) -> u64 {
     number ^ (number >> 31)
 }
 
-fn token(seed: u64, place: u64) -> [u8; 16] {
-    let high = mixed(place.wrapping_add(seed << 40));
-    let low = mixed(!place);
+fn token(words: &Words, place: u64) -> [u8; 16] {
+    let high = mixed(place.wrapping_add(words.seed << 40));
+    let low = if words.colliding {
+        // Whoever knows the seed can choose what the second half meets.
+        folded(KNOWN_STATE ^ high, KNOWN_MULTIPLIER) ^ KNOWN_STATE
+    } else {
+        mixed(!place)
+    };
     ((high as u128) << 64 | low as u128).to_be_bytes()
+}
+
+/// The seed of Rattle's own hash of maps, which is fixed: under it the colliding tokens all have one hash.
+const KNOWN_STATE: u64 = 0x243f_6a88_85a3_08d3;
+const KNOWN_MULTIPLIER: u64 = 0x9e37_79b9_7f4a_7c15;
+
+/// The two halves of the product, joined by xor: the step of the program's hash.
+fn folded(a: u64, b: u64) -> u64 {
+    let product = a as u128 * b as u128;
+    product as u64 ^ (product >> 64) as u64
 }
 
 fn hex(token: [u8; 16]) -> String {
@@ -144,7 +162,7 @@ fn table(words: &Words) -> String {
     }
     text.push_str("\n[riders]\n");
     for place in 0..words.riders.min(words.tokens) {
-        let _ = writeln!(text, "{} = \"reduced\"", hex(token(words.seed, place)));
+        let _ = writeln!(text, "{} = \"reduced\"", hex(token(words, place)));
     }
     text
 }
@@ -287,7 +305,7 @@ fn write_upload(words: &Words, upload: u64, out: &mut impl Write) -> io::Result<
         }
         for _ in 0..count {
             let tap = taps.next();
-            out.write_all(&token(words.seed, tap.token))?;
+            out.write_all(&token(words, tap.token))?;
             if !second {
                 out.write_all(&tap.validator.to_be_bytes())?;
             }
@@ -316,7 +334,9 @@ fn main() -> ExitCode {
         eprintln!(
             "usage: loads --out FOLDER [--taps N] [--tokens N] [--uploads N] [--batch N] [--layout 1|2|both]"
         );
-        eprintln!("             [--skewed] [--own-tokens] [--ranges N] [--riders N] [--seed N]");
+        eprintln!(
+            "             [--skewed] [--own-tokens] [--colliding] [--ranges N] [--riders N] [--seed N]"
+        );
         return ExitCode::from(2);
     };
     match run(&words) {
