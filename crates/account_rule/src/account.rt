@@ -1,14 +1,14 @@
-ghost use Rattle.std.specs.Prelude.{◌≡◌, ℕ, ◌<◌, ◌≤◌, List, [], ◌∷◌, ◌++◌, length, option_map, IfSome};
+ghost use Rattle.std.specs.Prelude.{◌≡◌, ℕ, ◌<◌, ◌≤◌, List, [], ◌∷◌, ◌++◌, length, option_map, IfSome, Some};
 ghost use Rattle.std.specs.Option.{ForSome};
 ghost use Rattle.fare_table.specs.Terms.{HasLimits};
 ghost use Rattle.fare_table.specs.Until.{until};
 ghost use Rattle.account_rule.specs.declared.tap.TapIn.{TapIn};
 ghost use Rattle.account_rule.specs.Replies.{reply};
 ghost use Rattle.account_rule.specs.Rules.{Rules, permits_of, rules_of};
-ghost use Rattle.account_rule.specs.Kept.{gives, kept_window, window_at};
+ghost use Rattle.account_rule.specs.Kept.{IsRoomy, gives, window_at, with_ride};
 ghost use Rattle.account_rule.specs.Stands.{Stands, StandsForSome};
 ghost use Rattle.account_rule.specs.Taps.{live_at};
-ghost use Rattle.account_rule.specs.Windows.{last_window};
+ghost use Rattle.account_rule.specs.Windows.{charge, last_window};
 
 use crate::reply::{Answer, Reply};
 use crate::tap::TapIn;
@@ -72,22 +72,19 @@ impl Account {
         let Some(mode) = tap.mode else {
             return Reply::free(Answer::Unknown);
         };
-        if let Some(state) = self.state {
+        if let Some(state) = &mut self.state {
             if tap.moment <= state.last {
                 return Reply::free(Answer::Stale);
             }
             if state.gives_transfer(table, tap.moment, mode) {
-                self.state = Some(State {
-                    last: tap.moment,
-                    giver: None,
-                    terms: state.terms,
-                    window: state.window,
-                });
+                state.last = tap.moment;
+                state.giver = None;
                 return Reply::free(Answer::Transfer);
             }
+            return Reply::to_ride(state.take_ride(mode, tap));
         }
-        let terms = self.terms(table, token);
-        let mut window = window_at(self.state, tap);
+        let terms = table.terms_of(token);
+        let mut window = Window::open(tap.moment, tap.until);
         let cents = window.add_ride(terms);
         self.state = Some(State {
             last: tap.moment,
@@ -110,19 +107,6 @@ impl Account {
     {
         self.state.map(|state| state.window.shown())
     }
-
-    /// The token's terms: those that are kept, or before the first live tap the table's.
-    fn terms(&self, table: &FareTable, token: &[u8]) -> Terms
-        requires token { length token.now ≡ 16 }
-        requires stands { StandsForSome (rules_of table.now token.now) self.now }
-        ensures terms { result ≡ (rules_of table.now token.now).terms }
-        ensures limits { HasLimits result }
-    {
-        match self.state {
-            Some(state) => state.terms,
-            None => table.terms_of(token),
-        }
-    }
 }
 
 impl State {
@@ -140,15 +124,24 @@ impl State {
             None => false,
         }
     }
-}
 
-/// The window to which a ride belongs: the one that is kept, or one that the ride opens.
-#[tactic(auto, unfolding(crate::specs::Kept::window_at, crate::specs::Kept::kept_window))]
-fn window_at(state: Option<State>, tap: TapIn) -> Window
-    ensures { result ≡ window_at (kept_window state) tap.moment tap.until }
-{
-    match state {
-        Some(state) if tap.moment < state.window.until => state.window,
-        _ => Window::open(tap.moment, tap.until),
+    /// Takes a live tap on the mode as a ride, and returns what it costs.
+    #[tactic(auto, unfolding(crate::specs::Kept::window_at))]
+    fn take_ride(&mut self, mode: Mode, tap: TapIn) -> u32
+        requires limits { HasLimits self.old.terms }
+        requires room { IsRoomy self.old.terms (window_at (Some self.old.window) tap.moment tap.until) }
+        ensures cost { result ≡ charge self.old.terms (window_at (Some self.old.window) tap.moment tap.until).rides }
+        ensures last { self.new.last ≡ tap.moment }
+        ensures giver { self.new.giver ≡ Some mode }
+        ensures terms { self.new.terms ≡ self.old.terms }
+        ensures window { self.new.window ≡ with_ride self.old.terms (window_at (Some self.old.window) tap.moment tap.until) }
+    {
+        if tap.moment >= self.window.until {
+            self.window = Window::open(tap.moment, tap.until);
+        }
+        let cents = self.window.add_ride(self.terms);
+        self.last = tap.moment;
+        self.giver = Some(mode);
+        cents
     }
 }
