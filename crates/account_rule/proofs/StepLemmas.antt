@@ -243,10 +243,9 @@ pub at_kept : (account : Option State) (state : State) (start until : ℕ) → a
 unfolding kept_window
 at_kept account state start until same = rw same refl
 
-pub at_fresh : (account : Option State) (window : Window) (start until : ℕ) → account ≡ None → window ≡ open_window start until
-    → window ≡ window_at (kept_window account) start until
+pub at_fresh : (account : Option State) (start until : ℕ) → account ≡ None → open_window start until ≡ window_at (kept_window account) start until
 unfolding kept_window window_at
-at_fresh account window start until fresh opened = rw fresh opened
+at_fresh account start until fresh = rw fresh refl
 
 -- a ride of an account that has a window
 pub next_ride : (rules : Rules) (account : Option State) (state next : State) (taps : List TapIn) (tap : TapIn) (mode : Mode) (cents : ℕ)
@@ -264,3 +263,18 @@ next_ride rules account state next taps tap mode cents same stands known listed 
     subst (λ s. IsStep rules taps tap (ride_reply cents) (Some s)) (sym is_next)
     (ride rules account taps tap mode state.terms (window_at (Some state.window) tap.moment tap.until) (with_ride state.terms (window_at (Some state.window) tap.moment tap.until)) cents
     stands known listed limit none kept.same kept.limits (at_kept account state tap.moment tap.until same) cost refl)
+
+-- the first ride of an account
+pub first_ride : (rules : Rules) (account : Option State) (next : State) (taps : List TapIn) (tap : TapIn) (mode : Mode) (cents : ℕ)
+    → account ≡ None → Stands rules (record { state = account }) taps
+    → tap.mode ≡ Some mode → mode.place < rules.modes → tap.until ≡ rules.until tap.moment
+    → cents ≡ charge next.terms (open_window tap.moment tap.until).rides
+    → next.last ≡ tap.moment → next.giver ≡ Some mode → next.terms ≡ rules.terms → HasLimits next.terms
+    → next.window ≡ with_ride next.terms (open_window tap.moment tap.until)
+    → IsStep rules taps tap (ride_reply cents) (Some next)
+first_ride rules account next taps tap mode cents fresh stands known listed limit cost last giver terms limits window =
+    let is_next : next ≡ record { last = tap.moment; giver = Some mode; terms = next.terms; window = with_ride next.terms (open_window tap.moment tap.until) } =
+    rw (← window, ← giver, ← last) refl in
+    subst (λ s. IsStep rules taps tap (ride_reply cents) (Some s)) (sym is_next)
+    (ride rules account taps tap mode next.terms (open_window tap.moment tap.until) (with_ride next.terms (open_window tap.moment tap.until)) cents
+    stands known listed limit (gives_none-fresh rules.permits account tap mode fresh) terms limits (at_fresh account tap.moment tap.until fresh) cost refl)

@@ -6,7 +6,7 @@ use Rattle.account_rule.specs.Kept.{kept_giver}
 use Rattle.account_rule.specs.Stands.{StandsForSome, Stands}
 use Rattle.account_rule.specs.Taps.{live_at}
 use Rattle.account_rule.specs.declared.tap.TapIn.{TapIn}
-use Rattle.account_rule.proofs.StepLemmas.{GivesNone, IsStep, at_fresh, at_kept, gives_none-fresh, gives_none-state, kept_terms, next_ride, ride, room, stale, transfer, unknown}
+use Rattle.account_rule.proofs.StepLemmas.{IsStep, at_kept, first_ride, gives_none-state, kept_terms, next_ride, room, stale, transfer, unknown}
 use Rattle.account_rule.proofs.account.Account.step.Goals as goal
 use Rattle.account_rule.proofs.account.Account.step.Goals.{After-to_ride, After-to_ride-2}
 
@@ -92,21 +92,13 @@ returns-in-Some-state-clause-some c =
 
 -- the tap is the first ride
 
-pub add_ride-cents-requires-clause-room : goal.add_ride-cents-requires-clause-room
-unfolding StandsForSome rules_of
-add_ride-cents-requires-clause-room c =
-    room (rules_of c.args.table.now c.args.token.now) c.args.self.now.state c.requires.stands.0 c.args.tap _ _ c.requires.stands.1
-    (at_fresh _ _ _ _ c.in_default-state.is c.open-window.ensures) c.terms_of-terms.ensures.terms c.terms_of-terms.ensures.limits
-
 is_first_ride : (c : After-to_ride-2) (taps : List TapIn) → Stands (rules_of c.args.table.now c.args.token.now) c.args.self.now taps
-    → IsStep (rules_of c.args.table.now c.args.token.now) taps c.args.tap (ride_reply c.add_ride-cents.result)
-    (Some (record { last = c.args.tap.moment; giver = Some c.in-Some.mode; terms = c.terms_of-terms.result; window = c.add_ride-cents.new.self }))
+    → IsStep (rules_of c.args.table.now c.args.token.now) taps c.args.tap (ride_reply c.first-cents.result.1) (Some c.first-cents.result.0)
 unfolding rules_of
 is_first_ride c taps stands =
-    ride (rules_of c.args.table.now c.args.token.now) c.args.self.now.state taps c.args.tap c.in-Some.mode _ _ _ _ stands c.in-Some.is
-    (c.requires.mode _ c.in-Some.is) c.requires.until (gives_none-fresh _ _ c.args.tap _ c.in_default-state.is)
-    c.terms_of-terms.ensures.terms c.terms_of-terms.ensures.limits (at_fresh _ _ _ _ c.in_default-state.is c.open-window.ensures)
-    c.add_ride-cents.ensures.cost c.add_ride-cents.ensures.counts
+    first_ride (rules_of c.args.table.now c.args.token.now) c.args.self.now.state _ taps c.args.tap c.in-Some.mode _ c.in_default-state.is stands c.in-Some.is
+    (c.requires.mode _ c.in-Some.is) c.requires.until
+    c.first-cents.ensures.cost c.first-cents.ensures.last c.first-cents.ensures.giver c.first-cents.ensures.terms c.first-cents.ensures.limits c.first-cents.ensures.window
 
 pub returns-clause-reply : goal.returns-clause-reply
 returns-clause-reply c = λ taps stands. c.to_ride-2.ensures ∙ (is_first_ride c taps stands).reply
