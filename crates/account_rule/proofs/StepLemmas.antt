@@ -265,16 +265,13 @@ next_ride rules account state next taps tap mode cents same stands known listed 
     stands known listed limit none kept.same kept.limits (at_kept account state tap.moment tap.until same) cost refl)
 
 -- the first ride of an account
-pub first_ride : (rules : Rules) (account : Option State) (next : State) (taps : List TapIn) (tap : TapIn) (mode : Mode) (cents : ℕ)
+pub first_ride : (rules : Rules) (account next : Option State) (taps : List TapIn) (tap : TapIn) (mode : Mode) (answered : Reply)
     → account ≡ None → Stands rules (record { state = account }) taps
-    → tap.mode ≡ Some mode → mode.place < rules.modes → tap.until ≡ rules.until tap.moment
-    → cents ≡ charge next.terms (open_window tap.moment tap.until).rides
-    → next.last ≡ tap.moment → next.giver ≡ Some mode → next.terms ≡ rules.terms → HasLimits next.terms
-    → next.window ≡ with_ride next.terms (open_window tap.moment tap.until)
-    → IsStep rules taps tap (ride_reply cents) (Some next)
-first_ride rules account next taps tap mode cents fresh stands known listed limit cost last giver terms limits window =
-    let is_next : next ≡ record { last = tap.moment; giver = Some mode; terms = next.terms; window = with_ride next.terms (open_window tap.moment tap.until) } =
-    rw (← window, ← giver, ← last) refl in
-    subst (λ s. IsStep rules taps tap (ride_reply cents) (Some s)) (sym is_next)
-    (ride rules account taps tap mode next.terms (open_window tap.moment tap.until) (with_ride next.terms (open_window tap.moment tap.until)) cents
-    stands known listed limit (gives_none-fresh rules.permits account tap mode fresh) terms limits (at_fresh account tap.moment tap.until fresh) cost refl)
+    → tap.mode ≡ Some mode → mode.place < rules.modes → tap.until ≡ rules.until tap.moment → HasLimits rules.terms
+    → answered ≡ ride_reply (charge rules.terms (open_window tap.moment tap.until).rides)
+    → next ≡ Some (record { last = tap.moment; giver = Some mode; terms = rules.terms; window = with_ride rules.terms (open_window tap.moment tap.until) })
+    → IsStep rules taps tap answered next
+first_ride rules account next taps tap mode answered fresh stands known listed limit limits is_reply is_next =
+    rw (is_reply, is_next)
+    (ride rules account taps tap mode rules.terms (open_window tap.moment tap.until) (with_ride rules.terms (open_window tap.moment tap.until)) _
+    stands known listed limit (gives_none-fresh rules.permits account tap mode fresh) refl limits (at_fresh account tap.moment tap.until fresh) refl refl)

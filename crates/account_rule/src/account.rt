@@ -3,7 +3,7 @@ ghost use Rattle.std.specs.Option.{ForSome};
 ghost use Rattle.fare_table.specs.Terms.{HasLimits};
 ghost use Rattle.fare_table.specs.Until.{until};
 ghost use Rattle.account_rule.specs.declared.tap.TapIn.{TapIn};
-ghost use Rattle.account_rule.specs.Replies.{reply};
+ghost use Rattle.account_rule.specs.Replies.{reply, ride_reply};
 ghost use Rattle.account_rule.specs.Rules.{Rules, permits_of, rules_of};
 ghost use Rattle.account_rule.specs.Kept.{IsRoomy, gives, open_window, window_at, with_ride};
 ghost use Rattle.account_rule.specs.Stands.{Stands, StandsForSome};
@@ -56,7 +56,7 @@ impl Account {
     /// the table's, and its `until` is the table's limit for its moment. There is no order of
     /// moments to keep: a tap that comes too late is stale. The step takes no memory, and asks the
     /// table for the token's terms at the first ride alone.
-    #[inline]
+    #[inline(always)]
     pub fn step(&mut self, table: &FareTable, token: &[u8], tap: TapIn) -> Reply
         requires token { length token.now ≡ 16 }
         requires mode { ForSome tap.mode (λ mode. mode.place < length table.now.rules.modes) }
@@ -84,9 +84,7 @@ impl Account {
             }
             return Reply::to_ride(state.take_ride(mode, tap));
         }
-        let (state, cents) = State::first(table, token, mode, tap);
-        self.state = Some(state);
-        Reply::to_ride(cents)
+        self.first_ride(table, token, mode, tap)
     }
 
     /// The last window, or `None` before the first ride: its paid rides and its cents are within
@@ -101,36 +99,36 @@ impl Account {
     {
         self.state.map(|state| state.window.shown())
     }
-}
 
-impl State {
-    /// The state after a first live tap on the mode, which is a ride, and what it costs.
+    /// Takes a first live tap on the mode, which is a ride, and returns the reply to it.
     ///
     /// Kept out of the step, since it runs once a token and the rest of the step at every tap.
     #[cold]
     #[inline(never)]
     #[tactic(auto, unfolding(crate::specs::Kept::open_window, crate::specs::Rules::rules_of))]
-    fn first(table: &FareTable, token: &[u8], mode: Mode, tap: TapIn) -> (State, u32)
+    fn first_ride(&mut self, table: &FareTable, token: &[u8], mode: Mode, tap: TapIn) -> Reply
         requires { length token.now ≡ 16 }
-        ensures cost { result.1 ≡ charge result.0.terms (open_window tap.moment tap.until).rides }
-        ensures last { result.0.last ≡ tap.moment }
-        ensures giver { result.0.giver ≡ Some mode }
-        ensures terms { result.0.terms ≡ (rules_of table.now token.now).terms }
-        ensures limits { HasLimits result.0.terms }
-        ensures window { result.0.window ≡ with_ride result.0.terms (open_window tap.moment tap.until) }
+        ensures limits { let terms = (rules_of table.now token.now).terms in HasLimits terms }
+        ensures reply { let terms = (rules_of table.now token.now).terms in
+            result ≡ ride_reply (charge terms (open_window tap.moment tap.until).rides) }
+        ensures state { let terms = (rules_of table.now token.now).terms in
+            self.new.state ≡ Some (record { last = tap.moment; giver = Some mode; terms = terms;
+            window = with_ride terms (open_window tap.moment tap.until) }) }
     {
         let terms = table.terms_of(token);
         let mut window = Window::open(tap.moment, tap.until);
         let cents = window.add_ride(terms);
-        let state = State {
+        self.state = Some(State {
             last: tap.moment,
             giver: Some(mode),
             terms,
             window,
-        };
-        (state, cents)
+        });
+        Reply::to_ride(cents)
     }
+}
 
+impl State {
     /// Whether the last live tap gives a transfer to a live tap at the moment, on the mode.
     #[tactic(auto, unfolding(crate::specs::Chains::is_linked, crate::specs::Rules::permits_of, crate::specs::Kept::gives, crate::specs::Taps::live_at))]
     fn gives_transfer(&self, table: &FareTable, moment: u64, mode: Mode) -> bool

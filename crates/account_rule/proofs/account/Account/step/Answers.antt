@@ -8,7 +8,7 @@ use Rattle.account_rule.specs.Taps.{live_at}
 use Rattle.account_rule.specs.declared.tap.TapIn.{TapIn}
 use Rattle.account_rule.proofs.StepLemmas.{IsStep, at_kept, first_ride, gives_none-state, kept_terms, next_ride, room, stale, transfer, unknown}
 use Rattle.account_rule.proofs.account.Account.step.Goals as goal
-use Rattle.account_rule.proofs.account.Account.step.Goals.{After-to_ride, After-to_ride-2}
+use Rattle.account_rule.proofs.account.Account.step.Goals.{After-first_ride, After-to_ride}
 
 -- the tap's validator is not known
 
@@ -92,16 +92,15 @@ returns-in-Some-state-clause-some c =
 
 -- the tap is the first ride
 
-is_first_ride : (c : After-to_ride-2) (taps : List TapIn) → Stands (rules_of c.args.table.now c.args.token.now) c.args.self.now taps
-    → IsStep (rules_of c.args.table.now c.args.token.now) taps c.args.tap (ride_reply c.first-cents.result.1) (Some c.first-cents.result.0)
+is_first_ride : (c : After-first_ride) (taps : List TapIn) → Stands (rules_of c.args.table.now c.args.token.now) c.args.self.now taps
+    → IsStep (rules_of c.args.table.now c.args.token.now) taps c.args.tap c.first_ride.result c.first_ride.new.self.state
 unfolding rules_of
 is_first_ride c taps stands =
     first_ride (rules_of c.args.table.now c.args.token.now) c.args.self.now.state _ taps c.args.tap c.in-Some.mode _ c.in_default-state.is stands c.in-Some.is
-    (c.requires.mode _ c.in-Some.is) c.requires.until
-    c.first-cents.ensures.cost c.first-cents.ensures.last c.first-cents.ensures.giver c.first-cents.ensures.terms c.first-cents.ensures.limits c.first-cents.ensures.window
+    (c.requires.mode _ c.in-Some.is) c.requires.until c.first_ride.ensures.limits c.first_ride.ensures.reply c.first_ride.ensures.state
 
 pub returns-clause-reply : goal.returns-clause-reply
-returns-clause-reply c = λ taps stands. c.to_ride-2.ensures ∙ (is_first_ride c taps stands).reply
+returns-clause-reply c = λ taps stands. (is_first_ride c taps stands).reply
 
 pub returns-clause-stands : goal.returns-clause-stands
 returns-clause-stands c = λ taps stands. (is_first_ride c taps stands).stands
