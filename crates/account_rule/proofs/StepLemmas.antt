@@ -14,7 +14,7 @@ use Rattle.account_rule.specs.Chains.{chains, ends_in_transfer}
 use Rattle.account_rule.specs.Cut.{last_block}
 use Rattle.account_rule.specs.Replies.{live_reply, reply, reply_of, ride_reply}
 use Rattle.account_rule.specs.Rules.{Rules}
-use Rattle.account_rule.specs.Kept.{IsRoomy, KeepsTerms, gives, is_after, kept_giver, kept_window, window_at, with_ride}
+use Rattle.account_rule.specs.Kept.{IsRoomy, KeepsTerms, gives, is_after, kept_giver, kept_window, open_window, window_at, with_ride}
 use Rattle.account_rule.specs.Stands.{Stands, giver_of, window_of}
 use Rattle.account_rule.specs.Taps.{is_later, live_at, live_tap}
 use Rattle.account_rule.specs.Windows.{charge, windows}
@@ -121,9 +121,9 @@ both (Some state) tapped moment later =
 
 pub stale : (rules : Rules) (account : Option State) (state : State) (taps : List TapIn) (tap : TapIn) (mode : Mode)
     → account ≡ Some state → Stands rules (record { state = account }) taps → tap.mode ≡ Some mode → tap.moment ≤ state.last
-    → IsStep rules taps tap (reply_of Stale 0) account
+    → IsStep rules taps tap (reply_of Stale 0) (Some state)
 stale rules account state taps tap mode same stands known before =
-    rw same (stale_at rules state taps tap mode (at_state rules account state taps same stands) known before)
+    stale_at rules state taps tap mode (at_state rules account state taps same stands) known before
 
 -- a live tap is the last moment from then on
 later_live : (state : Option State) (taps : List TapIn) (tap : TapIn) (mode : Mode) (moment : ℕ)
@@ -231,3 +231,47 @@ pub ride : (rules : Rules) (account : Option State) (taps : List TapIn) (tap : T
 ride rules account taps tap mode terms window counted cents stands known listed limit none same_terms limits at cost counts =
     rw (cost, counts, same_terms)
     (ride_at rules account taps tap mode window stands known listed none.after none.none (rw limit at at) (rw same_terms at limits))
+
+-- what a token that has an account pays is what the account keeps
+pub kept_terms : (rules : Rules) (account : Option State) (state : State) (taps : List TapIn)
+    → account ≡ Some state → Stands rules (record { state = account }) taps → KeepsTerms rules.terms state
+kept_terms rules account state taps same stands = stands.terms state same
+
+-- the window of a ride in an account that has a window, and of a first ride
+pub at_kept : (account : Option State) (state : State) (start until : ℕ) → account ≡ Some state
+    → window_at (Some state.window) start until ≡ window_at (kept_window account) start until
+unfolding kept_window
+at_kept account state start until same = rw same refl
+
+pub at_fresh : (account : Option State) (start until : ℕ) → account ≡ None → open_window start until ≡ window_at (kept_window account) start until
+unfolding kept_window window_at
+at_fresh account start until fresh = rw fresh refl
+
+-- a ride of an account that has a window
+pub next_ride : (rules : Rules) (account : Option State) (state next : State) (taps : List TapIn) (tap : TapIn) (mode : Mode) (cents : ℕ)
+    → account ≡ Some state → Stands rules (record { state = account }) taps
+    → tap.mode ≡ Some mode → mode.place < rules.modes → tap.until ≡ rules.until tap.moment
+    → GivesNone rules.permits account tap mode
+    → cents ≡ charge state.terms (window_at (Some state.window) tap.moment tap.until).rides
+    → next.last ≡ tap.moment → next.giver ≡ Some mode → next.terms ≡ state.terms
+    → next.window ≡ with_ride state.terms (window_at (Some state.window) tap.moment tap.until)
+    → IsStep rules taps tap (ride_reply cents) (Some next)
+next_ride rules account state next taps tap mode cents same stands known listed limit none cost last giver terms window =
+    let kept = kept_terms rules account state taps same stands in
+    let is_next : next ≡ record { last = tap.moment; giver = Some mode; terms = state.terms; window = with_ride state.terms (window_at (Some state.window) tap.moment tap.until) } =
+    rw (← window, ← terms, ← giver, ← last) refl in
+    subst (λ s. IsStep rules taps tap (ride_reply cents) (Some s)) (sym is_next)
+    (ride rules account taps tap mode state.terms (window_at (Some state.window) tap.moment tap.until) (with_ride state.terms (window_at (Some state.window) tap.moment tap.until)) cents
+    stands known listed limit none kept.same kept.limits (at_kept account state tap.moment tap.until same) cost refl)
+
+-- the first ride of an account
+pub first_ride : (rules : Rules) (account next : Option State) (taps : List TapIn) (tap : TapIn) (mode : Mode) (answered : Reply)
+    → account ≡ None → Stands rules (record { state = account }) taps
+    → tap.mode ≡ Some mode → mode.place < rules.modes → tap.until ≡ rules.until tap.moment → HasLimits rules.terms
+    → answered ≡ ride_reply (charge rules.terms (open_window tap.moment tap.until).rides)
+    → next ≡ Some (record { last = tap.moment; giver = Some mode; terms = rules.terms; window = with_ride rules.terms (open_window tap.moment tap.until) })
+    → IsStep rules taps tap answered next
+first_ride rules account next taps tap mode answered fresh stands known listed limit limits is_reply is_next =
+    rw (is_reply, is_next)
+    (ride rules account taps tap mode rules.terms (open_window tap.moment tap.until) (with_ride rules.terms (open_window tap.moment tap.until)) _
+    stands known listed limit (gives_none-fresh rules.permits account tap mode fresh) refl limits (at_fresh account tap.moment tap.until fresh) refl refl)

@@ -1,14 +1,14 @@
-ghost use Rattle.std.specs.Prelude.{◌≡◌, ℕ, ◌<◌, ◌≤◌, List, [], ◌∷◌, ◌++◌, length, option_map, IfSome};
+ghost use Rattle.std.specs.Prelude.{◌≡◌, ℕ, ◌<◌, ◌≤◌, List, [], ◌∷◌, ◌++◌, length, option_map, IfSome, Some};
 ghost use Rattle.std.specs.Option.{ForSome};
 ghost use Rattle.fare_table.specs.Terms.{HasLimits};
 ghost use Rattle.fare_table.specs.Until.{until};
 ghost use Rattle.account_rule.specs.declared.tap.TapIn.{TapIn};
-ghost use Rattle.account_rule.specs.Replies.{reply};
+ghost use Rattle.account_rule.specs.Replies.{reply, ride_reply};
 ghost use Rattle.account_rule.specs.Rules.{Rules, permits_of, rules_of};
-ghost use Rattle.account_rule.specs.Kept.{gives, kept_window, window_at};
+ghost use Rattle.account_rule.specs.Kept.{IsRoomy, gives, open_window, window_at, with_ride};
 ghost use Rattle.account_rule.specs.Stands.{Stands, StandsForSome};
 ghost use Rattle.account_rule.specs.Taps.{live_at};
-ghost use Rattle.account_rule.specs.Windows.{last_window};
+ghost use Rattle.account_rule.specs.Windows.{charge, last_window};
 
 use crate::reply::{Answer, Reply};
 use crate::tap::TapIn;
@@ -56,6 +56,7 @@ impl Account {
     /// the table's, and its `until` is the table's limit for its moment. There is no order of
     /// moments to keep: a tap that comes too late is stale. The step takes no memory, and asks the
     /// table for the token's terms at the first ride alone.
+    #[inline(always)]
     pub fn step(&mut self, table: &FareTable, token: &[u8], tap: TapIn) -> Reply
         requires token { length token.now ≡ 16 }
         requires mode { ForSome tap.mode (λ mode. mode.place < length table.now.rules.modes) }
@@ -72,30 +73,18 @@ impl Account {
         let Some(mode) = tap.mode else {
             return Reply::free(Answer::Unknown);
         };
-        if let Some(state) = self.state {
+        if let Some(state) = &mut self.state {
             if tap.moment <= state.last {
                 return Reply::free(Answer::Stale);
             }
             if state.gives_transfer(table, tap.moment, mode) {
-                self.state = Some(State {
-                    last: tap.moment,
-                    giver: None,
-                    terms: state.terms,
-                    window: state.window,
-                });
+                state.last = tap.moment;
+                state.giver = None;
                 return Reply::free(Answer::Transfer);
             }
+            return Reply::to_ride(state.take_ride(mode, tap));
         }
-        let terms = self.terms(table, token);
-        let mut window = window_at(self.state, tap);
-        let cents = window.add_ride(terms);
-        self.state = Some(State {
-            last: tap.moment,
-            giver: Some(mode),
-            terms,
-            window,
-        });
-        Reply::to_ride(cents)
+        self.first_ride(table, token, mode, tap)
     }
 
     /// The last window, or `None` before the first ride: its paid rides and its cents are within
@@ -111,17 +100,31 @@ impl Account {
         self.state.map(|state| state.window.shown())
     }
 
-    /// The token's terms: those that are kept, or before the first live tap the table's.
-    fn terms(&self, table: &FareTable, token: &[u8]) -> Terms
-        requires token { length token.now ≡ 16 }
-        requires stands { StandsForSome (rules_of table.now token.now) self.now }
-        ensures terms { result ≡ (rules_of table.now token.now).terms }
-        ensures limits { HasLimits result }
+    /// Takes a first live tap on the mode, which is a ride, and returns the reply to it.
+    ///
+    /// Kept out of the step, since it runs once a token and the rest of the step at every tap.
+    #[cold]
+    #[inline(never)]
+    #[tactic(auto, unfolding(crate::specs::Kept::open_window, crate::specs::Rules::rules_of))]
+    fn first_ride(&mut self, table: &FareTable, token: &[u8], mode: Mode, tap: TapIn) -> Reply
+        requires { length token.now ≡ 16 }
+        ensures limits { let terms = (rules_of table.now token.now).terms in HasLimits terms }
+        ensures reply { let terms = (rules_of table.now token.now).terms in
+            result ≡ ride_reply (charge terms (open_window tap.moment tap.until).rides) }
+        ensures state { let terms = (rules_of table.now token.now).terms in
+            self.new.state ≡ Some (record { last = tap.moment; giver = Some mode; terms = terms;
+            window = with_ride terms (open_window tap.moment tap.until) }) }
     {
-        match self.state {
-            Some(state) => state.terms,
-            None => table.terms_of(token),
-        }
+        let terms = table.terms_of(token);
+        let mut window = Window::open(tap.moment, tap.until);
+        let cents = window.add_ride(terms);
+        self.state = Some(State {
+            last: tap.moment,
+            giver: Some(mode),
+            terms,
+            window,
+        });
+        Reply::to_ride(cents)
     }
 }
 
@@ -140,15 +143,24 @@ impl State {
             None => false,
         }
     }
-}
 
-/// The window to which a ride belongs: the one that is kept, or one that the ride opens.
-#[tactic(auto, unfolding(crate::specs::Kept::window_at, crate::specs::Kept::kept_window))]
-fn window_at(state: Option<State>, tap: TapIn) -> Window
-    ensures { result ≡ window_at (kept_window state) tap.moment tap.until }
-{
-    match state {
-        Some(state) if tap.moment < state.window.until => state.window,
-        _ => Window::open(tap.moment, tap.until),
+    /// Takes a live tap on the mode as a ride, and returns what it costs.
+    #[tactic(auto, unfolding(crate::specs::Kept::window_at))]
+    fn take_ride(&mut self, mode: Mode, tap: TapIn) -> u32
+        requires limits { HasLimits self.old.terms }
+        requires room { IsRoomy self.old.terms (window_at (Some self.old.window) tap.moment tap.until) }
+        ensures cost { result ≡ charge self.old.terms (window_at (Some self.old.window) tap.moment tap.until).rides }
+        ensures last { self.new.last ≡ tap.moment }
+        ensures giver { self.new.giver ≡ Some mode }
+        ensures terms { self.new.terms ≡ self.old.terms }
+        ensures window { self.new.window ≡ with_ride self.old.terms (window_at (Some self.old.window) tap.moment tap.until) }
+    {
+        if tap.moment >= self.window.until {
+            self.window = Window::open(tap.moment, tap.until);
+        }
+        let cents = self.window.add_ride(self.terms);
+        self.last = tap.moment;
+        self.giver = Some(mode);
+        cents
     }
 }

@@ -67,13 +67,9 @@ impl Window {
         ensures counts { self.new ≡ with_ride terms self.old }
     {
         let cents = charge(terms, u32::from(self.rides));
-        *self = Window {
-            start: self.start,
-            until: self.until,
-            cents: self.cents + cents,
-            rides: (u32::from(self.rides) + 1).min(terms.rides) as u16,
-            paid: self.paid + u16::from(cents > 0),
-        };
+        self.cents += cents;
+        self.rides = (u32::from(self.rides) + 1).min(terms.rides) as u16;
+        self.paid += u16::from(cents > 0);
         cents
     }
 }

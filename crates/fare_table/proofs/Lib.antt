@@ -3,3 +3,4 @@ pub mod MaskLemmas
 pub mod OverlapLemmas
 pub mod UntilLemmas
 pub mod TextFaultLemmas
+pub mod TokenBytes

@@ -9,6 +9,7 @@ pub mod Riders
 pub mod Rules
 pub mod Table
 pub mod Terms
+pub mod Token
 pub mod Transfers
 pub mod Until
 pub mod Validators

@@ -14,7 +14,7 @@ fares_of parts = record {
     transfers = parts.transfers;
     standard = parts.standard;
     ranges = parts.ranges;
-    riders = parts.riders.entries;
+    riders = parts.riders;
     zone = zone_text parts.zone;
   };
   zone = zone_rule parts.zone;
@@ -25,4 +25,4 @@ pub record IsSound (parts : Parts) : Type 0 where
   pub few : length parts.modes.items ≤ 32
   pub known : are_modes_below (length parts.modes.items) parts.ranges ≡ true
   pub standard : HasLimits parts.standard
-  pub riders : All HasLimits (values_of parts.riders.entries)
+  pub riders : All HasLimits (values_of parts.riders)

@@ -50,6 +50,7 @@ impl Clock {
     /// days is the MTA's, where it ends is this project's choice). A midnight that clocks skip takes
     /// the offset before the gap, one that comes twice is the earlier. It always answers, since it
     /// takes no memory.
+    #[inline]
     pub fn until(&self, moment: u64) -> Result<u64, NoMemory>
         requires { moment < 4_102_444_800_000 }
         ensures answers { IsOk result }
@@ -64,6 +65,8 @@ impl Clock {
     }
 }
 
+// Kept out of `until`, so that the few instructions of a table without a zone stand where it is called.
+#[inline(never)]
 fn civil_limit(zone: &TimeZone<'static>, moment: u64) -> u64
     requires { moment < 4_102_444_800_000 }
     ensures limit { IsCivilLimit (plain_zone zone.now) moment result }

@@ -18,6 +18,7 @@ mod table;
 mod terms;
 #[cfg(test)]
 mod tests;
+mod token;
 mod transfers;
 mod validators;
 mod zone;

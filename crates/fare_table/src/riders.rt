@@ -7,13 +7,71 @@ ghost use Rattle.fare_table.specs.Riders as spec;
 ghost use Rattle.fare_table.specs.Terms.{HasLimits};
 
 use crate::classes::class_named;
-use crate::fault::{Key, TableFault};
+use crate::fault::{Key, NoMemory, TableFault};
 use crate::members::{hold_strings, optional};
 use crate::terms::Terms;
+use crate::token::Token;
 use hex::FromHex;
 use std::alloc::Global;
 use std::collections::BTreeMap;
+use std::marker::Model;
 use toml::{Table, Value};
+
+/// The terms of riders, by the bytes of their tokens.
+#[derive(Drop)]
+pub struct Riders {
+    terms: BTreeMap<Token, Terms>,
+}
+
+impl Model for Riders {
+    ghost use Rattle.std.specs.Prelude.{ℕ, List, All};
+    ghost use Rattle.std.specs.Map.{keys_of};
+    ghost use Rattle.fare_table.specs.declared.terms.Terms.{Terms};
+    ghost use Rattle.fare_table.specs.Token.{Fits, by_bytes};
+
+    ghost Value = { List (List ℕ × Terms) };
+
+    ghost view = { λ r. by_bytes r.terms.entries };
+
+    ghost invariant = { λ r. All Fits (keys_of r.terms.entries) };
+}
+
+impl Riders {
+    ghost use Rattle.std.specs.Prelude.{◌≡◌, [], OnErr, OnOk, length};
+    ghost use Rattle.std.specs.BTreeMap.{insert_entry, is_at};
+    ghost use Rattle.std.specs.Cmp.Lexicographic.{slice_cmp};
+    ghost use Rattle.std.specs.Map.{lookup};
+    ghost use Rattle.std.specs.Ordering.{nat_cmp};
+
+    fn new(alloc: Global) -> Riders
+        ensures { result ≡ [] }
+    {
+        Riders {
+            terms: BTreeMap::new(alloc),
+        }
+    }
+
+    /// The terms of the rider with this token, if there is one.
+    pub fn terms_of(&self, token: &[u8]) -> Option<Terms>
+        requires { length token.now ≡ 16 }
+        ensures { result ≡ lookup (is_at (slice_cmp nat_cmp token.now)) self.now }
+    {
+        match self.terms.get(&Token::of(token)) {
+            Some(terms) => Some(*terms),
+            None => None,
+        }
+    }
+
+    /// Sets the terms of one rider. Unchanged where memory is refused.
+    fn insert(&mut self, token: &[u8], terms: Terms) -> Result<(), NoMemory>
+        requires { length token.now ≡ 16 }
+        ensures ok { OnOk result (self.new ≡ insert_entry (slice_cmp nat_cmp) self.old token.now terms) }
+        ensures err { OnErr result (self.new ≡ self.old) }
+    {
+        self.terms.insert(Token::of(token), terms)?;
+        Ok(())
+    }
+}
 
 /// The terms of the riders that the text names, by their tokens; none where it has no such key.
 #[tactic(auto, unfolding(crate::specs::Riders::riders_of))]
@@ -21,13 +79,13 @@ pub fn riders_of(
     alloc: Global,
     classes: &Table,
     table: &Table,
-) -> Result<BTreeMap<[u8; 16], Terms>, TableFault>
-    ensures answer { Answers (λ m. m.entries) result
+) -> Result<Riders, TableFault>
+    ensures answer { Answers (λ r. r) result
         (spec.riders_of (table_view classes.now) (table_view table.now)) }
-    ensures limits { IfOk result (λ m. All HasLimits (values_of m.entries)) }
+    ensures limits { IfOk result (λ r. All HasLimits (values_of r)) }
 {
     let Some(value) = optional(table, "riders") else {
-        return Ok(BTreeMap::new(alloc));
+        return Ok(Riders::new(alloc));
     };
     let Some(riders) = value.as_table() else {
         return Err(TableFault::Kind { key: Key::Riders });
@@ -42,18 +100,18 @@ fn riders_from(
     alloc: Global,
     classes: &Table,
     members: &Table,
-) -> Result<BTreeMap<[u8; 16], Terms>, TableFault>
-    ensures answer { Answers (λ m. m.entries) result
+) -> Result<Riders, TableFault>
+    ensures answer { Answers (λ r. r) result
         (spec.riders_from (table_view classes.now) [] (table_view members.now)) }
-    ensures limits { IfOk result (λ m. All HasLimits (values_of m.entries)) }
+    ensures limits { IfOk result (λ r. All HasLimits (values_of r)) }
 {
-    let mut riders = BTreeMap::new(alloc);
+    let mut riders = Riders::new(alloc);
     for (key, value) in members {
         let (token, terms) = rider_of(classes, key.as_str(), value)?;
-        if riders.contains_key(&token) {
+        if riders.terms_of(&token).is_some() {
             return Err(TableFault::Rider);
         }
-        riders.insert(token, terms)?;
+        riders.insert(&token, terms)?;
     }
     Ok(riders)
 }

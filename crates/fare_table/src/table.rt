@@ -15,14 +15,13 @@ use crate::clock::Clock;
 use crate::fault::{NoMemory, TableFault};
 use crate::mode::Mode;
 use crate::modes::modes_of;
-use crate::riders::riders_of;
+use crate::riders::{Riders, riders_of};
 use crate::terms::Terms;
 use crate::transfers::{Transfers, transfers_of};
 use crate::validators::{Ranges, ranges_of};
 use crate::zone::{Zone, zone_of};
 use jiff::tz::TimeZone;
 use std::alloc::Global;
-use std::collections::BTreeMap;
 use std::marker::Model;
 use std::sync::Arc;
 use toml::Table;
@@ -55,7 +54,7 @@ struct Parts {
     transfers: Transfers,
     standard: Terms,
     ranges: Ranges,
-    riders: BTreeMap<[u8; 16], Terms>,
+    riders: Riders,
     zone: Option<Zone>,
 }
 
@@ -144,10 +143,8 @@ impl FareTable {
         ensures terms { result ≡ terms_at self.now token.now }
         ensures limits { HasLimits result }
     {
-        let mut key = [0; 16];
-        key.copy_from_slice(token);
-        match self.parts.riders.get(&key) {
-            Some(terms) => *terms,
+        match self.parts.riders.terms_of(token) {
+            Some(terms) => terms,
             None => self.parts.standard,
         }
     }

@@ -18,7 +18,7 @@ riders-step classes earlier riders key value more token terms is free one = rw (
 pub loop-key-preserved : goal.loop-key-preserved
 loop-key-preserved c =
     let classes = members_view c.args.classes.now.entries in
-    let earlier = c.loop-key.riders.entries in
+    let earlier = c.loop-key.riders in
     let key = string_bytes c.in-Some.key.now in
     let value = view c.in-Some.value.now in
     let token = c.in_ok-token.token in
@@ -29,6 +29,6 @@ loop-key-preserved c =
     record {
       same =
           c.loop-key.invariant.same ∙ ap (λ entries. riders_from classes earlier (members_view entries)) c.in-Some.ensures.steps
-          ∙ riders-step classes earlier c.insert.new.self.entries key value (members_view c.next.new.self) token terms is (sym c.if-contains_key.ensures) c.in_ok-insert.ensures.entries;
-      limits = rw c.in_ok-insert.ensures.entries (All-values-insert_entry (slice_cmp nat_cmp) token terms HasLimits earlier c.loop-key.invariant.limits c.in_ok-token.ensures.limits);
+          ∙ riders-step classes earlier c.insert.new.self key value (members_view c.next.new.self) token terms is (rw (← c.terms_of.ensures) (sym c.is_some.ensures ∙ c.if-is_some.false)) c.in_ok-insert.ensures.ok;
+      limits = rw c.in_ok-insert.ensures.ok (All-values-insert_entry (slice_cmp nat_cmp) token terms HasLimits earlier c.loop-key.invariant.limits c.in_ok-token.ensures.limits);
     }

@@ -8,6 +8,6 @@ use Rattle.fare_table.proofs.riders.riders_from.Given as goal
 abbrev pub invariant-loop-key : goal.invariant-loop-key
 invariant-loop-key l = record {
   -- the riders of the whole are those found and those of what is left
-  same : riders_from (members_view l.classes.entries) [] (members_view l.members.entries) ≡ riders_from (members_view l.classes.entries) l.riders.entries (members_view l.key-iterator);
-  limits : All HasLimits (values_of l.riders.entries);
+  same : riders_from (members_view l.classes.entries) [] (members_view l.members.entries) ≡ riders_from (members_view l.classes.entries) l.riders (members_view l.key-iterator);
+  limits : All HasLimits (values_of l.riders);
 }

@@ -1,14 +1,14 @@
 -- Each way out of the step is one of the rule's four cases: unknown, stale, transfer, ride.
 use Rattle.std.proofs.Common.{List, [], ◌∷◌, ◌++◌, Some, refl, sym, ◌∙◌}
 use Rattle.account_rule.specs.Replies.{ride_reply}
-use Rattle.account_rule.specs.Rules.{permits_of, rules_of}
+use Rattle.account_rule.specs.Rules.{rules_of}
 use Rattle.account_rule.specs.Kept.{kept_giver}
 use Rattle.account_rule.specs.Stands.{StandsForSome, Stands}
 use Rattle.account_rule.specs.Taps.{live_at}
 use Rattle.account_rule.specs.declared.tap.TapIn.{TapIn}
-use Rattle.account_rule.proofs.StepLemmas.{GivesNone, IsStep, gives_none-fresh, gives_none-state, ride, room, stale, transfer, unknown}
+use Rattle.account_rule.proofs.StepLemmas.{IsStep, at_kept, first_ride, gives_none-state, kept_terms, next_ride, room, stale, transfer, unknown}
 use Rattle.account_rule.proofs.account.Account.step.Goals as goal
-use Rattle.account_rule.proofs.account.Account.step.Goals.{in-Some-state+else-tap-state+else-gives_transfer, in_default-state}
+use Rattle.account_rule.proofs.account.Account.step.Goals.{After-first_ride, After-to_ride}
 
 -- the tap's validator is not known
 
@@ -56,35 +56,54 @@ unfolding StandsForSome
 returns-then-gives_transfer-clause-some c =
     (c.requires.stands.0 ++ c.args.tap ∷ [], returns-then-gives_transfer-clause-stands c c.requires.stands.0 c.requires.stands.1)
 
--- the tap is a ride
+-- the tap is a later ride
 
-pub add_ride-cents-requires-clause-room : goal.add_ride-cents-requires-clause-room
+pub take_ride-requires-clause-limits : goal.take_ride-requires-clause-limits
+unfolding StandsForSome
+take_ride-requires-clause-limits c =
+    (kept_terms _ c.args.self.now.state _ c.requires.stands.0 c.in-Some-state.is c.requires.stands.1).limits
+
+pub take_ride-requires-clause-room : goal.take_ride-requires-clause-room
 unfolding StandsForSome rules_of
-add_ride-cents-requires-clause-room c =
-    room (rules_of c.args.table.now c.args.token.now) c.args.self.now.state c.requires.stands.0 c.args.tap _ _ c.requires.stands.1 c.window_at-window.ensures
-    c.terms-terms.ensures.terms c.terms-terms.ensures.limits
+take_ride-requires-clause-room c =
+    let kept = kept_terms _ c.args.self.now.state _ c.requires.stands.0 c.in-Some-state.is c.requires.stands.1 in
+    room (rules_of c.args.table.now c.args.token.now) c.args.self.now.state c.requires.stands.0 c.args.tap _ _ c.requires.stands.1
+    (at_kept _ _ c.args.tap.moment c.args.tap.until c.in-Some-state.is) kept.same kept.limits
 
-gives_none : (c : goal.After-to_ride) → GivesNone (permits_of c.args.table.now) c.args.self.now.state c.args.tap c.in-Some.mode
-gives_none c = elim c.match-self.branch [
-  | in-Some-state+else-tap-state+else-gives_transfer w ↦
-      gives_none-state _ _ _ c.args.tap _ w.in-Some-state.is w.if-tap-state.false (sym w.gives_transfer.ensures ∙ w.if-gives_transfer.false)
-  | in_default-state w ↦ gives_none-fresh _ _ c.args.tap _ w.in_default-state.is
-]
-
-is_ride : (c : goal.After-to_ride) (taps : List TapIn) → Stands (rules_of c.args.table.now c.args.token.now) c.args.self.now taps
-    → IsStep (rules_of c.args.table.now c.args.token.now) taps c.args.tap (ride_reply c.add_ride-cents.result)
-    (Some (record { last = c.args.tap.moment; giver = Some c.in-Some.mode; terms = c.terms-terms.result; window = c.add_ride-cents.new.self }))
+is_next_ride : (c : After-to_ride) (taps : List TapIn) → Stands (rules_of c.args.table.now c.args.token.now) c.args.self.now taps
+    → IsStep (rules_of c.args.table.now c.args.token.now) taps c.args.tap (ride_reply c.take_ride.result) (Some c.take_ride.new.self)
 unfolding rules_of
-is_ride c taps stands =
-    ride (rules_of c.args.table.now c.args.token.now) c.args.self.now.state taps c.args.tap c.in-Some.mode _ _ _ _ stands c.in-Some.is
-    (c.requires.mode _ c.in-Some.is) c.requires.until (gives_none c) c.terms-terms.ensures.terms c.terms-terms.ensures.limits c.window_at-window.ensures
-    c.add_ride-cents.ensures.cost c.add_ride-cents.ensures.counts
+is_next_ride c taps stands =
+    next_ride (rules_of c.args.table.now c.args.token.now) c.args.self.now.state _ _ taps c.args.tap c.in-Some.mode _ c.in-Some-state.is stands c.in-Some.is
+    (c.requires.mode _ c.in-Some.is) c.requires.until
+    (gives_none-state _ _ _ c.args.tap _ c.in-Some-state.is c.if-tap-state.false (sym c.gives_transfer.ensures ∙ c.if-gives_transfer.false))
+    c.take_ride.ensures.cost c.take_ride.ensures.last c.take_ride.ensures.giver c.take_ride.ensures.terms c.take_ride.ensures.window
+
+pub returns-in-Some-state-clause-reply : goal.returns-in-Some-state-clause-reply
+returns-in-Some-state-clause-reply c = λ taps stands. c.to_ride.ensures ∙ (is_next_ride c taps stands).reply
+
+pub returns-in-Some-state-clause-stands : goal.returns-in-Some-state-clause-stands
+returns-in-Some-state-clause-stands c = λ taps stands. (is_next_ride c taps stands).stands
+
+pub returns-in-Some-state-clause-some : goal.returns-in-Some-state-clause-some
+unfolding StandsForSome
+returns-in-Some-state-clause-some c =
+    (c.requires.stands.0 ++ c.args.tap ∷ [], returns-in-Some-state-clause-stands c c.requires.stands.0 c.requires.stands.1)
+
+-- the tap is the first ride
+
+is_first_ride : (c : After-first_ride) (taps : List TapIn) → Stands (rules_of c.args.table.now c.args.token.now) c.args.self.now taps
+    → IsStep (rules_of c.args.table.now c.args.token.now) taps c.args.tap c.first_ride.result c.first_ride.new.self.state
+unfolding rules_of
+is_first_ride c taps stands =
+    first_ride (rules_of c.args.table.now c.args.token.now) c.args.self.now.state _ taps c.args.tap c.in-Some.mode _ c.in_default-state.is stands c.in-Some.is
+    (c.requires.mode _ c.in-Some.is) c.requires.until c.first_ride.ensures.limits c.first_ride.ensures.reply c.first_ride.ensures.state
 
 pub returns-clause-reply : goal.returns-clause-reply
-returns-clause-reply c = λ taps stands. c.to_ride.ensures ∙ (is_ride c taps stands).reply
+returns-clause-reply c = λ taps stands. (is_first_ride c taps stands).reply
 
 pub returns-clause-stands : goal.returns-clause-stands
-returns-clause-stands c = λ taps stands. (is_ride c taps stands).stands
+returns-clause-stands c = λ taps stands. (is_first_ride c taps stands).stands
 
 pub returns-clause-some : goal.returns-clause-some
 unfolding StandsForSome
