@@ -1,6 +1,6 @@
 //! The counts that a book keeps of each token, small and beside the token's account.
 
-ghost use Rattle.std.specs.Prelude.{◌≡◌, ◌+◌, ◌*◌, ◌≤◌, IsTrue, IsFalse};
+ghost use Rattle.std.specs.Prelude.{◌≡◌, ◌+◌, ◌*◌, ◌<◌, ◌≤◌, IsTrue};
 
 use crate::sums::TokenSum;
 use crate::token::Token;
@@ -20,21 +20,19 @@ pub(crate) struct Counts {
     ghost in_cents: { cents ≤ (paid + transfers + capped + stale + unknown) * 4294967295 },
 }
 
-/// Adds one, and returns whether it did: else the number is the largest, and stays.
+/// Adds one, and returns whether there was room: the largest number stays.
 #[inline(always)]
 fn add_one(count: &mut u32) -> bool
     ensures added { IsTrue result → count.new ≡ count.old + 1 }
-    ensures same { IsFalse result → count.new ≡ count.old }
+    ensures some { 0 < count.new }
 {
-    if *count == u32::MAX {
-        return false;
-    }
-    *count += 1;
-    true
+    let had_room = *count < u32::MAX;
+    *count = count.saturating_add(1);
+    had_room
 }
 
 impl Counts {
-    ghost use Rattle.std.specs.Prelude.{◌≡◌, ◌+◌, ◌^◌, ◌<◌, [], ◌∷◌, IsTrue, IsFalse};
+    ghost use Rattle.std.specs.Prelude.{◌≡◌, ◌+◌, [], ◌∷◌, IsTrue};
     ghost use Rattle.shard_book.specs.Counts.{sums_of_counts};
     ghost use Rattle.shard_book.specs.Sums.{sums_of, sums_of_replies, add_sums};
 
@@ -53,26 +51,21 @@ impl Counts {
         }
     }
 
-    /// Counts one reply more, and returns whether it did: else a number would be too large, and nothing changes.
+    /// Counts one reply more, and returns whether there was room: else the counts are right no more.
     #[tactic(auto, unfolding(crate::specs::Sums::sums_of_replies))]
     pub(crate) fn add(&mut self, reply: Reply) -> bool
-        ensures counted { IsTrue result → sums_of_counts self.new ≡ add_sums (sums_of_counts self.old) (sums_of_replies (reply ∷ [])) }
-        ensures same { IsFalse result → self.new ≡ self.old }
+        ensures { IsTrue result → sums_of_counts self.new ≡ add_sums (sums_of_counts self.old) (sums_of_replies (reply ∷ [])) }
     {
-        let Some(cents) = self.cents.checked_add(reply.cents) else {
-            return false;
-        };
-        let has_room = match reply.answer {
+        let had_room = match reply.answer {
             Answer::Paid => add_one(&mut self.paid),
             Answer::Transfer => add_one(&mut self.transfers),
             Answer::Capped => add_one(&mut self.capped),
             Answer::Stale => add_one(&mut self.stale),
             Answer::Unknown => add_one(&mut self.unknown),
         };
-        if has_room {
-            self.cents = cents;
-        }
-        has_room
+        let (cents, carries) = self.cents.overflowing_add(reply.cents);
+        self.cents = cents;
+        had_room & !carries
     }
 
     /// The same as totals.

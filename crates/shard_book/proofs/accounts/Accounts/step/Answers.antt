@@ -25,7 +25,7 @@ returns-clause-counted c = λ counting.
     let fresh : Kept = record { account = c.fresh.result; counts = c.new.result } in
     let next : Kept = record { account = c.step-reply.new.self; counts = c.add-was_counted.new.self } in
     ap counted (here_same _ (map_with_value c.in_ok-self.field-0 next) c.args.self.now.map _ next (search rules) (c.in_ok-self.ensures.update.0 next))
-    ∙ c.add-was_counted.ensures.counted (grind arith)
+    ∙ c.add-was_counted.ensures (grind arith)
     ∙ ap (λ (s : Sums). add_sums s (sums_of_replies (c.step-reply.result ∷ [])))
     (counted_or _ fresh c.or_insert-kept.result.now
     (c.or_insert-kept.ensures.value ∙ ap (λ (kept : Option Kept). unwrap_or kept fresh) c.in_ok-self.ensures.value)
