@@ -1,5 +1,5 @@
 -- What is kept of the tokens counts their entries.
-use Rattle.std.proofs.Common.{◌≡◌, ℕ, ◌<◌, ◌≤◌, Bool, true, false, cond, ◌||◌, List, [], ◌∷◌, ◌++◌, length, map, Option, Some, None, refl, sym, ap, subst, ◌∙◌, ⊎_elim, arith}
+use Rattle.std.proofs.Common.{◌≡◌, Bool, true, false, cond, ◌||◌, List, [], ◌∷◌, ◌++◌, map, Option, Some, None, refl, sym, ap, subst, ◌∙◌, ⊎_elim}
 use Rattle.std.specs.List.{list_any}
 use Rattle.std.specs.Option.{is_some}
 use Rattle.std.specs.Set.{is_member}
@@ -7,7 +7,6 @@ use Rattle.std.proofs.lemmas.Bool.{cases_Bool}
 use Rattle.std.proofs.lemmas.List.{map-append, append-nil}
 use Rattle.std.proofs.lemmas.List.Elements.{filter-append}
 use Rattle.std.proofs.lemmas.List.Folds.{list_any-append}
-use Rattle.std.proofs.lemmas.List.Sums.{length-filter, count_by-le-length}
 use Rattle.shard_book.specs.declared.accounts.Accounts.{Accounts}
 use Rattle.shard_book.specs.declared.accounts.Kept.{Kept}
 use Rattle.shard_book.specs.declared.entry.Entry.{Entry}
@@ -19,7 +18,7 @@ use Rattle.shard_book.specs.Groups.{token_of}
 use Rattle.shard_book.specs.Sums.{Sums, sums, sums_of_replies, add_sums}
 use Rattle.shard_book.specs.Token.{token_eq}
 use Rattle.shard_book.proofs.Histories.{same_token, token_eq-sym, token_eq-refl}
-use Rattle.shard_book.proofs.SumsLemmas.{sums-append, sums-taps}
+use Rattle.shard_book.proofs.SumsLemmas.{sums-append}
 
 or-true : (a : Bool) → true ≡ (a || (true || false))
 or-true true = refl
@@ -91,10 +90,3 @@ counted-push accounts after entries entry old added there others = record {
       ∙ sym (member-push token entries entry))
       (cases_Bool (token_eq entry.token token));
 }
-
--- no token has more taps than there are entries
-pub counted-few : (accounts : Accounts) (entries : List Entry) (token : Token) → AreCounted accounts entries → (counted (kept_at accounts token)).taps ≤ length entries
-unfolding own
-counted-few accounts entries token old =
-    let count : (counted (kept_at accounts token)).taps ≡ length (own token entries) = ap (λ (s : Sums). s.taps) (old.sums token) ∙ sums-taps (own token entries) in
-    omega (arith, length-filter (is_of token) entries, count_by-le-length (is_of token) entries)

@@ -15,7 +15,7 @@ use Rattle.shard_book.specs.declared.accounts.Accounts.{Accounts}
 use Rattle.shard_book.specs.declared.accounts.Kept.{Kept}
 use Rattle.shard_book.specs.declared.entry.Entry.{Entry}
 use Rattle.shard_book.specs.declared.token.Token.{Token}
-use Rattle.shard_book.specs.Accounts.{kept_at, counted, IsKept}
+use Rattle.shard_book.specs.Accounts.{kept_at, counted, IsCounting, IsKept}
 use Rattle.shard_book.specs.Entry.{own, tap_of, taps_of, reply_of}
 use Rattle.shard_book.specs.History.{IsReplied}
 use Rattle.shard_book.specs.Sound.{IsSound, AreKept}
@@ -25,15 +25,15 @@ use Rattle.shard_book.proofs.CountingLemmas.{counted-same, counted-push, counted
 use Rattle.shard_book.proofs.Histories.{legal-none, legal-push, kept-push, kept-same, tap_of-post}
 
 -- nothing was posted: the entries are the same, and all accounts stayed
-pub sound-same : {table : Fares} {shard shards : ℕ} {accounts after : Accounts} {entries items : List Entry} → items ≡ entries → ((other : Token) → kept_at after other ≡ kept_at accounts other) → IsSound table shard shards accounts entries → IsSound table shard shards after items
-sound-same {table} {shard} {shards} {accounts} {after} {entries} {items} same others sound =
+pub sound-same : {table : Fares} {shard shards : ℕ} {accounts after : Accounts} {entries items : List Entry} → items ≡ entries → ((other : Token) → kept_at after other ≡ kept_at accounts other) → (IsCounting after → IsCounting accounts) → IsSound table shard shards accounts entries → IsSound table shard shards after items
+sound-same {table} {shard} {shards} {accounts} {after} {entries} {items} same others counting sound =
     subst (λ (es : List Entry). IsSound table shard shards after es) (sym same) (record {
       within = sound.within;
       few = sound.few;
       legal = sound.legal;
       here = sound.here;
       kept = kept-same table accounts after entries sound.kept others;
-      counted = counted-same accounts after entries sound.counted others;
+      counted = λ counts. counted-same accounts after entries (sound.counted (counting counts)) others;
     })
 
 -- one entry was posted
@@ -42,18 +42,19 @@ pub sound-push : {table : Fares} {shard shards : ℕ} {accounts after : Accounts
     → shard_of_token (bytes_of entry.token) shards ≡ shard
     → IsReplied table entries entry
     → IsKept (rules_of table (bytes_of entry.token)) (kept_at after entry.token) (taps_of table entry.token entries ++ tap_of table entry ∷ [])
-    → counted (kept_at after entry.token) ≡ add_sums (counted (kept_at accounts entry.token)) (sums_of_replies (reply_of entry ∷ []))
+    → (IsCounting after → counted (kept_at after entry.token) ≡ add_sums (counted (kept_at accounts entry.token)) (sums_of_replies (reply_of entry ∷ [])))
+    → (IsCounting after → IsCounting accounts)
     → is_some (kept_at after entry.token) ≡ true
     → ((other : Token) → token_eq entry.token other ≡ false → kept_at after other ≡ kept_at accounts other)
     → IsSound table shard shards after items
-sound-push {table} {shard} {shards} {accounts} {after} {entries} {items} entry pushed sound here replied own_kept added there others =
+sound-push {table} {shard} {shards} {accounts} {after} {entries} {items} entry pushed sound here replied own_kept added counting there others =
     subst (λ (es : List Entry). IsSound table shard shards after es) (sym pushed) (record {
       within = sound.within;
       few = sound.few;
       legal = legal-push table entries entry sound.legal replied;
       here = record { each = All-push (λ (e : Entry). shard_of_token (bytes_of e.token) shards ≡ shard) entries entry sound.here.each here };
       kept = kept-push table accounts after entries entry sound.kept own_kept others;
-      counted = counted-push accounts after entries entry sound.counted added there others;
+      counted = λ counts. counted-push accounts after entries entry (sound.counted (counting counts)) (added counts) there others;
     })
 
 -- one tap was posted: what the account's step tells makes the book sound again
@@ -67,17 +68,18 @@ pub sound-post : {table : Fares} {shard shards : ℕ} {accounts after : Accounts
     → reply_of entry ≡ reply (rules_of table (bytes_of entry.token)) taps (record { moment = entry.moment; mode = mode; until = limit }))
     → ((taps : List TapIn) → IsKept (rules_of table (bytes_of entry.token)) (kept_at accounts entry.token) taps
     → IsKept (rules_of table (bytes_of entry.token)) (kept_at after entry.token) (taps ++ record { moment = entry.moment; mode = mode; until = limit } ∷ []))
-    → counted (kept_at after entry.token) ≡ add_sums (counted (kept_at accounts entry.token)) (sums_of_replies (reply_of entry ∷ []))
+    → (IsCounting after → counted (kept_at after entry.token) ≡ add_sums (counted (kept_at accounts entry.token)) (sums_of_replies (reply_of entry ∷ [])))
+    → (IsCounting after → IsCounting accounts)
     → is_some (kept_at after entry.token) ≡ true
     → ((other : Token) → token_eq entry.token other ≡ false → kept_at after other ≡ kept_at accounts other)
     → IsSound table shard shards after items
 unfolding AreKept IsReplied
-sound-post {table} {shard} {shards} {accounts} {after} {entries} {items} entry mode limit pushed sound here is_mode is_limit by_rule stands added there others =
+sound-post {table} {shard} {shards} {accounts} {after} {entries} {items} entry mode limit pushed sound here is_mode is_limit by_rule stands added counting there others =
     let tap_is : tap_of table entry ≡ record { moment = entry.moment; mode = mode; until = limit } = tap_of-post table entry mode limit is_mode is_limit in
     sound-push entry pushed sound here
     (by_rule _ (sound.kept entry.token) ∙ ap (λ (tap : TapIn). reply (rules_of table (bytes_of entry.token)) (taps_of table entry.token entries) tap) (sym tap_is))
     (subst (λ (tap : TapIn). IsKept (rules_of table (bytes_of entry.token)) (kept_at after entry.token) (taps_of table entry.token entries ++ tap ∷ [])) (sym tap_is) (stands _ (sound.kept entry.token)))
-    added there others
+    added counting there others
 
 -- a book without entries and without accounts is sound
 pub sound-none : {table : Fares} {shard shards : ℕ} {accounts : Accounts} {items : List Entry} → items ≡ [] → shard < shards → shards ≤ 64 → ((token : Token) → kept_at accounts token ≡ None) → IsSound table shard shards accounts items
@@ -89,5 +91,5 @@ sound-none {table} {shard} {shards} {accounts} {items} empty within few none =
       legal = legal-none table;
       here = record { each = All-nil (λ (e : Entry). shard_of_token (bytes_of e.token) shards ≡ shard) };
       kept = λ token. subst (λ (a : Option Kept). IsKept (rules_of table (bytes_of token)) a []) (sym (none token)) refl;
-      counted = counted-none accounts none;
+      counted = λ _. counted-none accounts none;
     })

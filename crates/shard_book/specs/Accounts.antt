@@ -1,5 +1,5 @@
 -- What a book's accounts know of a list of taps.
-use Rattle.std.specs.Prelude.{◌≡◌, List, [], Option, Some, None, map}
+use Rattle.std.specs.Prelude.{◌≡◌, List, [], Option, Some, None, map, IsTrue}
 use Rattle.std.specs.HashMap.{get}
 use Rattle.account_rule.specs.declared.tap.TapIn.{TapIn}
 use Rattle.account_rule.specs.Rules.{Rules}
@@ -14,6 +14,10 @@ use Rattle.shard_book.specs.Token.{token_eq}
 -- what is kept of the token
 unfoldable pub kept_at : Accounts → Token → Option Kept
 kept_at accounts token = get token_eq accounts.map token
+
+-- the counts of all tokens are right
+abbrev pub IsCounting : Accounts → Type 0
+IsCounting accounts = IsTrue accounts.counting
 
 -- the kept account stands for the taps; where none is kept there are none
 abbrev pub IsKept : Rules → Option Kept → List TapIn → Type 0

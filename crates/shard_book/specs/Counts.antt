@@ -1,5 +1,5 @@
 -- What small counts stand for.
-use Rattle.std.specs.Prelude.{ℕ, ◌+◌, ◌*◌, ◌^◌}
+use Rattle.std.specs.Prelude.{ℕ, ◌+◌}
 use Rattle.shard_book.specs.declared.counts.Counts.{Counts}
 use Rattle.shard_book.specs.declared.counts.TokenCounts.{TokenCounts}
 use Rattle.shard_book.specs.declared.token.Token.{Token}
@@ -14,7 +14,7 @@ sums_of_counts counts = record {
   capped = counts.capped;
   stale = counts.stale;
   unknown = counts.unknown;
-  cents = counts.carried * 2 ^ 64 + counts.cents;
+  cents = counts.cents;
 }
 
 -- a token with the sums that are kept of it

@@ -5,7 +5,7 @@ use Rattle.account_rule.specs.Rules.{rules_of}
 use Rattle.shard_book.specs.declared.accounts.Accounts.{Accounts}
 use Rattle.shard_book.specs.declared.entry.Entry.{Entry}
 use Rattle.shard_book.specs.declared.token.Token.{Token}
-use Rattle.shard_book.specs.Accounts.{kept_at, IsKept}
+use Rattle.shard_book.specs.Accounts.{kept_at, IsCounting, IsKept}
 use Rattle.shard_book.specs.Book.{AreOfShard}
 use Rattle.shard_book.specs.Counting.{AreCounted}
 use Rattle.shard_book.specs.Entry.{taps_of}
@@ -16,11 +16,11 @@ use Rattle.shard_book.specs.Token.{bytes_of}
 unfoldable pub AreKept : Fares → Accounts → List Entry → Type 0
 AreKept table accounts entries = (token : Token) → IsKept (rules_of table (bytes_of token)) (kept_at accounts token) (taps_of table token entries)
 
--- the history is legal and of the shard alone, and the accounts stand for it and count it
+-- the history is legal and of the shard alone, and the accounts stand for it and, while they count, count it
 pub record IsSound (table : Fares) (shard shards : ℕ) (accounts : Accounts) (entries : List Entry) : Type 0 where
   pub within : shard < shards
   pub few : shards ≤ 64
   pub legal : IsLegal table entries
   pub here : AreOfShard shard shards entries
   pub kept : AreKept table accounts entries
-  pub counted : AreCounted accounts entries
+  pub counted : IsCounting accounts → AreCounted accounts entries

@@ -1,13 +1,13 @@
 //! The accounts of a book, by token: the one place that knows in which kind of map they stand.
 
-ghost use Rattle.std.specs.Prelude.{◌≡◌, ◌<◌, ◌^◌, List, [], ◌∷◌, ◌++◌, length, map, is_some, IfOk, OnOk, OnErr, None, true, false};
+ghost use Rattle.std.specs.Prelude.{◌≡◌, ◌<◌, List, [], ◌∷◌, ◌++◌, length, map, is_some, IfOk, OnOk, OnErr, None, true, false, IsTrue};
 ghost use Rattle.std.specs.Option.{ForSome};
 ghost use Rattle.fare_table.specs.Until.{until};
 ghost use Rattle.account_rule.specs.Replies.{reply};
 ghost use Rattle.account_rule.specs.Rules.{Rules, rules_of};
 ghost use Rattle.account_rule.specs.Stands.{Stands, StandsForSome};
 ghost use Rattle.account_rule.specs.declared.tap.TapIn.{TapIn};
-ghost use Rattle.shard_book.specs.Accounts.{kept_at, counted, pairs_of, IsKept};
+ghost use Rattle.shard_book.specs.Accounts.{kept_at, counted, pairs_of, IsCounting, IsKept};
 ghost use Rattle.shard_book.specs.Counting.{AreCounted, AreSummed};
 ghost use Rattle.shard_book.specs.Counts.{token_counts};
 ghost use Rattle.shard_book.specs.declared.entry.Entry.{Entry};
@@ -34,6 +34,8 @@ pub(crate) struct Kept {
 #[derive(Drop)]
 pub(crate) struct Accounts {
     map: HashMap<Token, Kept, TokenKeys>,
+    // Whether the counts are right: it ends where one of them would be too large.
+    counting: bool,
 }
 
 impl Accounts {
@@ -44,6 +46,7 @@ impl Accounts {
     {
         Accounts {
             map: HashMap::with_hasher(alloc, keys),
+            counting: true,
         }
     }
 
@@ -75,7 +78,6 @@ impl Accounts {
         requires mode { ForSome tap.mode (λ mode. mode.place < length table.now.rules.modes) }
         requires until { tap.until ≡ until table.now tap.moment }
         requires kept { (taps : List TapIn) × IsKept (rules_of table.now (bytes_of token)) (kept_at self.old token) taps }
-        requires room { (counted (kept_at self.old token)).taps < 2 ^ 63 }
 
         ensures reply { IfOk result (λ answered. (taps : List TapIn)
             → IsKept (rules_of table.now (bytes_of token)) (kept_at self.old token) taps
@@ -83,8 +85,9 @@ impl Accounts {
         ensures kept { OnOk result ((taps : List TapIn)
             → IsKept (rules_of table.now (bytes_of token)) (kept_at self.old token) taps
             → IsKept (rules_of table.now (bytes_of token)) (kept_at self.new token) (taps ++ tap ∷ [])) }
-        ensures counted { IfOk result (λ answered. counted (kept_at self.new token)
+        ensures counted { IfOk result (λ answered. IsCounting self.new → counted (kept_at self.new token)
             ≡ add_sums (counted (kept_at self.old token)) (sums_of_replies (answered ∷ []))) }
+        ensures counting { IsCounting self.new → IsCounting self.old }
         ensures there { OnOk result (is_some (kept_at self.new token) ≡ true) }
         ensures others { OnOk result ((other : Token) → token_eq token other ≡ false → kept_at self.new other ≡ kept_at self.old other) }
         ensures err { OnErr result ((other : Token) → kept_at self.new other ≡ kept_at self.old other) }
@@ -95,8 +98,16 @@ impl Accounts {
         };
         let kept = self.map.entry(token)?.or_insert(fresh);
         let reply = kept.account.step(table, &token.bytes(), tap);
-        kept.counts.add(reply);
+        let was_counted = kept.counts.add(reply);
+        self.counting = self.counting & was_counted;
         Ok(reply)
+    }
+
+    /// Whether the counts are right.
+    pub(crate) fn is_counting(&self) -> bool
+        ensures { IsTrue result → IsCounting self.now }
+    {
+        self.counting
     }
 
     /// Appends each token with its counts, in no order.
@@ -117,4 +128,4 @@ impl Accounts {
     }
 }
 
-const _: () = prove!(size_of::<Kept>() == 112);
+const _: () = prove!(size_of::<Kept>() == 80);

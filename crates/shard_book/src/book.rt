@@ -156,12 +156,17 @@ impl ShardBook {
         self.accounts.keys()
     }
 
-    /// Appends each token of the history with the counts of its entries, in no order.
-    pub(crate) fn push_counts(&self, list: &mut Vec<TokenCounts>) -> Result<(), NoMemory>
-        ensures sums { OnOk result (AddsSums self.now.entries (map token_counts list.old.items) (map token_counts list.new.items)) }
+    /// Appends each token of the history with the counts of its entries, in no order. It answers `false`, and
+    /// appends none, where a count has grown too large to be kept.
+    pub(crate) fn push_counts(&self, list: &mut Vec<TokenCounts>) -> Result<bool, NoMemory>
+        ensures sums { IfOk result (λ told. IsTrue told → AddsSums self.now.entries (map token_counts list.old.items) (map token_counts list.new.items)) }
         ensures here { AreOfShard self.now.shard self.now.shards self.now.entries }
     {
-        self.accounts.push_counts(list)
+        if !self.accounts.is_counting() {
+            return Ok(false);
+        }
+        self.accounts.push_counts(list)?;
+        Ok(true)
     }
 
     /// The token's account.

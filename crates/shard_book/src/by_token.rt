@@ -13,8 +13,8 @@ use crate::counts::TokenCounts;
 use fare_table::NoMemory;
 use std::alloc::Global;
 
-/// The tokens of the books, in no order, each with its counts. `None` where two books may share a token: those
-/// of rising shards, of one number of shards, share none.
+/// The tokens of the books, in no order, each with its counts. `None` where a book does not keep them, and where
+/// two books may share a token: those of rising shards, of one number of shards, share none.
 fn collected(alloc: Global, books: &[ShardBook]) -> Result<Option<Vec<TokenCounts>>, NoMemory>
     ensures { IfOk result (λ found. IfSome found (λ list. AreSummed (all_entries books.now) (map token_counts list.items))) }
 {
@@ -29,7 +29,9 @@ fn collected(alloc: Global, books: &[ShardBook]) -> Result<Option<Vec<TokenCount
         if book.shards() != shards || book.shard() < lowest {
             return Ok(None);
         }
-        book.push_counts(&mut list)?;
+        if !book.push_counts(&mut list)? {
+            return Ok(None);
+        }
         lowest = book.shard() + 1;
     }
     Ok(Some(list))
@@ -43,7 +45,7 @@ fn sort(list: &mut Vec<TokenCounts>)
     list.sort_unstable_by_key(|counts| counts.token);
 }
 
-/// The tokens of the books, rising, each with its counts. `None` where two books may share a token.
+/// The tokens of the books, rising, each with its counts. `None` where the books' counts do not tell it.
 pub(crate) fn rising_counts(
     alloc: Global,
     books: &[ShardBook],

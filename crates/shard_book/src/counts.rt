@@ -1,29 +1,38 @@
 //! The counts that a book keeps of each token, small and beside the token's account.
 
-ghost use Rattle.std.specs.Prelude.{◌+◌, ◌*◌, ◌^◌, ◌≤◌};
+ghost use Rattle.std.specs.Prelude.{◌≡◌, ◌+◌, ◌*◌, ◌<◌, ◌≤◌, IsTrue};
 
 use crate::sums::TokenSum;
 use crate::token::Token;
 use crate::totals::Totals;
 use account_rule::{Answer, Reply};
 
-/// What `Totals` counts, of fewer than 2^64 taps. Of 56 bytes, where `Totals` has 112. What most posts touch
-/// stands first, next to the account.
+/// What `Totals` counts, while each number fits 32 bits. Of 24 bytes, where `Totals` has 112. What most posts
+/// touch stands first, next to the account.
 #[derive(Clone, Copy, Debug, PartialEq, Eq)]
 pub(crate) struct Counts {
-    // The cents are `carried` times 2^64 and `cents`: a `u128` would be aligned to 16 bytes.
-    cents: u64,
-    paid: u64,
-    transfers: u64,
-    capped: u64,
-    stale: u64,
-    unknown: u64,
-    carried: u64,
-    ghost in_cents: { carried * 2 ^ 64 + cents ≤ (paid + transfers + capped + stale + unknown) * 4294967295 },
+    cents: u32,
+    paid: u32,
+    transfers: u32,
+    capped: u32,
+    stale: u32,
+    unknown: u32,
+    ghost in_cents: { cents ≤ (paid + transfers + capped + stale + unknown) * 4294967295 },
+}
+
+/// Adds one, and returns whether there was room: the largest number stays.
+#[inline(always)]
+fn add_one(count: &mut u32) -> bool
+    ensures added { IsTrue result → count.new ≡ count.old + 1 }
+    ensures some { 0 < count.new }
+{
+    let had_room = *count < u32::MAX;
+    *count = count.saturating_add(1);
+    had_room
 }
 
 impl Counts {
-    ghost use Rattle.std.specs.Prelude.{◌≡◌, ◌^◌, ◌<◌, [], ◌∷◌};
+    ghost use Rattle.std.specs.Prelude.{◌≡◌, ◌+◌, [], ◌∷◌, IsTrue};
     ghost use Rattle.shard_book.specs.Counts.{sums_of_counts};
     ghost use Rattle.shard_book.specs.Sums.{sums_of, sums_of_replies, add_sums};
 
@@ -39,28 +48,24 @@ impl Counts {
             capped: 0,
             stale: 0,
             unknown: 0,
-            carried: 0,
         }
     }
 
-    /// Counts one reply more.
+    /// Counts one reply more, and returns whether there was room: else the counts are right no more.
     #[tactic(auto, unfolding(crate::specs::Sums::sums_of_replies))]
-    pub(crate) fn add(&mut self, reply: Reply)
-        requires { (sums_of_counts self.old).taps < 2 ^ 63 }
-        ensures { sums_of_counts self.new ≡ add_sums (sums_of_counts self.old) (sums_of_replies (reply ∷ [])) }
+    pub(crate) fn add(&mut self, reply: Reply) -> bool
+        ensures { IsTrue result → sums_of_counts self.new ≡ add_sums (sums_of_counts self.old) (sums_of_replies (reply ∷ [])) }
     {
-        match reply.answer {
-            Answer::Paid => self.paid += 1,
-            Answer::Transfer => self.transfers += 1,
-            Answer::Capped => self.capped += 1,
-            Answer::Stale => self.stale += 1,
-            Answer::Unknown => self.unknown += 1,
-        }
-        let (cents, carries) = self.cents.overflowing_add(u64::from(reply.cents));
+        let had_room = match reply.answer {
+            Answer::Paid => add_one(&mut self.paid),
+            Answer::Transfer => add_one(&mut self.transfers),
+            Answer::Capped => add_one(&mut self.capped),
+            Answer::Stale => add_one(&mut self.stale),
+            Answer::Unknown => add_one(&mut self.unknown),
+        };
+        let (cents, carries) = self.cents.overflowing_add(reply.cents);
         self.cents = cents;
-        if carries {
-            self.carried += 1;
-        }
+        had_room & !carries
     }
 
     /// The same as totals.
@@ -79,7 +84,7 @@ impl Counts {
             capped,
             stale,
             unknown,
-            cents: u128::from(self.carried) * 0x1_0000_0000_0000_0000 + u128::from(self.cents),
+            cents: u128::from(self.cents),
         }
     }
 }
@@ -107,4 +112,4 @@ impl TokenCounts {
     }
 }
 
-const _: () = prove!(size_of::<Counts>() == 56);
+const _: () = prove!(size_of::<Counts>() == 24);

@@ -21,7 +21,7 @@ impl Token {
         let mut high = [0; 8];
         let mut low = [0; 8];
         high.copy_from_slice(&bytes[..8]);
-        low.copy_from_slice(&bytes[8..]);
+        low.copy_from_slice(&bytes[8..16]);
         Token {
             high: u64::from_be_bytes(high),
             low: u64::from_be_bytes(low),

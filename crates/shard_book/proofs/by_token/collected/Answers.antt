@@ -1,4 +1,4 @@
-use Rattle.std.proofs.Common.{◌≡◌, ℕ, ◌+◌, ◌<◌, ◌≤◌, List, [], map, take, sym, ap, subst, ◌∙◌, arith}
+use Rattle.std.proofs.Common.{rules, ◌≡◌, ℕ, ◌+◌, ◌<◌, ◌≤◌, List, [], map, take, sym, ap, subst, ◌∙◌, arith}
 use Rattle.std.proofs.lemmas.List.Elements.{All-nil}
 use Rattle.std.specs.Option.{option_copied}
 use Rattle.tap_views.specs.Shards.{shard_of_token}
@@ -27,7 +27,7 @@ loop-book-preserved c =
     let same : book.shards ≡ c.shards-shards.result = omega (arith, c.shards.ensures.shards) in
     let from : c.loop-book.lowest ≤ book.shard = omega (arith, c.shard.ensures.shard) in
     let grown = summed-more c.args.books.now c.loop-book.book-index book book c.shards-shards.result c.loop-book.lowest _ _ c.loop-book-test.true c.book-item.is same from
-    c.in_ok-push_counts.ensures.here c.in_ok-push_counts.ensures.sums c.loop-book.invariant.0 c.loop-book.invariant.1 in (
+    c.in_ok-push_counts.ensures.here (c.in_ok-push_counts.ensures.sums (search rules)) c.loop-book.invariant.0 c.loop-book.invariant.1 in (
       grown.0,
       subst (λ (shard : ℕ). AreBelow c.shards-shards.result (shard + 1) (all_entries (take (c.loop-book.book-index + 1) c.args.books.now))) (sym c.shard-lowest.ensures.shard) grown.1,
     )

@@ -1,4 +1,4 @@
-use Rattle.std.proofs.Common.{rules, Option, [], ◌∷◌, ap, ◌∙◌}
+use Rattle.std.proofs.Common.{rules, arith, Option, [], ◌∷◌, ap, ◌∙◌}
 use Rattle.std.specs.HashMap.Entry.{map_with_value}
 use Rattle.std.specs.Option.{unwrap_or}
 use Rattle.account_rule.specs.Stands.{StandsForSome}
@@ -21,11 +21,11 @@ step-reply-requires-clause-stands c =
 
 pub returns-clause-counted : goal.returns-clause-counted
 unfolding kept_at
-returns-clause-counted c =
+returns-clause-counted c = λ counting.
     let fresh : Kept = record { account = c.fresh.result; counts = c.new.result } in
-    let next : Kept = record { account = c.step-reply.new.self; counts = c.add.new.self } in
+    let next : Kept = record { account = c.step-reply.new.self; counts = c.add-was_counted.new.self } in
     ap counted (here_same _ (map_with_value c.in_ok-self.field-0 next) c.args.self.now.map _ next (search rules) (c.in_ok-self.ensures.update.0 next))
-    ∙ c.add.ensures
+    ∙ c.add-was_counted.ensures (grind arith)
     ∙ ap (λ (s : Sums). add_sums s (sums_of_replies (c.step-reply.result ∷ [])))
     (counted_or _ fresh c.or_insert-kept.result.now
     (c.or_insert-kept.ensures.value ∙ ap (λ (kept : Option Kept). unwrap_or kept fresh) c.in_ok-self.ensures.value)
@@ -34,5 +34,5 @@ returns-clause-counted c =
 pub returns-clause-others : goal.returns-clause-others
 unfolding kept_at
 returns-clause-others c = λ other apart.
-    let next : Kept = record { account = c.step-reply.new.self; counts = c.add.new.self } in
+    let next : Kept = record { account = c.step-reply.new.self; counts = c.add-was_counted.new.self } in
     other_same _ (map_with_value c.in_ok-self.field-0 next) c.args.self.now.map _ next (search rules) (c.in_ok-self.ensures.update.0 next) other apart

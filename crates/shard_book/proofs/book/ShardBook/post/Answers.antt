@@ -1,4 +1,4 @@
-use Rattle.std.proofs.Common.{refl, ◌≡◌, ℕ, List, [], ◌∷◌, ◌++◌, sym, ap, ◌∙◌, arith}
+use Rattle.std.proofs.Common.{refl, ◌≡◌, ℕ, List, [], ◌∷◌, ◌++◌, sym, ap, ◌∙◌}
 use Rattle.tap_views.specs.Layout.{num}
 use Rattle.fare_table.specs.Fares.{Fares}
 use Rattle.fare_table.specs.Until.{until}
@@ -7,7 +7,6 @@ use Rattle.tap_views.specs.Shards.{shard_of_token}
 use Rattle.shard_book.specs.declared.entry.Entry.{Entry}
 use Rattle.shard_book.specs.Sound.{AreKept, IsSound}
 use Rattle.shard_book.specs.Token.{bytes_of}
-use Rattle.shard_book.proofs.CountingLemmas.{counted-few}
 use Rattle.shard_book.proofs.SoundLemmas.{sound-same, sound-post}
 use Rattle.shard_book.proofs.book.ShardBook.post.Goals as goal
 use Rattle.shard_book.proofs.book.ShardBook.post.Goals.{After-push_reserved}
@@ -16,12 +15,8 @@ pub step-requires-clause-kept : goal.step-requires-clause-kept
 unfolding AreKept
 step-requires-clause-kept c = (_, c.self.invariant.kept c.of-token.result)
 
-pub step-requires-clause-room : goal.step-requires-clause-room
-step-requires-clause-room c =
-    omega (arith, counted-few c.self.inside.accounts c.self.inside.history.items c.of-token.result c.self.invariant.counted, c.self.inside.history.ok.0, c.self.inside.history.ok.1, c.self.inside.history.small)
-
 pub invariant_of-self-in_err-reply : goal.invariant_of-self-in_err-reply
-invariant_of-self-in_err-reply c = sound-same c.reserve.ensures.items c.in_err-reply.ensures.err c.self.invariant
+invariant_of-self-in_err-reply c = sound-same c.reserve.ensures.items c.in_err-reply.ensures.err c.in_err-reply.ensures.counting c.self.invariant
 
 -- the entry that was appended
 abbrev entry_of : After-push_reserved → Entry
@@ -49,6 +44,7 @@ sound c =
     c.in_ok-reply.ensures.reply
     c.in_ok-reply.ensures.kept
     c.in_ok-reply.ensures.counted
+    c.in_ok-reply.ensures.counting
     c.in_ok-reply.ensures.there
     c.in_ok-reply.ensures.others
 
