@@ -328,6 +328,33 @@ fn work<R: AllocGlobal + Wait>(rt: &R, job: Job<'_>) -> Result<u64, NoMemory> {
 
 const THREADS: u64 = 4;
 
+// A job for each thread, with a pass of its own.
+fn jobs_of<'a>(
+    alloc: Global,
+    shared: &'a SharedBook,
+    clock: &'a Clock,
+    pass: &mut Pass,
+    taps: &'a [TapFields],
+    visits: u64,
+) -> Result<Vec<Job<'a>>, NoMemory>
+    requires own { pass.old.book ≡ shared.now }
+    requires zone { clock.now ≡ shared.now.table.zone }
+    requires only { (shared.now.shard ≡ 0) × (shared.now.shards ≡ 1) }
+    ensures { pass.new.book ≡ shared.now }
+{
+    let mut jobs = Vec::new(alloc);
+    for _ in 0..THREADS {
+        jobs.push(Job {
+            shared,
+            clock,
+            pass: shared.split(pass)?,
+            taps,
+            visits,
+        })?;
+    }
+    Ok(jobs)
+}
+
 // Visits by several threads, each so long that whoever waits for it falls asleep: how many were made in all, and are counted.
 fn visits_by_all<R: AllocGlobal + RandomSource + Threads + Wait + Sync>(
     rt: &R,
@@ -339,16 +366,7 @@ fn visits_by_all<R: AllocGlobal + RandomSource + Threads + Wait + Sync>(
     let alloc = rt.alloc();
     let (shared, mut pass, clock) = shared_from(rt, alloc, first)?;
     let taps = [tap(0xa1, SUBWAY, START); 4096];
-    let mut jobs = Vec::new(alloc);
-    for _ in 0..THREADS {
-        jobs.push(Job {
-            shared: &shared,
-            clock: &clock,
-            pass: shared.split(&mut pass)?,
-            taps: &taps,
-            visits,
-        })?;
-    }
+    let jobs = jobs_of(alloc, &shared, &clock, &mut pass, &taps, visits)?;
     let mut made = 0u64;
     for done in thread::map_vec(rt, jobs, &|job: Job<'_>| work(rt, job))? {
         made = made.saturating_add(done?);
