@@ -43,6 +43,10 @@ taken_out st a b c found out free first few t comes e =
     half : (found n : ℕ) → found ≡ 2 * n → found / 2 ≡ n
     half found n e = omega arith
 
+-- the slot is empty while the turn is held
+pub slot_empty : (xs : Slots) (out : Option Boxed) → xs ≡ (0, out) ∷ rest xs → xs ≡ (0, None) ∷ [] → out ≡ None
+slot_empty xs out e empty = sym (ap held_first e) ∙ ap held_first empty
+
 -- and goes back with a visit
 pub store_allowed : (k : Opening) (slots id : ℕ) (me now : Seat) (number : ℕ) (book : Boxed) → BringsVisit me number book.value → now ≡ (me.0, (0, Some book) ∷ rest me.1)
     → Allows (IsTurn k) slots id now 0 (λ _. 2 * number + 2) (λ _ after. after ≡ given_back now)

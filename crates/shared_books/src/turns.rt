@@ -11,7 +11,8 @@ use std::hint;
 use std::marker::Model;
 use std::snapshot::Snapshot;
 use std::sync::Wait;
-use std::sync::atomic::{AtomicBool, Ordering};
+use std::sync::atomic::{AtomicBool, AtomicU64, Ordering};
+use std::thread;
 use tap_views::Run;
 
 pub(crate) mod answers;
@@ -21,7 +22,10 @@ pub(crate) mod rule;
 const FULL: u64 = 1 << 63;
 
 // How often a waiting visit looks at the word before it sleeps. It looks no more where others sleep already.
-const LOOKS: u32 = 100;
+const LOOKS: u32 = 200;
+
+// After so many of them it lets other threads run between two looks.
+const PAUSES: u32 = 100;
 
 /// A shard's book that passes take turns at. One word is `2k` where `k` visits are counted and nobody has the turn, and `2k + 1`
 /// where a pass has it. The book lies in one slot, which is empty while a pass has the turn.
@@ -31,6 +35,8 @@ pub struct SharedBook {
     first: u64,
     // whether a visit may be asleep for which no wake is under way
     asleep: AtomicBool,
+    // how many visits sleep or are about to
+    sleepers: AtomicU64,
 }
 
 impl Model for SharedBook {
@@ -110,7 +116,10 @@ impl SharedBook {
         ensures same { seat.new.table_id ≡ seat.old.table_id }
         ensures given { (visit : List Entry) → book.value.entries ≡ joined (visits_of seat.old.me.0.marks) ++ visit → seat.new.me ≡ (view seat.old.me.0.opened false (seat.old.me.0.marks ++ mark true visit ∷ []) seat.old.me.0.met, []) }
     {
-        let _ = self.table.shared.exchange(seat, 0, Some(book));
+        match self.table.shared.exchange(seat, 0, Some(book)) {
+            None => {}
+            Some(_) => unreachable!(),
+        }
         // Cleared while the turn is held: later, it would lose the wake of a visit that falls asleep in between.
         let slept = self.asleep.load(Ordering::SeqCst);
         if slept {
@@ -124,17 +133,23 @@ impl SharedBook {
 
     // Waits until the word is no longer the one that was found, and tells whether it slept. It may return sooner.
     fn rest<R: Wait>(&self, rt: &R, found: u64) -> bool {
-        for _ in 0..LOOKS {
+        for look in 0..LOOKS {
             if self.table.shared.peek(0) != found {
                 return false;
             }
-            if self.asleep.load(Ordering::SeqCst) {
+            if self.sleepers.load(Ordering::SeqCst) > 0 {
                 break;
             }
-            hint::spin_loop();
+            if look < PAUSES {
+                hint::spin_loop();
+            } else {
+                thread::yield_now();
+            }
         }
+        self.sleepers.fetch_add(1, Ordering::SeqCst);
         self.asleep.store(true, Ordering::SeqCst);
         self.table.shared.park(rt, 0, (found & 0xffff_ffff) as u32);
+        self.sleepers.fetch_sub(1, Ordering::SeqCst);
         true
     }
 }
@@ -175,6 +190,7 @@ impl SharedBook {
             table,
             first,
             asleep: AtomicBool::new(false),
+            sleepers: AtomicU64::new(0),
         };
         Ok((shared, Pass { seat, held: 0 }))
     }
@@ -202,8 +218,8 @@ impl SharedBook {
             if found % 2 == 1 {
                 slept |= self.rest(rt, found);
             } else if let Some(book) = self.try_take(seat, found) {
-                if slept {
-                    // Others may still sleep: who was woken wakes the next with the turn that it gives back.
+                if slept && self.sleepers.load(Ordering::SeqCst) > 0 {
+                    // Others still sleep: who was woken wakes the next with the turn that it gives back.
                     self.asleep.store(true, Ordering::SeqCst);
                 }
                 return Ok((found / 2, book));
@@ -307,6 +323,7 @@ impl SharedBook {
             table,
             first,
             asleep: _,
+            sleepers: _,
         } = self;
         let Pass { seat, held } = pass;
         let mut closed = table.close_with(seat);
@@ -332,6 +349,7 @@ impl SharedBook {
             table,
             first,
             asleep: _,
+            sleepers: _,
         } = self;
         let mut closed = table.close();
         let word = closed.word(0);

@@ -9,6 +9,7 @@ use std::random::RandomSource;
 use std::sync::Wait;
 use std::test::Fail;
 use std::thread;
+use std::thread::Threads;
 use tap_views::{Batch, TapFields};
 
 // One class, two modes and their pairs.
@@ -292,5 +293,99 @@ fn a_reader_beside_a_visitor_sees_the_history_grow(rt: HostRuntime) -> Result<()
         panic!(rt; "the two passes made all visits")
     };
     assert_eq!(rt; book.len(), TURNS);
+    Ok(())
+}
+
+// What one of several threads does: as many visits of these taps as it is told, or fewer where the book gets full.
+#[derive(Drop)]
+struct Job<'a> {
+    shared: &'a SharedBook,
+    clock: &'a Clock,
+    pass: Pass,
+    taps: &'a [TapFields],
+    visits: u64,
+    ghost own: { pass.book ≡ shared.now },
+    ghost zone: { clock.now ≡ shared.now.table.zone },
+    ghost only: { (shared.now.shard ≡ 0) × (shared.now.shards ≡ 1) },
+}
+
+// How many visits were made.
+fn work<R: AllocGlobal + Wait>(rt: &R, job: Job<'_>) -> Result<u64, NoMemory> {
+    let Job {
+        shared,
+        clock,
+        mut pass,
+        taps,
+        visits,
+    } = job;
+    for _ in 0..visits {
+        if visit(rt, rt.alloc(), shared, clock, &mut pass, taps)?.is_none() {
+            break;
+        }
+    }
+    Ok(pass.held())
+}
+
+const THREADS: u64 = 4;
+
+// A job for each thread, with a pass of its own.
+fn jobs_of<'a>(
+    alloc: Global,
+    shared: &'a SharedBook,
+    clock: &'a Clock,
+    pass: &mut Pass,
+    taps: &'a [TapFields],
+    visits: u64,
+) -> Result<Vec<Job<'a>>, NoMemory>
+    requires own { pass.old.book ≡ shared.now }
+    requires zone { clock.now ≡ shared.now.table.zone }
+    requires only { (shared.now.shard ≡ 0) × (shared.now.shards ≡ 1) }
+    ensures { pass.new.book ≡ shared.now }
+{
+    let mut jobs = Vec::new(alloc);
+    for _ in 0..THREADS {
+        jobs.push(Job {
+            shared,
+            clock,
+            pass: shared.split(pass)?,
+            taps,
+            visits,
+        })?;
+    }
+    Ok(jobs)
+}
+
+// Visits by several threads, each so long that whoever waits for it falls asleep: how many were made in all, and are counted.
+fn visits_by_all<R: AllocGlobal + RandomSource + Threads + Wait + Sync>(
+    rt: &R,
+    first: u64,
+    visits: u64,
+) -> Result<(u64, u64), Fail>
+    requires { first ≤ 2 ^ 62 }
+{
+    let alloc = rt.alloc();
+    let (shared, mut pass, clock) = shared_from(rt, alloc, first)?;
+    let taps = [tap(0xa1, SUBWAY, START); 4096];
+    let jobs = jobs_of(alloc, &shared, &clock, &mut pass, &taps, visits)?;
+    let mut made = 0u64;
+    for done in thread::map_vec(rt, jobs, &|job: Job<'_>| work(rt, job))? {
+        made = made.saturating_add(done?);
+    }
+    Ok((made, shared.head(&mut pass)))
+}
+
+// A wake that is forgotten leaves a thread asleep, and the test does not end.
+#[test]
+fn a_waiting_visit_is_woken(rt: HostRuntime) -> Result<(), Fail> {
+    let (made, head) = visits_by_all(&rt, 0, 20)?;
+    assert_eq!(rt; (made, head), (20 * THREADS, 20 * THREADS));
+    Ok(())
+}
+
+#[test]
+fn all_that_wait_hear_that_the_book_is_full(rt: HostRuntime) -> Result<(), Fail> {
+    let most = 1 << 62;
+    let (made, head) = visits_by_all(&rt, most - 10, 20)?;
+    assert_eq!(rt; (made, head), (10, most));
     Ok(())
 }
