@@ -1,8 +1,10 @@
 -- Sums over the books, over the workers and over the uploads are one.
-use Rattle.std.specs.Prelude.{ℕ, zero, suc, ◌≡◌, ◌≢◌, ◌⊎◌, ◌+◌, ◌<◌, ◌≤◌, ◌==◌, Bool, true, false, cond, List, [], ◌∷◌, ◌++◌, length, map, filter, All, slice_get, Some, sum_by, count_by}
+use Rattle.std.specs.Prelude.{ℕ, zero, suc, ◌≡◌, ◌≢◌, ◌⊎◌, ◌+◌, ◌<◌, ◌≤◌, ◌==◌, Bool, true, false, cond, List, [], ◌∷◌, ◌++◌, length, map, filter, take, drop, get_or, replicate, All, slice_get, Some, sum_by, count_by}
 use Rattle.std.specs.List.{flat_map}
 use Rattle.std.proofs.Common.{refl, sym, ◌∙◌, ap, inl, inr, subst, arith, eq-eqb, ne_eqb}
 use Rattle.std.proofs.lemmas.Bool.Decides.{eqb_tells}
+use Rattle.std.proofs.lemmas.List.{length-append, append-nil, take_more, drop_more, drop_all}
+use Rattle.std.proofs.lemmas.Grind.{flat_map-append}
 use Rattle.std.proofs.lemmas.List.Sums.{sum_by-cons, sum_by-append}
 use Rattle.std.proofs.lemmas.List.Elements.{All-nil, All-cons, All-head, All-tail, All-append, All-weaker}
 use Rattle.account_rule.specs.declared.reply.Reply.{Reply}
@@ -10,7 +12,8 @@ use Rattle.shard_book.specs.declared.entry.Entry.{Entry}
 use Rattle.shard_book.specs.Book.{Book}
 use Rattle.shard_book.specs.Entry.{reply_of}
 use Rattle.shard_book.specs.Groups.{all_entries}
-use Rattle.shard_book.specs.Sums.{Sums, sums, sums_of_replies, add_sums, is_paid, is_transfer, is_capped, is_stale, is_unknown}
+use Rattle.shard_book.specs.declared.totals.Totals.{Totals}
+use Rattle.shard_book.specs.Sums.{Sums, sums, sums_of, sums_of_replies, add_sums, is_paid, is_transfer, is_capped, is_stale, is_unknown}
 use Rattle.shared_books.specs.Drawing.{NoneTwice, times}
 use Rattle.shared_books.specs.Marks.{joined}
 use Rattle.fare_table.specs.Fares.{Fares}
@@ -18,12 +21,15 @@ use Rattle.fare_service.specs.declared.upload_end.UploadEnd.{UploadEnd}
 use Rattle.fare_service.specs.declared.upload_end.UploadEnd.TheVariants.{Posted, Refused, Cut, Undrawn}
 use Rattle.fare_service.specs.Adding.{add_all, taps_told, AddUp}
 use Rattle.fare_service.specs.Gathering.{Signed, by_worker, IsBookOfWork, all_works, end_of, IsGathered}
-use Rattle.fare_service.specs.Halls.{Hall, shards_of, upload_at}
+use Rattle.fare_service.specs.Closing.{IsClosedWork}
+use Rattle.fare_service.specs.Halls.{Hall, IsHall, shards_of, upload_at}
+use Rattle.fare_service.specs.Holdings.{Holding}
+use Rattle.fare_service.specs.Joining.{told_all}
 use Rattle.fare_service.specs.Outcomes.{Gathered}
 use Rattle.fare_service.specs.Runs.{Visit, IsEntered, visits_to, entries_to, entries_of, taps_posted}
-use Rattle.fare_service.specs.Shares.{Worked, all_visits, IsWorked, IsEndOf}
-use Rattle.fare_service.proofs.GatherLemmas.{drawn_times, times_same, times_other, fewer_after, not_drawn, end_same, end_other}
-use Rattle.fare_service.proofs.VisitLemmas.{same_seven, sums-append}
+use Rattle.fare_service.specs.Shares.{Worked, all_visits, IsWorked, IsEndOf, IsShareOf}
+use Rattle.fare_service.proofs.GatherLemmas.{has_outcome, drawn_times, times_same, times_other, fewer_after, not_drawn, end_same, end_other}
+use Rattle.fare_service.proofs.VisitLemmas.{same_seven, sums-append, add_none}
 
 -- f of the first n numbers, added up
 abbrev pub sum_below : (ℕ → ℕ) → ℕ → ℕ
@@ -250,6 +256,13 @@ all_uploads hall (done ∷ works) each =
     (All-weaker (IsWorked hall) (λ w. w.upload < length hall.uploads) (λ w is. is.within) done (All-head (λ d. All (IsWorked hall) d) done works each))
     (all_uploads hall works (All-tail (λ d. All (IsWorked hall) d) done works each))
 
+-- the books and the workers have the same totals, whatever is told of them
+pub workers_add_up : (hall : Hall) (works : List (List Worked)) (outcome : Gathered) → IsGathered hall works outcome → sums (all_entries outcome.books) ≡ add_all outcome.workers
+workers_add_up hall works outcome is =
+    let made : List Entry = flat_map (λ done. entries_of (all_visits done)) works in
+    same_sums (all_entries outcome.books) made (λ f. sum_of_books f hall works outcome is)
+    ∙ (add_flat (λ done. entries_of (all_visits done)) works ∙ ap add_all (sym is.workers))
+
 -- what was gathered adds up
 pub gathered_sums : (hall : Hall) (works : List (List Worked)) (outcome : Gathered) → IsGathered hall works outcome → outcome.totals ≡ sums (all_entries outcome.books) → AddUp outcome
 gathered_sums hall works outcome is totals =
@@ -257,9 +270,47 @@ gathered_sums hall works outcome is totals =
     let by_works : outcome.totals ≡ sums made = totals ∙ same_sums (all_entries outcome.books) made (λ f. sum_of_books f hall works outcome is) in
     record {
       books = totals ∙ add_flat (λ (b : Book). b.entries) outcome.books;
-      workers = by_works ∙ (add_flat (λ done. entries_of (all_visits done)) works ∙ ap add_all (sym is.workers));
+      workers = totals ∙ workers_add_up hall works outcome is;
       uploads = ap (λ s. s.taps) by_works ∙ (taps_of_sums made ∙ (sym (uploads_sum hall works is.each)
           ∙ (sym (ends_sum (length hall.uploads) (all_works works) is.once (all_uploads hall works is.each))
           ∙ (ap (sum_below (λ u. taps_told (end_of u (all_works works)))) (sym is.uploads)
           ∙ sum_of_places taps_told outcome.ends (λ u. taps_told (end_of u (all_works works))) (λ u end at. ap taps_told (sym (is.ends u end at)))))));
     }
+
+-- the entries of one book more
+pub entries_more : (books : List Book) (i : ℕ) (blank : Book) → i < length books
+    → length (all_entries (take (i + 1) books)) ≡ length (all_entries (take i books)) + length (get_or books i blank).entries
+entries_more books i blank within =
+    ap (λ bs. length (all_entries bs)) (take_more books i blank within)
+    ∙ (ap (λ es. length es) (flat_map-append (λ (book : Book). book.entries) (take i books) (get_or books i blank ∷ []) ∙ ap (λ es. all_entries (take i books) ++ es) (append-nil (get_or books i blank).entries))
+    ∙ length-append (all_entries (take i books)) (get_or books i blank).entries)
+
+-- the totals of the workers that are left: those of the next one, and of the others
+pub next_worker : (workers : List Totals) (i : ℕ) (blank : Totals) → i < length workers
+    → add_all (map sums_of (drop i workers)) ≡ add_sums (sums_of (get_or workers i blank)) (add_all (map sums_of (drop (i + 1) workers)))
+next_worker workers i blank within = ap (λ ts. add_all (map sums_of ts)) (drop_more workers i blank within)
+
+pub none_left : (s : Sums) (workers : List Totals) (i : ℕ) → length workers ≤ i → add_sums s (add_all (map sums_of (drop i workers))) ≡ s
+none_left s workers i all = ap (λ ts. add_sums s (add_all (map sums_of ts))) (drop_all i workers all) ∙ add_none s
+
+zero_add : (n : ℕ) → 0 + n ≡ n
+zero_add n = omega arith
+
+-- nothing, and some totals
+pub from_nothing : (none s : Sums) → none ≡ sums_of_replies [] → add_sums none s ≡ s
+unfolding sums_of_replies
+from_nothing none s is =
+    ap (λ n. add_sums n s) is
+    ∙ same_seven _ _ _ _ _ _ _ _ _ _ _ _ _ _ (zero_add s.taps) (zero_add s.paid) (zero_add s.transfers) (zero_add s.capped) (zero_add s.stale) (zero_add s.unknown) (zero_add s.cents)
+
+-- the totals of the shares are those of the books that were closed with them
+pub shares_add_up : (hall : Hall) → IsHall hall → (shares : List Holding) → All (IsShareOf hall) shares → (closed : List Book) → IsClosedWork hall.books shares closed
+    → (ends : List UploadEnd) → ends ≡ told_all (replicate (length hall.uploads) Undrawn) shares → length ends ≡ length hall.uploads
+    → (workers : List Sums) → workers ≡ map (λ share. share.totals) shares → sums (all_entries closed) ≡ add_all workers
+shares_add_up hall is shares all closed work ends are number workers sums_are =
+    let o = has_outcome hall is shares all closed work ends are number workers sums_are (sums (all_entries closed)) in
+    workers_add_up hall o.0 (record { books = closed; ends = ends; workers = workers; totals = sums (all_entries closed) }) o.2
+
+-- few entries, few taps
+pub few_taps : (entries : List Entry) (workers : Sums) (most : ℕ) → sums entries ≡ workers → length entries ≤ most → workers.taps ≤ most
+few_taps entries workers most same few = omega (arith, ap (λ s. s.taps) same, taps_of_sums entries, length_sum entries)

@@ -129,12 +129,16 @@ made_more shards p q r s t u xs ys a b = record {
 }
 
 -- one reply more
-pub replies_more : (totals : Sums) (replies : List Reply) (i : ℕ) (reply : Reply) → slice_get replies i ≡ Some reply
-    → add_sums (add_sums totals (sums_of_replies (take i replies))) (sums_of_replies (reply ∷ [])) ≡ add_sums totals (sums_of_replies (take (i + 1) replies))
-replies_more totals replies i reply at =
-    add_add totals (sums_of_replies (take i replies)) (sums_of_replies (reply ∷ []))
-    ∙ ap (add_sums totals) (sym (ap sums_of_replies (take_more replies i reply (slice_get_within replies i reply at) ∙ ap (λ r. take i replies ++ r ∷ []) (get_or_from_slice_get replies i reply reply at))
-    ∙ sums_of_replies-append (take i replies) (reply ∷ [])))
+pub next_reply : (replies : List Reply) (i : ℕ) (reply : Reply) → slice_get replies i ≡ Some reply
+    → add_sums (sums_of_replies (take i replies)) (sums_of_replies (reply ∷ [])) ≡ sums_of_replies (take (i + 1) replies)
+next_reply replies i reply at =
+    sym (ap sums_of_replies (take_more replies i reply (slice_get_within replies i reply at) ∙ ap (λ r. take i replies ++ r ∷ []) (get_or_from_slice_get replies i reply reply at))
+    ∙ sums_of_replies-append (take i replies) (reply ∷ []))
+
+-- the taps that are counted are the replies
+pub taps_of_replies : (replies : List Reply) → (sums_of_replies replies).taps ≡ length replies
+unfolding sums_of_replies
+taps_of_replies replies = refl
 
 pub one_tap : (totals : Sums) (reply : Reply) → (add_sums totals (sums_of_replies (reply ∷ []))).taps ≡ totals.taps + 1
 unfolding sums_of_replies

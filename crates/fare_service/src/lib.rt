@@ -2,6 +2,7 @@
 //! thread's history, and writes the report and the statements of these books.
 #![tactic(auto)]
 
+mod adding;
 mod faults;
 mod gathering;
 pub mod laws;

@@ -383,6 +383,10 @@ fn two_workers_post_at_once(rt: HostRuntime) -> Result<(), Fail> {
     assert_eq!(rt; end_of(&outcome, 1), Some(UploadEnd::Posted { taps: 2 }));
     let first = totals_of(&outcome, 0).map(|totals| totals.taps);
     assert!(rt; first == Some(4) || first == Some(2));
+    assert_eq!(rt;
+        outcome.totals(),
+        shard_book::totals_of(outcome.books.as_slice())
+    );
     assert_eq!(rt; report_of(alloc, &outcome)?.as_slice(), REPORT.as_bytes());
     Ok(())
 }

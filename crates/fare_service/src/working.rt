@@ -8,7 +8,7 @@ use crate::service::Service;
 use crate::share::{Done, Posting, Share};
 use crate::upload_end::UploadEnd;
 use fare_table::{Clock, NoMemory};
-use shard_book::{Ends, Replies, RunEnd, Totals};
+use shard_book::{Ends, Replies, RunEnd, Tally, Totals};
 use shared_books::Full;
 use std::alloc::Global;
 use std::sync::Wait;
@@ -64,9 +64,11 @@ fn count(totals: &mut Totals, replies: &Replies)
     requires { totals.old.taps + length replies.now.items ≤ 2 ^ 95 }
     ensures { sums_of totals.new ≡ add_sums (sums_of totals.old) (sums_of_replies replies.now.items) }
 {
+    let mut tally = Tally::new();
     for place in 0..replies.len() {
-        totals.add(replies.get(place));
+        tally.add(replies.get(place));
     }
+    totals.add_all(&tally.totals());
 }
 
 /// The end of an upload whose batches before its fault, if it has one, were posted whole.

@@ -1,4 +1,4 @@
--- One entry more in the totals of its key.
+-- One entry more in the tally of its key.
 use Rattle.std.proofs.Common.{Ordering, take, ◌≡◌, ℕ, ◌+◌, ◌<◌, ◌≤◌, ◌^◌, Bool, true, false, cond, ◌||◌, List, [], ◌∷◌, ◌++◌, length, map, Option, Some, None, refl, sym, ap, subst, ◌∙◌, ⊎_elim, arith}
 use Rattle.std.specs.Cmp.{IsEquivalence, IsTotalOrder}
 use Rattle.std.specs.List.{list_any, IsDistinct, slice_get}
@@ -20,7 +20,7 @@ use Rattle.std.proofs.lemmas.List.Elements.{filter-append}
 use Rattle.std.proofs.lemmas.List.Sums.{length-filter, count_by-le-length}
 use Rattle.std.proofs.lemmas.List.Folds.{list_any-append}
 use Rattle.shard_book.specs.declared.entry.Entry.{Entry}
-use Rattle.shard_book.specs.declared.totals.Totals.{Totals}
+use Rattle.shard_book.specs.declared.tally.Tally.{Tally}
 use Rattle.shard_book.specs.Entry.{reply_of, own}
 use Rattle.shard_book.specs.Groups.{group, sums_by, sums_by_token, tokens, all_entries}
 use Rattle.shard_book.specs.Shown.{token_sum}
@@ -28,7 +28,8 @@ use Rattle.shard_book.specs.declared.sums.TokenSum.{TokenSum}
 use Rattle.shard_book.specs.declared.token.Token.{Token}
 use Rattle.shard_book.specs.Book.{Book}
 use Rattle.shard_book.specs.Grouping.{IsGrouped, HasRoom, kept_sums}
-use Rattle.shard_book.specs.Sums.{Sums, sums, sums_of, sums_of_replies, add_sums}
+use Rattle.shard_book.specs.Sums.{Sums, sums, sums_of_replies, add_sums}
+use Rattle.shard_book.specs.Tally.{sums_of_tally}
 use Rattle.shard_book.proofs.SumsLemmas.{sums-append, sums-taps}
 
 or-true : (a : Bool) → true ≡ (a || (true || false))
@@ -39,18 +40,18 @@ or-false : (a : Bool) → a ≡ (a || (false || false))
 or-false true = refl
 or-false false = refl
 
--- the totals that an entry is added to hold the sums that were kept for its key
-pub kept-or : (kept : Option Totals) (fresh totals : Totals) → totals ≡ unwrap_or kept fresh → sums_of fresh ≡ sums_of_replies [] → sums_of totals ≡ kept_sums kept
-kept-or None fresh totals is none = ap sums_of is ∙ none
-kept-or (Some kept) fresh totals is none = ap sums_of is
+-- the tally that an entry is added to holds the sums that were kept for its key
+pub kept-or : (kept : Option Tally) (fresh tally : Tally) → tally ≡ unwrap_or kept fresh → sums_of_tally fresh ≡ sums_of_replies [] → sums_of_tally tally ≡ kept_sums kept
+kept-or None fresh tally is none = ap sums_of_tally is ∙ none
+kept-or (Some kept) fresh tally is none = ap sums_of_tally is
 
 -- a group is no longer than the entries
-pub room-kept : {K : Type 0} (eq : K → K → Bool) (key_of : Entry → K) (pairs : List (K × Totals)) (key : K) (taps : ℕ) → HasRoom eq key_of pairs 1 → taps ≡ (kept_sums (lookup (eq key) pairs)).taps → taps < 2 ^ 95
+pub room-kept : {K : Type 0} (eq : K → K → Bool) (key_of : Entry → K) (pairs : List (K × Tally)) (key : K) (taps more : ℕ) → HasRoom eq key_of pairs more → taps ≡ (kept_sums (lookup (eq key) pairs)).taps → taps + more ≤ 2 ^ 95
 unfolding HasRoom group
-room-kept eq key_of pairs key taps room is =
+room-kept eq key_of pairs key taps more room is =
     let count : taps ≡ length (group eq key_of key room.0) = is ∙ ap (λ (s : Sums). s.taps) (room.1.sums key) ∙ sums-taps (group eq key_of key room.0) in
     let few : length (group eq key_of key room.0) ≤ length room.0 = omega (arith, length-filter (λ (entry : Entry). eq (key_of entry) key) room.0, count_by-le-length (λ (entry : Entry). eq (key_of entry) key) room.0) in
-    let bound : length room.0 + 1 ≤ 2 ^ 95 = room.2 in
+    let bound : length room.0 + more ≤ 2 ^ 95 = room.2 in
     omega arith
 
 module _ {K : Type 0} {eq : K → K → Bool} (laws : IsEquivalence eq) (same : (a b : K) → eq a b ≡ true → a ≡ b) (key_of : Entry → K) where
@@ -59,9 +60,9 @@ module _ {K : Type 0} {eq : K → K → Bool} (laws : IsEquivalence eq) (same : 
   group-push key before entry = filter-append (λ e. eq (key_of e) key) before (entry ∷ [])
 
   -- one entry more in the totals of its key, and the other totals as they were
-  pub grouped-push : (before : List Entry) (entry : Entry) (old new : List (K × Totals)) (totals : Totals)
+  pub grouped-push : (before : List Entry) (entry : Entry) (old new : List (K × Tally)) (totals : Tally)
       → ((q : K) → lookup (eq q) new ≡ cond (eq (key_of entry) q) (Some totals) (lookup (eq q) old))
-      → sums_of totals ≡ add_sums (kept_sums (lookup (eq (key_of entry)) old)) (sums_of_replies (reply_of entry ∷ []))
+      → sums_of_tally totals ≡ add_sums (kept_sums (lookup (eq (key_of entry)) old)) (sums_of_replies (reply_of entry ∷ []))
       → IsGrouped eq key_of before old → IsGrouped eq key_of (before ++ entry ∷ []) new
   grouped-push before entry old new totals updates added grouped = record {
     sums = λ q.
@@ -103,18 +104,18 @@ module _ {K : Type 0} {eq : K → K → Bool} (laws : IsEquivalence eq) (same : 
       member-push q before entry = ap (λ (ks : List K). list_any (eq q) ks) (map-append key_of before (entry ∷ [])) ∙ list_any-append (eq q) (map key_of before) (key_of entry ∷ [])
 
   -- the same, as a map's entry tells it once its value was written
-  pub grouped-written : {S : Type 0} (before : List Entry) (entry : Entry) (key : K) (old next : HashMap K Totals S) (pairs : List (K × Totals)) (kept : Totals) (fresh : Totals) (totals : Totals) (answered : Reply)
+  pub grouped-written : {S : Type 0} (before : List Entry) (entry : Entry) (key : K) (old next : HashMap K Tally S) (pairs : List (K × Tally)) (kept : Tally) (fresh : Tally) (totals : Tally) (answered : Reply)
       → key ≡ key_of entry
       → pairs ≡ next.entries
       → Updates eq old next key (Some totals)
       → kept ≡ unwrap_or (get eq old key) fresh
-      → sums_of fresh ≡ sums_of_replies []
+      → sums_of_tally fresh ≡ sums_of_replies []
       → answered ≡ reply_of entry
-      → sums_of totals ≡ add_sums (sums_of kept) (sums_of_replies (answered ∷ []))
+      → sums_of_tally totals ≡ add_sums (sums_of_tally kept) (sums_of_replies (answered ∷ []))
       → IsGrouped eq key_of before old.entries → IsGrouped eq key_of (before ++ entry ∷ []) pairs
   grouped-written before entry key old next pairs kept fresh totals answered is_key same_pairs updates is_kept none is_reply added grouped =
       grouped-push before entry old.entries pairs totals
-      (λ q. ap (λ (es : List (K × Totals)). lookup (eq q) es) same_pairs ∙ updates.0 q ∙ ap (λ (k : K). cond (eq k q) (Some totals) (lookup (eq q) old.entries)) is_key)
+      (λ q. ap (λ (es : List (K × Tally)). lookup (eq q) es) same_pairs ∙ updates.0 q ∙ ap (λ (k : K). cond (eq k q) (Some totals) (lookup (eq q) old.entries)) is_key)
       (added
       ∙ ap (λ (s : Sums). add_sums s (sums_of_replies (answered ∷ []))) (kept-or (get eq old key) fresh kept is_kept none ∙ ap (λ (k : K). kept_sums (get eq old k)) is_key)
       ∙ ap (λ (r : Reply). add_sums (kept_sums (get eq old (key_of entry))) (sums_of_replies (r ∷ []))) is_reply)
@@ -122,7 +123,7 @@ module _ {K : Type 0} {eq : K → K → Bool} (laws : IsEquivalence eq) (same : 
 
 -- the keys of the totals, once sorted, are the rising keys of the entries
 pub keys-rising : {K : Type 0} {cmp : K → K → Ordering} {eq : K → K → Bool} (total : IsTotalOrder cmp) (laws : IsEquivalence eq) (same : (a b : K) → eq a b ≡ true → a ≡ b) (ties : (a b : K) → eq a b ≡ eq_by_cmp cmp a b)
-    (key_of : Entry → K) (entries : List Entry) (pairs : List (K × Totals)) (keys sorted : List K)
+    (key_of : Entry → K) (entries : List Entry) (pairs : List (K × Tally)) (keys sorted : List K)
     → keys ≡ keys_of pairs → IsDistinct eq (keys_of pairs) → IsPermutation keys sorted → IsSorted cmp sorted → IsGrouped eq key_of entries pairs → sorted ≡ rising cmp (map key_of entries)
 keys-rising {K = K} {cmp = cmp} {eq = eq} total laws same ties key_of entries pairs keys sorted is_keys distinct moved in_order grouped =
     let alike : eq ≡ eq_by_cmp cmp = λ i a b. ties a b i in
@@ -135,7 +136,7 @@ keys-rising {K = K} {cmp = cmp} {eq = eq} total laws same ties key_of entries pa
     })
 
 -- the rising keys, each with its kept sums, are the sums of the entries
-pub sums-listed : {K : Type 0} (cmp : K → K → Ordering) (eq : K → K → Bool) (key_of : Entry → K) (entries : List Entry) (pairs : List (K × Totals)) (keys items : List K) (n : ℕ) (shown : List (K × Sums))
+pub sums-listed : {K : Type 0} (cmp : K → K → Ordering) (eq : K → K → Bool) (key_of : Entry → K) (entries : List Entry) (pairs : List (K × Tally)) (keys items : List K) (n : ℕ) (shown : List (K × Sums))
     → shown ≡ map (λ key. (key, kept_sums (lookup (eq key) pairs))) (take n items)
     → length items ≤ n
     → items ≡ keys
@@ -149,9 +150,9 @@ sums-listed {K = K} cmp eq key_of entries pairs keys items n shown is whole same
     ∙ (λ i. map (λ key. (key, grouped.sums key i)) (rising cmp (map key_of entries)))
 
 -- no totals stand for no entries
-pub grouped-none : {K : Type 0} (eq : K → K → Bool) (key_of : Entry → K) (pairs : List (K × Totals)) → pairs ≡ [] → IsGrouped eq key_of [] pairs
+pub grouped-none : {K : Type 0} (eq : K → K → Bool) (key_of : Entry → K) (pairs : List (K × Tally)) → pairs ≡ [] → IsGrouped eq key_of [] pairs
 unfolding group
-grouped-none {K = K} eq key_of pairs none = subst (λ (es : List (K × Totals)). IsGrouped eq key_of [] es) (sym none) (record { sums = λ key. refl; keys = λ key. refl })
+grouped-none {K = K} eq key_of pairs none = subst (λ (es : List (K × Tally)). IsGrouped eq key_of [] es) (sym none) (record { sums = λ key. refl; keys = λ key. refl })
 
 -- no books have no sums
 pub sums_by-none : {K Y : Type 0} (cmp : K → K → Ordering) (eq : K → K → Bool) (key_of : Entry → K) (shown : Y → K × Sums) (books : List Book) (items : List Y) → items ≡ [] → None ≡ slice_get books 0 → map shown items ≡ sums_by cmp eq key_of (all_entries books)

@@ -7,6 +7,7 @@ pub mod RisingLemmas
 pub mod RunLemmas
 pub mod SoundLemmas
 pub mod SummedLemmas
+pub mod TallyLemmas
 pub mod SumsLemmas
 pub mod TokenLemmas
 pub mod WindowsLemmas

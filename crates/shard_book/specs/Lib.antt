@@ -9,12 +9,14 @@ pub mod Grouping
 pub mod Groups
 pub mod History
 pub mod Keys
+pub mod Places
 pub mod Replies
 pub mod Rising
 pub mod Shown
 pub mod Sound
 pub mod Statement
 pub mod Sums
+pub mod Tally
 pub mod Token
 pub mod Visits
 pub mod Windows

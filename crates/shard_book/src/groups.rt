@@ -11,6 +11,7 @@ ghost use Rattle.shard_book.specs.Sums.{Sums, sums_of};
 use crate::book::ShardBook;
 use crate::entry::Entry;
 use crate::keys::TokenKeys;
+use crate::tally::Tally;
 use crate::totals::Totals;
 use fare_table::NoMemory;
 use std::alloc::Global;
@@ -40,29 +41,29 @@ pub(crate) trait GroupKey: Copy + Ord + Hash + Drop {
     ghost same: { (a b : Self) → Self.eq a b ≡ true → a ≡ b };
 }
 
-/// Adds one entry to the totals of its key.
+/// Adds one entry to the tally of its key.
 fn add_entry<K: GroupKey>(
-    totals: &mut HashMap<K, Totals, TokenKeys>,
+    tallies: &mut HashMap<K, Tally, TokenKeys>,
     entry: &Entry,
 ) -> Result<(), NoMemory>
-    requires { HasRoom K.eq K.key_of totals.old.entries 1 }
-    ensures { OnOk result ((before : List Entry) → IsGrouped K.eq K.key_of before totals.old.entries → IsGrouped K.eq K.key_of (before ++ entry.now ∷ []) totals.new.entries) }
+    requires { HasRoom K.eq K.key_of tallies.old.entries 1 }
+    ensures { OnOk result ((before : List Entry) → IsGrouped K.eq K.key_of before tallies.old.entries → IsGrouped K.eq K.key_of (before ++ entry.now ∷ []) tallies.new.entries) }
 {
-    let kept = totals.entry(K::of(entry))?.or_insert(Totals::new());
+    let kept = tallies.entry(K::of(entry))?.or_insert(Tally::new());
     kept.add(entry.reply());
     Ok(())
 }
 
-/// Adds entries to the totals of their keys.
+/// Adds entries to the tallies of their keys.
 fn add_entries<K: GroupKey>(
-    totals: &mut HashMap<K, Totals, TokenKeys>,
+    tallies: &mut HashMap<K, Tally, TokenKeys>,
     entries: &[Entry],
 ) -> Result<(), NoMemory>
-    requires { HasRoom K.eq K.key_of totals.old.entries (length entries.now) }
-    ensures { OnOk result ((before : List Entry) → IsGrouped K.eq K.key_of before totals.old.entries → IsGrouped K.eq K.key_of (before ++ entries.now) totals.new.entries) }
+    requires { HasRoom K.eq K.key_of tallies.old.entries (length entries.now) }
+    ensures { OnOk result ((before : List Entry) → IsGrouped K.eq K.key_of before tallies.old.entries → IsGrouped K.eq K.key_of (before ++ entries.now) tallies.new.entries) }
 {
     for entry in entries {
-        add_entry(totals, entry)?;
+        add_entry(tallies, entry)?;
     }
     Ok(())
 }
@@ -70,21 +71,22 @@ fn add_entries<K: GroupKey>(
 /// The keys, rising.
 fn rising_keys<K: GroupKey>(
     alloc: Global,
-    totals: &HashMap<K, Totals, TokenKeys>,
+    tallies: &HashMap<K, Tally, TokenKeys>,
 ) -> Result<Vec<K>, NoMemory>
-    ensures { IfOk result (λ keys. (entries : List Entry) → IsGrouped K.eq K.key_of entries totals.now.entries → keys.items ≡ rising K.cmp (map K.key_of entries)) }
+    ensures { IfOk result (λ keys. (entries : List Entry) → IsGrouped K.eq K.key_of entries tallies.now.entries → keys.items ≡ rising K.cmp (map K.key_of entries)) }
 {
-    let mut keys: Vec<K> = totals.keys().copied().collect(alloc)?;
+    let mut keys: Vec<K> = tallies.keys().copied().collect(alloc)?;
     keys.sort_unstable();
     Ok(keys)
 }
 
 /// The totals that are kept for the key, of nothing where there are none.
-fn kept_totals<K: GroupKey>(totals: &HashMap<K, Totals, TokenKeys>, key: K) -> Totals
-    ensures { sums_of result ≡ kept_sums (get K.eq totals.now key) }
+fn kept_totals<K: GroupKey>(tallies: &HashMap<K, Tally, TokenKeys>, key: K) -> Totals
+    requires { HasRoom K.eq K.key_of tallies.now.entries 0 }
+    ensures { sums_of result ≡ kept_sums (get K.eq tallies.now key) }
 {
-    match totals.get(&key) {
-        Some(kept) => *kept,
+    match tallies.get(&key) {
+        Some(kept) => kept.totals(),
         None => Totals::new(),
     }
 }
@@ -92,14 +94,15 @@ fn kept_totals<K: GroupKey>(totals: &HashMap<K, Totals, TokenKeys>, key: K) -> T
 /// Each key with its totals, by rising keys.
 fn listed<K: GroupKey>(
     alloc: Global,
-    totals: &HashMap<K, Totals, TokenKeys>,
+    tallies: &HashMap<K, Tally, TokenKeys>,
 ) -> Result<Vec<K::Sum>, NoMemory>
-    ensures { IfOk result (λ list. (entries : List Entry) → IsGrouped K.eq K.key_of entries totals.now.entries → map K.shown list.items ≡ sums_by K.cmp K.eq K.key_of entries) }
+    requires { HasRoom K.eq K.key_of tallies.now.entries 0 }
+    ensures { IfOk result (λ list. (entries : List Entry) → IsGrouped K.eq K.key_of entries tallies.now.entries → map K.shown list.items ≡ sums_by K.cmp K.eq K.key_of entries) }
 {
-    let keys = rising_keys(alloc, totals)?;
+    let keys = rising_keys(alloc, tallies)?;
     let mut list = Vec::with_capacity(alloc, keys.len())?;
     for key in &keys {
-        list.push_reserved(key.sum(kept_totals(totals, *key)));
+        list.push_reserved(key.sum(kept_totals(tallies, *key)));
     }
     Ok(list)
 }
@@ -115,9 +118,9 @@ pub(crate) fn sums_of_books<K: GroupKey>(
     let Some(first) = books.first() else {
         return Ok(Vec::new(alloc));
     };
-    let mut totals = HashMap::with_hasher(alloc, first.keys());
+    let mut tallies = HashMap::with_hasher(alloc, first.keys());
     for book in books {
-        add_entries::<K>(&mut totals, book.entries())?;
+        add_entries::<K>(&mut tallies, book.entries())?;
     }
-    listed(alloc, &totals)
+    listed(alloc, &tallies)
 }

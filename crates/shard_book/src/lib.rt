@@ -20,6 +20,7 @@ mod replies;
 mod run_end;
 mod statement;
 mod sums;
+mod tally;
 mod token;
 mod totals;
 
@@ -33,6 +34,7 @@ pub use replies::Replies;
 pub use run_end::RunEnd;
 pub use statement::Statement;
 pub use sums::{TokenSum, ValidatorSum, sums_by_token, sums_by_validator, totals_of};
+pub use tally::Tally;
 pub use token::Token;
 pub use totals::Totals;
 

@@ -11,6 +11,7 @@ use crate::by_token::rising_counts;
 use crate::counts::TokenCounts;
 use crate::entry::Entry;
 use crate::groups::{GroupKey, sums_of_books};
+use crate::tally::Tally;
 use crate::token::Token;
 use crate::totals::Totals;
 use fare_table::NoMemory;
@@ -91,11 +92,11 @@ pub(crate) fn totals_of_entries(entries: &[Entry]) -> Totals
     ensures sums { sums_of result ≡ sums entries.now }
     ensures few { result.taps < 2 ^ 64 }
 {
-    let mut totals = Totals::new();
+    let mut tally = Tally::new();
     for entry in entries {
-        totals.add(entry.reply());
+        tally.add(entry.reply());
     }
-    totals
+    tally.totals()
 }
 
 /// The totals of all entries of the books, one pass a book.

@@ -416,6 +416,33 @@ fn sums_of_two_books(rt: HostRuntime) -> Result<(), Fail> {
     Ok(())
 }
 
+/// One reply, counted by totals and by a tally.
+#[tactic(auto, unfolding(crate::specs::Sums::sums_of_replies))]
+fn counted(reply: Reply) -> (Totals, Totals) {
+    let mut totals = Totals::new();
+    totals.add(reply);
+    let mut tally = Tally::new();
+    tally.add(reply);
+    (totals, tally.totals())
+}
+
+#[test]
+fn a_tally_counts_as_totals_do(rt: HostRuntime) -> Result<(), Fail> {
+    let answers = [
+        Answer::Paid,
+        Answer::Transfer,
+        Answer::Capped,
+        Answer::Stale,
+        Answer::Unknown,
+    ];
+    for answer in answers {
+        let (totals, tallied) = counted(Reply { answer, cents: 290 });
+        assert_eq!(rt; (totals.taps, totals.cents), (1, 290));
+        assert_eq!(rt; tallied, totals);
+    }
+    Ok(())
+}
+
 /// A book without entries, of one of two shards: the last bit of a token tells which.
 fn book_of_two<R: RandomSource>(alloc: Global, rt: &R, shard: u32) -> Result<ShardBook, Fail>
     requires { shard < 2 }

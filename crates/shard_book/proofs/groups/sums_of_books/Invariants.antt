@@ -4,4 +4,4 @@ use Rattle.shard_book.specs.Grouping.{IsGrouped}
 use Rattle.shard_book.proofs.groups.sums_of_books.Given as goal
 
 abbrev pub invariant-loop-book : goal.invariant-loop-book
-invariant-loop-book g l = IsGrouped g.K.PartialEq.eq g.K.GroupKey.key_of (all_entries (take l.book-index l.books)) l.totals.entries × (length (all_entries (take l.book-index l.books)) ≤ l.book-index * 2 ^ 64)
+invariant-loop-book g l = IsGrouped g.K.PartialEq.eq g.K.GroupKey.key_of (all_entries (take l.book-index l.books)) l.tallies.entries × (length (all_entries (take l.book-index l.books)) ≤ l.book-index * 2 ^ 64)

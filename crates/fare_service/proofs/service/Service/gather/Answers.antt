@@ -1,4 +1,4 @@
-use Rattle.std.proofs.Common.{◌≡◌, ℕ, ◌<◌, List, All, length, map, slice_get, Some, replicate, sym, ◌∙◌, ap, subst}
+use Rattle.std.proofs.Common.{◌≡◌, ℕ, ◌^◌, ◌≤◌, arith, ◌<◌, List, All, length, map, slice_get, Some, replicate, sym, ◌∙◌, ap, subst}
 use Rattle.std.specs.Prelude.{Result, Ok, Err, IfErr, IsErrAnd}
 use Rattle.std.proofs.lemmas.List.{length-map}
 use Rattle.shard_book.specs.Sums.{sums, sums_of}
@@ -11,7 +11,8 @@ use Rattle.fare_service.specs.Halls.{Hall}
 use Rattle.fare_service.specs.Holdings.{Holding}
 use Rattle.fare_service.specs.Shares.{IsShareOf}
 use Rattle.fare_service.specs.Gathering.{HasOutcome}
-use Rattle.fare_service.proofs.AddingLemmas.{gathered_sums}
+use Rattle.fare_service.specs.Adding.{add_all}
+use Rattle.fare_service.proofs.AddingLemmas.{gathered_sums, shares_add_up, few_taps}
 use Rattle.fare_service.proofs.PlacingLemmas.{gathered_places}
 use Rattle.fare_service.proofs.GatherLemmas.{has_outcome, told_undrawn, is_outcome, done_within}
 use Rattle.fare_service.proofs.service.Service.gather.Goals as goal
@@ -24,12 +25,43 @@ ends_of-requires c =
     let P : List Holding → Type 0 = λ ss. All (λ share. All (λ d. d.upload < length c.self.inside.uploads.now) share.done) ss in
     subst P (sym c.as_slice.ensures.value) (done_within hall (length c.self.inside.uploads.now) c.args.shares.items (length-map c.self.inside.uploads.now (λ upload. upload.items)) all)
 
+pub added-totals-requires : goal.added-totals-requires
+added-totals-requires c =
+    let hall : Hall = record { table = c.self.inside.table; drawing = c.self.inside.draw; books = c.self.inside.books.items; uploads = map (λ upload. upload.items) c.self.inside.uploads.now } in
+    let S : Hall → Type 0 = λ h. All (IsShareOf h) c.args.shares.items in
+    let all : All (IsShareOf hall) c.args.shares.items = subst S (sym c.self.view_is) c.requires in
+    let number : length hall.uploads ≡ length c.self.inside.uploads.now = length-map c.self.inside.uploads.now (λ upload. upload.items) in
+    let told : c.in_ok-ends.ends.items ≡ told_all (replicate (length hall.uploads) Undrawn) c.args.shares.items =
+    c.in_ok-ends.ensures.ends ∙ ap (told_all (replicate (length c.self.inside.uploads.now) Undrawn)) c.as_slice.ensures.value
+    ∙ ap (λ n. told_all (replicate n Undrawn) c.args.shares.items) (sym number) in
+    let workers : map sums_of c.in_ok-workers.workers.items ≡ map (λ share. share.totals) c.args.shares.items =
+    c.in_ok-workers.ensures ∙ ap (λ ss. map (λ (share : Holding). share.totals) ss) c.as_slice-2.ensures.value in
+    let same : sums (all_entries c.close_with.new.closed.items) ≡ add_all (map sums_of c.in_ok-workers.workers.items) =
+    shares_add_up hall c.self.invariant c.args.shares.items all c.close_with.new.closed.items c.in_ok-close_with.ensures.ok c.in_ok-ends.ends.items told
+    (c.in_ok-ends.ensures.number ∙ sym number) (map sums_of c.in_ok-workers.workers.items) workers in
+    let few : length (all_entries c.close_with.new.closed.items) ≤ 2 ^ 70 =
+    omega (arith, c.entries_in-entries.ensures.number, c.entries_in-entries.ensures.few, ap (λ bs. length (all_entries bs)) c.as_slice-3.ensures.value) in
+    let taps : (add_all (map sums_of c.in_ok-workers.workers.items)).taps ≤ 2 ^ 70 =
+    few_taps (all_entries c.close_with.new.closed.items) (add_all (map sums_of c.in_ok-workers.workers.items)) (2 ^ 70) same few in
+    omega (arith, taps, ap (λ ts. (add_all (map sums_of ts)).taps) c.as_slice-4.ensures.value)
+
 pub invariant_of-result : goal.invariant_of-result
 invariant_of-result c =
     let hall : Hall = record { table = c.self.inside.table; drawing = c.self.inside.draw; books = c.self.inside.books.items; uploads = map (λ upload. upload.items) c.self.inside.uploads.now } in
+    let S : Hall → Type 0 = λ h. All (IsShareOf h) c.args.shares.items in
+    let all : All (IsShareOf hall) c.args.shares.items = subst S (sym c.self.view_is) c.requires in
+    let number : length hall.uploads ≡ length c.self.inside.uploads.now = length-map c.self.inside.uploads.now (λ upload. upload.items) in
+    let told : c.in_ok-ends.ends.items ≡ told_all (replicate (length hall.uploads) Undrawn) c.args.shares.items =
+    c.in_ok-ends.ensures.ends ∙ ap (told_all (replicate (length c.self.inside.uploads.now) Undrawn)) c.as_slice.ensures.value
+    ∙ ap (λ n. told_all (replicate n Undrawn) c.args.shares.items) (sym number) in
+    let workers : map sums_of c.in_ok-workers.workers.items ≡ map (λ share. share.totals) c.args.shares.items =
+    c.in_ok-workers.ensures ∙ ap (λ ss. map (λ (share : Holding). share.totals) ss) c.as_slice-2.ensures.value in
+    let same : sums (all_entries c.close_with.new.closed.items) ≡ add_all (map sums_of c.in_ok-workers.workers.items) =
+    shares_add_up hall c.self.invariant c.args.shares.items all c.close_with.new.closed.items c.in_ok-close_with.ensures.ok c.in_ok-ends.ends.items told
+    (c.in_ok-ends.ensures.number ∙ sym number) (map sums_of c.in_ok-workers.workers.items) workers in
     is_outcome hall c.self.invariant c.args.shares.items c.close_with.new.closed.items c.in_ok-close_with.ensures.ok c.in_ok-ends.ends.items
-    (c.in_ok-ends.ensures.number ∙ sym (length-map c.self.inside.uploads.now (λ upload. upload.items))) (map sums_of c.in_ok-workers.workers.items) (sums_of c.totals_of-totals.result)
-    (c.totals_of-totals.ensures ∙ ap (λ bs. sums (all_entries bs)) c.as_slice-3.ensures.value)
+    (c.in_ok-ends.ensures.number ∙ sym number) (map sums_of c.in_ok-workers.workers.items) (sums_of c.added-totals.result)
+    (c.added-totals.ensures ∙ ap (λ ts. add_all (map sums_of ts)) c.as_slice-4.ensures.value ∙ sym same)
 
 pub returns-clause-outcome : goal.returns-clause-outcome
 returns-clause-outcome c =
@@ -42,9 +74,9 @@ returns-clause-outcome c =
     ∙ ap (λ n. told_all (replicate n Undrawn) c.args.shares.items) (sym number) in
     let workers : map sums_of c.in_ok-workers.workers.items ≡ map (λ share. share.totals) c.args.shares.items =
     c.in_ok-workers.ensures ∙ ap (λ ss. map (λ (share : Holding). share.totals) ss) c.as_slice-2.ensures.value in
-    let H : Hall → Type 0 = λ h. HasOutcome h c.args.shares.items (record { books = c.close_with.new.closed.items; ends = c.in_ok-ends.ends.items; workers = map sums_of c.in_ok-workers.workers.items; totals = sums_of c.totals_of-totals.result }) in
+    let H : Hall → Type 0 = λ h. HasOutcome h c.args.shares.items (record { books = c.close_with.new.closed.items; ends = c.in_ok-ends.ends.items; workers = map sums_of c.in_ok-workers.workers.items; totals = sums_of c.added-totals.result }) in
     subst H c.self.view_is (has_outcome hall c.self.invariant c.args.shares.items all c.close_with.new.closed.items c.in_ok-close_with.ensures.ok c.in_ok-ends.ends.items told
-    (c.in_ok-ends.ensures.number ∙ sym number) (map sums_of c.in_ok-workers.workers.items) workers (sums_of c.totals_of-totals.result))
+    (c.in_ok-ends.ensures.number ∙ sym number) (map sums_of c.in_ok-workers.workers.items) workers (sums_of c.added-totals.result))
 
 pub returns-clause-undrawn : goal.returns-clause-undrawn
 returns-clause-undrawn c =
@@ -65,8 +97,20 @@ returns-clause-places c =
 
 pub returns-clause-totals : goal.returns-clause-totals
 returns-clause-totals c =
+    let hall : Hall = record { table = c.self.inside.table; drawing = c.self.inside.draw; books = c.self.inside.books.items; uploads = map (λ upload. upload.items) c.self.inside.uploads.now } in
+    let S : Hall → Type 0 = λ h. All (IsShareOf h) c.args.shares.items in
+    let all : All (IsShareOf hall) c.args.shares.items = subst S (sym c.self.view_is) c.requires in
+    let number : length hall.uploads ≡ length c.self.inside.uploads.now = length-map c.self.inside.uploads.now (λ upload. upload.items) in
+    let told : c.in_ok-ends.ends.items ≡ told_all (replicate (length hall.uploads) Undrawn) c.args.shares.items =
+    c.in_ok-ends.ensures.ends ∙ ap (told_all (replicate (length c.self.inside.uploads.now) Undrawn)) c.as_slice.ensures.value
+    ∙ ap (λ n. told_all (replicate n Undrawn) c.args.shares.items) (sym number) in
+    let workers : map sums_of c.in_ok-workers.workers.items ≡ map (λ share. share.totals) c.args.shares.items =
+    c.in_ok-workers.ensures ∙ ap (λ ss. map (λ (share : Holding). share.totals) ss) c.as_slice-2.ensures.value in
+    let same : sums (all_entries c.close_with.new.closed.items) ≡ add_all (map sums_of c.in_ok-workers.workers.items) =
+    shares_add_up hall c.self.invariant c.args.shares.items all c.close_with.new.closed.items c.in_ok-close_with.ensures.ok c.in_ok-ends.ends.items told
+    (c.in_ok-ends.ensures.number ∙ sym number) (map sums_of c.in_ok-workers.workers.items) workers in
     let o = returns-clause-outcome c in
-    gathered_sums _ o.0 _ o.2 (c.totals_of-totals.ensures ∙ ap (λ bs. sums (all_entries bs)) c.as_slice-3.ensures.value)
+    gathered_sums _ o.0 _ o.2 (c.added-totals.ensures ∙ ap (λ ts. add_all (map sums_of ts)) c.as_slice-4.ensures.value ∙ sym same)
 
 pub returns-clause-limits : goal.returns-clause-limits
 returns-clause-limits c = λ shard book at. (c.in_ok-close_with.ensures.ok.books shard book at).limits
