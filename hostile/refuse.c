@@ -3,6 +3,8 @@
  *
  *   REFUSE_ALLOCATION=N  the Nth allocation, of all threads, finds no memory
  *   REFUSE_READ=N        the Nth read fails
+ *   REFUSE_SHORT=1       each read gives one byte
+ *   REFUSE_ENDLESS=1     each read gives one zero, without end
  *   REFUSE_THREAD=N      the Nth thread is not started
  *   REFUSE_SEED=1        the system gives no random bytes
  *   REFUSE_AFTER=N       the standard output takes N bytes, and then fails (N from 0)
@@ -24,7 +26,7 @@ extern void *__libc_realloc(void *, size_t);
 extern void *__libc_memalign(size_t, size_t);
 
 static atomic_long allocations, reads, threads, written;
-static long refused_allocation, refused_read, refused_thread, refused_seed, room = -1, told = -1;
+static long refused_allocation, refused_read, refused_thread, refused_seed, is_short, is_endless, room = -1, told = -1;
 
 static long number_in(const char *name, long otherwise) {
     const char *text = getenv(name);
@@ -34,6 +36,8 @@ static long number_in(const char *name, long otherwise) {
 __attribute__((constructor)) static void start(void) {
     refused_allocation = number_in("REFUSE_ALLOCATION", 0);
     refused_read = number_in("REFUSE_READ", 0);
+    is_short = number_in("REFUSE_SHORT", 0);
+    is_endless = number_in("REFUSE_ENDLESS", 0);
     refused_thread = number_in("REFUSE_THREAD", 0);
     refused_seed = number_in("REFUSE_SEED", 0);
     room = number_in("REFUSE_AFTER", -1);
@@ -67,7 +71,8 @@ int posix_memalign(void **out, size_t alignment, size_t size) {
 
 ssize_t read(int descriptor, void *buffer, size_t size) {
     if (refused_read != 0 && atomic_fetch_add(&reads, 1) + 1 == refused_read) return fails(EIO);
-    return syscall(SYS_read, descriptor, buffer, size);
+    if (is_endless && size > 0) return *(char *)buffer = 0, 1;
+    return syscall(SYS_read, descriptor, buffer, is_short && size > 1 ? 1 : size);
 }
 
 ssize_t write(int descriptor, const void *buffer, size_t size) {

@@ -3,13 +3,13 @@
 ghost use Rattle.std.specs.Prelude.{◌≡◌, IfOk};
 
 use crate::sample::{BUS, START, SUBWAY, UNTIL, bytes_of, table, tap};
-use crate::stop::{Case, Stop, ended, promise};
+use crate::stop::{Case, Stop, again, ended, promise};
 use account_rule::Answer;
-use fare_table::NoMemory;
+use fare_table::Clock;
 use shard_book::{Ends, Entry, Replies, RunEnd, ShardBook, Token, TokenKeys};
 use std::alloc::Global;
 use std::random::RandomSource;
-use tap_views::{Batch, TapFields, encode};
+use tap_views::{Batch, Run, TapFields, encode};
 
 /// A book without entries, the only one of its service.
 fn book<R: RandomSource>(rt: &R, alloc: Global) -> Result<ShardBook, Stop>
@@ -90,7 +90,17 @@ fn are_paid(out: &Replies, count: u64) -> Case {
     Ok(())
 }
 
-/// Forty taps in one run: a cut run posted exactly its first taps, and the others can be posted afterwards.
+/// Posts what a cut run left: all forty rides are there then.
+fn post_rest(alloc: Global, book: &mut ShardBook, rest: &[TapFields], out: &mut Replies) -> Case {
+    if post(alloc, book, rest, out)? != RunEnd::Whole {
+        return Err(Stop::Refused);
+    }
+    are_paid(out, 40)?;
+    has_rides(book, 40)
+}
+
+/// `post_run` of forty taps: a cut run posted exactly its first taps, and the others can be posted afterwards. Would catch a book
+/// that keeps a mark of a refusal, which no contract sees, and takes nothing more.
 pub fn cut_run<R: RandomSource>(rt: &R, alloc: Global) -> Case {
     let taps = forty_taps(alloc)?;
     let mut book = book(rt, alloc)?;
@@ -100,81 +110,103 @@ pub fn cut_run<R: RandomSource>(rt: &R, alloc: Global) -> Case {
     let posted = 40u64.saturating_sub(rest.len() as u64);
     are_paid(&out, posted)?;
     has_rides(&book, posted)?;
-    promise(
-        post(alloc, &mut book, rest, &mut out)? == RunEnd::Whole,
-        "the rest was cut",
-    )?;
-    are_paid(&out, 40)?;
-    has_rides(&book, 40)?;
-    ended(end != RunEnd::Whole)
+    let second = post_rest(alloc, &mut book, rest, &mut out);
+    match end {
+        RunEnd::Whole => second,
+        RunEnd::Cut { .. } => again(second),
+    }
 }
 
-/// The run of one tap at a time. Where one is refused the book stays as it was, and the tap can be posted again.
+/// Posts the tap by itself, a paid ride.
+fn post_tap(alloc: Global, book: &mut ShardBook, tap: &TapFields) -> Case {
+    let bytes = encode(alloc, std::slice::from_ref(tap))?;
+    let (batch, _) = Batch::first(&bytes)?;
+    let run = batch.run_of(book.shard(), book.shards());
+    let clock = book.table().clock(alloc)?;
+    let Some(tap) = run.taps().next() else {
+        return Err(Stop::Wrong("a tap is of another shard"));
+    };
+    let until = clock.until(tap.moment_ms())?;
+    let reply = book.post(&tap, until)?;
+    promise(
+        reply.answer == Answer::Paid && reply.cents == 300,
+        "another reply",
+    )
+}
+
+/// Posts the tap to a book of so many rides. Where it is refused the book stays as it was, and the tap can be posted again. Tells
+/// whether it was refused.
+fn post_twice(
+    alloc: Global,
+    book: &mut ShardBook,
+    tap: &TapFields,
+    rides: u64,
+) -> Result<bool, Stop> {
+    let first = post_tap(alloc, book, tap);
+    if first != Err(Stop::Refused) {
+        first?;
+        return Ok(false);
+    }
+    has_rides(book, rides)?;
+    promise(
+        post_tap(alloc, book, tap) == Ok(()),
+        "a tap is refused again",
+    )?;
+    Ok(true)
+}
+
+/// `post` of forty taps, one at a time. Would catch one that gives up where memory is there, as a book whose first growth is
+/// forgotten and which never takes a tap, and one that gives up for good after a refusal.
 pub fn posts<R: RandomSource>(rt: &R, alloc: Global) -> Case {
     let taps = forty_taps(alloc)?;
     let mut book = book(rt, alloc)?;
-    let mut out = Replies::new(alloc);
     let mut refused = false;
     for (last, tap) in taps.iter().enumerate() {
-        let tap = std::slice::from_ref(tap);
-        let answer = post(alloc, &mut book, tap, &mut out);
-        if answer != Ok(RunEnd::Whole) {
+        if post_twice(alloc, &mut book, tap, last as u64)? {
             refused = true;
-            promise(
-                answer == Err(Stop::Refused) || answer == Ok(RunEnd::Cut { posted: 0 }),
-                "a tap is refused for another cause than memory",
-            )?;
-            has_rides(&book, last as u64)?;
-            are_paid(&out, last as u64)?;
-            promise(
-                post(alloc, &mut book, tap, &mut out)? == RunEnd::Whole,
-                "a tap is refused again",
-            )?;
         }
     }
     has_rides(&book, 40)?;
-    are_paid(&out, 40)?;
     ended(refused)
 }
 
-/// The window ends of a run, after whose refusal they can be had again.
+/// Both ways to the window ends of a run answer.
+fn has_ends(alloc: Global, clock: &Clock, run: &Run) -> Case {
+    let mut ends = Ends::of(alloc, clock, run)?;
+    ends.fill(clock, run)?;
+    Ok(())
+}
+
+/// `Ends::of` and `fill`. Would catch a list of ends that cannot be filled again after it was refused.
 pub fn window_ends(alloc: Global) -> Case {
     let bytes = encode(alloc, &[tap(0xa1, SUBWAY, 0), tap(0xa1, BUS, 7_200_000)])?;
     let (batch, _) = Batch::first(&bytes)?;
     let run = batch.run_of(0, 1);
     let clock = table(alloc)?.clock(alloc)?;
     let mut ends = Ends::new(alloc);
-    let refused = ends.fill(&clock, &run).is_err();
-    if refused {
-        ends.fill(&clock, &run)?;
+    if ends.fill(&clock, &run).is_err() {
+        promise(ends.fill(&clock, &run).is_ok(), "ends are refused again")?;
+        return ended(true);
     }
-    promise(
-        clock.until(START)? == UNTIL,
-        "a window ends at another moment",
-    )?;
-    ended(refused)
+    match has_ends(alloc, &clock, &run) {
+        Err(Stop::Refused) => again(has_ends(alloc, &clock, &run)),
+        first => first,
+    }
 }
 
-/// Tokens, sums and a statement of a book of the forty rides. Where one is refused the book stays as it was, and the answer can be had again.
-pub fn lists<R: RandomSource>(rt: &R, alloc: Global) -> Case {
+/// A book of the forty rides.
+fn full_book<R: RandomSource>(rt: &R, alloc: Global) -> Result<ShardBook, Stop> {
     let mut book = book(rt, alloc)?;
     let mut out = Replies::new(alloc);
     let taps = forty_taps(alloc)?;
-    if post(alloc, &mut book, &taps, &mut out)? != RunEnd::Whole {
-        return Err(Stop::Refused);
-    }
-    let listed_first = listed(alloc, &book);
-    has_rides(&book, 40)?;
-    match listed_first {
-        Err(Stop::Refused) => {
-            listed(alloc, &book)?;
-            ended(true)
-        }
-        answered => answered,
+    match post(alloc, &mut book, &taps, &mut out)? {
+        RunEnd::Whole => Ok(book),
+        RunEnd::Cut { .. } => Err(Stop::Refused),
     }
 }
 
-fn listed(alloc: Global, book: &ShardBook) -> Case {
+/// The list of the forty tokens, rising.
+fn lists_tokens(alloc: Global, book: &ShardBook) -> Case {
     let tokens = book.tokens(alloc)?;
     promise(tokens.len() == 40, "another number of tokens")?;
     for last in 0..40u8 {
@@ -185,6 +217,23 @@ fn listed(alloc: Global, book: &ShardBook) -> Case {
             "another token",
         )?;
     }
+    Ok(())
+}
+
+/// `tokens`. Would catch one that always gives up, or does so for good after a refusal, also where the book stayed the same.
+pub fn tokens<R: RandomSource>(rt: &R, alloc: Global) -> Case {
+    let book = full_book(rt, alloc)?;
+    match lists_tokens(alloc, &book) {
+        Err(Stop::Refused) => {
+            has_rides(&book, 40)?;
+            again(lists_tokens(alloc, &book))
+        }
+        first => first,
+    }
+}
+
+/// The sums by validator and by token.
+fn adds_up(alloc: Global, book: &ShardBook) -> Case {
     let validators = book.by_validator(alloc)?;
     promise(validators.len() == 1, "another number of validators")?;
     for sum in &validators {
@@ -201,9 +250,44 @@ fn listed(alloc: Global, book: &ShardBook) -> Case {
             "other sums of a token",
         )?;
     }
+    Ok(())
+}
+
+/// `by_validator` and `by_token`. Would catch one that always gives up, or does so for good after a refusal.
+pub fn sums<R: RandomSource>(rt: &R, alloc: Global) -> Case {
+    let book = full_book(rt, alloc)?;
+    match adds_up(alloc, &book) {
+        Err(Stop::Refused) => {
+            has_rides(&book, 40)?;
+            again(adds_up(alloc, &book))
+        }
+        first => first,
+    }
+}
+
+/// The statement of one token, with its window.
+fn states(alloc: Global, book: &ShardBook) -> Case {
     let statement = book.statement(alloc, &Token::of(&bytes_of(7)))?;
     promise(
         statement.lines.len() == 1 && statement.totals.cents == 300,
         "another statement",
+    )?;
+    promise(
+        statement
+            .window
+            .is_some_and(|window| window.until == UNTIL && window.cents == 300),
+        "another window",
     )
+}
+
+/// `statement`. Would catch one that always gives up, or does so for good after a refusal.
+pub fn statement<R: RandomSource>(rt: &R, alloc: Global) -> Case {
+    let book = full_book(rt, alloc)?;
+    match states(alloc, &book) {
+        Err(Stop::Refused) => {
+            has_rides(&book, 40)?;
+            again(states(alloc, &book))
+        }
+        first => first,
+    }
 }

@@ -1,7 +1,7 @@
 //! The cases by their names.
 
-use crate::books::{cut_run, lists, posts, window_ends};
-use crate::service::{prints_report, prints_statement, run};
+use crate::books::{cut_run, posts, statement, sums, tokens, window_ends};
+use crate::service::{opening, prints_report, prints_statement, run};
 use crate::stop::{Case, Stop};
 use crate::tables::{clock, clone, encodes, read};
 use std::alloc::Global;
@@ -11,7 +11,7 @@ use std::sync::Wait;
 use std::thread::Threads;
 
 /// The cases, in the order in which they are made.
-pub const CASES: [&str; 11] = [
+pub const CASES: [&str; 14] = [
     "encode",
     "read",
     "try_clone",
@@ -19,14 +19,21 @@ pub const CASES: [&str; 11] = [
     "ends",
     "post",
     "post_run",
-    "lists",
-    "run",
-    "report",
+    "tokens",
+    "sums",
     "statement",
+    "open",
+    "run",
+    "write_report",
+    "write_statement",
 ];
 
 /// Makes the case of this name.
-pub fn made<R: Threads + Wait + RandomSource + Sync>(rt: &R, alloc: Global, name: &str) -> Case {
+pub fn made<R: Threads + Wait + RandomSource + Sync + Print>(
+    rt: &R,
+    alloc: Global,
+    name: &str,
+) -> Case {
     match name {
         "encode" => encodes(alloc),
         "read" => read(alloc),
@@ -35,10 +42,13 @@ pub fn made<R: Threads + Wait + RandomSource + Sync>(rt: &R, alloc: Global, name
         "ends" => window_ends(alloc),
         "post" => posts(rt, alloc),
         "post_run" => cut_run(rt, alloc),
-        "lists" => lists(rt, alloc),
+        "tokens" => tokens(rt, alloc),
+        "sums" => sums(rt, alloc),
+        "statement" => statement(rt, alloc),
+        "open" => opening(rt, alloc),
         "run" => run(rt, alloc),
-        "report" => prints_report(rt, alloc),
-        "statement" => prints_statement(rt, alloc),
+        "write_report" => prints_report(rt, alloc),
+        "write_statement" => prints_statement(rt, alloc),
         _ => Err(Stop::Wrong("is no case")),
     }
 }

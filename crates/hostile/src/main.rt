@@ -1,9 +1,10 @@
-//! Hostile use of the service's libraries: memory that is refused, uploads that are damaged, writers that fail.
+//! Hostile use of the service's libraries: memory that is refused, uploads that are damaged, writers that fail, schedules.
 //!
 //! `hostile CASE` makes one case of calls that take memory, and looks at what a refused call left behind. Its status is 0
-//! where all was answered, 3 where memory was refused and all stood as promised, and 1 where something else was found,
-//! which it names. The script `hostile/refuse` runs each case with its first allocation refused, then with its second, and
-//! so on, until a run meets no refusal. Without a word the program makes every case with the memory that there is.
+//! where all was answered, 3 where memory was refused and all stood as promised, 4 where a run told so of an upload that was
+//! cut or left undrawn, and 1 where something else was found, which it names. The script `hostile/refuse` runs each case with
+//! its first allocation refused, then with its second, and so on, until a run meets no refusal. Without a word the program
+//! makes every case with the memory that there is, and each answers.
 #![tactic(auto)]
 
 mod books;
@@ -26,6 +27,7 @@ fn status_of(case: &Case) -> u8 {
     match case {
         Ok(()) => 0,
         Err(Stop::Refused) => 3,
+        Err(Stop::Less) => 4,
         Err(Stop::Wrong(_)) => 1,
     }
 }
@@ -34,6 +36,7 @@ fn word_of(case: &Case) -> &'static str {
     match case {
         Ok(()) => "answered",
         Err(Stop::Refused) => "refused",
+        Err(Stop::Less) => "told of less",
         Err(Stop::Wrong(what)) => what,
     }
 }

@@ -1,8 +1,8 @@
-//! Cases of the service: a run, and the texts of what it gathered.
+//! Cases of the service: opening, a run, and the texts of what it gathered.
 
 use crate::sample::{REPORT, STATEMENT, bytes_of, table, uploads};
-use crate::stop::{Case, Stop, ended, promise};
-use fare_service::{Gate, Outcome, Service, UploadEnd};
+use crate::stop::{Case, Stop, again, promise};
+use fare_service::{Gate, Outcome, PrintFault, Service, UploadEnd};
 use shard_book::Token;
 use std::alloc::Global;
 use std::marker::Sync;
@@ -20,14 +20,64 @@ impl Gate for Open {
     fn after(&self, _: u32) {}
 }
 
+/// A gate that prints which uploads have ended, so that whoever refuses memory knows what was refused before and what after.
+#[derive(Drop)]
+struct Telling<'a, R> {
+    rt: &'a R,
+}
+
+impl<R: Print> Gate for Telling<'_, R> {
+    fn before(&self, _: u32) {}
+
+    fn after(&self, upload: u32) {
+        let _printed = println!(self.rt; "upload {upload} ended");
+    }
+}
+
+/// So many workers post the uploads to so many shards.
+pub fn outcome_by<R: Threads + Wait + RandomSource + Sync, G: Gate + Sync>(
+    rt: &R,
+    alloc: Global,
+    uploads: &[Vec<u8>],
+    shards: u32,
+    workers: u32,
+    gate: &G,
+) -> Result<Outcome, Stop> {
+    let (service, share) = Service::open(rt, alloc, table(alloc)?, shards, uploads)?;
+    Ok(service.run(rt, alloc, share, workers, gate)?)
+}
+
 /// One worker posts the uploads to eight shards.
 pub fn outcome_of<R: Threads + Wait + RandomSource + Sync>(
     rt: &R,
     alloc: Global,
     uploads: &[Vec<u8>],
 ) -> Result<Outcome, Stop> {
+    outcome_by(rt, alloc, uploads, 8, 1, &Open)
+}
+
+/// A service opens, and its first share is gathered: both uploads are undrawn.
+fn opens<R: RandomSource>(rt: &R, alloc: Global, uploads: &[Vec<u8>]) -> Case {
     let (service, share) = Service::open(rt, alloc, table(alloc)?, 8, uploads)?;
-    Ok(service.run(rt, alloc, share, 1, &Open)?)
+    let outcome = service.gather(alloc, vec![in alloc; share]?)?;
+    let (taps, whole) = posted(&outcome)?;
+    promise(
+        taps == 0 && !whole && outcome.totals().taps == 0,
+        "taps are posted that nobody posted",
+    )?;
+    promise(
+        (outcome.shards(), outcome.uploads(), outcome.workers()) == (8, 2, 1),
+        "another service is opened",
+    )
+}
+
+/// `open` and `gather`. Would catch one that always gives up, and one that does so for good after a refusal.
+pub fn opening<R: RandomSource>(rt: &R, alloc: Global) -> Case {
+    let uploads = uploads(alloc)?;
+    match opens(rt, alloc, uploads.as_slice()) {
+        Err(Stop::Refused) => again(opens(rt, alloc, uploads.as_slice())),
+        first => first,
+    }
 }
 
 /// How many taps of the uploads were posted, and whether each upload was posted whole.
@@ -47,10 +97,16 @@ fn posted(outcome: &Outcome) -> Result<(u128, bool), Stop> {
     Ok((taps, whole))
 }
 
-/// A run that is gathered posted all, or says which upload was cut or left undrawn; the books have what the ends tell.
-pub fn run<R: Threads + Wait + RandomSource + Sync>(rt: &R, alloc: Global) -> Case {
-    let uploads = uploads(alloc)?;
-    let outcome = outcome_of(rt, alloc, uploads.as_slice())?;
+/// One worker posts all, or tells of less, and the books have what the ends tell.
+fn runs<R: Threads + Wait + RandomSource + Sync + Print, G: Gate + Sync>(
+    rt: &R,
+    alloc: Global,
+    uploads: &[Vec<u8>],
+    gate: &G,
+) -> Case {
+    let (service, share) = Service::open(rt, alloc, table(alloc)?, 8, uploads)?;
+    let _printed = println!(rt; "service opened");
+    let outcome = service.run(rt, alloc, share, 1, gate)?;
     let (taps, whole) = posted(&outcome)?;
     promise(
         outcome.totals().taps == taps,
@@ -60,49 +116,76 @@ pub fn run<R: Threads + Wait + RandomSource + Sync>(rt: &R, alloc: Global) -> Ca
         whole == (taps == 6),
         "an upload is told whole that is not, or the other way round",
     )?;
-    ended(!whole)
+    if whole { Ok(()) } else { Err(Stop::Less) }
 }
 
-/// Refused memory has written nothing, and the text can be had again.
-fn prints(text: &str, first: Result<(), Stop>, written: &[u8], second: &[u8]) -> Case {
-    let refused = first == Err(Stop::Refused);
-    if refused {
-        promise(written.is_empty(), "a refused text is written in part")?;
+/// `run` with one worker. After a refusal another service posts the same uploads. Would catch a worker that stops though no memory
+/// was refused, and an upload told as cut of which all was posted: each is told truly, and the promises hold.
+///
+/// It prints when the run begins and which uploads have ended, and `hostile/refuse` holds it to this: memory that is refused in
+/// between leaves an upload cut or undrawn, or no outcome; and where it is refused after the last upload's end, none is.
+pub fn run<R: Threads + Wait + RandomSource + Sync + Print>(rt: &R, alloc: Global) -> Case {
+    let uploads = uploads(alloc)?;
+    let first = runs(rt, alloc, uploads.as_slice(), &Telling { rt });
+    if first == Err(Stop::Refused) || first == Err(Stop::Less) {
+        let second = runs(rt, alloc, uploads.as_slice(), &Open);
+        promise(second == Ok(()), "a second run does not post all")?;
+    }
+    first
+}
+
+/// An outcome of which each upload was posted whole.
+fn whole_outcome<R: Threads + Wait + RandomSource + Sync>(
+    rt: &R,
+    alloc: Global,
+) -> Result<Outcome, Stop> {
+    let uploads = uploads(alloc)?;
+    let outcome = outcome_of(rt, alloc, uploads.as_slice())?;
+    if posted(&outcome)?.1 {
+        Ok(outcome)
     } else {
-        first?;
-        promise(written == text.as_bytes(), "another text")?;
+        Err(Stop::Refused)
     }
-    promise(second == text.as_bytes(), "another text the second time")?;
-    ended(refused)
 }
 
+/// The text was written whole, or memory was refused and nothing was written.
+fn is_written(answer: Result<(), PrintFault>, written: &[u8], text: &str) -> Case {
+    match answer {
+        Ok(()) => promise(written == text.as_bytes(), "another text"),
+        Err(PrintFault::NoMemory) => {
+            promise(written.is_empty(), "a refused text is written in part")?;
+            Err(Stop::Refused)
+        }
+        Err(PrintFault::Write) => Err(Stop::Wrong("a writer that takes all is said to fail")),
+    }
+}
+
+/// `write_report`. Would catch one that always gives up, or does so for good after a refusal; also a part of the text that is
+/// written before a refusal, to a writer of which contracts know nothing.
 pub fn prints_report<R: Threads + Wait + RandomSource + Sync>(rt: &R, alloc: Global) -> Case {
-    let uploads = uploads(alloc)?;
-    let outcome = outcome_of(rt, alloc, uploads.as_slice())?;
-    if !posted(&outcome)?.1 {
-        return Err(Stop::Refused);
+    let outcome = whole_outcome(rt, alloc)?;
+    let mut written = Vec::with_capacity(alloc, 2000)?;
+    let answer = outcome.write_report(alloc, &mut written);
+    match is_written(answer, &written, REPORT) {
+        Err(Stop::Refused) => {
+            let answer = outcome.write_report(alloc, &mut written);
+            again(is_written(answer, &written, REPORT))
+        }
+        first => first,
     }
-    let (mut written, mut second) = (
-        Vec::with_capacity(alloc, 2000)?,
-        Vec::with_capacity(alloc, 2000)?,
-    );
-    let first = outcome.write_report(alloc, &mut written);
-    outcome.write_report(alloc, &mut second)?;
-    prints(REPORT, first.map_err(Stop::from), &written, &second)
 }
 
+/// `write_statement`. Would catch the same as `prints_report`.
 pub fn prints_statement<R: Threads + Wait + RandomSource + Sync>(rt: &R, alloc: Global) -> Case {
-    let uploads = uploads(alloc)?;
-    let outcome = outcome_of(rt, alloc, uploads.as_slice())?;
-    if !posted(&outcome)?.1 {
-        return Err(Stop::Refused);
-    }
+    let outcome = whole_outcome(rt, alloc)?;
     let token = Token::of(&bytes_of(0xa1));
-    let (mut written, mut second) = (
-        Vec::with_capacity(alloc, 2000)?,
-        Vec::with_capacity(alloc, 2000)?,
-    );
-    let first = outcome.write_statement(alloc, &token, &mut written);
-    outcome.write_statement(alloc, &token, &mut second)?;
-    prints(STATEMENT, first.map_err(Stop::from), &written, &second)
+    let mut written = Vec::with_capacity(alloc, 2000)?;
+    let answer = outcome.write_statement(alloc, &token, &mut written);
+    match is_written(answer, &written, STATEMENT) {
+        Err(Stop::Refused) => {
+            let answer = outcome.write_statement(alloc, &token, &mut written);
+            again(is_written(answer, &written, STATEMENT))
+        }
+        first => first,
+    }
 }

@@ -1,6 +1,6 @@
 //! Why a case stops before all is answered.
 
-use fare_service::{GatherFault, OpenFault, PrintFault, RunFault};
+use fare_service::{GatherFault, OpenFault, RunFault};
 use fare_table::{NoMemory, TableFault};
 use std::alloc::{AllocError, AllocFailed};
 use tap_views::{EncodeFault, LayoutFault};
@@ -10,6 +10,8 @@ use tap_views::{EncodeFault, LayoutFault};
 pub enum Stop {
     /// Memory was refused, and what stood then was as promised.
     Refused,
+    /// A run was gathered, and it tells of an upload that was cut or left undrawn.
+    Less,
     /// What was found in place of what is promised.
     Wrong(&'static str),
 }
@@ -29,6 +31,15 @@ pub fn promise(holds: bool, what: &'static str) -> Case {
 /// How a case ends that went on after a refusal.
 pub fn ended(refused: bool) -> Case {
     if refused { Err(Stop::Refused) } else { Ok(()) }
+}
+
+/// How a case ends in which a refused call was made again: one allocation of a run is refused, so the second call must be answered.
+pub fn again(second: Case) -> Case {
+    match second {
+        Ok(()) => Err(Stop::Refused),
+        Err(Stop::Refused | Stop::Less) => Err(Stop::Wrong("gives up again")),
+        wrong => wrong,
+    }
 }
 
 impl From<NoMemory> for Stop {
@@ -82,20 +93,20 @@ impl From<OpenFault> for Stop {
     }
 }
 
+impl From<GatherFault> for Stop {
+    fn from(fault: GatherFault) -> Self {
+        match fault {
+            GatherFault::NoMemory => Stop::Refused,
+            _ => Stop::Wrong("shares are said to be missing"),
+        }
+    }
+}
+
 impl From<RunFault> for Stop {
     fn from(fault: RunFault) -> Self {
         match fault {
             RunFault::NoMemory | RunFault::Gather(GatherFault::NoMemory) => Stop::Refused,
             _ => Stop::Wrong("a run is refused for another cause than memory"),
-        }
-    }
-}
-
-impl From<PrintFault> for Stop {
-    fn from(fault: PrintFault) -> Self {
-        match fault {
-            PrintFault::NoMemory => Stop::Refused,
-            PrintFault::Write => Stop::Wrong("a writer that takes all is said to fail"),
         }
     }
 }

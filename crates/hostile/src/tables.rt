@@ -1,7 +1,7 @@
 //! Cases of encoding, and of fare tables and their clocks.
 
 use crate::sample::{BUS, START, SUBWAY, UNTIL, bytes_of, table, tap};
-use crate::stop::{Case, promise};
+use crate::stop::{Case, Stop, again, promise};
 use fare_table::FareTable;
 use std::alloc::Global;
 use tap_views::{Batch, Tap2Fields, TapFields, encode, encode_tap2};
@@ -25,14 +25,27 @@ fn reads_back(bytes: &[u8], taps: &[TapFields]) -> Case {
     Ok(())
 }
 
+/// The taps are encoded in both layouts, in the second one the first tap alone.
+fn encoded(alloc: Global, taps: &[TapFields; 2]) -> Case {
+    reads_back(&encode(alloc, taps)?, taps)?;
+    let shared = Tap2Fields {
+        token: taps[0].token,
+        moment: taps[0].moment,
+    };
+    reads_back(
+        &encode_tap2(alloc, taps[0].validator, &[shared])?,
+        &taps[..1],
+    )
+}
+
+/// `encode` and `encode_tap2`. Would catch one that gives up where memory is there, or that keeps a mark of a refusal and
+/// gives up from then on.
 pub fn encodes(alloc: Global) -> Case {
     let taps = [tap(0xa1, SUBWAY, 0), tap(0xa1, BUS, 7_200_000)];
-    reads_back(&encode(alloc, &taps)?, &taps)?;
-    let shared = Tap2Fields {
-        token: bytes_of(0xa1),
-        moment: START,
-    };
-    reads_back(&encode_tap2(alloc, SUBWAY, &[shared])?, &taps[..1])
+    match encoded(alloc, &taps) {
+        Err(Stop::Refused) => again(encoded(alloc, &taps)),
+        first => first,
+    }
 }
 
 /// The table is the sample table.
@@ -63,21 +76,62 @@ fn is_sample(table: &FareTable) -> Case {
     )
 }
 
-pub fn read(alloc: Global) -> Case {
+fn was_read(alloc: Global) -> Case {
     is_sample(&table(alloc)?)
 }
 
-pub fn clone(alloc: Global) -> Case {
-    let table = table(alloc)?;
-    let copy = table.try_clone(alloc)?;
-    is_sample(&copy)?;
-    is_sample(&table)
+/// `FareTable::read`. Would catch one that gives up where memory is there. A refusal inside `toml` must not be told as a fault of the
+/// text, which a contract says too.
+pub fn read(alloc: Global) -> Case {
+    match was_read(alloc) {
+        Err(Stop::Refused) => again(was_read(alloc)),
+        first => first,
+    }
 }
 
-pub fn clock(alloc: Global) -> Case {
-    let clock = table(alloc)?.clock(alloc)?;
+/// A clone is equal, and the table still answers when the clone is gone.
+fn cloned(alloc: Global, table: &FareTable) -> Case {
+    let copy = table.try_clone(alloc)?;
+    is_sample(&copy)?;
+    drop(copy);
+    is_sample(table)
+}
+
+/// `try_clone`, which takes no memory of its own. Would catch one that always gives up.
+pub fn clone(alloc: Global) -> Case {
+    let table = table(alloc)?;
+    match cloned(alloc, &table) {
+        Err(Stop::Refused) => {
+            is_sample(&table)?;
+            again(cloned(alloc, &table))
+        }
+        first => first,
+    }
+}
+
+/// A clock of the sample table tells where windows end: in March, before its first second, and when clocks are turned back.
+fn tells_ends(alloc: Global, table: &FareTable) -> Case {
+    let clock = table.clock(alloc)?;
+    let ends = [
+        clock.until(START)?,
+        clock.until(1_709_873_999_999)?,
+        clock.until(1_730_307_600_000)?,
+    ];
     promise(
-        clock.until(START)? == UNTIL,
+        ends == [UNTIL, 1_710_388_800_000, 1_730_869_200_000],
         "a window ends at another moment",
     )
+}
+
+/// `clock` and `until`. Would catch a rule text that means other dates than New York's, since the contract leaves to `jiff` what a
+/// text means.
+pub fn clock(alloc: Global) -> Case {
+    let table = table(alloc)?;
+    match tells_ends(alloc, &table) {
+        Err(Stop::Refused) => {
+            is_sample(&table)?;
+            again(tells_ends(alloc, &table))
+        }
+        first => first,
+    }
 }
