@@ -8,9 +8,9 @@ pub struct Options<'a> {
     pub table: Option<&'a str>,
     /// Whether the taps are listed, also by a table.
     pub list: bool,
-    /// How many workers post the uploads.
+    /// How many workers post the uploads, 1 to 16.
     pub workers: u32,
-    /// Over how many shards the accounts are spread.
+    /// Over how many shards the accounts are spread, 1 to 64.
     pub shards: u32,
     /// The token whose statement is wanted, as it is written.
     pub token: Option<&'a str>,

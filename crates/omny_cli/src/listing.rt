@@ -1,3 +1,4 @@
+//! The word of each tap of a listing, from the taps before it.
 ghost use Rattle.std.specs.Prelude.{◌≡◌, ◌+◌, ◌^◌, ◌<◌, ℕ, List, [], ◌∷◌, ◌++◌, IfOk, OnOk, OnErr};
 ghost use Rattle.std.specs.Prelude.{◌&&◌, if◌then◌else◌};
 ghost use Rattle.std.specs.Str.{bytes_eq};
@@ -26,9 +27,13 @@ pub enum Word {
 /// How many taps were listed, and how many with each word.
 #[derive(Clone, Copy, Debug, PartialEq, Eq)]
 pub struct ListCounts {
+    /// All taps; the other three add up to it.
     pub taps: u128,
+    /// Those told as live.
     pub live: u128,
+    /// Those told as stale.
     pub stale: u128,
+    /// Those told as unknown.
     pub unknown: u128,
 }
 

@@ -1,5 +1,5 @@
 //! Whole files, up to a limit.
-ghost use Rattle.std.specs.Prelude.{◌≡◌, ◌<◌, ◌≤◌, ℕ, List, length, IfOk, IfSome, Some, None, IsErrOf, string_bytes};
+ghost use Rattle.std.specs.Prelude.{◌≡◌, ◌<◌, ◌≤◌, List, length, IfOk, IfSome, Some, None, IsErrOf};
 ghost use Rattle.omny_cli.specs.Source.{TellsOne};
 
 use std::alloc::{AllocError, Global};

@@ -1,6 +1,6 @@
 //! The command line.
-ghost use Rattle.std.specs.Prelude.{◌≡◌, ◌≤◌, ◌^◌, ◌<◌, ℕ, IfOk, [], codes, false, map, option_map, string_bytes, unwrap_or};
-ghost use Rattle.clap.specs.Words.{FailsBy, all_of, app_of, fault_of, first_of, found_of, matches_of};
+ghost use Rattle.std.specs.Prelude.{◌≡◌, ◌≤◌, ◌^◌, ◌<◌, ℕ, IfOk, [], codes, false, map, string_bytes, unwrap_or};
+ghost use Rattle.clap.specs.Words.{FailsBy, all_of, app_of, fault_of, found_of, matches_of};
 ghost use Rattle.clap.specs.Words.{rows_of, rule_of};
 ghost use Rattle.omny_cli.specs.Options.{HasNumber, asked_by, asked_of, file_rule, is_given, list_rule, number_of, program};
 ghost use Rattle.omny_cli.specs.Options.{shards_rule, table_rule, token_rule, workers_rule};
@@ -12,7 +12,7 @@ use std::alloc::{AllocError, Global};
 const ABOUT: &str = "Charges the taps of upload files by a fare table, and reports what they cost.
 
 With --table the uploads are posted to accounts, by worker threads, and the report is printed, or
-with --token the statement of one card. Without --table, or with --list, the taps are only listed,
+with --token the statement of one token. Without --table, or with --list, the taps are only listed,
 each as live, stale or unknown.";
 
 const NOTES: &str = "What is printed:
@@ -44,7 +44,7 @@ const WORKERS_HELP: &str = "How many threads post the uploads, 1 to 16";
 const SHARDS_HELP: &str = "Over how many shards the accounts are spread, 1 to 64";
 
 const TOKEN_HELP: &str =
-    "Print the statement of this token, 32 hexadecimal digits, in place of the report";
+    "Print the statement of this token, 32 hexadecimal digits of either case, not the report";
 
 const FILE_HELP: &str =
     "Uploads, files of TAP1 and TAP2 batches of at most 67108864 bytes [default: standard input]";

@@ -2,6 +2,7 @@
 ghost use Rattle.std.specs.Prelude.{MatchOption, codes, ◌≡◌, ◌≢◌, ◌≤◌, ◌⊎◌, ◌++◌, ◌∷◌, [], ℕ, List, true, false, None, Some, IfErr, IfOk, OnOk, is_some, map, option_map, string_bytes};
 ghost use Rattle.clap.specs.Words.{kind_of};
 ghost use Rattle.std.specs.Io.KnownBytes.{Appends, Keeps};
+ghost use Rattle.std.specs.IoError.{error_kind};
 ghost use Rattle.fare_service.specs.Outcomes.{Gathered};
 ghost use Rattle.omny_cli.specs.Fault.{IsLoadLine, IsTableLine, fault_text, status_of, token_fault};
 ghost use Rattle.omny_cli.specs.Options.{AsksForHelp, Parses, asked_by, asked_of};
@@ -12,7 +13,7 @@ ghost use Rattle.omny_cli.specs.Uploads.{IsListing};
 use crate::asked::Options;
 use crate::fault::Fault;
 use crate::load::Source;
-use crate::output::write_text;
+use crate::output::{flush, write_text};
 use crate::run::{are_posted, outcome_of, write_outcome};
 use crate::uploads::listing_text;
 use clap::Error;
@@ -22,7 +23,7 @@ use hex::FromHex;
 use shard_book::Token;
 use std::alloc::Global;
 use std::io;
-use std::io::Write;
+use std::io::{ErrorKind as ReadKind, Write};
 use std::marker::Sync;
 use std::random::RandomSource;
 use std::sync::Wait;
@@ -153,7 +154,7 @@ fn list<'a, W: Write>(
     ensures fault { IfErr result (λ fault. fault ≢ Fault.Write → Keeps (W.contents out.old) (W.contents out.new)) }
     ensures status { IfErr result (λ fault. status_of fault ≡ 1) }
 {
-    let (text, clean) = listing_text(alloc, table.as_ref(), &files)?;
+    let (text, clean) = listing_text(alloc, table.as_ref(), files)?;
     write_text(out, text.as_str())?;
     Ok(clean)
 }
@@ -218,19 +219,30 @@ fn tell<E: Write>(err: &mut E, fault: &Fault) -> u8
     fault.status()
 }
 
+// Prints clap's help, through to where the writer brings it.
+fn show_help<'a, W: Write>(error: &Error, out: &mut W) -> Result<(), Fault<'a>>
+    ensures { IfErr result (λ fault. fault ≡ Fault.Write) }
+{
+    if write!(out, "{error}").is_err() {
+        return Err(Fault::Write);
+    }
+    flush(out)
+}
+
 // Shows what clap answers when there is nothing to run: help on `out`, else the mistake on `err`.
 fn show<W: Write, E: Write>(error: &Error, out: &mut W, err: &mut E) -> u8
     ensures help { result ≡ 0 → kind_of error.now ≡ ErrorKind.DisplayHelp }
     ensures memory { kind_of error.now ≡ ErrorKind.OutOfMemory → result ≡ 1 }
+    ensures words { kind_of error.now ≢ ErrorKind.DisplayHelp → kind_of error.now ≢ ErrorKind.OutOfMemory → result ≡ 2 }
     ensures mistake { result ≡ 2 → Keeps (W.contents out.old) (W.contents out.new) }
     ensures quiet { result ≡ 0 → err.new ≡ err.old }
     ensures status { result ≤ 2 }
 {
     match error.kind() {
         ErrorKind::OutOfMemory => tell(err, &Fault::NoMemory),
-        ErrorKind::DisplayHelp => match write!(out, "{error}") {
+        ErrorKind::DisplayHelp => match show_help(error, out) {
             Ok(()) => 0,
-            Err(_) => tell(err, &Fault::Write),
+            Err(fault) => tell(err, &fault),
         },
         _ => {
             let _ = write!(err, "{error}");
@@ -287,9 +299,10 @@ pub fn main_over<R: Threads + Wait + RandomSource + Sync, S: Source, W: Write, E
 /// Says why the words could not be had, and gives the status: 1 for want of memory, and 2 for a word
 /// that is not UTF-8.
 pub fn unread_words<E: Write>(error: &io::Error, err: &mut E) -> u8
-    ensures status { (result ≡ 1) ⊎ (result ≡ 2) }
+    ensures memory { error_kind error.now ≡ ReadKind.OutOfMemory → result ≡ 1 }
+    ensures word { error_kind error.now ≢ ReadKind.OutOfMemory → result ≡ 2 }
 {
-    if error.kind() == io::ErrorKind::OutOfMemory {
+    if error.kind() == ReadKind::OutOfMemory {
         return tell(err, &Fault::NoMemory);
     }
     let _ = write!(err, "error: an argument is not UTF-8\n");

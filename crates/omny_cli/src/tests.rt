@@ -2,17 +2,18 @@
 //! files. Each public function is called once with ample memory.
 ghost use Rattle.std.specs.Prelude.{◌≡◌, ◌++◌, ◌∷◌, [], IfOk, OnOk, Some, map, option_map, string_bytes};
 
+use crate::host::Host;
 use crate::listing::{ListCounts, Listing, Word};
 use crate::load::{LONGEST, LoadFault, Source, load_from};
-use crate::program::main_over;
+use crate::program::{main_over, unread_words};
 use std::alloc::{AllocError, Global};
-use std::io;
 use std::io::{Read, Write};
 use std::marker::Sync;
 use std::random::RandomSource;
 use std::sync::Wait;
 use std::test::Fail;
 use std::thread::Threads;
+use std::{fs, io};
 use tap_views::Batch;
 
 mod service;
@@ -485,6 +486,66 @@ fn tells_of_a_write_that_fails(rt: HostRuntime) -> Result<(), Fail> {
         &mut Full { room: 9 },
     );
     assert_eq!(rt; status, 1);
+    Ok(())
+}
+
+#[test]
+fn tells_of_help_that_cannot_be_written(rt: HostRuntime) -> Result<(), Fail> {
+    let alloc = rt.alloc();
+    let words = vec![in alloc;
+        String::from_str(alloc, "omny_cli")?,
+        String::from_str(alloc, "--help")?,
+    ]?;
+    let mut shelf = Shelf::new(alloc, &[], Content::Fault(LoadFault::Unread));
+    let mut err = Vec::new(alloc);
+    let status = main_over(
+        &rt,
+        alloc,
+        &words,
+        &mut shelf,
+        &mut Full { room: 9 },
+        &mut err,
+    );
+    assert_eq!(rt; err.as_slice(), b"fault: cannot write\n".as_slice());
+    assert_eq!(rt; status, 1);
+    let mut err = Vec::new(alloc);
+    let status = main_over(&rt, alloc, &words, &mut shelf, &mut Stuck, &mut err);
+    assert_eq!(rt; err.as_slice(), b"fault: cannot write\n".as_slice());
+    assert_eq!(rt; status, 1);
+    Ok(())
+}
+
+#[test]
+fn tells_of_words_that_cannot_be_had(rt: HostRuntime) -> Result<(), Fail> {
+    let rows = [
+        (io::ErrorKind::OutOfMemory, "fault: out of memory\n", 1),
+        (
+            io::ErrorKind::InvalidData,
+            "error: an argument is not UTF-8\n",
+            2,
+        ),
+    ];
+    for (kind, line, status) in rows {
+        let mut err = Vec::new(rt.alloc());
+        assert_eq!(rt;
+            unread_words(&io::Error::from(kind), &mut err),
+            status,
+            "{line}"
+        );
+        assert_eq!(rt; err.as_slice(), line.as_bytes(), "{line}");
+    }
+    Ok(())
+}
+
+// The system's files: no contract says what a file holds.
+#[test]
+fn loads_files_of_the_system(rt: HostRuntime) -> Result<(), Fail> {
+    let name = "loads_files_of_the_system.tap";
+    fs::write(&rt, name, "TAP1 and more")?;
+    let loaded = Host::new(&rt).load(name);
+    fs::remove_file(&rt, name)?;
+    assert_eq!(rt; loaded?.as_slice(), b"TAP1 and more".as_slice());
+    assert_eq!(rt; Host::new(&rt).load(name).err(), Some(LoadFault::Unread));
     Ok(())
 }
 

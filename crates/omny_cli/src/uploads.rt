@@ -1,10 +1,8 @@
 //! The text of a listing of whole files.
-ghost use Rattle.std.specs.Prelude.{◌≡◌, ◌+◌, ◌^◌, ◌<◌, ◌≤◌, ◌++◌, ◌∷◌, [], ℕ, List, IfOk, OnOk, length, map, string_bytes};
+ghost use Rattle.std.specs.Prelude.{◌≡◌, ◌+◌, ◌^◌, ◌<◌, ◌≤◌, ◌∷◌, [], IfOk, OnOk, length, map, string_bytes};
 ghost use Rattle.std.specs.Option.{option_copied};
-ghost use Rattle.omny_cli.specs.Lines.{tap_line};
-ghost use Rattle.omny_cli.specs.Listing.{Listed, StandsFor, word_of};
+ghost use Rattle.omny_cli.specs.Listing.{StandsFor};
 ghost use Rattle.omny_cli.specs.Uploads.{IsListing, Lists, ListsUpload, ListsUploads, is_known, listed};
-ghost use Rattle.omny_cli.specs.Uploads.{tap_lines};
 
 use crate::lines::{write_counts, write_refused, write_tap};
 use crate::listing::Listing;

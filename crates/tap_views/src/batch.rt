@@ -1,4 +1,4 @@
-// The first batch of some bytes.
+//! The first batch of some bytes.
 
 ghost use Rattle.std.specs.Prelude.{◌≡◌, ◌+◌, ◌*◌, ◌<◌, ◌≤◌, ◌++◌, ℕ, List, length, slice_get, Some, IfOk, IfErr, IsErrOf, MatchResult, MatchOption};
 ghost use Rattle.tap_views.specs.Layout.{num, moment_limit, Tap, IsBatch};
@@ -9,7 +9,7 @@ ghost use Rattle.tap_views.specs.Faults.{header, width, layout_in, count_in, siz
 
 use crate::fault::LayoutFault;
 use crate::run::Run;
-use crate::taps::{Taps, record_at, width_of};
+use crate::taps::{Taps, width_of};
 use crate::view::TapView;
 use byteorder::{BigEndian, ByteOrder};
 use std::marker::Model;

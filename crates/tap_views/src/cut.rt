@@ -1,4 +1,4 @@
-// The cut of a batch into its shards: one pass over the batch for all of them.
+//! The cut of a batch into its shards: one pass over the batch for all of them.
 
 ghost use Rattle.std.specs.Prelude.{◌≡◌, ◌+◌, ◌<◌, ◌≤◌, ◌++◌, ◌∷◌, [], ℕ, length, slice_index_or, IfOk};
 ghost use Rattle.tap_views.specs.Cut.{IsCut};

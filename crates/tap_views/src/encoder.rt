@@ -1,4 +1,4 @@
-// Batches written from their fields.
+//! Batches written from their fields.
 
 ghost use Rattle.std.specs.Prelude.{◌≡◌, ◌≤◌, ◌++◌, ◌∷◌, [], ℕ, length, All, IfOk, IfErr, OnOk, flat_map};
 ghost use Rattle.byteorder.specs.Endian.{big_bytes};
@@ -12,7 +12,7 @@ use thiserror::Error;
 /// What a tap is encoded from in a `TAP1` batch.
 #[derive(Clone, Copy, Debug, PartialEq, Eq)]
 pub struct TapFields {
-    /// The token.
+    /// The 16 bytes of the token.
     pub token: [u8; 16],
     /// The validator's number.
     pub validator: u32,
@@ -23,7 +23,7 @@ pub struct TapFields {
 /// What a tap is encoded from in a `TAP2` batch, where all taps share a validator.
 #[derive(Clone, Copy, Debug, PartialEq, Eq)]
 pub struct Tap2Fields {
-    /// The token.
+    /// The 16 bytes of the token.
     pub token: [u8; 16],
     /// The moment in milliseconds since 1970-01-01T00:00Z, below 2100-01-01T00:00Z.
     pub moment: u64,

@@ -1,4 +1,4 @@
-// Why bytes begin with no batch.
+//! Why bytes begin with no batch.
 
 use thiserror::Error;
 

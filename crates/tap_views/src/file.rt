@@ -1,4 +1,4 @@
-// A file of many batches.
+//! A file of many batches.
 
 ghost use Rattle.tap_views.specs.Files.{IsReading};
 

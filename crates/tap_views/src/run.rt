@@ -1,4 +1,4 @@
-// The taps of one shard.
+//! The taps of one shard.
 
 ghost use Rattle.std.specs.Iterator.{YieldsFirst, item_count};
 ghost use Rattle.std.specs.List.{AllByRecursion};

@@ -1,4 +1,4 @@
-// The shard of a token.
+//! The shard of a token.
 
 ghost use Rattle.std.specs.Prelude.{◌≡◌, ◌<◌, ◌≤◌, length};
 ghost use Rattle.tap_views.specs.Shards.{shard_of_token};

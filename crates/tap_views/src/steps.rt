@@ -1,4 +1,4 @@
-// The batches of a file, one at each step.
+//! The batches of a file, one at each step.
 
 ghost use Rattle.std.specs.Iterator.{YieldsFirst, item_count};
 

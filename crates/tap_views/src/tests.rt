@@ -1,4 +1,4 @@
-// What no clause says: the vectors of the formats, damaged files, and each public function once.
+//! What no clause says: the vectors of the formats, damaged files, the texts of faults, and each public function once.
 
 use super::*;
 use std::test::Fail;
@@ -165,6 +165,45 @@ fn faults_come_in_their_order(rt: HostRuntime) {
         fault_of(&two),
         Some(LayoutFault::Length { want: 60, have: 36 })
     );
+}
+
+#[test]
+fn faults_are_told_with_their_numbers(rt: HostRuntime) -> Result<(), Fail> {
+    let rows = [
+        (
+            LayoutFault::Short { have: 7 },
+            "a header is cut off: 7 bytes are there",
+        ),
+        (LayoutFault::Magic, "neither TAP1 nor TAP2"),
+        (LayoutFault::Flags, "unknown flags"),
+        (
+            LayoutFault::TooMany { count: 4_097 },
+            "4097 taps in one batch",
+        ),
+        (
+            LayoutFault::Length { want: 60, have: 36 },
+            "a batch of 60 bytes is cut off: 36 are there",
+        ),
+        (
+            LayoutFault::Moment { index: 3 },
+            "tap 3 has a moment past the limit",
+        ),
+    ];
+    for (fault, text) in rows {
+        assert_eq!(rt; format!(in rt.alloc(); "{fault}")?.as_str(), text);
+    }
+    let rows = [
+        (EncodeFault::TooMany, "more than 4096 taps"),
+        (
+            EncodeFault::Moment { index: 3 },
+            "tap 3 has a moment past the limit",
+        ),
+        (EncodeFault::NoMemory, "out of memory"),
+    ];
+    for (fault, text) in rows {
+        assert_eq!(rt; format!(in rt.alloc(); "{fault}")?.as_str(), text);
+    }
+    Ok(())
 }
 
 #[test]

@@ -1,4 +1,4 @@
-// One tap, as three slices of the upload.
+//! One tap, as three slices of the upload.
 
 ghost use Rattle.std.specs.Prelude.{◌≡◌, ◌<◌, length};
 ghost use Rattle.tap_views.specs.Layout.{num, moment_limit, IsTap};
