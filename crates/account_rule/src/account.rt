@@ -112,8 +112,12 @@ impl Account {
         ensures reply { let terms = (rules_of table.now token.now).terms in
             result ≡ ride_reply (charge terms (open_window tap.moment tap.until).rides) }
         ensures state { let terms = (rules_of table.now token.now).terms in
-            self.new.state ≡ Some (record { last = tap.moment; giver = Some mode; terms = terms;
-            window = with_ride terms (open_window tap.moment tap.until) }) }
+            self.new.state ≡ Some (record {
+              last = tap.moment;
+              giver = Some mode;
+              terms = terms;
+              window = with_ride terms (open_window tap.moment tap.until);
+            }) }
     {
         let terms = table.terms_of(token);
         let mut window = Window::open(tap.moment, tap.until);

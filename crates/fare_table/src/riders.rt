@@ -75,11 +75,7 @@ impl Riders {
 
 /// The terms of the riders that the text names, by their tokens; none where it has no such key.
 #[tactic(auto, unfolding(crate::specs::Riders::riders_of))]
-pub fn riders_of(
-    alloc: Global,
-    classes: &Table,
-    table: &Table,
-) -> Result<Riders, TableFault>
+pub fn riders_of(alloc: Global, classes: &Table, table: &Table) -> Result<Riders, TableFault>
     ensures answer { Answers (λ r. r) result
         (spec.riders_of (table_view classes.now) (table_view table.now)) }
     ensures limits { IfOk result (λ r. All HasLimits (values_of r)) }
@@ -96,11 +92,7 @@ pub fn riders_of(
     riders_from(alloc, classes, riders)
 }
 
-fn riders_from(
-    alloc: Global,
-    classes: &Table,
-    members: &Table,
-) -> Result<Riders, TableFault>
+fn riders_from(alloc: Global, classes: &Table, members: &Table) -> Result<Riders, TableFault>
     ensures answer { Answers (λ r. r) result
         (spec.riders_from (table_view classes.now) [] (table_view members.now)) }
     ensures limits { IfOk result (λ r. All HasLimits (values_of r)) }
