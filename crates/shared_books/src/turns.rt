@@ -12,7 +12,6 @@ use std::marker::Model;
 use std::snapshot::Snapshot;
 use std::sync::Wait;
 use std::sync::atomic::{AtomicBool, AtomicU64, Ordering};
-use std::thread;
 use tap_views::Run;
 
 pub(crate) mod answers;
@@ -22,10 +21,7 @@ pub(crate) mod rule;
 const FULL: u64 = 1 << 63;
 
 // How often a waiting visit looks at the word before it sleeps. It looks no more where others sleep already.
-const LOOKS: u32 = 200;
-
-// After so many of them it lets other threads run between two looks.
-const PAUSES: u32 = 100;
+const LOOKS: u32 = 100;
 
 /// A shard's book that passes take turns at. One word is `2k` where `k` visits are counted and nobody has the turn, and `2k + 1`
 /// where a pass has it. The book lies in one slot, which is empty while a pass has the turn.
@@ -133,18 +129,14 @@ impl SharedBook {
 
     // Waits until the word is no longer the one that was found, and tells whether it slept. It may return sooner.
     fn rest<R: Wait>(&self, rt: &R, found: u64) -> bool {
-        for look in 0..LOOKS {
+        for _ in 0..LOOKS {
             if self.table.shared.peek(0) != found {
                 return false;
             }
             if self.sleepers.load(Ordering::SeqCst) > 0 {
                 break;
             }
-            if look < PAUSES {
-                hint::spin_loop();
-            } else {
-                thread::yield_now();
-            }
+            hint::spin_loop();
         }
         self.sleepers.fetch_add(1, Ordering::SeqCst);
         self.asleep.store(true, Ordering::SeqCst);
