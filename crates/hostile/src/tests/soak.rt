@@ -35,7 +35,7 @@ mode = "bus"
 "#;
 
 /// How often the uploads are posted.
-const ROUNDS: u32 = 100;
+const ROUNDS: u32 = 1_000;
 
 const UPLOADS: u32 = 48;
 
