@@ -43,7 +43,8 @@ impl Riders {
     ghost use Rattle.std.specs.Map.{lookup};
     ghost use Rattle.std.specs.Ordering.{nat_cmp};
 
-    fn new(alloc: Global) -> Riders
+    /// No riders.
+    pub fn new(alloc: Global) -> Riders
         ensures { result ≡ [] }
     {
         Riders {
