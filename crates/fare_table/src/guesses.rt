@@ -17,7 +17,8 @@ const STEPS_FOR_EACH: u64 = 4;
 pub struct Guesses {
     lowest: u32,
     width_bits: u32,
-    numbers: usize,
+    // beyond the highest number
+    last_step: usize,
     before: Vec<u32>,
     ghost narrow: { width_bits ≤ 32 },
 }
@@ -32,18 +33,17 @@ impl Guesses {
         Ok(Guesses {
             lowest,
             width_bits,
-            numbers: rising.len(),
+            last_step: before.len().saturating_sub(1),
             before,
         })
     }
 
-    /// How many of the numbers may lie below this one.
+    /// How many of the numbers may lie below this one. No branch of it depends on the number, since numbers come in no order
+    /// that a processor could guess.
     pub fn at(&self, number: u32) -> usize {
-        match number.checked_sub(self.lowest) {
-            Some(above) => match self.before.get(step_of(above, self.width_bits)) {
-                Some(place) => *place as usize,
-                None => self.numbers,
-            },
+        let step = step_of(number.saturating_sub(self.lowest), self.width_bits);
+        match self.before.get(step.min(self.last_step)) {
+            Some(place) => *place as usize,
             None => 0,
         }
     }
@@ -57,7 +57,7 @@ fn step_of(above: u32, width_bits: u32) -> usize
     (u64::from(above) >> width_bits) as usize
 }
 
-// How many numbers lie before each step, up to that of the highest.
+// How many numbers lie before each step, up to that of the highest, and in the end how many there are.
 fn counts_before(
     alloc: Global,
     rising: &[u32],
@@ -71,6 +71,7 @@ fn counts_before(
         let step = step_of(number.saturating_sub(lowest), width_bits);
         before.resize(step + 1, place.min(0xffff_ffff) as u32)?;
     }
+    before.push(rising.len().min(0xffff_ffff) as u32)?;
     Ok(before)
 }
 

@@ -123,15 +123,15 @@ fn begun(firsts: &[u32], guess: usize, number: u32) -> usize
     }
 }
 
-// The place that was guessed, or the next one where the first number there is not above the number.
+// The place that was guessed, or the next one where the first number there is not above the number: by a mask, as below.
 fn near_guess(firsts: &[u32], guess: usize, number: u32) -> usize
     ensures { result ≤ length firsts.now }
 {
-    if guess < firsts.len() && firsts[guess] <= number {
-        guess + 1
-    } else {
-        guess.min(firsts.len())
+    if firsts.is_empty() {
+        return 0;
     }
+    let place = guess.min(firsts.len() - 1);
+    place + taken_if_begun(1, firsts[place], number)
 }
 
 // Whether the first numbers before the place are not above the number, and the others are.
