@@ -15,6 +15,7 @@ use std::fs;
 use std::mem::size_of;
 use tap_views::{Batch, TapView, batches};
 
+/// Times the steps of one account over the taps of the files, alone and with their look-ups.
 pub fn run(rt: &HostRuntime, names: &[String]) -> anyhow::Result<()> {
     let Some((name, files)) = names.split_first() else {
         bail!("a table is wanted");

@@ -84,6 +84,7 @@ pub fn tap(last: u8, validator: u32, after: u32) -> TapFields {
     }
 }
 
+/// The sample table.
 pub fn table(alloc: Global) -> Result<FareTable, Stop> {
     Ok(FareTable::read(alloc, TABLE.as_bytes())?)
 }
