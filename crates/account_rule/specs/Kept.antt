@@ -56,8 +56,8 @@ with_ride terms window = record window {
   cents = window.cents + charge terms window.rides;
 }
 
--- the numbers of the window leave room for one more ride
+-- the numbers of the window are within the limits of the terms, and leave room for one more ride
 pub record IsRoomy (terms : Terms) (window : Window) : Type 0 where
-  pub rides : window.rides ≤ 1_000
+  pub rides : window.rides ≤ terms.rides
   pub paid : window.paid ≤ 1_000
   pub cents : window.cents + terms.fare < 2 ^ 32

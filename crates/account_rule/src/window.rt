@@ -59,16 +59,19 @@ impl Window {
     }
 
     /// Counts one more ride, and returns what it costs.
-    #[tactic(auto, unfolding(crate::specs::Kept::with_ride))]
+    #[tactic(auto, unfolding(crate::specs::Kept::with_ride, crate::specs::Windows::charge))]
     pub(crate) fn add_ride(&mut self, terms: Terms) -> u32
         requires limits { HasLimits terms }
         requires room { IsRoomy terms self.old }
         ensures cost { result ≡ charge terms self.old.rides }
         ensures counts { self.new ≡ with_ride terms self.old }
     {
+        if u32::from(self.rides) >= terms.rides {
+            return 0;
+        }
         let cents = charge(terms, u32::from(self.rides));
         self.cents += cents;
-        self.rides = (u32::from(self.rides) + 1).min(terms.rides) as u16;
+        self.rides += 1;
         self.paid += u16::from(cents > 0);
         cents
     }
