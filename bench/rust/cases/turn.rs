@@ -29,6 +29,13 @@ pub fn run(words: &[String]) {
         }
         0
     });
+    let mut unshared = Book::default();
+    timed("turn/none", 5, ALONE, || {
+        for _ in 0..ALONE {
+            black_box(&mut unshared).post(&table, black_box(&[]));
+        }
+        0
+    });
     for _ in 0..ROUNDS {
         for threads in [1, 2, 4, 8, 16] {
             timed(&format!("turn/{threads}-threads"), 1, SHARED, || {

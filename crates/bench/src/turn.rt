@@ -17,7 +17,7 @@ use std::thread::Threads;
 use std::{fs, thread};
 use tap_views::{Batch, Run, TapFields, encode};
 
-/// Visits of one thread alone, with no tap.
+/// Visits of one thread alone, with no tap: what they cost is told with the same posts to a book that is not shared.
 const ALONE: u64 = 10_000_000;
 
 /// Visits of all threads together, and the taps of each.
@@ -49,6 +49,7 @@ fn round<R: AllocGlobal + Print + Times + CpuClock + RandomSource + Threads + Wa
     text: &[u8],
 ) -> anyhow::Result<()> {
     alone(rt, text)?;
+    unshared(rt, text)?;
     contended(rt, text, 1)?;
     contended(rt, text, 2)?;
     contended(rt, text, 4)?;
@@ -96,6 +97,21 @@ fn alone<R: AllocGlobal + Print + Times + CpuClock + RandomSource + Wait>(
     let watch = Watch::start(rt)?;
     let sum = visits(rt, &shared, &mut pass, &b"TAP1\0\0\0\0"[..], ALONE)?;
     watch.stop(rt, "turn/alone", ALONE, sum)
+}
+
+/// The posts of these visits without their turns.
+fn unshared<R: AllocGlobal + Print + Times + CpuClock + RandomSource>(
+    rt: &R,
+    text: &[u8],
+) -> anyhow::Result<()> {
+    let alloc = rt.alloc();
+    let keys = TokenKeys::new(rt)?;
+    let table = FareTable::read(alloc, text)?;
+    let clock = table.clock(alloc)?;
+    let mut book = ShardBook::open(alloc, keys, table, 0, 1);
+    let watch = Watch::start(rt)?;
+    let sum = posts(alloc, &clock, &mut book, &b"TAP1\0\0\0\0"[..], ALONE)?;
+    watch.stop(rt, "turn/none", ALONE, sum)
 }
 
 fn contended<R: AllocGlobal + Print + Times + CpuClock + RandomSource + Threads + Wait + Sync>(
@@ -203,5 +219,66 @@ fn visit<R: Wait>(
     replies.clear();
     replies.reserve(4096)?;
     let _ = shared.book.visit(rt, pass, run, ends, replies);
+    Ok(())
+}
+
+/// Posts the taps of a batch to a book that is not shared, and counts the replies.
+fn posts(
+    alloc: Global,
+    clock: &Clock,
+    book: &mut ShardBook,
+    bytes: &[u8],
+    number: u64,
+) -> Result<u64, NoMemory>
+    requires shard { book.old.shard ≡ 0 }
+    requires shards { book.old.shards ≡ 1 }
+    requires zone { clock.now ≡ book.old.table.zone }
+{
+    let Ok((batch, _)) = Batch::first(bytes) else {
+        return Ok(0);
+    };
+    let run = batch.run_of(0, 1);
+    let ends = Ends::of(alloc, clock, &run)?;
+    post_often(alloc, book, &run, &ends, number)
+}
+
+fn post_often(
+    alloc: Global,
+    book: &mut ShardBook,
+    run: &Run<'_>,
+    ends: &Ends,
+    number: u64,
+) -> Result<u64, NoMemory>
+    requires shard { run.now.shard ≡ book.old.shard }
+    requires shards { run.now.shards ≡ book.old.shards }
+    requires ends { ends.now ≡ limits_of book.old.table (run_taps run.now) }
+{
+    let mut replies = Replies::new(alloc);
+    let mut sum = 0u64;
+    for _ in 0..number {
+        post(book, run, ends, &mut replies)?;
+        sum = sum.wrapping_add(replies.len());
+    }
+    Ok(sum)
+}
+
+fn post(
+    book: &mut ShardBook,
+    run: &Run<'_>,
+    ends: &Ends,
+    replies: &mut Replies,
+) -> Result<(), NoMemory>
+    requires shard { run.now.shard ≡ book.old.shard }
+    requires shards { run.now.shards ≡ book.old.shards }
+    requires ends { ends.now ≡ limits_of book.old.table (run_taps run.now) }
+    ensures shard { book.new.shard ≡ book.old.shard }
+    ensures shards { book.new.shards ≡ book.old.shards }
+    ensures table { book.new.table ≡ book.old.table }
+{
+    // Its clauses tell that a run has at most 4,096 taps.
+    let _ = run.taps();
+    replies.clear();
+    replies.reserve(4096)?;
+    let _ = book.post_run(run, ends, replies);
     Ok(())
 }

@@ -17,6 +17,9 @@ use std::marker::Model;
 use toml::value::Array;
 use toml::{Table, Value};
 
+/// Up to how many ranges are searched by halves at once.
+const FEW: usize = 8;
+
 /// The rest of a range of validators beside its first number.
 #[derive(Clone, Copy)]
 pub struct Span {
@@ -72,8 +75,7 @@ impl Ranges {
     pub fn at(&self, number: u32) -> Option<Span>
         ensures { result ≡ option_map (λ range. range.1) (range_at self.now number) }
     {
-        let guess = self.guesses.at(number);
-        let (_, span) = range_at(&self.ranges, &self.firsts, guess, number)?;
+        let (_, span) = range_at(&self.ranges, &self.firsts, &self.guesses, number)?;
         Some(*span)
     }
 }
@@ -82,13 +84,13 @@ impl Ranges {
 fn range_at<'a>(
     ranges: &'a [(u32, Span)],
     firsts: &[u32],
-    guess: usize,
+    guesses: &Guesses,
     number: u32,
 ) -> Option<&'a (u32, Span)>
     requires { AreSearchable ranges.now firsts.now }
     ensures { option_copied result ≡ range_at ranges.now number }
 {
-    let range = last_begun(ranges, firsts, guess, number)?;
+    let range = last_begun(ranges, firsts, guesses, number)?;
     if number <= range.1.last {
         Some(range)
     } else {
@@ -100,27 +102,29 @@ fn range_at<'a>(
 fn last_begun<'a>(
     ranges: &'a [(u32, Span)],
     firsts: &[u32],
-    guess: usize,
+    guesses: &Guesses,
     number: u32,
 ) -> Option<&'a (u32, Span)>
     requires { AreSearchable ranges.now firsts.now }
     ensures { option_copied result ≡ last_begun number ranges.now }
 {
-    ranges[..begun(firsts, guess, number)].last()
+    ranges[..begun(firsts, guesses, number)].last()
 }
 
-// How many of the first numbers are not above the number: as many as was guessed or one more, where that is right.
-fn begun(firsts: &[u32], guess: usize, number: u32) -> usize
+// How many of the first numbers are not above the number: as many as was guessed or one more, where that is right. Of few
+// numbers none is guessed, since two or three halves are found sooner.
+fn begun(firsts: &[u32], guesses: &Guesses, number: u32) -> usize
     requires { is_rising firsts.now ≡ true }
     ensures bound { result ≤ length firsts.now }
     ensures split { IsSplit number firsts.now result 0 }
 {
-    let near = near_guess(firsts, guess, number);
-    if parts(firsts, near, number) {
-        near
-    } else {
-        begun_by_halves(firsts, number)
+    if firsts.len() > FEW {
+        let near = near_guess(firsts, guesses.at(number), number);
+        if parts(firsts, near, number) {
+            return near;
+        }
     }
+    begun_by_halves(firsts, number)
 }
 
 // The place that was guessed, or the next one where the first number there is not above the number: by a mask, as below.

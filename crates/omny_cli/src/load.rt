@@ -9,8 +9,8 @@ use thiserror::Error;
 /// The most bytes of a file that is loaded: 64 MiB.
 pub const LONGEST: usize = 67_108_864;
 
-// How many bytes one read asks for.
-const STEP: usize = 4_096;
+// How many bytes one read asks for: so many that the calls of the system cost little beside the bytes.
+const STEP: usize = 65_536;
 
 /// Why a file or standard input was not loaded.
 #[derive(Clone, Copy, Debug, PartialEq, Eq, Error)]
