@@ -1,15 +1,34 @@
 -- Texts that are written part by part.
-use Rattle.std.specs.Prelude.{ℕ, ◌≡◌, ◌+◌, ◌<◌, List, [], ◌∷◌, ◌++◌, length, take}
+use Rattle.std.specs.Prelude.{ℕ, ◌≡◌, ◌+◌, ◌<◌, List, [], ◌∷◌, ◌++◌, length, take, Some, slice_get}
+use Rattle.std.specs.List.{flat_map}
 use Rattle.std.proofs.Common.{get_or, length-take}
-use Rattle.std.proofs.lemmas.List.{take_more}
+use Rattle.std.proofs.lemmas.List.{take_more, flat_map_more}
+use Rattle.std.proofs.lemmas.Option.{slice_get_within, get_or_from_slice_get}
 use Rattle.std.proofs.Common.{sym, ◌∙◌, ap, append_assoc, append-nil, arith, add-zero}
-use Rattle.fare_service.specs.Text.{upload_line, upload_lines}
+use Rattle.shard_book.specs.Sums.{Sums}
+use Rattle.shard_book.specs.declared.token.Token.{Token}
+use Rattle.fare_service.specs.Text.{token_line, upload_line, upload_lines}
 use Rattle.fare_service.specs.declared.upload_end.UploadEnd.{UploadEnd}
 use Rattle.fare_service.specs.declared.upload_end.UploadEnd.TheVariants.{Posted}
 
 -- what was written in two parts is what stood there and both parts
 pub in_parts : (start middle done first second : List ℕ) → middle ≡ start ++ first → done ≡ middle ++ second → done ≡ start ++ (first ++ second)
 in_parts start middle done first second a b = b ∙ (ap (λ text. text ++ second) a ∙ append_assoc start first second)
+
+-- four words with their numbers, put one before the other from the last
+pub four_counts : (start one two three done a m b n c o d p : List ℕ) → one ≡ d ++ (p ++ start) → two ≡ c ++ (o ++ one) → three ≡ b ++ (n ++ two) → done ≡ a ++ (m ++ three)
+    → done ≡ (a ++ (m ++ (b ++ (n ++ (c ++ (o ++ (d ++ p))))))) ++ start
+four_counts start one two three done a m b n c o d p first second third fourth = simp append_assoc (rw (third, second, first) at fourth)
+
+-- one token more
+pub next_token : (start before after line : List ℕ) (sums : List (Token × Sums)) (i : ℕ) (sum : Token × Sums) → slice_get sums i ≡ Some sum
+    → before ≡ start ++ flat_map token_line (take i sums) → line ≡ token_line sum → after ≡ before ++ line
+    → after ≡ start ++ flat_map token_line (take (i + 1) sums)
+next_token start before after line sums i sum at so_far shown more =
+    more ∙ ap (λ text. text ++ line) so_far ∙ ap (λ last. (start ++ flat_map token_line (take i sums)) ++ last) shown
+    ∙ flat_map_more token_line start (take i sums) sum
+    ∙ ap (λ taken. start ++ flat_map token_line taken)
+    (ap (λ s. take i sums ++ s ∷ []) (sym (get_or_from_slice_get sums i sum sum at)) ∙ sym (take_more sums i sum (slice_get_within sums i sum at)))
 
 -- one upload more
 upload_lines-push : (upload : ℕ) (ends : List UploadEnd) (end : UploadEnd) → upload_lines upload (ends ++ end ∷ []) ≡ upload_lines upload ends ++ upload_line (upload + length ends) end

@@ -10,17 +10,17 @@ use crate::print_fault::PrintFault;
 use crate::report::report_text;
 use crate::statement::statement_text;
 use fare_table::NoMemory;
-use shard_book::{Token, sums_by_token, sums_by_validator};
+use shard_book::{Token, TokenSums, sums_by_validator};
 use std::alloc::Global;
 use std::io::Write;
 use tap_views::shard_of;
 
 /// Writes the text at once.
-fn write_out<W: Write>(text: &String, out: &mut W) -> Result<(), PrintFault>
-    ensures ok { OnOk result (Appends (W.contents out.old) (W.contents out.new) (string_bytes text.now)) }
+fn write_out<W: Write>(text: &[u8], out: &mut W) -> Result<(), PrintFault>
+    ensures ok { OnOk result (Appends (W.contents out.old) (W.contents out.new) text.now) }
     ensures fault { IfErr result (λ fault. fault ≡ ForWrite) }
 {
-    if out.write_all(text.as_bytes()).is_err() {
+    if out.write_all(text).is_err() {
         return Err(PrintFault::Write);
     }
     Ok(())
@@ -28,18 +28,18 @@ fn write_out<W: Write>(text: &String, out: &mut W) -> Result<(), PrintFault>
 
 impl Outcome {
     /// The text of the report.
-    fn report(&self, alloc: Global) -> Result<String, NoMemory>
-        ensures { IfOk result (λ text. string_bytes text ≡ report_of self.now) }
+    fn report(&self, alloc: Global) -> Result<Vec<u8>, NoMemory>
+        ensures { IfOk result (λ text. text.items ≡ report_of self.now) }
     {
         let totals = self.totals();
         let validators = sums_by_validator(alloc, self.books.as_slice())?;
-        let tokens = sums_by_token(alloc, self.books.as_slice())?;
+        let tokens = TokenSums::of(alloc, self.books.as_slice())?;
         let text = report_text(
             alloc,
             self.ends.as_slice(),
             &totals,
             validators.as_slice(),
-            tokens.as_slice(),
+            &tokens,
         )?;
         Ok(text)
     }
@@ -64,7 +64,7 @@ impl Outcome {
         let Ok(text) = self.report(alloc) else {
             return Err(PrintFault::NoMemory);
         };
-        write_out(&text, out)?;
+        write_out(text.as_slice(), out)?;
         Ok(())
     }
 
@@ -82,7 +82,7 @@ impl Outcome {
         let Ok(text) = self.statement(alloc, token) else {
             return Err(PrintFault::NoMemory);
         };
-        write_out(&text, out)?;
+        write_out(text.as_bytes(), out)?;
         Ok(())
     }
 }
