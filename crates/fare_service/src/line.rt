@@ -50,7 +50,8 @@ impl Line {
     /// The bytes that were made.
     #[inline(always)]
     pub(crate) fn bytes(&self) -> &[u8]
-        ensures { result.now ≡ self.now }
+        ensures value { result.now ≡ self.now }
+        ensures few { length result.now ≤ 384 }
     {
         &self.bytes[self.start..]
     }

@@ -1,35 +1,32 @@
-//! The text of the report: a function for each line, for each list and for each part.
+//! The text of the report but for the lines of the tokens: a function for each line, for each list and for each part.
 
 ghost use Rattle.std.specs.Prelude.{◌≡◌, ◌++◌, IfOk, OnOk, length, map, string_bytes, codes};
 ghost use Rattle.std.specs.Fmt.{decimal};
 ghost use Rattle.shard_book.specs.Shown.{validator_sum};
 ghost use Rattle.shard_book.specs.Sums.{sums_of};
 ghost use Rattle.std.specs.List.{flat_map};
-ghost use Rattle.fare_service.specs.Text.{report, uploads_part, validators_part, uploads_head, upload_line, upload_lines, totals_line, counts, live_counts, other_counts, validators_head, validator_line};
+ghost use Rattle.fare_service.specs.Text.{report, uploads_part, validators_part, uploads_head, upload_line, upload_lines, totals_line, counts, live_counts, other_counts, validators_head, validator_line, tokens_head, token_line};
 
-use crate::token_lines::write_tokens;
 use crate::upload_end::UploadEnd;
 use shard_book::{TokenSums, Totals, ValidatorSum};
 use std::alloc::{AllocError, Global};
 
-/// The report of an outcome, whole.
-#[tactic(auto, using(crate::proofs::Parts::in_four))]
-pub(crate) fn report_text(
+/// The report of an outcome up to the lines of the tokens.
+pub(crate) fn report_front(
     alloc: Global,
     ends: &[UploadEnd],
     totals: &Totals,
     validators: &[ValidatorSum],
     tokens: &TokenSums,
 ) -> Result<Vec<u8>, AllocError>
-    ensures { IfOk result (λ text. text.items ≡ report ends.now (sums_of totals.now) (map validator_sum validators.now) tokens.now) }
+    ensures { IfOk result (λ text. text.items ++ flat_map token_line tokens.now ≡ report ends.now (sums_of totals.now) (map validator_sum validators.now) tokens.now) }
 {
     let mut text = String::new(alloc);
     write_uploads(&mut text, ends)?;
     write_totals(&mut text, totals)?;
     write_validators(&mut text, validators)?;
-    let mut text = text.into_bytes();
-    write_tokens(&mut text, tokens)?;
-    Ok(text)
+    write_tokens_head(&mut text, tokens.len())?;
+    Ok(text.into_bytes())
 }
 
 /// The end of each upload.
@@ -145,4 +142,11 @@ fn write_validator_name(text: &mut String, validator: u32) -> Result<(), AllocEr
     ensures { OnOk result (string_bytes text.new ≡ string_bytes text.old ++ (codes "validator " ++ (decimal validator ++ codes " "))) }
 {
     write!(text, "validator {validator} ")
+}
+
+#[tactic(auto, unfolding(crate::specs::Text::tokens_head))]
+fn write_tokens_head(text: &mut String, count: usize) -> Result<(), AllocError>
+    ensures { OnOk result (string_bytes text.new ≡ string_bytes text.old ++ tokens_head count) }
+{
+    writeln!(text, "tokens {count}")
 }

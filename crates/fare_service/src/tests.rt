@@ -2,7 +2,7 @@
 ghost use Rattle.std.specs.Prelude.{◌≡◌, All, IfOk};
 ghost use Rattle.fare_service.specs.Shares.{IsShareOf};
 
-use crate::report::report_text;
+use crate::report::report_front;
 use crate::{
     Gate, GatherFault, OpenFault, Outcome, PrintFault, RunFault, Service, Share, UploadEnd,
 };
@@ -234,7 +234,7 @@ fn a_refused_upload_is_reported(rt: HostRuntime) -> Result<(), Fail> {
 fn a_cut_upload_is_reported(rt: HostRuntime) -> Result<(), Fail> {
     let ends = [UploadEnd::Cut { taps: 3 }, UploadEnd::Undrawn];
     let tokens = TokenSums::of(rt.alloc(), &[])?;
-    let text = report_text(rt.alloc(), &ends, &Totals::new(), &[], &tokens)?;
+    let text = report_front(rt.alloc(), &ends, &Totals::new(), &[], &tokens)?;
     assert_eq!(rt; text.as_slice(), CUT_REPORT.as_bytes());
     Ok(())
 }

@@ -1,45 +1,69 @@
 //! The part of the report that has a line for each token: of many tokens, it is most of the text.
 
-ghost use Rattle.std.specs.Prelude.{◌≡◌, ◌+◌, ◌≤◌, [], ◌++◌, OnOk, length, codes};
+ghost use Rattle.std.specs.Prelude.{◌≡◌, ◌+◌, ◌≤◌, [], ◌++◌, OnOk, IfErr, length, codes, vec_len, vec_capacity};
+ghost use Rattle.std.specs.Io.KnownBytes.{Appends, Keeps, append_known};
 ghost use Rattle.std.specs.List.{flat_map};
 ghost use Rattle.hex.specs.Hex.{encode_lower};
 ghost use Rattle.shard_book.specs.Shown.{token_sum};
 ghost use Rattle.shard_book.specs.Sums.{sums_of};
 ghost use Rattle.shard_book.specs.Token.{bytes_of};
-ghost use Rattle.fare_service.specs.Text.{tokens_part, tokens_head, token_line, counts, live_counts, other_counts};
+ghost use Rattle.fare_service.specs.Text.{token_line, live_counts, other_counts};
+ghost use Rattle.fare_service.specs.declared.print_fault.PrintFault.TheVariants.{Write as ForWrite};
 
 use crate::line::Line;
+use crate::print_fault::PrintFault;
+use crate::printing::write_out;
 use shard_book::{Token, TokenSum, TokenSums, Totals};
-use std::alloc::AllocError;
+use std::io::Write;
 
-/// The sums of each token.
-#[tactic(auto, using(crate::proofs::Parts::in_parts))]
-pub(crate) fn write_tokens(text: &mut Vec<u8>, sums: &TokenSums) -> Result<(), AllocError>
-    ensures { OnOk result (text.new.items ≡ text.old.items ++ tokens_part sums.now) }
+/// Writes out what waits in the text where it leaves too little room.
+fn make_room<W: Write>(text: &mut Vec<u8>, needed: usize, out: &mut W) -> Result<(), PrintFault>
+    requires { needed ≤ vec_capacity text.old }
+    ensures kept { OnOk result (Keeps (append_known (W.contents out.old) text.old.items) (append_known (W.contents out.new) text.new.items)) }
+    ensures room { OnOk result (vec_len text.new + needed ≤ vec_capacity text.new) }
+    ensures capacity { vec_capacity text.new ≡ vec_capacity text.old }
+    ensures fault { IfErr result (λ fault. fault ≡ ForWrite) }
 {
-    write_head(text, sums.len())?;
-    write_lines(text, sums)
+    if needed <= text.capacity() - text.len() {
+        return Ok(());
+    }
+    write_out(text.as_slice(), out)?;
+    text.clear();
+    Ok(())
 }
 
-#[tactic(auto, unfolding(crate::specs::Text::tokens_head))]
-fn write_head(text: &mut Vec<u8>, count: usize) -> Result<(), AllocError>
-    ensures { OnOk result (text.new.items ≡ text.old.items ++ tokens_head count) }
+/// Appends a line to the text, of which what stood there may go out first. No memory is taken.
+fn push_line<W: Write>(text: &mut Vec<u8>, line: &Line, out: &mut W) -> Result<(), PrintFault>
+    requires { 384 ≤ vec_capacity text.old }
+    ensures ok { OnOk result (Appends (append_known (W.contents out.old) text.old.items) (append_known (W.contents out.new) text.new.items) line.now) }
+    ensures capacity { vec_capacity text.old ≤ vec_capacity text.new }
+    ensures fault { IfErr result (λ fault. fault ≡ ForWrite) }
 {
-    let mut line = Line::new();
-    line.put(b"\n");
-    line.put_count(b"tokens ", count as u128);
-    text.extend_from_slice(line.bytes())
+    let bytes = line.bytes();
+    make_room(text, bytes.len(), out)?;
+    let Ok(()) = text.extend_from_slice(bytes) else {
+        unreachable!();
+    };
+    Ok(())
 }
 
-fn write_lines(text: &mut Vec<u8>, sums: &TokenSums) -> Result<(), AllocError>
-    ensures { OnOk result (text.new.items ≡ text.old.items ++ flat_map token_line sums.now) }
+/// Writes the text and a line for each token, in pieces as large as the text's room. No memory is taken.
+pub(crate) fn write_lines<W: Write>(
+    text: &mut Vec<u8>,
+    sums: &TokenSums,
+    out: &mut W,
+) -> Result<(), PrintFault>
+    requires { 384 ≤ vec_capacity text.old }
+    ensures ok { OnOk result (Appends (W.contents out.old) (W.contents out.new) (text.old.items ++ flat_map token_line sums.now)) }
+    ensures fault { IfErr result (λ fault. fault ≡ ForWrite) }
 {
     let mut line = Line::new();
     for place in 0..sums.len() {
         let sum = sums.get(place);
         make_line(&mut line, &sum);
-        text.extend_from_slice(line.bytes())?;
+        push_line(text, &line, out)?;
     }
+    write_out(text.as_slice(), out)?;
     Ok(())
 }
 
