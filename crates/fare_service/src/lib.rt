@@ -6,6 +6,7 @@ mod adding;
 mod faults;
 mod gathering;
 pub mod laws;
+mod line;
 mod moment;
 mod opening;
 mod outcome;
@@ -19,6 +20,7 @@ mod shown;
 mod statement;
 #[cfg(test)]
 mod tests;
+mod token_lines;
 mod upload_end;
 mod working;
 

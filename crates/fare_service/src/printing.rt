@@ -1,47 +1,55 @@
-//! Printing: the whole text is made first, and written at once.
+//! Printing: all memory is taken before the first byte is written.
 
-ghost use Rattle.std.specs.Prelude.{◌≡◌, ℕ, List, OnOk, IfOk, IfErr, string_bytes};
+ghost use Rattle.std.specs.Prelude.{◌≡◌, ℕ, ◌≤◌, List, ◌++◌, OnOk, IfOk, IfErr, string_bytes, vec_capacity};
 ghost use Rattle.std.specs.Io.KnownBytes.{Appends};
+ghost use Rattle.std.specs.List.{flat_map};
+ghost use Rattle.fare_service.specs.Text.{token_line};
 ghost use Rattle.fare_service.specs.Printed.{report_of, IsStatementOf, KeepsUnlessWrite};
 ghost use Rattle.fare_service.specs.declared.print_fault.PrintFault.TheVariants.{Write as ForWrite};
 
 use crate::outcome::Outcome;
 use crate::print_fault::PrintFault;
-use crate::report::report_text;
+use crate::report::report_front;
 use crate::statement::statement_text;
+use crate::token_lines::write_lines;
 use fare_table::NoMemory;
-use shard_book::{Token, sums_by_token, sums_by_validator};
+use shard_book::{Token, TokenSums, sums_by_validator};
 use std::alloc::Global;
 use std::io::Write;
 use tap_views::shard_of;
 
+/// How much room there is at least for lines of a report that wait to be written: so many that a write is little beside them.
+const PIECE: usize = 65_536;
+
 /// Writes the text at once.
-fn write_out<W: Write>(text: &String, out: &mut W) -> Result<(), PrintFault>
-    ensures ok { OnOk result (Appends (W.contents out.old) (W.contents out.new) (string_bytes text.now)) }
+pub(crate) fn write_out<W: Write>(text: &[u8], out: &mut W) -> Result<(), PrintFault>
+    ensures ok { OnOk result (Appends (W.contents out.old) (W.contents out.new) text.now) }
     ensures fault { IfErr result (λ fault. fault ≡ ForWrite) }
 {
-    if out.write_all(text.as_bytes()).is_err() {
+    if out.write_all(text).is_err() {
         return Err(PrintFault::Write);
     }
     Ok(())
 }
 
 impl Outcome {
-    /// The text of the report.
-    fn report(&self, alloc: Global) -> Result<String, NoMemory>
-        ensures { IfOk result (λ text. string_bytes text ≡ report_of self.now) }
+    /// The text of the report up to the lines of the tokens, with room for one of these at least, and the sums of the tokens.
+    fn begun(&self, alloc: Global) -> Result<(Vec<u8>, TokenSums), NoMemory>
+        ensures text { IfOk result (λ begun. begun.0.items ++ flat_map token_line begun.1 ≡ report_of self.now) }
+        ensures room { IfOk result (λ begun. 384 ≤ vec_capacity begun.0) }
     {
         let totals = self.totals();
         let validators = sums_by_validator(alloc, self.books.as_slice())?;
-        let tokens = sums_by_token(alloc, self.books.as_slice())?;
-        let text = report_text(
+        let tokens = TokenSums::of(alloc, self.books.as_slice())?;
+        let mut text = report_front(
             alloc,
             self.ends.as_slice(),
             &totals,
             validators.as_slice(),
-            tokens.as_slice(),
+            &tokens,
         )?;
-        Ok(text)
+        text.reserve(PIECE)?;
+        Ok((text, tokens))
     }
 
     /// The text of a token's statement.
@@ -61,10 +69,10 @@ impl Outcome {
         ensures ok { OnOk result (Appends (W.contents out.old) (W.contents out.new) (report_of self.now)) }
         ensures fault { IfErr result (λ fault. KeepsUnlessWrite fault (out.new ≡ out.old)) }
     {
-        let Ok(text) = self.report(alloc) else {
+        let Ok((mut text, tokens)) = self.begun(alloc) else {
             return Err(PrintFault::NoMemory);
         };
-        write_out(&text, out)?;
+        write_lines(&mut text, &tokens, out)?;
         Ok(())
     }
 
@@ -82,7 +90,7 @@ impl Outcome {
         let Ok(text) = self.statement(alloc, token) else {
             return Err(PrintFault::NoMemory);
         };
-        write_out(&text, out)?;
+        write_out(text.as_bytes(), out)?;
         Ok(())
     }
 }

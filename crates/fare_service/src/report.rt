@@ -1,36 +1,32 @@
-//! The text of the report: a function for each line, for each list and for each part.
+//! The text of the report but for the lines of the tokens: a function for each line, for each list and for each part.
 
 ghost use Rattle.std.specs.Prelude.{◌≡◌, ◌++◌, IfOk, OnOk, length, map, string_bytes, codes};
 ghost use Rattle.std.specs.Fmt.{decimal};
-ghost use Rattle.hex.specs.Hex.{encode_lower};
-ghost use Rattle.shard_book.specs.Shown.{token_sum, validator_sum};
+ghost use Rattle.shard_book.specs.Shown.{validator_sum};
 ghost use Rattle.shard_book.specs.Sums.{sums_of};
-ghost use Rattle.shard_book.specs.Token.{bytes_of};
 ghost use Rattle.std.specs.List.{flat_map};
-ghost use Rattle.fare_service.specs.Text.{report, uploads_part, validators_part, tokens_part, uploads_head, upload_line, upload_lines, totals_line, counts, live_counts, other_counts, validators_head, validator_line, tokens_head, token_line};
+ghost use Rattle.fare_service.specs.Text.{report, uploads_part, validators_part, uploads_head, upload_line, upload_lines, totals_line, counts, live_counts, other_counts, validators_head, validator_line, tokens_head, token_line};
 
-use crate::shown::Digits;
 use crate::upload_end::UploadEnd;
-use shard_book::{Token, TokenSum, Totals, ValidatorSum};
+use shard_book::{TokenSums, Totals, ValidatorSum};
 use std::alloc::{AllocError, Global};
 
-/// The report of an outcome, whole.
-#[tactic(auto, using(crate::proofs::Parts::in_four))]
-pub(crate) fn report_text(
+/// The report of an outcome up to the lines of the tokens.
+pub(crate) fn report_front(
     alloc: Global,
     ends: &[UploadEnd],
     totals: &Totals,
     validators: &[ValidatorSum],
-    tokens: &[TokenSum],
-) -> Result<String, AllocError>
-    ensures { IfOk result (λ text. string_bytes text ≡ report ends.now (sums_of totals.now) (map validator_sum validators.now) (map token_sum tokens.now)) }
+    tokens: &TokenSums,
+) -> Result<Vec<u8>, AllocError>
+    ensures { IfOk result (λ text. text.items ++ flat_map token_line tokens.now ≡ report ends.now (sums_of totals.now) (map validator_sum validators.now) tokens.now) }
 {
     let mut text = String::new(alloc);
     write_uploads(&mut text, ends)?;
     write_totals(&mut text, totals)?;
     write_validators(&mut text, validators)?;
-    write_tokens(&mut text, tokens)?;
-    Ok(text)
+    write_tokens_head(&mut text, tokens.len())?;
+    Ok(text.into_bytes())
 }
 
 /// The end of each upload.
@@ -148,43 +144,9 @@ fn write_validator_name(text: &mut String, validator: u32) -> Result<(), AllocEr
     write!(text, "validator {validator} ")
 }
 
-/// The sums of each token.
-#[tactic(auto, using(crate::proofs::Parts::in_parts))]
-fn write_tokens(text: &mut String, sums: &[TokenSum]) -> Result<(), AllocError>
-    ensures { OnOk result (string_bytes text.new ≡ string_bytes text.old ++ tokens_part (map token_sum sums.now)) }
-{
-    write_tokens_head(text, sums.len())?;
-    write_token_lines(text, sums)
-}
-
 #[tactic(auto, unfolding(crate::specs::Text::tokens_head))]
 fn write_tokens_head(text: &mut String, count: usize) -> Result<(), AllocError>
     ensures { OnOk result (string_bytes text.new ≡ string_bytes text.old ++ tokens_head count) }
 {
     writeln!(text, "tokens {count}")
-}
-
-#[tactic(auto, using(std::proofs::lemmas::List::flat_map_more))]
-fn write_token_lines(text: &mut String, sums: &[TokenSum]) -> Result<(), AllocError>
-    ensures { OnOk result (string_bytes text.new ≡ string_bytes text.old ++ flat_map token_line (map token_sum sums.now)) }
-{
-    for sum in sums {
-        write_token(text, sum)?;
-    }
-    Ok(())
-}
-
-#[tactic(auto, using(crate::proofs::Parts::in_parts))]
-fn write_token(text: &mut String, sum: &TokenSum) -> Result<(), AllocError>
-    ensures { OnOk result (string_bytes text.new ≡ string_bytes text.old ++ token_line (token_sum sum.now)) }
-{
-    write_token_name(text, sum.token)?;
-    write_counts(text, &sum.totals)
-}
-
-fn write_token_name(text: &mut String, token: Token) -> Result<(), AllocError>
-    ensures { OnOk result (string_bytes text.new ≡ string_bytes text.old ++ (codes "token " ++ (encode_lower (bytes_of token) ++ codes " "))) }
-{
-    let digits = Digits(token);
-    write!(text, "token {digits} ")
 }

@@ -2,12 +2,12 @@
 ghost use Rattle.std.specs.Prelude.{◌≡◌, All, IfOk};
 ghost use Rattle.fare_service.specs.Shares.{IsShareOf};
 
-use crate::report::report_text;
+use crate::report::report_front;
 use crate::{
     Gate, GatherFault, OpenFault, Outcome, PrintFault, RunFault, Service, Share, UploadEnd,
 };
 use fare_table::FareTable;
-use shard_book::{Token, Totals};
+use shard_book::{Token, TokenSums, Totals};
 use std::alloc::Global;
 use std::marker::Sync;
 use std::process::Abort;
@@ -233,8 +233,9 @@ fn a_refused_upload_is_reported(rt: HostRuntime) -> Result<(), Fail> {
 #[test]
 fn a_cut_upload_is_reported(rt: HostRuntime) -> Result<(), Fail> {
     let ends = [UploadEnd::Cut { taps: 3 }, UploadEnd::Undrawn];
-    let text = report_text(rt.alloc(), &ends, &Totals::new(), &[], &[])?;
-    assert_eq!(rt; text.as_bytes(), CUT_REPORT.as_bytes());
+    let tokens = TokenSums::of(rt.alloc(), &[])?;
+    let text = report_front(rt.alloc(), &ends, &Totals::new(), &[], &tokens)?;
+    assert_eq!(rt; text.as_slice(), CUT_REPORT.as_bytes());
     Ok(())
 }
 

@@ -22,6 +22,7 @@ mod statement;
 mod sums;
 mod tally;
 mod token;
+mod token_sums;
 mod totals;
 
 pub use book::ShardBook;
@@ -36,6 +37,7 @@ pub use statement::Statement;
 pub use sums::{TokenSum, ValidatorSum, sums_by_token, sums_by_validator, totals_of};
 pub use tally::Tally;
 pub use token::Token;
+pub use token_sums::TokenSums;
 pub use totals::Totals;
 
 #[cfg(test)]

@@ -1,0 +1,126 @@
+//! A line that is made from its end to its beginning.
+
+ghost use Rattle.std.specs.Prelude.{◌≡◌, ◌+◌, ◌≤◌, [], ◌++◌, length};
+ghost use Rattle.std.specs.Fmt.{decimal};
+ghost use Rattle.hex.specs.Hex.{encode_lower};
+
+use itoa::{Buffer, write_digits};
+use std::marker::Model;
+
+/// More bytes than the longest line has: seven numbers of at most 40 digits, a token and the words.
+const ROOM: usize = 384;
+
+/// The end of a line, as far as it is made: what is put there comes before what stands there, so that digits are written where they
+/// stay, the last one first. Contracts see the bytes.
+#[derive(Drop)]
+pub(crate) struct Line {
+    bytes: [u8; ROOM],
+    start: usize,
+}
+
+impl Model for Line {
+    ghost use Rattle.std.specs.Prelude.{ℕ, ◌≤◌, List, drop};
+
+    ghost Value = { List ℕ };
+
+    ghost view = { λ l. drop l.start l.bytes };
+
+    ghost invariant = { λ l. l.start ≤ 384 };
+}
+
+impl Line {
+    /// Nothing of a line.
+    pub(crate) fn new() -> Self
+        ensures { result ≡ [] }
+    {
+        Line {
+            bytes: [0; ROOM],
+            start: ROOM,
+        }
+    }
+
+    /// Drops what was made.
+    #[inline(always)]
+    pub(crate) fn clear(&mut self)
+        ensures { self.new ≡ [] }
+    {
+        self.start = ROOM;
+    }
+
+    /// The bytes that were made.
+    #[inline(always)]
+    pub(crate) fn bytes(&self) -> &[u8]
+        ensures value { result.now ≡ self.now }
+        ensures few { length result.now ≤ 384 }
+    {
+        &self.bytes[self.start..]
+    }
+
+    /// Puts a text before what stands there.
+    #[inline(always)]
+    pub(crate) fn put(&mut self, text: &[u8])
+        requires { length text.now + length self.old ≤ 384 }
+        ensures { self.new ≡ text.now ++ self.old }
+    {
+        let from = self.start - text.len();
+        self.bytes[from..self.start].copy_from_slice(text);
+        self.start = from;
+    }
+
+    /// Puts a number of 64 bits there.
+    #[inline(always)]
+    fn put_short(&mut self, number: u64)
+        requires { length self.old + 40 ≤ 384 }
+        ensures put { self.new ≡ decimal number ++ self.old }
+        ensures short { length self.new ≤ length self.old + 40 }
+    {
+        self.start = write_digits(number, &mut self.bytes[..], self.start);
+    }
+
+    /// Puts a number there, which takes 40 digits at most.
+    #[inline(always)]
+    pub(crate) fn put_number(&mut self, number: u128)
+        requires { length self.old + 40 ≤ 384 }
+        ensures put { self.new ≡ decimal number ++ self.old }
+        ensures short { length self.new ≤ length self.old + 40 }
+    {
+        if number <= u128::from(u64::MAX) {
+            self.put_short(number as u64);
+        } else {
+            self.put_wide(number);
+        }
+    }
+
+    /// Puts a number there that may not fit 64 bits.
+    fn put_wide(&mut self, number: u128)
+        requires { length self.old + 40 ≤ 384 }
+        ensures put { self.new ≡ decimal number ++ self.old }
+        ensures short { length self.new ≤ length self.old + 40 }
+    {
+        let mut digits = Buffer::new();
+        self.put(digits.format(number).as_bytes());
+    }
+
+    /// Puts a number there with a word before it.
+    #[inline(always)]
+    pub(crate) fn put_count(&mut self, word: &[u8], number: u128)
+        requires { length word.now + (40 + length self.old) ≤ 384 }
+        ensures put { self.new ≡ word.now ++ (decimal number ++ self.old) }
+        ensures short { length self.new ≤ length word.now + (40 + length self.old) }
+    {
+        self.put_number(number);
+        self.put(word);
+    }
+
+    /// Puts 16 bytes there as 32 hexadecimal digits.
+    #[inline(always)]
+    pub(crate) fn put_digits(&mut self, bytes: &[u8; 16])
+        requires { length self.old + 32 ≤ 384 }
+        ensures put { self.new ≡ encode_lower bytes.now ++ self.old }
+        ensures long { length self.new ≡ length self.old + 32 }
+    {
+        let from = self.start - 32;
+        let _ = hex::encode_to_slice(&bytes[..], &mut self.bytes[from..self.start]);
+        self.start = from;
+    }
+}
