@@ -1,12 +1,13 @@
 //! Worked rows on books, sums and statements: the values stand here as the fare rules give them.
 
-ghost use Rattle.std.specs.Prelude.{◌≡◌, ◌<◌, IfOk};
+ghost use Rattle.std.specs.Prelude.{◌<◌, ◌≤◌, length};
 
 use crate::sums::added_by_token;
 use crate::*;
 use account_rule::{Answer, Reply, WindowView};
 use fare_table::FareTable;
 use std::alloc::Global;
+use std::hash::BuildHasher;
 use std::random::RandomSource;
 use std::test::Fail;
 use tap_views::{Batch, TapFields};
@@ -97,13 +98,20 @@ fn shown(totals: &Totals) -> [u128; 7] {
     ]
 }
 
-/// A book without entries, the only one of its service.
-fn book_of<R: RandomSource>(alloc: Global, rt: &R, table: &str) -> Result<ShardBook, Fail>
-    ensures { IfOk result (λ book. (book.shard ≡ 0) × (book.shards ≡ 1)) }
+/// A book without entries, of one of two shards at most: the last bit of a token tells which.
+fn book_of<R: RandomSource>(
+    alloc: Global,
+    rt: &R,
+    table: &str,
+    shard: u32,
+    shards: u32,
+) -> Result<ShardBook, Fail>
+    requires shard { shard < shards }
+    requires shards { shards ≤ 2 }
 {
     let keys = TokenKeys::new(rt)?;
     let table = FareTable::read(alloc, table.as_bytes())?;
-    Ok(ShardBook::open(alloc, keys, table, 0, 1))
+    Ok(ShardBook::open(alloc, keys, table, shard, shards))
 }
 
 /// Posts the taps as one run.
@@ -115,6 +123,16 @@ fn post(
 ) -> Result<RunEnd, Fail> {
     let bytes = tap_views::encode(alloc, taps)?;
     let (batch, _) = Batch::first(&bytes)?;
+    post_batch(alloc, book, &batch, out)
+}
+
+/// Posts the batch's taps of the book's shard.
+fn post_batch(
+    alloc: Global,
+    book: &mut ShardBook,
+    batch: &Batch,
+    out: &mut Replies,
+) -> Result<RunEnd, Fail> {
     let run = batch.run_of(book.shard(), book.shards());
     let clock = book.table().clock(alloc)?;
     let ends = Ends::of(alloc, &clock, &run)?;
@@ -127,13 +145,64 @@ fn are_equal<T: PartialEq>(left: &[T], right: &[T]) -> bool {
     left == right
 }
 
-/// Posts the taps as one run, all of them, and gives their replies.
-fn posted(alloc: Global, book: &mut ShardBook, taps: &[TapFields]) -> Result<Vec<Reply>, Fail> {
+/// Posts the taps as one run, all of them.
+fn post_all(
+    alloc: Global,
+    book: &mut ShardBook,
+    taps: &[TapFields],
+    out: &mut Replies,
+) -> Result<(), Fail> {
+    match post(alloc, book, taps, out)? {
+        RunEnd::Whole => Ok(()),
+        RunEnd::Cut { .. } => Err(Fail::from("the run was cut")),
+    }
+}
+
+/// The same, where nobody looks at the replies.
+fn post_once(alloc: Global, book: &mut ShardBook, taps: &[TapFields]) -> Result<(), Fail> {
+    post_all(alloc, book, taps, &mut Replies::new(alloc))
+}
+
+/// A book of one of two shards at most, after one run.
+fn book_after<R: RandomSource>(
+    alloc: Global,
+    rt: &R,
+    taps: &[TapFields],
+    shard: u32,
+    shards: u32,
+) -> Result<ShardBook, Fail>
+    requires shard { shard < shards }
+    requires shards { shards ≤ 2 }
+{
+    let mut book = book_of(alloc, rt, SAMPLE, shard, shards)?;
+    post_once(alloc, &mut book, taps)?;
+    Ok(book)
+}
+
+/// What the book answers to the same run, posted so many times.
+fn answers_of(
+    alloc: Global,
+    book: &mut ShardBook,
+    taps: &[TapFields],
+    times: u32,
+) -> Result<Vec<Reply>, Fail> {
     let mut out = Replies::new(alloc);
-    if post(alloc, book, taps, &mut out)? != RunEnd::Whole {
-        return Err(Fail::from("the run was cut"));
+    for _ in 0..times {
+        post_all(alloc, book, taps, &mut out)?;
     }
     replies_of(alloc, &out)
+}
+
+/// The same of a new book, and its totals then.
+fn answers<R: RandomSource>(
+    alloc: Global,
+    rt: &R,
+    taps: &[TapFields],
+    times: u32,
+) -> Result<(Vec<Reply>, [u128; 7]), Fail> {
+    let mut book = book_of(alloc, rt, SAMPLE, 0, 1)?;
+    let replies = answers_of(alloc, &mut book, taps, times)?;
+    Ok((replies, shown(&book.totals())))
 }
 
 fn replies_of(alloc: Global, out: &Replies) -> Result<Vec<Reply>, Fail> {
@@ -189,14 +258,13 @@ fn four_taps() -> [TapFields; 4] {
 #[test]
 fn stale_when_posted_again(rt: HostRuntime) -> Result<(), Fail> {
     let alloc = rt.alloc();
-    let mut book = book_of(alloc, &rt, SAMPLE)?;
-    let first = posted(alloc, &mut book, &four_taps())?;
+    let (replies, totals) = answers(alloc, &rt, &four_taps(), 2)?;
     let paid = reply(Answer::Paid, 300);
     let transfer = reply(Answer::Transfer, 0);
-    assert!(rt; are_equal(&first, &[paid, transfer, paid, transfer]));
-    let again = posted(alloc, &mut book, &four_taps())?;
-    assert!(rt; are_equal(&again, &[reply(Answer::Stale, 0); 4]));
-    assert!(rt; are_equal(&shown(&book.totals()), &[8, 2, 2, 0, 4, 0, 600]));
+    let stale = reply(Answer::Stale, 0);
+    let wanted = [paid, transfer, paid, transfer, stale, stale, stale, stale];
+    assert!(rt; are_equal(&replies, &wanted));
+    assert!(rt; are_equal(&totals, &[8, 2, 2, 0, 4, 0, 600]));
     Ok(())
 }
 
@@ -236,121 +304,186 @@ fn left(taps: &[TapFields], end: RunEnd) -> &[TapFields] {
     }
 }
 
+/// Whether the book's entries are the first of the forty, so many.
+fn has_first(alloc: Global, book: &ShardBook, count: u64) -> Result<bool, Fail> {
+    let wanted = forty_entries(alloc, count)?;
+    Ok(are_equal(&entries_of(alloc, book)?, &wanted))
+}
+
+/// Posts the forty taps: how it ended, and whether there are as many replies as taps were posted, and just
+/// their entries.
+fn post_forty(
+    alloc: Global,
+    book: &mut ShardBook,
+    taps: &[TapFields],
+    out: &mut Replies,
+) -> Result<(RunEnd, [bool; 2]), Fail> {
+    let end = post(alloc, book, taps, out)?;
+    let count = 40u64.saturating_sub(left(taps, end).len() as u64);
+    let is_first = has_first(alloc, book, count)?;
+    Ok((end, [out.len() == count, is_first]))
+}
+
+/// Posts what is left of the forty taps: how it ended, and whether the replies and the entries are theirs.
+fn post_rest(
+    alloc: Global,
+    book: &mut ShardBook,
+    rest: &[TapFields],
+    out: &mut Replies,
+) -> Result<(RunEnd, [bool; 2]), Fail> {
+    let end = post(alloc, book, rest, out)?;
+    let wanted = forty_replies(alloc)?;
+    let are_replied = are_equal(&replies_of(alloc, out)?, &wanted);
+    let is_whole = has_first(alloc, book, 40)?;
+    Ok((end, [are_replied, is_whole]))
+}
+
+/// Posts the forty taps, and then what is left of them.
+fn post_twice(alloc: Global, book: &mut ShardBook) -> Result<([bool; 2], RunEnd, [bool; 2]), Fail> {
+    let taps = forty_taps(alloc)?;
+    let mut out = Replies::new(alloc);
+    let (end, first) = post_forty(alloc, book, &taps, &mut out)?;
+    let (end, all) = post_rest(alloc, book, left(&taps, end), &mut out)?;
+    Ok((first, end, all))
+}
+
 /// Posts forty tokens in one run. Where memory is refused within the run, exactly its first taps are posted,
 /// and the others can be posted afterwards.
 #[test]
 fn forty_tokens_in_one_run(rt: HostRuntime) -> Result<(), Fail> {
     let alloc = rt.alloc();
-    let taps = forty_taps(alloc)?;
-    let mut book = book_of(alloc, &rt, SAMPLE)?;
-    let mut out = Replies::new(alloc);
-    let end = post(alloc, &mut book, &taps, &mut out)?;
-    let rest = left(&taps, end);
-    let count = 40u64.saturating_sub(rest.len() as u64);
-    assert_eq!(rt; out.len(), count);
-    let first = forty_entries(alloc, count)?;
-    assert!(rt; are_equal(&entries_of(alloc, &book)?, &first));
-    assert_eq!(rt; post(alloc, &mut book, rest, &mut out)?, RunEnd::Whole);
-    let replies = replies_of(alloc, &out)?;
-    assert!(rt; are_equal(&replies, &forty_replies(alloc)?));
-    let all = forty_entries(alloc, 40)?;
-    assert!(rt; are_equal(&entries_of(alloc, &book)?, &all));
+    let mut book = book_of(alloc, &rt, SAMPLE, 0, 1)?;
+    let found = post_twice(alloc, &mut book)?;
+    assert_eq!(rt; found, ([true, true], RunEnd::Whole, [true, true]));
     Ok(())
 }
 
 #[test]
 fn unknown_validator_moves_nothing(rt: HostRuntime) -> Result<(), Fail> {
     let alloc = rt.alloc();
-    let mut book = book_of(alloc, &rt, SAMPLE)?;
     let taps = [tap(0xb2, 9, START + 10), tap(0xb2, SUBWAY, START + 5)];
-    let replies = posted(alloc, &mut book, &taps)?;
-    assert!(rt;
-        are_equal(
-            &replies,
-            &[reply(Answer::Unknown, 0), reply(Answer::Paid, 300)]
-        )
-    );
+    let (replies, _) = answers(alloc, &rt, &taps, 1)?;
+    let wanted = [reply(Answer::Unknown, 0), reply(Answer::Paid, 300)];
+    assert!(rt; are_equal(&replies, &wanted));
     Ok(())
+}
+
+/// What a statement tells beside its lines.
+#[derive(Clone, Copy, Debug, PartialEq, Eq)]
+struct Told {
+    token: Token,
+    is_empty: bool,
+    totals: [u128; 7],
+    window: Option<WindowView>,
+}
+
+/// The token's statement, and its lines.
+fn told_of(alloc: Global, book: &ShardBook, last: u8) -> Result<(Told, Vec<Entry>), Fail> {
+    let statement = book.statement(alloc, &token(last))?;
+    let lines = lines_of(alloc, &statement.lines)?;
+    let told = Told {
+        token: statement.token,
+        is_empty: statement.lines.is_empty(),
+        totals: shown(&statement.totals),
+        window: statement.window,
+    };
+    Ok((told, lines))
+}
+
+/// The same after one run.
+fn told_after<R: RandomSource>(
+    alloc: Global,
+    rt: &R,
+    taps: &[TapFields],
+    last: u8,
+) -> Result<(Told, Vec<Entry>), Fail> {
+    let book = book_after(alloc, rt, taps, 0, 1)?;
+    told_of(alloc, &book, last)
 }
 
 #[test]
 fn statement_of_a_transfer_within_two_hours(rt: HostRuntime) -> Result<(), Fail> {
-    let alloc = rt.alloc();
-    let mut book = book_of(alloc, &rt, SAMPLE)?;
     let ride = tap(0xa1, SUBWAY, START);
     let other = tap(0xb2, BUS, START + 1);
     let transfer = tap(0xa1, BUS, START + 7_200_000);
-    posted(alloc, &mut book, &[ride, other, transfer])?;
-    let statement = book.statement(alloc, &token(0xa1))?;
-    assert_eq!(rt; statement.token, token(0xa1));
-    let lines = lines_of(alloc, &statement.lines)?;
-    let wanted = [
-        entry(ride, Answer::Paid, 300),
-        entry(transfer, Answer::Transfer, 0),
-    ];
-    assert!(rt; are_equal(&lines, &wanted));
-    assert!(rt; are_equal(&shown(&statement.totals), &[2, 1, 1, 0, 0, 0, 300]));
+    let (told, lines) = told_after(rt.alloc(), &rt, &[ride, other, transfer], 0xa1)?;
     let window = WindowView {
         start: START,
         until: START + 604_800_000,
         paid: 1,
         cents: 300,
     };
-    assert_eq!(rt; statement.window, Some(window));
+    let wanted = Told {
+        token: token(0xa1),
+        is_empty: false,
+        totals: [2, 1, 1, 0, 0, 0, 300],
+        window: Some(window),
+    };
+    assert_eq!(rt; told, wanted);
+    let wanted = [
+        entry(ride, Answer::Paid, 300),
+        entry(transfer, Answer::Transfer, 0),
+    ];
+    assert!(rt; are_equal(&lines, &wanted));
     Ok(())
 }
 
 #[test]
 fn statement_of_a_token_without_entries(rt: HostRuntime) -> Result<(), Fail> {
-    let alloc = rt.alloc();
-    let mut book = book_of(alloc, &rt, SAMPLE)?;
-    posted(alloc, &mut book, &four_taps())?;
-    let statement = book.statement(alloc, &token(0xc3))?;
-    assert!(rt; statement.lines.is_empty());
-    assert!(rt; are_equal(&shown(&statement.totals), &[0; 7]));
-    assert_eq!(rt; statement.window, None);
+    let (told, lines) = told_after(rt.alloc(), &rt, &four_taps(), 0xc3)?;
+    let wanted = Told {
+        token: token(0xc3),
+        is_empty: true,
+        totals: [0; 7],
+        window: None,
+    };
+    assert_eq!(rt; told, wanted);
+    assert!(rt; lines.is_empty());
     Ok(())
+}
+
+/// Posts the taps, and gives the last window of the token then.
+fn window_after(
+    alloc: Global,
+    book: &mut ShardBook,
+    taps: &[TapFields],
+    last: u8,
+) -> Result<Option<WindowView>, Fail> {
+    post_once(alloc, book, taps)?;
+    window_of(alloc, book, last)
+}
+
+/// The windows of a token after two rides and after a third.
+fn three_rides(alloc: Global, book: &mut ShardBook) -> Result<[Option<WindowView>; 2], Fail> {
+    let taps = [
+        tap(0xa1, SUBWAY, START),
+        tap(0xa1, SUBWAY, START + 557_999_999),
+    ];
+    let before_midnight = window_after(alloc, book, &taps, 0xa1)?;
+    let third = [tap(0xa1, SUBWAY, START + 558_000_000)];
+    let at_midnight = window_after(alloc, book, &third, 0xa1)?;
+    Ok([before_midnight, at_midnight])
 }
 
 #[test]
 fn civil_window_ends_at_midnight(rt: HostRuntime) -> Result<(), Fail> {
     let alloc = rt.alloc();
-    let mut book = book_of(alloc, &rt, ZONED)?;
-    posted(
-        alloc,
-        &mut book,
-        &[
-            tap(0xa1, SUBWAY, START),
-            tap(0xa1, SUBWAY, START + 557_999_999),
-        ],
-    )?;
+    let mut book = book_of(alloc, &rt, ZONED, 0, 1)?;
+    let windows = three_rides(alloc, &mut book)?;
     let until_midnight = WindowView {
         start: START,
         until: 1_710_475_200_000,
         paid: 2,
         cents: 600,
     };
-    assert_eq!(rt; window_of(alloc, &book, 0xa1)?, Some(until_midnight));
-    posted(alloc, &mut book, &[tap(0xa1, SUBWAY, START + 558_000_000)])?;
     let next = WindowView {
         start: START + 558_000_000,
         until: 1_711_080_000_000,
         paid: 1,
         cents: 300,
     };
-    assert_eq!(rt; window_of(alloc, &book, 0xa1)?, Some(next));
+    assert_eq!(rt; windows, [Some(until_midnight), Some(next)]);
     Ok(())
-}
-
-/// A book with a ride and a transfer of one token.
-fn two_taps<R: RandomSource>(alloc: Global, rt: &R) -> Result<ShardBook, Fail> {
-    let mut book = book_of(alloc, rt, SAMPLE)?;
-    posted(
-        alloc,
-        &mut book,
-        &[tap(0xa1, SUBWAY, START), tap(0xa1, BUS, START + 7_200_000)],
-    )?;
-    Ok(book)
 }
 
 fn two_entries(cents: u32) -> [Entry; 2] {
@@ -360,13 +493,20 @@ fn two_entries(cents: u32) -> [Entry; 2] {
     ]
 }
 
+/// The first differences from the very list, from one with other cents, and from its beginning.
+fn differences(book: &ShardBook) -> [Option<u64>; 3] {
+    [
+        first_difference(book, &two_entries(0)),
+        first_difference(book, &two_entries(300)),
+        first_difference(book, &two_entries(0)[..1]),
+    ]
+}
+
 #[test]
 fn differences_from_a_list(rt: HostRuntime) -> Result<(), Fail> {
-    let alloc = rt.alloc();
-    let book = two_taps(alloc, &rt)?;
-    assert_eq!(rt; first_difference(&book, &two_entries(0)), None);
-    assert_eq!(rt; first_difference(&book, &two_entries(300)), Some(1));
-    assert_eq!(rt; first_difference(&book, &two_entries(0)[..1]), Some(1));
+    let taps = [tap(0xa1, SUBWAY, START), tap(0xa1, BUS, START + 7_200_000)];
+    let book = book_after(rt.alloc(), &rt, &taps, 0, 1)?;
+    assert_eq!(rt; differences(&book), [None, Some(1), Some(1)]);
     Ok(())
 }
 
@@ -387,32 +527,49 @@ fn by_token(alloc: Global, sums: &[TokenSum]) -> Result<Vec<(Token, [u128; 7])>,
     Ok(list)
 }
 
+/// What books sum up to: in all, by validator and by token.
+#[derive(Drop)]
+struct Summed {
+    totals: [u128; 7],
+    validators: Vec<(u32, [u128; 7])>,
+    tokens: Vec<(Token, [u128; 7])>,
+}
+
+fn sum_up(alloc: Global, books: &[ShardBook]) -> Result<Summed, Fail>
+    requires { length books.now ≤ 64 }
+{
+    let validators = by_validator(alloc, &sums_by_validator(alloc, books)?)?;
+    let tokens = by_token(alloc, &sums_by_token(alloc, books)?)?;
+    Ok(Summed {
+        totals: shown(&totals_of(books)),
+        validators,
+        tokens,
+    })
+}
+
+/// The sums of two books, each of which may have any token.
+fn summed_books<R: RandomSource>(alloc: Global, rt: &R) -> Result<Summed, Fail> {
+    let taps = [tap(0xb2, 9, START + 10), tap(0xb2, SUBWAY, START + 5)];
+    let one = book_after(alloc, rt, &taps, 0, 1)?;
+    let other = book_after(alloc, rt, &four_taps(), 0, 1)?;
+    sum_up(alloc, &[one, other])
+}
+
 #[test]
 fn sums_of_two_books(rt: HostRuntime) -> Result<(), Fail> {
-    let alloc = rt.alloc();
-    let mut one = book_of(alloc, &rt, SAMPLE)?;
-    posted(
-        alloc,
-        &mut one,
-        &[tap(0xb2, 9, START + 10), tap(0xb2, SUBWAY, START + 5)],
-    )?;
-    let mut other = book_of(alloc, &rt, SAMPLE)?;
-    posted(alloc, &mut other, &four_taps())?;
-    let books = [one, other];
-    assert!(rt; are_equal(&shown(&totals_of(&books)), &[6, 3, 2, 0, 0, 1, 900]));
-    let validators = by_validator(alloc, &sums_by_validator(alloc, &books)?)?;
+    let found = summed_books(rt.alloc(), &rt)?;
+    assert!(rt; are_equal(&found.totals, &[6, 3, 2, 0, 0, 1, 900]));
     let wanted = [
         (9, [1, 0, 0, 0, 0, 1, 0]),
         (SUBWAY, [3, 2, 1, 0, 0, 0, 600]),
         (BUS, [2, 1, 1, 0, 0, 0, 300]),
     ];
-    assert!(rt; are_equal(&validators, &wanted));
-    let tokens = by_token(alloc, &sums_by_token(alloc, &books)?)?;
+    assert!(rt; are_equal(&found.validators, &wanted));
     let wanted = [
         (token(0xa1), [4, 2, 2, 0, 0, 0, 600]),
         (token(0xb2), [2, 1, 0, 0, 0, 1, 300]),
     ];
-    assert!(rt; are_equal(&tokens, &wanted));
+    assert!(rt; are_equal(&found.tokens, &wanted));
     Ok(())
 }
 
@@ -437,106 +594,113 @@ fn a_tally_counts_as_totals_do(rt: HostRuntime) -> Result<(), Fail> {
     ];
     for answer in answers {
         let (totals, tallied) = counted(Reply { answer, cents: 290 });
-        assert_eq!(rt; (totals.taps, totals.cents), (1, 290));
-        assert_eq!(rt; tallied, totals);
+        let is_same = tallied == totals;
+        assert_eq!(rt; (totals.taps, totals.cents, is_same), (1, 290, true));
     }
     Ok(())
 }
 
-/// A book without entries, of one of two shards: the last bit of a token tells which.
-fn book_of_two<R: RandomSource>(alloc: Global, rt: &R, shard: u32) -> Result<ShardBook, Fail>
-    requires { shard < 2 }
-{
-    let keys = TokenKeys::new(rt)?;
-    let table = FareTable::read(alloc, SAMPLE.as_bytes())?;
-    Ok(ShardBook::open(alloc, keys, table, shard, 2))
+/// The book of the odd tokens of two shards, with taps of two tokens.
+fn odd_book<R: RandomSource>(alloc: Global, rt: &R) -> Result<ShardBook, Fail> {
+    let mut book = book_after(alloc, rt, &four_taps(), 1, 2)?;
+    let taps = [tap(0xc3, BUS, START), tap(0xa1, BUS, START)];
+    post_once(alloc, &mut book, &taps)?;
+    Ok(book)
 }
 
 /// The books of two shards, with taps of three tokens.
 fn two_shards<R: RandomSource>(alloc: Global, rt: &R) -> Result<[ShardBook; 2], Fail> {
-    let mut even = book_of_two(alloc, rt, 0)?;
     let taps = [tap(0xb2, 9, START + 10), tap(0xb2, SUBWAY, START + 5)];
-    posted(alloc, &mut even, &taps)?;
-    let mut odd = book_of_two(alloc, rt, 1)?;
-    posted(alloc, &mut odd, &four_taps())?;
-    posted(
-        alloc,
-        &mut odd,
-        &[tap(0xc3, BUS, START), tap(0xa1, BUS, START)],
-    )?;
+    let even = book_after(alloc, rt, &taps, 0, 2)?;
+    let odd = odd_book(alloc, rt)?;
     Ok([even, odd])
+}
+
+/// The sums by token: by the counts that the books keep, and over their entries.
+fn kept_and_added(alloc: Global, books: &[ShardBook]) -> Result<[Vec<(Token, [u128; 7])>; 2], Fail>
+    requires { length books.now ≤ 64 }
+{
+    let kept = by_token(alloc, &sums_by_token(alloc, books)?)?;
+    let added = by_token(alloc, &added_by_token(alloc, books)?)?;
+    Ok([kept, added])
 }
 
 /// The counts that the books keep and the sums over their entries are the same.
 #[test]
 fn sums_of_two_shards(rt: HostRuntime) -> Result<(), Fail> {
     let alloc = rt.alloc();
-    let books = two_shards(alloc, &rt)?;
+    let [kept, added] = kept_and_added(alloc, &two_shards(alloc, &rt)?)?;
     let wanted = [
         (token(0xa1), [5, 2, 2, 0, 1, 0, 600]),
         (token(0xb2), [2, 1, 0, 0, 0, 1, 300]),
         (token(0xc3), [1, 1, 0, 0, 0, 0, 300]),
     ];
-    let kept = by_token(alloc, &sums_by_token(alloc, &books)?)?;
     assert!(rt; are_equal(&kept, &wanted));
-    let added = by_token(alloc, &added_by_token(alloc, &books)?)?;
     assert!(rt; are_equal(&added, &wanted));
     Ok(())
 }
 
 /// A book with three taps of two tokens.
 fn three_taps<R: RandomSource>(alloc: Global, rt: &R) -> Result<ShardBook, Fail> {
-    let mut book = book_of(alloc, rt, SAMPLE)?;
     let taps = [
         tap(0xb2, BUS, START),
         tap(0xa1, SUBWAY, START),
         tap(0xb2, BUS, START),
     ];
-    posted(alloc, &mut book, &taps)?;
-    Ok(book)
+    book_after(alloc, rt, &taps, 0, 1)
 }
 
 #[test]
 fn tokens_of_one_book(rt: HostRuntime) -> Result<(), Fail> {
     let alloc = rt.alloc();
-    let book = three_taps(alloc, &rt)?;
-    let tokens = book.tokens(alloc)?;
+    let tokens = three_taps(alloc, &rt)?.tokens(alloc)?;
     assert!(rt; are_equal(&tokens, &[token(0xa1), token(0xb2)]));
     Ok(())
+}
+
+/// What one book sums up to.
+fn sum_up_one(alloc: Global, book: &ShardBook) -> Result<Summed, Fail> {
+    let validators = by_validator(alloc, &book.by_validator(alloc)?)?;
+    let tokens = by_token(alloc, &book.by_token(alloc)?)?;
+    Ok(Summed {
+        totals: shown(&book.totals()),
+        validators,
+        tokens,
+    })
 }
 
 #[test]
 fn sums_of_one_book(rt: HostRuntime) -> Result<(), Fail> {
     let alloc = rt.alloc();
-    let book = three_taps(alloc, &rt)?;
-    let validators = by_validator(alloc, &book.by_validator(alloc)?)?;
-    assert!(rt;
-        are_equal(
-            &validators,
-            &[
-                (SUBWAY, [1, 1, 0, 0, 0, 0, 300]),
-                (BUS, [2, 1, 0, 0, 1, 0, 300])
-            ]
-        )
-    );
-    let tokens = by_token(alloc, &book.by_token(alloc)?)?;
-    assert!(rt;
-        are_equal(
-            &tokens,
-            &[
-                (token(0xa1), [1, 1, 0, 0, 0, 0, 300]),
-                (token(0xb2), [2, 1, 0, 0, 1, 0, 300])
-            ]
-        )
-    );
+    let found = sum_up_one(alloc, &three_taps(alloc, &rt)?)?;
+    let wanted = [
+        (SUBWAY, [1, 1, 0, 0, 0, 0, 300]),
+        (BUS, [2, 1, 0, 0, 1, 0, 300]),
+    ];
+    assert!(rt; are_equal(&found.validators, &wanted));
+    let wanted = [
+        (token(0xa1), [1, 1, 0, 0, 0, 0, 300]),
+        (token(0xb2), [2, 1, 0, 0, 1, 0, 300]),
+    ];
+    assert!(rt; are_equal(&found.tokens, &wanted));
+    assert!(rt; are_equal(&found.totals, &[3, 2, 0, 0, 1, 0, 600]));
     Ok(())
 }
 
 #[test]
 fn tokens_rise_by_their_bytes(rt: HostRuntime) {
-    let early = [0, 0, 0, 0, 0, 0, 0, 1, 0, 0, 0, 0, 0, 0, 0, 0];
-    let late = [1, 0, 0, 0, 0, 0, 0, 0, 0, 0, 0, 0, 0, 0, 0, 0];
-    assert!(rt; token(0xff) < Token::of(&early));
-    assert!(rt; Token::of(&early) < Token::of(&late));
-    assert_eq!(rt; Token::of(&late).bytes(), late);
+    let early = Token::of(&[0, 0, 0, 0, 0, 0, 0, 1, 0, 0, 0, 0, 0, 0, 0, 0]);
+    let bytes = [1, 0, 0, 0, 0, 0, 0, 0, 0, 0, 0, 0, 0, 0, 0, 0];
+    let late = Token::of(&bytes);
+    assert!(rt; token(0xff) < early && early < late);
+    assert_eq!(rt; late.bytes(), bytes);
+}
+
+/// No contract speaks of the seed: two of them hash a token apart.
+#[test]
+fn seeds_differ(rt: HostRuntime) -> Result<(), Fail> {
+    let one = TokenKeys::new(&rt)?.hash_one(token(1));
+    let other = TokenKeys::new(&rt)?.hash_one(token(1));
+    assert!(rt; one != other);
+    Ok(())
 }
