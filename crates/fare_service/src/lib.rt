@@ -17,8 +17,6 @@ mod service;
 mod share;
 mod shown;
 mod statement;
-#[cfg(test)]
-mod tests;
 mod upload_end;
 mod working;
 

@@ -6,7 +6,7 @@ ghost use Rattle.fare_service.specs.Plain.{AreApart, IsPlain, IsReportOver, WasW
 ghost use Rattle.fare_service.specs.Printed.{report_of};
 ghost use Rattle.fare_service.specs.Shares.{IsShareOf};
 
-use crate::{Gate, Outcome, RunFault, Service, Share, laws};
+use fare_service::{Gate, Outcome, RunFault, Service, Share, laws};
 use fare_table::FareTable;
 use std::alloc::Global;
 use std::marker::Sync;

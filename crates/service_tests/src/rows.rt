@@ -1,9 +1,9 @@
 //! Worked rows on ends, on texts and on shares.
+
 ghost use Rattle.std.specs.Prelude.{◌≡◌, All, IfOk};
 ghost use Rattle.fare_service.specs.Shares.{IsShareOf};
 
-use crate::report::report_text;
-use crate::{
+use fare_service::{
     Gate, GatherFault, OpenFault, Outcome, PrintFault, RunFault, Service, Share, UploadEnd,
 };
 use fare_table::FareTable;
@@ -76,14 +76,6 @@ validator 2000 taps 2 paid 1 transfers 1 capped 0 stale 0 unknown 0 cents 300
 tokens 2
 token 000000000000000000000000000000a1 taps 4 paid 2 transfers 2 capped 0 stale 0 unknown 0 cents 600
 token 000000000000000000000000000000b2 taps 2 paid 1 transfers 0 capped 0 stale 0 unknown 1 cents 300
-";
-
-const CUT_REPORT: &str = "uploads 2
-upload 0 cut 3
-upload 1 undrawn
-totals taps 0 paid 0 transfers 0 capped 0 stale 0 unknown 0 cents 0
-validators 0
-tokens 0
 ";
 
 const NO_REPORT: &str = "uploads 0
@@ -232,9 +224,9 @@ fn a_refused_upload_is_reported(rt: HostRuntime) -> Result<(), Fail> {
 
 #[test]
 fn a_cut_upload_is_reported(rt: HostRuntime) -> Result<(), Fail> {
-    let ends = [UploadEnd::Cut { taps: 3 }, UploadEnd::Undrawn];
-    let text = report_text(rt.alloc(), &ends, &Totals::new(), &[], &[])?;
-    assert_eq!(rt; text.as_bytes(), CUT_REPORT.as_bytes());
+    let end = UploadEnd::Cut { taps: 3 };
+    let text = format!(in rt.alloc(); "{end}")?;
+    assert_eq!(rt; text.as_str(), "cut 3");
     Ok(())
 }
 
@@ -383,12 +375,33 @@ fn two_workers_post_at_once(rt: HostRuntime) -> Result<(), Fail> {
     assert_eq!(rt; end_of(&outcome, 1), Some(UploadEnd::Posted { taps: 2 }));
     let first = totals_of(&outcome, 0).map(|totals| totals.taps);
     assert!(rt; first == Some(4) || first == Some(2));
-    assert_eq!(rt;
-        outcome.totals(),
-        shard_book::totals_of(outcome.books.as_slice())
-    );
+    assert_eq!(rt; counts_of(outcome.totals()), counts_of_books(&outcome));
     assert_eq!(rt; report_of(alloc, &outcome)?.as_slice(), REPORT.as_bytes());
     Ok(())
+}
+
+fn counts_of(totals: Totals) -> [u128; 7] {
+    [
+        totals.taps,
+        totals.paid,
+        totals.transfers,
+        totals.capped,
+        totals.stale,
+        totals.unknown,
+        totals.cents,
+    ]
+}
+
+// The counts of all books' entries, added up.
+fn counts_of_books(outcome: &Outcome) -> [u128; 7] {
+    let mut sums = [0u128; 7];
+    for shard in 0..outcome.shards() {
+        let counts = counts_of(outcome.book(shard).totals());
+        for (sum, count) in sums.iter_mut().zip(counts.iter()) {
+            *sum = sum.saturating_add(*count);
+        }
+    }
+    sums
 }
 
 // A service of one shard whose two shares have posted one upload each.
@@ -417,14 +430,16 @@ fn both_worked<'a, R: Threads + Wait + RandomSource + Sync>(
     Ok((service, one, two))
 }
 
-#[test]
-fn a_share_held_back_is_missing(rt: HostRuntime) -> Result<(), Fail> {
-    let alloc = rt.alloc();
-    let uploads = vec![in alloc;
-        encode(alloc, &[tap(0xa1, SUBWAY, 0)])?,
-        encode(alloc, &[tap(0xb2, SUBWAY, 0)])?,
-    ]?;
-    let (service, one, two) = both_worked(&rt, alloc, uploads.as_slice())?;
+// How often shares are held back: each time the schedule is another.
+const TIMES: u32 = 100;
+
+// Of two shares that posted one tap each, the second is held back, and then both are.
+fn hold_back_visits<R: Threads + Wait + RandomSource + Sync + Abort>(
+    rt: &R,
+    alloc: Global,
+    uploads: &[Vec<u8>],
+) -> Result<(), Fail> {
+    let (service, one, two) = both_worked(rt, alloc, uploads)?;
     assert_eq!(rt; (one.sums().taps, two.sums().taps), (1, 1));
     drop(two);
     let fault = service.gather(alloc, vec![in alloc; one]?).err();
@@ -436,7 +451,7 @@ fn a_share_held_back_is_missing(rt: HostRuntime) -> Result<(), Fail> {
             kept: 2
         })
     );
-    let (service, one, two) = both_worked(&rt, alloc, uploads.as_slice())?;
+    let (service, one, two) = both_worked(rt, alloc, uploads)?;
     drop((one, two));
     let fault = service.gather(alloc, Vec::new(alloc)).err();
     assert_eq!(rt;
@@ -447,6 +462,19 @@ fn a_share_held_back_is_missing(rt: HostRuntime) -> Result<(), Fail> {
             kept: 2
         })
     );
+    Ok(())
+}
+
+#[test]
+fn a_share_held_back_is_missing(rt: HostRuntime) -> Result<(), Fail> {
+    let alloc = rt.alloc();
+    let uploads = vec![in alloc;
+        encode(alloc, &[tap(0xa1, SUBWAY, 0)])?,
+        encode(alloc, &[tap(0xb2, SUBWAY, 0)])?,
+    ]?;
+    for _ in 0..TIMES {
+        hold_back_visits(&rt, alloc, uploads.as_slice())?;
+    }
     Ok(())
 }
 
@@ -469,10 +497,29 @@ fn both_shares_are_gathered(rt: HostRuntime) -> Result<(), Fail> {
         encode(alloc, &[tap(0xa1, SUBWAY, 0)])?,
         encode(alloc, &[tap(0xb2, SUBWAY, 0)])?,
     ]?;
-    let (service, one, two) = both_worked(&rt, alloc, uploads.as_slice())?;
-    let shares = pair(&service, alloc, one, two)?;
-    let outcome = service.gather(alloc, shares)?;
-    assert_eq!(rt; (outcome.workers(), outcome.totals().taps), (2, 2));
+    for _ in 0..TIMES {
+        let (service, one, two) = both_worked(&rt, alloc, uploads.as_slice())?;
+        let shares = pair(&service, alloc, one, two)?;
+        let outcome = service.gather(alloc, shares)?;
+        assert_eq!(rt; (outcome.workers(), outcome.totals().taps), (2, 2));
+    }
+    Ok(())
+}
+
+// Of two shares that drew one empty upload each, the second is held back, and then both are.
+fn hold_back_uploads<R: Threads + Wait + RandomSource + Sync + Abort>(
+    rt: &R,
+    alloc: Global,
+    uploads: &[Vec<u8>],
+) -> Result<(), Fail> {
+    let (service, one, two) = both_worked(rt, alloc, uploads)?;
+    drop(two);
+    let fault = service.gather(alloc, vec![in alloc; one]?).err();
+    assert_eq!(rt; fault, Some(GatherFault::Drawn { held: 1, drawn: 2 }));
+    let (service, one, two) = both_worked(rt, alloc, uploads)?;
+    drop((one, two));
+    let fault = service.gather(alloc, Vec::new(alloc)).err();
+    assert_eq!(rt; fault, Some(GatherFault::Drawn { held: 0, drawn: 2 }));
     Ok(())
 }
 
@@ -480,14 +527,9 @@ fn both_shares_are_gathered(rt: HostRuntime) -> Result<(), Fail> {
 fn an_upload_held_back_is_missing(rt: HostRuntime) -> Result<(), Fail> {
     let alloc = rt.alloc();
     let uploads = vec![in alloc; encode(alloc, &[])?, encode(alloc, &[])?]?;
-    let (service, one, two) = both_worked(&rt, alloc, uploads.as_slice())?;
-    drop(two);
-    let fault = service.gather(alloc, vec![in alloc; one]?).err();
-    assert_eq!(rt; fault, Some(GatherFault::Drawn { held: 1, drawn: 2 }));
-    let (service, one, two) = both_worked(&rt, alloc, uploads.as_slice())?;
-    drop((one, two));
-    let fault = service.gather(alloc, Vec::new(alloc)).err();
-    assert_eq!(rt; fault, Some(GatherFault::Drawn { held: 0, drawn: 2 }));
+    for _ in 0..TIMES {
+        hold_back_uploads(&rt, alloc, uploads.as_slice())?;
+    }
     Ok(())
 }
 
