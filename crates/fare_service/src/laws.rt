@@ -1,7 +1,5 @@
 //! Laws of the definitions and of what was gathered, each as the contract of a small function.
 
-#[cfg(test)]
-mod callers;
 mod places;
 mod schedules;
 

@@ -18,8 +18,6 @@ mod service;
 mod share;
 mod shown;
 mod statement;
-#[cfg(test)]
-mod tests;
 mod token_lines;
 mod upload_end;
 mod working;

@@ -26,6 +26,7 @@ pub struct PlainAccount {
 }
 
 impl PlainAccount {
+    /// An account without taps.
     pub fn new(alloc: Global) -> Self {
         PlainAccount {
             alloc,

@@ -1,13 +1,13 @@
 //! Worked rows on ends, on texts and on shares.
+
 ghost use Rattle.std.specs.Prelude.{◌≡◌, All, IfOk};
 ghost use Rattle.fare_service.specs.Shares.{IsShareOf};
 
-use crate::report::report_front;
-use crate::{
+use fare_service::{
     Gate, GatherFault, OpenFault, Outcome, PrintFault, RunFault, Service, Share, UploadEnd,
 };
 use fare_table::FareTable;
-use shard_book::{Token, TokenSums, Totals};
+use shard_book::{Token, Totals};
 use std::alloc::Global;
 use std::marker::Sync;
 use std::process::Abort;
@@ -78,14 +78,6 @@ token 000000000000000000000000000000a1 taps 4 paid 2 transfers 2 capped 0 stale 
 token 000000000000000000000000000000b2 taps 2 paid 1 transfers 0 capped 0 stale 0 unknown 1 cents 300
 ";
 
-const CUT_REPORT: &str = "uploads 2
-upload 0 cut 3
-upload 1 undrawn
-totals taps 0 paid 0 transfers 0 capped 0 stale 0 unknown 0 cents 0
-validators 0
-tokens 0
-";
-
 const NO_REPORT: &str = "uploads 0
 totals taps 0 paid 0 transfers 0 capped 0 stale 0 unknown 0 cents 0
 validators 0
@@ -139,10 +131,33 @@ fn an_unknown_one(alloc: Global) -> Result<Vec<u8>, Fail> {
     Ok(encode(alloc, &[tap(0xb2, 9, 10), tap(0xb2, SUBWAY, 5)])?)
 }
 
+// The uploads of the example.
+fn two_uploads(alloc: Global) -> Result<Vec<Vec<u8>>, Fail> {
+    let mut uploads = Vec::new(alloc);
+    uploads.push(four_rides(alloc)?)?;
+    uploads.push(an_unknown_one(alloc)?)?;
+    Ok(uploads)
+}
+
 // A batch without its last byte.
 fn cut_off(alloc: Global) -> Result<Vec<u8>, Fail> {
     let mut bytes = encode(alloc, &[tap(0xa1, SUBWAY, 0)])?;
     bytes.pop();
+    Ok(bytes)
+}
+
+// Two taps, and then what is cut off.
+fn refused(alloc: Global) -> Result<Vec<u8>, Fail> {
+    let mut bytes = an_unknown_one(alloc)?;
+    bytes.extend_from_slice(cut_off(alloc)?.as_slice())?;
+    Ok(bytes)
+}
+
+// A batch whose moment is the first that is too late.
+fn too_late(alloc: Global) -> Result<Vec<u8>, Fail> {
+    let mut bytes = encode(alloc, &[tap(0xa1, SUBWAY, 0)])?;
+    bytes.truncate(28);
+    bytes.extend_from_slice(&4_102_444_800_000u64.to_be_bytes())?;
     Ok(bytes)
 }
 
@@ -156,6 +171,19 @@ impl Gate for Open {
     fn after(&self, _: u32) {}
 }
 
+// A service over the uploads, with its first share.
+fn opened<'a, R: RandomSource>(
+    rt: &R,
+    alloc: Global,
+    uploads: &'a [Vec<u8>],
+    shards: u32,
+) -> Result<(Service<'a>, Share), Fail>
+    ensures { IfOk result (λ r. IsShareOf r.0 r.1) }
+{
+    let table = FareTable::read(alloc, TABLE.as_bytes())?;
+    Ok(Service::open(rt, alloc, table, shards, uploads)?)
+}
+
 fn run<R: Threads + Wait + RandomSource + Sync, G: Gate + Sync>(
     rt: &R,
     alloc: Global,
@@ -164,8 +192,7 @@ fn run<R: Threads + Wait + RandomSource + Sync, G: Gate + Sync>(
     workers: u32,
     gate: &G,
 ) -> Result<Outcome, Fail> {
-    let table = FareTable::read(alloc, TABLE.as_bytes())?;
-    let (service, share) = Service::open(rt, alloc, table, shards, uploads)?;
+    let (service, share) = opened(rt, alloc, uploads, shards)?;
     Ok(service.run(rt, alloc, share, workers, gate)?)
 }
 
@@ -196,19 +223,40 @@ fn entries_of(outcome: &Outcome, shard: u32) -> Option<u64> {
     }
 }
 
-fn report_of(alloc: Global, outcome: &Outcome) -> Result<Vec<u8>, Fail> {
+// The outcome has this report.
+fn is_reported<R: Abort>(
+    rt: &R,
+    alloc: Global,
+    outcome: &Outcome,
+    report: &str,
+) -> Result<(), Fail> {
     let mut text = Vec::new(alloc);
     outcome.write_report(alloc, &mut text)?;
-    Ok(text)
+    assert_eq!(rt; text.as_slice(), report.as_bytes());
+    Ok(())
+}
+
+// The outcome has this statement of the token whose last byte is the given one.
+fn is_stated<R: Abort>(
+    rt: &R,
+    alloc: Global,
+    outcome: &Outcome,
+    last: u8,
+    statement: &str,
+) -> Result<(), Fail> {
+    let mut text = Vec::new(alloc);
+    outcome.write_statement(alloc, &Token::of(&bytes_of(last)), &mut text)?;
+    assert_eq!(rt; text.as_slice(), statement.as_bytes());
+    Ok(())
 }
 
 #[test]
 fn the_report_is_the_same_for_every_schedule(rt: HostRuntime) -> Result<(), Fail> {
     let alloc = rt.alloc();
-    let uploads = vec![in alloc; four_rides(alloc)?, an_unknown_one(alloc)?]?;
+    let uploads = two_uploads(alloc)?;
     for (shards, workers) in [(1, 1), (8, 1), (1, 2), (2, 2), (8, 3), (64, 16)] {
         let outcome = run(&rt, alloc, uploads.as_slice(), shards, workers, &Open)?;
-        assert_eq!(rt; report_of(alloc, &outcome)?.as_slice(), REPORT.as_bytes());
+        is_reported(&rt, alloc, &outcome, REPORT)?;
         assert_eq!(rt; outcome.workers(), u64::from(workers));
         assert_eq!(rt; (outcome.shards(), outcome.uploads()), (shards, 2));
         assert_eq!(rt; outcome.totals().cents, 900);
@@ -219,23 +267,16 @@ fn the_report_is_the_same_for_every_schedule(rt: HostRuntime) -> Result<(), Fail
 #[test]
 fn a_refused_upload_is_reported(rt: HostRuntime) -> Result<(), Fail> {
     let alloc = rt.alloc();
-    let mut refused = an_unknown_one(alloc)?;
-    refused.extend_from_slice(cut_off(alloc)?.as_slice())?;
-    let uploads = vec![in alloc; four_rides(alloc)?, refused]?;
+    let uploads = vec![in alloc; four_rides(alloc)?, refused(alloc)?]?;
     let outcome = run(&rt, alloc, uploads.as_slice(), 8, 2, &Open)?;
-    assert_eq!(rt;
-        report_of(alloc, &outcome)?.as_slice(),
-        REFUSED_REPORT.as_bytes()
-    );
-    Ok(())
+    is_reported(&rt, alloc, &outcome, REFUSED_REPORT)
 }
 
 #[test]
 fn a_cut_upload_is_reported(rt: HostRuntime) -> Result<(), Fail> {
-    let ends = [UploadEnd::Cut { taps: 3 }, UploadEnd::Undrawn];
-    let tokens = TokenSums::of(rt.alloc(), &[])?;
-    let text = report_front(rt.alloc(), &ends, &Totals::new(), &[], &tokens)?;
-    assert_eq!(rt; text.as_slice(), CUT_REPORT.as_bytes());
+    let end = UploadEnd::Cut { taps: 3 };
+    let text = format!(in rt.alloc(); "{end}")?;
+    assert_eq!(rt; text.as_str(), "cut 3");
     Ok(())
 }
 
@@ -245,11 +286,7 @@ fn no_uploads_are_reported(rt: HostRuntime) -> Result<(), Fail> {
     let uploads = Vec::new(alloc);
     let outcome = run(&rt, alloc, uploads.as_slice(), 64, 16, &Open)?;
     assert_eq!(rt; (outcome.uploads(), outcome.totals()), (0, Totals::new()));
-    assert_eq!(rt;
-        report_of(alloc, &outcome)?.as_slice(),
-        NO_REPORT.as_bytes()
-    );
-    Ok(())
+    is_reported(&rt, alloc, &outcome, NO_REPORT)
 }
 
 #[test]
@@ -258,58 +295,64 @@ fn a_statement_is_printed(rt: HostRuntime) -> Result<(), Fail> {
     let taps = [tap(0xa1, SUBWAY, 0), tap(0xa1, BUS, 7_200_000)];
     let uploads = vec![in alloc; encode(alloc, &taps)?]?;
     let outcome = run(&rt, alloc, uploads.as_slice(), 8, 1, &Open)?;
-    let mut text = Vec::new(alloc);
-    outcome.write_statement(alloc, &Token::of(&bytes_of(0xa1)), &mut text)?;
-    assert_eq!(rt; text.as_slice(), STATEMENT.as_bytes());
-    let mut text = Vec::new(alloc);
-    outcome.write_statement(alloc, &Token::of(&bytes_of(0xb2)), &mut text)?;
-    assert_eq!(rt; text.as_slice(), EMPTY_STATEMENT.as_bytes());
-    Ok(())
+    is_stated(&rt, alloc, &outcome, 0xa1, STATEMENT)?;
+    is_stated(&rt, alloc, &outcome, 0xb2, EMPTY_STATEMENT)
 }
+
+// Each of the ends in `ENDS`, in their order.
+fn uploads_of_every_end(alloc: Global) -> Result<Vec<Vec<u8>>, Fail> {
+    let mut uploads = Vec::new(alloc);
+    uploads.push(Vec::new(alloc))?;
+    uploads.push(encode(alloc, &[])?)?;
+    uploads.push(vec![in alloc; 0; 7]?)?;
+    uploads.push(refused(alloc)?)?;
+    uploads.push(too_late(alloc)?)?;
+    let late = tap(0xa1, SUBWAY, 4_102_444_799_999 - START);
+    uploads.push(encode(alloc, &[late])?)?;
+    Ok(uploads)
+}
+
+const ENDS: [UploadEnd; 6] = [
+    UploadEnd::Posted { taps: 0 },
+    UploadEnd::Posted { taps: 0 },
+    UploadEnd::Refused {
+        taps: 0,
+        offset: 0,
+        fault: LayoutFault::Short { have: 7 },
+    },
+    UploadEnd::Refused {
+        taps: 2,
+        offset: 64,
+        fault: LayoutFault::Length { want: 36, have: 35 },
+    },
+    UploadEnd::Refused {
+        taps: 0,
+        offset: 0,
+        fault: LayoutFault::Moment { index: 0 },
+    },
+    UploadEnd::Posted { taps: 1 },
+];
 
 #[test]
 fn uploads_end_as_their_bytes_say(rt: HostRuntime) -> Result<(), Fail> {
     let alloc = rt.alloc();
-    let mut refused = an_unknown_one(alloc)?;
-    refused.extend_from_slice(cut_off(alloc)?.as_slice())?;
-    let late = encode(alloc, &[tap(0xa1, SUBWAY, 4_102_444_799_999 - START)])?;
-    let mut too_late = encode(alloc, &[tap(0xa1, SUBWAY, 0)])?;
-    too_late.truncate(28);
-    too_late.extend_from_slice(&4_102_444_800_000u64.to_be_bytes())?;
-    let uploads = vec![in alloc;
-        Vec::new(alloc),
-        encode(alloc, &[])?,
-        vec![in alloc; 0; 7]?,
-        refused,
-        too_late,
-        late,
-    ]?;
+    let uploads = uploads_of_every_end(alloc)?;
     let outcome = run(&rt, alloc, uploads.as_slice(), 2, 1, &Open)?;
-    let ends = [
-        UploadEnd::Posted { taps: 0 },
-        UploadEnd::Posted { taps: 0 },
-        UploadEnd::Refused {
-            taps: 0,
-            offset: 0,
-            fault: LayoutFault::Short { have: 7 },
-        },
-        UploadEnd::Refused {
-            taps: 2,
-            offset: 64,
-            fault: LayoutFault::Length { want: 36, have: 35 },
-        },
-        UploadEnd::Refused {
-            taps: 0,
-            offset: 0,
-            fault: LayoutFault::Moment { index: 0 },
-        },
-        UploadEnd::Posted { taps: 1 },
-    ];
-    for (upload, end) in ends.iter().enumerate() {
+    for (upload, end) in ENDS.iter().enumerate() {
         assert_eq!(rt; end_of(&outcome, upload as u32), Some(*end));
     }
     assert_eq!(rt; outcome.totals().taps, 3);
     Ok(())
+}
+
+// Of eight taps the last four are stale.
+fn is_half_stale<R: Abort>(rt: &R, outcome: &Outcome) {
+    let totals = outcome.totals();
+    assert_eq!(rt; (totals.taps, totals.paid, totals.transfers), (8, 2, 2));
+    assert_eq!(rt; (totals.capped, totals.stale, totals.unknown), (0, 4, 0));
+    assert_eq!(rt; totals.cents, 600);
+    assert_eq!(rt; totals_of(outcome, 0), Some(totals));
+    assert_eq!(rt; entries_of(outcome, 1), Some(8));
 }
 
 #[test]
@@ -317,12 +360,7 @@ fn the_second_of_two_equal_uploads_is_stale(rt: HostRuntime) -> Result<(), Fail>
     let alloc = rt.alloc();
     let uploads = vec![in alloc; four_rides(alloc)?, four_rides(alloc)?]?;
     let outcome = run(&rt, alloc, uploads.as_slice(), 8, 1, &Open)?;
-    let totals = outcome.totals();
-    assert_eq!(rt; (totals.taps, totals.paid, totals.transfers), (8, 2, 2));
-    assert_eq!(rt; (totals.capped, totals.stale, totals.unknown), (0, 4, 0));
-    assert_eq!(rt; totals.cents, 600);
-    assert_eq!(rt; totals_of(&outcome, 0), Some(totals));
-    assert_eq!(rt; entries_of(&outcome, 1), Some(8));
+    is_half_stale(&rt, &outcome);
     Ok(())
 }
 
@@ -373,23 +411,48 @@ impl Gate for Both {
     }
 }
 
+// Each upload was posted whole, by one worker or the other, and the totals are those of the books.
+fn were_both_posted<R: Abort>(rt: &R, outcome: &Outcome) {
+    assert_eq!(rt; end_of(outcome, 0), Some(UploadEnd::Posted { taps: 4 }));
+    assert_eq!(rt; end_of(outcome, 1), Some(UploadEnd::Posted { taps: 2 }));
+    let first = totals_of(outcome, 0).map(|totals| totals.taps);
+    assert!(rt; first == Some(4) || first == Some(2));
+    assert_eq!(rt; counts_of(outcome.totals()), counts_of_books(outcome));
+}
+
 #[test]
 fn two_workers_post_at_once(rt: HostRuntime) -> Result<(), Fail> {
     let alloc = rt.alloc();
-    let uploads = vec![in alloc; four_rides(alloc)?, an_unknown_one(alloc)?]?;
+    let uploads = two_uploads(alloc)?;
     let gate = Both::new();
     let outcome = run(&rt, alloc, uploads.as_slice(), 8, 2, &gate)?;
     assert!(rt; !gate.gave_up.load(Ordering::SeqCst));
-    assert_eq!(rt; end_of(&outcome, 0), Some(UploadEnd::Posted { taps: 4 }));
-    assert_eq!(rt; end_of(&outcome, 1), Some(UploadEnd::Posted { taps: 2 }));
-    let first = totals_of(&outcome, 0).map(|totals| totals.taps);
-    assert!(rt; first == Some(4) || first == Some(2));
-    assert_eq!(rt;
-        outcome.totals(),
-        shard_book::totals_of(outcome.books.as_slice())
-    );
-    assert_eq!(rt; report_of(alloc, &outcome)?.as_slice(), REPORT.as_bytes());
-    Ok(())
+    were_both_posted(&rt, &outcome);
+    is_reported(&rt, alloc, &outcome, REPORT)
+}
+
+fn counts_of(totals: Totals) -> [u128; 7] {
+    [
+        totals.taps,
+        totals.paid,
+        totals.transfers,
+        totals.capped,
+        totals.stale,
+        totals.unknown,
+        totals.cents,
+    ]
+}
+
+// The counts of all books' entries, added up.
+fn counts_of_books(outcome: &Outcome) -> [u128; 7] {
+    let mut sums = [0u128; 7];
+    for shard in 0..outcome.shards() {
+        let counts = counts_of(outcome.book(shard).totals());
+        for (sum, count) in sums.iter_mut().zip(counts.iter()) {
+            *sum = sum.saturating_add(*count);
+        }
+    }
+    sums
 }
 
 // A service of one shard whose two shares have posted one upload each.
@@ -400,8 +463,7 @@ fn both_worked<'a, R: Threads + Wait + RandomSource + Sync>(
 ) -> Result<(Service<'a>, Share, Share), Fail>
     ensures { IfOk result (λ r. IsShareOf r.0 r.1 × IsShareOf r.0 r.2) }
 {
-    let table = FareTable::read(alloc, TABLE.as_bytes())?;
-    let (service, mut first) = Service::open(rt, alloc, table, 1, uploads)?;
+    let (service, mut first) = opened(rt, alloc, uploads, 1)?;
     let second = service.share(alloc, &mut first)?;
     let gate = Both::new();
     let (one, two) = thread::join(
@@ -418,36 +480,60 @@ fn both_worked<'a, R: Threads + Wait + RandomSource + Sync>(
     Ok((service, one, two))
 }
 
+// How often shares are held back: each time the schedule is another.
+const TIMES: u32 = 100;
+
+// Of two shares that posted so many taps each, the second is held back.
+fn fault_without_one<R: Threads + Wait + RandomSource + Sync + Abort>(
+    rt: &R,
+    alloc: Global,
+    uploads: &[Vec<u8>],
+    taps: u128,
+) -> Result<Option<GatherFault>, Fail> {
+    let (service, one, two) = both_worked(rt, alloc, uploads)?;
+    assert_eq!(rt; (one.sums().taps, two.sums().taps), (taps, taps));
+    drop(two);
+    Ok(service.gather(alloc, vec![in alloc; one]?).err())
+}
+
+// Both shares are held back.
+fn fault_without_both<R: Threads + Wait + RandomSource + Sync>(
+    rt: &R,
+    alloc: Global,
+    uploads: &[Vec<u8>],
+) -> Result<Option<GatherFault>, Fail> {
+    let (service, one, two) = both_worked(rt, alloc, uploads)?;
+    drop((one, two));
+    Ok(service.gather(alloc, Vec::new(alloc)).err())
+}
+
+// Two uploads of one tap each.
+fn two_taps(alloc: Global) -> Result<Vec<Vec<u8>>, Fail> {
+    let mut uploads = Vec::new(alloc);
+    uploads.push(encode(alloc, &[tap(0xa1, SUBWAY, 0)])?)?;
+    uploads.push(encode(alloc, &[tap(0xb2, SUBWAY, 0)])?)?;
+    Ok(uploads)
+}
+
+// Of two visits to the only shard, so many are held.
+fn missing(held: u64) -> Option<GatherFault> {
+    Some(GatherFault::Missing {
+        shard: 0,
+        held,
+        kept: 2,
+    })
+}
+
 #[test]
 fn a_share_held_back_is_missing(rt: HostRuntime) -> Result<(), Fail> {
     let alloc = rt.alloc();
-    let uploads = vec![in alloc;
-        encode(alloc, &[tap(0xa1, SUBWAY, 0)])?,
-        encode(alloc, &[tap(0xb2, SUBWAY, 0)])?,
-    ]?;
-    let (service, one, two) = both_worked(&rt, alloc, uploads.as_slice())?;
-    assert_eq!(rt; (one.sums().taps, two.sums().taps), (1, 1));
-    drop(two);
-    let fault = service.gather(alloc, vec![in alloc; one]?).err();
-    assert_eq!(rt;
-        fault,
-        Some(GatherFault::Missing {
-            shard: 0,
-            held: 1,
-            kept: 2
-        })
-    );
-    let (service, one, two) = both_worked(&rt, alloc, uploads.as_slice())?;
-    drop((one, two));
-    let fault = service.gather(alloc, Vec::new(alloc)).err();
-    assert_eq!(rt;
-        fault,
-        Some(GatherFault::Missing {
-            shard: 0,
-            held: 0,
-            kept: 2
-        })
-    );
+    let uploads = two_taps(alloc)?;
+    for _ in 0..TIMES {
+        let fault = fault_without_one(&rt, alloc, uploads.as_slice(), 1)?;
+        assert_eq!(rt; fault, missing(1));
+        let fault = fault_without_both(&rt, alloc, uploads.as_slice())?;
+        assert_eq!(rt; fault, missing(0));
+    }
     Ok(())
 }
 
@@ -463,17 +549,25 @@ fn pair(service: &Service, alloc: Global, one: Share, two: Share) -> Result<Vec<
     Ok(shares)
 }
 
+// How many workers and taps there are where both shares are gathered.
+fn gathered_of_both<R: Threads + Wait + RandomSource + Sync>(
+    rt: &R,
+    alloc: Global,
+    uploads: &[Vec<u8>],
+) -> Result<(u64, u128), Fail> {
+    let (service, one, two) = both_worked(rt, alloc, uploads)?;
+    let shares = pair(&service, alloc, one, two)?;
+    let outcome = service.gather(alloc, shares)?;
+    Ok((outcome.workers(), outcome.totals().taps))
+}
+
 #[test]
 fn both_shares_are_gathered(rt: HostRuntime) -> Result<(), Fail> {
     let alloc = rt.alloc();
-    let uploads = vec![in alloc;
-        encode(alloc, &[tap(0xa1, SUBWAY, 0)])?,
-        encode(alloc, &[tap(0xb2, SUBWAY, 0)])?,
-    ]?;
-    let (service, one, two) = both_worked(&rt, alloc, uploads.as_slice())?;
-    let shares = pair(&service, alloc, one, two)?;
-    let outcome = service.gather(alloc, shares)?;
-    assert_eq!(rt; (outcome.workers(), outcome.totals().taps), (2, 2));
+    let uploads = two_taps(alloc)?;
+    for _ in 0..TIMES {
+        assert_eq!(rt; gathered_of_both(&rt, alloc, uploads.as_slice())?, (2, 2));
+    }
     Ok(())
 }
 
@@ -481,32 +575,30 @@ fn both_shares_are_gathered(rt: HostRuntime) -> Result<(), Fail> {
 fn an_upload_held_back_is_missing(rt: HostRuntime) -> Result<(), Fail> {
     let alloc = rt.alloc();
     let uploads = vec![in alloc; encode(alloc, &[])?, encode(alloc, &[])?]?;
-    let (service, one, two) = both_worked(&rt, alloc, uploads.as_slice())?;
-    drop(two);
-    let fault = service.gather(alloc, vec![in alloc; one]?).err();
-    assert_eq!(rt; fault, Some(GatherFault::Drawn { held: 1, drawn: 2 }));
-    let (service, one, two) = both_worked(&rt, alloc, uploads.as_slice())?;
-    drop((one, two));
-    let fault = service.gather(alloc, Vec::new(alloc)).err();
-    assert_eq!(rt; fault, Some(GatherFault::Drawn { held: 0, drawn: 2 }));
+    for _ in 0..TIMES {
+        let fault = fault_without_one(&rt, alloc, uploads.as_slice(), 0)?;
+        assert_eq!(rt; fault, Some(GatherFault::Drawn { held: 1, drawn: 2 }));
+        let fault = fault_without_both(&rt, alloc, uploads.as_slice())?;
+        assert_eq!(rt; fault, Some(GatherFault::Drawn { held: 0, drawn: 2 }));
+    }
     Ok(())
+}
+
+// The outcome where nobody works.
+fn unused<R: RandomSource>(rt: &R, alloc: Global, uploads: &[Vec<u8>]) -> Result<Outcome, Fail> {
+    let (service, share) = opened(rt, alloc, uploads, 8)?;
+    Ok(service.gather(alloc, vec![in alloc; share]?)?)
 }
 
 #[test]
 fn an_unused_share_is_gathered(rt: HostRuntime) -> Result<(), Fail> {
     let alloc = rt.alloc();
-    let uploads = vec![in alloc; four_rides(alloc)?, an_unknown_one(alloc)?]?;
-    let table = FareTable::read(alloc, TABLE.as_bytes())?;
-    let (service, share) = Service::open(&rt, alloc, table, 8, uploads.as_slice())?;
-    let outcome = service.gather(alloc, vec![in alloc; share]?)?;
+    let uploads = two_uploads(alloc)?;
+    let outcome = unused(&rt, alloc, uploads.as_slice())?;
     assert_eq!(rt; end_of(&outcome, 0), Some(UploadEnd::Undrawn));
     assert_eq!(rt; end_of(&outcome, 1), Some(UploadEnd::Undrawn));
     assert_eq!(rt; (outcome.workers(), outcome.totals()), (1, Totals::new()));
-    assert_eq!(rt;
-        report_of(alloc, &outcome)?.as_slice(),
-        EMPTY_REPORT.as_bytes()
-    );
-    Ok(())
+    is_reported(&rt, alloc, &outcome, EMPTY_REPORT)
 }
 
 #[test]
@@ -519,8 +611,7 @@ fn numbers_out_of_range_are_refused(rt: HostRuntime) -> Result<(), Fail> {
         assert_eq!(rt; fault, Some(OpenFault::Shards));
     }
     for workers in [0, 17] {
-        let table = FareTable::read(alloc, TABLE.as_bytes())?;
-        let (service, share) = Service::open(&rt, alloc, table, 1, uploads.as_slice())?;
+        let (service, share) = opened(&rt, alloc, uploads.as_slice(), 1)?;
         let fault = service.run(&rt, alloc, share, workers, &Open).err();
         assert_eq!(rt; fault, Some(RunFault::Workers));
     }

@@ -6,11 +6,12 @@ ghost use Rattle.fare_service.specs.Plain.{AreApart, IsPlain, IsReportOver, WasW
 ghost use Rattle.fare_service.specs.Printed.{report_of};
 ghost use Rattle.fare_service.specs.Shares.{IsShareOf};
 
-use crate::{Gate, Outcome, RunFault, Service, Share, laws};
+use fare_service::{Gate, Outcome, RunFault, Service, Share, laws};
 use fare_table::FareTable;
 use std::alloc::Global;
 use std::marker::Sync;
 use std::process::Abort;
+use std::random::RandomSource;
 use std::sync::Wait;
 use std::test::Fail;
 use std::thread::Threads;
@@ -78,16 +79,25 @@ fn report_text(alloc: Global, outcome: &Outcome) -> Result<Vec<u8>, Fail> {
     Ok(text)
 }
 
+// The outcome of a service of so many shards.
+fn posted<R: Threads + Wait + RandomSource + Sync>(
+    rt: &R,
+    alloc: Global,
+    uploads: &[Vec<u8>],
+    shards: u32,
+    workers: u32,
+) -> Result<Outcome, Fail> {
+    let table = FareTable::read(alloc, TABLE.as_bytes())?;
+    let (service, share) = Service::open(rt, alloc, table, shards, uploads)?;
+    Ok(run(service, uploads, rt, alloc, share, workers, &Open)?)
+}
+
 #[test]
 fn two_runs_have_one_report(rt: HostRuntime) -> Result<(), Fail> {
     let alloc = rt.alloc();
     let uploads = vec![in alloc; upload(alloc, 1)?, upload(alloc, 2)?]?;
-    let table = FareTable::read(alloc, TABLE.as_bytes())?;
-    let (service, share) = Service::open(&rt, alloc, table, 1, uploads.as_slice())?;
-    let one = run(service, uploads.as_slice(), &rt, alloc, share, 1, &Open)?;
-    let table = FareTable::read(alloc, TABLE.as_bytes())?;
-    let (service, share) = Service::open(&rt, alloc, table, 5, uploads.as_slice())?;
-    let other = run(service, uploads.as_slice(), &rt, alloc, share, 3, &Open)?;
+    let one = posted(&rt, alloc, uploads.as_slice(), 1, 1)?;
+    let other = posted(&rt, alloc, uploads.as_slice(), 5, 3)?;
     assert!(rt; laws::ended_whole(&one) && laws::ended_whole(&other));
     laws::same_texts(uploads.as_slice(), &one, &other);
     assert_eq!(rt;

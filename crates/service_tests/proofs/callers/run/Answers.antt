@@ -1,4 +1,4 @@
-use Rattle.fare_service.proofs.laws.callers.run.Goals as goal
+use Rattle.service_tests.proofs.callers.run.Goals as goal
 
 pub returns : goal.returns
 returns g c = λ whole history plain apart.
