@@ -5,6 +5,12 @@ use Rattle.shard_book.specs.Book.{AreOfShard, Book}
 use Rattle.fare_service.specs.Plain.{IsNamed}
 use Rattle.fare_service.proofs.laws.schedules.names.Goals as goal
 
+pub loop-shard-init : goal.loop-shard-init
+loop-shard-init c = record {
+  named = λ shard book below at. absurd (omega (arith, below));
+  here = λ shard book below at. absurd (omega (arith, below));
+}
+
 pub loop-shard-preserved : goal.loop-shard-preserved
 loop-shard-preserved c =
     let Named : ℕ → Type 0 = λ k. (book : Book) → slice_get c.args.outcome.now.books k ≡ Some book → All IsNamed book.entries in
