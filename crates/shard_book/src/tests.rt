@@ -269,30 +269,21 @@ fn stale_when_posted_again(rt: HostRuntime) -> Result<(), Fail> {
 }
 
 /// Forty taps, each of a token of its own.
-fn forty_taps(alloc: Global) -> Result<Vec<TapFields>, Fail> {
-    let mut taps = Vec::new(alloc);
+fn forty_taps() -> [TapFields; 40] {
+    let mut taps = [tap(0, SUBWAY, START); 40];
     for last in 0..40u8 {
-        taps.push(tap(last, SUBWAY, START))?;
+        taps[last as usize] = tap(last, SUBWAY, START);
     }
-    Ok(taps)
+    taps
 }
 
-fn forty_entries(alloc: Global, count: u64) -> Result<Vec<Entry>, Fail> {
-    let mut entries = Vec::new(alloc);
+/// Their entries.
+fn forty_entries() -> [Entry; 40] {
+    let mut entries = [entry(tap(0, SUBWAY, START), Answer::Paid, 300); 40];
     for last in 0..40u8 {
-        if u64::from(last) < count {
-            entries.push(entry(tap(last, SUBWAY, START), Answer::Paid, 300))?;
-        }
+        entries[last as usize] = entry(tap(last, SUBWAY, START), Answer::Paid, 300);
     }
-    Ok(entries)
-}
-
-fn forty_replies(alloc: Global) -> Result<Vec<Reply>, Fail> {
-    let mut replies = Vec::new(alloc);
-    for _ in 0..40 {
-        replies.push(reply(Answer::Paid, 300))?;
-    }
-    Ok(replies)
+    entries
 }
 
 /// The taps that a cut run has left, none where it was posted whole.
@@ -306,8 +297,8 @@ fn left(taps: &[TapFields], end: RunEnd) -> &[TapFields] {
 
 /// Whether the book's entries are the first of the forty, so many.
 fn has_first(alloc: Global, book: &ShardBook, count: u64) -> Result<bool, Fail> {
-    let wanted = forty_entries(alloc, count)?;
-    Ok(are_equal(&entries_of(alloc, book)?, &wanted))
+    let entries = entries_of(alloc, book)?;
+    Ok(are_equal(&entries, &forty_entries()[..count.min(40) as usize]))
 }
 
 /// Posts the forty taps: how it ended, and whether there are as many replies as taps were posted, and just
@@ -332,15 +323,15 @@ fn post_rest(
     out: &mut Replies,
 ) -> Result<(RunEnd, [bool; 2]), Fail> {
     let end = post(alloc, book, rest, out)?;
-    let wanted = forty_replies(alloc)?;
-    let are_replied = are_equal(&replies_of(alloc, out)?, &wanted);
+    let replies = replies_of(alloc, out)?;
+    let are_replied = are_equal(&replies, &[reply(Answer::Paid, 300); 40]);
     let is_whole = has_first(alloc, book, 40)?;
     Ok((end, [are_replied, is_whole]))
 }
 
 /// Posts the forty taps, and then what is left of them.
 fn post_twice(alloc: Global, book: &mut ShardBook) -> Result<([bool; 2], RunEnd, [bool; 2]), Fail> {
-    let taps = forty_taps(alloc)?;
+    let taps = forty_taps();
     let mut out = Replies::new(alloc);
     let (end, first) = post_forty(alloc, book, &taps, &mut out)?;
     let (end, all) = post_rest(alloc, book, left(&taps, end), &mut out)?;
