@@ -1,32 +1,58 @@
 //! The files and the standard input of the system.
 
-use crate::load::{LoadFault, Source, load_from};
-use std::rt::Files;
+use crate::ahead::{Disk, Early, take_next};
+use crate::load::{LONGEST, LoadFault, Source, load_from};
+use std::alloc::Global;
 use std::{fs, io};
+
+impl Disk for HostRuntime {
+    // What is no regular file, as a pipe, may give other bytes before its turn, or none for long.
+    fn may_be_early(&self, name: &str) -> bool {
+        match fs::metadata(self, name) {
+            Ok(about) => about.is_file() && about.len() <= LONGEST as u64,
+            Err(_) => false,
+        }
+    }
+
+    fn read(&self, alloc: Global, name: &str) -> Result<Vec<u8>, LoadFault> {
+        match fs::open(self, name) {
+            Ok(mut file) => load_from(alloc, &mut file),
+            Err(error) if error.kind() == io::ErrorKind::OutOfMemory => Err(LoadFault::NoMemory),
+            Err(_) => Err(LoadFault::Unread),
+        }
+    }
+}
 
 /// Loads from the system's files and standard input. It does not keep what it loaded.
 #[derive(Drop)]
 pub struct Host<'a, R> {
     rt: &'a R,
+    // the files that were read before their turns, the next one last
+    early: Vec<Early>,
 }
 
-impl<'a, R> Host<'a, R> {
+impl<'a, R: AllocGlobal> Host<'a, R> {
     /// What this runtime reaches.
     pub fn new(rt: &'a R) -> Host<'a, R> {
-        Host { rt }
+        Host {
+            rt,
+            early: Vec::new(rt.alloc()),
+        }
     }
 }
 
-impl<R: Files + Input + AllocGlobal> Source for Host<'_, R>
+impl<R: Disk + Input + AllocGlobal> Source for Host<'_, R>
 where
-    R::File: Drop,
     R::Reader: Drop,
 {
+    fn keep_early(&mut self, early: Vec<Early>) {
+        self.early = early;
+    }
+
     fn load(&mut self, name: &str) -> Result<Vec<u8>, LoadFault> {
-        match fs::open(self.rt, name) {
-            Ok(mut file) => load_from(self.rt.alloc(), &mut file),
-            Err(error) if error.kind() == io::ErrorKind::OutOfMemory => Err(LoadFault::NoMemory),
-            Err(_) => Err(LoadFault::Unread),
+        match take_next(&mut self.early, name) {
+            Some(loaded) => loaded,
+            None => self.rt.read(self.rt.alloc(), name),
         }
     }
 

@@ -2,6 +2,7 @@
 ghost use Rattle.std.specs.Prelude.{◌≡◌, ◌<◌, ◌≤◌, List, length, IfOk, IfSome, Some, None, IsErrOf};
 ghost use Rattle.omny_cli.specs.Source.{TellsOne};
 
+use crate::ahead::Early;
 use std::alloc::{AllocError, Global};
 use std::io::Read;
 use thiserror::Error;
@@ -38,11 +39,16 @@ impl From<AllocError> for LoadFault {
 
 /// Where the program's bytes come from.
 pub trait Source {
-    ghost use Rattle.std.specs.Prelude.{List, Option, None};
+    ghost use Rattle.std.specs.Prelude.{◌≡◌, List, Option, None};
     ghost use Rattle.omny_cli.specs.Source.{Loaded};
 
     // What was loaded so far, in order, by a source that keeps it.
     ghost loaded: { Self → Option (List Loaded) } = { λ _. None };
+
+    /// Takes what was read of the next files before their turns, the first one last. None is loaded by it: each is given, or its
+    /// fault told, when it is loaded by its name.
+    fn keep_early(&mut self, early: Vec<Early>)
+        ensures { loaded self.new ≡ loaded self.old };
 
     /// All bytes of the file of this name. What a fault leaves loaded is not told.
     fn load(&mut self, name: &str) -> Result<Vec<u8>, LoadFault>

@@ -4,7 +4,7 @@
 //! | module | what it does |
 //! |---|---|
 //! | `asked`, `options` | what a command line asks for; its words, as `clap` reads them |
-//! | `load`, `host` | whole files from a source; the system's files as one |
+//! | `load`, `host`, `ahead` | whole files from a source; the system's files as one; those that were read before their turns |
 //! | `listing` | the word of each tap, from those before it |
 //! | `lines`, `uploads` | the text of a listing |
 //! | `run` | a run of the service, and the text of its outcome |
@@ -13,6 +13,7 @@
 //! | `program` | the whole, over any source and any two writers |
 #![tactic(auto)]
 
+mod ahead;
 mod asked;
 mod fault;
 mod host;
@@ -46,6 +47,7 @@ fn main(rt: HostRuntime) -> ExitCode {
             &rt,
             rt.alloc(),
             &words,
+            &rt,
             &mut Host::new(&rt),
             &mut rt.stdout(),
             &mut err,

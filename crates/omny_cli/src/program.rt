@@ -10,6 +10,7 @@ ghost use Rattle.omny_cli.specs.Program.{Does, IsRun, IsTokenIn, Loads, LoadsFil
 ghost use Rattle.omny_cli.specs.Source.{TellsOne};
 ghost use Rattle.omny_cli.specs.Uploads.{IsListing};
 
+use crate::ahead::{Disk, read_early};
 use crate::asked::Options;
 use crate::fault::Fault;
 use crate::load::Source;
@@ -78,10 +79,13 @@ fn load_table<'a, S: Source>(
     Ok(Some(table))
 }
 
-// The files of these names, in their order, or standard input where there is none.
-fn load_files<'a, S: Source>(
+// The files of these names, in their order, or standard input where there is none. Several workers may read several files at once.
+fn load_files<'a, R: Threads + Sync, D: Disk + Sync, S: Source>(
+    rt: &R,
     alloc: Global,
+    disk: &D,
     names: &[&'a str],
+    workers: u32,
     source: &mut S,
 ) -> Result<Vec<Vec<u8>>, Fault<'a>>
     ensures ok { IfOk result (λ files. LoadsFiles (wanted (map (λ n. n.now) names.now))
@@ -94,6 +98,8 @@ fn load_files<'a, S: Source>(
         push(&mut files, bytes)?;
         return Ok(files);
     }
+    let early = read_early(rt, alloc, disk, names, workers as usize);
+    source.keep_early(early);
     for name in names {
         let bytes = load_named(source, name)?;
         push(&mut files, bytes)?;
@@ -109,8 +115,10 @@ fn push(files: &mut Vec<Vec<u8>>, bytes: Vec<u8>) -> Result<(), NoMemory>
 }
 
 // Table and files, the table first.
-fn load<'a, S: Source>(
+fn load<'a, R: Threads + Sync, D: Disk + Sync, S: Source>(
+    rt: &R,
     alloc: Global,
+    disk: &D,
     options: &Options<'a>,
     source: &mut S,
 ) -> Result<(Option<FareTable>, Vec<Vec<u8>>), Fault<'a>>
@@ -119,7 +127,7 @@ fn load<'a, S: Source>(
     ensures status { IfErr result (λ fault. status_of fault ≡ 1) }
 {
     let table = load_table(alloc, options.table, source)?;
-    let files = load_files(alloc, &options.files, source)?;
+    let files = load_files(rt, alloc, disk, &options.files, options.workers, source)?;
     Ok((table, files))
 }
 
@@ -185,9 +193,10 @@ fn charge<'a, R: Threads + Wait + RandomSource + Sync, W: Write>(
 // Does what is asked for, and says whether each upload was listed without a layout fault, or posted
 // whole. The token is looked at first, then the table is loaded, then the files, and the whole text
 // is made before it is written.
-fn work<'a, R: Threads + Wait + RandomSource + Sync, S: Source, W: Write>(
+fn work<'a, R: Threads + Wait + RandomSource + Sync, D: Disk + Sync, S: Source, W: Write>(
     rt: &R,
     alloc: Global,
+    disk: &D,
     options: &Options<'a>,
     source: &mut S,
     out: &mut W,
@@ -204,7 +213,7 @@ fn work<'a, R: Threads + Wait + RandomSource + Sync, S: Source, W: Write>(
     ensures unloaded { IfErr result (λ fault. status_of fault ≡ 2 → S.loaded source.new ≡ S.loaded source.old) }
 {
     let token = token_of(options)?;
-    let (table, files) = load(alloc, options, source)?;
+    let (table, files) = load(rt, alloc, disk, options, source)?;
     match table {
         Some(table) if !options.list => charge(rt, alloc, options, table, token, &files, out),
         table => list(alloc, table, &files, out),
@@ -252,17 +261,16 @@ fn show<W: Write, E: Write>(error: &Error, out: &mut W, err: &mut E) -> u8
 }
 
 /// The whole program: reads the words, of which the first is the program's name, loads what they name
-/// from the source, does what they ask for, and writes its text to `out`, and mistakes and faults to
+/// from the source, where several workers may read files from the disk before their turns, does what they ask for, and writes its text to `out`, and mistakes and faults to
 /// `err`. Gives the status: 0 where all is well, 1 after a fault, or a text that tells of one, 2 where
 /// the words are no command line.
-pub fn main_over<R: Threads + Wait + RandomSource + Sync, S: Source, W: Write, E: Write>(
-    rt: &R,
-    alloc: Global,
-    words: &[String],
-    source: &mut S,
-    out: &mut W,
-    err: &mut E,
-) -> u8
+pub fn main_over<
+    R: Threads + Wait + RandomSource + Sync,
+    D: Disk + Sync,
+    S: Source,
+    W: Write,
+    E: Write,
+>(rt: &R, alloc: Global, words: &[String], disk: &D, source: &mut S, out: &mut W, err: &mut E) -> u8
     // With status 0 the whole text was written, and each upload is well.
     ensures done { Parses (map string_bytes words.now) → result ≡ 0
         → Does (asked_by (map string_bytes words.now)) (S.loaded source.old) (S.loaded source.new)
@@ -289,7 +297,7 @@ pub fn main_over<R: Threads + Wait + RandomSource + Sync, S: Source, W: Write, E
         Ok(options) => options,
         Err(error) => return show(&error, out, err),
     };
-    match work(rt, alloc, &options, source, out) {
+    match work(rt, alloc, disk, &options, source, out) {
         Ok(true) => 0,
         Ok(false) => 1,
         Err(fault) => tell(err, &fault),

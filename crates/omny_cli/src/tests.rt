@@ -2,20 +2,21 @@
 //! files. Each public function is called once with ample memory.
 ghost use Rattle.std.specs.Prelude.{◌≡◌, ◌++◌, ◌∷◌, [], IfOk, OnOk, Some, map, option_map, string_bytes};
 
-use crate::host::Host;
+use crate::ahead::{Disk, Early};
 use crate::listing::{ListCounts, Listing, Word};
 use crate::load::{LONGEST, LoadFault, Source, load_from};
 use crate::program::{main_over, unread_words};
 use std::alloc::{AllocError, Global};
+use std::io;
 use std::io::{Read, Write};
 use std::marker::Sync;
 use std::random::RandomSource;
 use std::sync::Wait;
 use std::test::Fail;
 use std::thread::Threads;
-use std::{fs, io};
 use tap_views::Batch;
 
+mod loading;
 mod service;
 
 // Two taps of one token: validator 1000 at 2024-03-08T17:00Z, validator 2000 two hours later.
@@ -139,6 +140,8 @@ impl<'a> Shelf<'a> {
 impl Source for Shelf<'_> {
     ghost loaded = { λ s. Some (map (λ g. record { name = option_map string_bytes g.name; bytes = g.bytes.items }) s.given.items) };
 
+    fn keep_early(&mut self, _: Vec<Early>) {}
+
     fn load(&mut self, name: &str) -> Result<Vec<u8>, LoadFault> {
         let content = self.content(name);
         let name = String::from_str(self.alloc, name)?;
@@ -176,6 +179,19 @@ fn keep(given: &mut Vec<Given>, name: Option<String>, bytes: Vec<u8>) -> Result<
     Ok(())
 }
 
+// A disk of which nothing is read before its turn.
+struct NoDisk;
+
+impl Disk for NoDisk {
+    fn may_be_early(&self, _: &str) -> bool {
+        false
+    }
+
+    fn read(&self, _: Global, _: &str) -> Result<Vec<u8>, LoadFault> {
+        Err(LoadFault::Unread)
+    }
+}
+
 // What a run left behind.
 #[derive(Drop)]
 struct Ran {
@@ -191,6 +207,17 @@ fn run_on<R: Threads + Wait + RandomSource + Sync>(
     words: &[&str],
     shelf: &mut Shelf<'_>,
 ) -> Result<Ran, AllocError> {
+    run_over(rt, alloc, words, &NoDisk, shelf)
+}
+
+// Runs it over a disk and a source.
+fn run_over<R: Threads + Wait + RandomSource + Sync, D: Disk + Sync, S: Source>(
+    rt: &R,
+    alloc: Global,
+    words: &[&str],
+    disk: &D,
+    source: &mut S,
+) -> Result<Ran, AllocError> {
     let mut texts = Vec::new(alloc);
     texts.push(String::from_str(alloc, "omny_cli")?)?;
     for word in words {
@@ -198,7 +225,7 @@ fn run_on<R: Threads + Wait + RandomSource + Sync>(
     }
     let mut out = Vec::new(alloc);
     let mut err = Vec::new(alloc);
-    let status = main_over(rt, alloc, &texts, shelf, &mut out, &mut err);
+    let status = main_over(rt, alloc, &texts, disk, source, &mut out, &mut err);
     Ok(Ran { status, out, err })
 }
 
@@ -467,7 +494,15 @@ fn tells_of_a_write_that_fails(rt: HostRuntime) -> Result<(), Fail> {
     for room in 0..length + 1 {
         let mut shelf = Shelf::new(alloc, &[], Content::Bytes(&bytes));
         let mut err = Vec::new(alloc);
-        let status = main_over(&rt, alloc, &words, &mut shelf, &mut Full { room }, &mut err);
+        let status = main_over(
+            &rt,
+            alloc,
+            &words,
+            &NoDisk,
+            &mut shelf,
+            &mut Full { room },
+            &mut err,
+        );
         let line = if room < length {
             b"fault: cannot write\n".as_slice()
         } else {
@@ -481,6 +516,7 @@ fn tells_of_a_write_that_fails(rt: HostRuntime) -> Result<(), Fail> {
         &rt,
         alloc,
         &words,
+        &NoDisk,
         &mut shelf,
         &mut Full { room: 9 },
         &mut Full { room: 9 },
@@ -502,6 +538,7 @@ fn tells_of_help_that_cannot_be_written(rt: HostRuntime) -> Result<(), Fail> {
         &rt,
         alloc,
         &words,
+        &NoDisk,
         &mut shelf,
         &mut Full { room: 9 },
         &mut err,
@@ -509,7 +546,9 @@ fn tells_of_help_that_cannot_be_written(rt: HostRuntime) -> Result<(), Fail> {
     assert_eq!(rt; err.as_slice(), b"fault: cannot write\n".as_slice());
     assert_eq!(rt; status, 1);
     let mut err = Vec::new(alloc);
-    let status = main_over(&rt, alloc, &words, &mut shelf, &mut Stuck, &mut err);
+    let status = main_over(
+        &rt, alloc, &words, &NoDisk, &mut shelf, &mut Stuck, &mut err,
+    );
     assert_eq!(rt; err.as_slice(), b"fault: cannot write\n".as_slice());
     assert_eq!(rt; status, 1);
     Ok(())
@@ -534,18 +573,6 @@ fn tells_of_words_that_cannot_be_had(rt: HostRuntime) -> Result<(), Fail> {
         );
         assert_eq!(rt; err.as_slice(), line.as_bytes(), "{line}");
     }
-    Ok(())
-}
-
-// The system's files: no contract says what a file holds.
-#[test]
-fn loads_files_of_the_system(rt: HostRuntime) -> Result<(), Fail> {
-    let name = "loads_files_of_the_system.tap";
-    fs::write(&rt, name, "TAP1 and more")?;
-    let loaded = Host::new(&rt).load(name);
-    fs::remove_file(&rt, name)?;
-    assert_eq!(rt; loaded?.as_slice(), b"TAP1 and more".as_slice());
-    assert_eq!(rt; Host::new(&rt).load(name).err(), Some(LoadFault::Unread));
     Ok(())
 }
 

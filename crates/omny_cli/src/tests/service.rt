@@ -1,6 +1,6 @@
 //! Runs of the service by the whole program: reports, statements, and what keeps it from them.
 
-use super::{CUT, Content, FIRST, Full, OTHER, Ran, SAMPLE, Shelf, Stuck, run_on};
+use super::{CUT, Content, FIRST, Full, NoDisk, OTHER, Ran, SAMPLE, Shelf, Stuck, run_on};
 use crate::load::LoadFault;
 use crate::program::main_over;
 use std::alloc::{AllocError, Global};
@@ -245,7 +245,15 @@ fn tells_of_a_report_that_cannot_be_written(rt: HostRuntime) -> Result<(), Fail>
         let input = Content::Bytes(&uploads.first);
         let mut shelf = Shelf::new(alloc, files.as_slice(), input);
         let mut err = Vec::new(alloc);
-        let status = main_over(&rt, alloc, &words, &mut shelf, &mut Full { room }, &mut err);
+        let status = main_over(
+            &rt,
+            alloc,
+            &words,
+            &NoDisk,
+            &mut shelf,
+            &mut Full { room },
+            &mut err,
+        );
         let line = if room < length {
             b"fault: cannot write\n".as_slice()
         } else {
@@ -259,7 +267,7 @@ fn tells_of_a_report_that_cannot_be_written(rt: HostRuntime) -> Result<(), Fail>
         let input = Content::Bytes(&uploads.first);
         let mut shelf = Shelf::new(alloc, files.as_slice(), input);
         let mut err = Vec::new(alloc);
-        let status = main_over(&rt, alloc, words, &mut shelf, &mut Stuck, &mut err);
+        let status = main_over(&rt, alloc, words, &NoDisk, &mut shelf, &mut Stuck, &mut err);
         assert_eq!(rt; err.as_slice(), b"fault: cannot write\n".as_slice());
         assert_eq!(rt; status, 1);
     }

@@ -1,0 +1,191 @@
+//! The system's files: no contract says what a file holds.
+
+use super::{FIRST, FIRST_LINES, OTHER, run_over};
+use crate::ahead::{Disk, Early, read_early, take_next};
+use crate::host::Host;
+use crate::load::{LoadFault, Source};
+use std::alloc::Global;
+use std::fs;
+use std::test::Fail;
+
+#[test]
+fn loads_files_of_the_system(rt: HostRuntime) -> Result<(), Fail> {
+    let name = "loads_files_of_the_system.tap";
+    fs::write(&rt, name, "TAP1 and more")?;
+    let loaded = Host::new(&rt).load(name);
+    fs::remove_file(&rt, name)?;
+    assert_eq!(rt; loaded?.as_slice(), b"TAP1 and more".as_slice());
+    assert_eq!(rt; Host::new(&rt).load(name).err(), Some(LoadFault::Unread));
+    Ok(())
+}
+
+// Each file holds its own name. One is named twice, and they are also loaded in another order than that in which they were read.
+#[test]
+fn loads_each_early_file_under_its_name(rt: HostRuntime) -> Result<(), Fail> {
+    let [a, b, c] = ["each_a.tap", "each_b.tap", "each_c.tap"];
+    for name in [a, b, c] {
+        fs::write(&rt, name, name)?;
+    }
+    for workers in [1, 2, 3, 16] {
+        for order in [[a, b, a, c], [c, b, a, a], [b, a, c, a]] {
+            let mut host = Host::new(&rt);
+            host.keep_early(read_early(&rt, rt.alloc(), &rt, &[a, b, a, c], workers));
+            for name in order {
+                let loaded = host.load(name)?;
+                assert_eq!(rt; loaded.as_slice(), name.as_bytes(), "by {workers}");
+            }
+        }
+    }
+    for name in [a, b, c] {
+        fs::remove_file(&rt, name)?;
+    }
+    Ok(())
+}
+
+// What a file holds at first, and when its turn comes, says when it was read: here of files with a folder between them.
+#[test]
+fn reads_files_early_for_several_workers_alone(rt: HostRuntime) -> Result<(), Fail> {
+    let [a, b, c, folder] = ["early_a.tap", "early_b.tap", "early_c.tap", "early_folder"];
+    fs::create_dir(&rt, folder)?;
+    for (workers, seen) in [(1, "late"), (2, "soon"), (16, "soon")] {
+        for name in [a, b, c] {
+            fs::write(&rt, name, "soon")?;
+        }
+        let mut host = Host::new(&rt);
+        host.keep_early(read_early(&rt, rt.alloc(), &rt, &[a, b, folder, c], workers));
+        for name in [a, b, c] {
+            fs::write(&rt, name, "late")?;
+        }
+        assert_eq!(rt; host.load(a)?.as_slice(), seen.as_bytes(), "by {workers}");
+        assert_eq!(rt; host.load(b)?.as_slice(), seen.as_bytes(), "by {workers}");
+        assert_eq!(rt; host.load(folder).err(), Some(LoadFault::Unread));
+        assert_eq!(rt;
+            host.load(c)?.as_slice(),
+            b"late".as_slice(),
+            "by {workers}"
+        );
+    }
+    for name in [a, b, c] {
+        fs::remove_file(&rt, name)?;
+    }
+    fs::remove_dir(&rt, folder)?;
+    Ok(())
+}
+
+// A disk on which each file holds its own name, but for some.
+struct Names;
+
+impl Disk for Names {
+    fn may_be_early(&self, name: &str) -> bool {
+        name != "pipe"
+    }
+
+    fn read(&self, alloc: Global, name: &str) -> Result<Vec<u8>, LoadFault> {
+        match name {
+            "none" => Err(LoadFault::Unread),
+            "long" => Err(LoadFault::TooLong),
+            "large" => Err(LoadFault::NoMemory),
+            _ => Ok(Vec::from_slice(alloc, name.as_bytes())?),
+        }
+    }
+}
+
+// Each thread's part ends behind the first fault, and before the first file for which there is no memory.
+#[test]
+fn reads_parts_up_to_a_fault(rt: HostRuntime) -> Result<(), Fail> {
+    let alloc = rt.alloc();
+    let rows = [
+        (["a", "b", "c", "d"], "d c b a "),
+        (["a", "none", "c", "d"], "d c none a "),
+        (["none", "b", "long", "d"], "long none "),
+        (["large", "b", "c", "large"], "c "),
+        (["a", "b", "c", "pipe"], "c b a "),
+        (["a", "pipe", "c", "d"], "a "),
+        (["pipe", "b", "c", "d"], ""),
+    ];
+    for (names, told) in rows {
+        let mut text = String::new(alloc);
+        for file in read_early(&rt, alloc, &Names, &names, 2) {
+            write!(text, "{} ", file.name)?;
+            match file.loaded {
+                Ok(bytes) => assert_eq!(rt; bytes.as_slice(), file.name.as_bytes()),
+                Err(fault) => assert_eq!(rt;
+                    Names.read(alloc, file.name.as_str()).err(),
+                    Some(fault)
+                ),
+            }
+        }
+        assert_eq!(rt; text.as_str(), told, "{names:?}");
+    }
+    Ok(())
+}
+
+#[test]
+fn takes_the_next_file_by_its_name(rt: HostRuntime) -> Result<(), Fail> {
+    let alloc = rt.alloc();
+    let mut early = Vec::new(alloc);
+    for (name, fault) in [("b", LoadFault::TooLong), ("a", LoadFault::Unread)] {
+        let name = String::from_str(alloc, name)?;
+        let loaded = Err(fault);
+        early.push(Early { name, loaded })?;
+    }
+    assert!(rt; take_next(&mut early, "b").is_none());
+    let taken = take_next(&mut early, "a").and_then(|loaded| loaded.err());
+    assert_eq!(rt; taken, Some(LoadFault::Unread));
+    assert_eq!(rt; early.len(), 1);
+    Ok(())
+}
+
+#[test]
+fn lists_files_as_ever_for_any_number_of_workers(rt: HostRuntime) -> Result<(), Fail> {
+    let alloc = rt.alloc();
+    let [a, b] = ["listed_a.tap", "listed_b.tap"];
+    fs::write(&rt, a, hex::decode(alloc, FIRST)?.as_slice())?;
+    fs::write(&rt, b, hex::decode(alloc, OTHER)?.as_slice())?;
+    let text = format!(in alloc;
+        "{FIRST_LINES}\
+1 0 000000000000000000000000000000b2 9 1709917200010 live
+1 1 000000000000000000000000000000b2 1000 1709917200005 stale
+2 0 000000000000000000000000000000a1 1000 1709917200000 stale
+2 1 000000000000000000000000000000a1 2000 1709924400000 stale
+taps 6 live 3 stale 3 unknown 0
+"
+    )?;
+    for workers in ["1", "2", "3", "16"] {
+        let words = ["--workers", workers, a, b, a];
+        let ran = run_over(&rt, alloc, words.as_slice(), &rt, &mut Host::new(&rt))?;
+        assert_eq!(rt; ran.out.as_slice(), text.as_bytes(), "by {workers}");
+        assert_eq!(rt; ran.status, 0, "by {workers}");
+    }
+    fs::remove_file(&rt, a)?;
+    fs::remove_file(&rt, b)?;
+    Ok(())
+}
+
+// The first file that cannot be read is named, where a later one cannot be read either.
+#[test]
+fn names_the_first_file_that_cannot_be_read(rt: HostRuntime) -> Result<(), Fail> {
+    let alloc = rt.alloc();
+    let [file, folder] = ["named.tap", "named_folder"];
+    fs::write(&rt, file, "")?;
+    fs::create_dir(&rt, folder)?;
+    let rows = [
+        ([file, "none.tap", file, folder], "none.tap"),
+        ([file, file, folder, "none.tap"], folder),
+        (["none.tap", file, file, "no.tap"], "none.tap"),
+    ];
+    for workers in ["1", "2", "3", "16"] {
+        for (files, named) in rows {
+            let [first, second, third, last] = files;
+            let words = ["--workers", workers, first, second, third, last];
+            let ran = run_over(&rt, alloc, words.as_slice(), &rt, &mut Host::new(&rt))?;
+            let line = format!(in alloc; "fault: cannot read {named}\n")?;
+            assert_eq!(rt; ran.err.as_slice(), line.as_bytes(), "by {workers}");
+            assert_eq!(rt; ran.status, 1, "by {workers}");
+            assert_eq!(rt; ran.out.len(), 0, "by {workers}");
+        }
+    }
+    fs::remove_file(&rt, file)?;
+    fs::remove_dir(&rt, folder)?;
+    Ok(())
+}
