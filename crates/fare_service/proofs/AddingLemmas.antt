@@ -1,12 +1,12 @@
 -- Sums over the books, over the workers and over the uploads are one.
-use Rattle.std.specs.Prelude.{ℕ, zero, suc, ◌≡◌, ◌≢◌, ◌⊎◌, ◌+◌, ◌<◌, ◌≤◌, ◌==◌, Bool, true, false, cond, List, [], ◌∷◌, ◌++◌, length, map, filter, take, drop, get_or, replicate, All, slice_get, Some, sum_by, count_by}
+use Rattle.std.specs.Prelude.{ℕ, zero, suc, ◌≡◌, ◌≢◌, ◌⊎◌, ◌+◌, ◌<◌, ◌≤◌, ◌==◌, Bool, true, false, cond, List, [], ◌∷◌, ◌++◌, length, map, filter, take, drop, get_or, replicate, All, slice_get, Some, sum_by}
 use Rattle.std.specs.List.{flat_map}
-use Rattle.std.proofs.Common.{refl, sym, ◌∙◌, ap, inl, inr, subst, arith, eq-eqb, ne_eqb}
+use Rattle.std.proofs.Common.{refl, sym, ◌∙◌, ap, inl, inr, arith, eq-eqb, ne_eqb}
 use Rattle.std.proofs.lemmas.Bool.Decides.{eqb_tells}
 use Rattle.std.proofs.lemmas.List.{length-append, append-nil, take_more, drop_more, drop_all}
 use Rattle.std.proofs.lemmas.Grind.{flat_map-append}
 use Rattle.std.proofs.lemmas.List.Sums.{sum_by-cons, sum_by-append}
-use Rattle.std.proofs.lemmas.List.Elements.{All-nil, All-cons, All-head, All-tail, All-append, All-weaker}
+use Rattle.std.proofs.lemmas.List.Elements.{All-nil, All-head, All-tail, All-append, All-weaker}
 use Rattle.account_rule.specs.declared.reply.Reply.{Reply}
 use Rattle.shard_book.specs.declared.entry.Entry.{Entry}
 use Rattle.shard_book.specs.Book.{Book}
@@ -14,21 +14,21 @@ use Rattle.shard_book.specs.Entry.{reply_of}
 use Rattle.shard_book.specs.Groups.{all_entries}
 use Rattle.shard_book.specs.declared.totals.Totals.{Totals}
 use Rattle.shard_book.specs.Sums.{Sums, sums, sums_of, sums_of_replies, add_sums, is_paid, is_transfer, is_capped, is_stale, is_unknown}
-use Rattle.shared_books.specs.Drawing.{NoneTwice, times}
+use Rattle.shared_books.specs.Drawing.{NoneTwice}
 use Rattle.shared_books.specs.Marks.{joined}
 use Rattle.fare_table.specs.Fares.{Fares}
 use Rattle.fare_service.specs.declared.upload_end.UploadEnd.{UploadEnd}
 use Rattle.fare_service.specs.declared.upload_end.UploadEnd.TheVariants.{Posted, Refused, Cut, Undrawn}
 use Rattle.fare_service.specs.Adding.{add_all, taps_told, AddUp}
-use Rattle.fare_service.specs.Gathering.{Signed, by_worker, IsBookOfWork, all_works, end_of, IsGathered}
+use Rattle.fare_service.specs.Gathering.{Signed, IsBookOfWork, all_works, end_of, IsGathered}
 use Rattle.fare_service.specs.Closing.{IsClosedWork}
 use Rattle.fare_service.specs.Halls.{Hall, IsHall, shards_of, upload_at}
 use Rattle.fare_service.specs.Holdings.{Holding}
 use Rattle.fare_service.specs.Joining.{told_all}
 use Rattle.fare_service.specs.Outcomes.{Gathered}
-use Rattle.fare_service.specs.Runs.{Visit, IsEntered, visits_to, entries_to, entries_of, taps_posted}
+use Rattle.fare_service.specs.Runs.{Visit, IsEntered, visits_to, entries_of, taps_posted}
 use Rattle.fare_service.specs.Shares.{Worked, all_visits, IsWorked, IsEndOf, IsShareOf}
-use Rattle.fare_service.proofs.GatherLemmas.{has_outcome, drawn_times, times_same, times_other, fewer_after, not_drawn, end_same, end_other}
+use Rattle.fare_service.proofs.GatherLemmas.{has_outcome, times_same, fewer_after, not_drawn, end_same, end_other}
 use Rattle.fare_service.proofs.VisitLemmas.{same_seven, sums-append, add_none}
 
 -- f of the first n numbers, added up

@@ -14,8 +14,8 @@ use Rattle.shared_books.specs.Marks.{joined}
 use Rattle.shared_books.specs.Passes.{Opened, Knowledge}
 use Rattle.fare_service.specs.declared.faults.GatherFault.{GatherFault}
 use Rattle.fare_service.specs.declared.faults.GatherFault.TheVariants.{NoMemory, Missing, Drawn}
-use Rattle.fare_service.specs.Closing.{AreClosed, AreUnseen, IsClosedBy, IsUnseen, IsHistoryOf, IsClosedWork, IsMissing, NoneMissing, IsWhole, IsFirst, IsFirstMissing, IsFirstUnseen}
-use Rattle.fare_service.specs.Faults.{IsGatherFault, visits_held, uploads_held}
+use Rattle.fare_service.specs.Closing.{AreClosed, AreUnseen, IsClosedBy, IsUnseen, IsHistoryOf, IsClosedWork, IsWhole, IsFirst, IsFirstMissing, IsFirstUnseen}
+use Rattle.fare_service.specs.Faults.{uploads_held}
 use Rattle.fare_service.specs.Holdings.{Holding}
 use Rattle.fare_service.specs.Joining.{AreSigns, IsJoinedOf}
 use Rattle.fare_service.specs.Shares.{books_of, marks_at}

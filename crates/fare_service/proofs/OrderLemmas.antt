@@ -1,17 +1,17 @@
 -- The posting order has each tap of the batches, once.
-use Rattle.std.specs.Prelude.{ℕ, zero, suc, ◌≡◌, ◌≢◌, ◌⊎◌, ◌+◌, ◌<◌, ◌≤◌, ◌==◌, ◌%◌, Bool, true, false, cond, List, [], ◌∷◌, ◌++◌, length, filter, All, sum_by, count_by}
+use Rattle.std.specs.Prelude.{ℕ, zero, suc, ◌≡◌, ◌≢◌, ◌⊎◌, ◌+◌, ◌<◌, ◌≤◌, ◌==◌, true, false, cond, List, [], ◌∷◌, ◌++◌, length, All, sum_by, count_by}
 use Rattle.std.specs.List.{flat_map}
-use Rattle.std.proofs.Common.{refl, sym, ◌∙◌, ap, inl, inr, append-nil, arith, length-append, add_assoc, eq-eqb, ne_eqb}
+use Rattle.std.proofs.Common.{refl, sym, ◌∙◌, ap, inl, inr, append-nil, arith, eq-eqb, ne_eqb}
 use Rattle.std.proofs.lemmas.Bool.{cases_lt}
 use Rattle.std.proofs.lemmas.Bool.Decides.{eqb_tells}
 use Rattle.std.proofs.lemmas.List.Concat.{flat_map-append}
 use Rattle.std.proofs.lemmas.List.Elements.{All-nil, All-cons, All-weaker, filter-append}
-use Rattle.std.proofs.lemmas.List.Sums.{sum_by-cons, sum_by-append}
-use Rattle.tap_views.specs.Layout.{Tap, num}
+use Rattle.std.proofs.lemmas.List.Sums.{sum_by-cons}
+use Rattle.tap_views.specs.Layout.{Tap}
 use Rattle.tap_views.specs.Shards.{shard_of_token}
 use Rattle.fare_service.specs.Placing.{in_posting_order, in_file_order, IsReordered}
-use Rattle.fare_service.specs.Runs.{PlacedTap, placed_from, of_shard, Run, run, if_any, runs_below, runs_of}
-use Rattle.fare_service.proofs.AddingLemmas.{sum_below, sum_below-same, sum_by_key, length_sum}
+use Rattle.fare_service.specs.Runs.{PlacedTap, placed_from, of_shard, Run, if_any, runs_below, runs_of}
+use Rattle.fare_service.proofs.AddingLemmas.{sum_below, sum_by_key, length_sum}
 use Rattle.fare_service.proofs.PlacedVisits.{filter_all, filter_none, own_taps}
 use Rattle.fare_service.proofs.TapCounts.{length-placed}
 

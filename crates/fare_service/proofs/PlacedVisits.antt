@@ -1,7 +1,7 @@
 -- What was posted of an upload: its visits' taps, shard by shard.
 use Rattle.std.specs.Prelude.{ℕ, zero, suc, ◌≡◌, ◌≢◌, ◌⊎◌, ◌+◌, ◌<◌, ◌==◌, Bool, true, false, cond, List, [], ◌∷◌, ◌++◌, length, map, filter, take, drop, All}
 use Rattle.std.specs.List.{flat_map}
-use Rattle.std.proofs.Common.{refl, sym, ◌∙◌, ap, inl, inr, subst, append-nil, append_assoc, arith, length-append, length-take, eqb-true, eq-eqb, ne_eqb}
+use Rattle.std.proofs.Common.{refl, sym, ◌∙◌, ap, inl, inr, subst, append-nil, append_assoc, arith, length-append, eqb-true, eq-eqb, ne_eqb}
 use Rattle.std.proofs.lemmas.Bool.Decides.{eqb_tells}
 use Rattle.std.proofs.lemmas.List.{length-map, length-take-le, take_at, take-append-drop}
 use Rattle.std.proofs.lemmas.List.Concat.{flat_map-append}
@@ -9,7 +9,6 @@ use Rattle.std.proofs.lemmas.List.Elements.{All-nil, All-cons, All-head, All-tai
 use Rattle.tap_views.specs.Layout.{Tap}
 use Rattle.tap_views.specs.Files.{IsFile}
 use Rattle.tap_views.specs.Shards.{shard_of_token}
-use Rattle.shard_book.specs.declared.entry.Entry.{Entry}
 use Rattle.shard_book.specs.Entry.{IsEntryOf}
 use Rattle.shared_books.specs.Drawing.{NoneTwice}
 use Rattle.fare_service.specs.declared.upload_end.UploadEnd.{UploadEnd}

@@ -1,12 +1,11 @@
 -- For which tap each entry of a book stands.
 use Rattle.std.specs.Prelude.{ℕ, zero, suc, ◌≡◌, ◌≢◌, ◌⊎◌, ◌+◌, ◌<◌, ◌≤◌, ◌==◌, Bool, true, false, cond, List, [], ◌∷◌, ◌++◌, length, map, filter, All, Option, slice_get, Some, None}
 use Rattle.std.specs.List.{flat_map, AllZip}
-use Rattle.std.proofs.Common.{refl, sym, ◌∙◌, ap, inl, inr, subst, arith, get_or, length-append, eq-eqb, eqb-true, ne_eqb}
+use Rattle.std.proofs.Common.{refl, sym, ◌∙◌, ap, inl, inr, subst, arith, get_or, eq-eqb, eqb-true, ne_eqb}
 use Rattle.std.proofs.lemmas.Bool.{cases_lt, cases_Bool}
 use Rattle.std.proofs.lemmas.Bool.Decides.{eqb_tells}
 use Rattle.std.proofs.lemmas.List.{map-append, length-map, nil_from_length, get_or_past}
-use Rattle.std.proofs.lemmas.List.Concat.{flat_map-append}
-use Rattle.std.proofs.lemmas.List.Elements.{All-nil, All-cons, All-head, All-tail, All-append, All-filter, All-weaker, All-map, All-get_or, filter-append}
+use Rattle.std.proofs.lemmas.List.Elements.{All-nil, All-cons, All-head, All-tail, All-append, All-filter, All-weaker, All-map, filter-append}
 use Rattle.std.proofs.lemmas.List.Sums.{sum_by-append, sum_by-cons}
 use Rattle.std.proofs.lemmas.Option.{slice_get-get_or}
 use Rattle.shard_book.specs.declared.entry.Entry.{Entry}
@@ -15,13 +14,13 @@ use Rattle.shard_book.specs.Entry.{IsEntryOf}
 use Rattle.shared_books.specs.Drawing.{NoneTwice, times}
 use Rattle.shared_books.specs.Marks.{joined}
 use Rattle.fare_service.specs.declared.upload_end.UploadEnd.{UploadEnd}
-use Rattle.fare_service.specs.Gathering.{Signed, by_worker, IsBookOfWork, all_works, end_of, IsGathered, HasOutcome}
+use Rattle.fare_service.specs.Gathering.{Signed, by_worker, IsBookOfWork, all_works, IsGathered}
 use Rattle.fare_service.specs.Halls.{Hall, shards_of, upload_at}
 use Rattle.fare_service.specs.Outcomes.{Gathered}
 use Rattle.fare_service.specs.Placing.{Origin, of_upload, IsEntryOfOrigin, StandOnce, WerePostedOf}
 use Rattle.fare_service.specs.Runs.{PlacedTap, taps_of, of_shard, Visit, IsEntered, visits_to, entries_to}
 use Rattle.fare_service.specs.Shares.{Worked, all_visits, IsWorked}
-use Rattle.fare_service.proofs.GatherLemmas.{drawn_times, times_same, times_other, each_work}
+use Rattle.fare_service.proofs.GatherLemmas.{drawn_times, times_same, each_work}
 use Rattle.fare_service.proofs.PlacedVisits.{IsOwnVisit, own_worked, shard_taps, works_on, no_works_on, posted_of, end_posted, filter_none}
 use Rattle.fare_service.proofs.Signing.{step_no, step_yes}
 

@@ -1,4 +1,4 @@
-use Rattle.std.proofs.Common.{◌≡◌, ◌+◌, ◌≤◌, ◌^◌, sym, ap, ◌∙◌, arith, map, drop}
+use Rattle.std.proofs.Common.{◌≡◌, ◌+◌, sym, ap, ◌∙◌, arith, map, drop}
 use Rattle.shard_book.specs.Sums.{Sums, sums_of, add_sums}
 use Rattle.fare_service.specs.Adding.{add_all}
 use Rattle.fare_service.proofs.AddingLemmas.{next_worker, none_left, from_nothing}
