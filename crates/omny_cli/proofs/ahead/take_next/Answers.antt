@@ -15,8 +15,8 @@ returns-clause-taken c =
     let found = c.in_ok-last.ensures.item.3 in
     let some : 0 < vec_len c.args.early.now = rw (← c.deref.ensures.len) found.0 in
     let seen : c.in_ok-last.field-0.now ≡ slice_index_or early (vec_len c.args.early.now - 1) next =
-        found.1 next ∙ ap₂ (λ files n. slice_index_or files (n - 1) next) c.deref.ensures.value c.deref.ensures.len in
+    found.1 next ∙ ap₂ (λ files n. slice_index_or files (n - 1) next) c.deref.ensures.value c.deref.ensures.len in
     let taken : next ≡ slice_index_or early (vec_len c.args.early.now - 1) next =
-        ap (λ o. unwrap_or o next) (c.in_ok-next.ensures.value next some) in
+    ap (λ o. unwrap_or o next) (c.in_ok-next.ensures.value next some) in
     let name : c.as_str.result.now ≡ c.args.name.now = (slice_eq-Decides Decides-eqb _ _ true (not_false _ c.if-ne.ensures)).0 refl in
     (next, c.in_ok-next.ensures.items, ap (λ f. string_bytes f.name) (taken ∙ sym seen) ∙ sym c.as_str.ensures.value ∙ name, refl)
