@@ -106,13 +106,11 @@ fn reads_parts_up_to_a_fault(rt: HostRuntime) -> Result<(), Fail> {
     for (names, told) in rows {
         let mut text = String::new(alloc);
         for file in read_early(&rt, alloc, &Names, &names, 2) {
-            write!(text, "{} ", file.name)?;
-            match file.loaded {
-                Ok(bytes) => assert_eq!(rt; bytes.as_slice(), file.name.as_bytes()),
-                Err(fault) => assert_eq!(rt;
-                    Names.read(alloc, file.name.as_str()).err(),
-                    Some(fault)
-                ),
+            let Early { name, loaded } = file;
+            write!(text, "{name} ")?;
+            match loaded {
+                Ok(bytes) => assert_eq!(rt; bytes.as_slice(), name.as_bytes()),
+                Err(fault) => assert_eq!(rt; Names.read(alloc, name.as_str()).err(), Some(fault)),
             }
         }
         assert_eq!(rt; text.as_str(), told, "{names:?}");
