@@ -191,8 +191,8 @@ fn charge<'a, R: Threads + Wait + RandomSource + Sync, W: Write>(
 }
 
 // Does what is asked for, and says whether each upload was listed without a layout fault, or posted
-// whole. The token is looked at first, then the table is loaded, then the files, and the whole text
-// is made before it is written.
+// whole. The token is looked at first, then the table is loaded, then the files, and all memory is
+// taken before the first byte is written.
 fn work<'a, R: Threads + Wait + RandomSource + Sync, D: Disk + Sync, S: Source, W: Write>(
     rt: &R,
     alloc: Global,
@@ -261,7 +261,8 @@ fn show<W: Write, E: Write>(error: &Error, out: &mut W, err: &mut E) -> u8
 }
 
 /// The whole program: reads the words, of which the first is the program's name, loads what they name
-/// from the source, where several workers may read files from the disk before their turns, does what they ask for, and writes its text to `out`, and mistakes and faults to
+/// from the source, where several workers may read files from the disk before their turns, does what
+/// they ask for, and writes its text to `out`, and mistakes and faults to
 /// `err`. Gives the status: 0 where all is well, 1 after a fault, or a text that tells of one, 2 where
 /// the words are no command line.
 pub fn main_over<
