@@ -5,7 +5,7 @@ use Rattle.std.proofs.lemmas.Bool.{ltb-true, lt-ltb, le-ltb}
 use Rattle.fare_table.specs.declared.mode.Mode.{Mode}
 use Rattle.fare_table.specs.Terms.{HasLimits}
 use Rattle.fare_table.specs.declared.terms.Terms.{Terms}
-use Rattle.account_rule.specs.declared.account.State.{State}
+use Rattle.account_rule.specs.declared.account.Account.{Account}
 use Rattle.account_rule.specs.declared.reply.Answer.TheVariants.{Transfer, Stale, Unknown}
 use Rattle.account_rule.specs.declared.reply.Reply.{Reply}
 use Rattle.account_rule.specs.declared.tap.TapIn.{TapIn}
@@ -14,23 +14,39 @@ use Rattle.account_rule.specs.Chains.{chains, ends_in_transfer}
 use Rattle.account_rule.specs.Cut.{last_block}
 use Rattle.account_rule.specs.Replies.{live_reply, reply, reply_of, ride_reply}
 use Rattle.account_rule.specs.Rules.{Rules}
-use Rattle.account_rule.specs.Kept.{IsRoomy, KeepsTerms, gives, is_after, kept_giver, kept_window, open_window, window_at, with_ride}
-use Rattle.account_rule.specs.Stands.{Stands, giver_of, window_of}
+use Rattle.account_rule.specs.Kept.{IsRoomy, KeepsTerms, State, fields_of, gives, is_after, kept_giver, kept_of, kept_window, open_window, window_at, with_ride}
+use Rattle.account_rule.specs.Stands.{KeepsOf, Stands, giver_of, window_of}
 use Rattle.account_rule.specs.Taps.{is_later, live_at, live_tap}
 use Rattle.account_rule.specs.Windows.{charge, windows}
 use Rattle.account_rule.proofs.TapLemmas.{and-true, chains-same, ends_in_transfer-push, giver-push, is_later-push, last_window-ride, windows-same, windows-transfer}
 use Rattle.account_rule.proofs.WindowLemmas.{charge-after, roomy, window_of-after}
 
+-- an account with a window keeps what stands in its fields
+pub kept-open : (account : Account) → account.has_window ≡ true → kept_of account ≡ Some (fields_of account)
+unfolding kept_of
+kept-open account there = rw there refl
+
+-- an account with no window keeps nothing
+pub kept-fresh : (account : Account) → account.has_window ≡ false → kept_of account ≡ None
+unfolding kept_of
+kept-fresh account fresh = rw fresh refl
+
+-- an account with a window stands for what its fields stand for
+pub stands-open : (rules : Rules) (account : Account) (taps : List TapIn) → account.has_window ≡ true → KeepsOf rules (Some (fields_of account)) taps
+    → Stands rules account taps
+unfolding Stands
+stands-open rules account taps there keeps = rw (kept-open account there) keeps
+
 -- a step from one state to the next is the rule's
 pub record IsStep (rules : Rules) (taps : List TapIn) (tap : TapIn) (answered : Reply) (next : Option State) : Type 0 where
   pub reply : answered ≡ reply rules taps tap
-  pub stands : Stands rules (record { state = next }) (taps ++ tap ∷ [])
+  pub stands : KeepsOf rules next (taps ++ tap ∷ [])
 
 -- a tap that is not live changes nothing but what is later
-same : (rules : Rules) (state : Option State) (taps : List TapIn) (tap : TapIn) → Stands rules (record { state = state }) taps
+same : (rules : Rules) (state : Option State) (taps : List TapIn) (tap : TapIn) → KeepsOf rules state taps
     → live_tap taps tap ≡ None
     → ((moment : ℕ) → is_later (taps ++ tap ∷ []) moment ≡ is_later taps moment)
-    → Stands rules (record { state = state }) (taps ++ tap ∷ [])
+    → KeepsOf rules state (taps ++ tap ∷ [])
 same rules state taps tap stands none later = record {
   last = λ moment. stands.last moment ∙ sym (later moment);
   giver = rw (chains-same rules taps tap none) stands.giver;
@@ -79,7 +95,7 @@ unfolding live_reply
 reply_ride rules taps ends = rw ends refl
 
 -- a tap of no known validator
-pub unknown : (rules : Rules) (state : Option State) (taps : List TapIn) (tap : TapIn) → Stands rules (record { state = state }) taps
+pub unknown : (rules : Rules) (state : Option State) (taps : List TapIn) (tap : TapIn) → KeepsOf rules state taps
     → tap.mode ≡ None → IsStep rules taps tap (reply_of Unknown 0) state
 unknown rules state taps tap stands none = record {
   reply = sym (reply_unknown rules taps tap none);
@@ -88,7 +104,7 @@ unknown rules state taps tap stands none = record {
 }
 
 at_state : (rules : Rules) (account : Option State) (state : State) (taps : List TapIn) → account ≡ Some state
-    → Stands rules (record { state = account }) taps → Stands rules (record { state = Some state }) taps
+    → KeepsOf rules account taps → KeepsOf rules (Some state) taps
 at_state rules account state taps same stands = rw same at stands
 
 -- a known tap that is not later moves no moment
@@ -98,7 +114,7 @@ later_stale last moment earlier before =
     [ true ↦ λ h. lt-ltb earlier moment (omega (arith, ltb-true last moment h)) | false ↦ λ _. refl ] refl
 
 -- a known tap that is not later than all known taps before it
-stale_at : (rules : Rules) (state : State) (taps : List TapIn) (tap : TapIn) (mode : Mode) → Stands rules (record { state = Some state }) taps
+stale_at : (rules : Rules) (state : State) (taps : List TapIn) (tap : TapIn) (mode : Mode) → KeepsOf rules (Some state) taps
     → tap.mode ≡ Some mode → tap.moment ≤ state.last → IsStep rules taps tap (reply_of Stale 0) (Some state)
 unfolding is_after
 stale_at rules state taps tap mode stands known before =
@@ -120,7 +136,7 @@ both (Some state) tapped moment later =
     ] refl
 
 pub stale : (rules : Rules) (account : Option State) (state : State) (taps : List TapIn) (tap : TapIn) (mode : Mode)
-    → account ≡ Some state → Stands rules (record { state = account }) taps → tap.mode ≡ Some mode → tap.moment ≤ state.last
+    → account ≡ Some state → KeepsOf rules account taps → tap.mode ≡ Some mode → tap.moment ≤ state.last
     → IsStep rules taps tap (reply_of Stale 0) (Some state)
 stale rules account state taps tap mode same stands known before =
     stale_at rules state taps tap mode (at_state rules account state taps same stands) known before
@@ -140,7 +156,7 @@ keeps_terms terms state next some kept limits =
     subst (λ s. KeepsTerms terms s) same keeps
 
 -- a live tap to which the last one gives a transfer
-transfer_at : (rules : Rules) (state : State) (taps : List TapIn) (tap : TapIn) (mode : Mode) → Stands rules (record { state = Some state }) taps
+transfer_at : (rules : Rules) (state : State) (taps : List TapIn) (tap : TapIn) (mode : Mode) → KeepsOf rules (Some state) taps
     → tap.mode ≡ Some mode → state.last < tap.moment
     → gives rules.permits (kept_giver (Some state)) (live_at tap.moment mode) ≡ true
     → IsStep rules taps tap (reply_of Transfer 0) (Some (record { last = tap.moment; giver = None; terms = state.terms; window = state.window }))
@@ -162,7 +178,7 @@ transfer_at rules state taps tap mode stands known after given =
     }
 
 pub transfer : (rules : Rules) (account : Option State) (state : State) (taps : List TapIn) (tap : TapIn) (mode : Mode)
-    → account ≡ Some state → Stands rules (record { state = account }) taps → tap.mode ≡ Some mode → state.last < tap.moment
+    → account ≡ Some state → KeepsOf rules account taps → tap.mode ≡ Some mode → state.last < tap.moment
     → gives rules.permits (option_map (live_at state.last) state.giver) (live_at tap.moment mode) ≡ true
     → IsStep rules taps tap (reply_of Transfer 0) (Some (record { last = tap.moment; giver = None; terms = state.terms; window = state.window }))
 unfolding kept_giver
@@ -171,7 +187,7 @@ transfer rules account state taps tap mode same stands known after given =
 
 -- a live tap to which no transfer is given
 ride_at : (rules : Rules) (state : Option State) (taps : List TapIn) (tap : TapIn) (mode : Mode) (window : Window)
-    → Stands rules (record { state = state }) taps
+    → KeepsOf rules state taps
     → tap.mode ≡ Some mode → mode.place < rules.modes → is_after state tap.moment ≡ true
     → gives rules.permits (kept_giver state) (live_at tap.moment mode) ≡ false
     → window ≡ window_at (kept_window state) tap.moment (rules.until tap.moment) → HasLimits rules.terms
@@ -216,13 +232,13 @@ gives_none-state permits account state tap mode same after none =
 
 -- the window to which the ride belongs has room for it
 pub room : (rules : Rules) (account : Option State) (taps : List TapIn) (tap : TapIn) (terms : Terms) (window : Window)
-    → Stands rules (record { state = account }) taps → window ≡ window_at (kept_window account) tap.moment tap.until
+    → KeepsOf rules account taps → window ≡ window_at (kept_window account) tap.moment tap.until
     → terms ≡ rules.terms → HasLimits terms → IsRoomy terms window
 room rules account taps tap terms window stands at same_terms limits =
     rw (same_terms, at, stands.window) (roomy rules (last_block (windows rules taps)) tap.moment tap.until (rw same_terms at limits))
 
 pub ride : (rules : Rules) (account : Option State) (taps : List TapIn) (tap : TapIn) (mode : Mode) (terms : Terms) (window counted : Window) (cents : ℕ)
-    → Stands rules (record { state = account }) taps
+    → KeepsOf rules account taps
     → tap.mode ≡ Some mode → mode.place < rules.modes → tap.until ≡ rules.until tap.moment
     → GivesNone rules.permits account tap mode
     → terms ≡ rules.terms → HasLimits terms → window ≡ window_at (kept_window account) tap.moment tap.until
@@ -234,7 +250,7 @@ ride rules account taps tap mode terms window counted cents stands known listed 
 
 -- what a token that has an account pays is what the account keeps
 pub kept_terms : (rules : Rules) (account : Option State) (state : State) (taps : List TapIn)
-    → account ≡ Some state → Stands rules (record { state = account }) taps → KeepsTerms rules.terms state
+    → account ≡ Some state → KeepsOf rules account taps → KeepsTerms rules.terms state
 kept_terms rules account state taps same stands = stands.terms state same
 
 -- the window of a ride in an account that has a window, and of a first ride
@@ -249,7 +265,7 @@ at_fresh account start until fresh = rw fresh refl
 
 -- a ride of an account that has a window
 pub next_ride : (rules : Rules) (account : Option State) (state next : State) (taps : List TapIn) (tap : TapIn) (mode : Mode) (cents : ℕ)
-    → account ≡ Some state → Stands rules (record { state = account }) taps
+    → account ≡ Some state → KeepsOf rules account taps
     → tap.mode ≡ Some mode → mode.place < rules.modes → tap.until ≡ rules.until tap.moment
     → GivesNone rules.permits account tap mode
     → cents ≡ charge state.terms (window_at (Some state.window) tap.moment tap.until).rides
@@ -266,7 +282,7 @@ next_ride rules account state next taps tap mode cents same stands known listed 
 
 -- the first ride of an account
 pub first_ride : (rules : Rules) (account next : Option State) (taps : List TapIn) (tap : TapIn) (mode : Mode) (answered : Reply)
-    → account ≡ None → Stands rules (record { state = account }) taps
+    → account ≡ None → KeepsOf rules account taps
     → tap.mode ≡ Some mode → mode.place < rules.modes → tap.until ≡ rules.until tap.moment → HasLimits rules.terms
     → answered ≡ ride_reply (charge rules.terms (open_window tap.moment tap.until).rides)
     → next ≡ Some (record { last = tap.moment; giver = Some mode; terms = rules.terms; window = with_ride rules.terms (open_window tap.moment tap.until) })

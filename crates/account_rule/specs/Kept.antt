@@ -2,7 +2,7 @@ use Rattle.std.specs.Prelude.{◌≡◌, ℕ, ◌+◌, ◌^◌, ◌<◌, ◌≤�
 use Rattle.fare_table.specs.Terms.{HasLimits}
 use Rattle.fare_table.specs.declared.mode.Mode.{Mode}
 use Rattle.fare_table.specs.declared.terms.Terms.{Terms}
-use Rattle.account_rule.specs.declared.account.State.{State}
+use Rattle.account_rule.specs.declared.account.Account.{Account}
 use Rattle.account_rule.specs.declared.window.Window.{Window}
 use Rattle.account_rule.specs.declared.window.WindowView.{WindowView}
 use Rattle.account_rule.specs.Chains.{is_linked}
@@ -10,6 +10,24 @@ use Rattle.account_rule.specs.Taps.{LiveTap, live_at}
 use Rattle.account_rule.specs.Windows.{charge}
 
 -- What an account keeps, and what its private functions make of it.
+
+-- what is kept from the first live tap on, which is a ride and so opens a window
+pub record State : Type 0 where
+  -- the moment of the last live tap
+  pub last : ℕ
+  -- its mode, where it is a ride and so can give a transfer
+  pub giver : Option Mode
+  -- the token's terms
+  pub terms : Terms
+  pub window : Window
+
+-- what stands in the account's fields
+abbrev pub fields_of : Account → State
+fields_of account = record { last = account.last; giver = account.giver; terms = account.terms; window = account.window }
+
+-- what the account keeps, if it has seen a live tap
+unfoldable pub kept_of : Account → Option State
+kept_of account = if account.has_window then Some (fields_of account) else None
 
 -- whether the moment is after the last live tap's
 unfoldable pub is_after : Option State → ℕ → Bool

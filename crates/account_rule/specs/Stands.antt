@@ -5,7 +5,7 @@ use Rattle.account_rule.specs.declared.tap.TapIn.{TapIn}
 use Rattle.account_rule.specs.declared.window.Window.{Window}
 use Rattle.account_rule.specs.Chains.{chains}
 use Rattle.account_rule.specs.Cut.{last_block}
-use Rattle.account_rule.specs.Kept.{KeepsTerms, is_after, kept_giver, kept_window}
+use Rattle.account_rule.specs.Kept.{KeepsTerms, State, is_after, kept_giver, kept_of, kept_window}
 use Rattle.account_rule.specs.Rules.{Rules}
 use Rattle.account_rule.specs.Taps.{LiveTap, is_later}
 use Rattle.account_rule.specs.Windows.{windows, paid_rides, ride_cents}
@@ -27,18 +27,22 @@ window_of rules (first ∷ window) = Some (record {
   cents = ride_cents rules.terms (length (first ∷ window));
 })
 
--- the account stands for the list: it keeps of the taps what decides every later reply
-pub record Stands (rules : Rules) (account : Account) (taps : List TapIn) : Type 0 where
+-- what is kept stands for the list: it is what decides every later reply
+pub record KeepsOf (rules : Rules) (kept : Option State) (taps : List TapIn) : Type 0 where
   -- its last moment tells which moments are later than all known taps
-  pub last : (moment : ℕ) → is_after account.state moment ≡ is_later taps moment
+  pub last : (moment : ℕ) → is_after kept moment ≡ is_later taps moment
   -- its giver is the last live tap, where that is a ride
-  pub giver : kept_giver account.state ≡ giver_of (last_block (chains rules taps))
+  pub giver : kept_giver kept ≡ giver_of (last_block (chains rules taps))
   -- its window is the last one
-  pub window : kept_window account.state ≡ window_of rules (last_block (windows rules taps))
+  pub window : kept_window kept ≡ window_of rules (last_block (windows rules taps))
   -- its terms are the token's
-  pub terms : ForSome account.state (KeepsTerms rules.terms)
+  pub terms : ForSome kept (KeepsTerms rules.terms)
   -- the mode that it keeps is one of the table's
-  pub mode : ForSome (kept_giver account.state) (λ tap. tap.mode.place < rules.modes)
+  pub mode : ForSome (kept_giver kept) (λ tap. tap.mode.place < rules.modes)
+
+-- the account stands for the list
+unfoldable pub Stands : Rules → Account → List TapIn → Type 0
+Stands rules account taps = KeepsOf rules (kept_of account) taps
 
 -- there is a list of taps for which the account stands
 unfoldable pub StandsForSome : Rules → Account → Type 0

@@ -5,7 +5,7 @@ ghost use Rattle.fare_table.specs.Until.{until};
 ghost use Rattle.account_rule.specs.declared.tap.TapIn.{TapIn};
 ghost use Rattle.account_rule.specs.Replies.{reply, ride_reply};
 ghost use Rattle.account_rule.specs.Rules.{Rules, permits_of, rules_of};
-ghost use Rattle.account_rule.specs.Kept.{IsRoomy, gives, open_window, window_at, with_ride};
+ghost use Rattle.account_rule.specs.Kept.{IsRoomy, gives, kept_of, open_window, window_at, with_ride};
 ghost use Rattle.account_rule.specs.Stands.{Stands, StandsForSome};
 ghost use Rattle.account_rule.specs.Taps.{live_at};
 ghost use Rattle.account_rule.specs.Windows.{charge, last_window};
@@ -25,16 +25,12 @@ const TRANSFER_TIME: u64 = 7_200_000;
 /// every later reply.
 #[derive(Clone, Copy, Debug, PartialEq, Eq)]
 pub struct Account {
-    /// None before the first live tap.
-    state: Option<State>,
-}
-
-/// What is kept from the first live tap on, which is a ride and so opens a window.
-#[derive(Clone, Copy, Debug, PartialEq, Eq)]
-struct State {
     /// The moment of the last live tap.
     last: u64,
-    /// Its mode, where it is a ride and so can give a transfer.
+    /// Whether there was a live tap: the first one is a ride and so opens a window. Before it, no
+    /// other field says anything.
+    has_window: bool,
+    /// The mode of the last live tap, where that is a ride and so can give a transfer.
     giver: Option<Mode>,
     /// The token's terms, so that the table is asked for them once.
     terms: Terms,
@@ -47,7 +43,17 @@ impl Account {
         ensures stands { (rules : Rules) → Stands rules result [] }
         ensures some { (rules : Rules) → StandsForSome rules result }
     {
-        Account { state: None }
+        Account {
+            last: 0,
+            has_window: false,
+            giver: None,
+            terms: Terms {
+                fare: 0,
+                rides: 0,
+                ceiling: 0,
+            },
+            window: Window::open(0, 0),
+        }
     }
 
     /// Takes one more tap of the token, and returns what the rule replies to it.
@@ -73,18 +79,18 @@ impl Account {
         let Some(mode) = tap.mode else {
             return Reply::free(Answer::Unknown);
         };
-        if let Some(state) = &mut self.state {
-            if tap.moment <= state.last {
-                return Reply::free(Answer::Stale);
-            }
-            if state.gives_transfer(table, tap.moment, mode) {
-                state.last = tap.moment;
-                state.giver = None;
-                return Reply::free(Answer::Transfer);
-            }
-            return Reply::to_ride(state.take_ride(mode, tap));
+        if !self.has_window {
+            return self.first_ride(table, token, mode, tap);
         }
-        self.first_ride(table, token, mode, tap)
+        if tap.moment <= self.last {
+            return Reply::free(Answer::Stale);
+        }
+        if self.gives_transfer(table, tap.moment, mode) {
+            self.last = tap.moment;
+            self.giver = None;
+            return Reply::free(Answer::Transfer);
+        }
+        Reply::to_ride(self.take_ride(mode, tap))
     }
 
     /// The last window, or `None` before the first ride: its paid rides and its cents are within
@@ -97,7 +103,11 @@ impl Account {
         ensures cents { (rules : Rules) (taps : List TapIn) → Stands rules self.now taps
             → IfSome result (λ window. window.cents ≤ rules.terms.ceiling) }
     {
-        self.state.map(|state| state.window.shown())
+        if self.has_window {
+            Some(self.window.shown())
+        } else {
+            None
+        }
     }
 
     /// Takes a first live tap on the mode, which is a ride, and returns the reply to it.
@@ -105,14 +115,14 @@ impl Account {
     /// Kept out of the step, since it runs once a token and the rest of the step at every tap.
     #[cold]
     #[inline(never)]
-    #[tactic(auto, unfolding(crate::specs::Kept::open_window, crate::specs::Rules::rules_of))]
+    #[tactic(auto, unfolding(crate::specs::Kept::kept_of, crate::specs::Kept::open_window, crate::specs::Rules::rules_of))]
     fn first_ride(&mut self, table: &FareTable, token: &[u8], mode: Mode, tap: TapIn) -> Reply
         requires { length token.now ≡ 16 }
         ensures limits { let terms = (rules_of table.now token.now).terms in HasLimits terms }
         ensures reply { let terms = (rules_of table.now token.now).terms in
             result ≡ ride_reply (charge terms (open_window tap.moment tap.until).rides) }
         ensures state { let terms = (rules_of table.now token.now).terms in
-            self.new.state ≡ Some (record {
+            kept_of self.new ≡ Some (record {
               last = tap.moment;
               giver = Some mode;
               terms = terms;
@@ -122,17 +132,16 @@ impl Account {
         let terms = table.terms_of(token);
         let mut window = Window::open(tap.moment, tap.until);
         let cents = window.add_ride(terms);
-        self.state = Some(State {
+        *self = Account {
             last: tap.moment,
+            has_window: true,
             giver: Some(mode),
             terms,
             window,
-        });
+        };
         Reply::to_ride(cents)
     }
-}
 
-impl State {
     /// Whether the last live tap gives a transfer to a live tap at the moment, on the mode.
     #[tactic(auto, unfolding(crate::specs::Chains::is_linked, crate::specs::Rules::permits_of, crate::specs::Kept::gives, crate::specs::Taps::live_at))]
     fn gives_transfer(&self, table: &FareTable, moment: u64, mode: Mode) -> bool
@@ -155,6 +164,7 @@ impl State {
         requires room { IsRoomy self.old.terms (window_at (Some self.old.window) tap.moment tap.until) }
         ensures cost { result ≡ charge self.old.terms (window_at (Some self.old.window) tap.moment tap.until).rides }
         ensures last { self.new.last ≡ tap.moment }
+        ensures has_window { self.new.has_window ≡ self.old.has_window }
         ensures giver { self.new.giver ≡ Some mode }
         ensures terms { self.new.terms ≡ self.old.terms }
         ensures window { self.new.window ≡ with_ride self.old.terms (window_at (Some self.old.window) tap.moment tap.until) }

@@ -128,4 +128,4 @@ impl Accounts {
     }
 }
 
-const _: () = prove!(size_of::<Kept>() == 80);
+const _: () = prove!(size_of::<Kept>() == 64);

@@ -7,26 +7,26 @@ use crate::token::Token;
 use crate::totals::Totals;
 use account_rule::{Answer, Reply};
 
-/// What `Totals` counts, while each number fits 32 bits. Of 24 bytes, where `Totals` has 112. What most posts
-/// touch stands first, next to the account.
+/// What `Totals` counts, while the cents fit 32 bits and each other number 16. Of 16 bytes, where `Totals` has
+/// 112, so that an account and its counts take 64.
 #[derive(Clone, Copy, Debug, PartialEq, Eq)]
 pub(crate) struct Counts {
     cents: u32,
-    paid: u32,
-    transfers: u32,
-    capped: u32,
-    stale: u32,
-    unknown: u32,
+    paid: u16,
+    transfers: u16,
+    capped: u16,
+    stale: u16,
+    unknown: u16,
     ghost in_cents: { cents ≤ (paid + transfers + capped + stale + unknown) * 4294967295 },
 }
 
 /// Adds one, and returns whether there was room: the largest number stays.
 #[inline(always)]
-fn add_one(count: &mut u32) -> bool
+fn add_one(count: &mut u16) -> bool
     ensures added { IsTrue result → count.new ≡ count.old + 1 }
     ensures some { 0 < count.new }
 {
-    let had_room = *count < u32::MAX;
+    let had_room = *count < u16::MAX;
     *count = count.saturating_add(1);
     had_room
 }
@@ -112,4 +112,4 @@ impl TokenCounts {
     }
 }
 
-const _: () = prove!(size_of::<Counts>() == 24);
+const _: () = prove!(size_of::<Counts>() == 16);

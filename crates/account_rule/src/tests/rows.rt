@@ -385,5 +385,5 @@ fn worked_rows(rt: HostRuntime) -> Result<(), Fail> {
 
 #[test]
 fn account_is_small(rt: HostRuntime) {
-    assert_eq!(rt; size_of::<Account>(), 56);
+    assert_eq!(rt; size_of::<Account>(), 48);
 }

@@ -2,14 +2,14 @@
 use Rattle.std.proofs.Common.{[], refl}
 use Rattle.account_rule.specs.Chains.{chains, rides}
 use Rattle.account_rule.specs.Cut.{cut, last_block}
-use Rattle.account_rule.specs.Kept.{is_after, kept_giver, kept_window}
-use Rattle.account_rule.specs.Stands.{StandsForSome, giver_of, window_of}
+use Rattle.account_rule.specs.Kept.{is_after, kept_giver, kept_of, kept_window}
+use Rattle.account_rule.specs.Stands.{Stands, StandsForSome, giver_of, window_of}
 use Rattle.account_rule.specs.Taps.{is_later, live, live_after}
 use Rattle.account_rule.specs.Windows.{windows}
 use Rattle.account_rule.proofs.account.Account.fresh.Goals as goal
 
 pub returns-clause-stands : goal.returns-clause-stands
-unfolding is_after is_later kept_giver giver_of kept_window window_of windows rides chains live live_after cut last_block
+unfolding Stands is_after is_later kept_of kept_giver giver_of kept_window window_of windows rides chains live live_after cut last_block
 returns-clause-stands c = λ rules. record {
   last = λ moment. refl;
   giver = refl;

@@ -1,23 +1,43 @@
 -- What is seen of the kept window is what the rule shows of the last one.
-use Rattle.std.proofs.Common.{rules, ◌≡◌, option_map, ◌∙◌}
+use Rattle.std.proofs.Common.{◌≡◌, ◌≤◌, List, Option, refl, sym, subst, option_map, ◌∙◌}
+use Rattle.std.specs.Prelude.{IfSome}
 use Rattle.account_rule.specs.Cut.{last_block}
-use Rattle.account_rule.specs.Kept.{kept_window, shown_of}
+use Rattle.account_rule.specs.Kept.{kept_of, kept_window, shown_of}
+use Rattle.account_rule.specs.Rules.{Rules}
+use Rattle.account_rule.specs.Stands.{Stands}
 use Rattle.account_rule.specs.Windows.{last_window, windows}
+use Rattle.account_rule.specs.declared.account.Account.{Account}
+use Rattle.account_rule.specs.declared.tap.TapIn.{TapIn}
+use Rattle.account_rule.specs.declared.window.WindowView.{WindowView}
+use Rattle.account_rule.proofs.StepLemmas.{kept-fresh, kept-open}
 use Rattle.account_rule.proofs.WindowLemmas.{cents-shown, paid-shown, shown_window-of}
 use Rattle.account_rule.proofs.account.Account.window.Goals as goal
 
-seen : (c : goal.After-map) → c.map.result ≡ option_map shown_of (kept_window c.args.self.now.state)
+seen : (rules : Rules) (account : Account) (taps : List TapIn) (shown : Option WindowView) → Stands rules account taps
+    → shown ≡ option_map shown_of (kept_window (kept_of account)) → shown ≡ last_window rules taps
+unfolding Stands last_window
+seen rules account taps shown stands same = same ∙ rw stands.window (shown_window-of rules (last_block (windows rules taps)))
+
+-- with a window
+
+pub returns-then-self-clause-window : goal.returns-then-self-clause-window
 unfolding kept_window
-seen c = search rules
+returns-then-self-clause-window c = λ of taps stands. seen of c.args.self.now taps _ stands (rw (kept-open c.args.self.now c.if-self.true, c.shown.ensures) refl)
 
-pub returns-clause-window : goal.returns-clause-window
+pub returns-then-self-clause-paid : goal.returns-then-self-clause-paid
 unfolding last_window
-returns-clause-window c = λ of taps stands. seen c ∙ rw stands.window (shown_window-of of (last_block (windows of taps)))
+returns-then-self-clause-paid c =
+    λ of taps stands. subst (λ shown. IfSome shown (λ window. window.paid ≤ of.terms.rides)) (sym (returns-then-self-clause-window c of taps stands))
+    (paid-shown of (last_block (windows of taps)))
 
-pub returns-clause-paid : goal.returns-clause-paid
+pub returns-then-self-clause-cents : goal.returns-then-self-clause-cents
 unfolding last_window
-returns-clause-paid c = λ of taps stands. rw (returns-clause-window c of taps stands) (paid-shown of (last_block (windows of taps)))
+returns-then-self-clause-cents c =
+    λ of taps stands. subst (λ shown. IfSome shown (λ window. window.cents ≤ of.terms.ceiling)) (sym (returns-then-self-clause-window c of taps stands))
+    (cents-shown of (last_block (windows of taps)))
 
-pub returns-clause-cents : goal.returns-clause-cents
-unfolding last_window
-returns-clause-cents c = λ of taps stands. rw (returns-clause-window c of taps stands) (cents-shown of (last_block (windows of taps)))
+-- with none
+
+pub returns-else-self-clause-window : goal.returns-else-self-clause-window
+unfolding kept_window
+returns-else-self-clause-window c = λ of taps stands. seen of c.args.self.now taps _ stands (rw (kept-fresh c.args.self.now c.if-self.false) refl)
