@@ -12,7 +12,7 @@ use fare_table::NoMemory;
 use std::alloc::Global;
 use std::marker::Model;
 
-/// Counts of 40 bytes a token where the books tell them, else sums of 128.
+/// Counts of 32 bytes a token where the books tell them, else sums of 128.
 #[derive(Drop)]
 pub(crate) enum SumList {
     Counted(Vec<TokenCounts>),
