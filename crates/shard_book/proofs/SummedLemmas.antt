@@ -1,8 +1,8 @@
 -- Lists of tokens with the sums of their entries: of one book, of two lists joined, and sorted.
 use Rattle.std.proofs.Common.{◌≡◌, ℕ, ◌+◌, ◌<◌, ◌≤◌, Bool, true, false, cond, ◌||◌, List, [], ◌∷◌, ◌++◌, length, take, get_or, map, Option, Some, None, refl, sym, ap, subst, ◌∙◌, ⊎_elim, arith}
 use Rattle.std.specs.Cmp.{IsEquivalence}
-use Rattle.std.specs.HashMap.{get}
-use Rattle.std.specs.List.{All, AllByRecursion, IsDistinct, list_any, slice_get}
+use Rattle.indexmap.specs.IndexMap.{get}
+use Rattle.std.specs.List.{All, AllByRecursion, Contains, IsDistinct, list_any, slice_get}
 use Rattle.std.specs.List.Sorted.{IsPermutation, IsSorted, IsSortedByKey}
 use Rattle.std.specs.Map.{keys_of, lookup}
 use Rattle.std.specs.Option.{is_some}
@@ -11,10 +11,11 @@ use Rattle.std.specs.Set.{is_member}
 use Rattle.std.proofs.lemmas.Bool.{cases_Bool, false≢true}
 use Rattle.std.proofs.lemmas.Bool.Decides.{nat_tests}
 use Rattle.std.proofs.lemmas.List.{map-append, length-map, append-nil, get_or-map}
-use Rattle.std.proofs.lemmas.List.Elements.{All-append, All-head, All-tail, All-map, All-weaker, All-nil, All-from_recursion, recursion_from_All, filter-append}
+use Rattle.std.proofs.lemmas.List.Elements.{All-append, All-contains_itself, All-head, All-tail, All-map, All-weaker, All-nil, All-from_recursion, recursion_from_All, filter-append}
 use Rattle.std.proofs.lemmas.List.Folds.{list_any-append}
 use Rattle.std.proofs.lemmas.List.Sorted.{All-permutation, IsPermutation-map, list_any-IsPermutation}
 use Rattle.std.proofs.lemmas.Map.Keys.{IsDistinct-IsPermutation}
+use Rattle.std.proofs.lemmas.Map.Views.{lookup-from_Contains}
 use Rattle.std.proofs.lemmas.Map.Made.{All-is_member, is_some-lookup, keys_of-map_values}
 use Rattle.shard_book.specs.declared.accounts.Accounts.{Accounts}
 use Rattle.shard_book.specs.declared.accounts.Kept.{Kept}
@@ -30,15 +31,19 @@ use Rattle.shard_book.specs.Entry.{is_of, own}
 use Rattle.shard_book.specs.Groups.{token_of, tokens, sums_by_token, all_entries}
 use Rattle.shard_book.specs.Sums.{Sums, sums}
 use Rattle.shard_book.specs.Token.{bytes_of, token_eq, token_cmp}
-use Rattle.shard_book.proofs.Histories.{same_token, token_eq-sym, token_eq-refl}
+use Rattle.shard_book.proofs.Histories.{same_token, token_eq-sym}
+use Rattle.shard_book.proofs.TokenLemmas.{token_eq-laws}
 use Rattle.shard_book.proofs.RisingLemmas.{rising-only, sorted-rises}
 use Rattle.shard_book.proofs.SumsLemmas.{all-more}
 use Rattle.shard_book.proofs.TokenLemmas.{token_cmp-total, token_cmp-ties}
 
 -- what is kept of the tokens, as the map gives it
-pub summed-kept : (accounts : Accounts) (entries : List Entry) → All (λ kept. get token_eq accounts.map kept.0 ≡ Some kept.1) accounts.map.entries → IsDistinct token_eq (keys_of accounts.map.entries) → AreCounted accounts entries → AreSummed entries (pairs_of accounts)
+pub summed-kept : (accounts : Accounts) (entries : List Entry) → IsDistinct token_eq (keys_of accounts.map.entries) → AreCounted accounts entries → AreSummed entries (pairs_of accounts)
 unfolding kept_at pairs_of
-summed-kept accounts entries found distinct counts =
+summed-kept accounts entries distinct counts =
+    let found : All (λ kept. get token_eq accounts.map kept.0 ≡ Some kept.1) accounts.map.entries =
+    All-weaker (Contains accounts.map.entries) (λ (kept : Token × Kept). get token_eq accounts.map kept.0 ≡ Some kept.1)
+    (λ kept here. lookup-from_Contains token_eq-laws kept.0 kept.1 accounts.map.entries distinct here) accounts.map.entries (All-contains_itself accounts.map.entries) in
     let keys : keys_of (pairs_of accounts) ≡ keys_of accounts.map.entries = keys_of-map_values (λ (kept : Kept). sums_of_counts kept.counts) accounts.map.entries in
     record {
       each = All-map (λ (pair : Token × Sums). pair.1 ≡ sums (own pair.0 entries)) pair_of accounts.map.entries
@@ -47,10 +52,6 @@ summed-kept accounts entries found distinct counts =
       once = subst (λ (ts : List Token). IsDistinct token_eq ts) (sym keys) distinct;
       keys = λ token. ap (λ (ts : List Token). is_member token_eq ts token) keys ∙ sym (is_some-lookup (token_eq token) accounts.map.entries) ∙ counts.keys token;
     }
-
--- `==` of tokens is an equivalence
-token_eq-laws : IsEquivalence token_eq
-token_eq-laws = record { refl = token_eq-refl; symm = token_eq-sym; congr = λ a b c same. ap (λ (t : Token). token_eq t c) (same_token a b same) }
 
 -- what holds of each entry's token holds of each token that the entries have
 member-holds : (P : Token → Type 0) (token : Token) (entries : List Entry) → AllByRecursion (λ entry. P entry.token) entries → is_member token_eq (map token_of entries) token ≡ true → P token

@@ -1,6 +1,6 @@
 -- What a book's accounts know of a list of taps.
-use Rattle.std.specs.Prelude.{◌≡◌, List, [], Option, Some, None, map, IsTrue}
-use Rattle.std.specs.HashMap.{get}
+use Rattle.std.specs.Prelude.{◌≡◌, ℕ, List, [], Option, Some, None, map, slice_get, IsTrue}
+use Rattle.indexmap.specs.IndexMap.{get}
 use Rattle.account_rule.specs.declared.tap.TapIn.{TapIn}
 use Rattle.account_rule.specs.Rules.{Rules}
 use Rattle.account_rule.specs.Stands.{Stands}
@@ -23,6 +23,23 @@ IsCounting accounts = IsTrue accounts.counting
 abbrev pub IsKept : Rules → Option Kept → List TapIn → Type 0
 IsKept rules None taps = taps ≡ []
 IsKept rules (Some kept) taps = Stands rules kept.account taps
+
+-- what was kept, or else a fresh account and the counts of nothing
+abbrev pub IsKeptOrFresh : Option Kept → Kept → Type 0
+IsKeptOrFresh None kept = ((rules : Rules) → Stands rules kept.account []) × (sums_of_counts kept.counts ≡ sums_of_replies [])
+IsKeptOrFresh (Some old) kept = kept ≡ old
+
+-- the token and what is kept of it stand at the place
+pub record IsPlace (accounts : Accounts) (token : Token) (place : ℕ) : Type 0 where
+  pub kept : Kept
+  pub at : slice_get accounts.map.entries place ≡ Some (token, kept)
+  pub is : kept_at accounts token ≡ Some kept
+
+-- what is kept of the token, or was put there for it, stands at the place
+pub record IsMade (old new : Accounts) (token : Token) (place : ℕ) : Type 0 where
+  pub kept : Kept
+  pub at : slice_get new.map.entries place ≡ Some (token, kept)
+  pub is : IsKeptOrFresh (kept_at old token) kept
 
 -- the kept sums, of nothing where none are kept
 abbrev pub counted : Option Kept → Sums

@@ -1,13 +1,13 @@
 //! The accounts of a book, by token: the one place that knows in which kind of map they stand.
 
-ghost use Rattle.std.specs.Prelude.{◌≡◌, ◌<◌, List, [], ◌∷◌, ◌++◌, length, map, is_some, IfOk, OnOk, OnErr, None, true, false, IsTrue};
+ghost use Rattle.std.specs.Prelude.{◌≡◌, ◌<◌, List, [], ◌∷◌, ◌++◌, length, map, is_some, IfOk, IfNone, IfSome, OnOk, OnErr, None, true, false, IsTrue};
 ghost use Rattle.std.specs.Option.{ForSome};
 ghost use Rattle.fare_table.specs.Until.{until};
 ghost use Rattle.account_rule.specs.Replies.{reply};
 ghost use Rattle.account_rule.specs.Rules.{Rules, rules_of};
 ghost use Rattle.account_rule.specs.Stands.{Stands, StandsForSome};
 ghost use Rattle.account_rule.specs.declared.tap.TapIn.{TapIn};
-ghost use Rattle.shard_book.specs.Accounts.{kept_at, counted, pairs_of, IsCounting, IsKept};
+ghost use Rattle.shard_book.specs.Accounts.{kept_at, counted, pairs_of, IsCounting, IsKept, IsMade, IsPlace};
 ghost use Rattle.shard_book.specs.Counting.{AreCounted, AreSummed};
 ghost use Rattle.shard_book.specs.Counts.{token_counts};
 ghost use Rattle.shard_book.specs.declared.entry.Entry.{Entry};
@@ -20,8 +20,8 @@ use crate::keys::TokenKeys;
 use crate::token::Token;
 use account_rule::{Account, Reply, TapIn};
 use fare_table::{FareTable, NoMemory};
+use indexmap::IndexMap;
 use std::alloc::Global;
-use std::collections::HashMap;
 
 /// What is kept of one token: its account, and the counts of its entries.
 #[derive(Clone, Copy, Debug, PartialEq, Eq)]
@@ -33,7 +33,7 @@ pub(crate) struct Kept {
 /// An account for each token that has taps, with the counts of its entries.
 #[derive(Drop)]
 pub(crate) struct Accounts {
-    map: HashMap<Token, Kept, TokenKeys>,
+    map: IndexMap<Token, Kept, TokenKeys>,
     // Whether the counts are right: it ends where one of them would be too large.
     counting: bool,
 }
@@ -45,7 +45,7 @@ impl Accounts {
         ensures { (token : Token) → kept_at result token ≡ None }
     {
         Accounts {
-            map: HashMap::with_hasher(alloc, keys),
+            map: IndexMap::with_hasher(alloc, keys),
             counting: true,
         }
     }
@@ -66,14 +66,76 @@ impl Accounts {
         }
     }
 
-    /// The account rule's step of the token's account, whose reply is then counted, with one look-up of the
-    /// token. On want of memory all that is kept stays.
+    /// The place of the token's account, if it has one. It stays there.
+    #[inline(always)]
+    #[tactic(auto, unfolding(crate::specs::Accounts::kept_at))]
+    pub(crate) fn place_of(&self, token: Token) -> Option<usize>
+        ensures found { IfSome result (IsPlace self.now token) }
+        ensures absent { IfNone result (kept_at self.now token ≡ None) }
+    {
+        let (place, _, _) = self.map.get_full(&token)?;
+        Some(place)
+    }
+
+    // Whether the token's account is at this place.
+    #[inline(always)]
+    #[tactic(auto, unfolding(crate::specs::Accounts::kept_at))]
+    fn is_at(&self, place: usize, token: Token) -> bool
+        ensures { IsTrue result → IsPlace self.now token place }
+    {
+        match self.map.get_index(place) {
+            Some((there, _)) => *there == token,
+            None => false,
+        }
+    }
+
+    // Opens an account for a token that has none, and returns its place.
+    #[cold]
+    #[inline(never)]
+    #[tactic(auto, unfolding(crate::specs::Accounts::kept_at))]
+    fn open_account(&mut self, token: Token) -> Result<usize, NoMemory>
+        requires none { kept_at self.old token ≡ None }
+        ensures made { IfOk result (IsMade self.old self.new token) }
+        ensures others { OnOk result ((other : Token) → token_eq token other ≡ false → kept_at self.new other ≡ kept_at self.old other) }
+        ensures counting { self.new.counting ≡ self.old.counting }
+        ensures err { OnErr result ((other : Token) → kept_at self.new other ≡ kept_at self.old other) }
+    {
+        let place = self.map.len();
+        let fresh = Kept {
+            account: Account::fresh(),
+            counts: Counts::new(),
+        };
+        self.map.insert(token, fresh)?;
+        Ok(place)
+    }
+
+    // The place of the token's account, which is opened where there is none. The guess saves a look-up where it is right.
+    #[inline(always)]
+    #[tactic(auto, unfolding(crate::specs::Accounts::kept_at))]
+    fn place(&mut self, token: Token, guess: usize) -> Result<usize, NoMemory>
+        ensures made { IfOk result (IsMade self.old self.new token) }
+        ensures others { OnOk result ((other : Token) → token_eq token other ≡ false → kept_at self.new other ≡ kept_at self.old other) }
+        ensures counting { self.new.counting ≡ self.old.counting }
+        ensures err { OnErr result ((other : Token) → kept_at self.new other ≡ kept_at self.old other) }
+    {
+        if self.is_at(guess, token) {
+            return Ok(guess);
+        }
+        match self.place_of(token) {
+            Some(place) => Ok(place),
+            None => self.open_account(token),
+        }
+    }
+
+    /// The account rule's step of the token's account, whose reply is then counted. Where the guess is the
+    /// account's place, no look-up is needed; a wrong one costs time alone. On want of memory all that is kept stays.
     #[tactic(auto, unfolding(crate::specs::Accounts::kept_at))]
     pub(crate) fn step(
         &mut self,
         table: &FareTable,
         token: Token,
         tap: TapIn,
+        guess: usize,
     ) -> Result<Reply, NoMemory>
         requires mode { ForSome tap.mode (λ mode. mode.place < length table.now.rules.modes) }
         requires until { tap.until ≡ until table.now tap.moment }
@@ -92,11 +154,8 @@ impl Accounts {
         ensures others { OnOk result ((other : Token) → token_eq token other ≡ false → kept_at self.new other ≡ kept_at self.old other) }
         ensures err { OnErr result ((other : Token) → kept_at self.new other ≡ kept_at self.old other) }
     {
-        let fresh = Kept {
-            account: Account::fresh(),
-            counts: Counts::new(),
-        };
-        let kept = self.map.entry(token)?.or_insert(fresh);
+        let place = self.place(token, guess)?;
+        let (_, kept) = self.map.pair_mut(place);
         let reply = kept.account.step(table, &token.bytes(), tap);
         let was_counted = kept.counts.add(reply);
         self.counting = self.counting & was_counted;

@@ -5,13 +5,28 @@ ghost use Rattle.tap_views.specs.Shards.{run_taps};
 ghost use Rattle.shard_book.specs.History.{IsLegal};
 ghost use Rattle.shard_book.specs.Visits.{PostsRun, limits_of};
 
-use crate::book::ShardBook;
+use crate::book::{NO_PLACE, ShardBook};
 use crate::ends::Ends;
 use crate::replies::Replies;
 use crate::run_end::RunEnd;
-use tap_views::Run;
+use crate::token::Token;
+use tap_views::{Run, RunTaps};
+
+/// How many accounts are looked up at once: so many look-ups in a row wait for memory side by side, where each
+/// tap's own would wait alone.
+const AT_ONCE: usize = 32;
 
 impl ShardBook {
+    // Guesses the places of the next taps' accounts. A tap in between may open an account: its guess is then wrong.
+    fn look_ahead(&self, ahead: &mut RunTaps, guesses: &mut [usize; AT_ONCE]) {
+        for guess in guesses.iter_mut() {
+            let Some(tap) = ahead.next() else {
+                return;
+            };
+            *guess = self.guess(Token::of(tap.token()));
+        }
+    }
+
     /// Posts the taps of a run in their order and appends their replies to `out`, up to the first want of memory.
     ///
     /// `ends` are the table's limits for the run's taps, and `out` has room for a reply to each.
@@ -26,8 +41,14 @@ impl ShardBook {
         // The length tells that the history is legal, also where the run has no tap.
         let _ = self.len();
         let mut posted = 0;
+        let mut ahead = run.taps();
+        let mut guesses = [NO_PLACE; AT_ONCE];
         for tap in run.taps() {
-            match self.post(&tap, ends.at(posted)) {
+            let turn = posted as usize % AT_ONCE;
+            if turn == 0 {
+                self.look_ahead(&mut ahead, &mut guesses);
+            }
+            match self.post_at(&tap, ends.at(posted), guesses[turn]) {
                 Ok(reply) => out.push(reply),
                 Err(_) => return RunEnd::Cut { posted },
             }

@@ -1,38 +1,39 @@
-use Rattle.std.proofs.Common.{rules, arith, Option, [], ◌∷◌, ap, ◌∙◌}
-use Rattle.std.specs.HashMap.Entry.{map_with_value}
-use Rattle.std.specs.Option.{unwrap_or}
-use Rattle.account_rule.specs.Stands.{StandsForSome}
+-- The step is taken on what stands at the token's place, and written there.
+use Rattle.std.proofs.Common.{rules, arith, ◌≡◌, List, [], ◌∷◌, ◌++◌, Option, Some, refl, subst, sym, ap, ◌∙◌}
+use Rattle.account_rule.specs.Rules.{rules_of}
+use Rattle.account_rule.specs.Stands.{Stands, StandsForSome}
+use Rattle.account_rule.specs.declared.tap.TapIn.{TapIn}
 use Rattle.shard_book.specs.declared.accounts.Kept.{Kept}
-use Rattle.shard_book.specs.Accounts.{kept_at, counted}
+use Rattle.shard_book.specs.Accounts.{kept_at, counted, IsKept}
 use Rattle.shard_book.specs.Sums.{Sums, add_sums, sums_of_replies}
-use Rattle.shard_book.proofs.AccountsLemmas.{stands_or, counted_or, here_same, other_same}
+use Rattle.shard_book.specs.Token.{bytes_of, token_eq}
+use Rattle.shard_book.proofs.AccountsLemmas.{stands_or, counted_or, found, written}
 use Rattle.shard_book.proofs.accounts.Accounts.step.Goals as goal
 
 pub step-reply-requires-clause-stands : goal.step-reply-requires-clause-stands
-unfolding StandsForSome kept_at
-step-reply-requires-clause-stands c =
-    let fresh : Kept = record { account = c.fresh.result; counts = c.new.result } in
-    rw c.bytes.ensures (
-      c.requires.kept.0,
-      stands_or _ _ fresh c.or_insert-kept.result.now _
-          (c.or_insert-kept.ensures.value ∙ ap (λ (kept : Option Kept). unwrap_or kept fresh) c.in_ok-self.ensures.value)
-          (c.fresh.ensures.stands _) c.requires.kept.1,
-    )
+unfolding StandsForSome
+step-reply-requires-clause-stands c = rw c.bytes.ensures (c.requires.kept.0, stands_or _ (kept_at c.args.self.now c.args.token) _ _ (found c.in_ok-place.ensures.made c.pair_mut-kept.ensures.value) c.requires.kept.1)
+
+pub returns-clause-kept : goal.returns-clause-kept
+unfolding kept_at
+returns-clause-kept c = λ taps kept.
+    let next : Kept = record { account = c.step-reply.new.self; counts = c.add-was_counted.new.self } in
+    let stands : Stands (rules_of c.args.table.now (bytes_of c.args.token)) c.step-reply.new.self (taps ++ c.args.tap ∷ []) =
+    (rw c.bytes.ensures at c.step-reply.ensures.stands) taps (stands_or _ (kept_at c.args.self.now c.args.token) _ taps (found c.in_ok-place.ensures.made c.pair_mut-kept.ensures.value) kept) in
+    subst (λ (o : Option Kept). IsKept (rules_of c.args.table.now (bytes_of c.args.token)) o (taps ++ c.args.tap ∷ [])) (sym (written c.place.new.self c.in_ok-place.place c.args.token _ (record { account = c.step-reply.new.self; counts = c.add-was_counted.new.self }) c.pair_mut-kept.ensures.unique c.in_ok-place.ensures.made.at).1) stands
 
 pub returns-clause-counted : goal.returns-clause-counted
 unfolding kept_at
 returns-clause-counted c = λ counting.
-    let fresh : Kept = record { account = c.fresh.result; counts = c.new.result } in
-    let next : Kept = record { account = c.step-reply.new.self; counts = c.add-was_counted.new.self } in
-    ap counted (here_same _ (map_with_value c.in_ok-self.field-0 next) c.args.self.now.map _ next (search rules) (c.in_ok-self.ensures.update.0 next))
+    ap counted (written c.place.new.self c.in_ok-place.place c.args.token _ (record { account = c.step-reply.new.self; counts = c.add-was_counted.new.self }) c.pair_mut-kept.ensures.unique c.in_ok-place.ensures.made.at).1
     ∙ c.add-was_counted.ensures (grind arith)
     ∙ ap (λ (s : Sums). add_sums s (sums_of_replies (c.step-reply.result ∷ [])))
-    (counted_or _ fresh c.or_insert-kept.result.now
-    (c.or_insert-kept.ensures.value ∙ ap (λ (kept : Option Kept). unwrap_or kept fresh) c.in_ok-self.ensures.value)
-    c.new.ensures)
+    (counted_or (kept_at c.args.self.now c.args.token) _ (found c.in_ok-place.ensures.made c.pair_mut-kept.ensures.value))
+
+pub returns-clause-there : goal.returns-clause-there
+unfolding kept_at
+returns-clause-there c = rw (written c.place.new.self c.in_ok-place.place c.args.token _ (record { account = c.step-reply.new.self; counts = c.add-was_counted.new.self }) c.pair_mut-kept.ensures.unique c.in_ok-place.ensures.made.at).1 refl
 
 pub returns-clause-others : goal.returns-clause-others
 unfolding kept_at
-returns-clause-others c = λ other apart.
-    let next : Kept = record { account = c.step-reply.new.self; counts = c.add-was_counted.new.self } in
-    other_same _ (map_with_value c.in_ok-self.field-0 next) c.args.self.now.map _ next (search rules) (c.in_ok-self.ensures.update.0 next) other apart
+returns-clause-others c = λ other apart. (written c.place.new.self c.in_ok-place.place c.args.token _ (record { account = c.step-reply.new.self; counts = c.add-was_counted.new.self }) c.pair_mut-kept.ensures.unique c.in_ok-place.ensures.made.at).2 other apart ∙ c.in_ok-place.ensures.others other apart

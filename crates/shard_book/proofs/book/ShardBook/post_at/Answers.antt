@@ -8,8 +8,8 @@ use Rattle.shard_book.specs.declared.entry.Entry.{Entry}
 use Rattle.shard_book.specs.Sound.{AreKept, IsSound}
 use Rattle.shard_book.specs.Token.{bytes_of}
 use Rattle.shard_book.proofs.SoundLemmas.{sound-same, sound-post}
-use Rattle.shard_book.proofs.book.ShardBook.post.Goals as goal
-use Rattle.shard_book.proofs.book.ShardBook.post.Goals.{After-push_reserved}
+use Rattle.shard_book.proofs.book.ShardBook.post_at.Goals as goal
+use Rattle.shard_book.proofs.book.ShardBook.post_at.Goals.{After-push_reserved}
 
 pub step-requires-clause-kept : goal.step-requires-clause-kept
 unfolding AreKept
