@@ -1,5 +1,5 @@
 -- What is kept of the tokens counts their entries.
-use Rattle.std.proofs.Common.{◌≡◌, Bool, true, false, cond, ◌||◌, List, [], ◌∷◌, ◌++◌, map, Option, Some, None, refl, sym, ap, subst, ◌∙◌, ⊎_elim}
+use Rattle.std.proofs.Common.{◌≡◌, Bool, true, false, cond, ◌||◌, List, [], ◌∷◌, ◌++◌, map, None, refl, sym, ap, ◌∙◌, ⊎_elim}
 use Rattle.std.specs.List.{list_any}
 use Rattle.std.specs.Option.{is_some}
 use Rattle.std.specs.Set.{is_member}
@@ -8,7 +8,6 @@ use Rattle.std.proofs.lemmas.List.{map-append, append-nil}
 use Rattle.std.proofs.lemmas.List.Elements.{filter-append}
 use Rattle.std.proofs.lemmas.List.Folds.{list_any-append}
 use Rattle.shard_book.specs.declared.accounts.Accounts.{Accounts}
-use Rattle.shard_book.specs.declared.accounts.Kept.{Kept}
 use Rattle.shard_book.specs.declared.entry.Entry.{Entry}
 use Rattle.shard_book.specs.declared.token.Token.{Token}
 use Rattle.shard_book.specs.Accounts.{kept_at, counted}
@@ -17,7 +16,7 @@ use Rattle.shard_book.specs.Entry.{is_of, own, reply_of}
 use Rattle.shard_book.specs.Groups.{token_of}
 use Rattle.shard_book.specs.Sums.{Sums, sums, sums_of_replies, add_sums}
 use Rattle.shard_book.specs.Token.{token_eq}
-use Rattle.shard_book.proofs.Histories.{same_token, token_eq-sym, token_eq-refl}
+use Rattle.shard_book.proofs.Histories.{same_token, token_eq-sym}
 use Rattle.shard_book.proofs.SumsLemmas.{sums-append}
 
 or-true : (a : Bool) → true ≡ (a || (true || false))

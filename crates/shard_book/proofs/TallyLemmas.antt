@@ -1,10 +1,10 @@
 -- One reply more at the place of its answer.
-use Rattle.std.proofs.Common.{◌≡◌, ℕ, ◌+◌, ◌*◌, ◌<◌, ◌≤◌, List, [], ◌∷◌, length, set, refl, sym, ap, ◌∙◌, arith}
+use Rattle.std.proofs.Common.{◌≡◌, ℕ, ◌+◌, List, [], ◌∷◌, length, set, arith}
 use Rattle.std.specs.Prelude.{slice_index}
 use Rattle.account_rule.specs.declared.reply.Answer.{Answer}
 use Rattle.account_rule.specs.declared.reply.Answer.TheVariants.{Paid, Transfer, Capped, Stale, Unknown}
 use Rattle.account_rule.specs.declared.reply.Reply.{Reply}
-use Rattle.shard_book.specs.Places.{place, all_of, HasFewCents}
+use Rattle.shard_book.specs.Places.{place}
 use Rattle.shard_book.specs.Sums.{Sums, sums_of_replies, add_sums}
 use Rattle.shard_book.specs.Tally.{sums_of_places}
 

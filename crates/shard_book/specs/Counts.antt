@@ -1,5 +1,5 @@
 -- What small counts stand for.
-use Rattle.std.specs.Prelude.{ℕ, ◌+◌}
+use Rattle.std.specs.Prelude.{◌+◌}
 use Rattle.shard_book.specs.declared.counts.Counts.{Counts}
 use Rattle.shard_book.specs.declared.counts.TokenCounts.{TokenCounts}
 use Rattle.shard_book.specs.declared.token.Token.{Token}

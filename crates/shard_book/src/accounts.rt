@@ -23,6 +23,9 @@ use fare_table::{FareTable, NoMemory};
 use indexmap::IndexMap;
 use std::alloc::Global;
 
+/// A guess at which no account is.
+pub(crate) const NO_PLACE: usize = usize::MAX;
+
 /// What is kept of one token: its account, and the counts of its entries.
 #[derive(Clone, Copy, Debug, PartialEq, Eq)]
 pub(crate) struct Kept {
@@ -66,15 +69,25 @@ impl Accounts {
         }
     }
 
-    /// The place of the token's account, if it has one. It stays there.
+    // The place of the token's account, if it has one.
     #[inline(always)]
     #[tactic(auto, unfolding(crate::specs::Accounts::kept_at))]
-    pub(crate) fn place_of(&self, token: Token) -> Option<usize>
+    fn place_of(&self, token: Token) -> Option<usize>
         ensures found { IfSome result (IsPlace self.now token) }
         ensures absent { IfNone result (kept_at self.now token ≡ None) }
     {
         let (place, _, _) = self.map.get_full(&token)?;
         Some(place)
+    }
+
+    /// A guess of the place of the token's account, for `step`. It reads the account there, which is then near
+    /// when the tap is posted.
+    #[inline(always)]
+    pub(crate) fn guess(&self, token: Token) -> usize {
+        match self.map.get_full(&token) {
+            Some((place, _, kept)) if kept.account.window().is_some() => place,
+            _ => NO_PLACE,
+        }
     }
 
     // Whether the token's account is at this place.

@@ -11,7 +11,7 @@ ghost use Rattle.shard_book.specs.Token.{bytes_of};
 ghost use Rattle.shard_book.specs.Book.{AreOfShard, PostsTap, limit_of};
 ghost use Rattle.shard_book.specs.History.{IsLegal};
 
-use crate::accounts::Accounts;
+use crate::accounts::{Accounts, NO_PLACE};
 use crate::counts::TokenCounts;
 use crate::entry::Entry;
 use crate::keys::TokenKeys;
@@ -21,9 +21,6 @@ use fare_table::{FareTable, NoMemory};
 use std::alloc::Global;
 use std::marker::Model;
 use tap_views::TapView;
-
-/// A guess at which no account is.
-pub(crate) const NO_PLACE: usize = usize::MAX;
 
 /// The accounts and the history of one shard.
 ///
@@ -117,10 +114,10 @@ impl ShardBook {
         Ok(reply)
     }
 
-    /// The place of the token's account, or `NO_PLACE`.
+    /// A guess of the place of the token's account, for `post_at`.
     #[inline(always)]
     pub(crate) fn guess(&self, token: Token) -> usize {
-        self.accounts.place_of(token).unwrap_or(NO_PLACE)
+        self.accounts.guess(token)
     }
 
     /// The book's fare table.

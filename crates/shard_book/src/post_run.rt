@@ -5,7 +5,8 @@ ghost use Rattle.tap_views.specs.Shards.{run_taps};
 ghost use Rattle.shard_book.specs.History.{IsLegal};
 ghost use Rattle.shard_book.specs.Visits.{PostsRun, limits_of};
 
-use crate::book::{NO_PLACE, ShardBook};
+use crate::accounts::NO_PLACE;
+use crate::book::ShardBook;
 use crate::ends::Ends;
 use crate::replies::Replies;
 use crate::run_end::RunEnd;

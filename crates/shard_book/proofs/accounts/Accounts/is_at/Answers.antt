@@ -1,4 +1,4 @@
-use Rattle.std.proofs.Common.{Option, Some, sym, ap, ◌≡◌, ◌∙◌, arith}
+use Rattle.std.proofs.Common.{sym, ap, ◌≡◌, ◌∙◌, arith}
 use Rattle.indexmap.specs.IndexMap.{get}
 use Rattle.shard_book.specs.Token.{token_eq}
 use Rattle.shard_book.specs.declared.token.Token.{Token}

@@ -1,12 +1,11 @@
 -- The step is taken on what stands at the token's place, and written there.
-use Rattle.std.proofs.Common.{rules, arith, ◌≡◌, List, [], ◌∷◌, ◌++◌, Option, Some, refl, subst, sym, ap, ◌∙◌}
+use Rattle.std.proofs.Common.{arith, [], ◌∷◌, ◌++◌, Option, refl, subst, sym, ap, ◌∙◌}
 use Rattle.account_rule.specs.Rules.{rules_of}
 use Rattle.account_rule.specs.Stands.{Stands, StandsForSome}
-use Rattle.account_rule.specs.declared.tap.TapIn.{TapIn}
 use Rattle.shard_book.specs.declared.accounts.Kept.{Kept}
 use Rattle.shard_book.specs.Accounts.{kept_at, counted, IsKept}
 use Rattle.shard_book.specs.Sums.{Sums, add_sums, sums_of_replies}
-use Rattle.shard_book.specs.Token.{bytes_of, token_eq}
+use Rattle.shard_book.specs.Token.{bytes_of}
 use Rattle.shard_book.proofs.AccountsLemmas.{stands_or, counted_or, found, written}
 use Rattle.shard_book.proofs.accounts.Accounts.step.Goals as goal
 

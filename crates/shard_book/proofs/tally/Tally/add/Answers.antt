@@ -1,6 +1,5 @@
-use Rattle.std.proofs.Common.{rules, ◌≡◌, ◌+◌, [], ◌∷◌, ap, ◌∙◌, length}
+use Rattle.std.proofs.Common.{rules, ◌+◌, ap, ◌∙◌}
 use Rattle.std.specs.Prelude.{slice_index, slice_set}
-use Rattle.account_rule.specs.declared.reply.Reply.{Reply}
 use Rattle.shard_book.specs.Places.{place}
 use Rattle.shard_book.specs.Tally.{sums_of_places}
 use Rattle.shard_book.proofs.TallyLemmas.{tallied}
