@@ -24,7 +24,7 @@ use indexmap::IndexMap;
 use std::alloc::Global;
 
 /// A guess at which no account is.
-pub(crate) const NO_PLACE: usize = usize::MAX;
+pub(crate) const NO_PLACE: u32 = u32::MAX;
 
 /// What is kept of one token: its account, and the counts of its entries.
 #[derive(Clone, Copy, Debug, PartialEq, Eq)]
@@ -83,9 +83,11 @@ impl Accounts {
     /// A guess of the place of the token's account, for `step`. It reads the account there, which is then near
     /// when the tap is posted.
     #[inline(always)]
-    pub(crate) fn guess(&self, token: Token) -> usize {
+    pub(crate) fn guess(&self, token: Token) -> u32 {
         match self.map.get_full(&token) {
-            Some((place, _, kept)) if kept.account.window().is_some() => place,
+            Some((place, _, kept)) if kept.account.window().is_some() => u32::try_from(
+                place,
+            ).unwrap_or(NO_PLACE),
             _ => NO_PLACE,
         }
     }
@@ -125,12 +127,13 @@ impl Accounts {
     // The place of the token's account, which is opened where there is none. The guess saves a look-up where it is right.
     #[inline(always)]
     #[tactic(auto, unfolding(crate::specs::Accounts::kept_at))]
-    fn place(&mut self, token: Token, guess: usize) -> Result<usize, NoMemory>
+    fn place(&mut self, token: Token, guess: u32) -> Result<usize, NoMemory>
         ensures made { IfOk result (IsMade self.old self.new token) }
         ensures others { OnOk result ((other : Token) → token_eq token other ≡ false → kept_at self.new other ≡ kept_at self.old other) }
         ensures counting { self.new.counting ≡ self.old.counting }
         ensures err { OnErr result ((other : Token) → kept_at self.new other ≡ kept_at self.old other) }
     {
+        let guess = guess as usize;
         if self.is_at(guess, token) {
             return Ok(guess);
         }
@@ -148,7 +151,7 @@ impl Accounts {
         table: &FareTable,
         token: Token,
         tap: TapIn,
-        guess: usize,
+        guess: u32,
     ) -> Result<Reply, NoMemory>
         requires mode { ForSome tap.mode (λ mode. mode.place < length table.now.rules.modes) }
         requires until { tap.until ≡ until table.now tap.moment }

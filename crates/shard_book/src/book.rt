@@ -85,7 +85,7 @@ impl ShardBook {
         &mut self,
         tap: &TapView,
         until: u64,
-        guess: usize,
+        guess: u32,
     ) -> Result<Reply, NoMemory>
         requires here { shard_of_token tap.now.token self.old.shards ≡ self.old.shard }
         requires until { until ≡ limit_of self.old.table tap.now }
@@ -116,7 +116,7 @@ impl ShardBook {
 
     /// A guess of the place of the token's account, for `post_at`.
     #[inline(always)]
-    pub(crate) fn guess(&self, token: Token) -> usize {
+    pub(crate) fn guess(&self, token: Token) -> u32 {
         self.accounts.guess(token)
     }
 

@@ -15,11 +15,11 @@ use tap_views::{Run, RunTaps};
 
 /// How many accounts are looked up at once: so many look-ups in a row wait for memory side by side, where each
 /// tap's own would wait alone.
-const AT_ONCE: usize = 32;
+const AT_ONCE: usize = 16;
 
 impl ShardBook {
     // Guesses the places of the next taps' accounts. A tap in between may open an account: its guess is then wrong.
-    fn look_ahead(&self, ahead: &mut RunTaps, guesses: &mut [usize; AT_ONCE]) {
+    fn look_ahead(&self, ahead: &mut RunTaps, guesses: &mut [u32; AT_ONCE]) {
         for guess in guesses.iter_mut() {
             let Some(tap) = ahead.next() else {
                 return;
