@@ -607,20 +607,33 @@ fn two_shards<R: RandomSource>(alloc: Global, rt: &R) -> Result<[ShardBook; 2], 
     Ok([even, odd])
 }
 
-/// The sums by token: by the counts that the books keep, and over their entries.
-fn kept_and_added(alloc: Global, books: &[ShardBook]) -> Result<[Vec<(Token, [u128; 7])>; 2], Fail>
+/// The sums by token as `TokenSums` gives them, one after another.
+fn listed(alloc: Global, books: &[ShardBook]) -> Result<Vec<(Token, [u128; 7])>, Fail>
+    requires { length books.now ≤ 64 }
+{
+    let sums = TokenSums::of(alloc, books)?;
+    let mut list = Vec::new(alloc);
+    for i in 0..sums.len() {
+        let sum = sums.get(i);
+        list.push((sum.token, shown(&sum.totals)))?;
+    }
+    Ok(list)
+}
+
+/// The sums by token: by the counts that the books keep, over their entries, and listed.
+fn summed_each_way(alloc: Global, books: &[ShardBook]) -> Result<[Vec<(Token, [u128; 7])>; 3], Fail>
     requires { length books.now ≤ 64 }
 {
     let kept = by_token(alloc, &sums_by_token(alloc, books)?)?;
     let added = by_token(alloc, &added_by_token(alloc, books)?)?;
-    Ok([kept, added])
+    Ok([kept, added, listed(alloc, books)?])
 }
 
 /// The counts that the books keep and the sums over their entries are the same.
 #[test]
 fn sums_of_two_shards(rt: HostRuntime) -> Result<(), Fail> {
     let alloc = rt.alloc();
-    let [kept, added] = kept_and_added(alloc, &two_shards(alloc, &rt)?)?;
+    let [kept, added, listed] = summed_each_way(alloc, &two_shards(alloc, &rt)?)?;
     let wanted = [
         (token(0xa1), [5, 2, 2, 0, 1, 0, 600]),
         (token(0xb2), [2, 1, 0, 0, 0, 1, 300]),
@@ -628,6 +641,43 @@ fn sums_of_two_shards(rt: HostRuntime) -> Result<(), Fail> {
     ];
     assert!(rt; are_equal(&kept, &wanted));
     assert!(rt; are_equal(&added, &wanted));
+    assert!(rt; are_equal(&listed, &wanted));
+    Ok(())
+}
+
+/// A token that stands in two books is told once.
+#[test]
+fn sums_of_a_shared_token(rt: HostRuntime) -> Result<(), Fail> {
+    let alloc = rt.alloc();
+    let one = book_after(alloc, &rt, &four_taps(), 0, 1)?;
+    let other = book_after(alloc, &rt, &[tap(0xa1, 9, START)], 0, 1)?;
+    let [kept, added, listed] = summed_each_way(alloc, &[one, other])?;
+    let wanted = [(token(0xa1), [5, 2, 2, 0, 0, 1, 600])];
+    assert!(rt; are_equal(&kept, &wanted));
+    assert!(rt; are_equal(&added, &wanted));
+    assert!(rt; are_equal(&listed, &wanted));
+    Ok(())
+}
+
+/// A book with 70,000 taps of one token at a validator that no table knows: more than a count of it holds.
+fn busy_book<R: RandomSource>(alloc: Global, rt: &R) -> Result<ShardBook, Fail> {
+    let mut book = book_after(alloc, rt, &four_taps(), 0, 1)?;
+    let taps = [tap(0xa1, 9, START); 1000];
+    for _ in 0..70 {
+        post_once(alloc, &mut book, &taps)?;
+    }
+    Ok(book)
+}
+
+/// Where a count no longer fits, the sums are those of the entries.
+#[test]
+fn counts_that_no_longer_fit(rt: HostRuntime) -> Result<(), Fail> {
+    let alloc = rt.alloc();
+    let [kept, added, listed] = summed_each_way(alloc, &[busy_book(alloc, &rt)?])?;
+    let wanted = [(token(0xa1), [70_004, 2, 2, 0, 0, 70_000, 600])];
+    assert!(rt; are_equal(&kept, &wanted));
+    assert!(rt; are_equal(&added, &wanted));
+    assert!(rt; are_equal(&listed, &wanted));
     Ok(())
 }
 
