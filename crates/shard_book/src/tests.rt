@@ -645,13 +645,18 @@ fn sums_of_two_shards(rt: HostRuntime) -> Result<(), Fail> {
     Ok(())
 }
 
+/// Two books that both have taps of one token.
+fn sharing_books<R: RandomSource>(alloc: Global, rt: &R) -> Result<[ShardBook; 2], Fail> {
+    let one = book_after(alloc, rt, &four_taps(), 0, 1)?;
+    let other = book_after(alloc, rt, &[tap(0xa1, 9, START)], 0, 1)?;
+    Ok([one, other])
+}
+
 /// A token that stands in two books is told once.
 #[test]
 fn sums_of_a_shared_token(rt: HostRuntime) -> Result<(), Fail> {
     let alloc = rt.alloc();
-    let one = book_after(alloc, &rt, &four_taps(), 0, 1)?;
-    let other = book_after(alloc, &rt, &[tap(0xa1, 9, START)], 0, 1)?;
-    let [kept, added, listed] = summed_each_way(alloc, &[one, other])?;
+    let [kept, added, listed] = summed_each_way(alloc, &sharing_books(alloc, &rt)?)?;
     let wanted = [(token(0xa1), [5, 2, 2, 0, 0, 1, 600])];
     assert!(rt; are_equal(&kept, &wanted));
     assert!(rt; are_equal(&added, &wanted));
