@@ -1,18 +1,22 @@
 -- What is kept of one token changes, the rest stays.
-use Rattle.std.proofs.Common.{◌≡◌, ℕ, List, [], ◌∷◌, ◌++◌, length, refl, Option, Some, None, slice_get, sym, ap, subst, ◌∙◌}
-use Rattle.indexmap.specs.IndexMap.{IsUnique, Updates, get, insert_entry, with_value_at}
+use Rattle.std.proofs.Common.{◌≡◌, ℕ, suc, ◌+◌, arith, List, [], ◌∷◌, ◌++◌, length, refl, Option, Some, None, slice_get, sym, ap, subst, ◌∙◌, Bool, true, false, cond, is_some, ⊎_elim}
+use Rattle.std.specs.Map.{keys_of, lookup}
+use Rattle.std.specs.List.{position_or_len}
+use Rattle.indexmap.specs.IndexMap.{IsUnique, Updates, get, insert_entry, insert_index, with_value_at}
 use Rattle.indexmap.proofs.CallerLemmas.{insert_entry-new, updates-with_value_at}
 use Rattle.account_rule.specs.declared.tap.TapIn.{TapIn}
 use Rattle.account_rule.specs.Rules.{Rules}
 use Rattle.account_rule.specs.Stands.{Stands}
 use Rattle.shard_book.specs.declared.accounts.Accounts.{Accounts}
 use Rattle.shard_book.specs.declared.accounts.Kept.{Kept}
-use Rattle.shard_book.specs.Accounts.{IsKept, IsKeptOrFresh, IsMade, IsPlace, counted, kept_at}
+use Rattle.shard_book.specs.Accounts.{IsKept, IsKeptOrFresh, IsMade, IsPlace, StandsOn, counted, kept_at}
 use Rattle.shard_book.specs.Counts.{sums_of_counts}
 use Rattle.shard_book.specs.Sums.{sums_of_replies}
 use Rattle.shard_book.specs.Token.{token_eq}
 use Rattle.shard_book.specs.declared.token.Token.{Token}
+use Rattle.shard_book.proofs.Histories.{same_token}
 use Rattle.shard_book.proofs.TokenLemmas.{token_eq-laws}
+use Rattle.std.proofs.lemmas.Bool.{cases_Bool, false≢true}
 
 -- the kept account, or else a fresh one, stands for the taps
 pub stands_or : (rules : Rules) (kept : Option Kept) (here : Kept) (taps : List TapIn) → IsKeptOrFresh kept here → IsKept rules kept taps → Stands rules here.account taps
@@ -47,7 +51,7 @@ at_place accounts token there place kept same at is = record { kept = kept; at =
 
 -- what is at its place need not be made
 pub made_before : (accounts : Accounts) (token : Token) (place : ℕ) → IsPlace accounts token place → IsMade accounts accounts token place
-made_before accounts token place there = record { kept = there.kept; at = there.at; is = subst (λ (o : Option Kept). IsKeptOrFresh o there.kept) (sym there.is) refl }
+made_before accounts token place there = record { kept = there.kept; at = there.at; is = subst (λ (o : Option Kept). IsKeptOrFresh o there.kept) (sym there.is) refl; now = there.is }
 
 -- the last one stands behind all others
 slice_get-last : {X : Type 0} (xs : List X) (x : X) → slice_get (xs ++ x ∷ []) (length xs) ≡ Some x
@@ -55,12 +59,66 @@ slice_get-last [] x = refl
 slice_get-last (y ∷ ys) x = slice_get-last ys x
 
 -- an account that is opened stands last
-pub made_last : (old new : Accounts) (token : Token) (fresh : Kept) → kept_at old token ≡ None → new.map.entries ≡ insert_entry token_eq old.map.entries token fresh → ((rules : Rules) → Stands rules fresh.account []) → sums_of_counts fresh.counts ≡ sums_of_replies [] → IsMade old new token (length old.map.entries)
+pub made_last : (old new : Accounts) (token : Token) (place : ℕ) (fresh : Kept) → place ≡ length old.map.entries → kept_at old token ≡ None → kept_at new token ≡ Some fresh → new.map.entries ≡ insert_entry token_eq old.map.entries token fresh → ((rules : Rules) → Stands rules fresh.account []) → sums_of_counts fresh.counts ≡ sums_of_replies [] → IsMade old new token place
 unfolding kept_at
-made_last old new token fresh none entries stands counts =
+made_last old new token place fresh at none now entries stands counts =
     let last : new.map.entries ≡ old.map.entries ++ (token, fresh) ∷ [] = entries ∙ insert_entry-new token_eq old.map token fresh none in
     record {
       kept = fresh;
-      at = rw last (slice_get-last old.map.entries (token, fresh));
+      at = rw last (rw at (slice_get-last old.map.entries (token, fresh)));
       is = subst (λ (o : Option Kept). IsKeptOrFresh o fresh) (sym none) (stands, counts);
+      now = now;
     }
+
+-- a key that passes stands at its index
+record IsAt (token : Token) (es : List (Token × Kept)) (place : ℕ) : Type 0 where
+  kept : Kept
+  at : slice_get es place ≡ Some (token, kept)
+  is : lookup (token_eq token) es ≡ Some kept
+
+slice_get-next : {X : Type 0} (x : X) (xs : List X) (n : ℕ) → slice_get (x ∷ xs) (1 + n) ≡ slice_get xs n
+slice_get-next x xs n = let same : 1 + n ≡ suc n = omega arith in ap (λ (i : ℕ). slice_get (x ∷ xs) i) same
+
+at_index : (token : Token) (es : List (Token × Kept)) → is_some (lookup (token_eq token) es) ≡ true → IsAt token es (position_or_len (token_eq token) (keys_of es))
+at_index token [] some = absurd (false≢true some)
+at_index token (e ∷ es) some =
+    ⊎_elim
+    (λ (here : token_eq token e.0 ≡ true). rw here (record { kept = e.1; at = ap (λ (t : Token). Some (t, e.1)) (sym (same_token token e.0 here)); is = ap (λ (b : Bool). cond b (Some e.1) (lookup (token_eq token) es)) here }))
+    (λ (apart : token_eq token e.0 ≡ false).
+    let rest : IsAt token es (position_or_len (token_eq token) (keys_of es)) = at_index token es (ap (λ (b : Bool). is_some (cond b (Some e.1) (lookup (token_eq token) es))) (sym apart) ∙ some) in
+    rw apart (record { kept = rest.kept; at = slice_get-next e es _ ∙ rest.at; is = ap (λ (b : Bool). cond b (Some e.1) (lookup (token_eq token) es)) apart ∙ rest.is }))
+    (cases_Bool (token_eq token e.0))
+
+-- an account that was found stands at the index of its token
+pub made_found : (old new : Accounts) (token : Token) (place : ℕ) → new.map.entries ≡ old.map.entries → is_some (kept_at old token) ≡ true → place ≡ insert_index token_eq old.map token → IsMade old new token place
+unfolding kept_at
+made_found old new token place same some index =
+    let there : IsAt token old.map.entries (insert_index token_eq old.map token) = at_index token old.map.entries some in
+    record {
+      kept = there.kept;
+      at = rw same (rw index there.at);
+      is = subst (λ (o : Option Kept). IsKeptOrFresh o there.kept) (sym there.is) refl;
+      now = ap (λ (es : List (Token × Kept)). lookup (token_eq token) es) same ∙ there.is;
+    }
+
+-- what is kept stands on where it stayed
+pub on-same : {old new : Option Kept} → new ≡ old → StandsOn old new
+on-same {old} {new} same = record {
+  kept = λ rules taps kept. subst (λ (o : Option Kept). IsKept rules o taps) (sym same) kept;
+  sums = ap counted same;
+}
+
+-- and where it is kept now or is fresh
+pub on-made : {old new : Accounts} {token : Token} {place : ℕ} → IsMade old new token place → StandsOn (kept_at old token) (kept_at new token)
+on-made {old} {new} {token} made = record {
+  kept = λ rules taps kept. subst (λ (o : Option Kept). IsKept rules o taps) (sym made.now) (stands_or rules (kept_at old token) made.kept taps made.is kept);
+  sums = ap counted made.now ∙ counted_or (kept_at old token) made.kept made.is;
+}
+
+-- so all stand on where one was made
+pub on-all : {old new : Accounts} {token : Token} {place : ℕ} → IsMade old new token place → ((other : Token) → token_eq token other ≡ false → kept_at new other ≡ kept_at old other) → (other : Token) → StandsOn (kept_at old other) (kept_at new other)
+on-all {old} {new} {token} made others other =
+    ⊎_elim
+    (λ (here : token_eq token other ≡ true). subst (λ (t : Token). StandsOn (kept_at old t) (kept_at new t)) (same_token token other here) (on-made made))
+    (λ (apart : token_eq token other ≡ false). on-same (others other apart))
+    (cases_Bool (token_eq token other))

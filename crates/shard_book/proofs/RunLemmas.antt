@@ -10,7 +10,8 @@ use Rattle.shard_book.specs.Book.{Book, PostsTap, with_entries}
 use Rattle.shard_book.specs.Entry.{IsEntryOf, reply_of}
 use Rattle.shard_book.specs.History.{IsLegal}
 use Rattle.shard_book.specs.Replies.{RepliesView}
-use Rattle.shard_book.specs.Visits.{AreEntriesOf, PostsTaps}
+use Rattle.shard_book.specs.Visits.{AreEntriesOf, PostsRun, PostsTaps}
+use Rattle.shard_book.specs.declared.run_end.RunEnd.TheVariants.{Whole}
 
 -- the first taps of the run are posted, and the others are left
 pub record IsPosting (run : ShardRun) (done left : List Tap) (posted : ℕ) (book after : Book) (replies replied : RepliesView) : Type 0 where
@@ -42,6 +43,12 @@ posts-none book replies = record {
   items = sym (append-nil replies.items);
   spare = omega arith;
 }
+
+-- a run without taps is posted whole
+pub posts-empty : (run : ShardRun) (book : Book) (replies : RepliesView) → run_taps run ≡ [] → PostsRun (run_taps run) Whole book book replies replies
+posts-empty run book replies empty =
+    let none : PostsTaps [] book book replies replies = posts-none book replies in
+    rw empty (record { visit = none.visit; of_run = none.of_taps; appended = none.appended; items = none.items; spare = none.spare })
 
 -- one tap more is posted
 posts-push : (taps : List Tap) (tap : Tap) (book after next : Book) (replies replied more : RepliesView) (reply : Reply) → PostsTaps taps book after replies replied → PostsTap after next tap reply → more.items ≡ replied.items ++ reply ∷ [] → more.spare + 1 ≡ replied.spare → PostsTaps (taps ++ tap ∷ []) book next replies more

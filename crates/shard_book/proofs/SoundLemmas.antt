@@ -1,7 +1,7 @@
 -- A book stays sound when a tap is posted.
-use Rattle.std.proofs.Common.{◌≡◌, ℕ, List, [], ◌∷◌, ◌++◌, true, false, refl, sym, ap, subst, ◌∙◌}
+use Rattle.std.proofs.Common.{◌≡◌, ℕ, List, [], ◌∷◌, ◌++◌, false, refl, sym, ap, subst, ◌∙◌}
 use Rattle.std.proofs.Common.{Option, None, ◌<◌, ◌≤◌}
-use Rattle.std.specs.Option.{option_map, is_some}
+use Rattle.std.specs.Option.{option_map}
 use Rattle.std.proofs.lemmas.List.Elements.{All-nil, All-push}
 use Rattle.tap_views.specs.Shards.{shard_of_token}
 use Rattle.fare_table.specs.Fares.{Fares, mode_at}
@@ -14,26 +14,32 @@ use Rattle.shard_book.specs.declared.accounts.Accounts.{Accounts}
 use Rattle.shard_book.specs.declared.accounts.Kept.{Kept}
 use Rattle.shard_book.specs.declared.entry.Entry.{Entry}
 use Rattle.shard_book.specs.declared.token.Token.{Token}
-use Rattle.shard_book.specs.Accounts.{kept_at, counted, IsCounting, IsKept}
+use Rattle.shard_book.specs.Accounts.{kept_at, counted, IsCounting, IsKept, StandsOn}
 use Rattle.shard_book.specs.Entry.{own, tap_of, taps_of, reply_of}
 use Rattle.shard_book.specs.History.{IsReplied}
 use Rattle.shard_book.specs.Sound.{IsSound, AreKept}
 use Rattle.shard_book.specs.Token.{bytes_of, token_eq}
 use Rattle.shard_book.specs.Sums.{sums_of_replies, add_sums}
+use Rattle.shard_book.proofs.AccountsLemmas.{on-same}
 use Rattle.shard_book.proofs.CountingLemmas.{counted-same, counted-push, counted-none}
-use Rattle.shard_book.proofs.Histories.{legal-none, legal-push, kept-push, kept-same, tap_of-post}
+use Rattle.shard_book.proofs.Histories.{legal-none, legal-push, kept-push, tap_of-post}
 
--- nothing was posted: the entries are the same, and all accounts stayed
-pub sound-same : {table : Fares} {shard shards : ℕ} {accounts after : Accounts} {entries items : List Entry} → items ≡ entries → ((other : Token) → kept_at after other ≡ kept_at accounts other) → (IsCounting after → IsCounting accounts) → IsSound table shard shards accounts entries → IsSound table shard shards after items
-sound-same {table} {shard} {shards} {accounts} {after} {entries} {items} same others counting sound =
+-- nothing was posted: the entries are the same, and what is kept of the tokens stands on
+pub sound-on : {table : Fares} {shard shards : ℕ} {accounts after : Accounts} {entries items : List Entry} → items ≡ entries → ((other : Token) → StandsOn (kept_at accounts other) (kept_at after other)) → (IsCounting after → IsCounting accounts) → IsSound table shard shards accounts entries → IsSound table shard shards after items
+unfolding AreKept
+sound-on {table} {shard} {shards} {accounts} {after} {entries} {items} same others counting sound =
     subst (λ (es : List Entry). IsSound table shard shards after es) (sym same) (record {
       within = sound.within;
       few = sound.few;
       legal = sound.legal;
       here = sound.here;
-      kept = kept-same table accounts after entries sound.kept others;
-      counted = λ counts. counted-same accounts after entries (sound.counted (counting counts)) others;
+      kept = λ token. (others token).kept (rules_of table (bytes_of token)) (taps_of table token entries) (sound.kept token);
+      counted = λ counts. counted-same accounts after entries (sound.counted (counting counts)) (λ other. (others other).sums);
     })
+
+-- nothing was posted: the entries are the same, and all accounts stayed
+pub sound-same : {table : Fares} {shard shards : ℕ} {accounts after : Accounts} {entries items : List Entry} → items ≡ entries → ((other : Token) → kept_at after other ≡ kept_at accounts other) → (IsCounting after → IsCounting accounts) → IsSound table shard shards accounts entries → IsSound table shard shards after items
+sound-same same others counting sound = sound-on same (λ other. on-same (others other)) counting sound
 
 -- one entry was posted
 pub sound-push : {table : Fares} {shard shards : ℕ} {accounts after : Accounts} {entries items : List Entry} (entry : Entry) → items ≡ entries ++ entry ∷ []
@@ -43,17 +49,16 @@ pub sound-push : {table : Fares} {shard shards : ℕ} {accounts after : Accounts
     → IsKept (rules_of table (bytes_of entry.token)) (kept_at after entry.token) (taps_of table entry.token entries ++ tap_of table entry ∷ [])
     → (IsCounting after → counted (kept_at after entry.token) ≡ add_sums (counted (kept_at accounts entry.token)) (sums_of_replies (reply_of entry ∷ [])))
     → (IsCounting after → IsCounting accounts)
-    → is_some (kept_at after entry.token) ≡ true
     → ((other : Token) → token_eq entry.token other ≡ false → kept_at after other ≡ kept_at accounts other)
     → IsSound table shard shards after items
-sound-push {table} {shard} {shards} {accounts} {after} {entries} {items} entry pushed sound here replied own_kept added counting there others =
+sound-push {table} {shard} {shards} {accounts} {after} {entries} {items} entry pushed sound here replied own_kept added counting others =
     subst (λ (es : List Entry). IsSound table shard shards after es) (sym pushed) (record {
       within = sound.within;
       few = sound.few;
       legal = legal-push table entries entry sound.legal replied;
       here = record { each = All-push (λ (e : Entry). shard_of_token (bytes_of e.token) shards ≡ shard) entries entry sound.here.each here };
       kept = kept-push table accounts after entries entry sound.kept own_kept others;
-      counted = λ counts. counted-push accounts after entries entry (sound.counted (counting counts)) (added counts) there others;
+      counted = λ counts. counted-push accounts after entries entry (sound.counted (counting counts)) (added counts) others;
     })
 
 -- one tap was posted: what the account's step tells makes the book sound again
@@ -69,16 +74,15 @@ pub sound-post : {table : Fares} {shard shards : ℕ} {accounts after : Accounts
     → IsKept (rules_of table (bytes_of entry.token)) (kept_at after entry.token) (taps ++ record { moment = entry.moment; mode = mode; until = limit } ∷ []))
     → (IsCounting after → counted (kept_at after entry.token) ≡ add_sums (counted (kept_at accounts entry.token)) (sums_of_replies (reply_of entry ∷ [])))
     → (IsCounting after → IsCounting accounts)
-    → is_some (kept_at after entry.token) ≡ true
     → ((other : Token) → token_eq entry.token other ≡ false → kept_at after other ≡ kept_at accounts other)
     → IsSound table shard shards after items
 unfolding AreKept IsReplied
-sound-post {table} {shard} {shards} {accounts} {after} {entries} {items} entry mode limit pushed sound here is_mode is_limit by_rule stands added counting there others =
+sound-post {table} {shard} {shards} {accounts} {after} {entries} {items} entry mode limit pushed sound here is_mode is_limit by_rule stands added counting others =
     let tap_is : tap_of table entry ≡ record { moment = entry.moment; mode = mode; until = limit } = tap_of-post table entry mode limit is_mode is_limit in
     sound-push entry pushed sound here
     (by_rule _ (sound.kept entry.token) ∙ ap (λ (tap : TapIn). reply (rules_of table (bytes_of entry.token)) (taps_of table entry.token entries) tap) (sym tap_is))
     (subst (λ (tap : TapIn). IsKept (rules_of table (bytes_of entry.token)) (kept_at after entry.token) (taps_of table entry.token entries ++ tap ∷ [])) (sym tap_is) (stands _ (sound.kept entry.token)))
-    added counting there others
+    added counting others
 
 -- a book without entries and without accounts is sound
 pub sound-none : {table : Fares} {shard shards : ℕ} {accounts : Accounts} {items : List Entry} → items ≡ [] → shard < shards → shards ≤ 64 → ((token : Token) → kept_at accounts token ≡ None) → IsSound table shard shards accounts items

@@ -1,25 +1,25 @@
 -- Lists of tokens with the sums of their entries: of one book, of two lists joined, and sorted.
-use Rattle.std.proofs.Common.{◌≡◌, ℕ, ◌+◌, ◌<◌, ◌≤◌, Bool, true, false, cond, ◌||◌, List, [], ◌∷◌, ◌++◌, length, take, get_or, map, Some, None, refl, sym, ap, subst, ◌∙◌, ⊎_elim, arith}
+use Rattle.std.proofs.Common.{◌≡◌, ℕ, ◌+◌, ◌<◌, ◌≤◌, Bool, true, false, cond, ◌||◌, List, [], ◌∷◌, ◌++◌, length, take, get_or, map, filter, Some, None, refl, sym, ap, subst, ◌∙◌, ⊎_elim, arith}
 use Rattle.indexmap.specs.IndexMap.{get}
 use Rattle.std.specs.List.{All, AllByRecursion, Contains, IsDistinct, slice_get}
 use Rattle.std.specs.List.Sorted.{IsPermutation, IsSorted, IsSortedByKey}
-use Rattle.std.specs.Map.{keys_of}
+use Rattle.std.specs.Map.{keys_of, lookup}
 use Rattle.std.specs.Ordering.{eq_by_cmp, is_lt}
 use Rattle.std.specs.Set.{is_member}
 use Rattle.std.proofs.lemmas.Bool.{cases_Bool, false≢true}
 use Rattle.std.proofs.lemmas.Bool.Decides.{nat_tests}
 use Rattle.std.proofs.lemmas.List.{map-append, length-map, append-nil, get_or-map}
-use Rattle.std.proofs.lemmas.List.Elements.{All-append, All-contains_itself, All-map, All-weaker, All-nil, All-from_recursion, recursion_from_All, filter-append}
+use Rattle.std.proofs.lemmas.List.Elements.{All-append, All-contains_itself, All-map, All-weaker, All-nil, All-from_recursion, recursion_from_All, filter-append, All-filter}
 use Rattle.std.proofs.lemmas.List.Folds.{list_any-append}
 use Rattle.std.proofs.lemmas.List.Sorted.{All-permutation, IsPermutation-map, list_any-IsPermutation}
-use Rattle.std.proofs.lemmas.Map.Keys.{IsDistinct-IsPermutation}
+use Rattle.std.proofs.lemmas.Map.Keys.{IsDistinct-IsPermutation, IsDistinct-head, IsDistinct-tail}
 use Rattle.std.proofs.lemmas.Map.Views.{lookup-from_Contains}
-use Rattle.std.proofs.lemmas.Map.Made.{All-is_member, is_some-lookup, keys_of-map_values}
+use Rattle.std.proofs.lemmas.Map.Made.{All-is_member, IsDistinct-keys_filter, keys_of-map_values}
 use Rattle.shard_book.specs.declared.accounts.Accounts.{Accounts}
 use Rattle.shard_book.specs.declared.accounts.Kept.{Kept}
 use Rattle.shard_book.specs.declared.entry.Entry.{Entry}
 use Rattle.shard_book.specs.declared.token.Token.{Token}
-use Rattle.shard_book.specs.Accounts.{kept_at, counted, pair_of, pairs_of}
+use Rattle.shard_book.specs.Accounts.{kept_at, counted, is_used, pair_of, pairs_of}
 use Rattle.shard_book.specs.declared.counts.TokenCounts.{TokenCounts}
 use Rattle.tap_views.specs.Shards.{shard_of_token}
 use Rattle.shard_book.specs.Book.{Book, AreOfShard}
@@ -27,28 +27,57 @@ use Rattle.shard_book.specs.Counting.{AreCounted, AreSummed, AddsSums, AreBelow}
 use Rattle.shard_book.specs.Counts.{sums_of_counts, token_counts}
 use Rattle.shard_book.specs.Entry.{is_of, own}
 use Rattle.shard_book.specs.Groups.{token_of, tokens, sums_by_token, all_entries}
-use Rattle.shard_book.specs.Sums.{Sums, sums}
+use Rattle.shard_book.specs.Sums.{Sums, has_taps, sums, sums_of_replies}
 use Rattle.shard_book.specs.Token.{bytes_of, token_eq, token_cmp}
+use Rattle.shard_book.proofs.CountingLemmas.{own-member}
 use Rattle.shard_book.proofs.Histories.{same_token, token_eq-sym}
 use Rattle.shard_book.proofs.TokenLemmas.{token_eq-laws}
 use Rattle.shard_book.proofs.RisingLemmas.{rising-only, sorted-rises}
 use Rattle.shard_book.proofs.SumsLemmas.{all-more}
 use Rattle.shard_book.proofs.TokenLemmas.{token_cmp-total, token_cmp-ties}
 
+-- a token that is apart from all keys is apart from those that a test leaves
+member-apart : (test : Token × Kept → Bool) (token : Token) (es : List (Token × Kept)) → AllByRecursion (λ there. token_eq token there ≡ false) (keys_of es) → is_member token_eq (keys_of (filter test es)) token ≡ false
+member-apart test token [] apart = refl
+member-apart test token (e ∷ es) apart = by (test e) (member-apart test token es apart.1)
+  where
+    by : (b : Bool) → is_member token_eq (keys_of (filter test es)) token ≡ false → is_member token_eq (keys_of (cond b (e ∷ filter test es) (filter test es))) token ≡ false
+    by true rest = ap (λ (b : Bool). b || is_member token_eq (keys_of (filter test es)) token) apart.0 ∙ rest
+    by false rest = rest
+
+-- a token is among those that have taps exactly where the sums that are kept of it have
+used-member : (token : Token) (es : List (Token × Kept)) → IsDistinct token_eq (keys_of es) → is_member token_eq (keys_of (filter is_used es)) token ≡ has_taps (counted (lookup (token_eq token) es))
+unfolding sums_of_replies
+used-member token [] distinct = refl
+used-member token (e ∷ es) distinct =
+    ⊎_elim
+    (λ (here : token_eq token e.0 ≡ true). there here (is_used e) ∙ ap (λ (b : Bool). has_taps (counted (cond b (Some e.1) (lookup (token_eq token) es)))) (sym here))
+    (λ (apart : token_eq token e.0 ≡ false). past apart (is_used e) ∙ used-member token es (IsDistinct-tail token_eq e.0 (keys_of es) distinct) ∙ ap (λ (b : Bool). has_taps (counted (cond b (Some e.1) (lookup (token_eq token) es)))) (sym apart))
+    (cases_Bool (token_eq token e.0))
+  where
+    there : token_eq token e.0 ≡ true → (b : Bool) → is_member token_eq (keys_of (cond b (e ∷ filter is_used es) (filter is_used es))) token ≡ b
+    there here true = ap (λ (b : Bool). b || is_member token_eq (keys_of (filter is_used es)) token) here
+    there here false = member-apart is_used token es (subst (λ (t : Token). AllByRecursion (λ there. token_eq t there ≡ false) (keys_of es)) (sym (same_token token e.0 here)) (IsDistinct-head token_eq e.0 (keys_of es) distinct))
+
+    past : token_eq token e.0 ≡ false → (b : Bool) → is_member token_eq (keys_of (cond b (e ∷ filter is_used es) (filter is_used es))) token ≡ is_member token_eq (keys_of (filter is_used es)) token
+    past apart true = ap (λ (b : Bool). b || is_member token_eq (keys_of (filter is_used es)) token) apart
+    past apart false = refl
+
 -- what is kept of the tokens, as the map gives it
 pub summed-kept : (accounts : Accounts) (entries : List Entry) → IsDistinct token_eq (keys_of accounts.map.entries) → AreCounted accounts entries → AreSummed entries (pairs_of accounts)
 unfolding kept_at pairs_of
 summed-kept accounts entries distinct counts =
+    let used : List (Token × Kept) = filter is_used accounts.map.entries in
     let found : All (λ kept. get token_eq accounts.map kept.0 ≡ Some kept.1) accounts.map.entries =
     All-weaker (Contains accounts.map.entries) (λ (kept : Token × Kept). get token_eq accounts.map kept.0 ≡ Some kept.1)
     (λ kept here. lookup-from_Contains token_eq-laws kept.0 kept.1 accounts.map.entries distinct here) accounts.map.entries (All-contains_itself accounts.map.entries) in
-    let keys : keys_of (pairs_of accounts) ≡ keys_of accounts.map.entries = keys_of-map_values (λ (kept : Kept). sums_of_counts kept.counts) accounts.map.entries in
+    let keys : keys_of (pairs_of accounts) ≡ keys_of used = keys_of-map_values (λ (kept : Kept). sums_of_counts kept.counts) used in
     record {
-      each = All-map (λ (pair : Token × Sums). pair.1 ≡ sums (own pair.0 entries)) pair_of accounts.map.entries
+      each = All-map (λ (pair : Token × Sums). pair.1 ≡ sums (own pair.0 entries)) pair_of used
           (All-weaker (λ (kept : Token × Kept). get token_eq accounts.map kept.0 ≡ Some kept.1) (λ (kept : Token × Kept). sums_of_counts kept.1.counts ≡ sums (own kept.0 entries))
-          (λ kept is. sym (ap counted is) ∙ counts.sums kept.0) accounts.map.entries found);
-      once = subst (λ (ts : List Token). IsDistinct token_eq ts) (sym keys) distinct;
-      keys = λ token. ap (λ (ts : List Token). is_member token_eq ts token) keys ∙ sym (is_some-lookup (token_eq token) accounts.map.entries) ∙ counts.keys token;
+          (λ kept is. sym (ap counted is) ∙ counts.sums kept.0) used (All-filter is_used (λ (kept : Token × Kept). get token_eq accounts.map kept.0 ≡ Some kept.1) accounts.map.entries found));
+      once = subst (λ (ts : List Token). IsDistinct token_eq ts) (sym keys) (IsDistinct-keys_filter token_eq is_used accounts.map.entries distinct);
+      keys = λ token. ap (λ (ts : List Token). is_member token_eq ts token) keys ∙ used-member token accounts.map.entries distinct ∙ ap has_taps (counts.sums token) ∙ own-member token entries;
     }
 
 -- what holds of each entry's token holds of each token that the entries have

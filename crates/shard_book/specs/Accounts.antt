@@ -1,5 +1,5 @@
 -- What a book's accounts know of a list of taps.
-use Rattle.std.specs.Prelude.{◌≡◌, ℕ, List, [], Option, Some, None, map, slice_get, IsTrue}
+use Rattle.std.specs.Prelude.{◌≡◌, ℕ, Bool, List, [], Option, Some, None, map, filter, slice_get, IsTrue}
 use Rattle.indexmap.specs.IndexMap.{get}
 use Rattle.account_rule.specs.declared.tap.TapIn.{TapIn}
 use Rattle.account_rule.specs.Rules.{Rules}
@@ -8,7 +8,7 @@ use Rattle.shard_book.specs.declared.accounts.Accounts.{Accounts}
 use Rattle.shard_book.specs.declared.accounts.Kept.{Kept}
 use Rattle.shard_book.specs.declared.token.Token.{Token}
 use Rattle.shard_book.specs.Counts.{sums_of_counts}
-use Rattle.shard_book.specs.Sums.{Sums, sums_of_replies}
+use Rattle.shard_book.specs.Sums.{Sums, has_taps, sums_of_replies}
 use Rattle.shard_book.specs.Token.{token_eq}
 
 -- what is kept of the token
@@ -40,15 +40,26 @@ pub record IsMade (old new : Accounts) (token : Token) (place : ℕ) : Type 0 wh
   pub kept : Kept
   pub at : slice_get new.map.entries place ≡ Some (token, kept)
   pub is : IsKeptOrFresh (kept_at old token) kept
+  pub now : kept_at new token ≡ Some kept
 
 -- the kept sums, of nothing where none are kept
 abbrev pub counted : Option Kept → Sums
 counted None = sums_of_replies []
 counted (Some kept) = sums_of_counts kept.counts
 
--- each token with its kept sums, in the order of the map
+-- what is kept now stands for the taps for which that before it stood, and counts the same: it stayed, or is fresh
+pub record StandsOn (old new : Option Kept) : Type 0 where
+  pub kept : (rules : Rules) (taps : List TapIn) → IsKept rules old taps → IsKept rules new taps
+  pub sums : counted new ≡ counted old
+
+-- whether an account has taps; one that was opened ahead has none yet
+abbrev pub is_used : Token × Kept → Bool
+is_used kept = has_taps (sums_of_counts kept.1.counts)
+
+-- a token with its kept sums
 abbrev pub pair_of : Token × Kept → Token × Sums
 pair_of kept = (kept.0, sums_of_counts kept.1.counts)
 
+-- each token that has taps, with its kept sums, in the order of the map
 unfoldable pub pairs_of : Accounts → List (Token × Sums)
-pairs_of accounts = map pair_of accounts.map.entries
+pairs_of accounts = map pair_of (filter is_used accounts.map.entries)

@@ -1,5 +1,5 @@
 -- What a book keeps of each token beside its account: the sums of its entries.
-use Rattle.std.specs.Prelude.{◌≡◌, ℕ, ◌<◌, List, ◌++◌, map, is_some, All}
+use Rattle.std.specs.Prelude.{◌≡◌, ℕ, ◌<◌, List, ◌++◌, map, All}
 use Rattle.std.specs.List.{IsDistinct}
 use Rattle.std.specs.Map.{keys_of}
 use Rattle.std.specs.Set.{is_member}
@@ -13,10 +13,9 @@ use Rattle.shard_book.specs.Groups.{token_of}
 use Rattle.shard_book.specs.Sums.{Sums, sums}
 use Rattle.shard_book.specs.Token.{bytes_of, token_eq}
 
--- for each token of the entries the sums of its own are kept, and for other tokens nothing
+-- for each token the sums of its own entries are kept, those of nothing where it has none
 pub record AreCounted (accounts : Accounts) (entries : List Entry) : Type 0 where
   pub sums : (token : Token) → counted (kept_at accounts token) ≡ sums (own token entries)
-  pub keys : (token : Token) → is_some (kept_at accounts token) ≡ is_member token_eq (map token_of entries) token
 
 -- each token of the entries, once, with the sums of its own entries, in any order
 pub record AreSummed (entries : List Entry) (pairs : List (Token × Sums)) : Type 0 where

@@ -1,5 +1,5 @@
 -- Sums over replies and over entries.
-use Rattle.std.specs.Prelude.{ℕ, ◌+◌, Bool, true, false, List, length, map, count_by, sum_by}
+use Rattle.std.specs.Prelude.{ℕ, ◌+◌, ◌==◌, Bool, true, false, not, List, length, map, count_by, sum_by}
 use Rattle.account_rule.specs.declared.reply.Answer.{Answer}
 use Rattle.account_rule.specs.declared.reply.Answer.TheVariants.{Paid, Transfer, Capped, Stale, Unknown}
 use Rattle.account_rule.specs.declared.reply.Reply.{Reply}
@@ -64,6 +64,10 @@ sums_of_replies replies = record {
 -- the sums of a history: those of its replies
 abbrev pub sums : List Entry → Sums
 sums entries = sums_of_replies (map reply_of entries)
+
+-- whether there is a tap
+abbrev pub has_taps : Sums → Bool
+has_taps sums = not (sums.taps == 0)
 
 -- two sums, joined
 abbrev pub add_sums : Sums → Sums → Sums

@@ -7,7 +7,7 @@ ghost use Rattle.account_rule.specs.Replies.{reply};
 ghost use Rattle.account_rule.specs.Rules.{Rules, rules_of};
 ghost use Rattle.account_rule.specs.Stands.{Stands, StandsForSome};
 ghost use Rattle.account_rule.specs.declared.tap.TapIn.{TapIn};
-ghost use Rattle.shard_book.specs.Accounts.{kept_at, counted, pairs_of, IsCounting, IsKept, IsMade, IsPlace};
+ghost use Rattle.shard_book.specs.Accounts.{kept_at, counted, pairs_of, IsCounting, IsKept, IsMade, IsPlace, StandsOn};
 ghost use Rattle.shard_book.specs.Counting.{AreCounted, AreSummed};
 ghost use Rattle.shard_book.specs.Counts.{token_counts};
 ghost use Rattle.shard_book.specs.declared.entry.Entry.{Entry};
@@ -21,10 +21,11 @@ use crate::token::Token;
 use account_rule::{Account, Reply, TapIn};
 use fare_table::{FareTable, NoMemory};
 use indexmap::IndexMap;
+use indexmap::map::Entry as Place;
 use std::alloc::Global;
 
-/// A guess at which no account is.
-pub(crate) const NO_PLACE: u32 = u32::MAX;
+/// A place at which no account is.
+pub(crate) const NO_PLACE: usize = usize::MAX;
 
 /// What is kept of one token: its account, and the counts of its entries.
 #[derive(Clone, Copy, Debug, PartialEq, Eq)]
@@ -69,25 +70,41 @@ impl Accounts {
         }
     }
 
-    // The place of the token's account, if it has one.
+    /// The place of the token's account, which is opened where there is none: the one look-up that a tap takes. On
+    /// want of memory all that is kept stays.
     #[inline(always)]
     #[tactic(auto, unfolding(crate::specs::Accounts::kept_at))]
-    fn place_of(&self, token: Token) -> Option<usize>
-        ensures found { IfSome result (IsPlace self.now token) }
-        ensures absent { IfNone result (kept_at self.now token ≡ None) }
+    pub(crate) fn open(&mut self, token: Token) -> Result<usize, NoMemory>
+        ensures made { IfOk result (IsMade self.old self.new token) }
+        ensures others { OnOk result ((other : Token) → token_eq token other ≡ false → kept_at self.new other ≡ kept_at self.old other) }
+        ensures counting { self.new.counting ≡ self.old.counting }
+        ensures err { OnErr result ((other : Token) → kept_at self.new other ≡ kept_at self.old other) }
     {
-        let (place, _, _) = self.map.get_full(&token)?;
-        Some(place)
+        let last = self.map.len();
+        match self.map.entry(token)? {
+            Place::Occupied(kept) => Ok(kept.index()),
+            Place::Vacant(place) => {
+                place.insert(Kept {
+                    account: Account::fresh(),
+                    counts: Counts::new(),
+                });
+                Ok(last)
+            }
+        }
     }
 
-    /// A guess of the place of the token's account, for `step`. It reads the account there, which is then near
-    /// when the tap is posted.
+    /// The place of the token's account, for `step`: it is opened where there is none, and is `NO_PLACE` on want of
+    /// memory. What is kept there is read, so that it is near when the tap is posted.
     #[inline(always)]
-    pub(crate) fn guess(&self, token: Token) -> u32 {
-        match self.map.get_full(&token) {
-            Some((place, _, kept)) if kept.account.window().is_some() => u32::try_from(
-                place,
-            ).unwrap_or(NO_PLACE),
+    pub(crate) fn place_ahead(&mut self, token: Token) -> usize
+        ensures stays { (other : Token) → StandsOn (kept_at self.old other) (kept_at self.new other) }
+        ensures counting { self.new.counting ≡ self.old.counting }
+    {
+        let Ok(place) = self.open(token) else {
+            return NO_PLACE;
+        };
+        match self.map.get_index(place) {
+            Some((_, kept)) if kept.counts.has_room() => place,
             _ => NO_PLACE,
         }
     }
@@ -104,54 +121,30 @@ impl Accounts {
         }
     }
 
-    // Opens an account for a token that has none, and returns its place.
-    #[cold]
-    #[inline(never)]
-    #[tactic(auto, unfolding(crate::specs::Accounts::kept_at))]
-    fn open_account(&mut self, token: Token) -> Result<usize, NoMemory>
-        requires none { kept_at self.old token ≡ None }
-        ensures made { IfOk result (IsMade self.old self.new token) }
-        ensures others { OnOk result ((other : Token) → token_eq token other ≡ false → kept_at self.new other ≡ kept_at self.old other) }
-        ensures counting { self.new.counting ≡ self.old.counting }
-        ensures err { OnErr result ((other : Token) → kept_at self.new other ≡ kept_at self.old other) }
-    {
-        let place = self.map.len();
-        let fresh = Kept {
-            account: Account::fresh(),
-            counts: Counts::new(),
-        };
-        self.map.insert(token, fresh)?;
-        Ok(place)
-    }
-
-    // The place of the token's account, which is opened where there is none. The guess saves a look-up where it is right.
+    // The place of the token's account, which is opened where there is none. No look-up is needed where it is at `known`.
     #[inline(always)]
-    #[tactic(auto, unfolding(crate::specs::Accounts::kept_at))]
-    fn place(&mut self, token: Token, guess: u32) -> Result<usize, NoMemory>
+    fn place(&mut self, token: Token, known: usize) -> Result<usize, NoMemory>
         ensures made { IfOk result (IsMade self.old self.new token) }
         ensures others { OnOk result ((other : Token) → token_eq token other ≡ false → kept_at self.new other ≡ kept_at self.old other) }
         ensures counting { self.new.counting ≡ self.old.counting }
         ensures err { OnErr result ((other : Token) → kept_at self.new other ≡ kept_at self.old other) }
     {
-        let guess = guess as usize;
-        if self.is_at(guess, token) {
-            return Ok(guess);
-        }
-        match self.place_of(token) {
-            Some(place) => Ok(place),
-            None => self.open_account(token),
+        if self.is_at(known, token) {
+            Ok(known)
+        } else {
+            self.open(token)
         }
     }
 
-    /// The account rule's step of the token's account, whose reply is then counted. Where the guess is the
-    /// account's place, no look-up is needed; a wrong one costs time alone. On want of memory all that is kept stays.
+    /// The account rule's step of the token's account, whose reply is then counted. Where the account is at the
+    /// known place no look-up is needed; another place costs time alone. On want of memory all that is kept stays.
     #[tactic(auto, unfolding(crate::specs::Accounts::kept_at))]
     pub(crate) fn step(
         &mut self,
         table: &FareTable,
         token: Token,
         tap: TapIn,
-        guess: u32,
+        known: usize,
     ) -> Result<Reply, NoMemory>
         requires mode { ForSome tap.mode (λ mode. mode.place < length table.now.rules.modes) }
         requires until { tap.until ≡ until table.now tap.moment }
@@ -166,11 +159,10 @@ impl Accounts {
         ensures counted { IfOk result (λ answered. IsCounting self.new → counted (kept_at self.new token)
             ≡ add_sums (counted (kept_at self.old token)) (sums_of_replies (answered ∷ []))) }
         ensures counting { IsCounting self.new → IsCounting self.old }
-        ensures there { OnOk result (is_some (kept_at self.new token) ≡ true) }
         ensures others { OnOk result ((other : Token) → token_eq token other ≡ false → kept_at self.new other ≡ kept_at self.old other) }
         ensures err { OnErr result ((other : Token) → kept_at self.new other ≡ kept_at self.old other) }
     {
-        let place = self.place(token, guess)?;
+        let place = self.place(token, known)?;
         let (_, kept) = self.map.pair_mut(place);
         let reply = kept.account.step(table, &token.bytes(), tap);
         let was_counted = kept.counts.add(reply);
@@ -185,7 +177,7 @@ impl Accounts {
         self.counting
     }
 
-    /// Appends each token with its counts, in no order.
+    /// Appends each token that has taps with its counts, in no order.
     #[tactic(auto, unfolding(crate::specs::Accounts::pairs_of))]
     pub(crate) fn push_counts(&self, list: &mut Vec<TokenCounts>) -> Result<(), NoMemory>
         ensures list { OnOk result (map token_counts list.new.items ≡ map token_counts list.old.items ++ pairs_of self.now) }
@@ -194,10 +186,12 @@ impl Accounts {
         let kept_tokens = self.map.iter();
         list.reserve(self.map.len())?;
         for (token, kept) in kept_tokens {
-            list.push(TokenCounts {
-                token: *token,
-                counts: kept.counts,
-            })?;
+            if kept.counts.has_taps() {
+                list.push(TokenCounts {
+                    token: *token,
+                    counts: kept.counts,
+                })?;
+            }
         }
         Ok(())
     }

@@ -79,13 +79,13 @@ impl ShardBook {
         self.post_at(tap, until, NO_PLACE)
     }
 
-    /// Posts one tap as `post` does. A right guess of the place of its token's account saves the look-up.
+    /// Posts one tap as `post` does. Where its token's account is at the known place, no look-up is needed.
     #[inline(always)]
     pub(crate) fn post_at(
         &mut self,
         tap: &TapView,
         until: u64,
-        guess: u32,
+        known: usize,
     ) -> Result<Reply, NoMemory>
         requires here { shard_of_token tap.now.token self.old.shards ≡ self.old.shard }
         requires until { until ≡ limit_of self.old.table tap.now }
@@ -103,7 +103,7 @@ impl ShardBook {
             mode,
             until,
         };
-        let reply = self.accounts.step(&self.table, token, tap_in, guess)?;
+        let reply = self.accounts.step(&self.table, token, tap_in, known)?;
         self.history.push_reserved(Entry {
             token,
             validator,
@@ -114,10 +114,12 @@ impl ShardBook {
         Ok(reply)
     }
 
-    /// A guess of the place of the token's account, for `post_at`.
+    /// The place of the token's account, for `post_at`. An account without taps is opened where there is none.
     #[inline(always)]
-    pub(crate) fn guess(&self, token: Token) -> u32 {
-        self.accounts.guess(token)
+    pub(crate) fn place_ahead(&mut self, token: Token) -> usize
+        ensures { self.new ≡ self.old }
+    {
+        self.accounts.place_ahead(token)
     }
 
     /// The book's fare table.

@@ -34,7 +34,7 @@ fn add_one(count: &mut u16) -> bool
 impl Counts {
     ghost use Rattle.std.specs.Prelude.{◌≡◌, ◌+◌, [], ◌∷◌, IsTrue};
     ghost use Rattle.shard_book.specs.Counts.{sums_of_counts};
-    ghost use Rattle.shard_book.specs.Sums.{sums_of, sums_of_replies, add_sums};
+    ghost use Rattle.shard_book.specs.Sums.{sums_of, sums_of_replies, add_sums, has_taps};
 
     /// The counts of nothing.
     #[tactic(auto, unfolding(crate::specs::Sums::sums_of_replies))]
@@ -66,6 +66,21 @@ impl Counts {
         let (cents, carries) = self.cents.overflowing_add(reply.cents);
         self.cents = cents;
         had_room & !carries
+    }
+
+    /// Whether they count any tap.
+    pub(crate) fn has_taps(&self) -> bool
+        ensures { result ≡ has_taps (sums_of_counts self.now) }
+    {
+        let some = u32::from(self.paid) + u32::from(self.transfers);
+        let free = u32::from(self.capped) + u32::from(self.stale) + u32::from(self.unknown);
+        some + free != 0
+    }
+
+    /// Whether a cent more can be counted.
+    #[inline(always)]
+    pub(crate) fn has_room(&self) -> bool {
+        self.cents < u32::MAX
     }
 
     /// The same as totals.

@@ -18,19 +18,32 @@ use tap_views::{Run, RunTaps};
 const AT_ONCE: usize = 16;
 
 impl ShardBook {
-    // Guesses the places of the next taps' accounts. A tap in between may open an account: its guess is then wrong.
-    fn look_ahead(&self, ahead: &mut RunTaps, guesses: &mut [u32; AT_ONCE]) {
-        for guess in guesses.iter_mut() {
+    // Looks up the accounts of the next taps, where it is their turn.
+    #[inline(always)]
+    fn look_ahead(&mut self, turn: usize, ahead: &mut RunTaps, places: &mut [usize; AT_ONCE])
+        ensures { self.new ≡ self.old }
+    {
+        if turn == 0 {
+            self.look_up(ahead, places);
+        }
+    }
+
+    // Looks up the accounts of the next taps, and opens those that are missing. Nothing is posted.
+    fn look_up(&mut self, ahead: &mut RunTaps, places: &mut [usize; AT_ONCE])
+        ensures { self.new ≡ self.old }
+    {
+        for place in places.iter_mut() {
             let Some(tap) = ahead.next() else {
                 return;
             };
-            *guess = self.guess(Token::of(tap.token()));
+            *place = self.place_ahead(Token::of(tap.token()));
         }
     }
 
     /// Posts the taps of a run in their order and appends their replies to `out`, up to the first want of memory.
     ///
     /// `ends` are the table's limits for the run's taps, and `out` has room for a reply to each.
+    #[inline(always)]
     pub fn post_run(&mut self, run: &Run, ends: &Ends, out: &mut Replies) -> RunEnd
         requires shard { run.now.shard ≡ self.old.shard }
         requires shards { run.now.shards ≡ self.old.shards }
@@ -41,15 +54,30 @@ impl ShardBook {
     {
         // The length tells that the history is legal, also where the run has no tap.
         let _ = self.len();
+        if run.is_empty() {
+            return RunEnd::Whole;
+        }
+        self.post_taps(run, ends, out)
+    }
+
+    // The same, made ready for taps.
+    #[inline(never)]
+    fn post_taps(&mut self, run: &Run, ends: &Ends, out: &mut Replies) -> RunEnd
+        requires shard { run.now.shard ≡ self.old.shard }
+        requires shards { run.now.shards ≡ self.old.shards }
+        requires ends { ends.now ≡ limits_of self.old.table (run_taps run.now) }
+        requires room { length (run_taps run.now) ≤ out.old.spare }
+        requires legal { IsLegal self.old.table self.old.entries }
+        ensures posts { PostsRun (run_taps run.now) result self.old self.new out.old out.new }
+        ensures legal { IsLegal self.new.table self.new.entries }
+    {
         let mut posted = 0;
         let mut ahead = run.taps();
-        let mut guesses = [NO_PLACE; AT_ONCE];
+        let mut places = [NO_PLACE; AT_ONCE];
         for tap in run.taps() {
             let turn = posted as usize % AT_ONCE;
-            if turn == 0 {
-                self.look_ahead(&mut ahead, &mut guesses);
-            }
-            match self.post_at(&tap, ends.at(posted), guesses[turn]) {
+            self.look_ahead(turn, &mut ahead, &mut places);
+            match self.post_at(&tap, ends.at(posted), places[turn]) {
                 Ok(reply) => out.push(reply),
                 Err(_) => return RunEnd::Cut { posted },
             }

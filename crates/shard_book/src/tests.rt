@@ -704,6 +704,20 @@ fn tokens_of_one_book(rt: HostRuntime) -> Result<(), Fail> {
     Ok(())
 }
 
+/// A token whose account was opened ahead of its first tap is none of the book's until the tap is posted.
+#[test]
+fn account_opened_ahead(rt: HostRuntime) -> Result<(), Fail> {
+    let alloc = rt.alloc();
+    let mut book = book_of(alloc, &rt, SAMPLE, 0, 1)?;
+    let place = book.place_ahead(token(1));
+    assert_eq!(rt; book.place_ahead(token(2)), place.wrapping_add(1));
+    assert_eq!(rt; book.place_ahead(token(1)), place);
+    assert!(rt; book.tokens(alloc)?.is_empty());
+    post_once(alloc, &mut book, &[tap(2, SUBWAY, START)])?;
+    assert!(rt; are_equal(&book.tokens(alloc)?, &[token(2)]));
+    Ok(())
+}
+
 /// What one book sums up to.
 fn sum_up_one(alloc: Global, book: &ShardBook) -> Result<Summed, Fail> {
     let validators = by_validator(alloc, &book.by_validator(alloc)?)?;

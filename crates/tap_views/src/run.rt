@@ -2,7 +2,7 @@
 
 ghost use Rattle.std.specs.Iterator.{YieldsFirst, item_count};
 ghost use Rattle.std.specs.List.{AllByRecursion};
-ghost use Rattle.std.specs.Prelude.{◌≡◌, ◌<◌, ◌≤◌, length};
+ghost use Rattle.std.specs.Prelude.{◌≡◌, ◌<◌, ◌≤◌, ◌↔◌, [], length, IsTrue};
 ghost use Rattle.tap_views.specs.Shards.{run_of, run_taps, IsShardTap};
 
 use crate::shard::shard_of;
@@ -46,6 +46,14 @@ impl<'a> Run<'a> {
             Some(places) => places.len() as u32,
             None => self.taps().count() as u32,
         }
+    }
+
+    /// Whether there are no taps. It passes over the batch up to the first one where their places are not known.
+    #[inline(always)]
+    pub fn is_empty(&self) -> bool
+        ensures { IsTrue result ↔ (run_taps self.now ≡ []) }
+    {
+        self.taps().next().is_none()
     }
 
     /// The shard whose taps these are.

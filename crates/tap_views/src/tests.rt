@@ -296,6 +296,7 @@ fn both_taps_are_in_one_of_eight_shards(rt: HostRuntime) -> Result<(), Fail> {
         assert_eq!(rt; run.shard(), shard);
         assert_eq!(rt; run.shards(), 8);
         assert_eq!(rt; run.len(), if shard == 2 { 2 } else { 0 });
+        assert_eq!(rt; run.is_empty(), shard != 2);
     }
     let mut left = batch.run_of(2, 8).taps();
     assert_eq!(rt; left.next().map(|tap| tap.validator_number()), Some(9));

@@ -1,5 +1,5 @@
 -- The step is taken on what stands at the token's place, and written there.
-use Rattle.std.proofs.Common.{arith, [], ◌∷◌, ◌++◌, Option, refl, subst, sym, ap, ◌∙◌}
+use Rattle.std.proofs.Common.{arith, [], ◌∷◌, ◌++◌, Option, subst, sym, ap, ◌∙◌}
 use Rattle.account_rule.specs.Rules.{rules_of}
 use Rattle.account_rule.specs.Stands.{Stands, StandsForSome}
 use Rattle.shard_book.specs.declared.accounts.Kept.{Kept}
@@ -28,10 +28,6 @@ returns-clause-counted c = λ counting.
     ∙ c.add-was_counted.ensures (grind arith)
     ∙ ap (λ (s : Sums). add_sums s (sums_of_replies (c.step-reply.result ∷ [])))
     (counted_or (kept_at c.args.self.now c.args.token) _ (found c.in_ok-place.ensures.made c.pair_mut-kept.ensures.value))
-
-pub returns-clause-there : goal.returns-clause-there
-unfolding kept_at
-returns-clause-there c = rw (written c.place.new.self c.in_ok-place.place c.args.token _ (record { account = c.step-reply.new.self; counts = c.add-was_counted.new.self }) c.pair_mut-kept.ensures.unique c.in_ok-place.ensures.made.at).1 refl
 
 pub returns-clause-others : goal.returns-clause-others
 unfolding kept_at

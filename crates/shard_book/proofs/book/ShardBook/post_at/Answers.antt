@@ -45,7 +45,6 @@ sound c =
     c.in_ok-reply.ensures.kept
     c.in_ok-reply.ensures.counted
     c.in_ok-reply.ensures.counting
-    c.in_ok-reply.ensures.there
     c.in_ok-reply.ensures.others
 
 pub invariant_of-self-2 : goal.invariant_of-self-2
