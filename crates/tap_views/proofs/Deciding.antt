@@ -36,7 +36,7 @@ same_fault bytes f g one other =
 -- ---- a batch or a fault
 module _ (bytes : List ℕ) where
   -- no row before a place holds, if what those rows ask does not
-  rows_before : (p : ℕ) → p ≤ 6 → (1 < p → header (layout_in bytes) ≤ length bytes)
+  pub rows_before : (p : ℕ) → p ≤ 6 → (1 < p → header (layout_in bytes) ≤ length bytes)
       → (2 < p → (take 4 bytes ≡ codes "TAP1") ⊎ (take 4 bytes ≡ codes "TAP2")) → (3 < p → flags_in bytes ≡ 0)
       → (4 < p → count_in bytes ≤ 4096) → (5 < p → size_in bytes ≤ length bytes)
       → (other : LayoutFault) → place other < p → ¬ (Row other bytes)

@@ -3,6 +3,7 @@ mod Deciding
 mod Encodings
 mod Finding
 mod Grammar
+mod Numbers
 mod Reading
 mod Runs
 mod Sorted
