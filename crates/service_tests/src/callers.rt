@@ -92,17 +92,32 @@ fn posted<R: Threads + Wait + RandomSource + Sync>(
     Ok(run(service, uploads, rt, alloc, share, workers, &Open)?)
 }
 
+fn two_uploads(alloc: Global) -> Result<Vec<Vec<u8>>, Fail> {
+    let mut uploads = Vec::new(alloc);
+    uploads.push(upload(alloc, 1)?)?;
+    uploads.push(upload(alloc, 2)?)?;
+    Ok(uploads)
+}
+
+fn have_one_text<R: Abort>(
+    rt: &R,
+    alloc: Global,
+    one: &Outcome,
+    other: &Outcome,
+) -> Result<(), Fail> {
+    let one = report_text(alloc, one)?;
+    let other = report_text(alloc, other)?;
+    assert_eq!(rt; one.as_slice(), other.as_slice());
+    Ok(())
+}
+
 #[test]
 fn two_runs_have_one_report(rt: HostRuntime) -> Result<(), Fail> {
     let alloc = rt.alloc();
-    let uploads = vec![in alloc; upload(alloc, 1)?, upload(alloc, 2)?]?;
+    let uploads = two_uploads(alloc)?;
     let one = posted(&rt, alloc, uploads.as_slice(), 1, 1)?;
     let other = posted(&rt, alloc, uploads.as_slice(), 5, 3)?;
     assert!(rt; laws::ended_whole(&one) && laws::ended_whole(&other));
     laws::same_texts(uploads.as_slice(), &one, &other);
-    assert_eq!(rt;
-        report_text(alloc, &one)?.as_slice(),
-        report_text(alloc, &other)?.as_slice()
-    );
-    Ok(())
+    have_one_text(&rt, alloc, &one, &other)
 }

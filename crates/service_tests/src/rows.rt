@@ -113,6 +113,15 @@ fn tap(last: u8, validator: u32, after: u64) -> TapFields {
     }
 }
 
+fn encoded(alloc: Global, taps: &[TapFields]) -> Result<Vec<u8>, Fail> {
+    Ok(encode(alloc, taps)?)
+}
+
+// One way out a line: each way out drops all that its function owns, and is proved.
+fn add(uploads: &mut Vec<Vec<u8>>, upload: Result<Vec<u8>, Fail>) -> Result<(), Fail> {
+    Ok(uploads.push(upload?)?)
+}
+
 // Subway, bus, bus, subway within an hour: paid, transfer, paid, transfer.
 fn four_rides(alloc: Global) -> Result<Vec<u8>, Fail> {
     Ok(encode(
@@ -134,8 +143,8 @@ fn an_unknown_one(alloc: Global) -> Result<Vec<u8>, Fail> {
 // The uploads of the example.
 fn two_uploads(alloc: Global) -> Result<Vec<Vec<u8>>, Fail> {
     let mut uploads = Vec::new(alloc);
-    uploads.push(four_rides(alloc)?)?;
-    uploads.push(an_unknown_one(alloc)?)?;
+    add(&mut uploads, four_rides(alloc))?;
+    add(&mut uploads, an_unknown_one(alloc))?;
     Ok(uploads)
 }
 
@@ -250,16 +259,33 @@ fn is_stated<R: Abort>(
     Ok(())
 }
 
+// The report of the example is that of so many shards and workers.
+fn is_reported_by<R: Threads + Wait + RandomSource + Sync + Abort>(
+    rt: &R,
+    alloc: Global,
+    uploads: &[Vec<u8>],
+    shards: u32,
+    workers: u32,
+) -> Result<(), Fail> {
+    let outcome = run(rt, alloc, uploads, shards, workers, &Open)?;
+    assert_eq!(rt;
+        (
+            outcome.workers(),
+            outcome.shards(),
+            outcome.uploads(),
+            outcome.totals().cents
+        ),
+        (u64::from(workers), shards, 2, 900)
+    );
+    is_reported(rt, alloc, &outcome, REPORT)
+}
+
 #[test]
 fn the_report_is_the_same_for_every_schedule(rt: HostRuntime) -> Result<(), Fail> {
     let alloc = rt.alloc();
     let uploads = two_uploads(alloc)?;
     for (shards, workers) in [(1, 1), (8, 1), (1, 2), (2, 2), (8, 3), (64, 16)] {
-        let outcome = run(&rt, alloc, uploads.as_slice(), shards, workers, &Open)?;
-        is_reported(&rt, alloc, &outcome, REPORT)?;
-        assert_eq!(rt; outcome.workers(), u64::from(workers));
-        assert_eq!(rt; (outcome.shards(), outcome.uploads()), (shards, 2));
-        assert_eq!(rt; outcome.totals().cents, 900);
+        is_reported_by(&rt, alloc, uploads.as_slice(), shards, workers)?;
     }
     Ok(())
 }
@@ -299,16 +325,20 @@ fn a_statement_is_printed(rt: HostRuntime) -> Result<(), Fail> {
     is_stated(&rt, alloc, &outcome, 0xb2, EMPTY_STATEMENT)
 }
 
+fn seven_zeros(alloc: Global) -> Result<Vec<u8>, Fail> {
+    Ok(vec![in alloc; 0; 7]?)
+}
+
 // Each of the ends in `ENDS`, in their order.
 fn uploads_of_every_end(alloc: Global) -> Result<Vec<Vec<u8>>, Fail> {
     let mut uploads = Vec::new(alloc);
-    uploads.push(Vec::new(alloc))?;
-    uploads.push(encode(alloc, &[])?)?;
-    uploads.push(vec![in alloc; 0; 7]?)?;
-    uploads.push(refused(alloc)?)?;
-    uploads.push(too_late(alloc)?)?;
+    add(&mut uploads, Ok(Vec::new(alloc)))?;
+    add(&mut uploads, encoded(alloc, &[]))?;
+    add(&mut uploads, seven_zeros(alloc))?;
+    add(&mut uploads, refused(alloc))?;
+    add(&mut uploads, too_late(alloc))?;
     let late = tap(0xa1, SUBWAY, 4_102_444_799_999 - START);
-    uploads.push(encode(alloc, &[late])?)?;
+    add(&mut uploads, encoded(alloc, &[late]))?;
     Ok(uploads)
 }
 
@@ -348,11 +378,11 @@ fn uploads_end_as_their_bytes_say(rt: HostRuntime) -> Result<(), Fail> {
 // Of eight taps the last four are stale.
 fn is_half_stale<R: Abort>(rt: &R, outcome: &Outcome) {
     let totals = outcome.totals();
-    assert_eq!(rt; (totals.taps, totals.paid, totals.transfers), (8, 2, 2));
-    assert_eq!(rt; (totals.capped, totals.stale, totals.unknown), (0, 4, 0));
-    assert_eq!(rt; totals.cents, 600);
-    assert_eq!(rt; totals_of(outcome, 0), Some(totals));
-    assert_eq!(rt; entries_of(outcome, 1), Some(8));
+    assert_eq!(rt; counts_of(totals), [8, 2, 2, 0, 4, 0, 600]);
+    assert_eq!(rt;
+        (totals_of(outcome, 0), entries_of(outcome, 1)),
+        (Some(totals), Some(8))
+    );
 }
 
 #[test]
@@ -413,8 +443,13 @@ impl Gate for Both {
 
 // Each upload was posted whole, by one worker or the other, and the totals are those of the books.
 fn were_both_posted<R: Abort>(rt: &R, outcome: &Outcome) {
-    assert_eq!(rt; end_of(outcome, 0), Some(UploadEnd::Posted { taps: 4 }));
-    assert_eq!(rt; end_of(outcome, 1), Some(UploadEnd::Posted { taps: 2 }));
+    assert_eq!(rt;
+        (end_of(outcome, 0), end_of(outcome, 1)),
+        (
+            Some(UploadEnd::Posted { taps: 4 }),
+            Some(UploadEnd::Posted { taps: 2 })
+        )
+    );
     let first = totals_of(outcome, 0).map(|totals| totals.taps);
     assert!(rt; first == Some(4) || first == Some(2));
     assert_eq!(rt; counts_of(outcome.totals()), counts_of_books(outcome));
@@ -507,11 +542,22 @@ fn fault_without_both<R: Threads + Wait + RandomSource + Sync>(
     Ok(service.gather(alloc, Vec::new(alloc)).err())
 }
 
+// The faults where the second share is held back, and where both are.
+fn faults_without<R: Threads + Wait + RandomSource + Sync + Abort>(
+    rt: &R,
+    alloc: Global,
+    uploads: &[Vec<u8>],
+    taps: u128,
+) -> Result<(Option<GatherFault>, Option<GatherFault>), Fail> {
+    let without_one = fault_without_one(rt, alloc, uploads, taps)?;
+    Ok((without_one, fault_without_both(rt, alloc, uploads)?))
+}
+
 // Two uploads of one tap each.
 fn two_taps(alloc: Global) -> Result<Vec<Vec<u8>>, Fail> {
     let mut uploads = Vec::new(alloc);
-    uploads.push(encode(alloc, &[tap(0xa1, SUBWAY, 0)])?)?;
-    uploads.push(encode(alloc, &[tap(0xb2, SUBWAY, 0)])?)?;
+    add(&mut uploads, encoded(alloc, &[tap(0xa1, SUBWAY, 0)]))?;
+    add(&mut uploads, encoded(alloc, &[tap(0xb2, SUBWAY, 0)]))?;
     Ok(uploads)
 }
 
@@ -529,10 +575,8 @@ fn a_share_held_back_is_missing(rt: HostRuntime) -> Result<(), Fail> {
     let alloc = rt.alloc();
     let uploads = two_taps(alloc)?;
     for _ in 0..TIMES {
-        let fault = fault_without_one(&rt, alloc, uploads.as_slice(), 1)?;
-        assert_eq!(rt; fault, missing(1));
-        let fault = fault_without_both(&rt, alloc, uploads.as_slice())?;
-        assert_eq!(rt; fault, missing(0));
+        let faults = faults_without(&rt, alloc, uploads.as_slice(), 1)?;
+        assert_eq!(rt; faults, (missing(1), missing(0)));
     }
     Ok(())
 }
@@ -571,15 +615,26 @@ fn both_shares_are_gathered(rt: HostRuntime) -> Result<(), Fail> {
     Ok(())
 }
 
+// Of two uploads that were drawn, so many are held.
+fn undrawn(held: u32) -> Option<GatherFault> {
+    Some(GatherFault::Drawn { held, drawn: 2 })
+}
+
+// Two uploads without taps.
+fn no_taps(alloc: Global) -> Result<Vec<Vec<u8>>, Fail> {
+    let mut uploads = Vec::new(alloc);
+    add(&mut uploads, encoded(alloc, &[]))?;
+    add(&mut uploads, encoded(alloc, &[]))?;
+    Ok(uploads)
+}
+
 #[test]
 fn an_upload_held_back_is_missing(rt: HostRuntime) -> Result<(), Fail> {
     let alloc = rt.alloc();
-    let uploads = vec![in alloc; encode(alloc, &[])?, encode(alloc, &[])?]?;
+    let uploads = no_taps(alloc)?;
     for _ in 0..TIMES {
-        let fault = fault_without_one(&rt, alloc, uploads.as_slice(), 0)?;
-        assert_eq!(rt; fault, Some(GatherFault::Drawn { held: 1, drawn: 2 }));
-        let fault = fault_without_both(&rt, alloc, uploads.as_slice())?;
-        assert_eq!(rt; fault, Some(GatherFault::Drawn { held: 0, drawn: 2 }));
+        let faults = faults_without(&rt, alloc, uploads.as_slice(), 0)?;
+        assert_eq!(rt; faults, (undrawn(1), undrawn(0)));
     }
     Ok(())
 }
@@ -590,30 +645,66 @@ fn unused<R: RandomSource>(rt: &R, alloc: Global, uploads: &[Vec<u8>]) -> Result
     Ok(service.gather(alloc, vec![in alloc; share]?)?)
 }
 
+// Neither of two uploads was drawn.
+fn is_undrawn<R: Abort>(rt: &R, outcome: &Outcome) {
+    assert_eq!(rt;
+        (
+            end_of(outcome, 0),
+            end_of(outcome, 1),
+            outcome.workers(),
+            outcome.totals()
+        ),
+        (
+            Some(UploadEnd::Undrawn),
+            Some(UploadEnd::Undrawn),
+            1,
+            Totals::new()
+        )
+    );
+}
+
 #[test]
 fn an_unused_share_is_gathered(rt: HostRuntime) -> Result<(), Fail> {
     let alloc = rt.alloc();
     let uploads = two_uploads(alloc)?;
     let outcome = unused(&rt, alloc, uploads.as_slice())?;
-    assert_eq!(rt; end_of(&outcome, 0), Some(UploadEnd::Undrawn));
-    assert_eq!(rt; end_of(&outcome, 1), Some(UploadEnd::Undrawn));
-    assert_eq!(rt; (outcome.workers(), outcome.totals()), (1, Totals::new()));
+    is_undrawn(&rt, &outcome);
     is_reported(&rt, alloc, &outcome, EMPTY_REPORT)
+}
+
+fn opening_fault<R: RandomSource>(
+    rt: &R,
+    alloc: Global,
+    uploads: &[Vec<u8>],
+    shards: u32,
+) -> Result<Option<OpenFault>, Fail> {
+    let table = FareTable::read(alloc, TABLE.as_bytes())?;
+    Ok(Service::open(rt, alloc, table, shards, uploads).err())
+}
+
+fn running_fault<R: Threads + Wait + RandomSource + Sync>(
+    rt: &R,
+    alloc: Global,
+    workers: u32,
+) -> Result<Option<RunFault>, Fail> {
+    let (service, share) = opened(rt, alloc, &[], 1)?;
+    Ok(service.run(rt, alloc, share, workers, &Open).err())
 }
 
 #[test]
 fn numbers_out_of_range_are_refused(rt: HostRuntime) -> Result<(), Fail> {
     let alloc = rt.alloc();
-    let uploads = Vec::new(alloc);
     for shards in [0, 65] {
-        let table = FareTable::read(alloc, TABLE.as_bytes())?;
-        let fault = Service::open(&rt, alloc, table, shards, uploads.as_slice()).err();
-        assert_eq!(rt; fault, Some(OpenFault::Shards));
+        assert_eq!(rt;
+            opening_fault(&rt, alloc, &[], shards)?,
+            Some(OpenFault::Shards)
+        );
     }
     for workers in [0, 17] {
-        let (service, share) = opened(&rt, alloc, uploads.as_slice(), 1)?;
-        let fault = service.run(&rt, alloc, share, workers, &Open).err();
-        assert_eq!(rt; fault, Some(RunFault::Workers));
+        assert_eq!(rt;
+            running_fault(&rt, alloc, workers)?,
+            Some(RunFault::Workers)
+        );
     }
     Ok(())
 }
@@ -626,9 +717,7 @@ fn uploads_past_the_most_are_refused(rt: HostRuntime) -> Result<(), Fail> {
         uploads.push(Vec::new(alloc))?;
     }
     for most in [Some(OpenFault::Uploads), None] {
-        let table = FareTable::read(alloc, TABLE.as_bytes())?;
-        let fault = Service::open(&rt, alloc, table, 1, uploads.as_slice()).err();
-        assert_eq!(rt; fault, most);
+        assert_eq!(rt; opening_fault(&rt, alloc, uploads.as_slice(), 1)?, most);
         uploads.pop();
     }
     Ok(())

@@ -147,6 +147,7 @@ mod tests {
     use super::*;
     use crate::encoder::{TapFields, encode};
     use crate::file::batches;
+    use std::process::Abort;
     use std::test::Fail;
 
     fn tap(last: u8, moment: u64) -> TapFields {
@@ -168,11 +169,32 @@ mod tests {
         digits
     }
 
+    // The taps' moments end in 1 to 5, and the batch in the middle has none.
+    fn three_batches(alloc: Global) -> Result<Vec<u8>, Fail> {
+        let mut file = encode(alloc, &[tap(0xa1, 1), tap(0xb2, 2), tap(0xa9, 3)])?;
+        file.extend_from_slice(&encode(alloc, &[])?)?;
+        file.extend_from_slice(&encode(alloc, &[tap(0xb2, 4), tap(0xb2, 5)])?)?;
+        Ok(file)
+    }
+
+    // Keeps the digits of a run with taps. It is the one that the batch alone gives.
+    fn tell<R: Abort>(
+        rt: &R,
+        run: &Run<'_>,
+        alone: &Run<'_>,
+        told: &mut Vec<u64>,
+    ) -> Result<(), AllocError> {
+        let digits = digits_of(run);
+        assert_eq!(rt; digits, digits_of(alone));
+        if run.len() > 0 {
+            told.push(digits)?;
+        }
+        Ok(())
+    }
+
     #[test]
     fn a_worker_keeps_one_cut(rt: HostRuntime) -> Result<(), Fail> {
-        let mut file = encode(rt.alloc(), &[tap(0xa1, 1), tap(0xb2, 2), tap(0xa9, 3)])?;
-        file.extend_from_slice(&encode(rt.alloc(), &[])?)?;
-        file.extend_from_slice(&encode(rt.alloc(), &[tap(0xb2, 4), tap(0xb2, 5)])?)?;
+        let file = three_batches(rt.alloc())?;
         let mut cut = Cut::new(rt.alloc(), 8)?;
         let mut told = Vec::new(rt.alloc());
         for item in batches(&file) {
@@ -180,10 +202,7 @@ mod tests {
             cut.fill(&batch);
             for shard in 0..8 {
                 let run = cut.run(&batch, shard);
-                assert_eq!(rt; digits_of(&run), digits_of(&batch.run_of(shard, 8)));
-                if run.len() > 0 {
-                    told.push(digits_of(&run))?;
-                }
+                tell(&rt, &run, &batch.run_of(shard, 8), &mut told)?;
             }
         }
         assert!(rt; told.as_slice() == &[113, 22, 245][..]);

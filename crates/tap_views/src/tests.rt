@@ -1,6 +1,9 @@
 //! What no clause says: the vectors of the formats, damaged files, the texts of faults, and each public function once.
 
 use super::*;
+use std::alloc::Global;
+use std::fmt::Display;
+use std::process::Abort;
 use std::test::Fail;
 
 /// 2024-03-08T17:00Z.
@@ -85,23 +88,33 @@ fn slices_are_lent_by_the_file(rt: HostRuntime) -> Result<(), Fail> {
     Ok(())
 }
 
+fn is_first<R: Abort>(rt: &R, first: &TapView<'_>) {
+    assert_eq!(rt;
+        (first.token(), first.validator(), first.moment()),
+        (&FIRST[8..24], &FIRST[24..28], &FIRST[28..36])
+    );
+    assert_eq!(rt; first.moment_ms(), NOON);
+}
+
+fn is_last<R: Abort>(rt: &R, batch: &Batch<'_>, last: &TapView<'_>) {
+    assert!(rt; batch.len() == 2);
+    let tap = batch.tap(1);
+    assert_eq!(rt;
+        (tap.validator_number(), tap.moment_ms(), tap.validator()),
+        (2_000, NOON + 7_200_000, last.validator())
+    );
+}
+
 #[test]
 fn a_batch_of_two_taps(rt: HostRuntime) -> Result<(), Fail> {
     let (batch, rest) = Batch::first(&FIRST)?;
-    assert_eq!(rt; batch.len(), 2);
-    assert!(rt; rest.is_empty());
-    let tap = batch.tap(1);
-    assert_eq!(rt; tap.validator_number(), 2_000);
-    assert_eq!(rt; tap.moment_ms(), NOON + 7_200_000);
+    assert_eq!(rt; (batch.len(), rest.is_empty()), (2, true));
     let mut taps = batch.taps();
     let first = taps.next().ok_or("no first tap")?;
     let last = taps.next_back().ok_or("no last tap")?;
     assert!(rt; taps.next().is_none());
-    assert!(rt; first.token() == &FIRST[8..24]);
-    assert!(rt; first.validator() == &FIRST[24..28]);
-    assert!(rt; first.moment() == &FIRST[28..36]);
-    assert_eq!(rt; first.moment_ms(), NOON);
-    assert!(rt; last.validator() == tap.validator());
+    is_first(&rt, &first);
+    is_last(&rt, &batch, &last);
     Ok(())
 }
 
@@ -109,13 +122,13 @@ fn a_batch_of_two_taps(rt: HostRuntime) -> Result<(), Fail> {
 fn taps_of_one_layout_are_those_of_the_other(rt: HostRuntime) -> Result<(), Fail> {
     let (one, _) = Batch::first(&ALONE)?;
     let (other, _) = Batch::first(&SHARED)?;
-    assert_eq!(rt; one.len(), 1);
-    assert_eq!(rt; other.len(), 1);
+    assert!(rt; one.len() == 1 && other.len() == 1);
     let (one, other) = (one.tap(0), other.tap(0));
-    assert!(rt; one.token() == other.token());
+    assert_eq!(rt;
+        (one.token(), one.validator(), one.moment()),
+        (other.token(), &SHARED[8..12], other.moment())
+    );
     assert!(rt; one.validator() == other.validator());
-    assert!(rt; one.moment() == other.moment());
-    assert!(rt; other.validator() == &SHARED[8..12]);
     Ok(())
 }
 
@@ -128,43 +141,54 @@ fn a_moment_is_below_the_limit(rt: HostRuntime) {
     assert_eq!(rt; fault_of(&bytes), None);
 }
 
+/// Bytes that begin with no batch have this fault.
+fn is_fault<R: Abort>(rt: &R, bytes: &[u8], fault: Option<LayoutFault>) {
+    assert_eq!(rt; fault_of(bytes), fault);
+}
+
 #[test]
 fn faults_come_in_their_order(rt: HostRuntime) {
-    assert_eq!(rt;
-        fault_of(b"TAP1\x00\x01\x00"),
-        Some(LayoutFault::Short { have: 7 })
+    is_fault(
+        &rt,
+        b"TAP1\x00\x01\x00",
+        Some(LayoutFault::Short { have: 7 }),
     );
-    assert_eq!(rt; fault_of(b"TAP1\x00\x02\x00\x01"), Some(LayoutFault::Flags));
-    assert_eq!(rt;
-        fault_of(b"TAP1\x10\x01\x00\x00"),
-        Some(LayoutFault::TooMany { count: 4_097 })
+    is_fault(&rt, b"TAP1\x00\x02\x00\x01", Some(LayoutFault::Flags));
+    is_fault(
+        &rt,
+        b"TAP1\x10\x01\x00\x00",
+        Some(LayoutFault::TooMany { count: 4_097 }),
     );
-    assert_eq!(rt;
-        fault_of(&SHARED[..35]),
-        Some(LayoutFault::Length { want: 36, have: 35 })
+    is_fault(
+        &rt,
+        &SHARED[..35],
+        Some(LayoutFault::Length { want: 36, have: 35 }),
     );
-    assert_eq!(rt;
-        fault_of(&SHARED[..10]),
-        Some(LayoutFault::Short { have: 10 })
+    is_fault(&rt, &SHARED[..10], Some(LayoutFault::Short { have: 10 }));
+    is_fault(
+        &rt,
+        b"TAP2\x00\x00\x00\x01\x00\x00\x03",
+        Some(LayoutFault::Short { have: 11 }),
     );
-    assert_eq!(rt;
-        fault_of(b"TAP2\x00\x00\x00\x01\x00\x00\x03"),
-        Some(LayoutFault::Short { have: 11 })
+    is_fault(
+        &rt,
+        b"TAP2\x00\x00\x00\x01\x00\x00\x03\xe8",
+        Some(LayoutFault::Flags),
     );
-    assert_eq!(rt;
-        fault_of(b"TAP2\x00\x00\x00\x01\x00\x00\x03\xe8"),
-        Some(LayoutFault::Flags)
-    );
-    assert_eq!(rt;
-        fault_of(b"TAP2\x10\x01\x00\x00\x00\x00\x03\xe8"),
-        Some(LayoutFault::TooMany { count: 4_097 })
+    is_fault(
+        &rt,
+        b"TAP2\x10\x01\x00\x00\x00\x00\x03\xe8",
+        Some(LayoutFault::TooMany { count: 4_097 }),
     );
     let mut two = SHARED;
     two[5] = 2;
-    assert_eq!(rt;
-        fault_of(&two),
-        Some(LayoutFault::Length { want: 60, have: 36 })
-    );
+    is_fault(&rt, &two, Some(LayoutFault::Length { want: 60, have: 36 }));
+}
+
+fn is_told<R: Abort, T: Display>(rt: &R, alloc: Global, fault: &T, text: &str) -> Result<(), Fail> {
+    let told = format!(in alloc; "{fault}")?;
+    assert_eq!(rt; told.as_str(), text);
+    Ok(())
 }
 
 #[test]
@@ -190,7 +214,7 @@ fn faults_are_told_with_their_numbers(rt: HostRuntime) -> Result<(), Fail> {
         ),
     ];
     for (fault, text) in rows {
-        assert_eq!(rt; format!(in rt.alloc(); "{fault}")?.as_str(), text);
+        is_told(&rt, rt.alloc(), &fault, text)?;
     }
     let rows = [
         (EncodeFault::TooMany, "more than 4096 taps"),
@@ -201,17 +225,22 @@ fn faults_are_told_with_their_numbers(rt: HostRuntime) -> Result<(), Fail> {
         (EncodeFault::NoMemory, "out of memory"),
     ];
     for (fault, text) in rows {
-        assert_eq!(rt; format!(in rt.alloc(); "{fault}")?.as_str(), text);
+        is_told(&rt, rt.alloc(), &fault, text)?;
     }
     Ok(())
 }
 
+/// A file without faults has so many taps.
+fn is_read<R: Abort>(rt: &R, file: &[u8], taps: u64) {
+    assert_eq!(rt; reading(file), (taps, None));
+}
+
 #[test]
 fn files_of_few_batches(rt: HostRuntime) {
-    assert_eq!(rt; reading(b""), (0, None));
-    assert_eq!(rt; reading(b"TAP1\x00\x00\x00\x00"), (0, None));
-    assert_eq!(rt; reading(b"TAP2\x00\x00\x00\x00\x00\x00\x03\xe8"), (0, None));
-    assert_eq!(rt; reading(&joined(&FIRST, &SHARED)), (3, None));
+    is_read(&rt, b"", 0);
+    is_read(&rt, b"TAP1\x00\x00\x00\x00", 0);
+    is_read(&rt, b"TAP2\x00\x00\x00\x00\x00\x00\x03\xe8", 0);
+    is_read(&rt, &joined(&FIRST, &SHARED), 3);
     let mut left = batches(b"TAP1\x00\x01\x00");
     assert!(rt; matches!(left.next(), Some(Err((0, LayoutFault::Short { have: 7 })))));
     assert!(rt; left.next().is_none());
@@ -286,24 +315,33 @@ fn a_header_with_one_bit_flipped(rt: HostRuntime) {
     }
 }
 
+/// The third of eight shards has the batch's two taps in their order, and the others have none.
+fn are_in_shard_2<R: Abort>(rt: &R, batch: &Batch<'_>) {
+    for shard in 0..8 {
+        let run = batch.run_of(shard, 8);
+        let len = if shard == 2 { 2 } else { 0 };
+        assert_eq!(rt;
+            (run.shard(), run.shards(), run.len(), run.is_empty()),
+            (shard, 8, len, shard != 2)
+        );
+    }
+    let mut left = batch.run_of(2, 8).taps();
+    let one = left.next().map(|tap| tap.validator_number());
+    let other = left.next().map(|tap| tap.validator_number());
+    assert_eq!(rt;
+        (one, other, left.next().is_none()),
+        (Some(9), Some(1_000), true)
+    );
+}
+
 #[test]
 fn both_taps_are_in_one_of_eight_shards(rt: HostRuntime) -> Result<(), Fail> {
     let taps = [fields(0xb2, 9, NOON + 10), fields(0xb2, 1_000, NOON + 5)];
     let bytes = encode(rt.alloc(), &taps)?;
     let (batch, _) = Batch::first(&bytes)?;
-    for shard in 0..8 {
-        let run = batch.run_of(shard, 8);
-        assert_eq!(rt; run.shard(), shard);
-        assert_eq!(rt; run.shards(), 8);
-        assert_eq!(rt; run.len(), if shard == 2 { 2 } else { 0 });
-        assert_eq!(rt; run.is_empty(), shard != 2);
-    }
-    let mut left = batch.run_of(2, 8).taps();
-    assert_eq!(rt; left.next().map(|tap| tap.validator_number()), Some(9));
-    assert_eq!(rt; left.next().map(|tap| tap.validator_number()), Some(1_000));
-    assert!(rt; left.next().is_none());
-    assert_eq!(rt; shard_of(&FIRST[8..24], 8), 1);
-    assert_eq!(rt; shard_of(&FIRST[8..24], 1), 0);
+    are_in_shard_2(&rt, &batch);
+    let token = &FIRST[8..24];
+    assert_eq!(rt; (shard_of(token, 8), shard_of(token, 1)), (1, 0));
     Ok(())
 }
 
