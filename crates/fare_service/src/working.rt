@@ -48,12 +48,22 @@ pub(crate) enum Stop {
 }
 
 impl From<NoMemory> for Stop {
+    ghost use Rattle.std.specs.Prelude.{◌≡◌};
+    ghost use Rattle.fare_service.specs.declared.working.Stop.TheVariants.{Memory as ForMemory};
+
+    ghost from_gives = { λ _ stop. stop ≡ ForMemory };
+
     fn from(_: NoMemory) -> Self {
         Stop::Memory
     }
 }
 
 impl From<Full> for Stop {
+    ghost use Rattle.std.specs.Prelude.{◌≡◌};
+    ghost use Rattle.fare_service.specs.declared.working.Stop.TheVariants.{Full as ForFull};
+
+    ghost from_gives = { λ _ stop. stop ≡ ForFull };
+
     fn from(_: Full) -> Self {
         Stop::Full
     }

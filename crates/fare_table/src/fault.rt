@@ -1,5 +1,5 @@
 //! Why a text is no fare table, and want of memory.
-ghost use Rattle.std.specs.Prelude.{◌≡◌};
+ghost use Rattle.std.specs.Prelude.{◌≡◌, Some};
 ghost use Rattle.fare_table.specs.Key.{key_name};
 
 use std::alloc::{AllocError, AllocFailed};
@@ -61,6 +61,8 @@ impl Key {
 }
 
 impl fmt::Display for Key {
+    ghost output = { λ key. Some (key_name key) };
+
     fn fmt<W: fmt::Write>(&self, f: &mut fmt::Formatter<W>) -> fmt::Result {
         write!(f, "{}", self.name())
     }

@@ -407,10 +407,30 @@ fn windows_end_at_midnight_in_a_zone(rt: HostRuntime) -> Result<(), Fail> {
     Ok(())
 }
 
+/// Each key, with the text that stands for it in a fault line.
+const NAMES: [(Key, &str); 13] = [
+    (Key::Modes, "Modes"),
+    (Key::Transfers, "Transfers"),
+    (Key::Classes, "Classes"),
+    (Key::Fare, "Fare"),
+    (Key::Rides, "Rides"),
+    (Key::Ceiling, "Ceiling"),
+    (Key::DefaultClass, "DefaultClass"),
+    (Key::Validators, "Validators"),
+    (Key::First, "First"),
+    (Key::Last, "Last"),
+    (Key::ModeName, "ModeName"),
+    (Key::Riders, "Riders"),
+    (Key::Zone, "Zone"),
+];
+
 #[test]
 fn keys_have_their_names(rt: HostRuntime) -> Result<(), Fail> {
-    let line = format!(in rt.alloc(); "{} {}", Key::Ceiling, Key::DefaultClass)?;
-    assert_eq!(rt; line.as_str(), "Ceiling DefaultClass");
-    assert_eq!(rt; Key::ModeName.name(), "ModeName");
+    for (key, name) in NAMES {
+        assert_eq!(rt; key.name(), name);
+        assert_eq!(rt; format!(in rt.alloc(); "{key}")?.as_str(), name);
+    }
+    let line = format!(in rt.alloc(); "{}", TableFault::Range { key: Key::Ceiling })?;
+    assert_eq!(rt; line.as_str(), "Ceiling is out of range");
     Ok(())
 }

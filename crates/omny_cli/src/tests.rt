@@ -17,6 +17,7 @@ use std::thread::Threads;
 use tap_views::Batch;
 
 mod loading;
+mod pieces;
 mod service;
 
 // Two taps of one token: validator 1000 at 2024-03-08T17:00Z, validator 2000 two hours later.
