@@ -29,7 +29,6 @@ impl ShardBook {
     }
 
     // Looks up the accounts of the next taps, and opens those that are missing. Nothing is posted.
-    #[inline(never)]
     fn look_up(&mut self, ahead: &mut RunTaps, places: &mut [usize; AT_ONCE])
         ensures { self.new ≡ self.old }
     {
