@@ -47,7 +47,8 @@ impl Kept {
     }
 }
 
-/// An account for each token that has taps, with the counts of its entries.
+/// An account for each token that has taps, with the counts of its entries; also for tokens whose taps were looked up
+/// and not posted.
 #[derive(Drop)]
 pub(crate) struct Accounts {
     map: IndexMap<Token, Kept, TokenKeys>,
