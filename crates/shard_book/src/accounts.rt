@@ -107,19 +107,17 @@ impl Accounts {
         }
     }
 
-    /// The place of the token's account, for `step`: it is opened where there is none, and is `NO_PLACE` on want of
-    /// memory. What is kept there is read, so that it is near when the tap is posted.
+    /// The place of the token's account, for `step`. It is opened where there is none. What is kept there is read, so
+    /// that it is near when the tap is posted. On want of memory all that is kept stays.
     #[inline(always)]
-    pub(crate) fn place_ahead(&mut self, token: Token) -> usize
+    pub(crate) fn place_ahead(&mut self, token: Token) -> Result<usize, NoMemory>
         ensures stays { (other : Token) → StandsOn (kept_at self.old other) (kept_at self.new other) }
         ensures counting { self.new.counting ≡ self.old.counting }
     {
-        let Ok(place) = self.open(token) else {
-            return NO_PLACE;
-        };
+        let place = self.open(token)?;
         match self.map.get_index(place) {
-            Some((_, kept)) if kept.is_usual() => place,
-            _ => NO_PLACE,
+            Some((_, kept)) if kept.is_usual() => Ok(place),
+            _ => Ok(NO_PLACE),
         }
     }
 

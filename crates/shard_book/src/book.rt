@@ -116,7 +116,7 @@ impl ShardBook {
 
     /// The place of the token's account, for `post_at`. An account without taps is opened where there is none.
     #[inline(always)]
-    pub(crate) fn place_ahead(&mut self, token: Token) -> usize
+    pub(crate) fn place_ahead(&mut self, token: Token) -> Result<usize, NoMemory>
         ensures { self.new ≡ self.old }
     {
         self.accounts.place_ahead(token)

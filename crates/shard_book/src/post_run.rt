@@ -11,6 +11,7 @@ use crate::ends::Ends;
 use crate::replies::Replies;
 use crate::run_end::RunEnd;
 use crate::token::Token;
+use fare_table::NoMemory;
 use tap_views::{Run, RunTaps};
 
 /// How many accounts are looked up at once: so many look-ups in a row wait for memory side by side, where each
@@ -20,24 +21,36 @@ const AT_ONCE: usize = 16;
 impl ShardBook {
     // Looks up the accounts of the next taps, where it is their turn.
     #[inline(always)]
-    fn look_ahead(&mut self, turn: usize, ahead: &mut RunTaps, places: &mut [usize; AT_ONCE])
+    fn look_ahead(
+        &mut self,
+        turn: usize,
+        ahead: &mut RunTaps,
+        places: &mut [usize; AT_ONCE],
+    ) -> Result<(), NoMemory>
         ensures { self.new ≡ self.old }
     {
         if turn == 0 {
-            self.look_up(ahead, places);
+            self.look_up(ahead, places)
+        } else {
+            Ok(())
         }
     }
 
     // Looks up the accounts of the next taps, and opens those that are missing. Nothing is posted.
-    fn look_up(&mut self, ahead: &mut RunTaps, places: &mut [usize; AT_ONCE])
+    fn look_up(
+        &mut self,
+        ahead: &mut RunTaps,
+        places: &mut [usize; AT_ONCE],
+    ) -> Result<(), NoMemory>
         ensures { self.new ≡ self.old }
     {
         for place in places.iter_mut() {
             let Some(tap) = ahead.next() else {
-                return;
+                return Ok(());
             };
-            *place = self.place_ahead(Token::of(tap.token()));
+            *place = self.place_ahead(Token::of(tap.token()))?;
         }
+        Ok(())
     }
 
     /// Posts the taps of a run in their order and appends their replies to `out`, up to the first want of memory.
@@ -76,7 +89,9 @@ impl ShardBook {
         let mut places = [NO_PLACE; AT_ONCE];
         for tap in run.taps() {
             let turn = posted as usize % AT_ONCE;
-            self.look_ahead(turn, &mut ahead, &mut places);
+            if self.look_ahead(turn, &mut ahead, &mut places).is_err() {
+                return RunEnd::Cut { posted };
+            }
             match self.post_at(&tap, ends.at(posted), places[turn]) {
                 Ok(reply) => out.push(reply),
                 Err(_) => return RunEnd::Cut { posted },

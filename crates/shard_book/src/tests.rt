@@ -709,9 +709,9 @@ fn tokens_of_one_book(rt: HostRuntime) -> Result<(), Fail> {
 fn account_opened_ahead(rt: HostRuntime) -> Result<(), Fail> {
     let alloc = rt.alloc();
     let mut book = book_of(alloc, &rt, SAMPLE, 0, 1)?;
-    let place = book.place_ahead(token(1));
-    assert_eq!(rt; book.place_ahead(token(2)), place.wrapping_add(1));
-    assert_eq!(rt; book.place_ahead(token(1)), place);
+    let place = book.place_ahead(token(1))?;
+    assert_eq!(rt; book.place_ahead(token(2))?, place.wrapping_add(1));
+    assert_eq!(rt; book.place_ahead(token(1))?, place);
     assert!(rt; book.tokens(alloc)?.is_empty());
     post_once(alloc, &mut book, &[tap(2, SUBWAY, START)])?;
     assert!(rt; are_equal(&book.tokens(alloc)?, &[token(2)]));
