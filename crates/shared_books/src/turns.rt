@@ -53,6 +53,8 @@ impl Model for SharedBook {
 pub struct Pass {
     seat: Seat<Slot, View>,
     held: u64,
+    // the number of the pass's next visit, where nobody visits in between; only time rests on it
+    next: u64,
 }
 
 impl Model for Pass {
@@ -103,6 +105,20 @@ impl SharedBook {
         } else {
             None
         }
+    }
+
+    // Tries to take the turn as if the word stood at the expected number.
+    fn try_expected(&self, seat: &mut Seat<Slot, View>, expected: u64) -> Slot
+        requires own { seat.old.table_id ≡ self.now.home }
+        requires free { IsFree seat.old.me }
+        ensures same { seat.new.table_id ≡ seat.old.table_id }
+        ensures taken { IfSome result (λ book. HasBookOut seat.old.me seat.new.me expected book.value) }
+        ensures lost { IfNone result (GoesOn seat.old.me seat.new.me) }
+    {
+        if expected >= FULL / 2 {
+            return None;
+        }
+        self.try_take(seat, 2 * expected)
     }
 
     // Puts the book back and gives the turn back, with the visit that the book has gained.
@@ -184,11 +200,38 @@ impl SharedBook {
             asleep: AtomicBool::new(false),
             sleepers: AtomicU64::new(0),
         };
-        Ok((shared, Pass { seat, held: 0 }))
+        Ok((
+            shared,
+            Pass {
+                seat,
+                held: 0,
+                next: first,
+            },
+        ))
+    }
+
+    // Takes the turn with the number of the visit and the book. Where nobody has visited since the pass did, the number is the
+    // expected one, and the word need not be looked at before.
+    fn take<R: Wait>(
+        &self,
+        rt: &R,
+        seat: &mut Seat<Slot, View>,
+        expected: u64,
+    ) -> Result<(u64, Box<ShardBook>), Full>
+        requires own { seat.old.table_id ≡ self.now.home }
+        requires free { IsFree seat.old.me }
+        ensures same { seat.new.table_id ≡ seat.old.table_id }
+        ensures taken { IfOk result (λ taken. HasBookOut seat.old.me seat.new.me taken.0 taken.1.value) }
+        ensures full { IfErr result (λ _. FindsFull seat.old.me seat.new.me) }
+    {
+        match self.try_expected(seat, expected) {
+            Some(book) => Ok((expected, book)),
+            None => self.wait_and_take(rt, seat),
+        }
     }
 
     // Waits for the turn, and takes it with the number of the visit and the book.
-    fn take<R: Wait>(
+    fn wait_and_take<R: Wait>(
         &self,
         rt: &R,
         seat: &mut Seat<Slot, View>,
@@ -238,11 +281,12 @@ impl SharedBook {
         ensures visit { IfOk result (MakesVisit run.now pass.old pass.new out.old out.new) }
         ensures full { IfErr result (λ _. IsLater pass.old pass.new × IsFull pass.new × (out.new ≡ out.old)) }
     {
-        let Pass { seat, held } = pass;
-        let (number, mut book) = self.take(rt, seat)?;
+        let Pass { seat, held, next } = pass;
+        let (number, mut book) = self.take(rt, seat, *next)?;
         let how = book.post_run(run, ends, out);
         self.give(seat, number, book);
         *held += 1;
+        *next = number + 1;
         Ok(Visit { number, how })
     }
 
@@ -259,11 +303,12 @@ impl SharedBook {
         ensures read { IfOk result (λ r. Visits pass.old pass.new r.number [] × IsStatement self.now.table (joined (seen_by pass.new)) token.now r.statement) }
         ensures fault { IfErr result (IsReadFault pass.old pass.new) }
     {
-        let Pass { seat, held } = pass;
-        let (number, book) = self.take(rt, seat)?;
+        let Pass { seat, held, next } = pass;
+        let (number, book) = self.take(rt, seat, *next)?;
         let statement = book.statement(alloc, token);
         self.give(seat, number, book);
         *held += 1;
+        *next = number + 1;
         Ok(Readout {
             number,
             statement: statement?,
@@ -286,7 +331,8 @@ impl SharedBook {
         ensures old { pass.new ≡ pass.old }
     {
         let seat = self.table.shared.split_seat::<Parts>(&mut pass.seat);
-        Ok(Pass { seat, held: 0 })
+        let (held, next) = (0, pass.next);
+        Ok(Pass { seat, held, next })
     }
 
     /// The pass takes over what another one has seen and made.
@@ -295,10 +341,11 @@ impl SharedBook {
         requires other { other.book ≡ self.now }
         ensures { IsJoined pass.old other pass.new }
     {
-        let Pass { seat, held } = pass;
+        let Pass { seat, held, .. } = pass;
         let Pass {
             seat: other_seat,
             held: more,
+            ..
         } = other;
         self.table.shared.join_seat::<Meets>(seat, other_seat);
         let _ = self.table.shared.load::<Settles>(seat, 0);
@@ -317,7 +364,7 @@ impl SharedBook {
             asleep: _,
             sleepers: _,
         } = self;
-        let Pass { seat, held } = pass;
+        let Pass { seat, held, .. } = pass;
         let mut closed = table.close_with(seat);
         let word = closed.word(0);
         let slot = closed.take(0);

@@ -1,40 +1,9 @@
-use Rattle.std.proofs.Common.{◌∙◌, refl}
-use Rattle.shared_books.proofs.Passing.{goes_nowhere, goes_on, still_free, seen_goes_on, out_later, finds_full, full_later}
+use Rattle.std.proofs.lemmas.Result.{IfOk-weaker, IfErr-weaker}
+use Rattle.shared_books.proofs.Passing.{out_later, full_later}
 use Rattle.shared_books.proofs.turns.SharedBook.take.Goals as goal
 
-pub loop-init : goal.loop-init
-loop-init g c = record { home = refl; goes_on = goes_nowhere _ c.requires.free }
+pub returns-in-None-clause-taken : goal.returns-in-None-clause-taken
+returns-in-None-clause-taken g c = IfOk-weaker _ _ _ (λ _ taken. out_later _ _ _ _ _ c.in-None.ensures.lost taken) c.wait_and_take.ensures.taken
 
-pub look-found-requires-clause-free : goal.look-found-requires-clause-free
-look-found-requires-clause-free g c = still_free _ _ c.requires.free c.loop.invariant.goes_on
-
-pub returns-then-found-clause-same : goal.returns-then-found-clause-same
-returns-then-found-clause-same g c = c.look-found.ensures.same ∙ c.loop.invariant.home
-
-pub returns-then-found-clause-full : goal.returns-then-found-clause-full
-returns-then-found-clause-full g c = full_later _ _ _ c.loop.invariant.goes_on (finds_full _ _ _ c.if-found.true c.look-found.ensures.seen)
-
-pub loop-preserved-then-found-eq1 : goal.loop-preserved-then-found-eq1
-loop-preserved-then-found-eq1 g c = record {
-  home = c.look-found.ensures.same ∙ c.loop.invariant.home;
-  goes_on = goes_on _ _ _ c.loop.invariant.goes_on (seen_goes_on _ _ _ c.look-found.ensures.seen);
-}
-
-pub try_take-requires-clause-own : goal.try_take-requires-clause-own
-try_take-requires-clause-own g c = c.look-found.ensures.same ∙ (c.loop.invariant.home ∙ c.requires.own)
-
-pub try_take-requires-clause-free : goal.try_take-requires-clause-free
-try_take-requires-clause-free g c = still_free _ _ c.requires.free (goes_on _ _ _ c.loop.invariant.goes_on (seen_goes_on _ _ _ c.look-found.ensures.seen))
-
-pub returns-in-Some-try_take-clause-same : goal.returns-in-Some-try_take-clause-same
-returns-in-Some-try_take-clause-same g c = c.try_take.ensures.same ∙ (c.look-found.ensures.same ∙ c.loop.invariant.home)
-
-pub returns-in-Some-try_take-clause-taken : goal.returns-in-Some-try_take-clause-taken
-returns-in-Some-try_take-clause-taken g c =
-    out_later _ _ _ _ _ c.loop.invariant.goes_on (out_later _ _ _ _ _ (seen_goes_on _ _ _ c.look-found.ensures.seen) c.in-Some-try_take.ensures.taken)
-
-pub loop-preserved : goal.loop-preserved
-loop-preserved g c = record {
-  home = c.try_take.ensures.same ∙ (c.look-found.ensures.same ∙ c.loop.invariant.home);
-  goes_on = goes_on _ _ _ c.loop.invariant.goes_on (goes_on _ _ _ (seen_goes_on _ _ _ c.look-found.ensures.seen) c.in_default.ensures.lost);
-}
+pub returns-in-None-clause-full : goal.returns-in-None-clause-full
+returns-in-None-clause-full g c = IfErr-weaker _ _ _ (λ _ full. full_later _ _ _ c.in-None.ensures.lost full) c.wait_and_take.ensures.full

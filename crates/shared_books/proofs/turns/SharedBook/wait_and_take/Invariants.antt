@@ -1,6 +1,6 @@
 use Rattle.std.proofs.Common.{◌≡◌}
 use Rattle.shared_books.specs.Views.{GoesOn}
-use Rattle.shared_books.proofs.turns.SharedBook.take.Given as goal
+use Rattle.shared_books.proofs.turns.SharedBook.wait_and_take.Given as goal
 
 abbrev pub invariant-loop : goal.invariant-loop
 invariant-loop g l = record {
