@@ -10,9 +10,10 @@
 run:
 	@scripts/run_example
 
+# As many checks at once as processors, but at most four, which take 14 GB of memory: without RT_JOBS rt ci plans for more than they take.
 test:
 	scripts/must_not_compile
-	rt ci
+	@n=$$(nproc) && RT_JOBS=$${RT_JOBS:-$$((n < 4 ? n : 4))} rt ci
 
 hostile:
 	@hostile/refuse
