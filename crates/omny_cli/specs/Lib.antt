@@ -1,3 +1,4 @@
+pub mod Ahead
 pub mod Fault
 pub mod Listing
 pub mod Lines

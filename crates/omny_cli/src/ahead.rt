@@ -1,5 +1,6 @@
 //! Files that are read before their turns, several at once.
 ghost use Rattle.std.specs.Prelude.{◌≡◌, ◌<◌, ◌≤◌, ◌++◌, ◌∷◌, [], IfNone, IfSome, length, string_bytes};
+ghost use Rattle.omny_cli.specs.Ahead.{IsNotNext};
 
 use crate::load::LoadFault;
 use std::alloc::{AllocError, Global};
@@ -29,7 +30,7 @@ pub struct Early {
 pub fn take_next(early: &mut Vec<Early>, name: &str) -> Option<Result<Vec<u8>, LoadFault>>
     ensures taken { IfSome result (λ loaded. (next : Early) × (early.old.items ≡ early.new.items ++ next ∷ [])
         × (string_bytes next.name ≡ name.now) × (next.loaded ≡ loaded)) }
-    ensures kept { IfNone result (early.new.items ≡ early.old.items) }
+    ensures kept { IfNone result ((early.new.items ≡ early.old.items) × IsNotNext name.now early.old.items) }
 {
     if early.last()?.name.as_str() != name {
         return None;

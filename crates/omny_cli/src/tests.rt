@@ -10,6 +10,7 @@ use std::alloc::{AllocError, Global};
 use std::io;
 use std::io::{Read, Write};
 use std::marker::Sync;
+use std::process::Abort;
 use std::random::RandomSource;
 use std::sync::Wait;
 use std::test::Fail;
@@ -201,6 +202,15 @@ struct Ran {
     err: Vec<u8>,
 }
 
+// The run wrote this, said that on the second writer, and ended with the status.
+fn expect<R: Abort>(rt: &R, ran: &Ran, out: &str, err: &str, status: u8, of: &str) {
+    assert_eq!(rt;
+        (ran.out.as_slice(), ran.err.as_slice(), ran.status),
+        (out.as_bytes(), err.as_bytes(), status),
+        "of {of}"
+    );
+}
+
 // Runs the program with these words after its name.
 fn run_on<R: Threads + Wait + RandomSource + Sync>(
     rt: &R,
@@ -255,9 +265,7 @@ fn lists_uploads_of_every_kind(rt: HostRuntime) -> Result<(), Fail> {
         let mut shelf = Shelf::new(alloc, &[], Content::Bytes(&bytes));
         let ran = run_on(&rt, alloc, &[], &mut shelf)?;
         let text = format!(in alloc; "{}{}{}", lines[0], lines[1], lines[2])?;
-        assert_eq!(rt; ran.out.as_slice(), text.as_bytes(), "of {digits}");
-        assert_eq!(rt; ran.status, status, "of {digits}");
-        assert_eq!(rt; ran.err.len(), 0, "of {digits}");
+        expect(&rt, &ran, text.as_str(), "", status, digits.as_str());
         assert_eq!(rt; shelf.given.len(), 1, "of {digits}");
     }
     Ok(())
@@ -303,9 +311,7 @@ fn lists_files_in_their_order_by_the_table(rt: HostRuntime) -> Result<(), Fail> 
 3 1 000000000000000000000000000000a1 2000 1709924400000 stale
 taps 6 live 3 stale 2 unknown 1
 ";
-    assert_eq!(rt; ran.out.as_slice(), text.as_bytes());
-    assert_eq!(rt; ran.status, 1);
-    assert_eq!(rt; ran.err.len(), 0);
+    expect(&rt, &ran, text, "", 1, "files");
     Ok(())
 }
 
@@ -350,16 +356,12 @@ fn says_why_it_gives_up(rt: HostRuntime) -> Result<(), Fail> {
     for (words, line) in rows {
         let mut shelf = Shelf::new(alloc, files.as_slice(), Content::Fault(LoadFault::Unread));
         let ran = run_on(&rt, alloc, given_of(&words), &mut shelf)?;
-        assert_eq!(rt; ran.err.as_slice(), line.as_bytes(), "{line}");
-        assert_eq!(rt; ran.status, 1, "{line}");
-        assert_eq!(rt; ran.out.len(), 0, "{line}");
+        expect(&rt, &ran, "", line, 1, line);
     }
     let mut shelf = Shelf::new(alloc, &[], Content::Fault(LoadFault::TooLong));
     let ran = run_on(&rt, alloc, &[], &mut shelf)?;
-    assert_eq!(rt;
-        ran.err.as_slice(),
-        b"fault: standard input is too long\n".as_slice()
-    );
+    let line = "fault: standard input is too long\n";
+    expect(&rt, &ran, "", line, 1, line);
     Ok(())
 }
 
@@ -390,10 +392,16 @@ fn answers_the_command_line(rt: HostRuntime) -> Result<(), Fail> {
     for (words, status) in rows {
         let mut shelf = Shelf::new(alloc, &[], Content::Bytes(&[]));
         let ran = run_on(&rt, alloc, words.as_slice(), &mut shelf)?;
-        assert_eq!(rt; ran.status, status, "{words:?}");
-        assert_eq!(rt; ran.out.is_empty(), status == 2, "{words:?}");
-        assert_eq!(rt; ran.err.is_empty(), status == 0, "{words:?}");
-        assert_eq!(rt; shelf.given.len(), 0, "{words:?}");
+        assert_eq!(rt;
+            (
+                ran.status,
+                ran.out.is_empty(),
+                ran.err.is_empty(),
+                shelf.given.len()
+            ),
+            (status, status == 2, status == 0, 0),
+            "{words:?}"
+        );
     }
     let mut shelf = Shelf::new(alloc, &[], Content::Bytes(&[]));
     let ran = run_on(&rt, alloc, &["--help"], &mut shelf)?;
@@ -509,8 +517,11 @@ fn tells_of_a_write_that_fails(rt: HostRuntime) -> Result<(), Fail> {
         } else {
             b"".as_slice()
         };
-        assert_eq!(rt; err.as_slice(), line, "with room for {room}");
-        assert_eq!(rt; status, u8::from(room < length), "with room for {room}");
+        assert_eq!(rt;
+            (err.as_slice(), status),
+            (line, u8::from(room < length)),
+            "with room for {room}"
+        );
     }
     let mut shelf = Shelf::new(alloc, &[], Content::Fault(LoadFault::Unread));
     let status = main_over(
@@ -544,14 +555,18 @@ fn tells_of_help_that_cannot_be_written(rt: HostRuntime) -> Result<(), Fail> {
         &mut Full { room: 9 },
         &mut err,
     );
-    assert_eq!(rt; err.as_slice(), b"fault: cannot write\n".as_slice());
-    assert_eq!(rt; status, 1);
+    assert_eq!(rt;
+        (err.as_slice(), status),
+        (b"fault: cannot write\n".as_slice(), 1)
+    );
     let mut err = Vec::new(alloc);
     let status = main_over(
         &rt, alloc, &words, &NoDisk, &mut shelf, &mut Stuck, &mut err,
     );
-    assert_eq!(rt; err.as_slice(), b"fault: cannot write\n".as_slice());
-    assert_eq!(rt; status, 1);
+    assert_eq!(rt;
+        (err.as_slice(), status),
+        (b"fault: cannot write\n".as_slice(), 1)
+    );
     Ok(())
 }
 

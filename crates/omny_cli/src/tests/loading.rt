@@ -1,6 +1,6 @@
 //! The system's files: no contract says what a file holds.
 
-use super::{FIRST, FIRST_LINES, OTHER, run_over};
+use super::{FIRST, FIRST_LINES, OTHER, expect, run_over};
 use crate::ahead::{Disk, Early, read_early, take_next};
 use crate::host::Host;
 use crate::load::{LoadFault, Source};
@@ -152,8 +152,7 @@ taps 6 live 3 stale 3 unknown 0
     for workers in ["1", "2", "3", "16"] {
         let words = ["--workers", workers, a, b, a];
         let ran = run_over(&rt, alloc, words.as_slice(), &rt, &mut Host::new(&rt))?;
-        assert_eq!(rt; ran.out.as_slice(), text.as_bytes(), "by {workers}");
-        assert_eq!(rt; ran.status, 0, "by {workers}");
+        expect(&rt, &ran, text.as_str(), "", 0, workers);
     }
     fs::remove_file(&rt, a)?;
     fs::remove_file(&rt, b)?;
@@ -178,9 +177,7 @@ fn names_the_first_file_that_cannot_be_read(rt: HostRuntime) -> Result<(), Fail>
             let words = ["--workers", workers, first, second, third, last];
             let ran = run_over(&rt, alloc, words.as_slice(), &rt, &mut Host::new(&rt))?;
             let line = format!(in alloc; "fault: cannot read {named}\n")?;
-            assert_eq!(rt; ran.err.as_slice(), line.as_bytes(), "by {workers}");
-            assert_eq!(rt; ran.status, 1, "by {workers}");
-            assert_eq!(rt; ran.out.len(), 0, "by {workers}");
+            expect(&rt, &ran, "", line.as_str(), 1, workers);
         }
     }
     fs::remove_file(&rt, file)?;

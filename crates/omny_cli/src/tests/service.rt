@@ -1,6 +1,6 @@
 //! Runs of the service by the whole program: reports, statements, and what keeps it from them.
 
-use super::{CUT, Content, FIRST, Full, NoDisk, OTHER, Ran, SAMPLE, Shelf, Stuck, run_on};
+use super::{CUT, Content, FIRST, Full, NoDisk, OTHER, Ran, SAMPLE, Shelf, Stuck, expect, run_on};
 use crate::load::LoadFault;
 use crate::program::main_over;
 use std::alloc::{AllocError, Global};
@@ -145,9 +145,7 @@ fn prints_reports_and_statements(rt: HostRuntime) -> Result<(), Fail> {
         let mut shelf = Shelf::new(alloc, files.as_slice(), input);
         let ran = run_line(&rt, alloc, line, &mut shelf)?;
         let text = format!(in alloc; "{}{}{}", texts[0], texts[1], texts[2])?;
-        assert_eq!(rt; ran.out.as_slice(), text.as_bytes(), "of {line}");
-        assert_eq!(rt; ran.status, status, "of {line}");
-        assert_eq!(rt; ran.err.len(), 0, "of {line}");
+        expect(&rt, &ran, text.as_str(), "", status, line);
     }
     Ok(())
 }
@@ -179,12 +177,8 @@ fn says_what_is_wrong_with_the_words(rt: HostRuntime) -> Result<(), Fail> {
     for (line, fault) in rows {
         let mut shelf = Shelf::new(alloc, &[], Content::Bytes(&[]));
         let ran = run_line(&rt, alloc, line, &mut shelf)?;
-        assert_eq!(rt; ran.err.as_slice(), fault.as_bytes(), "of {line}");
-        assert_eq!(rt;
-            (ran.status, ran.out.len(), shelf.given.len()),
-            (2, 0, 0),
-            "of {line}"
-        );
+        expect(&rt, &ran, "", fault, 2, line);
+        assert_eq!(rt; shelf.given.len(), 0, "of {line}");
     }
     for line in [
         "--workers 0",
@@ -224,8 +218,7 @@ fn says_why_it_prints_no_report(rt: HostRuntime) -> Result<(), Fail> {
     ] {
         let mut shelf = Shelf::new(alloc, files.as_slice(), Content::Fault(LoadFault::Unread));
         let ran = run_line(&rt, alloc, line, &mut shelf)?;
-        assert_eq!(rt; ran.err.as_slice(), fault.as_bytes(), "of {line}");
-        assert_eq!(rt; (ran.status, ran.out.len()), (1, 0), "of {line}");
+        expect(&rt, &ran, "", fault, 1, line);
     }
     Ok(())
 }
@@ -259,8 +252,11 @@ fn tells_of_a_report_that_cannot_be_written(rt: HostRuntime) -> Result<(), Fail>
         } else {
             b"".as_slice()
         };
-        assert_eq!(rt; err.as_slice(), line, "with room for {room}");
-        assert_eq!(rt; status, u8::from(room < length), "with room for {room}");
+        assert_eq!(rt;
+            (err.as_slice(), status),
+            (line, u8::from(room < length)),
+            "with room for {room}"
+        );
     }
     let words = [words.as_slice(), &words[..1]];
     for words in words {
@@ -268,8 +264,10 @@ fn tells_of_a_report_that_cannot_be_written(rt: HostRuntime) -> Result<(), Fail>
         let mut shelf = Shelf::new(alloc, files.as_slice(), input);
         let mut err = Vec::new(alloc);
         let status = main_over(&rt, alloc, words, &NoDisk, &mut shelf, &mut Stuck, &mut err);
-        assert_eq!(rt; err.as_slice(), b"fault: cannot write\n".as_slice());
-        assert_eq!(rt; status, 1);
+        assert_eq!(rt;
+            (err.as_slice(), status),
+            (b"fault: cannot write\n".as_slice(), 1)
+        );
     }
     Ok(())
 }
