@@ -221,6 +221,17 @@ fn run_on<R: Threads + Wait + RandomSource + Sync>(
     run_over(rt, alloc, words, &NoDisk, shelf)
 }
 
+// Runs it where there are no files and standard input is empty, and counts what was loaded.
+fn run_bare<R: Threads + Wait + RandomSource + Sync>(
+    rt: &R,
+    alloc: Global,
+    words: &[&str],
+) -> Result<(Ran, usize), AllocError> {
+    let mut shelf = Shelf::new(alloc, &[], Content::Bytes(&[]));
+    let ran = run_on(rt, alloc, words, &mut shelf)?;
+    Ok((ran, shelf.given.len()))
+}
+
 // Runs it over a disk and a source.
 fn run_over<R: Threads + Wait + RandomSource + Sync, D: Disk + Sync, S: Source>(
     rt: &R,
@@ -390,21 +401,14 @@ fn answers_the_command_line(rt: HostRuntime) -> Result<(), Fail> {
         (["--list", "--list"], 2),
     ];
     for (words, status) in rows {
-        let mut shelf = Shelf::new(alloc, &[], Content::Bytes(&[]));
-        let ran = run_on(&rt, alloc, words.as_slice(), &mut shelf)?;
+        let (ran, loads) = run_bare(&rt, alloc, words.as_slice())?;
         assert_eq!(rt;
-            (
-                ran.status,
-                ran.out.is_empty(),
-                ran.err.is_empty(),
-                shelf.given.len()
-            ),
+            (ran.status, ran.out.is_empty(), ran.err.is_empty(), loads),
             (status, status == 2, status == 0, 0),
             "{words:?}"
         );
     }
-    let mut shelf = Shelf::new(alloc, &[], Content::Bytes(&[]));
-    let ran = run_on(&rt, alloc, &["--help"], &mut shelf)?;
+    let (ran, _) = run_bare(&rt, alloc, &["--help"])?;
     let help = std::str::from_utf8(&ran.out).unwrap_or("");
     for part in [
         "Usage: omny_cli [OPTIONS] [FILE]...",

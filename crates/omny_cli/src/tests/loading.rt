@@ -6,7 +6,10 @@ use crate::host::Host;
 use crate::load::{LoadFault, Source};
 use std::alloc::Global;
 use std::fs;
+use std::marker::Sync;
+use std::process::Abort;
 use std::test::Fail;
+use std::thread::Threads;
 
 #[test]
 fn loads_files_of_the_system(rt: HostRuntime) -> Result<(), Fail> {
@@ -90,6 +93,20 @@ impl Disk for Names {
     }
 }
 
+// The names of what two threads read early, in the order of the list. Each has its own bytes, or the fault that the disk tells of it.
+fn early_names<R: Threads + Sync + Abort>(
+    rt: &R,
+    alloc: Global,
+    names: &[&str],
+) -> Result<String, Fail> {
+    let mut text = String::new(alloc);
+    for file in read_early(rt, alloc, &Names, names, 2) {
+        write!(text, "{} ", file.name)?;
+        assert!(rt; file.loaded == Names.read(alloc, file.name.as_str()));
+    }
+    Ok(text)
+}
+
 // Each thread's part ends behind the first fault, and before the first file for which there is no memory.
 #[test]
 fn reads_parts_up_to_a_fault(rt: HostRuntime) -> Result<(), Fail> {
@@ -104,15 +121,7 @@ fn reads_parts_up_to_a_fault(rt: HostRuntime) -> Result<(), Fail> {
         (["pipe", "b", "c", "d"], ""),
     ];
     for (names, told) in rows {
-        let mut text = String::new(alloc);
-        for file in read_early(&rt, alloc, &Names, &names, 2) {
-            let Early { name, loaded } = file;
-            write!(text, "{name} ")?;
-            match loaded {
-                Ok(bytes) => assert_eq!(rt; bytes.as_slice(), name.as_bytes()),
-                Err(fault) => assert_eq!(rt; Names.read(alloc, name.as_str()).err(), Some(fault)),
-            }
-        }
+        let text = early_names(&rt, alloc, &names)?;
         assert_eq!(rt; text.as_str(), told, "{names:?}");
     }
     Ok(())
