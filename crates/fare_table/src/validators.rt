@@ -18,7 +18,7 @@ use toml::value::Array;
 use toml::{Table, Value};
 
 /// Up to how many ranges are searched by halves at once.
-const FEW: usize = 8;
+const FEW: usize = 4;
 
 /// The rest of a range of validators beside its first number.
 #[derive(Clone, Copy)]
