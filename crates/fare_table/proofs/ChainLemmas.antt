@@ -5,6 +5,7 @@ use Rattle.std.proofs.lemmas.List.{get_or_default, get_or-map}
 use Rattle.std.proofs.lemmas.List.Sorted.{IsNonDecreasingBy-from_all_adjacent, IsPartitionedBy-leb}
 use Rattle.std.proofs.lemmas.Option.{slice_get-get_or}
 use Rattle.std.proofs.lemmas.Bool.Decides.{leb_tells, nat_tests}
+use Rattle.std.proofs.Math.Bool.{and-false}
 use Rattle.std.specs.List.{slice_get, AllWithin, find, list_all}
 use Rattle.std.specs.List.Sorted.{IsNonDecreasingBy, IsPartitionedBy}
 use Rattle.std.specs.Option.{option_or}
@@ -58,6 +59,71 @@ found n (range ∷ []) chain = elim (leb_tells range.0 n) [ inl a ↦ rw a.0 | i
 found n (range ∷ next ∷ more) chain =
     let two = apart range next more chain in
     found_step n range next more two (found n (next ∷ more) two.rest) (leb_tells range.0 n) (leb_tells next.0 n)
+
+-- the first range of a chain begins no later than it ends
+begins_first : (range : ℕ × Span) (more : List (ℕ × Span)) → is_chain (range ∷ more) ≡ true → range.0 ≤ range.1.last
+begins_first range [] chain = leb-true _ _ chain
+begins_first range (next ∷ more) chain = (apart range next more chain).begins
+
+-- the ranges of a chain end before those behind them begin, and so before those end
+ends_before : (range : ℕ × Span) (more : List (ℕ × Span)) (i : ℕ) (d : ℕ × Span) → is_chain (range ∷ more) ≡ true → i < length more
+    → (range.1.last < (get_or more i d).0) × (range.1.last < (get_or more i d).1.last)
+ends_before range [] i d chain inside = absurd (omega arith)
+ends_before range (next ∷ more) zero d chain inside =
+    let two = apart range next more chain in
+    let begins = begins_first next more two.rest in
+    (two.ends, omega (arith, two.ends, begins))
+ends_before range (next ∷ more) (suc i) d chain inside =
+    let two = apart range next more chain in
+    let begins = begins_first next more two.rest in
+    let behind = ends_before next more i d two.rest (omega arith) in
+    (omega (arith, two.ends, begins, behind.0), omega (arith, two.ends, begins, behind.1))
+
+-- a range that ends before a number is not the one that has it
+passed : (n : ℕ) (range : ℕ × Span) (more : List (ℕ × Span)) → range.1.last < n
+    → find (has_number n) (range ∷ more) ≡ find (has_number n) more
+passed n range more ends =
+    let past : nat_le n range.1.last ≡ false = grind (arith, nat_tests, ends) in
+    rw (past, and-false (nat_le range.0 n))
+
+-- a range of a chain that has a number is the one that is found
+pub only_one : (n : ℕ) (ranges : List (ℕ × Span)) (i : ℕ) (d : ℕ × Span) → is_chain ranges ≡ true → i < length ranges
+    → (get_or ranges i d).0 ≤ n → n ≤ (get_or ranges i d).1.last → find (has_number n) ranges ≡ Some (get_or ranges i d)
+only_one n [] i d chain inside begins ends = absurd (omega arith)
+only_one n (range ∷ more) zero d chain inside begins ends =
+    let first : nat_le range.0 n ≡ true = grind (arith, nat_tests, begins) in
+    let last : nat_le n range.1.last ≡ true = grind (arith, nat_tests, ends) in
+    rw (first, last)
+only_one n (range ∷ []) (suc i) d chain inside begins ends = absurd (omega arith)
+only_one n (range ∷ next ∷ more) (suc i) d chain inside begins ends =
+    let two = apart range next more chain in
+    let before = ends_before range (next ∷ more) i d chain (omega arith) in
+    rw (passed n range (next ∷ more) (omega (arith, before.0, begins))) (only_one n (next ∷ more) i d two.rest (omega arith) begins ends)
+
+-- no range of a chain has a number before the first one
+pub none_before : (n : ℕ) (ranges : List (ℕ × Span)) (d : ℕ × Span) → is_chain ranges ≡ true → n < (get_or ranges 0 d).0
+    → find (has_number n) ranges ≡ None
+none_before n [] d chain begins = refl
+none_before n (range ∷ []) d chain begins =
+    let later : nat_le range.0 n ≡ false = grind (arith, nat_tests, begins) in
+    rw later
+none_before n (range ∷ next ∷ more) d chain begins =
+    let two = apart range next more chain in
+    let later : nat_le range.0 n ≡ false = grind (arith, nat_tests, begins) in
+    rw later (none_before n (next ∷ more) d two.rest (omega (arith, two.begins, two.ends, begins)))
+
+-- nor has one a number between two neighbours
+pub none_between : (n : ℕ) (ranges : List (ℕ × Span)) (i : ℕ) (d : ℕ × Span) → is_chain ranges ≡ true → suc i < length ranges
+    → (get_or ranges i d).1.last < n → n < (get_or ranges (suc i) d).0 → find (has_number n) ranges ≡ None
+none_between n [] i d chain inside ends begins = refl
+none_between n (range ∷ []) i d chain inside ends begins = absurd (omega arith)
+none_between n (range ∷ next ∷ more) zero d chain inside ends begins =
+    let two = apart range next more chain in
+    rw (passed n range (next ∷ more) ends) (none_before n (next ∷ more) d two.rest begins)
+none_between n (range ∷ next ∷ more) (suc i) d chain inside ends begins =
+    let two = apart range next more chain in
+    let before = ends_before range (next ∷ more) i d chain (omega arith) in
+    rw (passed n range (next ∷ more) (omega (arith, before.1, ends))) (none_between n (next ∷ more) i d two.rest (omega arith) ends begins)
 
 last_of_cons : (r : ℕ × Span) (t : List (ℕ × Span)) → slice_get (r ∷ t) (length (r ∷ t) - 1) ≡ option_or (slice_get t (length t - 1)) (Some r)
 last_of_cons r [] = refl
@@ -157,22 +223,3 @@ halved n firsts base size d rising split more inside false is = record {
 pub split-half : (n : ℕ) (firsts : List ℕ) (base size : ℕ) (d : ℕ) → is_rising firsts ≡ true → IsSplit n firsts base size → 1 < size → base + size ≤ length firsts
     → IsSplit n firsts (base + (if nat_le (get_or firsts (base + size / 2) d) n then size / 2 else 0)) (size - size / 2)
 split-half n firsts base size d rising split more inside = halved n firsts base size d rising split more inside (nat_le (get_or firsts (base + size / 2) d) n) refl
-
--- where a number is not above `n`, none before it is
-pub begun-before : (n : ℕ) (firsts : List ℕ) (place : ℕ) → is_rising firsts ≡ true → 0 < place → place ≤ length firsts
-    → nat_le (get_or firsts (place - 1) 0) n ≡ true → AllWithin (λ first. nat_le first n ≡ true) firsts 0 place
-begun-before n firsts place rising some inside last = λ k e low high.
-    let same : get_or firsts (place - 1) 0 ≡ get_or firsts (place - 1) e = get_or_default firsts (place - 1) 0 e (omega arith) in
-    let here : nat_le (get_or firsts (place - 1) e) n ≡ true = rw (← same) last in
-    parted n firsts rising k (place - 1) e (omega arith) (omega arith) here
-
--- where a number is above `n`, all from it on are
-pub later-from : (n : ℕ) (firsts : List ℕ) (place : ℕ) → is_rising firsts ≡ true
-    → nat_le (get_or firsts place 0) n ≡ false → AllWithin (λ first. nat_le first n ≡ false) firsts place (length firsts)
-later-from n firsts place rising first = λ k e low high.
-    let same : get_or firsts place 0 ≡ get_or firsts place e = get_or_default firsts place 0 e (omega arith) in
-    let here : nat_le (get_or firsts place e) n ≡ false = rw (← same) first in
-    elim (cases_Bool (nat_le (get_or firsts k e) n)) [
-      | inl begun ↦ absurd (false≢true (sym here ∙ parted n firsts rising place k e low high begun))
-      | inr later ↦ later
-    ]

@@ -1,6 +1,6 @@
 //! The key `validators`: ranges of validators and their modes.
-ghost use Rattle.std.specs.Prelude.{◌≡◌, ◌<◌, ◌≤◌, [], true, if◌then◌else◌, IfOk, length, nat_le, map, option_copied, option_map, string_bytes, IsTrue, false};
-ghost use Rattle.std.specs.List.{AllWithin, list_any};
+ghost use Rattle.std.specs.Prelude.{◌≡◌, ◌<◌, ◌≤◌, [], true, if◌then◌else◌, IfOk, IfSome, None, length, nat_le, map, option_copied, option_map, string_bytes, IsTrue};
+ghost use Rattle.std.specs.List.{list_any};
 ghost use Rattle.toml.specs.View.{view, array_view, table_view};
 ghost use Rattle.fare_table.specs.Fares.{range_at};
 ghost use Rattle.fare_table.specs.Outcome.{Answers};
@@ -61,9 +61,9 @@ impl Ranges {
         requires { is_chain ranges.entries ≡ true }
         ensures { IfOk result (λ r. r ≡ ranges.entries) }
     {
-        let firsts: Vec<u32> = ranges.keys().copied().collect(alloc)?;
-        let guesses = Guesses::new(alloc, &firsts)?;
-        let ranges = ranges.into_iter().collect(alloc)?;
+        let firsts = ranges.keys().copied().collect(alloc)?;
+        let ranges: Vec<(u32, Span)> = ranges.into_iter().collect(alloc)?;
+        let guesses = Guesses::new(alloc, &ranges)?;
         Ok(Ranges {
             ranges,
             firsts,
@@ -80,7 +80,7 @@ impl Ranges {
     }
 }
 
-#[tactic(auto, using(crate::proofs::ChainLemmas::found))]
+// The range of the number. Of few ranges none is guessed, since two or three halves are found sooner.
 fn range_at<'a>(
     ranges: &'a [(u32, Span)],
     firsts: &[u32],
@@ -90,7 +90,61 @@ fn range_at<'a>(
     requires { AreSearchable ranges.now firsts.now }
     ensures { option_copied result ≡ range_at ranges.now number }
 {
-    let range = last_begun(ranges, firsts, guesses, number)?;
+    if ranges.len() > FEW {
+        if let Some(found) = guessed(ranges, guesses.at(number), number) {
+            return found;
+        }
+    }
+    range_by_halves(ranges, firsts, number)
+}
+
+// The range of the number, or that it has none, where the range at the place that was guessed or the next one tells: in a chain
+// what has the number is the only one that does, whatever the guess. The choice between the two is a sum and no branch, since
+// numbers come in no order that a processor could guess.
+fn guessed<'a>(
+    ranges: &'a [(u32, Span)],
+    guess: usize,
+    number: u32,
+) -> Option<Option<&'a (u32, Span)>>
+    requires { is_chain ranges.now ≡ true }
+    ensures { IfSome result (λ found. option_copied found ≡ range_at ranges.now number) }
+{
+    let near = ranges.get(guess)?;
+    let place = guess + usize::from(near.1.last < number);
+    let range = ranges.get(place)?;
+    if range.0 <= number && number <= range.1.last {
+        return Some(Some(range));
+    }
+    if is_just_before(ranges, place, number) {
+        Some(None)
+    } else {
+        None
+    }
+}
+
+// Whether the number lies before the range at the place, and behind the one before that.
+fn is_just_before(ranges: &[(u32, Span)], place: usize, number: u32) -> bool
+    requires apart { is_chain ranges.now ≡ true }
+    requires inside { place < length ranges.now }
+    ensures { IsTrue result → range_at ranges.now number ≡ None }
+{
+    if place == 0 {
+        return number < ranges[0].0;
+    }
+    ranges[place - 1].1.last < number && number < ranges[place].0
+}
+
+// The range of the number, found by halves.
+#[tactic(auto, using(crate::proofs::ChainLemmas::found))]
+fn range_by_halves<'a>(
+    ranges: &'a [(u32, Span)],
+    firsts: &[u32],
+    number: u32,
+) -> Option<&'a (u32, Span)>
+    requires { AreSearchable ranges.now firsts.now }
+    ensures { option_copied result ≡ range_at ranges.now number }
+{
+    let range = last_begun(ranges, firsts, number)?;
     if number <= range.1.last {
         Some(range)
     } else {
@@ -99,80 +153,15 @@ fn range_at<'a>(
 }
 
 // The last range that begins at the number or before it.
-fn last_begun<'a>(
-    ranges: &'a [(u32, Span)],
-    firsts: &[u32],
-    guesses: &Guesses,
-    number: u32,
-) -> Option<&'a (u32, Span)>
+fn last_begun<'a>(ranges: &'a [(u32, Span)], firsts: &[u32], number: u32) -> Option<&'a (u32, Span)>
     requires { AreSearchable ranges.now firsts.now }
     ensures { option_copied result ≡ last_begun number ranges.now }
 {
-    ranges[..begun(firsts, guesses, number)].last()
+    ranges[..begun_by_halves(firsts, number)].last()
 }
 
-// How many of the first numbers are not above the number: as many as was guessed or one more, where that is right. Of few
-// numbers none is guessed, since two or three halves are found sooner.
-fn begun(firsts: &[u32], guesses: &Guesses, number: u32) -> usize
-    requires { is_rising firsts.now ≡ true }
-    ensures bound { result ≤ length firsts.now }
-    ensures split { IsSplit number firsts.now result 0 }
-{
-    if firsts.len() > FEW {
-        let near = near_guess(firsts, guesses.at(number), number);
-        if parts(firsts, near, number) {
-            return near;
-        }
-    }
-    begun_by_halves(firsts, number)
-}
-
-// The place that was guessed, or the next one where the first number there is not above the number: by a mask, as below.
-fn near_guess(firsts: &[u32], guess: usize, number: u32) -> usize
-    ensures { result ≤ length firsts.now }
-{
-    if firsts.is_empty() {
-        return 0;
-    }
-    let place = guess.min(firsts.len() - 1);
-    place + taken_if_begun(1, firsts[place], number)
-}
-
-// Whether the first numbers before the place are not above the number, and the others are.
-fn parts(firsts: &[u32], place: usize, number: u32) -> bool
-    requires rising { is_rising firsts.now ≡ true }
-    requires inside { place ≤ length firsts.now }
-    ensures { IsTrue result → IsSplit number firsts.now place 0 }
-{
-    is_begun_before(firsts, place, number) && is_later_from(firsts, place, number)
-}
-
-// Whether the numbers before the place are not above the number, as the last of them says.
-fn is_begun_before(firsts: &[u32], place: usize, number: u32) -> bool
-    requires rising { is_rising firsts.now ≡ true }
-    requires inside { place ≤ length firsts.now }
-    ensures { IsTrue result → AllWithin (λ first. nat_le first number ≡ true) firsts.now 0 place }
-{
-    if place == 0 {
-        return true;
-    }
-    firsts[place - 1] <= number
-}
-
-// Whether the numbers from the place on are above the number, as the first of them says.
-fn is_later_from(firsts: &[u32], place: usize, number: u32) -> bool
-    requires rising { is_rising firsts.now ≡ true }
-    requires inside { place ≤ length firsts.now }
-    ensures { IsTrue result → AllWithin (λ first. nat_le first number ≡ false) firsts.now place (length firsts.now) }
-{
-    if place == firsts.len() {
-        return true;
-    }
-    firsts[place] > number
-}
-
-// The same, found by halves. Each half is taken or left by a mask and not by a branch, since a processor that
-// guesses wrongly at every second step makes the search three times as slow.
+// How many of the first numbers are not above the number. Each half is taken or left by a mask and not by a
+// branch, since a processor that guesses wrongly at every second step makes the search three times as slow.
 fn begun_by_halves(firsts: &[u32], number: u32) -> usize
     requires { is_rising firsts.now ≡ true }
     ensures bound { result ≤ length firsts.now }
