@@ -4,3 +4,4 @@ pub mod OverlapLemmas
 pub mod UntilLemmas
 pub mod TextFaultLemmas
 pub mod TokenBytes
+pub mod TokenMarks

@@ -1,6 +1,7 @@
 pub mod Classes
 pub mod Fares
 pub mod Key
+pub mod Marks
 pub mod Members
 pub mod Modes
 pub mod Outcome

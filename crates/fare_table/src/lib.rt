@@ -10,6 +10,7 @@ mod clock;
 mod fault;
 mod guesses;
 pub mod laws;
+mod marks;
 mod members;
 mod mode;
 mod modes;

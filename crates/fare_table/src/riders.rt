@@ -1,13 +1,15 @@
 //! The key `riders`: the terms of single riders by their tokens.
 ghost use Rattle.std.specs.Prelude.{◌≡◌, [], All, IfOk};
-ghost use Rattle.std.specs.Map.{values_of};
+ghost use Rattle.std.specs.Map.{keys_of, values_of};
 ghost use Rattle.toml.specs.View.{view, table_view};
 ghost use Rattle.fare_table.specs.Outcome.{Answers};
 ghost use Rattle.fare_table.specs.Riders as spec;
 ghost use Rattle.fare_table.specs.Terms.{HasLimits};
+ghost use Rattle.fare_table.specs.Token.{Fits, by_bytes};
 
 use crate::classes::class_named;
 use crate::fault::{Key, NoMemory, TableFault};
+use crate::marks::Marks;
 use crate::members::{hold_strings, optional};
 use crate::terms::Terms;
 use crate::token::Token;
@@ -21,35 +23,38 @@ use toml::{Table, Value};
 #[derive(Drop)]
 pub struct Riders {
     terms: BTreeMap<Token, Terms>,
+    // most tokens are no rider's: that they have no mark says so at once, and a search is saved
+    marks: Marks,
 }
 
 impl Model for Riders {
-    ghost use Rattle.std.specs.Prelude.{ℕ, List, All};
-    ghost use Rattle.std.specs.Map.{keys_of};
+    ghost use Rattle.std.specs.Prelude.{ℕ, List};
     ghost use Rattle.fare_table.specs.declared.terms.Terms.{Terms};
-    ghost use Rattle.fare_table.specs.Token.{Fits, by_bytes};
+    ghost use Rattle.fare_table.specs.Marks.{AreMarked};
+    ghost use Rattle.fare_table.specs.Token.{by_bytes};
 
     ghost Value = { List (List ℕ × Terms) };
 
     ghost view = { λ r. by_bytes r.terms.entries };
 
-    ghost invariant = { λ r. All Fits (keys_of r.terms.entries) };
+    ghost invariant = { λ r. AreMarked r.terms.entries r.marks };
 }
 
 impl Riders {
-    ghost use Rattle.std.specs.Prelude.{◌≡◌, [], OnErr, OnOk, length};
-    ghost use Rattle.std.specs.BTreeMap.{insert_entry, is_at};
+    ghost use Rattle.std.specs.Prelude.{◌≡◌, All, IfOk, length};
+    ghost use Rattle.std.specs.BTreeMap.{is_at};
     ghost use Rattle.std.specs.Cmp.Lexicographic.{slice_cmp};
-    ghost use Rattle.std.specs.Map.{lookup};
+    ghost use Rattle.std.specs.Map.{keys_of, lookup};
     ghost use Rattle.std.specs.Ordering.{nat_cmp};
+    ghost use Rattle.fare_table.specs.Token.{Fits, by_bytes};
 
-    /// No riders.
-    pub fn new(alloc: Global) -> Riders
-        ensures { result ≡ [] }
+    /// The riders of a map by their tokens. `NoMemory` is answered where a growth is refused.
+    pub fn new(alloc: Global, terms: BTreeMap<Token, Terms>) -> Result<Riders, NoMemory>
+        requires { All Fits (keys_of terms.entries) }
+        ensures { IfOk result (λ r. r ≡ by_bytes terms.entries) }
     {
-        Riders {
-            terms: BTreeMap::new(alloc),
-        }
+        let marks = Marks::new(alloc, &terms)?;
+        Ok(Riders { terms, marks })
     }
 
     /// The terms of the rider with this token, if there is one.
@@ -57,20 +62,14 @@ impl Riders {
         requires { length token.now ≡ 16 }
         ensures { result ≡ lookup (is_at (slice_cmp nat_cmp token.now)) self.now }
     {
-        match self.terms.get(&Token::of(token)) {
+        let token = Token::of(token);
+        if !self.marks.has(token) {
+            return None;
+        }
+        match self.terms.get(&token) {
             Some(terms) => Some(*terms),
             None => None,
         }
-    }
-
-    /// Sets the terms of one rider. Unchanged where memory is refused.
-    fn insert(&mut self, token: &[u8], terms: Terms) -> Result<(), NoMemory>
-        requires { length token.now ≡ 16 }
-        ensures ok { OnOk result (self.new ≡ insert_entry (slice_cmp nat_cmp) self.old token.now terms) }
-        ensures err { OnErr result (self.new ≡ self.old) }
-    {
-        self.terms.insert(Token::of(token), terms)?;
-        Ok(())
     }
 }
 
@@ -82,7 +81,7 @@ pub fn riders_of(alloc: Global, classes: &Table, table: &Table) -> Result<Riders
     ensures limits { IfOk result (λ r. All HasLimits (values_of r)) }
 {
     let Some(value) = optional(table, "riders") else {
-        return Ok(Riders::new(alloc));
+        return Ok(Riders::new(alloc, BTreeMap::new(alloc))?);
     };
     let Some(riders) = value.as_table() else {
         return Err(TableFault::Kind { key: Key::Riders });
@@ -90,21 +89,28 @@ pub fn riders_of(alloc: Global, classes: &Table, table: &Table) -> Result<Riders
     if !hold_strings(riders) {
         return Err(TableFault::Kind { key: Key::Riders });
     }
-    riders_from(alloc, classes, riders)
+    let riders = riders_from(alloc, classes, riders)?;
+    Ok(Riders::new(alloc, riders)?)
 }
 
-fn riders_from(alloc: Global, classes: &Table, members: &Table) -> Result<Riders, TableFault>
-    ensures answer { Answers (λ r. r) result
+fn riders_from(
+    alloc: Global,
+    classes: &Table,
+    members: &Table,
+) -> Result<BTreeMap<Token, Terms>, TableFault>
+    ensures answer { Answers (λ m. by_bytes m.entries) result
         (spec.riders_from (table_view classes.now) [] (table_view members.now)) }
-    ensures limits { IfOk result (λ r. All HasLimits (values_of r)) }
+    ensures fits { IfOk result (λ m. All Fits (keys_of m.entries)) }
+    ensures limits { IfOk result (λ m. All HasLimits (values_of (by_bytes m.entries))) }
 {
-    let mut riders = Riders::new(alloc);
+    let mut riders = BTreeMap::new(alloc);
     for (key, value) in members {
-        let (token, terms) = rider_of(classes, key.as_str(), value)?;
-        if riders.terms_of(&token).is_some() {
+        let (bytes, terms) = rider_of(classes, key.as_str(), value)?;
+        let token = Token::of(&bytes);
+        if riders.contains_key(&token) {
             return Err(TableFault::Rider);
         }
-        riders.insert(&token, terms)?;
+        riders.insert(token, terms)?;
     }
     Ok(riders)
 }

@@ -27,7 +27,7 @@ use std::sync::Arc;
 use toml::Table;
 
 /// An agency's fare table. Look-ups take no memory; those of validators and riders are searches by
-/// halves, that of a transfer reads one bit.
+/// halves, which a guess or a mark mostly saves, that of a transfer reads one bit.
 #[derive(Drop)]
 pub struct FareTable {
     // one for all clones, since each book has a clone and none changes it

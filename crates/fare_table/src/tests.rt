@@ -125,6 +125,24 @@ fn crowded_ranges_are_told_apart(rt: HostRuntime) -> Result<(), Fail> {
     Ok(())
 }
 
+/// The sample's only rider has a mark that other tokens meet too, and most tokens meet none.
+#[test]
+fn a_rider_is_told_from_tokens_at_its_mark(rt: HostRuntime) -> Result<(), Fail> {
+    let alloc = rt.alloc();
+    let table = FareTable::read(alloc, SAMPLE.as_bytes())?;
+    for last in 0..=255 {
+        let terms = if last == 0xd4 { REDUCED } else { FULL };
+        assert_eq!(rt; table.terms_of(&token(last)), terms, "at {last}");
+    }
+    let mut other = token(0xd4);
+    other[0] = 1;
+    assert_eq!(rt; table.terms_of(&other), FULL);
+    let text = changed(alloc, "000000000000000000000000000000d4 = \"reduced\"", "")?;
+    let without_riders = FareTable::read(alloc, text.as_bytes())?;
+    assert_eq!(rt; without_riders.terms_of(&token(0xd4)), FULL);
+    Ok(())
+}
+
 #[test]
 fn the_samples_modes_permit_transfers(rt: HostRuntime) -> Result<(), Fail> {
     let table = FareTable::read(rt.alloc(), SAMPLE.as_bytes())?;

@@ -1,6 +1,7 @@
 //! The token of a rider, as a map has it.
 
-ghost use Rattle.std.specs.Prelude.{◌≡◌, length};
+ghost use Rattle.std.specs.Prelude.{◌≡◌, ◌<◌, length};
+ghost use Rattle.fare_table.specs.Marks.{slot};
 ghost use Rattle.fare_table.specs.Token.{Fits, bytes_of};
 
 /// The 16 bytes of a token, ordered by these bytes.
@@ -28,5 +29,14 @@ impl Token {
             high: u64::from_be_bytes(high),
             low: u64::from_be_bytes(low),
         }
+    }
+
+    /// The token's slot among so many, a power of two: its last bits, which spread well, since most tokens are random.
+    pub fn slot(self, slots: usize) -> usize
+        requires { 0 < slots }
+        ensures slot { result ≡ slot self slots }
+        ensures inside { result < slots }
+    {
+        self.low as usize & (slots - 1)
     }
 }
