@@ -1,4 +1,4 @@
-//! Hostile use of the service's libraries: memory that is refused, uploads that are damaged, writers that fail, schedules.
+//! Hostile use of the service's libraries: memory that is refused, in every place.
 //!
 //! `hostile CASE` makes one case of calls that take memory, and looks at what a refused call left behind. Its status is 0
 //! where all was answered, 3 where memory was refused and all stood as promised, 4 where a run told so of an upload that was
@@ -13,8 +13,6 @@ mod sample;
 mod service;
 mod stop;
 mod tables;
-#[cfg(test)]
-mod tests;
 
 use cases::{CASES, made};
 use std::env::Env;

@@ -12,7 +12,7 @@ use std::thread::Threads;
 
 /// A gate that keeps nobody waiting.
 #[derive(Drop)]
-pub struct Open;
+struct Open;
 
 impl Gate for Open {
     fn before(&self, _: u32) {}
@@ -34,26 +34,14 @@ impl<R: Print> Gate for Telling<'_, R> {
     }
 }
 
-/// So many workers post the uploads to so many shards.
-pub fn outcome_by<R: Threads + Wait + RandomSource + Sync, G: Gate + Sync>(
-    rt: &R,
-    alloc: Global,
-    uploads: &[Vec<u8>],
-    shards: u32,
-    workers: u32,
-    gate: &G,
-) -> Result<Outcome, Stop> {
-    let (service, share) = Service::open(rt, alloc, table(alloc)?, shards, uploads)?;
-    Ok(service.run(rt, alloc, share, workers, gate)?)
-}
-
 /// One worker posts the uploads to eight shards.
-pub fn outcome_of<R: Threads + Wait + RandomSource + Sync>(
+fn outcome_of<R: Threads + Wait + RandomSource + Sync>(
     rt: &R,
     alloc: Global,
     uploads: &[Vec<u8>],
 ) -> Result<Outcome, Stop> {
-    outcome_by(rt, alloc, uploads, 8, 1, &Open)
+    let (service, share) = Service::open(rt, alloc, table(alloc)?, 8, uploads)?;
+    Ok(service.run(rt, alloc, share, 1, &Open)?)
 }
 
 /// A service opens, and its first share is gathered: both uploads are undrawn.

@@ -3,6 +3,10 @@
 ghost use Rattle.std.specs.Prelude.{◌≡◌, All, IfOk};
 ghost use Rattle.fare_service.specs.Shares.{IsShareOf};
 
+use crate::sample::{
+    BUS, Open, REPORT, START, SUBWAY, TABLE, add, an_unknown_one, bytes_of, end_of, four_rides,
+    opened, run, tap, two_uploads,
+};
 use fare_service::{
     Gate, GatherFault, OpenFault, Outcome, PrintFault, RunFault, Service, Share, UploadEnd,
 };
@@ -18,40 +22,6 @@ use std::test::Fail;
 use std::thread;
 use std::thread::Threads;
 use tap_views::{LayoutFault, TapFields, encode};
-
-// One class, two modes and their pairs.
-const TABLE: &str = r#"modes = ["subway", "bus"]
-transfers = [["subway", "bus"], ["bus", "subway"], ["bus", "bus"]]
-default_class = "full"
-
-[classes.full]
-fare = 300
-rides = 12
-ceiling = 3500
-
-[[validators]]
-first = 1000
-last = 1999
-mode = "subway"
-
-[[validators]]
-first = 2000
-last = 2999
-mode = "bus"
-"#;
-
-const REPORT: &str = "uploads 2
-upload 0 posted 4
-upload 1 posted 2
-totals taps 6 paid 3 transfers 2 capped 0 stale 0 unknown 1 cents 900
-validators 3
-validator 9 taps 1 paid 0 transfers 0 capped 0 stale 0 unknown 1 cents 0
-validator 1000 taps 3 paid 2 transfers 1 capped 0 stale 0 unknown 0 cents 600
-validator 2000 taps 2 paid 1 transfers 1 capped 0 stale 0 unknown 0 cents 300
-tokens 2
-token 000000000000000000000000000000a1 taps 4 paid 2 transfers 2 capped 0 stale 0 unknown 0 cents 600
-token 000000000000000000000000000000b2 taps 2 paid 1 transfers 0 capped 0 stale 0 unknown 1 cents 300
-";
 
 const STATEMENT: &str = "statement 000000000000000000000000000000a1
 2024-03-08T17:00:00.000Z subway 1000 paid 300
@@ -92,60 +62,8 @@ validators 0
 tokens 0
 ";
 
-// 2024-03-08T17:00:00.000Z
-const START: u64 = 1_709_917_200_000;
-
-const SUBWAY: u32 = 1000;
-
-const BUS: u32 = 2000;
-
-fn bytes_of(last: u8) -> [u8; 16] {
-    let mut token = [0; 16];
-    token[15] = last;
-    token
-}
-
-fn tap(last: u8, validator: u32, after: u64) -> TapFields {
-    TapFields {
-        token: bytes_of(last),
-        validator,
-        moment: START.saturating_add(after),
-    }
-}
-
 fn encoded(alloc: Global, taps: &[TapFields]) -> Result<Vec<u8>, Fail> {
     Ok(encode(alloc, taps)?)
-}
-
-// One way out a line: each way out drops all that its function owns, and is proved.
-fn add(uploads: &mut Vec<Vec<u8>>, upload: Result<Vec<u8>, Fail>) -> Result<(), Fail> {
-    Ok(uploads.push(upload?)?)
-}
-
-// Subway, bus, bus, subway within an hour: paid, transfer, paid, transfer.
-fn four_rides(alloc: Global) -> Result<Vec<u8>, Fail> {
-    Ok(encode(
-        alloc,
-        &[
-            tap(0xa1, SUBWAY, 0),
-            tap(0xa1, BUS, 1_200_000),
-            tap(0xa1, BUS, 2_400_000),
-            tap(0xa1, SUBWAY, 3_600_000),
-        ],
-    )?)
-}
-
-// A tap at a validator that the table does not know, and then an earlier one: unknown, paid.
-fn an_unknown_one(alloc: Global) -> Result<Vec<u8>, Fail> {
-    Ok(encode(alloc, &[tap(0xb2, 9, 10), tap(0xb2, SUBWAY, 5)])?)
-}
-
-// The uploads of the example.
-fn two_uploads(alloc: Global) -> Result<Vec<Vec<u8>>, Fail> {
-    let mut uploads = Vec::new(alloc);
-    add(&mut uploads, four_rides(alloc))?;
-    add(&mut uploads, an_unknown_one(alloc))?;
-    Ok(uploads)
 }
 
 // A batch without its last byte.
@@ -168,50 +86,6 @@ fn too_late(alloc: Global) -> Result<Vec<u8>, Fail> {
     bytes.truncate(28);
     bytes.extend_from_slice(&4_102_444_800_000u64.to_be_bytes())?;
     Ok(bytes)
-}
-
-// A gate that keeps nobody waiting.
-#[derive(Drop)]
-struct Open;
-
-impl Gate for Open {
-    fn before(&self, _: u32) {}
-
-    fn after(&self, _: u32) {}
-}
-
-// A service over the uploads, with its first share.
-fn opened<'a, R: RandomSource>(
-    rt: &R,
-    alloc: Global,
-    uploads: &'a [Vec<u8>],
-    shards: u32,
-) -> Result<(Service<'a>, Share), Fail>
-    ensures { IfOk result (λ r. IsShareOf r.0 r.1) }
-{
-    let table = FareTable::read(alloc, TABLE.as_bytes())?;
-    Ok(Service::open(rt, alloc, table, shards, uploads)?)
-}
-
-fn run<R: Threads + Wait + RandomSource + Sync, G: Gate + Sync>(
-    rt: &R,
-    alloc: Global,
-    uploads: &[Vec<u8>],
-    shards: u32,
-    workers: u32,
-    gate: &G,
-) -> Result<Outcome, Fail> {
-    let (service, share) = opened(rt, alloc, uploads, shards)?;
-    Ok(service.run(rt, alloc, share, workers, gate)?)
-}
-
-// The end of an upload, or nothing where there is no such upload.
-fn end_of(outcome: &Outcome, upload: u32) -> Option<UploadEnd> {
-    if upload < outcome.uploads() {
-        Some(outcome.upload(upload))
-    } else {
-        None
-    }
 }
 
 // The totals of a worker, or nothing where there is no such worker.

@@ -1,8 +1,7 @@
 //! Damaged uploads through the whole service.
 
-use crate::sample::{BUS, SUBWAY, tap};
-use crate::service::outcome_of;
-use fare_service::{Outcome, UploadEnd};
+use crate::sample::{BUS, Open, SUBWAY, end_of, run, tap};
+use fare_service::UploadEnd;
 use std::alloc::Global;
 use std::test::Fail;
 use tap_views::{LayoutFault, encode};
@@ -38,15 +37,6 @@ fn end_of_a_cut_file(bytes: usize) -> UploadEnd {
     }
 }
 
-/// The end of an upload, or nothing where there is no such upload.
-fn end_of(outcome: &Outcome, upload: usize) -> Option<UploadEnd> {
-    if (upload as u64) < u64::from(outcome.uploads()) {
-        Some(outcome.upload(upload as u32))
-    } else {
-        None
-    }
-}
-
 // Would catch an offset or a count that is one batch or one byte off in the service, which hands the views' fault on.
 #[test]
 fn a_file_cut_at_every_length(rt: HostRuntime) -> Result<(), Fail> {
@@ -61,11 +51,11 @@ fn a_file_cut_at_every_length(rt: HostRuntime) -> Result<(), Fail> {
         cut.push(left)?;
     }
     cut.push(file)?;
-    let outcome = outcome_of(&rt, alloc, cut.as_slice())?;
-    for bytes in 0..=100usize {
+    let outcome = run(&rt, alloc, cut.as_slice(), 8, 1, &Open)?;
+    for bytes in 0..=100u32 {
         assert_eq!(rt;
             end_of(&outcome, bytes),
-            Some(end_of_a_cut_file(bytes)),
+            Some(end_of_a_cut_file(bytes as usize)),
             "{bytes} bytes"
         );
     }
@@ -110,12 +100,12 @@ fn every_bit_of_a_header_turned(rt: HostRuntime) -> Result<(), Fail> {
             files.push(file)?;
         }
     }
-    let outcome = outcome_of(&rt, alloc, files.as_slice())?;
+    let outcome = run(&rt, alloc, files.as_slice(), 8, 1, &Open)?;
     for byte in 0..8usize {
         for bit in 0..8u32 {
             let wanted = end_of_a_turned_bit(byte, bit);
             assert_eq!(rt;
-                end_of(&outcome, byte * 8 + bit as usize),
+                end_of(&outcome, byte as u32 * 8 + bit),
                 Some(wanted),
                 "bit {bit} of {byte}"
             );

@@ -2,37 +2,14 @@
 
 ghost use Rattle.std.specs.Prelude.{◌<◌};
 
-use super::plain::PlainAccount;
-use crate::sample::{START, bytes_of};
-use crate::service::Open;
-use fare_service::{Outcome, Service, UploadEnd};
-use fare_table::FareTable;
+use crate::plain::PlainAccount;
+use crate::sample::{Open, START, bytes_of, run};
+use fare_service::{Outcome, UploadEnd};
 use shard_book::{ShardBook, Statement};
 use std::alloc::Global;
 use std::process::Abort;
 use std::test::Fail;
 use tap_views::{TapFields, encode};
-
-/// Windows of seven days, and full fares only.
-const TABLE: &str = r#"modes = ["subway", "bus"]
-transfers = [["subway", "bus"], ["bus", "subway"], ["bus", "bus"]]
-default_class = "full"
-
-[classes.full]
-fare = 300
-rides = 12
-ceiling = 3500
-
-[[validators]]
-first = 1000
-last = 1999
-mode = "subway"
-
-[[validators]]
-first = 2000
-last = 2999
-mode = "bus"
-"#;
 
 /// How often the uploads are posted.
 const ROUNDS: u32 = 1_000;
@@ -171,9 +148,7 @@ fn sixteen_workers_share_tokens(rt: HostRuntime) -> Result<(), Fail> {
         uploads.push(some_upload(alloc, &mut numbers)?)?;
     }
     for _ in 0..ROUNDS {
-        let table = FareTable::read(alloc, TABLE.as_bytes())?;
-        let (service, share) = Service::open(&rt, alloc, table, 64, uploads.as_slice())?;
-        let outcome = service.run(&rt, alloc, share, 16, &Open)?;
+        let outcome = run(&rt, alloc, uploads.as_slice(), 64, 16, &Open)?;
         are_posted(&rt, &outcome);
         are_explained(&rt, alloc, &outcome)?;
         assert_eq!(rt; taps_of_workers(&outcome), outcome.totals().taps);

@@ -1,7 +1,6 @@
 //! The same answers for every number of workers and of shards.
 
-use crate::sample::{REPORT, SUBWAY, tap, uploads};
-use crate::service::{Open, outcome_by};
+use crate::sample::{Open, REPORT, SUBWAY, run, tap, two_uploads};
 use fare_service::{Outcome, UploadEnd};
 use std::alloc::Global;
 use std::marker::Sync;
@@ -20,7 +19,7 @@ fn report_by_all_workers<R: Threads + Wait + RandomSource + Sync + Abort>(
     shards: u32,
 ) -> Result<(), Fail> {
     for workers in 1..=16u32 {
-        let outcome = outcome_by(rt, alloc, uploads, shards, workers, &Open)?;
+        let outcome = run(rt, alloc, uploads, shards, workers, &Open)?;
         let mut text = Vec::new(alloc);
         outcome.write_report(alloc, &mut text)?;
         assert_eq!(rt;
@@ -37,7 +36,7 @@ fn report_by_all_workers<R: Threads + Wait + RandomSource + Sync + Abort>(
 #[test]
 fn the_report_is_the_same_for_every_number_of_workers(rt: HostRuntime) -> Result<(), Fail> {
     let alloc = rt.alloc();
-    let uploads = uploads(alloc)?;
+    let uploads = two_uploads(alloc)?;
     for shards in [1, 2, 8, 64] {
         report_by_all_workers(&rt, alloc, uploads.as_slice(), shards)?;
     }
@@ -47,7 +46,7 @@ fn the_report_is_the_same_for_every_number_of_workers(rt: HostRuntime) -> Result
 /// Ten batches of one ride each of a token, three hours apart.
 fn ten_rides(alloc: Global, token: u8) -> Result<Vec<u8>, Fail> {
     let mut file = Vec::new(alloc);
-    for ride in 0..10u32 {
+    for ride in 0..10u64 {
         file.extend_from_slice(&encode(alloc, &[tap(token, SUBWAY, 10_800_000 * ride)])?)?;
     }
     Ok(file)
@@ -73,7 +72,7 @@ fn twenty_uploads_by_two_workers(rt: HostRuntime) -> Result<(), Fail> {
         uploads.push(ten_rides(alloc, upload)?)?;
     }
     for shards in [1, 2, 8, 64] {
-        let outcome = outcome_by(&rt, alloc, uploads.as_slice(), shards, 2, &Open)?;
+        let outcome = run(&rt, alloc, uploads.as_slice(), shards, 2, &Open)?;
         assert_eq!(rt; outcome.uploads(), 20);
         are_posted(&rt, &outcome);
         let totals = outcome.totals();

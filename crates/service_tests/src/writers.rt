@@ -1,12 +1,21 @@
 //! Writers that fail.
 
-use crate::sample::{REPORT, STATEMENT, bytes_of, uploads};
-use crate::service::outcome_of;
+use crate::sample::{Open, REPORT, bytes_of, run, two_uploads};
 use fare_service::PrintFault;
 use shard_book::Token;
 use std::io;
 use std::io::Write;
 use std::test::Fail;
+
+/// The statement of the first upload's token.
+const STATEMENT: &str = "statement 000000000000000000000000000000a1
+2024-03-08T17:00:00.000Z subway 1000 paid 300
+2024-03-08T17:20:00.000Z bus 2000 transfer 0
+2024-03-08T17:40:00.000Z bus 2000 paid 300
+2024-03-08T18:00:00.000Z subway 1000 transfer 0
+totals taps 4 paid 2 transfers 2 capped 0 stale 0 unknown 0 cents 600
+window 2024-03-08T17:00:00.000Z 2024-03-15T17:00:00.000Z paid 2 cents 600
+";
 
 /// A writer that takes so many bytes more and then fails. It takes no memory.
 #[derive(Drop)]
@@ -33,8 +42,8 @@ impl Write for Narrow {
 #[test]
 fn a_writer_that_fails_after_some_bytes(rt: HostRuntime) -> Result<(), Fail> {
     let alloc = rt.alloc();
-    let uploads = uploads(alloc)?;
-    let outcome = outcome_of(&rt, alloc, uploads.as_slice())?;
+    let uploads = two_uploads(alloc)?;
+    let outcome = run(&rt, alloc, uploads.as_slice(), 8, 1, &Open)?;
     for room in 0..REPORT.len() {
         let written = outcome.write_report(alloc, &mut Narrow { room });
         assert!(rt;
