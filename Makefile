@@ -10,7 +10,7 @@
 run:
 	@scripts/run_example
 
-# As many checks at once as processors, but at most four, which take 14 GB of memory: without RT_JOBS rt ci plans for more than they take.
+# As many checks at once as processors, but at most four, which took 10 GB of memory: without RT_JOBS rt ci plans for more than they take.
 test:
 	scripts/must_not_compile
 	@n=$$(nproc) && RT_JOBS=$${RT_JOBS:-$$((n < 4 ? n : 4))} rt ci

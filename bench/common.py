@@ -52,8 +52,9 @@ class Run:
     """One run of a program: wall and processor seconds, peak memory in KiB, exit status."""
 
     def __init__(self, words, out):
-        start = time.perf_counter()
+        # The text of the run before is dropped first, which is no part of a run.
         with open(out, "wb") as file:
+            start = time.perf_counter()
             # A child made by posix_spawn shares no page of this script, so that its peak is its own.
             pid = os.posix_spawn(words[0], words, os.environ,
                                  file_actions=[(os.POSIX_SPAWN_DUP2, file.fileno(), 1)])

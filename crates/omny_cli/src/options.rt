@@ -39,7 +39,7 @@ const TABLE_HELP: &str = "The fare table, a TOML file [default: every validator 
 
 const LIST_HELP: &str = "List the taps, also where there is a fare table";
 
-const WORKERS_HELP: &str = "How many threads load and post the uploads, 1 to 16";
+const WORKERS_HELP: &str = "How many threads post the uploads, 1 to 16";
 
 const SHARDS_HELP: &str = "Over how many shards the accounts are spread, 1 to 64";
 

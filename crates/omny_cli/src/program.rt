@@ -33,6 +33,9 @@ use std::thread::Threads;
 /// What standard input is called in a fault line.
 const STANDARD_INPUT: &str = "standard input";
 
+/// How many threads read files at once, or as many as there are workers where these are more. What is loaded does not depend on it.
+const READERS: u32 = 4;
+
 // All bytes of the file of this name.
 fn load_named<'a, S: Source>(source: &mut S, name: &'a str) -> Result<Vec<u8>, Fault<'a>>
     ensures ok { IfOk result (λ bytes. TellsOne (S.loaded source.old) (S.loaded source.new)
@@ -79,7 +82,7 @@ fn load_table<'a, S: Source>(
     Ok(Some(table))
 }
 
-// The files of these names, in their order, or standard input where there is none. Several workers may read several files at once.
+// The files of these names, in their order, or standard input where there is none. Several files may be read at once.
 fn load_files<'a, R: Threads + Sync, D: Disk + Sync, S: Source>(
     rt: &R,
     alloc: Global,
@@ -98,7 +101,7 @@ fn load_files<'a, R: Threads + Sync, D: Disk + Sync, S: Source>(
         push(&mut files, bytes)?;
         return Ok(files);
     }
-    let early = read_early(rt, alloc, disk, names, workers as usize);
+    let early = read_early(rt, alloc, disk, names, workers.max(READERS) as usize);
     source.keep_early(early);
     for name in names {
         let bytes = load_named(source, name)?;

@@ -1,15 +1,13 @@
 //! Worked rows on ends, on texts and on shares.
 
-ghost use Rattle.std.specs.Prelude.{◌≡◌, All, IfOk};
+ghost use Rattle.std.specs.Prelude.{All, IfOk};
 ghost use Rattle.fare_service.specs.Shares.{IsShareOf};
 
 use crate::sample::{
     BUS, Open, REPORT, START, SUBWAY, TABLE, add, an_unknown_one, bytes_of, end_of, four_rides,
     opened, run, tap, two_uploads,
 };
-use fare_service::{
-    Gate, GatherFault, OpenFault, Outcome, PrintFault, RunFault, Service, Share, UploadEnd,
-};
+use fare_service::{Gate, GatherFault, OpenFault, Outcome, RunFault, Service, Share, UploadEnd};
 use fare_table::FareTable;
 use shard_book::{Token, Totals};
 use std::alloc::Global;
@@ -130,37 +128,6 @@ fn is_stated<R: Abort>(
     let mut text = Vec::new(alloc);
     outcome.write_statement(alloc, &Token::of(&bytes_of(last)), &mut text)?;
     assert_eq!(rt; text.as_slice(), statement.as_bytes());
-    Ok(())
-}
-
-// The report of the example is that of so many shards and workers.
-fn is_reported_by<R: Threads + Wait + RandomSource + Sync + Abort>(
-    rt: &R,
-    alloc: Global,
-    uploads: &[Vec<u8>],
-    shards: u32,
-    workers: u32,
-) -> Result<(), Fail> {
-    let outcome = run(rt, alloc, uploads, shards, workers, &Open)?;
-    assert_eq!(rt;
-        (
-            outcome.workers(),
-            outcome.shards(),
-            outcome.uploads(),
-            outcome.totals().cents
-        ),
-        (u64::from(workers), shards, 2, 900)
-    );
-    is_reported(rt, alloc, &outcome, REPORT)
-}
-
-#[test]
-fn the_report_is_the_same_for_every_schedule(rt: HostRuntime) -> Result<(), Fail> {
-    let alloc = rt.alloc();
-    let uploads = two_uploads(alloc)?;
-    for (shards, workers) in [(1, 1), (8, 1), (1, 2), (2, 2), (8, 3), (64, 16)] {
-        is_reported_by(&rt, alloc, uploads.as_slice(), shards, workers)?;
-    }
     Ok(())
 }
 
@@ -594,17 +561,5 @@ fn uploads_past_the_most_are_refused(rt: HostRuntime) -> Result<(), Fail> {
         assert_eq!(rt; opening_fault(&rt, alloc, uploads.as_slice(), 1)?, most);
         uploads.pop();
     }
-    Ok(())
-}
-
-#[test]
-fn a_writer_that_fails_is_told(rt: HostRuntime) -> Result<(), Fail> {
-    let alloc = rt.alloc();
-    let uploads = Vec::new(alloc);
-    let outcome = run(&rt, alloc, uploads.as_slice(), 1, 1, &Open)?;
-    let mut place = [0; 10];
-    let mut out = place.as_mut_slice();
-    let fault = outcome.write_report(alloc, &mut out).err();
-    assert!(rt; matches!(fault, Some(PrintFault::Write)));
     Ok(())
 }

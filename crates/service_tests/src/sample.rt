@@ -1,6 +1,6 @@
 //! The sample table and uploads, and runs over them.
 
-ghost use Rattle.std.specs.Prelude.{◌≡◌, IfOk};
+ghost use Rattle.std.specs.Prelude.{IfOk};
 ghost use Rattle.fare_service.specs.Shares.{IsShareOf};
 
 use fare_service::{Gate, Outcome, Service, Share, UploadEnd};

@@ -23,8 +23,13 @@ fn report_by_all_workers<R: Threads + Wait + RandomSource + Sync + Abort>(
         let mut text = Vec::new(alloc);
         outcome.write_report(alloc, &mut text)?;
         assert_eq!(rt;
-            text.as_slice(),
-            REPORT.as_bytes(),
+            (
+                outcome.workers(),
+                outcome.shards(),
+                outcome.uploads(),
+                text.as_slice()
+            ),
+            (u64::from(workers), shards, 2, REPORT.as_bytes()),
             "{workers} workers, {shards} shards"
         );
     }

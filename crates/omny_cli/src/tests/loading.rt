@@ -29,13 +29,13 @@ fn loads_each_early_file_under_its_name(rt: HostRuntime) -> Result<(), Fail> {
     for name in [a, b, c] {
         fs::write(&rt, name, name)?;
     }
-    for workers in [1, 2, 3, 16] {
+    for threads in [1, 2, 3, 16] {
         for order in [[a, b, a, c], [c, b, a, a], [b, a, c, a]] {
             let mut host = Host::new(&rt);
-            host.keep_early(read_early(&rt, rt.alloc(), &rt, &[a, b, a, c], workers));
+            host.keep_early(read_early(&rt, rt.alloc(), &rt, &[a, b, a, c], threads));
             for name in order {
                 let loaded = host.load(name)?;
-                assert_eq!(rt; loaded.as_slice(), name.as_bytes(), "by {workers}");
+                assert_eq!(rt; loaded.as_slice(), name.as_bytes(), "by {threads}");
             }
         }
     }
@@ -47,25 +47,25 @@ fn loads_each_early_file_under_its_name(rt: HostRuntime) -> Result<(), Fail> {
 
 // What a file holds at first, and when its turn comes, says when it was read: here of files with a folder between them.
 #[test]
-fn reads_files_early_for_several_workers_alone(rt: HostRuntime) -> Result<(), Fail> {
+fn reads_files_early_by_several_threads_alone(rt: HostRuntime) -> Result<(), Fail> {
     let [a, b, c, folder] = ["early_a.tap", "early_b.tap", "early_c.tap", "early_folder"];
     fs::create_dir(&rt, folder)?;
-    for (workers, seen) in [(1, "late"), (2, "soon"), (16, "soon")] {
+    for (threads, seen) in [(1, "late"), (2, "soon"), (16, "soon")] {
         for name in [a, b, c] {
             fs::write(&rt, name, "soon")?;
         }
         let mut host = Host::new(&rt);
-        host.keep_early(read_early(&rt, rt.alloc(), &rt, &[a, b, folder, c], workers));
+        host.keep_early(read_early(&rt, rt.alloc(), &rt, &[a, b, folder, c], threads));
         for name in [a, b, c] {
             fs::write(&rt, name, "late")?;
         }
-        assert_eq!(rt; host.load(a)?.as_slice(), seen.as_bytes(), "by {workers}");
-        assert_eq!(rt; host.load(b)?.as_slice(), seen.as_bytes(), "by {workers}");
+        assert_eq!(rt; host.load(a)?.as_slice(), seen.as_bytes(), "by {threads}");
+        assert_eq!(rt; host.load(b)?.as_slice(), seen.as_bytes(), "by {threads}");
         assert_eq!(rt; host.load(folder).err(), Some(LoadFault::Unread));
         assert_eq!(rt;
             host.load(c)?.as_slice(),
             b"late".as_slice(),
-            "by {workers}"
+            "by {threads}"
         );
     }
     for name in [a, b, c] {
@@ -123,6 +123,38 @@ fn reads_parts_up_to_a_fault(rt: HostRuntime) -> Result<(), Fail> {
     for (names, told) in rows {
         let text = early_names(&rt, alloc, &names)?;
         assert_eq!(rt; text.as_str(), told, "{names:?}");
+    }
+    Ok(())
+}
+
+// A source without files, which counts what was read before its turn.
+#[derive(Drop)]
+struct EarlyCount {
+    files: usize,
+}
+
+impl Source for EarlyCount {
+    fn keep_early(&mut self, early: Vec<Early>) {
+        self.files = early.len();
+    }
+
+    fn load(&mut self, _: &str) -> Result<Vec<u8>, LoadFault> {
+        Err(LoadFault::Unread)
+    }
+
+    fn input(&mut self) -> Result<Vec<u8>, LoadFault> {
+        Err(LoadFault::Unread)
+    }
+}
+
+#[test]
+fn reads_files_early_for_any_number_of_workers(rt: HostRuntime) -> Result<(), Fail> {
+    for workers in ["1", "2", "3", "16"] {
+        let mut source = EarlyCount { files: 0 };
+        let words = ["--workers", workers, "a", "b", "c"];
+        let ran = run_over(&rt, rt.alloc(), words.as_slice(), &Names, &mut source)?;
+        expect(&rt, &ran, "", "fault: cannot read a\n", 1, workers);
+        assert_eq!(rt; source.files, 3, "by {workers}");
     }
     Ok(())
 }

@@ -1,7 +1,6 @@
-use Rattle.std.proofs.Common.{◌≡◌, ◌∙◌, ◌<◌, ◌-◌, ◌∷◌, [], length, arith, Bool, true, false, not, ap, ap₂, sym, refl, List, string_bytes, slice_index_or, unwrap_or, vec_len}
+use Rattle.std.proofs.Common.{◌≡◌, ◌∙◌, ◌<◌, ◌-◌, ◌∷◌, [], length, arith, Bool, true, false, not, ap, ap₂, sym, refl, List, string_bytes, slice_index_or, unwrap_or, vec_len, length-append}
 use Rattle.std.proofs.lemmas.Bool.Decides.{Decides-eqb}
 use Rattle.std.proofs.lemmas.Slice.Eq.{slice_eq-Decides}
-use Rattle.std.proofs.Common.{length-append}
 use Rattle.std.proofs.Math.Seq.{get_or-append_seam}
 use Rattle.omny_cli.specs.declared.ahead.Early.{Early}
 use Rattle.omny_cli.proofs.ahead.take_next.Goals as goal
