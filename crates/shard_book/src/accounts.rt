@@ -107,17 +107,22 @@ impl Accounts {
         }
     }
 
-    /// The place of the token's account, for `step`. It is opened where there is none. What is kept there is read, so
-    /// that it is near when the tap is posted. On want of memory all that is kept stays.
+    /// The place of the token's account, for `step`. It is opened where there is none. On want of memory all that is kept
+    /// stays.
     #[inline(always)]
     pub(crate) fn place_ahead(&mut self, token: Token) -> Result<usize, NoMemory>
         ensures stays { (other : Token) → StandsOn (kept_at self.old other) (kept_at self.new other) }
         ensures counting { self.new.counting ≡ self.old.counting }
     {
-        let place = self.open(token)?;
+        self.open(token)
+    }
+
+    /// The same place, where what is kept there is usual, else none. It is read, so that it is near when the tap is posted.
+    #[inline(always)]
+    pub(crate) fn usual_place(&self, place: usize) -> usize {
         match self.map.get_index(place) {
-            Some((_, kept)) if kept.is_usual() => Ok(place),
-            _ => Ok(NO_PLACE),
+            Some((_, kept)) if kept.is_usual() => place,
+            _ => NO_PLACE,
         }
     }
 

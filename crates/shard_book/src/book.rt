@@ -122,6 +122,12 @@ impl ShardBook {
         self.accounts.place_ahead(token)
     }
 
+    /// The same place, after what is kept there was read.
+    #[inline(always)]
+    pub(crate) fn usual_place(&self, place: usize) -> usize {
+        self.accounts.usual_place(place)
+    }
+
     /// The book's fare table.
     pub fn table(&self) -> &FareTable
         ensures { result.now ≡ self.now.table }

@@ -46,9 +46,13 @@ impl ShardBook {
     {
         for place in places.iter_mut() {
             let Some(tap) = ahead.next() else {
-                return Ok(());
+                break;
             };
             *place = self.place_ahead(Token::of(tap.token()))?;
+        }
+        // What is kept there is read in a loop of its own, so short that all its reads wait side by side.
+        for place in places.iter_mut() {
+            *place = self.usual_place(*place);
         }
         Ok(())
     }
