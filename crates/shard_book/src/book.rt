@@ -122,7 +122,7 @@ impl ShardBook {
         self.accounts.place_ahead(token)
     }
 
-    /// The same place, after what is kept there was read.
+    /// The same place, where what is kept there is usual, else none. It is read on the way.
     #[inline(always)]
     pub(crate) fn usual_place(&self, place: usize) -> usize {
         self.accounts.usual_place(place)

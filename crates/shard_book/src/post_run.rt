@@ -50,8 +50,12 @@ impl ShardBook {
             };
             *place = self.place_ahead(Token::of(tap.token()))?;
         }
-        // What is kept there is read in a loop of its own, so short that all its reads wait side by side.
+        // What is kept there is read in a loop of its own, so short that all its reads wait side by side. Behind the taps of a
+        // short run there is no place.
         for place in places.iter_mut() {
+            if *place == NO_PLACE {
+                break;
+            }
             *place = self.usual_place(*place);
         }
         Ok(())
