@@ -25,7 +25,13 @@ pub fn run<
     let (service, share) = Service::open(rt, rt.alloc(), table, 8, &files)?;
     let outcome = service.run(rt, rt.alloc(), share, 1, &Open)?;
     let taps = u64::try_from(outcome.totals().taps)?;
-    timed(rt, "report/whole", 3, taps, || whole(rt.alloc(), &outcome))
+    timed(
+        rt,
+        "report/whole",
+        3,
+        taps,
+        || whole(rt, rt.alloc(), &outcome),
+    )
 }
 
 /// A gate that nobody waits at.
@@ -38,9 +44,9 @@ impl Gate for Open {
 }
 
 #[inline(never)]
-fn whole(alloc: Global, outcome: &Outcome) -> anyhow::Result<u64> {
+fn whole<R: Threads + Sync>(rt: &R, alloc: Global, outcome: &Outcome) -> anyhow::Result<u64> {
     let mut text = Vec::new(alloc);
-    outcome.write_report(alloc, &mut text)?;
+    outcome.write_report(rt, alloc, &mut text)?;
     let mut sum = 0u64;
     for byte in &text {
         sum = sum.wrapping_add(u64::from(*byte));

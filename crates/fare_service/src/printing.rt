@@ -16,6 +16,8 @@ use fare_table::NoMemory;
 use shard_book::{Token, TokenSums, sums_by_validator};
 use std::alloc::Global;
 use std::io::Write;
+use std::marker::Sync;
+use std::thread::Threads;
 use tap_views::shard_of;
 
 /// How much room there is at least for lines of a report that wait to be written: so many that a write is little beside them.
@@ -34,12 +36,16 @@ pub(crate) fn write_out<W: Write>(text: &[u8], out: &mut W) -> Result<(), PrintF
 
 impl Outcome {
     /// The text of the report up to the lines of the tokens, with room for one of these at least, and the sums of the tokens.
-    fn begun(&self, alloc: Global) -> Result<(Vec<u8>, TokenSums), NoMemory>
+    fn begun<R: Threads + Sync>(
+        &self,
+        rt: &R,
+        alloc: Global,
+    ) -> Result<(Vec<u8>, TokenSums), NoMemory>
         ensures text { IfOk result (λ begun. begun.0.items ++ flat_map token_line begun.1 ≡ report_of self.now) }
         ensures room { IfOk result (λ begun. 384 ≤ vec_capacity begun.0) }
     {
         let totals = self.totals();
-        let validators = sums_by_validator(alloc, self.books.as_slice())?;
+        let validators = sums_by_validator(rt, alloc, self.books.as_slice())?;
         let tokens = TokenSums::of(alloc, self.books.as_slice())?;
         let mut text = report_front(
             alloc,
@@ -64,12 +70,18 @@ impl Outcome {
     }
 
     /// Writes the report: the end of each upload, the totals of all books, the sums of each validator, by rising validator, and those
-    /// of each token, by rising token. On a fault of memory nothing was written.
-    pub fn write_report<W: Write>(&self, alloc: Global, out: &mut W) -> Result<(), PrintFault>
+    /// of each token, by rising token. Of many entries, threads sum up a quarter of the books each; where one is refused, another does
+    /// its part. On a fault of memory nothing was written.
+    pub fn write_report<R: Threads + Sync, W: Write>(
+        &self,
+        rt: &R,
+        alloc: Global,
+        out: &mut W,
+    ) -> Result<(), PrintFault>
         ensures ok { OnOk result (Appends (W.contents out.old) (W.contents out.new) (report_of self.now)) }
         ensures fault { IfErr result (λ fault. KeepsUnlessWrite fault (out.new ≡ out.old)) }
     {
-        let Ok((mut text, tokens)) = self.begun(alloc) else {
+        let Ok((mut text, tokens)) = self.begun(rt, alloc) else {
             return Err(PrintFault::NoMemory);
         };
         write_lines(&mut text, &tokens, out)?;

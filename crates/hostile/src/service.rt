@@ -153,10 +153,10 @@ fn is_written(answer: Result<(), PrintFault>, written: &[u8], text: &str) -> Cas
 pub fn prints_report<R: Threads + Wait + RandomSource + Sync>(rt: &R, alloc: Global) -> Case {
     let outcome = whole_outcome(rt, alloc)?;
     let mut written = Vec::with_capacity(alloc, 2000)?;
-    let answer = outcome.write_report(alloc, &mut written);
+    let answer = outcome.write_report(rt, alloc, &mut written);
     match is_written(answer, &written, REPORT) {
         Err(Stop::Refused) => {
-            let answer = outcome.write_report(alloc, &mut written);
+            let answer = outcome.write_report(rt, alloc, &mut written);
             again(is_written(answer, &written, REPORT))
         }
         first => first,

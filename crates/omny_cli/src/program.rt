@@ -170,26 +170,27 @@ fn list<'a, W: Write>(
     Ok(clean)
 }
 
-// Runs the service over the files, and writes the text that is asked for. Says whether each upload
-// was posted whole.
+// Runs the service over the files, which are given back before the text is made, and writes the text that
+// is asked for. Says whether each upload was posted whole.
 fn charge<'a, R: Threads + Wait + RandomSource + Sync, W: Write>(
     rt: &R,
     alloc: Global,
     options: &Options<'a>,
     table: FareTable,
     token: Option<Token>,
-    files: &[Vec<u8>],
+    files: Vec<Vec<u8>>,
     out: &mut W,
 ) -> Result<bool, Fault<'a>>
     ensures ok { IfOk result (λ well. (outcome : Gathered) × (text : List ℕ)
-        × IsRun table options.now.shards options.now.workers (map (λ f. f.items) files.now) outcome
+        × IsRun table options.now.shards options.now.workers (map (λ f. f.items) files.items) outcome
         × Shows token outcome text × Appends (W.contents out.old) (W.contents out.new) text
         × (well ≡ are_posted outcome.ends)) }
     ensures fault { IfErr result (λ fault. fault ≢ Fault.Write → Keeps (W.contents out.old) (W.contents out.new)) }
     ensures status { IfErr result (λ fault. status_of fault ≡ 1) }
 {
-    let outcome = outcome_of(rt, alloc, table, options, files)?;
-    write_outcome(alloc, &outcome, token, out)?;
+    let outcome = outcome_of(rt, alloc, table, options, &files)?;
+    drop(files);
+    write_outcome(rt, alloc, &outcome, token, out)?;
     Ok(are_posted(&outcome))
 }
 
@@ -218,7 +219,7 @@ fn work<'a, R: Threads + Wait + RandomSource + Sync, D: Disk + Sync, S: Source, 
     let token = token_of(options)?;
     let (table, files) = load(rt, alloc, disk, options, source)?;
     match table {
-        Some(table) if !options.list => charge(rt, alloc, options, table, token, &files, out),
+        Some(table) if !options.list => charge(rt, alloc, options, table, token, files, out),
         table => list(alloc, table, &files, out),
     }
 }

@@ -51,7 +51,8 @@ pub fn outcome_of<'a, R: Threads + Wait + RandomSource + Sync>(
 }
 
 // Prints the report, or the statement of the token where one is asked for.
-fn print<W: Write>(
+fn print<R: Threads + Sync, W: Write>(
+    rt: &R,
     alloc: Global,
     outcome: &Outcome,
     token: Option<Token>,
@@ -62,14 +63,15 @@ fn print<W: Write>(
     ensures fault { IfErr result (λ fault. KeepsUnlessWrite fault (out.new ≡ out.old)) }
 {
     match token {
-        None => outcome.write_report(alloc, out),
+        None => outcome.write_report(rt, alloc, out),
         Some(token) => outcome.write_statement(alloc, &token, out),
     }
 }
 
 /// Writes the report, or the statement of the token where one is asked for, through to where the
 /// writer brings it.
-pub fn write_outcome<'a, W: Write>(
+pub fn write_outcome<'a, R: Threads + Sync, W: Write>(
+    rt: &R,
     alloc: Global,
     outcome: &Outcome,
     token: Option<Token>,
@@ -80,7 +82,7 @@ pub fn write_outcome<'a, W: Write>(
     ensures status { IfErr result (λ fault. status_of fault ≡ 1) }
     ensures fault { IfErr result (λ fault. fault ≢ Fault.Write → Keeps (W.contents out.old) (W.contents out.new)) }
 {
-    print(alloc, outcome, token, out)?;
+    print(rt, alloc, outcome, token, out)?;
     flush(out)
 }
 

@@ -73,9 +73,13 @@ fn upload(alloc: Global, last: u8) -> Result<Vec<u8>, Fail> {
     Ok(encode(alloc, &[tap])?)
 }
 
-fn report_text(alloc: Global, outcome: &Outcome) -> Result<Vec<u8>, Fail> {
+fn report_text<R: Threads + Sync>(
+    rt: &R,
+    alloc: Global,
+    outcome: &Outcome,
+) -> Result<Vec<u8>, Fail> {
     let mut text = Vec::new(alloc);
-    outcome.write_report(alloc, &mut text)?;
+    outcome.write_report(rt, alloc, &mut text)?;
     Ok(text)
 }
 
@@ -99,14 +103,14 @@ fn two_uploads(alloc: Global) -> Result<Vec<Vec<u8>>, Fail> {
     Ok(uploads)
 }
 
-fn have_one_text<R: Abort>(
+fn have_one_text<R: Abort + Threads + Sync>(
     rt: &R,
     alloc: Global,
     one: &Outcome,
     other: &Outcome,
 ) -> Result<(), Fail> {
-    let one = report_text(alloc, one)?;
-    let other = report_text(alloc, other)?;
+    let one = report_text(rt, alloc, one)?;
+    let other = report_text(rt, alloc, other)?;
     assert_eq!(rt; one.as_slice(), other.as_slice());
     Ok(())
 }

@@ -105,14 +105,14 @@ fn entries_of(outcome: &Outcome, shard: u32) -> Option<u64> {
 }
 
 // The outcome has this report.
-fn is_reported<R: Abort>(
+fn is_reported<R: Abort + Threads + Sync>(
     rt: &R,
     alloc: Global,
     outcome: &Outcome,
     report: &str,
 ) -> Result<(), Fail> {
     let mut text = Vec::new(alloc);
-    outcome.write_report(alloc, &mut text)?;
+    outcome.write_report(rt, alloc, &mut text)?;
     assert_eq!(rt; text.as_slice(), report.as_bytes());
     Ok(())
 }

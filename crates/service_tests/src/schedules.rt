@@ -21,7 +21,7 @@ fn report_by_all_workers<R: Threads + Wait + RandomSource + Sync + Abort>(
     for workers in 1..=16u32 {
         let outcome = run(rt, alloc, uploads, shards, workers, &Open)?;
         let mut text = Vec::new(alloc);
-        outcome.write_report(alloc, &mut text)?;
+        outcome.write_report(rt, alloc, &mut text)?;
         assert_eq!(rt;
             (
                 outcome.workers(),

@@ -45,13 +45,13 @@ fn a_writer_that_fails_after_some_bytes(rt: HostRuntime) -> Result<(), Fail> {
     let uploads = two_uploads(alloc)?;
     let outcome = run(&rt, alloc, uploads.as_slice(), 8, 1, &Open)?;
     for room in 0..REPORT.len() {
-        let written = outcome.write_report(alloc, &mut Narrow { room });
+        let written = outcome.write_report(&rt, alloc, &mut Narrow { room });
         assert!(rt;
             matches!(written, Err(PrintFault::Write)),
             "{room} bytes of a report"
         );
     }
-    outcome.write_report(alloc, &mut Narrow { room: REPORT.len() })?;
+    outcome.write_report(&rt, alloc, &mut Narrow { room: REPORT.len() })?;
     let token = Token::of(&bytes_of(0xa1));
     for room in 0..STATEMENT.len() {
         let written = outcome.write_statement(alloc, &token, &mut Narrow { room });

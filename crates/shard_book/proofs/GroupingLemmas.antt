@@ -22,9 +22,10 @@ use Rattle.std.proofs.lemmas.List.Folds.{list_any-append}
 use Rattle.shard_book.specs.declared.entry.Entry.{Entry}
 use Rattle.shard_book.specs.declared.tally.Tally.{Tally}
 use Rattle.shard_book.specs.Entry.{reply_of, own}
-use Rattle.shard_book.specs.Groups.{group, sums_by, sums_by_token, tokens, all_entries}
-use Rattle.shard_book.specs.Shown.{token_sum}
+use Rattle.shard_book.specs.Groups.{group, sums_by, sums_by_token, sums_by_validator, tokens, validators, all_entries}
+use Rattle.shard_book.specs.Shown.{token_sum, validator_sum}
 use Rattle.shard_book.specs.declared.sums.TokenSum.{TokenSum}
+use Rattle.shard_book.specs.declared.sums.ValidatorSum.{ValidatorSum}
 use Rattle.shard_book.specs.declared.token.Token.{Token}
 use Rattle.shard_book.specs.Book.{Book}
 use Rattle.shard_book.specs.Grouping.{IsGrouped, HasRoom, kept_sums}
@@ -159,6 +160,11 @@ pub sums_by-none : {K Y : Type 0} (cmp : K → K → Ordering) (eq : K → K →
 unfolding sums_by rising
 sums_by-none cmp eq key_of shown [] items none first = ap (map shown) none
 sums_by-none cmp eq key_of shown (book ∷ books) items none first = absurd (cc)
+
+pub validators-none : (books : List Book) (items : List ValidatorSum) → items ≡ [] → None ≡ slice_get books 0 → map validator_sum items ≡ sums_by_validator (all_entries books)
+unfolding sums_by_validator validators rising
+validators-none [] items none first = ap (map validator_sum) none
+validators-none (book ∷ books) items none first = absurd (cc)
 
 -- the tokens of the sums by token are the tokens
 map-first : {K : Type 0} (f : K → Sums) (keys : List K) → map (λ (pair : K × Sums). pair.0) (map (λ key. (key, f key)) keys) ≡ keys

@@ -3,6 +3,7 @@ pub mod Bytes
 pub mod CountingLemmas
 pub mod GroupingLemmas
 pub mod Histories
+pub mod MergeLemmas
 pub mod RisingLemmas
 pub mod RunLemmas
 pub mod SoundLemmas

@@ -21,3 +21,8 @@ pub record IsGrouped {K : Type 0} (eq : K → K → Bool) (key_of : Entry → K)
 -- it stands for some entries, and there is room for so many more
 unfoldable pub HasRoom : {K : Type 0} → (K → K → Bool) → (Entry → K) → List (K × Tally) → ℕ → Type 0
 HasRoom eq key_of tallies more = (entries : List Entry) × IsGrouped eq key_of entries tallies × (length entries + more ≤ 2 ^ 95)
+
+-- both stand for some entries, and there is room for all of them together
+unfoldable pub HaveRoom : {K : Type 0} → (K → K → Bool) → (Entry → K) → List (K × Tally) → List (K × Tally) → Type 0
+HaveRoom eq key_of tallies more = (before : List Entry) × (after : List Entry) × IsGrouped eq key_of before tallies × IsGrouped eq key_of after more
+    × (length before + length after ≤ 2 ^ 95)

@@ -1,6 +1,6 @@
 //! Sums of entries by a key, in one pass over the entries and a sort of the keys.
 
-ghost use Rattle.std.specs.Prelude.{◌≡◌, ◌+◌, ◌≤◌, ◌^◌, List, [], ◌∷◌, ◌++◌, length, map, true, IfOk, OnOk};
+ghost use Rattle.std.specs.Prelude.{◌≡◌, ◌+◌, ◌*◌, ◌≤◌, ◌^◌, List, [], ◌∷◌, ◌++◌, length, map, true, IfOk, OnOk};
 ghost use Rattle.shard_book.specs.declared.entry.Entry.{Entry};
 ghost use Rattle.shard_book.specs.Groups.{sums_by, all_entries};
 ghost use Rattle.shard_book.specs.Grouping.{IsGrouped, HasRoom, kept_sums};
@@ -92,7 +92,7 @@ fn kept_totals<K: GroupKey>(tallies: &HashMap<K, Tally, TokenKeys>, key: K) -> T
 }
 
 /// Each key with its totals, by rising keys.
-fn listed<K: GroupKey>(
+pub(crate) fn listed<K: GroupKey>(
     alloc: Global,
     tallies: &HashMap<K, Tally, TokenKeys>,
 ) -> Result<Vec<K::Sum>, NoMemory>
@@ -107,6 +107,23 @@ fn listed<K: GroupKey>(
     Ok(list)
 }
 
+/// The tallies of all entries of the books by their keys.
+pub(crate) fn tallies_of<K: GroupKey>(
+    alloc: Global,
+    keys: TokenKeys,
+    books: &[ShardBook],
+) -> Result<HashMap<K, Tally, TokenKeys>, NoMemory>
+    requires { length books.now ≤ 64 }
+    ensures grouped { IfOk result (λ tallies. IsGrouped K.eq K.key_of (all_entries books.now) tallies.entries) }
+    ensures few { OnOk result (length (all_entries books.now) ≤ length books.now * 2 ^ 64) }
+{
+    let mut tallies = HashMap::with_hasher(alloc, keys);
+    for book in books {
+        add_entries::<K>(&mut tallies, book.entries())?;
+    }
+    Ok(tallies)
+}
+
 /// The sums of all entries of the books by their keys.
 pub(crate) fn sums_of_books<K: GroupKey>(
     alloc: Global,
@@ -118,9 +135,6 @@ pub(crate) fn sums_of_books<K: GroupKey>(
     let Some(first) = books.first() else {
         return Ok(Vec::new(alloc));
     };
-    let mut tallies = HashMap::with_hasher(alloc, first.keys());
-    for book in books {
-        add_entries::<K>(&mut tallies, book.entries())?;
-    }
+    let tallies = tallies_of::<K>(alloc, first.keys(), books)?;
     listed(alloc, &tallies)
 }

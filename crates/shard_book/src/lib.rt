@@ -18,6 +18,7 @@ mod lines;
 mod post_run;
 mod replies;
 mod run_end;
+mod side_by_side;
 mod statement;
 mod sums;
 mod tally;

@@ -10,12 +10,15 @@ use crate::book::ShardBook;
 use crate::by_token::rising_counts;
 use crate::counts::TokenCounts;
 use crate::entry::Entry;
-use crate::groups::{GroupKey, sums_of_books};
+use crate::groups::{GroupKey, listed, sums_of_books};
+use crate::side_by_side::tallies_by_validator;
 use crate::tally::Tally;
 use crate::token::Token;
 use crate::totals::Totals;
 use fare_table::NoMemory;
 use std::alloc::Global;
+use std::marker::Sync;
+use std::thread::Threads;
 
 /// A validator and the totals of its entries.
 #[derive(Clone, Copy, Debug, PartialEq, Eq)]
@@ -112,13 +115,21 @@ pub fn totals_of(books: &[ShardBook]) -> Totals
 }
 
 /// The validators of the books, rising, each with the totals of its entries: one pass a book, and a sort of the
-/// validators.
+/// validators. Of many entries, threads go over a quarter of the books each.
 #[tactic(auto, unfolding(crate::specs::Groups::sums_by, crate::specs::Groups::group, crate::specs::Groups::sums_by_validator, crate::specs::Groups::validators, crate::specs::Groups::at))]
-pub fn sums_by_validator(alloc: Global, books: &[ShardBook]) -> Result<Vec<ValidatorSum>, NoMemory>
+pub fn sums_by_validator<R: Threads + Sync>(
+    rt: &R,
+    alloc: Global,
+    books: &[ShardBook],
+) -> Result<Vec<ValidatorSum>, NoMemory>
     requires { length books.now ≤ 64 }
     ensures { IfOk result (λ list. map validator_sum list.items ≡ sums_by_validator (all_entries books.now)) }
 {
-    sums_of_books::<u32>(alloc, books)
+    let Some(first) = books.first() else {
+        return Ok(Vec::new(alloc));
+    };
+    let tallies = tallies_by_validator(rt, alloc, first.keys(), books)?;
+    listed(alloc, &tallies)
 }
 
 /// The tokens of the books, rising, each with the totals of its entries: one pass over what the books keep of

@@ -31,7 +31,7 @@ fn place_of(answer: Answer) -> usize
 }
 
 impl Tally {
-    ghost use Rattle.std.specs.Prelude.{◌≡◌, ◌^◌, ◌<◌, ◌≤◌, [], ◌∷◌};
+    ghost use Rattle.std.specs.Prelude.{◌≡◌, ◌+◌, ◌^◌, ◌<◌, ◌≤◌, [], ◌∷◌};
     ghost use Rattle.shard_book.specs.Sums.{sums_of, sums_of_replies, add_sums};
     ghost use Rattle.shard_book.specs.Tally.{sums_of_tally};
 
@@ -53,6 +53,31 @@ impl Tally {
     {
         self.counts[place_of(reply.answer)] += 1;
         self.cents += u128::from(reply.cents);
+    }
+
+    /// Adds what another tally counts.
+    pub(crate) fn add_all(&mut self, other: &Tally)
+        requires { (sums_of_tally self.old).taps + (sums_of_tally other.now).taps ≤ 2 ^ 95 }
+        ensures { sums_of_tally self.new ≡ add_sums (sums_of_tally self.old) (sums_of_tally other.now) }
+    {
+        let [paid, transfers, capped, stale, unknown] = self.counts;
+        let [
+            more_paid,
+            more_transfers,
+            more_capped,
+            more_stale,
+            more_unknown,
+        ] = other.counts;
+        *self = Tally {
+            counts: [
+                paid + more_paid,
+                transfers + more_transfers,
+                capped + more_capped,
+                stale + more_stale,
+                unknown + more_unknown,
+            ],
+            cents: self.cents + other.cents,
+        };
     }
 
     /// The same as totals.

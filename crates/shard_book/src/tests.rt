@@ -8,8 +8,10 @@ use account_rule::{Answer, Reply, WindowView};
 use fare_table::FareTable;
 use std::alloc::Global;
 use std::hash::BuildHasher;
+use std::marker::Sync;
 use std::random::RandomSource;
 use std::test::Fail;
+use std::thread::Threads;
 use tap_views::{Batch, TapFields};
 
 /// The sample table, and the same with a zone.
@@ -526,10 +528,10 @@ struct Summed {
     tokens: Vec<(Token, [u128; 7])>,
 }
 
-fn sum_up(alloc: Global, books: &[ShardBook]) -> Result<Summed, Fail>
+fn sum_up<R: Threads + Sync>(rt: &R, alloc: Global, books: &[ShardBook]) -> Result<Summed, Fail>
     requires { length books.now ≤ 64 }
 {
-    let validators = by_validator(alloc, &sums_by_validator(alloc, books)?)?;
+    let validators = by_validator(alloc, &sums_by_validator(rt, alloc, books)?)?;
     let tokens = by_token(alloc, &sums_by_token(alloc, books)?)?;
     Ok(Summed {
         totals: shown(&totals_of(books)),
@@ -539,11 +541,11 @@ fn sum_up(alloc: Global, books: &[ShardBook]) -> Result<Summed, Fail>
 }
 
 /// The sums of two books, each of which may have any token.
-fn summed_books<R: RandomSource>(alloc: Global, rt: &R) -> Result<Summed, Fail> {
+fn summed_books<R: RandomSource + Threads + Sync>(alloc: Global, rt: &R) -> Result<Summed, Fail> {
     let taps = [tap(0xb2, 9, START + 10), tap(0xb2, SUBWAY, START + 5)];
     let one = book_after(alloc, rt, &taps, 0, 1)?;
     let other = book_after(alloc, rt, &four_taps(), 0, 1)?;
-    sum_up(alloc, &[one, other])
+    sum_up(rt, alloc, &[one, other])
 }
 
 #[test]
@@ -561,6 +563,34 @@ fn sums_of_two_books(rt: HostRuntime) -> Result<(), Fail> {
         (token(0xb2), [2, 1, 0, 0, 0, 1, 300]),
     ];
     assert!(rt; are_equal(&found.tokens, &wanted));
+    Ok(())
+}
+
+/// A book of 32,768 entries of two tokens, all but the first of each stale.
+fn large_book<R: RandomSource>(alloc: Global, rt: &R) -> Result<ShardBook, Fail> {
+    let mut book = book_of(alloc, rt, SAMPLE, 0, 1)?;
+    let taps = [tap(0xa1, SUBWAY, START), tap(0xb2, BUS, START)];
+    for _ in 0..16_384 {
+        post_once(alloc, &mut book, &taps)?;
+    }
+    Ok(book)
+}
+
+/// The validators of two large books.
+fn summed_large_books<R: RandomSource + Threads + Sync>(
+    alloc: Global,
+    rt: &R,
+) -> Result<Vec<(u32, [u128; 7])>, Fail> {
+    let books = [large_book(alloc, rt)?, large_book(alloc, rt)?];
+    by_validator(alloc, &sums_by_validator(rt, alloc, &books)?)
+}
+
+// Would catch threads that always give up: the contracts let them refuse for want of memory.
+#[test]
+fn many_entries_are_summed_by_threads(rt: HostRuntime) -> Result<(), Fail> {
+    let found = summed_large_books(rt.alloc(), &rt)?;
+    let sums = [32_768, 2, 0, 0, 32_766, 0, 600];
+    assert!(rt; are_equal(&found, &[(SUBWAY, sums), (BUS, sums)]));
     Ok(())
 }
 

@@ -1,4 +1,4 @@
-use Rattle.std.proofs.Common.{◌≡◌, ℕ, List, Bool, true, false, not, map, Option, Some, None, refl, ap, sym, subst}
+use Rattle.std.proofs.Common.{◌≡◌, ℕ, List, Bool, true, false, not, Option, Some, None, refl, sym, subst}
 use Rattle.std.specs.Prelude.{MatchBool, is_some, ◌||◌}
 use Rattle.std.specs.Io.KnownBytes.{Appends}
 use Rattle.std.proofs.lemmas.Result.{IfOk-weaker}
@@ -44,7 +44,6 @@ does_run asked told told' out out' well fares f files given token flag loads is 
 pub returns-in-Some-clause-ok : goal.returns-in-Some-clause-ok
 returns-in-Some-clause-ok g c =
     let flag : c.args.options.now.list ≡ false = assumption in
-    let same = ap (map (λ f. f.items)) c.deref.ensures.value in
     IfOk-weaker c.charge.result _ _
-    (λ well done. does_run _ _ _ _ _ well _ _ _ _ _ flag c.in_ok-table.ensures.loads c.in-Some.is same c.in_ok-token.ensures.token done)
+    (λ well done. does_run _ _ _ _ _ well _ _ _ _ _ flag c.in_ok-table.ensures.loads c.in-Some.is refl c.in_ok-token.ensures.token done)
     c.charge.ensures.ok

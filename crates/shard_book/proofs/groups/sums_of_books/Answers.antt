@@ -1,28 +1,16 @@
-use Rattle.std.proofs.Common.{◌≤◌, ◌*◌, ◌^◌, length, take, sym, ap, ◌∙◌, arith}
+use Rattle.std.proofs.Common.{◌≤◌, ◌*◌, ◌^◌, length, sym, ap, ◌∙◌, arith}
 use Rattle.std.specs.Option.{option_copied}
 use Rattle.shard_book.specs.Groups.{all_entries}
 use Rattle.shard_book.specs.Grouping.{HasRoom}
-use Rattle.shard_book.proofs.GroupingLemmas.{grouped-none, sums_by-none}
+use Rattle.shard_book.proofs.GroupingLemmas.{sums_by-none}
 use Rattle.shard_book.proofs.groups.sums_of_books.Goals as goal
 
 pub returns-in_default : goal.returns-in_default
 returns-in_default g c = sums_by-none _ _ _ _ c.args.books.now _ c.new.ensures.items (ap option_copied (sym c.in_default.is) ∙ c.first.ensures.value)
 
-pub loop-book-init : goal.loop-book-init
-loop-book-init g c = (grouped-none _ _ _ c.with_hasher-tallies.ensures.empty, omega arith)
-
-pub add_entries-requires : goal.add_entries-requires
-unfolding HasRoom
-add_entries-requires g c =
-    let before = take c.loop-book.book-index c.args.books.now in
-    let bound : length (all_entries before) ≤ c.loop-book.book-index * 2 ^ 64 = c.loop-book.invariant.1 in
-    let most : length c.args.books.now ≤ 64 = c.requires in
-    (all_entries before, c.loop-book.invariant.0, omega arith)
-
 pub listed-requires : goal.listed-requires
 unfolding HasRoom
 listed-requires g c =
-    let before = take c.loop-book.book-index c.args.books.now in
-    let bound : length (all_entries before) ≤ c.loop-book.book-index * 2 ^ 64 = c.loop-book.invariant.1 in
+    let bound : length (all_entries c.args.books.now) ≤ length c.args.books.now * 2 ^ 64 = c.in_ok-tallies.ensures.few in
     let most : length c.args.books.now ≤ 64 = c.requires in
-    (all_entries before, c.loop-book.invariant.0, omega arith)
+    (all_entries c.args.books.now, c.in_ok-tallies.ensures.grouped, omega arith)
