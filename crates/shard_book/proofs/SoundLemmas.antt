@@ -18,7 +18,7 @@ use Rattle.shard_book.specs.Accounts.{kept_at, counted, IsCounting, IsKept, Stan
 use Rattle.shard_book.specs.Entry.{own, tap_of, taps_of, reply_of}
 use Rattle.shard_book.specs.History.{IsReplied}
 use Rattle.shard_book.specs.Sound.{IsSound, AreKept}
-use Rattle.shard_book.specs.Token.{bytes_of, token_eq}
+use Rattle.shard_book.specs.Token.{Fits, bytes_of, token_eq}
 use Rattle.shard_book.specs.Sums.{sums_of_replies, add_sums}
 use Rattle.shard_book.proofs.AccountsLemmas.{on-same}
 use Rattle.shard_book.proofs.CountingLemmas.{counted-same, counted-push, counted-none}
@@ -33,6 +33,7 @@ sound-on {table} {shard} {shards} {accounts} {after} {entries} {items} same othe
       few = sound.few;
       legal = sound.legal;
       here = sound.here;
+      fits = sound.fits;
       kept = λ token. (others token).kept (rules_of table (bytes_of token)) (taps_of table token entries) (sound.kept token);
       counted = λ counts. counted-same accounts after entries (sound.counted (counting counts)) (λ other. (others other).sums);
     })
@@ -45,18 +46,20 @@ sound-same same others counting sound = sound-on same (λ other. on-same (others
 pub sound-push : {table : Fares} {shard shards : ℕ} {accounts after : Accounts} {entries items : List Entry} (entry : Entry) → items ≡ entries ++ entry ∷ []
     → IsSound table shard shards accounts entries
     → shard_of_token (bytes_of entry.token) shards ≡ shard
+    → Fits entry.token
     → IsReplied table entries entry
     → IsKept (rules_of table (bytes_of entry.token)) (kept_at after entry.token) (taps_of table entry.token entries ++ tap_of table entry ∷ [])
     → (IsCounting after → counted (kept_at after entry.token) ≡ add_sums (counted (kept_at accounts entry.token)) (sums_of_replies (reply_of entry ∷ [])))
     → (IsCounting after → IsCounting accounts)
     → ((other : Token) → token_eq entry.token other ≡ false → kept_at after other ≡ kept_at accounts other)
     → IsSound table shard shards after items
-sound-push {table} {shard} {shards} {accounts} {after} {entries} {items} entry pushed sound here replied own_kept added counting others =
+sound-push {table} {shard} {shards} {accounts} {after} {entries} {items} entry pushed sound here fits replied own_kept added counting others =
     subst (λ (es : List Entry). IsSound table shard shards after es) (sym pushed) (record {
       within = sound.within;
       few = sound.few;
       legal = legal-push table entries entry sound.legal replied;
       here = record { each = All-push (λ (e : Entry). shard_of_token (bytes_of e.token) shards ≡ shard) entries entry sound.here.each here };
+      fits = All-push (λ (e : Entry). Fits e.token) entries entry sound.fits fits;
       kept = kept-push table accounts after entries entry sound.kept own_kept others;
       counted = λ counts. counted-push accounts after entries entry (sound.counted (counting counts)) (added counts) others;
     })
@@ -66,6 +69,7 @@ pub sound-post : {table : Fares} {shard shards : ℕ} {accounts after : Accounts
     → items ≡ entries ++ entry ∷ []
     → IsSound table shard shards accounts entries
     → shard_of_token (bytes_of entry.token) shards ≡ shard
+    → Fits entry.token
     → option_map (λ m. m.place) mode ≡ mode_at table entry.validator
     → limit ≡ until table entry.moment
     → ((taps : List TapIn) → IsKept (rules_of table (bytes_of entry.token)) (kept_at accounts entry.token) taps
@@ -77,9 +81,9 @@ pub sound-post : {table : Fares} {shard shards : ℕ} {accounts after : Accounts
     → ((other : Token) → token_eq entry.token other ≡ false → kept_at after other ≡ kept_at accounts other)
     → IsSound table shard shards after items
 unfolding AreKept IsReplied
-sound-post {table} {shard} {shards} {accounts} {after} {entries} {items} entry mode limit pushed sound here is_mode is_limit by_rule stands added counting others =
+sound-post {table} {shard} {shards} {accounts} {after} {entries} {items} entry mode limit pushed sound here fits is_mode is_limit by_rule stands added counting others =
     let tap_is : tap_of table entry ≡ record { moment = entry.moment; mode = mode; until = limit } = tap_of-post table entry mode limit is_mode is_limit in
-    sound-push entry pushed sound here
+    sound-push entry pushed sound here fits
     (by_rule _ (sound.kept entry.token) ∙ ap (λ (tap : TapIn). reply (rules_of table (bytes_of entry.token)) (taps_of table entry.token entries) tap) (sym tap_is))
     (subst (λ (tap : TapIn). IsKept (rules_of table (bytes_of entry.token)) (kept_at after entry.token) (taps_of table entry.token entries ++ tap ∷ [])) (sym tap_is) (stands _ (sound.kept entry.token)))
     added counting others
@@ -93,6 +97,7 @@ sound-none {table} {shard} {shards} {accounts} {items} empty within few none =
       few = few;
       legal = legal-none table;
       here = record { each = All-nil (λ (e : Entry). shard_of_token (bytes_of e.token) shards ≡ shard) };
+      fits = All-nil (λ (e : Entry). Fits e.token);
       kept = λ token. subst (λ (a : Option Kept). IsKept (rules_of table (bytes_of token)) a []) (sym (none token)) refl;
       counted = λ _. counted-none accounts none;
     })

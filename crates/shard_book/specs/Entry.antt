@@ -1,5 +1,5 @@
 -- Entries of a history, and the taps of one token among them.
-use Rattle.std.specs.Prelude.{◌≡◌, ℕ, Bool, List, option_map, map, filter, ◌==◌}
+use Rattle.std.specs.Prelude.{◌≡◌, ℕ, Bool, List, All, option_map, map, filter, ◌==◌}
 use Rattle.tap_views.specs.Layout.{Tap, num}
 use Rattle.fare_table.specs.Fares.{Fares, mode_at}
 use Rattle.fare_table.specs.Until.{until}
@@ -8,7 +8,7 @@ use Rattle.account_rule.specs.declared.reply.Reply.{Reply}
 use Rattle.account_rule.specs.declared.tap.TapIn.{TapIn}
 use Rattle.shard_book.specs.declared.entry.Entry.{Entry}
 use Rattle.shard_book.specs.declared.token.Token.{Token}
-use Rattle.shard_book.specs.Token.{bytes_of, token_eq}
+use Rattle.shard_book.specs.Token.{Fits, bytes_of, token_eq}
 
 -- the entry has the fields of the tap's bytes
 pub record IsEntryOf (tap : Tap) (entry : Entry) : Type 0 where
@@ -19,6 +19,10 @@ pub record IsEntryOf (tap : Tap) (entry : Entry) : Type 0 where
 -- the reply that an entry keeps
 abbrev pub reply_of : Entry → Reply
 reply_of entry = record { answer = entry.answer; cents = entry.cents }
+
+-- each entry's token is one of 16 bytes, so that these bytes name it
+abbrev pub TokensFit : List Entry → Type 0
+TokensFit entries = All (λ entry. Fits entry.token) entries
 
 -- whether an entry is the token's
 abbrev pub is_of : Token → Entry → Bool

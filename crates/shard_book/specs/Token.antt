@@ -1,5 +1,5 @@
 -- The 16 bytes of a token, and the order and equality of tokens.
-use Rattle.std.specs.Prelude.{ℕ, Bool, List, ◌++◌, ◌==◌, ◌&&◌}
+use Rattle.std.specs.Prelude.{ℕ, Bool, List, ◌++◌, ◌==◌, ◌&&◌, ◌<◌, ◌^◌}
 use Rattle.std.specs.Int.{to_be_bytes, w64}
 use Rattle.std.specs.Ordering.{nat_cmp, ordering_then}
 use Rattle.std.specs.declared.cmp.Ordering.{Ordering}
@@ -8,6 +8,11 @@ use Rattle.shard_book.specs.declared.token.Token.{Token}
 -- the bytes that the token was made of: the high number's, then the low number's
 unfoldable pub bytes_of : Token → List ℕ
 bytes_of token = to_be_bytes w64 token.high ++ to_be_bytes w64 token.low
+
+-- the token is one of 16 bytes: each of its numbers has eight bytes
+pub record Fits (token : Token) : Type 0 where
+  pub high : token.high < 2 ^ 64
+  pub low : token.low < 2 ^ 64
 
 -- the order of tokens
 abbrev pub token_cmp : Token → Token → Ordering

@@ -6,7 +6,7 @@ ghost use Rattle.account_rule.specs.Rules.{rules_of};
 ghost use Rattle.account_rule.specs.Stands.{Stands};
 ghost use Rattle.shard_book.specs.Counting.{AddsSums};
 ghost use Rattle.shard_book.specs.Counts.{token_counts};
-ghost use Rattle.shard_book.specs.Entry.{taps_of};
+ghost use Rattle.shard_book.specs.Entry.{TokensFit, taps_of};
 ghost use Rattle.shard_book.specs.Token.{bytes_of};
 ghost use Rattle.shard_book.specs.Book.{AreOfShard, PostsTap, limit_of};
 ghost use Rattle.shard_book.specs.History.{IsLegal};
@@ -156,6 +156,7 @@ impl ShardBook {
         ensures len { result ≡ length self.now.entries }
         ensures legal { IsLegal self.now.table self.now.entries }
         ensures here { AreOfShard self.now.shard self.now.shards self.now.entries }
+        ensures fits { TokensFit self.now.entries }
     {
         self.history.len() as u64
     }

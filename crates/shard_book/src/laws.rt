@@ -9,7 +9,7 @@ ghost use Rattle.shard_book.specs.declared.token.Token.{Token};
 ghost use Rattle.shard_book.specs.History.{IsLegal};
 ghost use Rattle.shard_book.specs.Rising.{rising, IsRising};
 ghost use Rattle.shard_book.specs.Sums.{sums, add_sums};
-ghost use Rattle.shard_book.specs.Token.{bytes_of, token_cmp};
+ghost use Rattle.shard_book.specs.Token.{Fits, bytes_of, token_cmp};
 ghost use Rattle.shard_book.specs.Windows.{WindowsKeepLimits};
 
 use crate::book::ShardBook;
@@ -22,6 +22,11 @@ pub fn order(a: Token, b: Token) -> Ordering
 {
     a.cmp(&b)
 }
+
+/// Tokens of 16 bytes that have the same bytes are the same token.
+pub fn same_bytes()
+    ensures { (a b : Token) → Fits a → Fits b → bytes_of a ≡ bytes_of b → a ≡ b }
+{}
 
 /// The rising list of the keys is the one strictly rising list that has the same members.
 pub fn rising()

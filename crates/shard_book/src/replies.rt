@@ -1,6 +1,6 @@
 //! The replies that a caller collects, with room taken beforehand.
 
-ghost use Rattle.std.specs.Prelude.{◌≡◌, ◌+◌, ◌-◌, ◌<◌, ◌≤◌, [], ◌∷◌, ◌++◌, length, slice_get, Some, OnOk, IsTrue, ◌↔◌};
+ghost use Rattle.std.specs.Prelude.{◌≡◌, ◌+◌, ◌-◌, ◌<◌, ◌≤◌, [], ◌∷◌, ◌++◌, length, slice_get, Some, OnOk, OnErr, IsTrue, ◌↔◌};
 
 use account_rule::Reply;
 use fare_table::NoMemory;
@@ -37,6 +37,10 @@ impl Replies {
         ensures items { self.new.items ≡ self.old.items }
         ensures ok { OnOk result (n ≤ self.new.spare) }
         ensures spare { self.old.spare ≤ self.new.spare }
+
+        // It fails only where that room was missing, and then the room stays as it was.
+        ensures full { OnErr result (self.old.spare < n) }
+        ensures err { OnErr result (self.new ≡ self.old) }
     {
         self.replies.reserve(n as usize)?;
         Ok(())

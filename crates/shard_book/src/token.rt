@@ -1,7 +1,7 @@
 //! The name of an account.
 
 ghost use Rattle.std.specs.Prelude.{◌≡◌, length};
-ghost use Rattle.shard_book.specs.Token.{bytes_of};
+ghost use Rattle.shard_book.specs.Token.{Fits, bytes_of};
 
 /// The 16 bytes that name an account, ordered by these bytes.
 ///
@@ -16,7 +16,8 @@ impl Token {
     /// The token of these 16 bytes.
     pub fn of(bytes: &[u8]) -> Self
         requires { length bytes.now ≡ 16 }
-        ensures { bytes_of result ≡ bytes.now }
+        ensures bytes { bytes_of result ≡ bytes.now }
+        ensures fits { Fits result }
     {
         let mut high = [0; 8];
         let mut low = [0; 8];

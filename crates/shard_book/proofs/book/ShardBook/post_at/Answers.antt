@@ -34,11 +34,12 @@ sound : (c : After-push_reserved) → IsSound c.self.inside.table c.self.inside.
 sound c =
     let tap = c.args.tap.now in
     let view : book_of c.self.inside.table c.self.inside.shard c.self.inside.shards c.self.inside.history.items ≡ c.args.self.now = c.self.view_is in
-    let token : bytes_of c.of-token.result ≡ tap.token = c.of-token.ensures ∙ c.token.ensures.bytes in
+    let token : bytes_of c.of-token.result ≡ tap.token = c.of-token.ensures.bytes ∙ c.token.ensures.bytes in
     sound-post (entry_of c) c.mode_of-mode.result c.args.until
     (pushed c)
     c.self.invariant
     (ap (λ (bytes : List ℕ). shard_of_token bytes c.self.inside.shards) token ∙ ap (λ (b : Book). shard_of_token tap.token b.shards) view ∙ c.requires.here ∙ sym (ap (λ (b : Book). b.shard) view))
+    c.of-token.ensures.fits
     c.mode_of-mode.ensures.mode
     (c.requires.until ∙ sym (ap (λ (b : Book). until b.table (num tap.moment)) view) ∙ sym (ap (λ (m : ℕ). until c.self.inside.table m) c.moment_ms-moment.ensures.number))
     c.in_ok-reply.ensures.reply
@@ -53,7 +54,7 @@ invariant_of-self-2 c = sound c
 pub returns-clause-ok : goal.returns-clause-ok
 returns-clause-ok c = record {
   entry = entry_of c;
-  of_tap = record { token = c.of-token.ensures ∙ c.token.ensures.bytes; validator = c.validator_number-validator.ensures; moment = c.moment_ms-moment.ensures.number };
+  of_tap = record { token = c.of-token.ensures.bytes ∙ c.token.ensures.bytes; validator = c.validator_number-validator.ensures; moment = c.moment_ms-moment.ensures.number };
   replied = refl;
   appended =
       ap (λ (entries : List Entry). book_of c.self.inside.table c.self.inside.shard c.self.inside.shards entries) (pushed c)

@@ -4,9 +4,9 @@ use Rattle.shard_book.specs.Token.{bytes_of}
 use Rattle.shard_book.proofs.Bytes.{two_numbers}
 use Rattle.shard_book.proofs.token.Token.of.Goals as goal
 
-pub returns : goal.returns
+pub returns-clause-bytes : goal.returns-clause-bytes
 unfolding bytes_of
-returns c =
+returns-clause-bytes c =
     let bytes = c.args.bytes.now in
     two_numbers bytes c.copy_from_slice.new.self c.copy_from_slice-2.new.self _ _ c.requires (λ i. let byte = c.type_inv.bytes i in omega arith)
     c.copy_from_slice.ensures.after
