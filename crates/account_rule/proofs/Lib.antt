@@ -5,3 +5,4 @@ pub mod LimitLemmas
 pub mod WindowLemmas
 pub mod StepLemmas
 pub mod ShareLemmas
+pub mod ReasonLemmas

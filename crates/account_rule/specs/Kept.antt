@@ -5,7 +5,10 @@ use Rattle.fare_table.specs.declared.terms.Terms.{Terms}
 use Rattle.account_rule.specs.declared.account.Account.{Account}
 use Rattle.account_rule.specs.declared.window.Window.{Window}
 use Rattle.account_rule.specs.declared.window.WindowView.{WindowView}
+use Rattle.account_rule.specs.declared.reason.Reason.{Reason}
+use Rattle.account_rule.specs.declared.reason.Reason.TheVariants.{Ride}
 use Rattle.account_rule.specs.Chains.{is_linked}
+use Rattle.account_rule.specs.Reasons.{charge_by}
 use Rattle.account_rule.specs.Taps.{LiveTap, live_at}
 use Rattle.account_rule.specs.Windows.{charge}
 
@@ -73,6 +76,10 @@ with_ride terms window = record window {
   paid = window.paid + (if nat_lt 0 (charge terms window.rides) then 1 else 0);
   cents = window.cents + charge terms window.rides;
 }
+
+-- why the window's next ride is answered as it is
+unfoldable pub next_reason : Terms → Window → Reason
+next_reason terms window = Ride window.start window.until (charge_by terms window.rides)
 
 -- the numbers of the window are within the limits of the terms, and leave room for one more ride
 pub record IsRoomy (terms : Terms) (window : Window) : Type 0 where

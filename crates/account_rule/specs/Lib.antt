@@ -4,6 +4,7 @@ pub mod Taps
 pub mod Chains
 pub mod Windows
 pub mod Replies
+pub mod Reasons
 pub mod Kept
 pub mod Stands
 pub mod Laws

@@ -10,6 +10,8 @@ ghost use Rattle.account_rule.specs.Stands.{Stands, StandsForSome};
 ghost use Rattle.account_rule.specs.Taps.{live_at};
 ghost use Rattle.account_rule.specs.Windows.{charge, last_window};
 
+mod explain;
+
 use crate::reply::{Answer, Reply};
 use crate::tap::TapIn;
 use crate::window::{Window, WindowView};

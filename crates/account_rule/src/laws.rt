@@ -1,6 +1,7 @@
 //! What holds of every list of taps: laws over the definitions of `specs/`, each the contract of
 //! a function that does nothing.
 
+ghost use Rattle.account_rule.specs.Reasons.{GiversAreRides, RepliesFollow};
 ghost use Rattle.account_rule.specs.Laws.{ChainsAreTheOnlyCut, WindowsAreTheOnlyCut, WindowsKeepTheCeiling, WindowsKeepTheRideLimit, WindowsShareTheCents, WindowsShareThePaidRides, WindowsShareTheRides};
 
 /// The chains are the only way to cut live taps by links, and the windows the only way to cut rides
@@ -23,4 +24,10 @@ pub fn shares()
     ensures rides { WindowsShareTheRides }
     ensures cents { WindowsShareTheCents }
     ensures paid { WindowsShareThePaidRides }
+{}
+
+/// The reply to each tap follows from its reason, and what gives a transfer is a ride.
+pub fn reasons()
+    ensures replies { RepliesFollow }
+    ensures givers { GiversAreRides }
 {}

@@ -8,6 +8,7 @@
 
 mod account;
 pub mod laws;
+mod reason;
 mod reply;
 mod tap;
 #[cfg(test)]
@@ -15,6 +16,7 @@ mod tests;
 mod window;
 
 pub use account::Account;
+pub use reason::{Charge, Reason};
 pub use reply::{Answer, Reply};
 pub use tap::TapIn;
 pub use window::WindowView;

@@ -3,5 +3,6 @@
 mod agreement;
 mod both;
 mod plain;
+mod reasons;
 mod rows;
 mod tables;

@@ -1,8 +1,10 @@
 ghost use Rattle.std.specs.Prelude.{◌≡◌, ◌+◌, ◌*◌, ◌^◌, ◌<◌, ◌≤◌};
 ghost use Rattle.fare_table.specs.Terms.{HasLimits};
-ghost use Rattle.account_rule.specs.Kept.{IsRoomy, open_window, shown_of, with_ride};
+ghost use Rattle.account_rule.specs.Kept.{IsRoomy, next_reason, open_window, shown_of, with_ride};
+ghost use Rattle.account_rule.specs.Reasons.{charge_by};
 ghost use Rattle.account_rule.specs.Windows.{charge};
 
+use crate::reason::{Charge, Reason};
 use fare_table::Terms;
 
 /// A window as its owner sees it: the rides of a week, and what they cost together.
@@ -74,6 +76,44 @@ impl Window {
         self.rides += 1;
         self.paid += u16::from(cents > 0);
         cents
+    }
+
+    /// Why its next ride is answered as it is.
+    #[tactic(auto, unfolding(crate::specs::Kept::next_reason))]
+    pub(crate) fn next_reason(self, terms: Terms) -> Reason
+        requires limits { HasLimits terms }
+        requires room { IsRoomy terms self }
+        ensures { result ≡ next_reason terms self }
+    {
+        Reason::Ride {
+            start: self.start,
+            until: self.until,
+            charge: charge_by(terms, u32::from(self.rides)),
+        }
+    }
+}
+
+/// What decides the cents of a ride at its place in its window, counted from 0.
+#[tactic(auto, unfolding(crate::specs::Reasons::charge_by))]
+fn charge_by(terms: Terms, place: u32) -> Charge
+    requires fits { place * terms.fare + terms.fare < 2 ^ 32 }
+    ensures { result ≡ charge_by terms place }
+{
+    let before = place * terms.fare;
+    if place >= terms.rides {
+        Charge::RideLimitReached
+    } else if before >= terms.ceiling {
+        Charge::CeilingReached { place }
+    } else if before + terms.fare <= terms.ceiling {
+        Charge::Full {
+            place,
+            cents: terms.fare,
+        }
+    } else {
+        Charge::CeilingCut {
+            place,
+            cents: terms.ceiling - before,
+        }
     }
 }
 

@@ -1,0 +1,74 @@
+//! Why an account answers a tap as it does.
+
+ghost use Rattle.std.specs.Prelude.{◌≡◌, ◌<◌, List, length, option_map, Some};
+ghost use Rattle.std.specs.Option.{ForSome};
+ghost use Rattle.fare_table.specs.Until.{until};
+ghost use Rattle.account_rule.specs.declared.tap.TapIn.{TapIn};
+ghost use Rattle.account_rule.specs.Kept.{window_at};
+ghost use Rattle.account_rule.specs.Reasons.{given_by, reason};
+ghost use Rattle.account_rule.specs.Rules.{rules_of};
+ghost use Rattle.account_rule.specs.Stands.{Stands, StandsForSome};
+ghost use Rattle.account_rule.specs.Taps.{live_at};
+
+use super::Account;
+use crate::reason::Reason;
+use crate::tap::TapIn;
+use crate::window::Window;
+use fare_table::FareTable;
+
+impl Account {
+    /// Why `step` would answer the tap as it does. The account stays as it is.
+    ///
+    /// Table, token and tap are those of `step`. It takes no memory.
+    pub fn explain(&self, table: &FareTable, token: &[u8], tap: TapIn) -> Reason
+        requires token { length token.now ≡ 16 }
+        requires mode { ForSome tap.mode (λ mode. mode.place < length table.now.rules.modes) }
+        requires until { tap.until ≡ until table.now tap.moment }
+        requires stands { StandsForSome (rules_of table.now token.now) self.now }
+
+        // Of every list for which the account stands.
+        ensures { (taps : List TapIn) → Stands (rules_of table.now token.now) self.now taps
+            → result ≡ reason (rules_of table.now token.now) taps tap }
+    {
+        let Some(mode) = tap.mode else {
+            return Reason::Unknown;
+        };
+        if !self.has_window {
+            return Window::open(tap.moment, tap.until).next_reason(table.terms_of(token));
+        }
+        if tap.moment <= self.last {
+            return Reason::Stale { latest: self.last };
+        }
+        if self.gives_transfer(table, tap.moment, mode) {
+            return self.given();
+        }
+        self.window_at(tap.moment, tap.until)
+            .next_reason(self.terms)
+    }
+
+    /// Why a tap is a transfer: the last live tap gives it.
+    #[tactic(auto, unfolding(crate::specs::Reasons::given_by, crate::specs::Taps::live_at))]
+    fn given(&self) -> Reason
+        ensures { result ≡ given_by (option_map (live_at self.now.last) self.now.giver) }
+    {
+        match self.giver {
+            Some(mode) => Reason::Transfer {
+                moment: self.last,
+                mode,
+            },
+            None => Reason::Unknown,
+        }
+    }
+
+    /// The window to which a ride at the moment belongs, without that ride.
+    #[tactic(auto, unfolding(crate::specs::Kept::window_at))]
+    fn window_at(&self, moment: u64, until: u64) -> Window
+        ensures { result ≡ window_at (Some self.now.window) moment until }
+    {
+        if moment >= self.window.until {
+            Window::open(moment, until)
+        } else {
+            self.window
+        }
+    }
+}

@@ -1,0 +1,75 @@
+//! Why a tap is answered as it is.
+
+ghost use Rattle.std.specs.Prelude.{◌≡◌};
+ghost use Rattle.account_rule.specs.Reasons.{charged_by, replied_by};
+
+use crate::reply::{Answer, Reply};
+use fare_table::Mode;
+
+/// Why a tap is answered as it is. The reply follows from it.
+#[derive(Clone, Copy, Debug, PartialEq, Eq)]
+pub enum Reason {
+    /// The table does not know the tap's validator.
+    Unknown,
+    /// A known tap before it is not earlier. The latest of these was at this moment.
+    Stale {
+        latest: u64,
+    },
+    /// The ride at this moment, on this mode, includes it: it is the last live tap before it.
+    Transfer {
+        moment: u64,
+        mode: Mode,
+    },
+    /// It is a ride of the window that its first ride opened at `start` and that ends at `until`.
+    Ride {
+        start: u64,
+        until: u64,
+        charge: Charge,
+    },
+}
+
+/// What decides the cents of a ride. A place is the number of rides before it in its window.
+#[derive(Clone, Copy, Debug, PartialEq, Eq)]
+pub enum Charge {
+    /// The ceiling leaves a whole fare.
+    Full { place: u32, cents: u32 },
+    /// The ceiling leaves less than a fare, and that is charged.
+    CeilingCut { place: u32, cents: u32 },
+    /// As many fares as there are rides before it reach the ceiling.
+    CeilingReached { place: u32 },
+    /// The window has had all the rides that may be charged.
+    RideLimitReached,
+}
+
+impl Charge {
+    /// What the ride costs, in cents.
+    pub fn cents(self) -> u32
+        ensures { result ≡ charged_by self }
+    {
+        match self {
+            Charge::Full { place: _, cents } => cents,
+            Charge::CeilingCut { place: _, cents } => cents,
+            Charge::CeilingReached { place: _ } => 0,
+            Charge::RideLimitReached => 0,
+        }
+    }
+}
+
+impl Reason {
+    /// The reply that a tap with this reason has.
+    #[tactic(auto, unfolding(crate::specs::Replies::reply_of))]
+    pub fn reply(self) -> Reply
+        ensures { result ≡ replied_by self }
+    {
+        match self {
+            Reason::Unknown => Reply::free(Answer::Unknown),
+            Reason::Stale { latest: _ } => Reply::free(Answer::Stale),
+            Reason::Transfer { moment: _, mode: _ } => Reply::free(Answer::Transfer),
+            Reason::Ride {
+                start: _,
+                until: _,
+                charge,
+            } => Reply::to_ride(charge.cents()),
+        }
+    }
+}
