@@ -13,7 +13,6 @@ from functools import lru_cache
 from zoneinfo import ZoneInfo
 
 DAY_MS, TRANSFER_MS, MOMENT_LIMIT = 86_400_000, 7_200_000, 4_102_444_800_000
-LONGEST_LINE = 256  # no ledger line has as many bytes
 HEAD = ("token,line,moment,validator,mode,answer,cents,"
         "window_start,window_end,ride,reason,points_at\n")
 NUMBER, WORD = "(?:0|[1-9][0-9]*)", "[a-z-]{0,16}"
@@ -38,8 +37,8 @@ def moment_text(ms):
 def zone_of(rule):
     """The zone of a POSIX rule text: a zone file without changes whose last line is the rule."""
     head = lambda version: b"TZif" + version + bytes(15) + struct.pack(">6I", 0, 0, 0, 0, 1, 1)
-    parts = head(b"2") + bytes(7) + head(b"2") + bytes(7), rule.encode(), b""
-    return ZoneInfo.from_file(io.BytesIO(b"\n".join(parts)))
+    file = (head(b"2") + bytes(7)) * 2 + b"\n" + rule.encode() + b"\n"
+    return ZoneInfo.from_file(io.BytesIO(file))
 
 class Fares:
     """A fare table, as the rules ask it."""
@@ -94,8 +93,7 @@ class Account:
             self.end = self.fares.window_end(moment)
             self.window, self.rides = f"{text},{moment_text(self.end)}", 0
         fare, limit, ceiling = self.terms
-        left = ceiling - self.rides * fare
-        self.rides += 1
+        left, self.rides = ceiling - self.rides * fare, self.rides + 1
         if self.rides > limit:
             return f"capped,0,{self.window},,ride-limit"
         if left <= 0:
@@ -105,10 +103,8 @@ class Account:
 
 def tap_of(line):
     """Token, moment, its text and validator of a ledger line. ValueError where it is none."""
-    if "\r" in line or line[-1:] != "\n":
-        raise ValueError("it has a carriage return, is too long or is cut")
     if not (fields := LINE.fullmatch(line)):
-        raise ValueError("it has not the twelve fields of a ledger line")
+        raise ValueError("it is cut, too long, or has not twelve fields in a ledger's form")
     token, place, text, validator, cents, start, end, ride, points_at = fields.groups()
     moments = [moment_ms(m) for m in (text, start, points_at) if m]
     if (int(place) >= 2 ** 64 or max(int(n or 0) for n in (validator, cents, ride)) >= 2 ** 32
@@ -118,7 +114,7 @@ def tap_of(line):
 
 def first_wrong(fares, file):
     """How many lines are right, what is wrong with the next, and why it is no ledger line."""
-    read = lambda: file.readline(LONGEST_LINE).decode("latin-1")
+    read = lambda: file.readline(256).decode("latin-1")  # no ledger line has as many bytes
     if read() != HEAD:
         return 0, "line 1 is no ledger line", "it is not the head line"
     account, last, count = None, "", 0

@@ -1,0 +1,53 @@
+-- Views over the lines, in words that SQLite and PostgreSQL share.
+
+-- The sums of all lines, as the report's `totals`.
+CREATE VIEW totals AS
+  SELECT count(*) AS taps, count(CASE answer WHEN 'paid' THEN 1 END) AS paid,
+         count(CASE answer WHEN 'transfer' THEN 1 END) AS transfers,
+         count(CASE answer WHEN 'capped' THEN 1 END) AS capped,
+         count(CASE answer WHEN 'stale' THEN 1 END) AS stale,
+         count(CASE answer WHEN 'unknown' THEN 1 END) AS unknown, coalesce(sum(cents), 0) AS cents
+  FROM line;
+
+-- Revenue by civil day and mode. Taps at unknown validators have no mode.
+CREATE VIEW revenue AS
+  SELECT day, coalesce(mode, '-') AS mode, count(*) AS taps,
+         count(CASE answer WHEN 'paid' THEN 1 END) AS paid,
+         count(CASE answer WHEN 'transfer' THEN 1 END) AS transfers,
+         count(CASE answer WHEN 'capped' THEN 1 END) AS capped,
+         count(CASE answer WHEN 'stale' THEN 1 END) AS stale, sum(cents) AS cents
+  FROM line GROUP BY day, coalesce(mode, '-');
+
+-- Each window of each rider.
+CREATE VIEW windows AS
+  SELECT token, window_start, window_end, count(*) AS rides,
+         count(CASE answer WHEN 'paid' THEN 1 END) AS paid,
+         count(CASE answer WHEN 'capped' THEN 1 END) AS capped, sum(cents) AS cents
+  FROM line WHERE answer IN ('paid', 'capped') GROUP BY token, window_start, window_end;
+
+-- The windows in which a rider reached the cap, and the moment of the first free ride.
+CREATE VIEW riders_at_cap AS
+  SELECT token, window_start, count(*) AS free_rides, min(moment) AS first_free,
+         count(CASE reason WHEN 'ceiling' THEN 1 END) AS by_ceiling,
+         count(CASE reason WHEN 'ride-limit' THEN 1 END) AS by_rides
+  FROM line WHERE answer = 'capped' GROUP BY token, window_start;
+
+-- Each transfer beside the ride that gives it: a token has one live tap at a moment.
+CREATE VIEW transfer_ride AS
+  SELECT t.token, t.line, t.moment, t.mode, r.line AS ride_line, r.moment AS ride_moment,
+         r.mode AS ride_mode
+  FROM line t LEFT JOIN line r ON r.token = t.token AND r.line < t.line
+       AND r.moment = t.points_at AND r.answer IN ('paid', 'capped')
+  WHERE t.answer = 'transfer';
+
+-- Transfers by pair of modes.
+CREATE VIEW transfers AS
+  SELECT ride_mode AS from_mode, mode AS to_mode, count(*) AS taps
+  FROM transfer_ride GROUP BY ride_mode, mode;
+
+-- Stale taps by validator and day. A ledger does not say from which upload a tap came; an upload
+-- that came late shows as the days of its validators.
+CREATE VIEW stale_taps AS
+  SELECT validator, day, count(*) AS taps, count(CASE answer WHEN 'stale' THEN 1 END) AS stale,
+         count(CASE answer WHEN 'stale' THEN 1 END) * 100 / count(*) AS percent
+  FROM line GROUP BY validator, day HAVING count(CASE answer WHEN 'stale' THEN 1 END) > 0;
