@@ -1,19 +1,33 @@
-# make run     the main job: two uploads of examples/ posted under the sample table, their report on the terminal
-# make test    everything that must pass: what must not compile, then the proofs, the must-fail edits, the tests and the stored runs
-# make hostile memory, reads, writes, threads and the seed refused one at a time, in every place
-# make bench   speed and memory beside the same in Rust, some minutes
+# make run      the main job on the example data: the report of two uploads under the sample table.
+#               Where nothing is proved it is a trial build of a minute or two, and it says so
+# make build    proves the program and all below it, and builds it: crates/omny_cli/out/omny_cli
+# make test     everything that must pass: what must not compile, the proofs, the tests, the wrong
+#               bodies in must-fail/, the stored runs, and then the cases of the built program
+# make wrong    all wrong bodies, those in wrong/ too: each must be refused by the function that it
+#               changes. Some crates alone: make wrong CRATES="tap_views fare_table"
+# make hostile  memory, reads, writes, threads and the seed refused one at a time, in every place
+# make bench    speed and memory beside the same in Rust
 #
-# Nothing but the toolchain (rt), make and bash is needed; `make hostile` wants a C compiler and Python 3 too, `make bench` rustc and Python 3.
+# run, build, test and wrong need the toolchain (rt, which needs Python 3), make and bash.
+# hostile also needs a C compiler, bench also rustc.
 
-.PHONY: run test hostile bench
+.PHONY: run build test wrong hostile bench
 
 run:
 	@scripts/run_example
 
-# As many checks at once as processors, but at most four, which took 10 GB of memory: without RT_JOBS rt ci plans for more than they take.
+build:
+	@scripts/build_program
+
+# At most four checks at once, which take 10 GB: without RT_JOBS rt ci plans for more than they take.
+# The last line of the output is the verdict of rt ci: the cases are silent where all is well.
 test:
 	scripts/must_not_compile
 	@n=$$(nproc) && RT_JOBS=$${RT_JOBS:-$$((n < 4 ? n : 4))} rt ci
+	@scripts/program_cases
+
+wrong:
+	@scripts/wrong_bodies $(CRATES)
 
 hostile:
 	@hostile/refuse
