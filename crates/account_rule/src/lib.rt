@@ -11,8 +11,6 @@ pub mod laws;
 mod reason;
 mod reply;
 mod tap;
-#[cfg(test)]
-mod tests;
 mod window;
 
 pub use account::Account;

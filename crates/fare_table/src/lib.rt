@@ -17,8 +17,6 @@ mod modes;
 mod riders;
 mod table;
 mod terms;
-#[cfg(test)]
-mod tests;
 mod token;
 mod transfers;
 mod validators;

@@ -40,6 +40,3 @@ pub use tally::Tally;
 pub use token::Token;
 pub use token_sums::TokenSums;
 pub use totals::Totals;
-
-#[cfg(test)]
-mod tests;

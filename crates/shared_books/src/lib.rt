@@ -3,8 +3,6 @@
 
 mod drawing;
 pub mod laws;
-#[cfg(test)]
-mod tests;
 mod turns;
 
 pub use drawing::{Draw, DrawMissing, Drawer};

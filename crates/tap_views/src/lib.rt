@@ -28,6 +28,3 @@ pub use shard::shard_of;
 pub use steps::Batches;
 pub use taps::Taps;
 pub use view::TapView;
-
-#[cfg(test)]
-mod tests;
