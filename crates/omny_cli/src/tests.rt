@@ -1,5 +1,5 @@
-//! What no clause says: the texts on the second writer, and runs of the whole program on worked
-//! files. Each public function is called once with ample memory.
+//! What neither a clause nor a command line shows: readers and writers that fail, files that are
+//! read early. The command lines are in `cases/`, run over the built program.
 ghost use Rattle.std.specs.Prelude.{◌≡◌, ◌++◌, ◌∷◌, [], IfOk, OnOk, Some, map, option_map, string_bytes};
 
 use crate::ahead::{Disk, Early};
@@ -24,19 +24,6 @@ mod service;
 // Two taps of one token: validator 1000 at 2024-03-08T17:00Z, validator 2000 two hours later.
 const FIRST: &str =
     "5441503100020000000000000000000000000000000000a1000003e80000018e1f01de80000000000000000000000000000000a1000007d00000018e1f6fbb80";
-
-// The first of them in the other layout.
-const SHARED: &str = "5441503200010000000003e8000000000000000000000000000000a10000018e1f01de80";
-
-// A batch of that tap without its last byte.
-const CUT: &str = "5441503100010000000000000000000000000000000000a1000003e80000018e1f01de";
-
-// One tap at the limit of moments, 2100-01-01T00:00Z.
-const LATE: &str = "5441503100010000000000000000000000000000000000a1000003e8000003bb2cc3d800";
-
-// Another token: validator 9, and then validator 1000 five milliseconds before.
-const OTHER: &str =
-    "5441503100020000000000000000000000000000000000b2000000090000018e1f01de8a000000000000000000000000000000b2000003e80000018e1f01de85";
 
 const FIRST_LINES: &str = "0 0 000000000000000000000000000000a1 1000 1709917200000 live
 0 1 000000000000000000000000000000a1 2000 1709924400000 live
@@ -67,33 +54,6 @@ mode = \"bus\"
 
 [riders]
 000000000000000000000000000000d4 = \"reduced\"
-";
-
-// Tables with one fault each.
-const CEILING_0: &str = "modes = ['subway']
-transfers = []
-classes = {full = {fare = 300, rides = 12, ceiling = 0}}
-";
-
-const OVERLAP: &str = "modes = ['subway']
-transfers = []
-classes = {full = {fare = 300, rides = 12}}
-default_class = 'full'
-validators = [{first = 1000, last = 1999, mode = 'subway'}, {first = 1999, last = 2999, mode = 'subway'}]
-";
-
-const NO_CLASS: &str = "modes = ['subway']
-transfers = []
-classes = {full = {fare = 300, rides = 12}}
-default_class = 'half'
-";
-
-const EST: &str = "modes = ['subway']
-transfers = []
-classes = {full = {fare = 300, rides = 12}}
-default_class = 'full'
-validators = []
-zone = 'EST'
 ";
 
 // What a source has under a name.
@@ -221,17 +181,6 @@ fn run_on<R: Threads + Wait + RandomSource + Sync>(
     run_over(rt, alloc, words, &NoDisk, shelf)
 }
 
-// Runs it where there are no files and standard input is empty, and counts what was loaded.
-fn run_bare<R: Threads + Wait + RandomSource + Sync>(
-    rt: &R,
-    alloc: Global,
-    words: &[&str],
-) -> Result<(Ran, usize), AllocError> {
-    let mut shelf = Shelf::new(alloc, &[], Content::Bytes(&[]));
-    let ran = run_on(rt, alloc, words, &mut shelf)?;
-    Ok((ran, shelf.given.len()))
-}
-
 // Runs it over a disk and a source.
 fn run_over<R: Threads + Wait + RandomSource + Sync, D: Disk + Sync, S: Source>(
     rt: &R,
@@ -251,173 +200,20 @@ fn run_over<R: Threads + Wait + RandomSource + Sync, D: Disk + Sync, S: Source>(
     Ok(Ran { status, out, err })
 }
 
+/// A file for which there is no memory is no file that cannot be read.
 #[test]
-fn lists_uploads_of_every_kind(rt: HostRuntime) -> Result<(), Fail> {
-    let alloc = rt.alloc();
-    let none = "taps 0 live 0 stale 0 unknown 0\n";
-    let two = "taps 2 live 2 stale 0 unknown 0\n";
-    let again = "0 2 000000000000000000000000000000a1 1000 1709917200000 stale\n";
-    let three = "taps 3 live 2 stale 1 unknown 0\n";
-    let rows = [
-        (["", ""], ["", "", none], 0u8),
-        (["5441503100000000", ""], ["", "", none], 0),
-        (["54415031000100", ""], ["", "0 refused 0 L1\n", none], 1),
-        (["5441503300000000", ""], ["", "0 refused 0 L2\n", none], 1),
-        (["5441503100020001", ""], ["", "0 refused 0 L3\n", none], 1),
-        (["5441503110010000", ""], ["", "0 refused 0 L4\n", none], 1),
-        ([FIRST, ""], [FIRST_LINES, "", two], 0),
-        ([FIRST, CUT], [FIRST_LINES, "0 refused 64 L5\n", two], 1),
-        ([FIRST, LATE], [FIRST_LINES, "0 refused 64 L6\n", two], 1),
-        ([FIRST, SHARED], [FIRST_LINES, again, three], 0),
-    ];
-    for (digits, lines, status) in rows {
-        let digits = format!(in alloc; "{}{}", digits[0], digits[1])?;
-        let bytes = hex::decode(alloc, digits.as_str())?;
-        let mut shelf = Shelf::new(alloc, &[], Content::Bytes(&bytes));
-        let ran = run_on(&rt, alloc, &[], &mut shelf)?;
-        let text = format!(in alloc; "{}{}{}", lines[0], lines[1], lines[2])?;
-        expect(&rt, &ran, text.as_str(), "", status, digits.as_str());
-        assert_eq!(rt; shelf.given.len(), 1, "of {digits}");
-    }
-    Ok(())
-}
-
-// Runs the program on a shelf of a table and three files.
-fn run_on_files<'a, R: Threads + Wait + RandomSource + Sync>(
-    rt: &R,
-    alloc: Global,
-    table: &'a [u8],
-    first: &'a [u8],
-    other: &'a [u8],
-    cut: &'a [u8],
-) -> Result<Ran, AllocError> {
+fn says_that_a_file_wants_memory(rt: HostRuntime) -> Result<(), Fail> {
     let files = [
-        ("t", Content::Bytes(table)),
-        ("a", Content::Bytes(first)),
-        ("b", Content::Bytes(other)),
-        ("c", Content::Bytes(cut)),
-    ];
-    let mut shelf = Shelf::new(alloc, files.as_slice(), Content::Fault(LoadFault::Unread));
-    run_on(
-        rt,
-        alloc,
-        &["--table", "t", "b", "c", "--list", "a", "a"],
-        &mut shelf,
-    )
-}
-
-#[test]
-fn lists_files_in_their_order_by_the_table(rt: HostRuntime) -> Result<(), Fail> {
-    let alloc = rt.alloc();
-    let first = hex::decode(alloc, FIRST)?;
-    let other = hex::decode(alloc, OTHER)?;
-    let cut = hex::decode(alloc, CUT)?;
-    let ran = run_on_files(&rt, alloc, SAMPLE.as_bytes(), &first, &other, &cut)?;
-    let text = "0 0 000000000000000000000000000000b2 9 1709917200010 unknown
-0 1 000000000000000000000000000000b2 1000 1709917200005 live
-1 refused 0 L5
-2 0 000000000000000000000000000000a1 1000 1709917200000 live
-2 1 000000000000000000000000000000a1 2000 1709924400000 live
-3 0 000000000000000000000000000000a1 1000 1709917200000 stale
-3 1 000000000000000000000000000000a1 2000 1709924400000 stale
-taps 6 live 3 stale 2 unknown 1
-";
-    expect(&rt, &ran, text, "", 1, "files");
-    Ok(())
-}
-
-#[test]
-fn says_why_it_gives_up(rt: HostRuntime) -> Result<(), Fail> {
-    let alloc = rt.alloc();
-    let files = [
-        ("text", Content::Bytes(b"modes = [".as_slice())),
-        ("missing", Content::Bytes(b"".as_slice())),
-        ("kind", Content::Bytes(b"modes = 1".as_slice())),
-        ("range", Content::Bytes(CEILING_0.as_bytes())),
-        (
-            "mode",
-            Content::Bytes(b"modes = ['subway']\ntransfers = [['subway', 'tram']]".as_slice()),
-        ),
-        ("overlap", Content::Bytes(OVERLAP.as_bytes())),
-        ("rider", Content::Bytes(NO_CLASS.as_bytes())),
-        ("zone", Content::Bytes(EST.as_bytes())),
-        ("long", Content::Fault(LoadFault::TooLong)),
-        ("large", Content::Fault(LoadFault::NoMemory)),
         ("empty", Content::Bytes(b"".as_slice())),
+        ("large", Content::Fault(LoadFault::NoMemory)),
     ];
-    let rows = [
-        (["x.tap", "", ""], "fault: cannot read x.tap\n"),
-        (["empty", "long", "x.tap"], "fault: long is too long\n"),
-        (["empty", "large", "x.tap"], "fault: out of memory\n"),
-        (
-            ["--table", "t.toml", "x.tap"],
-            "fault: cannot read t.toml\n",
-        ),
-        (["--table", "long", "x.tap"], "fault: long is too long\n"),
-        (["--table", "text", "x.tap"], "fault: table F1\n"),
-        (["--table", "missing", "x.tap"], "fault: table F2 Modes\n"),
-        (["--table", "kind", "x.tap"], "fault: table F3 Modes\n"),
-        (["--table", "range", "x.tap"], "fault: table F4 Ceiling\n"),
-        (["--table", "mode", "x.tap"], "fault: table F5\n"),
-        (["--table", "overlap", "x.tap"], "fault: table F6\n"),
-        (["--table", "rider", "x.tap"], "fault: table F7\n"),
-        (["--table", "zone", "x.tap"], "fault: table F9\n"),
-        (["--", "-", ""], "fault: cannot read -\n"),
-    ];
-    for (words, line) in rows {
-        let mut shelf = Shelf::new(alloc, files.as_slice(), Content::Fault(LoadFault::Unread));
-        let ran = run_on(&rt, alloc, given_of(&words), &mut shelf)?;
-        expect(&rt, &ran, "", line, 1, line);
-    }
-    let mut shelf = Shelf::new(alloc, &[], Content::Fault(LoadFault::TooLong));
-    let ran = run_on(&rt, alloc, &[], &mut shelf)?;
-    let line = "fault: standard input is too long\n";
-    expect(&rt, &ran, "", line, 1, line);
-    Ok(())
-}
-
-// The words without the empty ones at the end.
-fn given_of<'a>(words: &'a [&'a str; 3]) -> &'a [&'a str] {
-    if words[1].is_empty() {
-        &words[..1]
-    } else if words[2].is_empty() {
-        &words[..2]
-    } else {
-        &words[..]
-    }
-}
-
-#[test]
-fn answers_the_command_line(rt: HostRuntime) -> Result<(), Fail> {
-    let alloc = rt.alloc();
-    let rows = [
-        (["--help", "x.tap"], 0u8),
-        (["x.tap", "-h"], 0),
-        (["--no", "x.tap"], 2),
-        (["--version", "x.tap"], 2),
-        (["x.tap", "--table"], 2),
-        (["--table", "--list"], 2),
-        (["--list=yes", "x.tap"], 2),
-        (["--list", "--list"], 2),
-    ];
-    for (words, status) in rows {
-        let (ran, loads) = run_bare(&rt, alloc, words.as_slice())?;
-        assert_eq!(rt;
-            (ran.status, ran.out.is_empty(), ran.err.is_empty(), loads),
-            (status, status == 2, status == 0, 0),
-            "{words:?}"
-        );
-    }
-    let (ran, _) = run_bare(&rt, alloc, &["--help"])?;
-    let help = std::str::from_utf8(&ran.out).unwrap_or("");
-    for part in [
-        "Usage: omny_cli [OPTIONS] [FILE]...",
-        "--table <F>",
-        "--list",
-        "Exit status:",
-    ] {
-        assert!(rt; help.contains(part), "{part}");
-    }
+    let mut shelf = Shelf::new(
+        rt.alloc(),
+        files.as_slice(),
+        Content::Fault(LoadFault::Unread),
+    );
+    let ran = run_on(&rt, rt.alloc(), &["empty", "large", "x.tap"], &mut shelf)?;
+    expect(&rt, &ran, "", "fault: out of memory\n", 1, "large");
     Ok(())
 }
 

@@ -1,6 +1,6 @@
 //! The system's files: no contract says what a file holds.
 
-use super::{FIRST, FIRST_LINES, OTHER, expect, run_over};
+use super::{expect, run_over};
 use crate::ahead::{Disk, Early, read_early, take_next};
 use crate::host::Host;
 use crate::load::{LoadFault, Source};
@@ -172,56 +172,5 @@ fn takes_the_next_file_by_its_name(rt: HostRuntime) -> Result<(), Fail> {
     let taken = take_next(&mut early, "a").and_then(|loaded| loaded.err());
     assert_eq!(rt; taken, Some(LoadFault::Unread));
     assert_eq!(rt; early.len(), 1);
-    Ok(())
-}
-
-#[test]
-fn lists_files_as_ever_for_any_number_of_workers(rt: HostRuntime) -> Result<(), Fail> {
-    let alloc = rt.alloc();
-    let [a, b] = ["listed_a.tap", "listed_b.tap"];
-    fs::write(&rt, a, hex::decode(alloc, FIRST)?.as_slice())?;
-    fs::write(&rt, b, hex::decode(alloc, OTHER)?.as_slice())?;
-    let text = format!(in alloc;
-        "{FIRST_LINES}\
-1 0 000000000000000000000000000000b2 9 1709917200010 live
-1 1 000000000000000000000000000000b2 1000 1709917200005 stale
-2 0 000000000000000000000000000000a1 1000 1709917200000 stale
-2 1 000000000000000000000000000000a1 2000 1709924400000 stale
-taps 6 live 3 stale 3 unknown 0
-"
-    )?;
-    for workers in ["1", "2", "3", "16"] {
-        let words = ["--workers", workers, a, b, a];
-        let ran = run_over(&rt, alloc, words.as_slice(), &rt, &mut Host::new(&rt))?;
-        expect(&rt, &ran, text.as_str(), "", 0, workers);
-    }
-    fs::remove_file(&rt, a)?;
-    fs::remove_file(&rt, b)?;
-    Ok(())
-}
-
-// The first file that cannot be read is named, where a later one cannot be read either.
-#[test]
-fn names_the_first_file_that_cannot_be_read(rt: HostRuntime) -> Result<(), Fail> {
-    let alloc = rt.alloc();
-    let [file, folder] = ["named.tap", "named_folder"];
-    fs::write(&rt, file, "")?;
-    fs::create_dir(&rt, folder)?;
-    let rows = [
-        ([file, "none.tap", file, folder], "none.tap"),
-        ([file, file, folder, "none.tap"], folder),
-        (["none.tap", file, file, "no.tap"], "none.tap"),
-    ];
-    for workers in ["1", "2", "3", "16"] {
-        for (files, named) in rows {
-            let [first, second, third, last] = files;
-            let words = ["--workers", workers, first, second, third, last];
-            let ran = run_over(&rt, alloc, words.as_slice(), &rt, &mut Host::new(&rt))?;
-            let line = format!(in alloc; "fault: cannot read {named}\n")?;
-            expect(&rt, &ran, "", line.as_str(), 1, workers);
-        }
-    }
-    fs::remove_file(&rt, file)?;
-    fs::remove_dir(&rt, folder)?;
     Ok(())
 }
