@@ -17,8 +17,9 @@ use Rattle.fare_service.specs.declared.faults.GatherFault.TheVariants.{NoMemory,
 use Rattle.fare_service.specs.Closing.{AreClosed, AreUnseen, IsClosedBy, IsUnseen, IsHistoryOf, IsClosedWork, IsWhole, IsFirst, IsFirstMissing, IsFirstUnseen}
 use Rattle.fare_service.specs.Faults.{uploads_held}
 use Rattle.fare_service.specs.Holdings.{Holding}
-use Rattle.fare_service.specs.Joining.{AreSigns, IsJoinedOf}
+use Rattle.fare_service.specs.Joining.{AreSigns, IsJoinedOf, IsSign}
 use Rattle.fare_service.specs.Shares.{books_of, marks_at}
+use Rattle.fare_service.proofs.RunVisits.{AllZip-length}
 use Rattle.fare_service.proofs.Signing.{all_signed, signs_visits}
 
 -- the first of some elements was taken out
@@ -33,6 +34,7 @@ unseen_history opened shard book u = record {
   history = ap (λ b. b.entries) u.none;
   signed = All-nil (λ v. v.worker < 0);
   order = λ w share at. absurd (cc);
+  seen = All-nil (λ share. length (marks_at shard share.passes) ≤ 0);
   shared = u.shared;
   at = u.at;
   table = ap (λ b. b.table) u.none;
@@ -70,11 +72,13 @@ history_of drawing opened shares drawer passes shard book all c =
     let M : List Mark → Type 0 = AreSigns (length shares) (length shares) s.signs in
     let signs = subst M marks s.of_marks in
     let O : List Opened → Type 0 = λ os. slice_get os shard ≡ Some c.pass.book in
+    let number : length s.signs ≡ length (marks_at shard passes) = AllZip-length (IsSign (length shares) (length shares)) s.signs (marks_at shard passes) s.of_marks in
     record {
       visits = s.signs;
       history = ap (λ b. b.entries) c.all.book ∙ ap joined (sym (signs_visits (length shares) (length shares) s.signs c.pass.marks signs));
       signed = all_signed (length shares) (length shares) c.pass.book.first s.signs c.pass.marks signs c.all.made;
       order = s.own;
+      seen = All-weaker (λ share. length (marks_at shard share.passes) ≤ length (marks_at shard passes)) (λ share. length (marks_at shard share.passes) ≤ length s.signs) (λ t h. omega (arith, h, number)) shares (all.longest shard);
       shared = c.pass.book;
       at = subst O all.of_books (book_here shard passes c.pass c.at);
       table = ap (λ b. b.table) c.all.book;

@@ -234,25 +234,17 @@ has_outcome hall is shares all closed work ends are number workers sums_are tota
     by_told works upload end (inl (none, there)) = get_replicate (length hall.uploads) upload end there ∙ sym (not_drawn (all_works works) upload none)
     by_told works upload end (inr (some, e)) = e
 
-get_within : (ends : List UploadEnd) (upload : ℕ) (end : UploadEnd) → slice_get ends upload ≡ Some end → upload < length ends
-get_within [] upload end at = absurd (cc)
-get_within (e ∷ ends) zero end at = omega arith
-get_within (e ∷ ends) (suc upload) end at = omega (arith, get_within ends upload end at)
-
 pub told_undrawn : (hall : Hall) (shares : List Holding) → All (IsShareOf hall) shares → (closed : List Book) → IsClosedWork hall.books shares closed
     → (ends : List UploadEnd) → ends ≡ told_all (replicate (length hall.uploads) Undrawn) shares → length ends ≡ length hall.uploads
-    → (upload : ℕ) → slice_get ends upload ≡ Some Undrawn → All (λ share. share.drawer.seen < length hall.uploads) shares
+    → (upload : ℕ) → slice_get ends upload ≡ Some Undrawn → All (λ share. share.drawer.seen ≤ upload) shares
 told_undrawn hall shares all closed work ends are number upload at =
     let k = keepings hall shares all in
     let D : List ℕ → Type 0 = NoneTwice in
     let once = subst D (drawn_all hall shares k.0 k.1) work.once in
     by_told k.0 k.1 (ends_told hall shares k.0 k.1 once ends are upload Undrawn at)
   where
-    by_told : (works : List (List Worked)) → Kept hall shares works → Told (replicate (length hall.uploads) Undrawn) (all_works works) upload Undrawn → All (λ share. share.drawer.seen < length hall.uploads) shares
-    by_told works kept (inl (none, there)) =
-        let within : upload < length hall.uploads = omega (arith, number, get_within ends upload Undrawn at) in
-        All-weaker (λ s. s.drawer.seen ≤ upload) (λ s. s.drawer.seen < length hall.uploads) (λ s h. omega (arith, h, within)) shares
-        (work.undrawn upload (ap (times upload) (drawn_all hall shares works kept) ∙ none))
+    by_told : (works : List (List Worked)) → Kept hall shares works → Told (replicate (length hall.uploads) Undrawn) (all_works works) upload Undrawn → All (λ share. share.drawer.seen ≤ upload) shares
+    by_told works kept (inl (none, there)) = work.undrawn upload (ap (times upload) (drawn_all hall shares works kept) ∙ none)
     by_told works kept (inr (some, e)) = absurd (drawn_ended hall (all_works works) upload (each_work hall works (all_each hall shares works kept)) some (sym e))
 
 -- what always holds of an outcome holds

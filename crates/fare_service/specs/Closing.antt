@@ -48,11 +48,13 @@ NoneMissing shards NoMemory = ⊥
 NoneMissing shards (Drawn held drawn) = ⊥
 
 -- The history of a book is its visits. Each was made by one share, and those that a share made are exactly its visits to the shard, in its order.
+-- No share has seen a visit more.
 pub record IsHistoryOf (opened : List Opened) (shares : List Holding) (shard : ℕ) (book : Book) : Type 0 where
   pub visits : List Signed
   pub history : book.entries ≡ joined (map (λ v. v.entries) visits)
   pub signed : All (λ v. v.worker < length shares) visits
   pub order : (worker : ℕ) (share : Holding) → slice_get shares worker ≡ Some share → by_worker worker visits ≡ own_at shard share.passes
+  pub seen : All (λ share. length (marks_at shard share.passes) ≤ length visits) shares
   pub shared : Opened
   pub at : slice_get opened shard ≡ Some shared
   pub table : book.table ≡ shared.table

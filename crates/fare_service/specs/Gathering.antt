@@ -1,5 +1,5 @@
 -- The headline: what the books of an outcome are, by what its shares did.
-use Rattle.std.specs.Prelude.{◌≡◌, ℕ, ◌<◌, ◌==◌, if◌then◌else◌, List, [], ◌∷◌, length, map, filter, All, slice_get, Some}
+use Rattle.std.specs.Prelude.{◌≡◌, ℕ, ◌<◌, ◌≤◌, ◌==◌, if◌then◌else◌, List, [], ◌∷◌, length, map, filter, All, slice_get, Some}
 use Rattle.std.specs.List.{flat_map, AllZip}
 use Rattle.fare_table.specs.Fares.{Fares}
 use Rattle.shard_book.specs.declared.entry.Entry.{Entry}
@@ -65,7 +65,7 @@ HasOutcome hall shares outcome = (works : List (List Worked)) × AllZip (Keeps h
 abbrev pub HasRun : Hall → ℕ → Gathered → Type 0
 HasRun hall workers outcome = (works : List (List Worked)) × (length works ≡ workers) × IsGathered hall works outcome
 
--- an upload that nobody drew: then no share found all uploads drawn
-abbrev pub ToldUndrawn : Hall → List Holding → Gathered → Type 0
-ToldUndrawn hall shares outcome =
-    (upload : ℕ) → slice_get outcome.ends upload ≡ Some Undrawn → All (λ share. share.drawer.seen < length hall.uploads) shares
+-- an upload that nobody drew: no share has seen it drawn. Uploads are drawn in their order, so these are the last ones
+abbrev pub ToldUndrawn : List Holding → Gathered → Type 0
+ToldUndrawn shares outcome =
+    (upload : ℕ) → slice_get outcome.ends upload ≡ Some Undrawn → All (λ share. share.drawer.seen ≤ upload) shares

@@ -227,7 +227,7 @@ impl<'a> Service<'a> {
     pub fn gather(self, alloc: Global, shares: Vec<Share>) -> Result<Outcome, GatherFault>
         requires { All (IsShareOf self) shares.items }
         ensures outcome { IfOk result (HasOutcome self.entry shares.items) }
-        ensures undrawn { IfOk result (ToldUndrawn self.entry shares.items) }
+        ensures undrawn { IfOk result (ToldUndrawn shares.items) }
         ensures places { IfOk result (StandOnce self.entry) }
         ensures totals { IfOk result AddUp }
         ensures limits { IfOk result AllKeepLimits }

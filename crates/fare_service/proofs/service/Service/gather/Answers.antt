@@ -87,8 +87,7 @@ returns-clause-undrawn c =
     let told : c.in_ok-ends.ends.items ≡ told_all (replicate (length hall.uploads) Undrawn) c.args.shares.items =
     c.in_ok-ends.ensures.ends ∙ ap (told_all (replicate (length c.self.inside.uploads.now) Undrawn)) c.as_slice.ensures.value
     ∙ ap (λ n. told_all (replicate n Undrawn) c.args.shares.items) (sym number) in
-    let U : Hall → Type 0 = λ h. (upload : ℕ) → slice_get c.in_ok-ends.ends.items upload ≡ Some Undrawn → All (λ share. share.drawer.seen < length h.uploads) c.args.shares.items in
-    subst U c.self.view_is (told_undrawn hall c.args.shares.items all c.close_with.new.closed.items c.in_ok-close_with.ensures.ok c.in_ok-ends.ends.items told (c.in_ok-ends.ensures.number ∙ sym number))
+    told_undrawn hall c.args.shares.items all c.close_with.new.closed.items c.in_ok-close_with.ensures.ok c.in_ok-ends.ends.items told (c.in_ok-ends.ensures.number ∙ sym number)
 
 pub returns-clause-places : goal.returns-clause-places
 returns-clause-places c =
