@@ -1,6 +1,6 @@
 //! Guesses of which range has a number.
 
-ghost use Rattle.std.specs.Prelude.{◌≤◌};
+ghost use Rattle.std.specs.Prelude.{◌+◌, ◌*◌, ◌≤◌, IfOk, length, vec_len};
 
 use crate::fault::NoMemory;
 use crate::validators::Span;
@@ -26,8 +26,10 @@ pub struct Guesses {
 }
 
 impl Guesses {
-    /// Guesses for the ranges.
-    pub fn new(alloc: Global, ranges: &[(u32, Span)]) -> Result<Guesses, NoMemory> {
+    /// Guesses for the ranges. Their memory grows with the ranges, whatever numbers these have.
+    pub fn new(alloc: Global, ranges: &[(u32, Span)]) -> Result<Guesses, NoMemory>
+        ensures few { IfOk result (λ g. vec_len g.places ≤ 4 * length ranges.now + 2) }
+    {
         let lowest = end_of(ranges.first());
         let highest = end_of(ranges.last());
         let width_bits = width_bits(highest.saturating_sub(lowest), ranges.len());
@@ -75,10 +77,13 @@ fn places_of(
     width_bits: u32,
 ) -> Result<Vec<u32>, NoMemory>
     requires { width_bits ≤ 32 }
+    ensures few { IfOk result (λ places. vec_len places ≤ 4 * length ranges.now + 2) }
 {
+    // proof: the steps are so wide that none lies beyond this one
+    let highest_step = ranges.len().saturating_mul(STEPS_FOR_EACH as usize);
     let mut places = Vec::new(alloc);
     for (place, (_first, span)) in ranges.iter().enumerate() {
-        let step = step_of(span.last.saturating_sub(lowest), width_bits);
+        let step = step_of(span.last.saturating_sub(lowest), width_bits).min(highest_step);
         places.resize(step + 1, place.min(0xffff_ffff) as u32)?;
     }
     places.push(ranges.len().min(0xffff_ffff) as u32)?;

@@ -1,6 +1,6 @@
 //! Marks by which most tokens are told from some named ones.
 
-ghost use Rattle.std.specs.Prelude.{◌≡◌, ◌<◌, true, All, IfOk};
+ghost use Rattle.std.specs.Prelude.{◌≡◌, ◌<◌, ◌≤◌, ◌*◌, true, All, IfOk, length};
 ghost use Rattle.std.specs.Map.{keys_of};
 ghost use Rattle.fare_table.specs.Marks.{is_marked};
 
@@ -35,7 +35,8 @@ impl Model for Marks {
 impl Marks {
     /// The marks of a map's tokens. `NoMemory` is answered where a growth is refused.
     pub fn new(alloc: Global, terms: &BTreeMap<Token, Terms>) -> Result<Marks, NoMemory>
-        ensures { IfOk result (λ marks. All (λ token. is_marked marks token ≡ true) (keys_of terms.now.entries)) }
+        ensures marked { IfOk result (λ marks. All (λ token. is_marked marks token ≡ true) (keys_of terms.now.entries)) }
+        ensures few { IfOk result (λ marks. length marks ≤ 16 * length terms.now.entries) }
     {
         let mut marks = vec![in alloc; false; marks_for(terms.len())?]?;
         for token in terms.keys() {
@@ -55,7 +56,8 @@ impl Marks {
 
 // How many marks so many tokens have. A number too high to be told is also more than memory holds.
 fn marks_for(tokens: usize) -> Result<usize, NoMemory>
-    ensures { IfOk result (λ marks. 0 < tokens → 0 < marks) }
+    ensures some { IfOk result (λ marks. 0 < tokens → 0 < marks) }
+    ensures few { IfOk result (λ marks. marks ≤ 16 * tokens) }
 {
     if tokens == 0 {
         return Ok(0);

@@ -31,10 +31,14 @@ loop-token-preserved c =
           (All-weaker Old New (λ token was. marked-more marks slot token.now inside was) c.loop-token.yielded c.loop-token.invariant.marked)
           (marked-new marks slot c.in-Some.token.now (c.slot-slot.ensures.slot ∙ ap (slot_among c.in-Some.token.now) long) inside);
       some = λ any. let some = c.loop-token.invariant.some any in omega (arith, some, length-set marks slot true);
+      few = let few = c.loop-token.invariant.few in omega (arith, few, length-set marks slot true);
     }
 
-pub returns : goal.returns
-returns c =
+pub returns-clause-few : goal.returns-clause-few
+returns-clause-few c = c.loop-token.invariant.few
+
+pub returns-clause-marked : goal.returns-clause-marked
+returns-clause-marked c =
     let P : Token → Type 0 = λ token. is_marked c.loop-token.marks.items token ≡ true in
     let whole = iter_end (deref {X = Token}) _ c.loop-token.yielded _ _ _ _ (c.into_iter-token-iterator.ensures.into_iter_gives ∙ c.keys-token-items.ensures.rest)
     c.loop-token.yielded_by c.in-None.is c.next.ensures.steps in
