@@ -9,6 +9,7 @@ mod layout;
 mod service;
 mod table;
 mod text;
+mod toml;
 
 use std::io::Write;
 use std::process::ExitCode;

@@ -19,6 +19,8 @@ mod service;
 mod table;
 #[path = "../peer/text.rs"]
 mod text;
+#[path = "../peer/toml.rs"]
+mod toml;
 
 mod cases;
 
