@@ -12,7 +12,7 @@ CREATE TABLE line (
   token        text        NOT NULL CHECK (length(token) = 32),
   line         bigint      NOT NULL CHECK (line >= 1),
   moment       timestamptz NOT NULL,
-  day          date,
+  day          date        GENERATED ALWAYS AS ((moment AT TIME ZONE :'zone')::date) STORED,
   validator    bigint      NOT NULL CHECK (validator BETWEEN 0 AND 4294967295),
   mode         text        CHECK ((mode IS NULL) = (answer = 'unknown')),
   answer       text        NOT NULL
@@ -26,8 +26,7 @@ CREATE TABLE line (
   points_at    timestamptz CHECK ((points_at IS NOT NULL) = (reason IN ('transfer', 'stale')))
 );
 \copy line (token, line, moment, validator, mode, answer, cents, window_start, window_end, ride, reason, points_at) FROM pstdin WITH (FORMAT csv, HEADER match)
-UPDATE line SET day = (moment AT TIME ZONE :'zone')::date;
-ALTER TABLE line ALTER day SET NOT NULL, ADD PRIMARY KEY (token, line);
+ALTER TABLE line ADD PRIMARY KEY (token, line);
 \ir views.sql
 COMMIT;
 ANALYZE line;
