@@ -1,5 +1,5 @@
 -- The key `transfers`: the pairs of modes between which a ride includes a transfer.
-use Rattle.std.specs.Prelude.{ℕ, ◌≡◌, ◌<◌, ◌==◌, ◌&&◌, ◌++◌, ◌∷◌, [], Bool, List, Option, None, Ok, codes, if◌then◌else◌, option_map, slice_index}
+use Rattle.std.specs.Prelude.{ℕ, ◌≡◌, Contains, ◌<◌, ◌==◌, ◌&&◌, ◌++◌, ◌∷◌, [], Bool, List, Option, None, Ok, codes, if◌then◌else◌, option_map, slice_index}
 use Rattle.std.specs.Int.{bit_at}
 use Rattle.std.specs.List.{list_any}
 use Rattle.std.specs.Option.{option_and_then}
@@ -57,3 +57,17 @@ transfers_of modes tree = do
   items ← array_at (codes "transfers") the_key.Transfers tree
   pairs ← pairs_from [] items
   transfers_from modes [] pairs
+
+-- the pairs of names that the text lists, in its order
+abbrev pub named_pairs : Members → Outcome (List (List ℕ × List ℕ))
+named_pairs tree = do
+  items ← array_at (codes "transfers") the_key.Transfers tree
+  pairs_from [] items
+
+-- the text lists a pair of which the one name is that of the mode at the one place, and the other that of the mode at the other
+pub record ListsPair (modes : List (List ℕ)) (tree : Members) (from to : ℕ) : Type 0 where
+  pub pairs : List (List ℕ × List ℕ)
+  pub listed : named_pairs tree ≡ Ok pairs
+  pub pair : List ℕ × List ℕ
+  pub is_one : Contains pairs pair
+  pub places : places_of modes pair ≡ Ok (from, to)

@@ -1,6 +1,9 @@
 //! Laws of fare tables. Each function's contract is the law; it has nothing to do.
-ghost use Rattle.std.specs.Prelude.{◌≡◌, ℕ, ◌<◌};
+ghost use Rattle.std.specs.Prelude.{◌≡◌, ◌↔◌, ℕ, ◌<◌, true, Ok};
+ghost use Rattle.toml.specs.Data.{Members};
 ghost use Rattle.fare_table.specs.Fares.{Fares};
+ghost use Rattle.fare_table.specs.Rules.{Rules, rules_of};
+ghost use Rattle.fare_table.specs.Transfers.{has_pair, ListsPair};
 ghost use Rattle.fare_table.specs.Until.{IsLimit, until};
 
 /// A window that starts before 2100-01-01T00:00Z ends after it starts.
@@ -14,4 +17,11 @@ pub fn windows_end_later()
 pub fn windows_have_one_limit()
     ensures { (fares : Fares) (start limit : ℕ) → IsLimit fares.zone start limit
         → limit ≡ until fares start }
+{}
+
+/// A table permits a transfer from one mode to another exactly where its text lists the pair of
+/// their names.
+pub fn permitted_pairs_are_listed()
+    ensures { (tree : Members) (rules : Rules) (from to : ℕ) → rules_of tree ≡ Ok rules
+        → (has_pair rules.transfers from to ≡ true) ↔ ListsPair rules.modes tree from to }
 {}
