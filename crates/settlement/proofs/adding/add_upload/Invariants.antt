@@ -1,0 +1,13 @@
+use Rattle.std.proofs.Common.{◌≡◌, List, ◌++◌, length, map, flat_map, Ok}
+use Rattle.tap_views.specs.Layout.{Tap}
+use Rattle.tap_views.specs.Files.{IsReading}
+use Rattle.tap_parts.specs.Parts.{AreAdded}
+use Rattle.settlement.proofs.adding.add_upload.Given as goal
+
+abbrev pub invariant-loop-item : goal.invariant-loop-item
+invariant-loop-item l = record {
+  may : (goal.iterator-loop-item).can_next l.item-iterator;
+  ends : (goal.iterator-loop-item).is_finite l.item-iterator;
+  reading : IsReading l.upload (l.yielded ++ l.item-iterator);
+  made : (done : List (List Tap)) × (l.yielded ≡ map Ok done) × AreAdded (flat_map (λ b. b) done) l.fn.parts l.parts × (l.taps ≡ length (flat_map (λ b. b) done));
+}

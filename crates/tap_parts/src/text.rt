@@ -1,0 +1,21 @@
+//! A part's file.
+
+ghost use Rattle.std.specs.Prelude.{IfOk};
+ghost use Rattle.tap_parts.specs.Parts.{IsFileOf};
+
+use std::alloc::Global;
+use tap_views::{EncodeFault, TapFields, encode};
+
+/// The taps as a file of `TAP1` batches, as few as may be, from which these taps are read again and no fault.
+pub fn text_of(alloc: Global, taps: &[TapFields]) -> Result<Vec<u8>, EncodeFault>
+    ensures { IfOk result (λ text. IsFileOf text.items taps.now) }
+{
+    let mut text = Vec::new(alloc);
+    let mut left = taps;
+    while !left.is_empty() {
+        let (batch, more) = left.split_at(left.len().min(4_096));
+        text.extend_from_slice(&encode(alloc, batch)?)?;
+        left = more;
+    }
+    Ok(text)
+}
