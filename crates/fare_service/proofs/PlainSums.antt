@@ -22,8 +22,9 @@ use Rattle.shard_book.specs.Token.{bytes_of, token_cmp, token_eq}
 use Rattle.fare_service.specs.Halls.{Hall}
 use Rattle.fare_service.specs.Outcomes.{Gathered}
 use Rattle.fare_service.specs.Plain.{HasOneCut, IsWholeGathering, IsReportOver}
-use Rattle.fare_service.specs.Printed.{report_of}
+use Rattle.fare_service.specs.Printed.{report_of, report_with}
 use Rattle.fare_service.specs.Text.{report}
+use Rattle.fare_service.specs.declared.upload_end.UploadEnd.{UploadEnd}
 use Rattle.fare_service.proofs.PlainEnds.{plain_ends}
 use Rattle.fare_service.proofs.PlainLists.{flat_alone, mapped_at, same_elements, filter-filter}
 use Rattle.fare_service.proofs.PlainUploads.{AllNamed, same_own}
@@ -142,13 +143,19 @@ module _ (hall : Hall) (outcome : Gathered) (history : List Entry) (some : 0 < l
           let of_other = subst N (b.of_shards ∙ sym w.gathered.shards) (subst S b.its_shard (here other book is).each) in
           same ∙ own_elsewhere token other (length outcome.books) book.entries of_other (λ e. apart (sym e))
 
+  -- with any ends of uploads, the sums of the report are those of the plain history
+  pub same_sums_with : RisingNumbers → RisingTokens → (ends : List UploadEnd)
+      → report_with ends outcome ≡ report ends (sums history) (sums_by_validator history) (sums_by_token history)
+  same_sums_with numbers names ends =
+      let entries = all_entries outcome.books in
+      let totals : sums entries ≡ sums history = same_sums entries history (same_entries entries history own_all) in
+      λ i. report ends (totals i) (same_by_validator numbers names entries history own_all i) (same_by_token numbers names entries history own_all i)
+
   -- the report is that over the plain history
   pub same_report : RisingNumbers → RisingTokens → IsReportOver hall.uploads history (report_of outcome)
   same_report numbers names =
-      let entries = all_entries outcome.books in
-      let totals : sums entries ≡ sums history = same_sums entries history (same_entries entries history own_all) in
       record {
         ends = outcome.ends;
         of_uploads = plain_ends hall w.works outcome some w.gathered w.whole;
-        shown = λ i. report outcome.ends (totals i) (same_by_validator numbers names entries history own_all i) (same_by_token numbers names entries history own_all i);
+        shown = same_sums_with numbers names outcome.ends;
       }

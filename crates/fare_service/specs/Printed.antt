@@ -10,13 +10,18 @@ use Rattle.shard_book.specs.Sums.{sums}
 use Rattle.shard_book.specs.Token.{bytes_of}
 use Rattle.fare_service.specs.declared.print_fault.PrintFault.{PrintFault}
 use Rattle.fare_service.specs.declared.print_fault.PrintFault.TheVariants.{Write, NoMemory}
+use Rattle.fare_service.specs.declared.upload_end.UploadEnd.{UploadEnd}
 use Rattle.fare_service.specs.Outcomes.{Gathered}
 use Rattle.fare_service.specs.StatementText.{IsStatementText}
 use Rattle.fare_service.specs.Text.{report}
 
+-- the report of an outcome with these ends of uploads: the ends, and the sums of all entries of its books
+abbrev pub report_with : List UploadEnd → Gathered → List ℕ
+report_with ends o = report ends (sums (all_entries o.books)) (sums_by_validator (all_entries o.books)) (sums_by_token (all_entries o.books))
+
 -- the report of an outcome: the end of each upload, and the sums of all entries of its books
 abbrev pub report_of : Gathered → List ℕ
-report_of o = report o.ends (sums (all_entries o.books)) (sums_by_validator (all_entries o.books)) (sums_by_token (all_entries o.books))
+report_of o = report_with o.ends o
 
 -- the text of a token's statement, which the book of its shard gives
 pub record IsStatementOf (o : Gathered) (token : Token) (text : List ℕ) : Type 0 where

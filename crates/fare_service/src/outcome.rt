@@ -62,6 +62,13 @@ impl Outcome {
         self.ends[upload as usize]
     }
 
+    /// How each upload ended, in their order.
+    pub fn ends(&self) -> &[UploadEnd]
+        ensures { result.now ≡ self.now.ends }
+    {
+        self.ends.as_slice()
+    }
+
     /// How many shares were gathered.
     pub fn workers(&self) -> u64
         ensures { result ≡ length self.now.workers }

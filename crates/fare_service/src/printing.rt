@@ -4,7 +4,7 @@ ghost use Rattle.std.specs.Prelude.{◌≡◌, ℕ, ◌≤◌, List, ◌++◌, O
 ghost use Rattle.std.specs.Io.KnownBytes.{Appends};
 ghost use Rattle.std.specs.List.{flat_map};
 ghost use Rattle.fare_service.specs.Text.{token_line};
-ghost use Rattle.fare_service.specs.Printed.{report_of, IsStatementOf, KeepsUnlessWrite};
+ghost use Rattle.fare_service.specs.Printed.{report_of, report_with, IsStatementOf, KeepsUnlessWrite};
 ghost use Rattle.fare_service.specs.declared.print_fault.PrintFault.TheVariants.{Write as ForWrite};
 
 use crate::outcome::Outcome;
@@ -12,6 +12,7 @@ use crate::print_fault::PrintFault;
 use crate::report::report_front;
 use crate::statement::statement_text;
 use crate::token_lines::write_lines;
+use crate::upload_end::UploadEnd;
 use fare_table::NoMemory;
 use shard_book::{Token, TokenSums, sums_by_validator};
 use std::alloc::Global;
@@ -35,25 +36,20 @@ pub(crate) fn write_out<W: Write>(text: &[u8], out: &mut W) -> Result<(), PrintF
 }
 
 impl Outcome {
-    /// The text of the report up to the lines of the tokens, with room for one of these at least, and the sums of the tokens.
+    /// The text of the report with these ends of uploads, up to the lines of the tokens, with room for one of these at least, and the sums of the tokens.
     fn begun<R: Threads + Sync>(
         &self,
         rt: &R,
         alloc: Global,
+        ends: &[UploadEnd],
     ) -> Result<(Vec<u8>, TokenSums), NoMemory>
-        ensures text { IfOk result (λ begun. begun.0.items ++ flat_map token_line begun.1 ≡ report_of self.now) }
+        ensures text { IfOk result (λ begun. begun.0.items ++ flat_map token_line begun.1 ≡ report_with ends.now self.now) }
         ensures room { IfOk result (λ begun. 384 ≤ vec_capacity begun.0) }
     {
         let totals = self.totals();
         let validators = sums_by_validator(rt, alloc, self.books.as_slice())?;
         let tokens = TokenSums::of(alloc, self.books.as_slice())?;
-        let mut text = report_front(
-            alloc,
-            self.ends.as_slice(),
-            &totals,
-            validators.as_slice(),
-            &tokens,
-        )?;
+        let mut text = report_front(alloc, ends, &totals, validators.as_slice(), &tokens)?;
         text.reserve(PIECE)?;
         Ok((text, tokens))
     }
@@ -81,7 +77,22 @@ impl Outcome {
         ensures ok { OnOk result (Appends (W.contents out.old) (W.contents out.new) (report_of self.now)) }
         ensures fault { IfErr result (λ fault. KeepsUnlessWrite fault (out.new ≡ out.old)) }
     {
-        let Ok((mut text, tokens)) = self.begun(rt, alloc) else {
+        self.write_report_with(rt, alloc, self.ends.as_slice(), out)
+    }
+
+    /// Writes the report as `write_report` does, with these ends of uploads in place of the outcome's own: of the uploads that were
+    /// given, where others were made of them and posted.
+    pub fn write_report_with<R: Threads + Sync, W: Write>(
+        &self,
+        rt: &R,
+        alloc: Global,
+        ends: &[UploadEnd],
+        out: &mut W,
+    ) -> Result<(), PrintFault>
+        ensures ok { OnOk result (Appends (W.contents out.old) (W.contents out.new) (report_with ends.now self.now)) }
+        ensures fault { IfErr result (λ fault. KeepsUnlessWrite fault (out.new ≡ out.old)) }
+    {
+        let Ok((mut text, tokens)) = self.begun(rt, alloc, ends) else {
             return Err(PrintFault::NoMemory);
         };
         write_lines(&mut text, &tokens, out)?;
