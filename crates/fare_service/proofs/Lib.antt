@@ -3,7 +3,6 @@ pub mod BatchLemmas
 pub mod CloseLemmas
 pub mod GatherLemmas
 pub mod JoinLemmas
-pub mod MomentLemmas
 pub mod OrderLemmas
 pub mod Parts
 pub mod PlaceLemmas
@@ -14,7 +13,6 @@ pub mod RunLemmas
 pub mod RunVisits
 pub mod ShareLemmas
 pub mod Signing
-pub mod StatementLines
 pub mod TapCounts
 pub mod UploadLemmas
 pub mod VisitLemmas

@@ -22,7 +22,7 @@ use Rattle.fare_service.specs.Halls.{Hall}
 use Rattle.fare_service.specs.Outcomes.{Gathered}
 use Rattle.fare_service.specs.Plain.{AreTapsOf, AreTapsOfEach, HasOneCut, IsNamed, IsPlain, IsWholeGathering, IsStatementOver, plain}
 use Rattle.fare_service.specs.Printed.{IsStatementOf}
-use Rattle.fare_service.specs.StatementText.{IsStatementText}
+use Rattle.fare_texts.specs.StatementText.{IsStatementText}
 use Rattle.fare_service.proofs.PlainBooks.{Stands, own_plain}
 use Rattle.fare_service.proofs.PlainReplies.{plain_legal}
 use Rattle.fare_service.proofs.PlainRuns.{AllZip-append}

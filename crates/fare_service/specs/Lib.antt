@@ -7,13 +7,11 @@ pub mod Halls
 pub mod Holdings
 pub mod Joining
 pub mod Limits
-pub mod Moments
 pub mod Outcomes
 pub mod Placing
 pub mod Printed
 pub mod Refusals
 pub mod Runs
 pub mod Shares
-pub mod StatementText
 pub mod Text
 pub mod Plain

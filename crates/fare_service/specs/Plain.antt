@@ -24,7 +24,7 @@ use Rattle.fare_service.specs.Gathering.{IsGathered}
 use Rattle.fare_service.specs.Halls.{Hall}
 use Rattle.fare_service.specs.Outcomes.{Gathered}
 use Rattle.fare_service.specs.Shares.{Worked, IsFaultOf}
-use Rattle.fare_service.specs.StatementText.{IsStatementText}
+use Rattle.fare_texts.specs.StatementText.{IsStatementText}
 use Rattle.fare_service.specs.Text.{report}
 use Rattle.fare_service.specs.declared.upload_end.UploadEnd.TheVariants.{Posted, Refused, Cut, Undrawn}
 use Rattle.fare_service.specs.declared.upload_end.UploadEnd.{UploadEnd}

@@ -12,7 +12,7 @@ use Rattle.fare_service.specs.declared.print_fault.PrintFault.{PrintFault}
 use Rattle.fare_service.specs.declared.print_fault.PrintFault.TheVariants.{Write, NoMemory}
 use Rattle.fare_service.specs.declared.upload_end.UploadEnd.{UploadEnd}
 use Rattle.fare_service.specs.Outcomes.{Gathered}
-use Rattle.fare_service.specs.StatementText.{IsStatementText}
+use Rattle.fare_texts.specs.StatementText.{IsStatementText}
 use Rattle.fare_service.specs.Text.{report}
 
 -- the report of an outcome with these ends of uploads: the ends, and the sums of all entries of its books

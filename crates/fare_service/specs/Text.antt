@@ -9,6 +9,7 @@ use Rattle.tap_views.specs.declared.fault.LayoutFault.TheVariants.{Short, Magic,
 use Rattle.shard_book.specs.Token.{bytes_of}
 use Rattle.shard_book.specs.Sums.{Sums}
 use Rattle.shard_book.specs.declared.token.Token.{Token}
+use Rattle.fare_texts.specs.Counts.{counts, totals_line}
 use Rattle.fare_service.specs.declared.upload_end.UploadEnd.{UploadEnd}
 use Rattle.fare_service.specs.declared.upload_end.UploadEnd.TheVariants.{Posted, Refused, Cut, Undrawn}
 
@@ -29,22 +30,6 @@ end_text (Refused taps offset fault) =
 end_text (Cut taps) = codes "cut " ++ decimal taps
 end_text Undrawn = codes "undrawn"
 
--- the counts of live taps, as `taps 2 paid 1 transfers 1 capped 0`
-unfoldable pub live_counts : Sums → List ℕ
-live_counts t =
-    codes "taps " ++ (decimal t.taps ++ (codes " paid " ++ (decimal t.paid
-    ++ (codes " transfers " ++ (decimal t.transfers ++ (codes " capped " ++ decimal t.capped))))))
-
--- the other counts and the cents, as ` stale 0 unknown 0 cents 300`, with the end of the line
-unfoldable pub other_counts : Sums → List ℕ
-other_counts t =
-    codes " stale " ++ (decimal t.stale ++ (codes " unknown " ++ (decimal t.unknown
-    ++ (codes " cents " ++ (decimal t.cents ++ codes "\n")))))
-
--- the counts that end a line, as `taps 2 paid 1 transfers 1 capped 0 stale 0 unknown 0 cents 300`
-abbrev pub counts : Sums → List ℕ
-counts t = live_counts t ++ other_counts t
-
 -- `uploads 2`, the head of the uploads
 unfoldable pub uploads_head : ℕ → List ℕ
 uploads_head count = codes "uploads " ++ (decimal count ++ codes "\n")
@@ -58,10 +43,6 @@ upload_line upload end =
 abbrev pub upload_lines : ℕ → List UploadEnd → List ℕ
 upload_lines upload [] = []
 upload_lines upload (end ∷ ends) = upload_line upload end ++ upload_lines (upload + 1) ends
-
--- `totals taps 6 paid 3 ..`
-abbrev pub totals_line : Sums → List ℕ
-totals_line totals = codes "totals " ++ counts totals
 
 -- `validators 3`, the head of the validators
 unfoldable pub validators_head : ℕ → List ℕ

@@ -10,10 +10,10 @@ ghost use Rattle.fare_service.specs.declared.print_fault.PrintFault.TheVariants.
 use crate::outcome::Outcome;
 use crate::print_fault::PrintFault;
 use crate::report::report_front;
-use crate::statement::statement_text;
 use crate::token_lines::write_lines;
 use crate::upload_end::UploadEnd;
 use fare_table::NoMemory;
+use fare_texts::statement_text;
 use shard_book::{Token, TokenSums, sums_by_validator};
 use std::alloc::Global;
 use std::io::Write;

@@ -5,9 +5,11 @@ ghost use Rattle.std.specs.Fmt.{decimal};
 ghost use Rattle.shard_book.specs.Shown.{validator_sum};
 ghost use Rattle.shard_book.specs.Sums.{sums_of};
 ghost use Rattle.std.specs.List.{flat_map};
-ghost use Rattle.fare_service.specs.Text.{report, uploads_part, validators_part, uploads_head, upload_line, upload_lines, totals_line, counts, live_counts, other_counts, validators_head, validator_line, tokens_head, token_line};
+ghost use Rattle.fare_texts.specs.Counts.{counts, totals_line};
+ghost use Rattle.fare_service.specs.Text.{report, uploads_part, validators_part, uploads_head, upload_line, upload_lines, validators_head, validator_line, tokens_head, token_line};
 
 use crate::upload_end::UploadEnd;
+use fare_texts::{write_counts, write_totals};
 use shard_book::{TokenSums, Totals, ValidatorSum};
 use std::alloc::{AllocError, Global};
 
@@ -60,48 +62,6 @@ fn write_upload(text: &mut String, upload: usize, end: &UploadEnd) -> Result<(),
     ensures { OnOk result (string_bytes text.new ≡ string_bytes text.old ++ upload_line upload end.now) }
 {
     writeln!(text, "upload {upload} {end}")
-}
-
-/// The totals over all books, or those of a statement.
-#[tactic(auto, using(crate::proofs::Parts::in_parts))]
-pub(crate) fn write_totals(text: &mut String, totals: &Totals) -> Result<(), AllocError>
-    ensures { OnOk result (string_bytes text.new ≡ string_bytes text.old ++ totals_line (sums_of totals.now)) }
-{
-    text.push_str("totals ")?;
-    write_counts(text, totals)
-}
-
-/// The counts that end a line.
-#[tactic(auto, using(crate::proofs::Parts::in_parts))]
-fn write_counts(text: &mut String, totals: &Totals) -> Result<(), AllocError>
-    ensures { OnOk result (string_bytes text.new ≡ string_bytes text.old ++ counts (sums_of totals.now)) }
-{
-    write_live_counts(text, totals)?;
-    write_other_counts(text, totals)
-}
-
-#[tactic(auto, unfolding(crate::specs::Text::live_counts))]
-fn write_live_counts(text: &mut String, totals: &Totals) -> Result<(), AllocError>
-    ensures { OnOk result (string_bytes text.new ≡ string_bytes text.old ++ live_counts (sums_of totals.now)) }
-{
-    let taps = totals.taps;
-    let paid = totals.paid;
-    let transfers = totals.transfers;
-    let capped = totals.capped;
-    write!(
-        text,
-        "taps {taps} paid {paid} transfers {transfers} capped {capped}"
-    )
-}
-
-#[tactic(auto, unfolding(crate::specs::Text::other_counts))]
-fn write_other_counts(text: &mut String, totals: &Totals) -> Result<(), AllocError>
-    ensures { OnOk result (string_bytes text.new ≡ string_bytes text.old ++ other_counts (sums_of totals.now)) }
-{
-    let stale = totals.stale;
-    let unknown = totals.unknown;
-    let cents = totals.cents;
-    writeln!(text, " stale {stale} unknown {unknown} cents {cents}")
 }
 
 /// The sums of each validator.

@@ -7,7 +7,8 @@ ghost use Rattle.hex.specs.Hex.{encode_lower};
 ghost use Rattle.shard_book.specs.Shown.{token_sum};
 ghost use Rattle.shard_book.specs.Sums.{sums_of};
 ghost use Rattle.shard_book.specs.Token.{bytes_of};
-ghost use Rattle.fare_service.specs.Text.{token_line, live_counts, other_counts};
+ghost use Rattle.fare_texts.specs.Counts.{live_counts, other_counts};
+ghost use Rattle.fare_service.specs.Text.{token_line};
 ghost use Rattle.fare_service.specs.declared.print_fault.PrintFault.TheVariants.{Write as ForWrite};
 
 use crate::line::Line;
@@ -79,7 +80,7 @@ fn make_line(line: &mut Line, sum: &TokenSum)
 }
 
 #[inline(always)]
-#[tactic(auto, unfolding(crate::specs::Text::other_counts))]
+#[tactic(auto, unfolding(fare_texts::specs::Counts::other_counts))]
 fn put_other_counts(line: &mut Line, totals: &Totals)
     requires { line.old ≡ [] }
     ensures put { line.new ≡ other_counts (sums_of totals.now) }

@@ -2,7 +2,8 @@ use Rattle.std.proofs.Common.{ℕ, ◌++◌, length, map, ap, ◌∙◌, string_
 use Rattle.std.specs.List.{flat_map}
 use Rattle.shard_book.specs.Shown.{validator_sum}
 use Rattle.shard_book.specs.Sums.{sums_of}
-use Rattle.fare_service.specs.Text.{uploads_part, totals_line, validators_part, tokens_head, token_line}
+use Rattle.fare_service.specs.Text.{uploads_part, validators_part, tokens_head, token_line}
+use Rattle.fare_texts.specs.Counts.{totals_line}
 use Rattle.fare_service.proofs.Parts.{before_lines}
 use Rattle.fare_service.proofs.report.report_front.Goals as goal
 

@@ -1,6 +1,6 @@
 use Rattle.std.proofs.Common.{codes}
 use Rattle.std.specs.Fmt.{decimal}
-use Rattle.fare_service.specs.Text.{live_counts}
+use Rattle.fare_texts.specs.Counts.{live_counts}
 use Rattle.fare_service.proofs.Parts.{four_counts}
 use Rattle.fare_service.proofs.token_lines.put_live_counts.Goals as goal
 

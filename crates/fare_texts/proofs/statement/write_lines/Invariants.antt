@@ -1,6 +1,6 @@
 use Rattle.std.proofs.Common.{◌≡◌, ◌++◌, List, ℕ, string_bytes, take}
-use Rattle.fare_service.specs.StatementText.{AreEntryLines}
-use Rattle.fare_service.proofs.statement.write_lines.Given as goal
+use Rattle.fare_texts.specs.StatementText.{AreEntryLines}
+use Rattle.fare_texts.proofs.statement.write_lines.Given as goal
 
 abbrev pub invariant-loop-place : goal.invariant-loop-place
 invariant-loop-place l =

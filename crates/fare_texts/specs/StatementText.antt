@@ -11,8 +11,8 @@ use Rattle.shard_book.specs.Sums.{sums_of}
 use Rattle.shard_book.specs.declared.token.Token.{Token}
 use Rattle.shard_book.specs.declared.entry.Entry.{Entry}
 use Rattle.shard_book.specs.declared.statement.Statement.{Statement}
-use Rattle.fare_service.specs.Moments.{IsMomentText}
-use Rattle.fare_service.specs.Text.{totals_line}
+use Rattle.fare_texts.specs.Moments.{IsMomentText}
+use Rattle.fare_texts.specs.Counts.{totals_line}
 
 abbrev pub answer_text : Answer → List ℕ
 answer_text Paid = codes "paid"

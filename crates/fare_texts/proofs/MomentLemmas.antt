@@ -9,7 +9,7 @@ use Rattle.jiff_core.specs.Time.{time_nanos}
 use Rattle.jiff.proofs.Family.{time_nanos_bound, civil_nanos-parts}
 use Rattle.jiff.proofs.SpanFacts.{signed_arith}
 use Rattle.jiff_fmt.specs.Text.{date_text, pad2, time_text, fraction, places}
-use Rattle.fare_service.specs.Moments.{clock_text, pad3, IsCivilText}
+use Rattle.fare_texts.specs.Moments.{clock_text, pad3, IsCivilText}
 
 -- the day and the time of day
 pub shown_at : (moment : ℕ) (dt : DateTime) → civil_nanos dt ≡ pos moment *ℤ pos 1_000_000

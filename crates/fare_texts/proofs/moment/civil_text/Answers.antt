@@ -3,8 +3,8 @@ use Rattle.std.proofs.lemmas.Int.{ints}
 use Rattle.jiff.proofs.SpanFacts.{signed_arith}
 use Rattle.jiff_core.specs.DateTime.{civil_nanos}
 use Rattle.jiff_fmt.specs.Text.{datetime_text, zulu_text}
-use Rattle.fare_service.proofs.MomentLemmas.{civil_shown}
-use Rattle.fare_service.proofs.moment.civil_text.Goals as goal
+use Rattle.fare_texts.proofs.MomentLemmas.{civil_shown}
+use Rattle.fare_texts.proofs.moment.civil_text.Goals as goal
 
 pub returns : goal.returns
 returns c =

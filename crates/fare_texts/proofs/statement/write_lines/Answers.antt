@@ -1,7 +1,7 @@
 use Rattle.std.proofs.Common.{◌++◌, string_bytes}
-use Rattle.fare_service.proofs.Parts.{in_parts}
-use Rattle.fare_service.proofs.StatementLines.{next_line}
-use Rattle.fare_service.proofs.statement.write_lines.Goals as goal
+use Rattle.fare_texts.proofs.Parts.{in_parts}
+use Rattle.fare_texts.proofs.StatementLines.{next_line}
+use Rattle.fare_texts.proofs.statement.write_lines.Goals as goal
 
 pub loop-place-preserved : goal.loop-place-preserved
 loop-place-preserved c =

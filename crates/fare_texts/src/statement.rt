@@ -1,19 +1,20 @@
 //! The text of a statement: a function for each line and for the list of lines.
 
 ghost use Rattle.std.specs.Prelude.{◌≡◌, ◌++◌, IfOk, OnOk, ◌<◌, length, List, ℕ, slice_get, Some, string_bytes};
-ghost use Rattle.fare_service.specs.Moments.{IsMomentText};
-ghost use Rattle.fare_service.specs.StatementText.{IsStatementText, IsWindowLine, IsLineOf, IsEntryLine, AreEntryLines, statement_head, entry_rest, window_rest, answer_text, mode_text};
+ghost use Rattle.fare_texts.specs.Moments.{IsMomentText};
+ghost use Rattle.fare_texts.specs.StatementText.{IsStatementText, IsWindowLine, IsLineOf, IsEntryLine, AreEntryLines, statement_head, entry_rest, window_rest};
 
+use crate::counts::write_totals;
+use crate::digits::Digits;
 use crate::moment::write_moment;
-use crate::report::write_totals;
-use crate::shown::Digits;
-use account_rule::{Answer, WindowView};
+use crate::names::{answer_name, mode_name};
+use account_rule::WindowView;
 use fare_table::FareTable;
 use shard_book::{Entry, Lines, Statement, Token};
 use std::alloc::{AllocError, Global};
 
 /// The text of the statement, whole.
-pub(crate) fn statement_text(
+pub fn statement_text(
     alloc: Global,
     table: &FareTable,
     statement: &Statement,
@@ -62,28 +63,6 @@ fn write_entry_rest(text: &mut String, table: &FareTable, entry: &Entry) -> Resu
     let answer = answer_name(entry.answer);
     let cents = entry.cents;
     writeln!(text, " {mode} {validator} {answer} {cents}")
-}
-
-/// The name of the validator's mode, or `-` where the table does not know the validator.
-fn mode_name(table: &FareTable, validator: u32) -> &str
-    ensures { result.now ≡ mode_text table.now validator }
-{
-    match table.mode_of(validator) {
-        Some(mode) => table.mode_name(mode),
-        None => "-",
-    }
-}
-
-fn answer_name(answer: Answer) -> &'static str
-    ensures { result.now ≡ answer_text answer }
-{
-    match answer {
-        Answer::Paid => "paid",
-        Answer::Transfer => "transfer",
-        Answer::Capped => "capped",
-        Answer::Stale => "stale",
-        Answer::Unknown => "unknown",
-    }
 }
 
 fn write_window(text: &mut String, window: Option<WindowView>) -> Result<(), AllocError>

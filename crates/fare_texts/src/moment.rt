@@ -1,7 +1,7 @@
 //! The text of a moment in UTC.
 
 ghost use Rattle.std.specs.Prelude.{◌≡◌, ◌<◌, ◌++◌, OnOk, List, ℕ, string_bytes};
-ghost use Rattle.fare_service.specs.Moments.{IsCivilText, IsMomentText};
+ghost use Rattle.fare_texts.specs.Moments.{IsCivilText, IsMomentText};
 
 use arrayvec::ArrayString;
 use jiff::Timestamp;
@@ -12,7 +12,7 @@ use std::alloc::AllocError;
 const CALENDAR_END: u64 = 253_402_207_200_000;
 
 /// Appends the moment, in milliseconds since 1970-01-01T00:00Z, as `2024-03-08T17:00:00.000Z`.
-pub(crate) fn write_moment(text: &mut String, moment: u64) -> Result<(), AllocError>
+pub fn write_moment(text: &mut String, moment: u64) -> Result<(), AllocError>
     ensures { OnOk result ((written : List ℕ) × IsMomentText moment written × (string_bytes text.new ≡ string_bytes text.old ++ written)) }
 {
     if moment < CALENDAR_END {

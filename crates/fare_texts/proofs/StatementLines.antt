@@ -6,8 +6,8 @@ use Rattle.std.proofs.lemmas.Option.{slice_get_within, get_or_from_slice_get}
 use Rattle.fare_table.specs.Fares.{Fares}
 use Rattle.account_rule.specs.declared.window.WindowView.{WindowView}
 use Rattle.shard_book.specs.declared.entry.Entry.{Entry}
-use Rattle.fare_service.specs.Moments.{IsMomentText}
-use Rattle.fare_service.specs.StatementText.{AreEntryLines, IsEntryLine, window_rest}
+use Rattle.fare_texts.specs.Moments.{IsMomentText}
+use Rattle.fare_texts.specs.StatementText.{AreEntryLines, IsEntryLine, window_rest}
 
 -- one entry more
 entries_more : (fares : Fares) (entries : List Entry) (entry : Entry) (text line : List ℕ)

@@ -1,7 +1,7 @@
 use Rattle.std.proofs.Common.{refl, ◌++◌, string_bytes}
-use Rattle.fare_service.specs.StatementText.{entry_rest}
-use Rattle.fare_service.proofs.Parts.{in_parts}
-use Rattle.fare_service.proofs.statement.write_entry.Goals as goal
+use Rattle.fare_texts.specs.StatementText.{entry_rest}
+use Rattle.fare_texts.proofs.Parts.{in_parts}
+use Rattle.fare_texts.proofs.statement.write_entry.Goals as goal
 
 pub returns : goal.returns
 returns c =

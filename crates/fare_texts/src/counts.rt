@@ -1,0 +1,50 @@
+//! The counts that end a line, and the line of totals.
+
+ghost use Rattle.std.specs.Prelude.{◌≡◌, ◌++◌, OnOk, string_bytes};
+ghost use Rattle.shard_book.specs.Sums.{sums_of};
+ghost use Rattle.fare_texts.specs.Counts.{counts, live_counts, other_counts, totals_line};
+
+use shard_book::Totals;
+use std::alloc::AllocError;
+
+/// The totals over all books, or those of a statement.
+#[tactic(auto, using(crate::proofs::Parts::in_parts))]
+pub fn write_totals(text: &mut String, totals: &Totals) -> Result<(), AllocError>
+    ensures { OnOk result (string_bytes text.new ≡ string_bytes text.old ++ totals_line (sums_of totals.now)) }
+{
+    text.push_str("totals ")?;
+    write_counts(text, totals)
+}
+
+/// The counts that end a line.
+#[tactic(auto, using(crate::proofs::Parts::in_parts))]
+pub fn write_counts(text: &mut String, totals: &Totals) -> Result<(), AllocError>
+    ensures { OnOk result (string_bytes text.new ≡ string_bytes text.old ++ counts (sums_of totals.now)) }
+{
+    write_live_counts(text, totals)?;
+    write_other_counts(text, totals)
+}
+
+#[tactic(auto, unfolding(crate::specs::Counts::live_counts))]
+fn write_live_counts(text: &mut String, totals: &Totals) -> Result<(), AllocError>
+    ensures { OnOk result (string_bytes text.new ≡ string_bytes text.old ++ live_counts (sums_of totals.now)) }
+{
+    let taps = totals.taps;
+    let paid = totals.paid;
+    let transfers = totals.transfers;
+    let capped = totals.capped;
+    write!(
+        text,
+        "taps {taps} paid {paid} transfers {transfers} capped {capped}"
+    )
+}
+
+#[tactic(auto, unfolding(crate::specs::Counts::other_counts))]
+fn write_other_counts(text: &mut String, totals: &Totals) -> Result<(), AllocError>
+    ensures { OnOk result (string_bytes text.new ≡ string_bytes text.old ++ other_counts (sums_of totals.now)) }
+{
+    let stale = totals.stale;
+    let unknown = totals.unknown;
+    let cents = totals.cents;
+    writeln!(text, " stale {stale} unknown {unknown} cents {cents}")
+}

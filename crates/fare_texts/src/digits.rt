@@ -1,0 +1,27 @@
+//! A token as it is shown.
+
+ghost use Rattle.std.specs.Prelude.{Some};
+
+use shard_book::Token;
+use std::fmt;
+
+/// A token as 32 hexadecimal digits.
+#[derive(Drop)]
+pub struct Digits(pub Token);
+
+impl fmt::Display for Digits {
+    ghost use Rattle.hex.specs.Hex.{encode_lower};
+    ghost use Rattle.shard_book.specs.Token.{bytes_of};
+
+    ghost output = { λ d. Some (encode_lower (bytes_of d.0)) };
+
+    fn fmt<W: fmt::Write>(&self, f: &mut fmt::Formatter<W>) -> fmt::Result {
+        let bytes = self.0.bytes();
+        let mut digits = [0u8; 32];
+        let _ = hex::encode_to_slice(&bytes[..], &mut digits);
+        match std::str::from_utf8(&digits) {
+            Ok(text) => f.write_str(text),
+            Err(_) => Err(fmt::Error),
+        }
+    }
+}

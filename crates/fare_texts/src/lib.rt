@@ -1,0 +1,14 @@
+//! The texts of moments, tokens, counts and statements, as bytes that definitions name.
+#![tactic(auto)]
+
+mod counts;
+mod digits;
+mod moment;
+mod names;
+mod statement;
+
+pub use counts::{write_counts, write_totals};
+pub use digits::Digits;
+pub use moment::write_moment;
+pub use names::{answer_name, mode_name};
+pub use statement::statement_text;

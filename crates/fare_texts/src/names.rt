@@ -1,0 +1,30 @@
+//! The words for modes and answers.
+
+ghost use Rattle.std.specs.Prelude.{◌≡◌, ◌<◌, length, Some, slice_get};
+ghost use Rattle.fare_texts.specs.StatementText.{answer_text, mode_text};
+
+use account_rule::Answer;
+use fare_table::FareTable;
+
+/// The name of the validator's mode, or `-` where the table does not know the validator.
+pub fn mode_name(table: &FareTable, validator: u32) -> &str
+    ensures { result.now ≡ mode_text table.now validator }
+{
+    match table.mode_of(validator) {
+        Some(mode) => table.mode_name(mode),
+        None => "-",
+    }
+}
+
+/// The word of an answer.
+pub fn answer_name(answer: Answer) -> &'static str
+    ensures { result.now ≡ answer_text answer }
+{
+    match answer {
+        Answer::Paid => "paid",
+        Answer::Transfer => "transfer",
+        Answer::Capped => "capped",
+        Answer::Stale => "stale",
+        Answer::Unknown => "unknown",
+    }
+}
