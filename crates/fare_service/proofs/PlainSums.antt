@@ -30,7 +30,7 @@ use Rattle.fare_service.proofs.PlainLists.{flat_alone, mapped_at, same_elements,
 use Rattle.fare_service.proofs.PlainUploads.{AllNamed, same_own}
 
 -- the same elements have the same sums
-same_sums : (xs ys : List Entry) → IsPermutation xs ys → sums xs ≡ sums ys
+pub same_sums : (xs ys : List Entry) → IsPermutation xs ys → sums xs ≡ sums ys
 unfolding sums_of_replies
 same_sums xs ys moved =
     let replies = IsPermutation-map reply_of xs ys moved in
@@ -56,7 +56,7 @@ token_itself : (token : Token) → token_eq token token ≡ true
 token_itself token = grind (arith, nat_tests)
 
 -- histories with the same entries of each token have the same entries
-same_entries : (xs ys : List Entry) → ((token : Token) → own token xs ≡ own token ys) → IsPermutation xs ys
+pub same_entries : (xs ys : List Entry) → ((token : Token) → own token xs ≡ own token ys) → IsPermutation xs ys
 unfolding own
 same_entries xs ys same = same_elements (λ (entry : Entry). entry.token) token_eq token_itself same_token xs ys same
 
@@ -73,14 +73,14 @@ abbrev pub RisingTokens : Type 0
 RisingTokens = (keys risen : List Token) → IsRising token_cmp keys risen ↔ (risen ≡ rising token_cmp keys)
 
 module _ (numbers : RisingNumbers) (names : RisingTokens) (xs ys : List Entry) (same : (token : Token) → own token xs ≡ own token ys) where
-  same_by_validator : sums_by_validator xs ≡ sums_by_validator ys
+  pub same_by_validator : sums_by_validator xs ≡ sums_by_validator ys
   unfolding sums_by_validator validators
   same_by_validator =
       let keys = same_rising nat_cmp numbers (map validator_of xs) (map validator_of ys) (IsPermutation-map validator_of xs ys (same_entries xs ys same)) in
       let each : (v : ℕ) → sums (at v xs) ≡ sums (at v ys) = λ v. same_sums (at v xs) (at v ys) (same_entries (at v xs) (at v ys) (same_at v xs ys same)) in
       ap (map (λ (v : ℕ). (v, sums (at v xs)))) keys ∙ (λ i. map (λ (v : ℕ). (v, each v i)) (rising nat_cmp (map validator_of ys)))
 
-  same_by_token : sums_by_token xs ≡ sums_by_token ys
+  pub same_by_token : sums_by_token xs ≡ sums_by_token ys
   unfolding sums_by_token tokens
   same_by_token =
       let keys = same_rising token_cmp names (map token_of xs) (map token_of ys) (IsPermutation-map token_of xs ys (same_entries xs ys same)) in

@@ -79,7 +79,7 @@ same_own hall outcome history some named cuts w token book at =
     ∙ ap (own token) (sym w.plain_is.entries)
 
 -- a statement is a function of the token's own entries
-statement_same : (fares : Fares) (xs ys : List Entry) (token : Token) (statement : Statement) → own token xs ≡ own token ys → IsStatement fares xs token statement → IsStatement fares ys token statement
+pub statement_same : (fares : Fares) (xs ys : List Entry) (token : Token) (statement : Statement) → own token xs ≡ own token ys → IsStatement fares xs token statement → IsStatement fares ys token statement
 unfolding taps_of
 statement_same fares xs ys token statement same is = record {
   token = is.token;

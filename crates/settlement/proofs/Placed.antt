@@ -29,43 +29,54 @@ abbrev pub Pairs : {X : Type 0} → (X → X → Type 0) → List X → Type 0
 Pairs R [] = Unit {0}
 Pairs R (x ∷ xs) = All (R x) xs × Pairs R xs
 
--- of one token, the second is no earlier
-abbrev pub Rises : TapFields → TapFields → Type 0
-Rises a b = a.token ≡ b.token → a.moment ≤ b.moment
+-- the second is not before the first
+abbrev pub NotLess : TapFields → TapFields → Type 0
+NotLess a b = is_lt (tap_cmp b a) ≡ false
 
-pairs_append : {X : Type 0} (R : X → X → Type 0) (xs ys : List X) → Pairs R xs → Pairs R ys → All (λ x. All (R x) ys) xs → Pairs R (xs ++ ys)
+-- of one token, the second is not before the first
+abbrev pub Rises : TapFields → TapFields → Type 0
+Rises a b = a.token ≡ b.token → NotLess a b
+
+pub pairs_append : {X : Type 0} (R : X → X → Type 0) (xs ys : List X) → Pairs R xs → Pairs R ys → All (λ x. All (R x) ys) xs → Pairs R (xs ++ ys)
 pairs_append R [] ys one other cross = other
 pairs_append R (x ∷ xs) ys one other cross =
     (All-append (R x) xs ys one.0 (All-head (λ z. All (R z) ys) x xs cross), pairs_append R xs ys one.1 other (All-tail (λ z. All (R z) ys) x xs cross))
 
-all_by : {X : Type 0} (P : X → Type 0) (xs : List X) → ((j : ℕ) (d : X) → j < length xs → P (get_or xs j d)) → All P xs
+pub all_by : {X : Type 0} (P : X → Type 0) (xs : List X) → ((j : ℕ) (d : X) → j < length xs → P (get_or xs j d)) → All P xs
 all_by P [] each = All-nil P
 all_by P (x ∷ xs) each = All-cons P x xs (each 0 x (omega arith)) (all_by P xs (λ j d h. each (suc j) d (omega (arith, h))))
 
-all_map : {X : Type 0} (P Q : X → Type 0) (xs : List X) → ((x : X) → P x → Q x) → All P xs → All Q xs
+pub all_map : {X : Type 0} (P Q : X → Type 0) (xs : List X) → ((x : X) → P x → Q x) → All P xs → All Q xs
 all_map P Q [] f all = All-nil Q
 all_map P Q (x ∷ xs) f all = All-cons Q x xs (f x (All-head P x xs all)) (all_map P Q xs f (All-tail P x xs all))
 
-not_before : (a b : TapFields) → is_lt (tap_cmp b a) ≡ false → Rises a b
-not_before a b not = λ same. by_order same (cases_lt b.moment a.moment)
+pub no_earlier : (a b : TapFields) → NotLess a b → a.token ≡ b.token → a.moment ≤ b.moment
+no_earlier a b not same = by_order (cases_lt b.moment a.moment)
   where
-    by_order : a.token ≡ b.token → (b.moment < a.moment) ⊎ (a.moment ≤ b.moment) → a.moment ≤ b.moment
-    by_order same (inr above) = above
-    by_order same (inl below) =
+    by_order : (b.moment < a.moment) ⊎ (a.moment ≤ b.moment) → a.moment ≤ b.moment
+    by_order (inr above) = above
+    by_order (inl below) =
         let validators = nat_cmp b.validator a.validator in
         let tokens : slice_cmp nat_cmp b.token a.token ≡ Equal = ap (slice_cmp nat_cmp b.token) same ∙ tied_itself nat_list_cmp_total b.token in
         let less : nat_cmp b.moment a.moment ≡ Less = ap (λ t. cond t Less (cond (b.moment == a.moment) Equal Greater)) (lt-ltb b.moment a.moment below) in
         let whole : tap_cmp b a ≡ Less = ap (λ r. ordering_then r (ordering_then (nat_cmp b.moment a.moment) validators)) tokens ∙ ap (λ r. ordering_then r validators) less in
         absurd (let t : true ≡ false = sym (ap is_lt whole) ∙ not in cc)
 
-sorted_pairs : (xs : List TapFields) → IsSorted tap_cmp xs → Pairs Rises xs
+pub sorted_pairs : (xs : List TapFields) → IsSorted tap_cmp xs → Pairs NotLess xs
 sorted_pairs [] up = tt
 sorted_pairs (x ∷ xs) up = (
-  all_by (Rises x) xs (λ j d h.
-      not_before x (get_or xs j d)
-      (sorted_far (λ a b. is_lt (tap_cmp a b)) (ranks_by tap_cmp_total (λ (t : TapFields). t)) (x ∷ xs) up 0 (suc j) d (omega arith) (omega (arith, h)))),
+  all_by (NotLess x) xs (λ j d h.
+      sorted_far (λ a b. is_lt (tap_cmp a b)) (ranks_by tap_cmp_total (λ (t : TapFields). t)) (x ∷ xs) up 0 (suc j) d (omega arith) (omega (arith, h))),
   sorted_pairs xs (tail tap_cmp tap_cmp_total tap_cmp_exact x xs up),
 )
+
+pub pairs_map : {X : Type 0} (R S : X → X → Type 0) (xs : List X) → ((x y : X) → R x y → S x y) → Pairs R xs → Pairs S xs
+pairs_map R S [] f pairs = tt
+pairs_map R S (x ∷ xs) f pairs = (all_map (R x) (S x) xs (f x) pairs.0, pairs_map R S xs f pairs.1)
+
+-- in order, and so in order within each token
+pub all_rising : (xs : List TapFields) → IsSorted tap_cmp xs → Pairs Rises xs
+all_rising xs up = pairs_map NotLess Rises xs (λ x y not same. not) (sorted_pairs xs up)
 
 -- the fields are of taps of this part
 abbrev pub IsIn : ℕ → ℕ → TapFields → Type 0
@@ -83,9 +94,9 @@ placed parts part all file taps cut of is =
     let Q : List TapFields → Type 0 = λ fs. All (IsIn parts part) fs × Pairs Rises fs in
     let passes = subst P (sym (part_fields part parts all)) (filter_passes p (map fields_of all)) in
     let moved = All-permutation (λ f. p f ≡ true) (map fields_of (of_part part parts all)) is.list is.canonical.moved passes in
-    subst Q same (all_map (λ f. p f ≡ true) (IsIn parts part) is.list (λ f e. eqb-true (part_of_token f.token parts) part e) moved, sorted_pairs is.list is.canonical.sorted)
+    subst Q same (all_map (λ f. p f ≡ true) (IsIn parts part) is.list (λ f e. eqb-true (part_of_token f.token parts) part e) moved, all_rising is.list is.canonical.sorted)
 
-file_at : (files : List (List ℕ)) (taps : List (List Tap)) (i : ℕ) (ts : List Tap) → All HasOneCut files → AreTapsOfEach files taps → slice_get taps i ≡ Some ts
+pub file_at : (files : List (List ℕ)) (taps : List (List Tap)) (i : ℕ) (ts : List Tap) → All HasOneCut files → AreTapsOfEach files taps → slice_get taps i ≡ Some ts
     → (file : List ℕ) × (slice_get files i ≡ Some file) × AreTapsOf file ts × HasOneCut file
 file_at [] [] i ts cuts each there = absurd (cc)
 file_at [] (t ∷ taps) i ts cuts each there = absurd each
@@ -95,11 +106,11 @@ file_at (f ∷ files) (t ∷ taps) zero ts cuts each there =
     (f, refl, subst (λ x. AreTapsOf f x) same each.0, All-head HasOneCut f files cuts)
 file_at (f ∷ files) (t ∷ taps) (suc i) ts cuts each there = file_at files taps i ts (All-tail HasOneCut f files cuts) each.1 there
 
-pub all_placed : (uploads : List (List ℕ)) (parts : ℕ) (ends : List UploadEnd) (files : List (List ℕ)) (taps : List (List Tap)) → All HasOneCut files → IsSettled uploads parts ends files → AreTapsOfEach files taps
-    → (i : ℕ) (ts : List Tap) → slice_get taps i ≡ Some ts → IsPlaced parts i ts
-all_placed uploads parts ends files taps cuts is each i ts there =
+pub all_placed : (uploads : List (List ℕ)) (ends : List UploadEnd) (files : List (List ℕ)) (taps : List (List Tap)) → All HasOneCut files → IsSettled uploads ends files → AreTapsOfEach files taps
+    → (i : ℕ) (ts : List Tap) → slice_get taps i ≡ Some ts → IsPlaced (length files) i ts
+all_placed uploads ends files taps cuts is each i ts there =
     let (file, at, of, cut) = file_at files taps i ts cuts each there in
-    placed parts i (joined is.taps) file ts cut of (is.each i file at)
+    placed (length files) i (joined is.taps) file ts cut of (is.each i file at)
 
 -- ---- no token has taps in two files
 in_its_part : (parts part : ℕ) (taps : List Tap) (tap : Tap) → All (IsIn parts part) (map fields_of taps) → Contains taps tap → part_of_token tap.token parts ≡ part
@@ -111,11 +122,11 @@ in_its_part parts part taps tap all there = All-contains (λ t. part_of_token t.
         All-cons (λ (x : Tap). part_of_token x.token parts ≡ part) t ts (All-head (IsIn parts part) (fields_of t) (map fields_of ts) every)
         (unmapped ts (All-tail (IsIn parts part) (fields_of t) (map fields_of ts) every))
 
-pub apart : (uploads : List (List ℕ)) (parts : ℕ) (ends : List UploadEnd) (files : List (List ℕ)) (taps : List (List Tap)) → All HasOneCut files → IsSettled uploads parts ends files → AreTapsOfEach files taps → AreApart taps
-apart uploads parts ends files taps cuts is each = λ first second ones others tap other at_first at_second has has_other same.
-    let one = (all_placed uploads parts ends files taps cuts is each first ones at_first).0 in
-    let two = (all_placed uploads parts ends files taps cuts is each second others at_second).0 in
-    sym (in_its_part parts first ones tap one has) ∙ ap (λ t. part_of_token t parts) same ∙ in_its_part parts second others other two has_other
+pub apart : (uploads : List (List ℕ)) (ends : List UploadEnd) (files : List (List ℕ)) (taps : List (List Tap)) → All HasOneCut files → IsSettled uploads ends files → AreTapsOfEach files taps → AreApart taps
+apart uploads ends files taps cuts is each = λ first second ones others tap other at_first at_second has has_other same.
+    let one = (all_placed uploads ends files taps cuts is each first ones at_first).0 in
+    let two = (all_placed uploads ends files taps cuts is each second others at_second).0 in
+    sym (in_its_part (length files) first ones tap one has) ∙ ap (λ t. part_of_token t (length files)) same ∙ in_its_part (length files) second others other two has_other
 
 -- ---- one file after the other
 later : (parts n : ℕ) (taps : List (List Tap)) → ((i : ℕ) (ts : List Tap) → slice_get taps i ≡ Some ts → IsPlaced parts (n + i) ts)

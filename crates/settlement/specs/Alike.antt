@@ -1,15 +1,14 @@
--- Uploads that tell the same taps.
-use Rattle.std.specs.Prelude.{ℕ, List, map}
-use Rattle.std.specs.List.{AllZip}
+-- Uploads that have the same taps.
+use Rattle.std.specs.Prelude.{◌≡◌, ◌++◌, ℕ, List, map}
 use Rattle.std.specs.List.Sorted.{IsPermutation}
 use Rattle.tap_views.specs.Encoding.{fields_of}
 use Rattle.tap_views.specs.Layout.{Tap}
-use Rattle.tap_views.specs.declared.encoder.TapFields.{TapFields}
-use Rattle.tap_parts.specs.Parts.{IsFileOf}
-use Rattle.fare_service.specs.Plain.{AreTapsOfEach}
+use Rattle.fare_service.specs.Plain.{AreTapsOfEach, ArePlainEnds}
+use Rattle.fare_service.specs.Text.{uploads_part}
+use Rattle.fare_service.specs.declared.upload_end.UploadEnd.{UploadEnd}
 use Rattle.settlement.specs.Settled.{joined}
 
--- the taps of the uploads, of each those before its first fault, are those of the others in some order
+-- the posted taps of the uploads are those of the others, in some order
 pub record HaveSameTaps (uploads others : List (List ℕ)) : Type 0 where
   pub taps : List (List Tap)
   pub other_taps : List (List Tap)
@@ -17,11 +16,12 @@ pub record HaveSameTaps (uploads others : List (List ℕ)) : Type 0 where
   pub of_others : AreTapsOfEach others other_taps
   pub moved : IsPermutation (map fields_of (joined taps)) (map fields_of (joined other_taps))
 
--- both files are read as the same taps, in the same order, with no fault
-pub record ReadAlike (file other : List ℕ) : Type 0 where
-  pub list : List TapFields
-  pub reads : IsFileOf file list
-  pub again : IsFileOf other list
-
-abbrev pub AllReadAlike : List (List ℕ) → List (List ℕ) → Type 0
-AllReadAlike files others = AllZip ReadAlike files others
+-- both texts are the same after the lines of their uploads
+pub record DifferInUploads (uploads others : List (List ℕ)) (text other : List ℕ) : Type 0 where
+  pub ends : List UploadEnd
+  pub other_ends : List UploadEnd
+  pub of_uploads : ArePlainEnds uploads ends
+  pub of_others : ArePlainEnds others other_ends
+  pub rest : List ℕ
+  pub text_is : text ≡ uploads_part ends ++ rest
+  pub other_is : other ≡ uploads_part other_ends ++ rest

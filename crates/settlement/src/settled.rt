@@ -1,57 +1,75 @@
 //! Uploads, settled.
 
-ghost use Rattle.std.specs.Prelude.{◌≤◌, length, IfOk, map};
-ghost use Rattle.settlement.specs.Settled.{AreAllAdded, ArePartFiles, IsSettled};
+ghost use Rattle.std.specs.Prelude.{◌≤◌, IfOk, map};
+ghost use Rattle.settlement.specs.Dealt.{ArePartFiles};
+ghost use Rattle.settlement.specs.Settled.{IsSettled};
 
-use crate::adding::add_upload;
+use crate::dealing::deal;
 use crate::file::file_of;
-use tap_parts::Parts;
 use fare_service::UploadEnd;
-use std::alloc::{AllocError, Global};
+use fare_table::NoMemory;
+use std::alloc::Global;
+use std::marker::Sync;
+use std::thread::Threads;
+use tap_parts::PartTaps;
+
+/// How many bytes of uploads go to one part: some 10,000 taps, so that the sort of a part stays in a
+/// processor's near cache.
+const BYTES_OF_PART: usize = 280_000;
+
+/// The most parts, since a service takes no more uploads.
+const MAX_PARTS: usize = 65_535;
 
 /// What uploads are settled as.
 #[derive(Drop)]
 pub struct Settled {
-    /// How each upload ends.
+    /// How each given upload ends.
     pub ends: Vec<UploadEnd>,
-    /// The upload of each part: the part's taps, in their one order.
+    /// The upload of each part: the part's taps, in canonical order.
     pub files: Vec<Vec<u8>>,
 }
 
-// Adds the taps of each upload.
-fn add_all(
-    alloc: Global,
-    parts: &mut Parts,
-    uploads: &[Vec<u8>],
-) -> Result<Vec<UploadEnd>, AllocError>
-    ensures { IfOk result (λ ends. AreAllAdded (map (λ upload. upload.items) uploads.now) parts.old parts.new ends.items) }
+/// How many parts there are to be.
+fn parts_for(uploads: &[Vec<u8>]) -> u32
+    ensures least { 1 ≤ result }
+    ensures most { result ≤ 65535 }
 {
-    let mut ends = Vec::new(alloc);
+    let mut bytes = 0usize;
     for upload in uploads {
-        ends.push(add_upload(parts, upload.as_slice())?)?;
+        bytes = bytes.saturating_add(upload.len());
     }
-    Ok(ends)
+    (bytes / BYTES_OF_PART).clamp(1, MAX_PARTS) as u32
 }
 
-// The file of each part.
-fn files_of(alloc: Global, parts: &Parts) -> Result<Vec<Vec<u8>>, AllocError>
-    ensures { IfOk result (λ files. ArePartFiles parts.now (map (λ file. file.items) files.items)) }
+/// The file of each part.
+fn files_of(alloc: Global, lists: &[PartTaps]) -> Result<Vec<Vec<u8>>, NoMemory>
+    ensures { IfOk result (λ files. ArePartFiles lists.now
+        (map (λ file. file.items) files.items)) }
 {
     let mut files = Vec::new(alloc);
-    for part in 0..parts.len() {
-        files.push(file_of(alloc, parts.part(part))?)?;
+    for list in lists {
+        files.push(file_of(alloc, list.as_slice())?)?;
     }
     Ok(files)
 }
 
-/// Settles uploads in so many parts, 1 to 65,536. It fails only where memory is refused.
-pub fn settle(alloc: Global, uploads: &[Vec<u8>], parts: u32) -> Result<Settled, AllocError>
-    requires least { 1 ≤ parts }
-    requires most { parts ≤ 65536 }
-    ensures { IfOk result (λ made. IsSettled (map (λ upload. upload.items) uploads.now) parts made.ends.items (map (λ file. file.items) made.files.items)) }
+/// Settles uploads by so many threads. It fails only where memory is refused. The bytes of the
+/// uploads are given back as soon as their taps are dealt to parts.
+pub fn settle<R: Threads + Sync>(
+    _rt: &R,
+    alloc: Global,
+    uploads: Vec<Vec<u8>>,
+    _threads: usize,
+) -> Result<Settled, NoMemory>
+    ensures { IfOk result (λ made. IsSettled (map (λ upload. upload.items) uploads.items)
+        made.ends.items (map (λ file. file.items) made.files.items)) }
 {
-    let mut lists = Parts::new(alloc, parts)?;
-    let ends = add_all(alloc, &mut lists, uploads)?;
-    let files = files_of(alloc, &lists)?;
-    Ok(Settled { ends, files })
+    let parts = parts_for(&uploads);
+    let dealt = deal(alloc, &uploads, parts)?;
+    drop(uploads);
+    let files = files_of(alloc, dealt.parts.lists())?;
+    Ok(Settled {
+        ends: dealt.ends,
+        files,
+    })
 }

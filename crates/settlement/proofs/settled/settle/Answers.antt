@@ -1,28 +1,35 @@
-use Rattle.std.proofs.Common.{◌≡◌, List, [], ◌++◌, length, get_or, map, sym, ap, ◌∙◌, subst, ◌<◌}
+use Rattle.std.proofs.Common.{◌≡◌, ℕ, List, [], Vec, Global, get_or, length, map, sym, ap, ◌∙◌, subst, arith, ◌<◌, ◌≤◌}
 use Rattle.tap_views.specs.Encoding.{fields_of}
 use Rattle.tap_views.specs.declared.encoder.TapFields.{TapFields}
 use Rattle.tap_parts.specs.Parts.{of_part}
+use Rattle.settlement.specs.Dealt.{AreDealt, ArePartFiles}
 use Rattle.settlement.specs.Settled.{IsPartFile, joined}
-use Rattle.settlement.proofs.Files.{there_below}
+use Rattle.settlement.proofs.Files.{there_below, zip_length, zip_there}
 use Rattle.settlement.proofs.settled.settle.Goals as goal
 
+abbrev bytes_in : Vec ℕ Global → List ℕ
+bytes_in file = file.items
+
 pub returns : goal.returns
-returns c =
-    let all = c.in_ok-ends.ensures in
+returns g c =
+    let made = c.in_ok-dealt.dealt in
+    let D : List (Vec ℕ Global) → Type 0 = λ us. AreDealt c.parts_for-parts.result (map bytes_in us) made.parts made.ends.items in
+    let dealt = subst D c.deref-2.ensures.value c.in_ok-dealt.ensures in
     let files = c.in_ok-files.ensures in
-    let made = c.in_ok-lists.ensures in
-    let number = files.number ∙ all.added.number ∙ made.number in
+    let P : List (List TapFields) → Type 0 = λ ls. ArePartFiles ls (map bytes_in c.in_ok-files.files.items) in
+    let zipped = subst P c.lists.ensures files in
+    let number = sym (zip_length IsPartFile _ _ zipped) ∙ dealt.number in
+    let least = c.parts_for-parts.ensures.least in
+    let most = c.parts_for-parts.ensures.most in
     record {
-      ended = all.ended;
-      taps = all.taps;
-      of_uploads = all.of_uploads;
-      number = number;
+      ended = dealt.ended;
+      taps = dealt.taps;
+      of_uploads = dealt.of_uploads;
+      some_part = omega (arith, number, least);
+      few_parts = omega (arith, number, most);
       each = λ part file there.
-          let within : part < c.args.parts = subst (λ n. part < n) number (there_below _ part file there) in
-          let filled : get_or c.add_all.new.parts part [] ≡ map fields_of (of_part part c.args.parts (joined all.taps)) =
-          all.added.each part (subst (λ n. part < n) (sym made.number) within)
-          ∙ ap (λ taps. taps ++ map fields_of (of_part part (length c.in_ok-lists.lists) (joined all.taps))) (made.empty part within)
-          ∙ ap (λ n. map fields_of (of_part part n (joined all.taps))) made.number in
+          let within : part < c.parts_for-parts.result = subst (λ n. part < n) number (there_below _ part file there) in
           let P : List TapFields → Type 0 = λ taps. IsPartFile taps file in
-          subst P filled (files.each part file there);
+          let N : ℕ → Type 0 = λ n. IsPartFile (map fields_of (of_part part n (joined dealt.taps))) file in
+          subst N (sym number) (subst P (dealt.each part within) (zip_there IsPartFile _ _ [] zipped part file there));
     }

@@ -2,7 +2,7 @@ use Rattle.std.proofs.Common.{◌≡◌, List, ◌++◌, length, map, flat_map, 
 use Rattle.tap_views.specs.Layout.{Tap}
 use Rattle.tap_views.specs.Files.{IsReading}
 use Rattle.tap_parts.specs.Parts.{AreAdded}
-use Rattle.settlement.proofs.adding.add_upload.Given as goal
+use Rattle.settlement.proofs.dealing.add_upload.Given as goal
 
 abbrev pub invariant-loop-item : goal.invariant-loop-item
 invariant-loop-item l = record {

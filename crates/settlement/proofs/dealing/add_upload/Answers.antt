@@ -7,7 +7,7 @@ use Rattle.tap_views.specs.Files.{Item, IsReading}
 use Rattle.fare_service.specs.declared.upload_end.UploadEnd.TheVariants.{Posted, Refused}
 use Rattle.fare_service.proofs.ReadingLemmas.{same_items, read_all, read_fault, read_batch, done_room}
 use Rattle.tap_parts.proofs.Adding.{none_added, batch_added}
-use Rattle.settlement.proofs.adding.add_upload.Goals as goal
+use Rattle.settlement.proofs.dealing.add_upload.Goals as goal
 
 count_more : (done : List (List Tap)) (batch : List Tap) (n m : ℕ) → n ≡ length (flat_map (λ b. b) done) → m ≡ length batch → n + m ≡ length (flat_map (λ b. b) (done ++ batch ∷ []))
 count_more done batch n m e h =

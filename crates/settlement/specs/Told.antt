@@ -1,0 +1,20 @@
+-- What a run over settled files tells.
+use Rattle.std.specs.Prelude.{◌≡◌, ◌↔◌, ℕ, List}
+use Rattle.fare_table.specs.Fares.{Fares}
+use Rattle.shard_book.specs.declared.entry.Entry.{Entry}
+use Rattle.shard_book.specs.declared.token.Token.{Token}
+use Rattle.fare_service.specs.Outcomes.{Gathered}
+use Rattle.fare_service.specs.Plain.{IsReportOver, IsStatementOver}
+use Rattle.fare_service.specs.Printed.{IsStatementOf, report_with}
+use Rattle.fare_service.specs.declared.upload_end.UploadEnd.{UploadEnd}
+use Rattle.settlement.specs.Settled.{IsSettledHistory}
+
+-- Of the settled history of the uploads, the outcome has the report, where it is printed with these
+-- ends, and the statement of each token.
+pub record TellsSettled (fares : Fares) (uploads : List (List ℕ)) (ends : List UploadEnd)
+    (outcome : Gathered) : Type 0 where
+  pub history : List Entry
+  pub settled : IsSettledHistory fares uploads history
+  pub reported : IsReportOver uploads history (report_with ends outcome)
+  pub statements : (token : Token) (text : List ℕ)
+      → IsStatementOf outcome token text ↔ IsStatementOver fares history token text
