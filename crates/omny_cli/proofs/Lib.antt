@@ -3,4 +3,5 @@ pub mod Defaults
 pub mod Going
 pub mod LastMoments
 pub mod Loads
+pub mod Settled
 pub mod Sizes

@@ -1,5 +1,5 @@
 -- The fault lines, without their line feeds, and their statuses.
-use Rattle.std.specs.Prelude.{◌≡◌, ◌<◌, ℕ, List, ◌++◌, Option, Some, None, codes, if◌then◌else◌, is_ok, is_some}
+use Rattle.std.specs.Prelude.{◌≡◌, ◌<◌, ℕ, List, ◌++◌, Bool, true, false, Option, Some, None, codes, if◌then◌else◌, is_ok, is_some}
 use Rattle.hex.specs.Hex.{decode_sized}
 use Rattle.fare_table.specs.Key.{key_name}
 use Rattle.fare_table.specs.declared.fault.TableFault.{TableFault}
@@ -12,7 +12,7 @@ use Rattle.omny_cli.specs.Options.{Asked}
 use Rattle.omny_cli.specs.declared.load.LoadFault.{LoadFault}
 use Rattle.omny_cli.specs.declared.load.LoadFault.TheVariants as load
 use Rattle.omny_cli.specs.declared.fault.Fault.{Fault}
-use Rattle.omny_cli.specs.declared.fault.Fault.TheVariants.{Digits, NoTable, Unread, TooLong, Table, Uploads, Gather, Write, NoMemory}
+use Rattle.omny_cli.specs.declared.fault.Fault.TheVariants.{Digits, NoTable, SettleNoTable, SettleList, Unread, TooLong, Table, Uploads, Gather, Write, NoMemory}
 
 -- a fault of a table by its number, and the key where it has one
 abbrev pub table_text : TableFault → List ℕ
@@ -35,6 +35,8 @@ gather_text gather.NoMemory = codes "fault: out of memory"
 abbrev pub fault_text : Fault → List ℕ
 fault_text Digits = codes "fault: --token needs 32 hexadecimal digits"
 fault_text NoTable = codes "fault: --token needs --table"
+fault_text SettleNoTable = codes "fault: --settle needs --table"
+fault_text SettleList = codes "fault: --settle cannot be used with --list"
 fault_text (Unread name) = codes "fault: cannot read " ++ name.now
 fault_text (TooLong name) = codes "fault: " ++ (name.now ++ codes " is too long")
 fault_text (Table fault) = table_text fault
@@ -47,6 +49,8 @@ fault_text NoMemory = codes "fault: out of memory"
 abbrev pub status_of : Fault → ℕ
 status_of Digits = 2
 status_of NoTable = 2
+status_of SettleNoTable = 2
+status_of SettleList = 2
 status_of _ = 1
 
 -- why a report or a statement was not printed
@@ -76,6 +80,25 @@ token_fault_of (Some digits) table =
 
 abbrev pub token_fault : Asked → Option Fault
 token_fault asked = token_fault_of asked.token asked.table
+
+-- What is wrong with settling where it is asked for: first that there is no table, and then that the taps are to be listed.
+abbrev pub settle_fault_of : Bool → Bool → Option (List ℕ) → Option Fault
+settle_fault_of false list table = None
+settle_fault_of true list None = Some SettleNoTable
+settle_fault_of true false (Some name) = None
+settle_fault_of true true (Some name) = Some SettleList
+
+abbrev pub settle_fault : Asked → Option Fault
+settle_fault asked = settle_fault_of asked.settle asked.list asked.table
+
+-- the first of two faults, if there is one
+abbrev pub first_fault : Option Fault → Option Fault → Option Fault
+first_fault None other = other
+first_fault (Some fault) other = Some fault
+
+-- what is wrong with what is asked for, if anything: the token is looked at first, and then settling
+abbrev pub mistake : Asked → Option Fault
+mistake asked = first_fault (token_fault asked) (settle_fault asked)
 
 -- why a run over so many uploads came to nothing: there were too many of them, or memory or the gathering failed
 abbrev pub IsRunFailure : ℕ → Fault → Type 0

@@ -3,6 +3,8 @@ pub mod Fault
 pub mod Listing
 pub mod Lines
 pub mod Options
+pub mod Posted
 pub mod Program
+pub mod Settling
 pub mod Source
 pub mod Uploads

@@ -50,14 +50,18 @@ token_rule = record (new_rule (codes "token")) {
   value_names = 1;
 }
 
+-- `--settle`
+abbrev pub settle_rule : Rule
+settle_rule = record (new_rule (codes "settle")) { long = Some (codes "settle"); action = Some SetTrue }
+
 -- `FILE`, as often as wanted
 abbrev pub file_rule : Rule
 file_rule = record (new_rule (codes "FILE")) { action = Some Append }
 
 abbrev pub app_of_options : App
 app_of_options =
-    with_rule (with_rule (with_rule (with_rule (with_rule (new_app (codes "omny_cli"))
-    table_rule) list_rule) workers_rule) shards_rule) token_rule
+    with_rule (with_rule (with_rule (with_rule (with_rule (with_rule (new_app (codes "omny_cli"))
+    table_rule) list_rule) workers_rule) shards_rule) token_rule) settle_rule
 
 unfoldable pub program : App
 program = with_rule app_of_options file_rule
@@ -107,6 +111,7 @@ pub record Asked : Type 0 where
   pub workers : ℕ
   pub shards : ℕ
   pub token : Option Text
+  pub settle : Bool
   pub files : List Text
 
 abbrev pub asked_by : List Text → Asked
@@ -116,6 +121,7 @@ asked_by words = record {
   workers = number_of (codes "workers") (matches_of program words);
   shards = number_of (codes "shards") (matches_of program words);
   token = token_named words;
+  settle = is_given (codes "settle") (matches_of program words);
   files = files_named words;
 }
 
@@ -127,6 +133,7 @@ asked_of options = record {
   workers = options.workers;
   shards = options.shards;
   token = option_map (λ t. t.now) options.token;
+  settle = options.settle;
   files = map (λ f. f.now) options.files.items;
 }
 

@@ -1,7 +1,6 @@
 -- What a run of the program does.
-use Rattle.std.specs.Prelude.{◌≡◌, ℕ, Bool, true, false, List, [], ◌∷◌, map, Option, None, Some, Ok, MatchBool}
+use Rattle.std.specs.Prelude.{◌≡◌, ℕ, Bool, List, [], ◌∷◌, map, Option, None, Some, Ok, MatchBool}
 use Rattle.std.specs.Io.KnownBytes.{Appends}
-use Rattle.std.specs.List.{list_all}
 use Rattle.hex.specs.Hex.{decode_sized}
 use Rattle.fare_table.specs.Fares.{Fares}
 use Rattle.fare_table.specs.Rules.{rules_in}
@@ -9,12 +8,13 @@ use Rattle.fare_table.specs.Zone.{IsZoneOf}
 use Rattle.shard_book.specs.Token.{bytes_of}
 use Rattle.shard_book.specs.declared.token.Token.{Token}
 use Rattle.fare_service.specs.declared.upload_end.UploadEnd.{UploadEnd}
-use Rattle.fare_service.specs.declared.upload_end.UploadEnd.TheVariants.{Posted}
 use Rattle.fare_service.specs.Gathering.{HasRun}
 use Rattle.fare_service.specs.Halls.{Hall, shards_of}
 use Rattle.fare_service.specs.Outcomes.{Gathered}
-use Rattle.fare_service.specs.Printed.{IsStatementOf, report_of}
+use Rattle.fare_service.specs.Printed.{IsStatementOf, report_with}
 use Rattle.omny_cli.specs.Options.{Asked, lists}
+use Rattle.omny_cli.specs.Posted.{are_posted}
+use Rattle.omny_cli.specs.Settling.{Settles}
 use Rattle.omny_cli.specs.Source.{Loaded, Tells, TellsOne}
 use Rattle.omny_cli.specs.Uploads.{IsListing}
 
@@ -65,18 +65,14 @@ pub record IsRun (fares : Fares) (shards workers : ℕ) (files : List (List ℕ)
   pub its_uploads : hall.uploads ≡ files
   pub run : HasRun hall workers outcome
 
-abbrev pub is_posted : UploadEnd → Bool
-is_posted (Posted taps) = true
-is_posted _ = false
-
--- each upload was posted whole
-abbrev pub are_posted : List UploadEnd → Bool
-are_posted = list_all is_posted
+-- the text is the report with these ends of uploads, or the statement of this token
+abbrev pub ShowsWith : Option Token → List UploadEnd → Gathered → List ℕ → Type 0
+ShowsWith None ends outcome text = text ≡ report_with ends outcome
+ShowsWith (Some token) ends outcome text = IsStatementOf outcome token text
 
 -- the text is the report, or the statement of this token
 abbrev pub Shows : Option Token → Gathered → List ℕ → Type 0
-Shows None outcome text = text ≡ report_of outcome
-Shows (Some token) outcome text = IsStatementOf outcome token text
+Shows token outcome text = ShowsWith token outcome.ends outcome text
 
 -- the token that is asked for, if any, is that of these 32 hexadecimal digits
 abbrev pub IsTokenIn : Option (List ℕ) → Option Token → Type 0
@@ -99,8 +95,20 @@ pub record RunsService (asked : Asked) (told told' : Option (List Loaded)) (out 
   pub written : Appends out out' text
   pub is_well : well ≡ are_posted outcome.ends
 
+-- Table and files were loaded, and their taps were settled; what was appended to the writer is the report or the statement over the settled
+-- history of the files. That is a function of the files and the table: no schedule and no number of workers has a part in it.
+pub record RunsSettled (asked : Asked) (told told' : Option (List Loaded)) (out out' : Option (List ℕ)) (well : Bool) : Type 0 where
+  pub fares : Fares
+  pub files : List (List ℕ)
+  pub loads : Loads asked.table asked.files told told' (Some fares) files
+  pub token : Option Token
+  pub is_token : IsTokenIn asked.token token
+  pub text : List ℕ
+  pub settles : Settles fares files token text well
+  pub written : Appends out out' text
+
 -- what is asked for was done
 abbrev pub Does : Asked → Option (List Loaded) → Option (List Loaded) → Option (List ℕ) → Option (List ℕ) → Bool → Type 0
 Does asked told told' out out' well = MatchBool (lists asked)
     (RunsListing asked.table asked.files told told' out out' well)
-    (RunsService asked told told' out out' well)
+    (MatchBool asked.settle (RunsSettled asked told told' out out' well) (RunsService asked told told' out out' well))

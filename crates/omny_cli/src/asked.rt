@@ -14,6 +14,8 @@ pub struct Options<'a> {
     pub shards: u32,
     /// The token whose statement is wanted, as it is written.
     pub token: Option<&'a str>,
+    /// Whether the taps are settled: put into their one order before they are posted.
+    pub settle: bool,
     /// The uploads, in order; none stands for standard input.
     pub files: Vec<&'a str>,
     ghost some_worker: { 1 ≤ workers },

@@ -15,6 +15,10 @@ pub enum Fault<'a> {
     Digits,
     /// A statement is asked for without a fare table.
     NoTable,
+    /// The taps are to be settled without a fare table.
+    SettleNoTable,
+    /// The taps are to be settled, and to be listed.
+    SettleList,
     /// The file of this name could not be read.
     Unread(&'a str),
     /// The file of this name is longer than the limit.
@@ -75,7 +79,7 @@ impl<'a> Fault<'a> {
         ensures { result ≡ status_of self.now }
     {
         match self {
-            Fault::Digits | Fault::NoTable => 2,
+            Fault::Digits | Fault::NoTable | Fault::SettleNoTable | Fault::SettleList => 2,
             _ => 1,
         }
     }
@@ -157,6 +161,8 @@ impl fmt::Display for Fault<'_> {
         match self {
             Fault::Digits => f.write_str("fault: --token needs 32 hexadecimal digits"),
             Fault::NoTable => f.write_str("fault: --token needs --table"),
+            Fault::SettleNoTable => f.write_str("fault: --settle needs --table"),
+            Fault::SettleList => f.write_str("fault: --settle cannot be used with --list"),
             Fault::Unread(name) => write!(f, "fault: cannot read {name}"),
             Fault::TooLong(name) => write!(f, "fault: {name} is too long"),
             Fault::Table(fault) => TableLine(*fault).fmt(f),

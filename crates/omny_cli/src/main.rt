@@ -8,6 +8,7 @@
 //! | `listing` | the word of each tap, from those before it |
 //! | `lines`, `uploads` | the text of a listing |
 //! | `run` | a run of the service, and the text of its outcome |
+//! | `settle` | taps that are put into their one order before they are posted |
 //! | `output` | texts written out whole |
 //! | `fault` | why the program gives up, and the line that says so |
 //! | `program` | the whole, over any source and any two writers |
@@ -24,6 +25,7 @@ mod options;
 mod output;
 mod program;
 mod run;
+mod settle;
 #[cfg(test)]
 mod tests;
 mod uploads;

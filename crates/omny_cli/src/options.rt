@@ -3,7 +3,7 @@ ghost use Rattle.std.specs.Prelude.{◌≡◌, ◌≤◌, ◌^◌, ◌<◌, ℕ,
 ghost use Rattle.clap.specs.Words.{FailsBy, all_of, app_of, fault_of, found_of, matches_of};
 ghost use Rattle.clap.specs.Words.{rows_of, rule_of};
 ghost use Rattle.omny_cli.specs.Options.{HasNumber, asked_by, asked_of, file_rule, is_given, list_rule, number_of, program};
-ghost use Rattle.omny_cli.specs.Options.{shards_rule, table_rule, token_rule, workers_rule};
+ghost use Rattle.omny_cli.specs.Options.{settle_rule, shards_rule, table_rule, token_rule, workers_rule};
 
 use crate::asked::Options;
 use clap::{Arg, ArgAction, ArgMatches, Command, Error, value_parser};
@@ -21,11 +21,13 @@ const NOTES: &str = "What is printed:
   listing    each tap: number of its file, its number there (both from 0), token, validator,
              moment in milliseconds since 1970-01-01T00:00Z, and live (later than every known tap
              of its token before it), stale (not so) or unknown (the table lacks its validator)
+With --settle all taps are posted in one order, so that what is printed depends on the taps alone.
+Without it the order of the files and the number of workers can change what a token pays.
 Amounts are cents. Of a file with a layout fault the batches before it count, and its line tells
 the fault: `upload 1 refused 2 at 64 L5` in a report, `1 refused 64 L5` in a listing.
 
 Examples:
-  omny_cli --table table.toml a.tap b.tap
+  omny_cli --table table.toml --settle a.tap b.tap
   omny_cli --table table.toml --token 000000000000000000000000000000a1 a.tap b.tap
   omny_cli a.tap
 
@@ -45,6 +47,9 @@ const SHARDS_HELP: &str = "Over how many shards the accounts are spread, 1 to 64
 
 const TOKEN_HELP: &str =
     "Print the statement of this token, 32 hexadecimal digits of either case, not the report";
+
+const SETTLE_HELP: &str =
+    "Post the taps of all uploads in order of token, moment and validator; needs --table";
 
 const FILE_HELP: &str =
     "Uploads, files of TAP1 and TAP2 batches of at most 67108864 bytes [default: standard input]";
@@ -107,6 +112,16 @@ fn token_arg<'a>(alloc: Global) -> Arg<'a>
         .help(TOKEN_HELP)
 }
 
+fn settle_arg<'a>(alloc: Global) -> Arg<'a>
+    ensures rule { rule_of result ≡ settle_rule }
+    ensures local { result.global ≡ false }
+{
+    Arg::new(alloc, "settle")
+        .long("settle")
+        .action(ArgAction::SetTrue)
+        .help(SETTLE_HELP)
+}
+
 fn file_arg<'a>(alloc: Global) -> Arg<'a>
     ensures rule { rule_of result ≡ file_rule }
     ensures local { result.global ≡ false }
@@ -125,6 +140,7 @@ fn command<'a>(alloc: Global) -> Result<Command<'a>, AllocError>
     let workers = workers_arg(alloc);
     let shards = shards_arg(alloc);
     let token = token_arg(alloc);
+    let settle = settle_arg(alloc);
     let file = file_arg(alloc);
     Command::new(alloc, "omny_cli")
         .about(ABOUT)
@@ -134,6 +150,7 @@ fn command<'a>(alloc: Global) -> Result<Command<'a>, AllocError>
         .arg(workers)?
         .arg(shards)?
         .arg(token)?
+        .arg(settle)?
         .arg(file)
 }
 
@@ -192,6 +209,7 @@ impl<'a> Options<'a> {
             workers: number_in(&matches, "workers"),
             shards: number_in(&matches, "shards"),
             token: matches.get_str("token"),
+            settle: flag_in(&matches, "settle"),
             files: files_in(alloc, &matches)?,
         })
     }

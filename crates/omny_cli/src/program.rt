@@ -1,12 +1,14 @@
 //! The whole program, over any source of bytes and any two writers.
-ghost use Rattle.std.specs.Prelude.{MatchOption, codes, ◌≡◌, ◌≢◌, ◌≤◌, ◌⊎◌, ◌++◌, ◌∷◌, [], ℕ, List, true, false, None, Some, IfErr, IfOk, OnOk, is_some, map, option_map, string_bytes};
+ghost use Rattle.std.specs.Prelude.{MatchBool, MatchOption, codes, ◌≡◌, ◌≢◌, ◌≤◌, ◌⊎◌, ◌++◌, ◌∷◌, [], ℕ, List, true, false, None, Some, IfErr, IfOk, OnOk, is_some, map, option_map, string_bytes};
 ghost use Rattle.clap.specs.Words.{kind_of};
 ghost use Rattle.std.specs.Io.KnownBytes.{Appends, Keeps};
 ghost use Rattle.std.specs.IoError.{error_kind};
 ghost use Rattle.fare_service.specs.Outcomes.{Gathered};
-ghost use Rattle.omny_cli.specs.Fault.{IsLoadLine, IsTableLine, fault_text, status_of, token_fault};
+ghost use Rattle.omny_cli.specs.Fault.{IsLoadLine, IsTableLine, fault_text, mistake, settle_fault, status_of, token_fault};
 ghost use Rattle.omny_cli.specs.Options.{AsksForHelp, Parses, asked_by, asked_of};
-ghost use Rattle.omny_cli.specs.Program.{Does, IsRun, IsTokenIn, Loads, LoadsFiles, LoadsTable, Shows, are_posted, wanted};
+ghost use Rattle.omny_cli.specs.Posted.{are_posted};
+ghost use Rattle.omny_cli.specs.Program.{Does, IsRun, IsTokenIn, Loads, LoadsFiles, LoadsTable, Shows, wanted};
+ghost use Rattle.omny_cli.specs.Settling.{Settles};
 ghost use Rattle.omny_cli.specs.Source.{TellsOne};
 ghost use Rattle.omny_cli.specs.Uploads.{IsListing};
 
@@ -16,6 +18,7 @@ use crate::fault::Fault;
 use crate::load::Source;
 use crate::output::{flush, write_text};
 use crate::run::{are_posted, outcome_of, write_outcome};
+use crate::settle::charge_settled;
 use crate::uploads::listing_text;
 use clap::Error;
 use clap::error::ErrorKind;
@@ -152,6 +155,34 @@ fn token_of<'a>(options: &Options<'a>) -> Result<Option<Token>, Fault<'a>>
     Ok(Some(Token::of(&token)))
 }
 
+// Looks whether the taps may be settled, where that is asked for: there is a table to charge by, and they are not to be listed.
+fn check_settling<'a>(options: &Options<'a>) -> Result<(), Fault<'a>>
+    ensures right { OnOk result (settle_fault (asked_of options.now) ≡ None) }
+    ensures fault { IfErr result (λ fault. settle_fault (asked_of options.now) ≡ Some fault) }
+{
+    if !options.settle {
+        return Ok(());
+    }
+    if options.table.is_none() {
+        return Err(Fault::SettleNoTable);
+    }
+    if options.list {
+        return Err(Fault::SettleList);
+    }
+    Ok(())
+}
+
+// Looks for a mistake in what is asked for, and gives the token whose statement is, if any.
+fn checked<'a>(options: &Options<'a>) -> Result<Option<Token>, Fault<'a>>
+    ensures token { IfOk result (IsTokenIn (asked_of options.now).token) }
+    ensures right { OnOk result (mistake (asked_of options.now) ≡ None) }
+    ensures fault { IfErr result (λ fault. mistake (asked_of options.now) ≡ Some fault) }
+{
+    let token = token_of(options)?;
+    check_settling(options)?;
+    Ok(token)
+}
+
 // Lists the files, and says whether none of them has a layout fault. The whole text is made before
 // it is written.
 fn list<'a, W: Write>(
@@ -190,12 +221,39 @@ fn charge<'a, R: Threads + Wait + RandomSource + Sync, W: Write>(
 {
     let outcome = outcome_of(rt, alloc, table, options, &files)?;
     drop(files);
-    write_outcome(rt, alloc, &outcome, token, out)?;
-    Ok(are_posted(&outcome))
+    write_outcome(rt, alloc, &outcome, outcome.ends(), token, out)?;
+    Ok(are_posted(outcome.ends()))
+}
+
+// Posts the files, settled where that is asked for, and writes the text that is asked for.
+fn post<'a, R: Threads + Wait + RandomSource + Sync, W: Write>(
+    rt: &R,
+    alloc: Global,
+    options: &Options<'a>,
+    table: FareTable,
+    token: Option<Token>,
+    files: Vec<Vec<u8>>,
+    out: &mut W,
+) -> Result<bool, Fault<'a>>
+    ensures ok { IfOk result (λ well. MatchBool options.now.settle
+        ((text : List ℕ) × Settles table (map (λ f. f.items) files.items) token text well
+        × Appends (W.contents out.old) (W.contents out.new) text)
+        ((outcome : Gathered) × (text : List ℕ)
+        × IsRun table options.now.shards options.now.workers (map (λ f. f.items) files.items) outcome
+        × Shows token outcome text × Appends (W.contents out.old) (W.contents out.new) text
+        × (well ≡ are_posted outcome.ends))) }
+    ensures fault { IfErr result (λ fault. fault ≢ Fault.Write → Keeps (W.contents out.old) (W.contents out.new)) }
+    ensures status { IfErr result (λ fault. status_of fault ≡ 1) }
+{
+    if options.settle {
+        charge_settled(rt, alloc, options, table, token, files, out)
+    } else {
+        charge(rt, alloc, options, table, token, files, out)
+    }
 }
 
 // Does what is asked for, and says whether each upload was listed without a layout fault, or posted
-// whole. The token is looked at first, then the table is loaded, then the files, and all memory is
+// whole. The token is looked at first, then settling, then the table is loaded, then the files, and all memory is
 // taken before the first byte is written.
 fn work<'a, R: Threads + Wait + RandomSource + Sync, D: Disk + Sync, S: Source, W: Write>(
     rt: &R,
@@ -207,19 +265,19 @@ fn work<'a, R: Threads + Wait + RandomSource + Sync, D: Disk + Sync, S: Source, 
 ) -> Result<bool, Fault<'a>>
     ensures ok { IfOk result (λ well. Does (asked_of options.now) (S.loaded source.old) (S.loaded source.new)
         (W.contents out.old) (W.contents out.new) well) }
-    ensures right { OnOk result (token_fault (asked_of options.now) ≡ None) }
+    ensures right { OnOk result (mistake (asked_of options.now) ≡ None) }
 
     // Only a write that fails leaves something of a text behind.
     ensures fault { IfErr result (λ fault. fault ≢ Fault.Write → Keeps (W.contents out.old) (W.contents out.new)) }
 
-    // Only a mistake in the token has the status of a wrong command line, and then nothing was loaded.
-    ensures mistake { IfErr result (λ fault. status_of fault ≡ 2 → token_fault (asked_of options.now) ≡ Some fault) }
+    // Only a mistake in the token or with settling has the status of a wrong command line, and then nothing was loaded.
+    ensures mistake { IfErr result (λ fault. status_of fault ≡ 2 → mistake (asked_of options.now) ≡ Some fault) }
     ensures unloaded { IfErr result (λ fault. status_of fault ≡ 2 → S.loaded source.new ≡ S.loaded source.old) }
 {
-    let token = token_of(options)?;
+    let token = checked(options)?;
     let (table, files) = load(rt, alloc, disk, options, source)?;
     match table {
-        Some(table) if !options.list => charge(rt, alloc, options, table, token, files, out),
+        Some(table) if !options.list => post(rt, alloc, options, table, token, files, out),
         table => list(alloc, table, &files, out),
     }
 }
@@ -284,11 +342,11 @@ pub fn main_over<
     // Words that are no command line end well only where they ask for help.
     ensures helped { ¬ Parses (map string_bytes words.now) → result ≡ 0 → AsksForHelp (map string_bytes words.now) }
 
-    // A mistake in the token is one of the command line.
+    // A mistake in the token, or settling without a table or beside a listing, is one of the command line.
     ensures mistaken { result ≡ 2 → (¬ Parses (map string_bytes words.now))
-        ⊎ (is_some (token_fault (asked_by (map string_bytes words.now))) ≡ true) }
-    ensures token { Parses (map string_bytes words.now)
-        → is_some (token_fault (asked_by (map string_bytes words.now))) ≡ true → result ≢ 0 }
+        ⊎ (is_some (mistake (asked_by (map string_bytes words.now))) ≡ true) }
+    ensures right { Parses (map string_bytes words.now)
+        → is_some (mistake (asked_by (map string_bytes words.now))) ≡ true → result ≢ 0 }
 
     // Nothing is said on `err` where all is well.
     ensures quiet { result ≡ 0 → Keeps (E.contents err.old) (E.contents err.new) }

@@ -3,7 +3,8 @@ ghost use Rattle.std.specs.Prelude.{◌≡◌, ◌≢◌, ℕ, List, IfErr, IfOk
 ghost use Rattle.std.specs.Io.KnownBytes.{Appends, Keeps};
 ghost use Rattle.fare_service.specs.Printed.{KeepsUnlessWrite};
 ghost use Rattle.omny_cli.specs.Fault.{IsRunFailure, status_of};
-ghost use Rattle.omny_cli.specs.Program.{IsRun, Shows, are_posted, is_posted};
+ghost use Rattle.omny_cli.specs.Posted.{are_posted, is_posted};
+ghost use Rattle.omny_cli.specs.Program.{IsRun, ShowsWith};
 
 use crate::asked::Options;
 use crate::fault::Fault;
@@ -50,39 +51,41 @@ pub fn outcome_of<'a, R: Threads + Wait + RandomSource + Sync>(
     }
 }
 
-// Prints the report, or the statement of the token where one is asked for.
+// Prints the report with these ends of uploads, or the statement of the token where one is asked for.
 fn print<R: Threads + Sync, W: Write>(
     rt: &R,
     alloc: Global,
     outcome: &Outcome,
+    ends: &[UploadEnd],
     token: Option<Token>,
     out: &mut W,
 ) -> Result<(), PrintFault>
-    ensures ok { OnOk result ((text : List ℕ) × Shows token outcome.now text
+    ensures ok { OnOk result ((text : List ℕ) × ShowsWith token ends.now outcome.now text
         × Appends (W.contents out.old) (W.contents out.new) text) }
     ensures fault { IfErr result (λ fault. KeepsUnlessWrite fault (out.new ≡ out.old)) }
 {
     match token {
-        None => outcome.write_report(rt, alloc, out),
+        None => outcome.write_report_with(rt, alloc, ends, out),
         Some(token) => outcome.write_statement(alloc, &token, out),
     }
 }
 
-/// Writes the report, or the statement of the token where one is asked for, through to where the
-/// writer brings it.
+/// Writes the report with these ends of uploads, or the statement of the token where one is asked for,
+/// through to where the writer brings it.
 pub fn write_outcome<'a, R: Threads + Sync, W: Write>(
     rt: &R,
     alloc: Global,
     outcome: &Outcome,
+    ends: &[UploadEnd],
     token: Option<Token>,
     out: &mut W,
 ) -> Result<(), Fault<'a>>
-    ensures ok { OnOk result ((text : List ℕ) × Shows token outcome.now text
+    ensures ok { OnOk result ((text : List ℕ) × ShowsWith token ends.now outcome.now text
         × Appends (W.contents out.old) (W.contents out.new) text) }
     ensures status { IfErr result (λ fault. status_of fault ≡ 1) }
     ensures fault { IfErr result (λ fault. fault ≢ Fault.Write → Keeps (W.contents out.old) (W.contents out.new)) }
 {
-    print(rt, alloc, outcome, token, out)?;
+    print(rt, alloc, outcome, ends, token, out)?;
     flush(out)
 }
 
@@ -93,13 +96,8 @@ fn is_posted(end: UploadEnd) -> bool
 }
 
 /// Whether each upload was posted whole.
-pub fn are_posted(outcome: &Outcome) -> bool
-    ensures { result ≡ are_posted outcome.now.ends }
+pub fn are_posted(ends: &[UploadEnd]) -> bool
+    ensures { result ≡ are_posted ends.now }
 {
-    for upload in 0..outcome.uploads() {
-        if !is_posted(outcome.upload(upload)) {
-            return false;
-        }
-    }
-    true
+    ends.iter().all(|end| is_posted(*end))
 }

@@ -14,4 +14,5 @@ returns c =
     let three = c.in_ok-arg-3.ensures.shape c.workers_arg-workers.ensures.local ∙ ap₂ with_rule two c.workers_arg-workers.ensures.rule in
     let four = c.in_ok-arg-4.ensures.shape c.shards_arg-shards.ensures.local ∙ ap₂ with_rule three c.shards_arg-shards.ensures.rule in
     let five = c.in_ok-arg-5.ensures.shape c.token_arg-token.ensures.local ∙ ap₂ with_rule four c.token_arg-token.ensures.rule in
-    IfOk-weaker c.arg-6.result _ _ (λ command adds. adds.shape c.file_arg-file.ensures.local ∙ ap₂ with_rule five c.file_arg-file.ensures.rule) c.arg-6.ensures
+    let six = c.in_ok-arg-6.ensures.shape c.settle_arg-settle.ensures.local ∙ ap₂ with_rule five c.settle_arg-settle.ensures.rule in
+    IfOk-weaker c.arg-7.result _ _ (λ command adds. adds.shape c.file_arg-file.ensures.local ∙ ap₂ with_rule six c.file_arg-file.ensures.rule) c.arg-7.ensures
