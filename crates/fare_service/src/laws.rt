@@ -5,5 +5,5 @@ mod schedules;
 
 pub use places::posting_order;
 pub use schedules::{
-    cuts, ended_whole, ends, names, plain_history, report, report_sums, same_texts, statements,
+    cuts, ended_whole, ends, names, plain_history, report, same_texts, statements,
 };

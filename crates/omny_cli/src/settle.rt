@@ -1,20 +1,19 @@
-//! Taps that are put into their one order before they are posted.
-ghost use Rattle.std.specs.Prelude.{◌≡◌, ◌≢◌, ◌≤◌, ℕ, All, List, IfErr, IfOk, map};
+//! Taps that are put into canonical order before they are posted.
+ghost use Rattle.std.specs.Prelude.{◌≡◌, ◌≢◌, ℕ, All, List, IfErr, IfOk, map};
 ghost use Rattle.std.specs.Io.KnownBytes.{Appends, Keeps};
 ghost use Rattle.fare_service.specs.Plain.{WasWhole};
-ghost use Rattle.settlement.specs.Settled.{IsSettled};
 ghost use Rattle.omny_cli.specs.Fault.{status_of};
 ghost use Rattle.omny_cli.specs.Program.{IsRun};
 ghost use Rattle.omny_cli.specs.Settling.{IsOutcomeOf, Settles};
 
 use crate::asked::Options;
 use crate::fault::Fault;
+use crate::program::READERS;
 use crate::run::{are_posted, outcome_of, write_outcome};
-use fare_service::laws::{ended_whole, plain_history, report_sums, statements};
+use fare_service::laws::ended_whole;
 use fare_service::{Outcome, UploadEnd};
-use fare_table::{FareTable, NoMemory};
-use settlement::laws::apart;
-use settlement::{Settled, settle};
+use fare_table::FareTable;
+use settlement::{Settled, laws, settle};
 use shard_book::Token;
 use std::alloc::Global;
 use std::io::Write;
@@ -23,32 +22,7 @@ use std::random::RandomSource;
 use std::sync::Wait;
 use std::thread::Threads;
 
-/// How many bytes of uploads come to a part: some 10,000 taps, which stay in a processor's cache while they are sorted.
-const PART_BYTES: usize = 280_000;
-
-// Into how many parts the taps of these files are cut. What is printed does not depend on it.
-fn parts_for(files: &[Vec<u8>]) -> u32
-    ensures least { 1 ≤ result }
-    ensures most { result ≤ 65535 }
-{
-    let mut bytes = 0usize;
-    for file in files {
-        bytes = bytes.saturating_add(file.len());
-    }
-    (bytes / PART_BYTES).min(65_534) as u32 + 1
-}
-
-// Puts the taps of the files into their one order, cut into parts. The files are given back.
-fn arrange(alloc: Global, files: Vec<Vec<u8>>) -> Result<Settled, NoMemory>
-    ensures { IfOk result (λ settled. (parts : ℕ) × IsSettled (map (λ f. f.items) files.items) parts settled.ends.items
-        (map (λ f. f.items) settled.files.items)) }
-{
-    let parts = parts_for(&files);
-    let settled = settle(alloc, &files, parts)?;
-    Ok(settled)
-}
-
-// Runs the service over these uploads. There is no outcome of a part of them: where memory cut one, it is want of memory.
+/// Runs the service over these uploads. There is no outcome of a part of them: where memory cut one, it is want of memory.
 fn whole_outcome_of<'a, R: Threads + Wait + RandomSource + Sync>(
     rt: &R,
     alloc: Global,
@@ -68,7 +42,7 @@ fn whole_outcome_of<'a, R: Threads + Wait + RandomSource + Sync>(
     Ok(outcome)
 }
 
-// What the service comes to over the settled taps of the files, and how the files ended.
+/// What the service comes to over the settled taps of the files, and how the files ended.
 fn settled_outcome<'a, R: Threads + Wait + RandomSource + Sync>(
     rt: &R,
     alloc: Global,
@@ -79,18 +53,16 @@ fn settled_outcome<'a, R: Threads + Wait + RandomSource + Sync>(
     ensures settled { IfOk result (λ settled. IsOutcomeOf table (map (λ f. f.items) files.items) settled.1.items settled.0) }
     ensures status { IfErr result (λ fault. status_of fault ≡ 1) }
 {
-    let Settled { ends, files } = arrange(alloc, files)?;
+    let threads = options.workers.max(READERS) as usize;
+    let Settled { ends, files } = settle(rt, alloc, files, threads)?;
     let settled = files.as_slice();
     let outcome = whole_outcome_of(rt, alloc, table, options, settled)?;
-    // proof: the outcome is that of the files' settled history
-    apart(settled);
-    plain_history(settled);
-    report_sums(settled, &outcome);
-    statements(settled, &outcome);
+    // proof: the outcome tells the settled history of the files that were given
+    laws::settled(settled, &outcome);
     Ok((outcome, ends))
 }
 
-/// Posts the taps of the files in their one order, and writes the report with the files' ends, or the statement of the token where one is
+/// Posts the taps of the files in canonical order, and writes the report with the files' ends, or the statement of the token where one is
 /// asked for. Says whether each file was posted whole.
 pub fn charge_settled<'a, R: Threads + Wait + RandomSource + Sync, W: Write>(
     rt: &R,

@@ -8,18 +8,14 @@ ghost use Rattle.shard_book.specs.declared.entry.Entry.{Entry};
 ghost use Rattle.shard_book.specs.declared.token.Token.{Token};
 ghost use Rattle.shard_book.specs.Book.{AreOfShard, Book};
 ghost use Rattle.shard_book.specs.Entry.{own};
-ghost use Rattle.shard_book.specs.Groups.{sums_by_token, sums_by_validator};
 ghost use Rattle.shard_book.specs.History.{IsLegal};
-ghost use Rattle.shard_book.specs.Sums.{sums};
 ghost use Rattle.shard_book.specs.Token.{bytes_of};
 ghost use Rattle.shard_book.specs.Visits.{AreEntriesOf};
 ghost use Rattle.fare_service.specs.Gathering.{IsGathered};
 ghost use Rattle.fare_service.specs.Halls.{Hall};
 ghost use Rattle.fare_service.specs.Plain.{ArePlainEnds, AreTapsOf, HasOneCut, IsNamed, IsPlain, IsReportOver, IsStatementOver, IsWholeGathering, WasWhole};
-ghost use Rattle.fare_service.specs.Printed.{IsStatementOf, report_of, report_with};
+ghost use Rattle.fare_service.specs.Printed.{IsStatementOf, report_of};
 ghost use Rattle.fare_service.specs.Shares.{Worked};
-ghost use Rattle.fare_service.specs.Text.{report};
-ghost use Rattle.fare_service.specs.declared.upload_end.UploadEnd.{UploadEnd as End};
 
 use crate::outcome::Outcome;
 use crate::upload_end::UploadEnd;
@@ -94,19 +90,6 @@ pub fn ends(outcome: &Outcome)
 pub fn report(uploads: &[Vec<u8>], outcome: &Outcome)
     ensures { (hall : Hall) (history : List Entry) → hall.uploads ≡ map (λ upload. upload.items) uploads.now → IsWholeGathering hall outcome.now history
         → IsReportOver hall.uploads history (report_of outcome.now) }
-{
-    let _ = outcome.shards();
-    names(outcome);
-    cuts(uploads);
-    rising();
-}
-
-/// Where no upload was cut or left undrawn and no token has taps in two uploads, the sums of a report are those of the plain history of the
-/// uploads, whatever ends of uploads it is written with.
-pub fn report_sums(uploads: &[Vec<u8>], outcome: &Outcome)
-    ensures { (hall : Hall) (history : List Entry) (ends : List End) → hall.uploads ≡ map (λ upload. upload.items) uploads.now
-        → IsWholeGathering hall outcome.now history
-        → report_with ends outcome.now ≡ report ends (sums history) (sums_by_validator history) (sums_by_token history) }
 {
     let _ = outcome.shards();
     names(outcome);
