@@ -37,7 +37,7 @@ use std::thread::Threads;
 const STANDARD_INPUT: &str = "standard input";
 
 /// How many threads read files at once, or as many as there are workers where these are more. What is loaded does not depend on it.
-pub(crate) const READERS: u32 = 4;
+const READERS: u32 = 4;
 
 // All bytes of the file of this name.
 fn load_named<'a, S: Source>(source: &mut S, name: &'a str) -> Result<Vec<u8>, Fault<'a>>

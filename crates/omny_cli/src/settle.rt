@@ -8,7 +8,6 @@ ghost use Rattle.omny_cli.specs.Settling.{IsOutcomeOf, Settles};
 
 use crate::asked::Options;
 use crate::fault::Fault;
-use crate::program::READERS;
 use crate::run::{are_posted, outcome_of, write_outcome};
 use fare_service::laws::ended_whole;
 use fare_service::{Outcome, UploadEnd};
@@ -53,8 +52,7 @@ fn settled_outcome<'a, R: Threads + Wait + RandomSource + Sync>(
     ensures settled { IfOk result (λ settled. IsOutcomeOf table (map (λ f. f.items) files.items) settled.1.items settled.0) }
     ensures status { IfErr result (λ fault. status_of fault ≡ 1) }
 {
-    let threads = options.workers.max(READERS) as usize;
-    let Settled { ends, files } = settle(rt, alloc, files, threads)?;
+    let Settled { ends, files } = settle(rt, alloc, files)?;
     let settled = files.as_slice();
     let outcome = whole_outcome_of(rt, alloc, table, options, settled)?;
     // proof: the outcome tells the settled history of the files that were given

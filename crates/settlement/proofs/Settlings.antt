@@ -16,7 +16,8 @@ use Rattle.shard_book.specs.Token.{bytes_of}
 use Rattle.shard_book.specs.Visits.{AreEntriesOf}
 use Rattle.shard_book.specs.declared.entry.Entry.{Entry}
 use Rattle.fare_service.specs.Plain.{HasOneCut, AreTapsOfEach, IsPlain, IsReportOver, plain, plain_after, answered, unanswered}
-use Rattle.fare_service.specs.Text.{report, totals_line, validators_part, tokens_part}
+use Rattle.fare_service.specs.Text.{report, validators_part, tokens_part}
+use Rattle.fare_texts.specs.Counts.{totals_line}
 use Rattle.fare_service.proofs.PlainReplies.{bare, plain_bare, plain_legal}
 use Rattle.settlement.specs.Alike.{DifferInUploads, HaveSameTaps}
 use Rattle.settlement.specs.Canonical.{tap_cmp}

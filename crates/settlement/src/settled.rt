@@ -1,17 +1,15 @@
 //! Uploads, settled.
 
 ghost use Rattle.std.specs.Prelude.{◌≤◌, IfOk, map};
-ghost use Rattle.settlement.specs.Dealt.{ArePartFiles};
 ghost use Rattle.settlement.specs.Settled.{IsSettled};
 
+use crate::arranging::files_by_four;
 use crate::dealing::deal;
-use crate::file::file_of;
 use fare_service::UploadEnd;
 use fare_table::NoMemory;
 use std::alloc::Global;
 use std::marker::Sync;
 use std::thread::Threads;
-use tap_parts::PartTaps;
 
 /// How many bytes of uploads go to one part: some 10,000 taps, so that the sort of a part stays in a
 /// processor's near cache.
@@ -41,25 +39,13 @@ fn parts_for(uploads: &[Vec<u8>]) -> u32
     (bytes / BYTES_OF_PART).clamp(1, MAX_PARTS) as u32
 }
 
-/// The file of each part.
-fn files_of(alloc: Global, lists: &[PartTaps]) -> Result<Vec<Vec<u8>>, NoMemory>
-    ensures { IfOk result (λ files. ArePartFiles lists.now
-        (map (λ file. file.items) files.items)) }
-{
-    let mut files = Vec::new(alloc);
-    for list in lists {
-        files.push(file_of(alloc, list.as_slice())?)?;
-    }
-    Ok(files)
-}
-
-/// Settles uploads by so many threads. It fails only where memory is refused. The bytes of the
-/// uploads are given back as soon as their taps are dealt to parts.
+/// Settles uploads. Four threads put the parts' taps into order; where one is refused, another does
+/// its work. It fails only where memory is refused. The bytes of the uploads are given back as soon
+/// as their taps are dealt to parts.
 pub fn settle<R: Threads + Sync>(
-    _rt: &R,
+    rt: &R,
     alloc: Global,
     uploads: Vec<Vec<u8>>,
-    _threads: usize,
 ) -> Result<Settled, NoMemory>
     ensures { IfOk result (λ made. IsSettled (map (λ upload. upload.items) uploads.items)
         made.ends.items (map (λ file. file.items) made.files.items)) }
@@ -67,7 +53,7 @@ pub fn settle<R: Threads + Sync>(
     let parts = parts_for(&uploads);
     let dealt = deal(alloc, &uploads, parts)?;
     drop(uploads);
-    let files = files_of(alloc, dealt.parts.lists())?;
+    let files = files_by_four(rt, alloc, dealt.parts.lists())?;
     Ok(Settled {
         ends: dealt.ends,
         files,
