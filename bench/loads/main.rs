@@ -1,8 +1,10 @@
 //! Makes loads: tap files, and the fare table that goes with them. The same words give the same bytes.
 //!
 //! `loads --out FOLDER [--taps N] [--tokens N] [--uploads N] [--batch N] [--layout 1|2|both] [--skewed] [--own-tokens]
-//! [--colliding] [--ranges N] [--riders N] [--seed N]` writes `table.toml` and `000.tap`, `001.tap`, .. into the folder, and prints
+//! [--colliding] [--again N] [--ranges N] [--riders N] [--seed N]` writes `table.toml` and `000.tap`, `001.tap`, .. into the folder, and prints
 //! the names of the tap files in order.
+//!
+//! `--again` tells the first upload's last tap so many times more: its token has as many stale taps.
 //!
 //! The taps of an upload rise in time. Of 64 taps about 16 are of a token that tapped within the last hour (so that
 //! there are transfers), one is of no known validator and one is told twice (so that there are unknown and stale taps).
@@ -34,6 +36,7 @@ struct Words {
     skewed: bool,
     own_tokens: bool,
     colliding: bool,
+    again: u64,
     ranges: u32,
     riders: u64,
     seed: u64,
@@ -57,6 +60,7 @@ fn words() -> Option<Words> {
         skewed: false,
         own_tokens: false,
         colliding: false,
+        again: 0,
         ranges: 300,
         riders: 1000,
         seed: 1,
@@ -69,6 +73,7 @@ fn words() -> Option<Words> {
             "--tokens" => words.tokens = number()?,
             "--uploads" => words.uploads = number()?,
             "--batch" => words.batch = number()?,
+            "--again" => words.again = number()?,
             "--ranges" => words.ranges = number()? as u32,
             "--riders" => words.riders = number()?,
             "--seed" => words.seed = number()?,
@@ -289,8 +294,12 @@ impl<'a> Taps<'a> {
 fn write_upload(words: &Words, upload: u64, out: &mut impl Write) -> io::Result<()> {
     let mut taps = Taps::of(words, upload);
     let mut batch = 0;
-    while taps.number < taps.count {
-        let count = words.batch.min(taps.count - taps.number);
+    let mut again = if upload == 0 { words.again } else { 0 };
+    while taps.number < taps.count || again > 0 {
+        let is_again = taps.number == taps.count;
+        let left = if is_again { again } else { taps.count - taps.number };
+        let count = words.batch.min(left);
+        again -= if is_again { count } else { 0 };
         let second = match words.layout {
             Layout::First => false,
             Layout::Second => true,
@@ -304,7 +313,7 @@ fn write_upload(words: &Words, upload: u64, out: &mut impl Write) -> io::Result<
             out.write_all(&shared.to_be_bytes())?;
         }
         for _ in 0..count {
-            let tap = taps.next();
+            let tap = if is_again { taps.last } else { taps.next() };
             out.write_all(&token(words, tap.token))?;
             if !second {
                 out.write_all(&tap.validator.to_be_bytes())?;
@@ -335,7 +344,7 @@ fn main() -> ExitCode {
             "usage: loads --out FOLDER [--taps N] [--tokens N] [--uploads N] [--batch N] [--layout 1|2|both]"
         );
         eprintln!(
-            "             [--skewed] [--own-tokens] [--colliding] [--ranges N] [--riders N] [--seed N]"
+            "             [--skewed] [--own-tokens] [--colliding] [--again N] [--ranges N] [--riders N] [--seed N]"
         );
         return ExitCode::from(2);
     };

@@ -1,5 +1,5 @@
-//! The part of TOML that fare tables use: strings in double quotes without escapes, whole numbers, arrays, `[name.name]`
-//! and `[[name]]`, comments.
+//! The part of TOML that fare tables use: strings in double quotes without escapes, whole numbers,
+//! arrays, `[name.name]` and `[[name]]`, comments.
 
 pub enum Value<'a> {
     Text(&'a str),

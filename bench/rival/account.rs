@@ -23,7 +23,8 @@ pub struct Account {
     pub window_cents: u32,
     /// The lower 16 bits of each answer's count: `Accounts` counts what is above.
     pub counts: [u16; 5],
-    /// Paid rides of the window. A capped ride is followed by capped ones alone, so this is the place of the next ride.
+    /// Paid rides of the window. A capped ride is followed by capped ones alone, so this is the
+    /// place of the next ride.
     pub window_paid: u16,
     class: u16,
     mode: u8,
@@ -57,7 +58,8 @@ impl Account {
         self.next != 0
     }
 
-    /// Answer and cents of the next tap. No processor guesses which answer a live tap gets, so it is worked out without a branch.
+    /// Answer and cents of the next tap. No processor guesses which answer a live tap gets, so it
+    /// is worked out without a branch.
     #[inline(always)]
     pub fn step(&mut self, table: &Table, mode: u8, moment: u64) -> (Answer, u32) {
         if mode == NO_MODE {
@@ -73,7 +75,11 @@ impl Account {
         self.ride = !transfer as u8;
         let opens = !transfer & (moment >= self.window_end);
         self.window_start = if opens { moment } else { self.window_start };
-        self.window_end = if opens { moment + SEVEN_DAYS } else { self.window_end };
+        self.window_end = if opens {
+            moment + SEVEN_DAYS
+        } else {
+            self.window_end
+        };
         let paid = if opens { 0 } else { self.window_paid };
         let before = if opens { 0 } else { self.window_cents };
         let price = price(table.class(self.class), paid);
@@ -97,5 +103,9 @@ fn price(terms: &Terms, place: u16) -> u32 {
     let before = place as u64 * terms.fare as u64;
     let left = (terms.ceiling as u64).saturating_sub(before);
     let price = (terms.fare as u64).min(left) as u32;
-    if place as u32 >= terms.rides { 0 } else { price }
+    if place as u32 >= terms.rides {
+        0
+    } else {
+        price
+    }
 }

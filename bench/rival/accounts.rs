@@ -57,7 +57,8 @@ impl Accounts {
         }
     }
 
-    /// Posts taps in order. `keep` is told the account's place, the tap's number among them, and the reply.
+    /// Posts taps in order. `keep` is told the account's place, the tap's number among them, and
+    /// the reply.
     #[inline(always)]
     pub fn post<T>(
         &mut self,
@@ -118,7 +119,8 @@ impl Accounts {
         sums
     }
 
-    /// The first place whose hash fits, where the token's account is unless hashes meet. It is made where there is none.
+    /// The first place whose hash fits, where the token's account is unless hashes meet. It is made
+    /// where there is none.
     #[inline(always)]
     fn place(&mut self, table: &Table, token: Token, hash: u64) -> u32 {
         let mut at = hash as usize & self.mask;

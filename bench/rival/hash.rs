@@ -1,5 +1,5 @@
-//! The hash of tokens and validators: folded products under a seed that the system draws, so that strangers cannot choose tokens
-//! that meet.
+//! The hash of tokens and validators: folded products under a seed that the system draws, so that
+//! strangers cannot choose tokens that meet.
 
 use std::hash::{BuildHasher, Hash, Hasher, RandomState};
 

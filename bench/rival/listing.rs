@@ -30,8 +30,15 @@ impl<W: Write + Send> Sink for Lister<'_, W> {
         let word = self.word(&tap);
         self.counts[word] += 1;
         let text = &mut self.text;
-        text.number(self.upload as u64).word(" ").number(self.number).word(" ");
-        text.token(tap.token).word(" ").number(tap.validator as u64).word(" ").number(tap.moment);
+        text.number(self.upload as u64)
+            .word(" ")
+            .number(self.number)
+            .word(" ");
+        text.token(tap.token)
+            .word(" ")
+            .number(tap.validator as u64)
+            .word(" ")
+            .number(tap.moment);
         text.word([" live\n", " stale\n", " unknown\n"][word]);
         self.number += 1;
     }
@@ -49,7 +56,10 @@ impl<W: Write + Send> Sink for Lister<'_, W> {
 
 impl<W: Write> Lister<'_, W> {
     fn word(&mut self, tap: &Tap) -> usize {
-        if self.table.is_some_and(|table| table.mode_of(tap.validator).is_none()) {
+        if self
+            .table
+            .is_some_and(|table| table.mode_of(tap.validator).is_none())
+        {
             return 2;
         }
         let next = self.next.entry(tap.token).or_insert(0);
@@ -98,8 +108,15 @@ pub fn write(
         ends.extend(end);
     }
     let [live, stale, unknown] = counts;
-    last.word("taps ").number(counts.iter().sum()).word(" live ").number(live);
-    last.word(" stale ").number(stale).word(" unknown ").number(unknown).word("\n");
+    last.word("taps ")
+        .number(counts.iter().sum())
+        .word(" live ")
+        .number(live);
+    last.word(" stale ")
+        .number(stale)
+        .word(" unknown ")
+        .number(unknown)
+        .word("\n");
     if out.write_all(&last.0).is_err() {
         eprintln!("fault: cannot write");
         crate::memory::exit_now(1);

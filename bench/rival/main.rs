@@ -1,8 +1,9 @@
-//! The rival: the program's job and texts in Rust over std alone, as fast as its writer could make it. It claims nothing and proves
-//! nothing; its tables have no zone.
+//! The rival: the program's job and texts in Rust over std alone, as fast as its writer could make
+//! it. It claims nothing and proves nothing; its tables have no zone.
 //!
-//! `rival [--table F] [--way stream|shards] [--settle] [--list] [--workers N] [--shards N] [--threads N] [--token HEX] [FILE...]`.
-//! `--threads` are those that read and report: as many as workers but four at least where it is not given, as in the program.
+//! `rival [--table F] [--way stream|shards] [--settle] [--list] [--workers N] [--shards N]
+//! [--threads N] [--token HEX] [FILE...]`. `--threads` are those that read and report: as many as
+//! workers but four at least where it is not given, as in the program.
 
 mod account;
 mod accounts;
@@ -79,7 +80,8 @@ fn words() -> Option<Words> {
     }
     let threads = threads.unwrap_or(workers.max(4));
     let has_table = table.is_some() || way == Way::List;
-    let fits = (1..=16).contains(&workers) && (1..=64).contains(&shards) && threads > 0 && has_table;
+    let fits =
+        (1..=16).contains(&workers) && (1..=64).contains(&shards) && threads > 0 && has_table;
     fits.then_some(Words {
         table,
         way,
@@ -105,7 +107,11 @@ fn read_table(seed: Seed, name: &str) -> Result<Table, String> {
 
 fn run(words: &Words) -> Result<Vec<End>, String> {
     let seed = Seed::new();
-    let table = words.table.as_ref().map(|name| read_table(seed, name)).transpose()?;
+    let table = words
+        .table
+        .as_ref()
+        .map(|name| read_table(seed, name))
+        .transpose()?;
     let mut out = standard_output();
     let (files, shards, workers) = (&words.files, words.shards, words.workers);
     let both = (words.threads, workers);
@@ -117,7 +123,9 @@ fn run(words: &Words) -> Result<Vec<End>, String> {
         let settled = settle::run(&table, seed, files, both).map_err(load_fault)?;
         let written = match words.token {
             None => report::write_settled(&settled, words.threads, &mut out),
-            Some(token) => out.write_all(&statement::statement(&table, token, &settled.lines(token)).0),
+            Some(token) => {
+                out.write_all(&statement::statement(&table, token, &settled.lines(token)).0)
+            }
         };
         (settled.ends, written)
     } else {

@@ -15,12 +15,20 @@ const READ_WRITE: i32 = 3;
 const PRIVATE_ANONYMOUS: i32 = 0x22;
 const WANT_HUGE_PAGES: i32 = 14;
 
-/// A block of zeros that is never given back: `len` bytes, rounded up to huge pages, which are asked for.
+/// A block of zeros that is never given back: `len` bytes, rounded up to huge pages, which are
+/// asked for.
 fn block(len: usize) -> NonNull<u8> {
     let len = len.next_multiple_of(HUGE);
     // SAFETY: an anonymous private mapping, whose unaligned front stays unused.
     unsafe {
-        let at = mmap(std::ptr::null_mut(), len + HUGE, READ_WRITE, PRIVATE_ANONYMOUS, -1, 0);
+        let at = mmap(
+            std::ptr::null_mut(),
+            len + HUGE,
+            READ_WRITE,
+            PRIVATE_ANONYMOUS,
+            -1,
+            0,
+        );
         if at as isize == -1 {
             handle_alloc_error(Layout::from_size_align_unchecked(len, HUGE));
         }
@@ -30,8 +38,8 @@ fn block(len: usize) -> NonNull<u8> {
     }
 }
 
-/// Hands out chunks of `COUNT` items, from blocks of `BYTES`. Each thread has an arena of its own; a chunk lives as long as the
-/// process, and bytes of zero must be a valid `T`.
+/// Hands out chunks of `COUNT` items, from blocks of `BYTES`. Each thread has an arena of its own;
+/// a chunk lives as long as the process, and bytes of zero must be a valid `T`.
 pub struct Arena<T, const COUNT: usize, const BYTES: usize> {
     at: *mut T,
     /// Chunks left in the block.

@@ -1,5 +1,5 @@
-//! Uploads to taps: each file is read through a buffer that stays in the near cache, checked batch by batch, and its taps are given
-//! away at once. Its bytes are kept nowhere.
+//! Uploads to taps: each file is read through a buffer that stays in the near cache, checked batch
+//! by batch, and its taps are given away at once. Its bytes are kept nowhere.
 
 use std::fs::File;
 use std::io::{self, Read};
@@ -30,8 +30,14 @@ pub enum Fault {
 /// How an upload ended.
 #[derive(Clone, Copy)]
 pub enum End {
-    Posted { taps: u64 },
-    Refused { taps: u64, offset: u64, fault: Fault },
+    Posted {
+        taps: u64,
+    },
+    Refused {
+        taps: u64,
+        offset: u64,
+        fault: Fault,
+    },
 }
 
 /// Why a file was not loaded.
@@ -117,8 +123,14 @@ impl<S: Sink> Reader<S> {
         }
     }
 
-    /// The batch at this place of the buffer: its length and how many taps it has, or none where more of the file is needed.
-    fn batch(&mut self, from: usize, to: usize, is_end: bool) -> Result<Option<(usize, u64)>, Fault> {
+    /// The batch at this place of the buffer: its length and how many taps it has, or none where
+    /// more of the file is needed.
+    fn batch(
+        &mut self,
+        from: usize,
+        to: usize,
+        is_end: bool,
+    ) -> Result<Option<(usize, u64)>, Fault> {
         let bytes = &self.buffer[from..to];
         if !is_end && bytes.len() < 12 {
             return Ok(None);
@@ -141,11 +153,7 @@ impl<S: Sink> Reader<S> {
         let record = if second { 24 } else { 28 };
         let want = header + record * count;
         if bytes.len() < want {
-            return if is_end {
-                Err(Fault::Length)
-            } else {
-                Ok(None)
-            };
+            return if is_end { Err(Fault::Length) } else { Ok(None) };
         }
         let records = &bytes[header..want];
         if second {
@@ -165,7 +173,11 @@ fn moment_of<const WIDTH: usize>(record: &[u8]) -> u64 {
 }
 
 /// Gives the taps of a batch to the sink, if all their moments are below the limit.
-fn deal<const WIDTH: usize, S: Sink>(records: &[u8], shared: u32, sink: &mut S) -> Result<(), Fault> {
+fn deal<const WIDTH: usize, S: Sink>(
+    records: &[u8],
+    shared: u32,
+    sink: &mut S,
+) -> Result<(), Fault> {
     let mut late = 0;
     for record in records.chunks_exact(WIDTH) {
         late |= (moment_of::<WIDTH>(record) >= MOMENT_LIMIT) as u8;
@@ -188,8 +200,9 @@ fn deal<const WIDTH: usize, S: Sink>(records: &[u8], shared: u32, sink: &mut S) 
     Ok(())
 }
 
-/// Reads all uploads by so many threads, each into the sink that `sink` makes for its number. Without a name, standard input is the
-/// one upload. The first upload that is not loaded, in their order, is told by its name.
+/// Reads all uploads by so many threads, each into the sink that `sink` makes for its number.
+/// Without a name, standard input is the one upload. The first upload that is not loaded, in their
+/// order, is told by its name.
 pub fn read_all<S: Sink>(
     names: &[String],
     threads: usize,
@@ -232,7 +245,12 @@ pub fn read_all<S: Sink>(
     });
     let (mut ends, sinks) = done.into_inner().unwrap();
     ends.sort_unstable_by_key(|(upload, _)| *upload);
-    let name = |upload: usize| names.get(upload).map_or("standard input", |name| name).to_string();
+    let name = |upload: usize| {
+        names
+            .get(upload)
+            .map_or("standard input", |name| name)
+            .to_string()
+    };
     let ends = ends
         .into_iter()
         .map(|(upload, end)| end.map_err(|fault| (name(upload), fault)))

@@ -1,5 +1,6 @@
-//! The way `shards`: all files are read first, straight into entries of 32 bytes in runs by shard. Then one worker a shard goes over
-//! its runs in the order of the uploads, and writes the replies in place. No lock, and the result does not depend on timing.
+//! The way `shards`: all files are read first, straight into entries of 32 bytes in runs by shard.
+//! Then one worker a shard goes over its runs in the order of the uploads, and writes the replies
+//! in place. No lock, and the result does not depend on timing.
 
 use std::sync::Mutex;
 use std::sync::atomic::{AtomicUsize, Ordering};
@@ -27,7 +28,8 @@ struct Entry {
     validator: u32,
 }
 
-/// Entries of one shard that lie side by side. Their reader wrote them, and the poster of the shard alone changes them.
+/// Entries of one shard that lie side by side. Their reader wrote them, and the poster of the shard
+/// alone changes them.
 struct Run {
     at: *mut Entry,
     len: usize,
@@ -82,7 +84,10 @@ impl Writer {
         if self.at != self.start {
             // SAFETY: both are in one chunk.
             let len = unsafe { self.at.offset_from(self.start) } as usize;
-            self.runs.push(Run { at: self.start, len });
+            self.runs.push(Run {
+                at: self.start,
+                len,
+            });
             self.start = self.at;
         }
         std::mem::take(&mut self.runs)
@@ -162,14 +167,20 @@ pub fn run(
         }
     }
     let (books, tallies) = post(table, seed, runs, workers);
-    Ok(Posted { ends, books, tallies })
+    Ok(Posted {
+        ends,
+        books,
+        tallies,
+    })
 }
 
 /// Posts the runs of all shards, a shard at a time.
 fn post(table: &Table, seed: Seed, runs: Vec<Runs>, workers: usize) -> (Vec<Book>, Tallies) {
     let drawn = AtomicUsize::new(0);
-    let books: Vec<Mutex<(Accounts, Runs)>> =
-        runs.into_iter().map(|runs| Mutex::new((Accounts::new(seed), runs))).collect();
+    let books: Vec<Mutex<(Accounts, Runs)>> = runs
+        .into_iter()
+        .map(|runs| Mutex::new((Accounts::new(seed), runs)))
+        .collect();
     let work = || {
         let mut tallies = Tallies::new(seed);
         while let Some(book) = books.get(drawn.fetch_add(1, Ordering::Relaxed)) {
@@ -177,13 +188,17 @@ fn post(table: &Table, seed: Seed, runs: Vec<Runs>, workers: usize) -> (Vec<Book
             for run in &mut runs.0 {
                 // SAFETY: this worker alone has the shard, and the readers are done.
                 let entries = unsafe { std::slice::from_raw_parts_mut(run.at, run.len) };
-                accounts.post(table, &mut tallies, entries, tap_of, |_, entry, reply| entry.reply = reply);
+                accounts.post(table, &mut tallies, entries, tap_of, |_, entry, reply| {
+                    entry.reply = reply
+                });
             }
         }
         tallies
     };
     let tallies = thread::scope(|scope| {
-        let others: Vec<_> = (1..workers.min(books.len())).map(|_| scope.spawn(work)).collect();
+        let others: Vec<_> = (1..workers.min(books.len()))
+            .map(|_| scope.spawn(work))
+            .collect();
         let mut tallies = work();
         for other in others {
             tallies.join(table, &other.join().unwrap());

@@ -17,8 +17,13 @@ pub fn statement(table: &Table, token: Token, lines: &[Line]) -> Text {
         account.step(table, mode.unwrap_or(NO_MODE), reply.moment());
         sums.counts[reply.answer() as usize] += 1;
         sums.cents += reply.cents() as u64;
-        out.moment(reply.moment()).word(" ").word(mode.map_or("-", |mode| table.mode_name(mode)));
-        out.word(" ").number(*validator as u64).word(" ").word(reply.answer().word());
+        out.moment(reply.moment())
+            .word(" ")
+            .word(mode.map_or("-", |mode| table.mode_name(mode)));
+        out.word(" ")
+            .number(*validator as u64)
+            .word(" ")
+            .word(reply.answer().word());
         out.word(" ").number(reply.cents() as u64).word("\n");
     }
     out.word("totals ").sums(&sums).word("window ");
@@ -26,8 +31,12 @@ pub fn statement(table: &Table, token: Token, lines: &[Line]) -> Text {
         out.word("none\n");
         return out;
     }
-    out.moment(account.window_start).word(" ").moment(account.window_end);
+    out.moment(account.window_start)
+        .word(" ")
+        .moment(account.window_end);
     out.word(" paid ").number(account.window_paid as u64);
-    out.word(" cents ").number(account.window_cents as u64).word("\n");
+    out.word(" cents ")
+        .number(account.window_cents as u64)
+        .word("\n");
     out
 }

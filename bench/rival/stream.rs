@@ -1,5 +1,6 @@
-//! The way `stream`: a worker draws a file, gathers the taps of some batches by shard, and posts them shard by shard under the shard's
-//! lock. Of the files nothing is kept but the history, of 16 bytes a tap.
+//! The way `stream`: a worker draws a file, gathers the taps of some batches by shard, and posts
+//! them shard by shard under the shard's lock. Of the files nothing is kept but the history, of 16
+//! bytes a tap.
 
 use std::sync::Mutex;
 
@@ -74,14 +75,22 @@ impl Entries {
 
 impl History for Entries {
     fn lines(&self, accounts: &Accounts, token: Token) -> Vec<Line> {
-        let Some(place) = accounts.list.iter().position(|account| account.token == token) else {
+        let Some(place) = accounts
+            .list
+            .iter()
+            .position(|account| account.token == token)
+        else {
             return Vec::new();
         };
         let mut lines = Vec::new();
         for (number, block) in self.blocks.iter().enumerate() {
             let is_last = number + 1 == self.blocks.len();
             // SAFETY: all blocks are full but the last, which is written up to `at`.
-            let len = if is_last { unsafe { self.at.offset_from(*block) as usize } } else { COUNT };
+            let len = if is_last {
+                unsafe { self.at.offset_from(*block) as usize }
+            } else {
+                COUNT
+            };
             let entries = unsafe { std::slice::from_raw_parts(*block, len) };
             for entry in entries.iter().filter(|entry| entry.place == place as u32) {
                 lines.push(Line {
@@ -152,19 +161,31 @@ impl Gathered<'_> {
 
     fn post(&mut self, shard: usize, (accounts, entries): &mut (Accounts, Entries)) {
         let taps = &mut self.taps[shard];
-        accounts.post(self.table, &mut self.tallies, taps, |tap| *tap, |place, tap, reply| {
-            entries.push(Entry {
-                place,
-                validator: tap.validator,
-                reply,
-            })
-        });
+        accounts.post(
+            self.table,
+            &mut self.tallies,
+            taps,
+            |tap| *tap,
+            |place, tap, reply| {
+                entries.push(Entry {
+                    place,
+                    validator: tap.validator,
+                    reply,
+                })
+            },
+        );
         taps.clear();
     }
 }
 
 /// Posts all uploads by so many workers.
-pub fn run(table: &Table, seed: Seed, names: &[String], shards: usize, workers: usize) -> Result<Posted, (String, LoadFault)> {
+pub fn run(
+    table: &Table,
+    seed: Seed,
+    names: &[String],
+    shards: usize,
+    workers: usize,
+) -> Result<Posted, (String, LoadFault)> {
     let shards: Vec<Shard> = (0..shards)
         .map(|_| Shard(Mutex::new((Accounts::new(seed), Entries::new()))))
         .collect();
@@ -189,5 +210,9 @@ pub fn run(table: &Table, seed: Seed, names: &[String], shards: usize, workers: 
             Book { accounts, history }
         })
         .collect();
-    Ok(Posted { ends, books, tallies })
+    Ok(Posted {
+        ends,
+        books,
+        tallies,
+    })
 }

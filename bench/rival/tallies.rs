@@ -99,7 +99,12 @@ impl Tallies {
             counts: tally.counts.map(u64::from),
             cents: tally.cents,
         };
-        let mut list: Vec<_> = self.validators.iter().copied().zip(self.tallies.iter().map(sums)).collect();
+        let mut list: Vec<_> = self
+            .validators
+            .iter()
+            .copied()
+            .zip(self.tallies.iter().map(sums))
+            .collect();
         list.sort_unstable_by_key(|(validator, _)| *validator);
         list
     }

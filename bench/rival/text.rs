@@ -80,7 +80,10 @@ impl Text {
         word!(b" taps ");
         at -= 32;
         let number = (token.high as u128) << 64 | token.low as u128;
-        for (pair, byte) in line[at..at + 32].chunks_exact_mut(2).zip(number.to_be_bytes()) {
+        for (pair, byte) in line[at..at + 32]
+            .chunks_exact_mut(2)
+            .zip(number.to_be_bytes())
+        {
             pair.copy_from_slice(&HEX[byte as usize]);
         }
         word!(b"token ");
@@ -139,6 +142,10 @@ fn civil(days: u64) -> (u64, u64, u64) {
     let day_of_year = day_of_era - (365 * year_of_era + year_of_era / 4 - year_of_era / 100);
     let shifted = (5 * day_of_year + 2) / 153;
     let day = day_of_year - (153 * shifted + 2) / 5 + 1;
-    let month = if shifted < 10 { shifted + 3 } else { shifted - 9 };
+    let month = if shifted < 10 {
+        shifted + 3
+    } else {
+        shifted - 9
+    };
     (era * 400 + year_of_era + u64::from(month <= 2), month, day)
 }
