@@ -2,16 +2,21 @@
 #               Where nothing is proved it is a trial build of a minute or two, and it says so
 # make build    proves the program and all below it, and builds it: crates/omny_cli/out/omny_cli
 # make test     everything that must pass: what must not compile, the proofs, the tests, the wrong
-#               bodies in must-fail/, the stored runs, and then the cases of the built program
+#               bodies in must-fail/, the stored runs, and then the cases of the built program and
+#               the settled week
 # make wrong    all wrong bodies, those in wrong/ too: each must be refused by the function that it
 #               changes. Some crates alone: make wrong CRATES="tap_views fare_table"
 # make hostile  memory, reads, writes, threads and the seed refused one at a time, in every place
-# make bench    speed and memory beside the same in Rust
+# make bench    one table of speed and memory beside plain Rust, within ten minutes
+# make audit    the checkers of ledgers over the example, a generated week and 20 spoilt ledgers
+# make sql      the example's ledger in SQLite, and an auditor's questions
+# make viewer   the page that shows a ledger, in headless Chromium
 #
 # run, build, test and wrong need the toolchain (rt, which needs Python 3), make and bash.
-# hostile also needs a C compiler, bench also rustc.
+# hostile also needs a C compiler, bench also rustc. audit needs Python 3.11. sql needs sqlite3 and
+# viewer needs chromium: where these are not there, they say so in a line and are skipped.
 
-.PHONY: run build test wrong hostile bench
+.PHONY: run build test wrong hostile bench audit sql viewer
 
 run:
 	@scripts/run_example
@@ -25,6 +30,7 @@ test:
 	scripts/must_not_compile
 	@n=$$(nproc) && RT_JOBS=$${RT_JOBS:-$$((n < 4 ? n : 4))} rt ci
 	@scripts/program_cases
+	@scripts/settled_week
 
 wrong:
 	@scripts/wrong_bodies $(CRATES)
@@ -34,3 +40,12 @@ hostile:
 
 bench:
 	@bench/run
+
+audit:
+	@audit/run
+
+sql:
+	@sql/run
+
+viewer:
+	@viewer/test
