@@ -9,6 +9,9 @@ use std::alloc::{AllocError, Global};
 use tap_parts::Parts;
 use tap_views::batches;
 
+/// The fewest bytes that a tap has in an upload.
+const LEAST_BYTES_A_TAP: usize = 24;
+
 /// What a run of uploads was dealt as.
 #[derive(Drop)]
 pub(crate) struct Dealt {
@@ -67,6 +70,17 @@ fn add_all(
     Ok(ends)
 }
 
+/// How much room each part takes at first: twice its share of the taps, if tokens were even.
+fn room_for(uploads: &[Vec<u8>], parts: u32) -> usize
+    requires { 1 ≤ parts }
+{
+    let mut bytes = 0usize;
+    for upload in uploads {
+        bytes = bytes.saturating_add(upload.len());
+    }
+    bytes / LEAST_BYTES_A_TAP / parts as usize * 2
+}
+
 /// Deals the taps of the uploads to so many parts.
 pub(crate) fn deal(alloc: Global, uploads: &[Vec<u8>], parts: u32) -> Result<Dealt, NoMemory>
     requires least { 1 ≤ parts }
@@ -74,7 +88,7 @@ pub(crate) fn deal(alloc: Global, uploads: &[Vec<u8>], parts: u32) -> Result<Dea
     ensures { IfOk result (λ dealt. AreDealt parts (map (λ upload. upload.items) uploads.now)
         dealt.parts dealt.ends.items) }
 {
-    let mut lists = Parts::new(alloc, parts)?;
+    let mut lists = Parts::with_room(alloc, parts, room_for(uploads, parts))?;
     let ends = add_all(alloc, &mut lists, uploads)?;
     Ok(Dealt { parts: lists, ends })
 }

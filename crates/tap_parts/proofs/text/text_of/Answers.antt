@@ -12,7 +12,7 @@ nothing [] e = refl
 nothing (x ∷ xs) e = absurd (omega (arith, e))
 
 pub loop-left-init : goal.loop-left-init
-loop-left-init c = rw c.new-text.ensures.items ([], no_text, refl)
+loop-left-init c = rw c.in_ok-text.ensures.items ([], no_text, refl)
 
 pub loop-left-smaller : goal.loop-left-smaller
 loop-left-smaller c =
