@@ -25,7 +25,7 @@ CREATE TABLE line (
                            'ride-limit', 'transfer', 'stale', 'unknown')),
   points_at    timestamptz CHECK ((points_at IS NOT NULL) = (reason IN ('transfer', 'stale')))
 );
-\copy line (token, line, moment, validator, mode, answer, cents, window_start, window_end, ride, reason, points_at) FROM pstdin WITH (FORMAT csv, HEADER match)
+\copy line FROM pstdin WITH (FORMAT csv, HEADER match)
 ALTER TABLE line ADD PRIMARY KEY (token, line);
 \ir views.sql
 COMMIT;
