@@ -1,24 +1,13 @@
 -- Files that read alike have the same plain history and the same ends.
-use Rattle.std.proofs.Common.{◌≡◌, ℕ, List, [], ◌∷◌, ◌++◌, length, map, flat_map, refl, sym, ap, subst, ◌∙◌, arith, Some, None, All}
-use Rattle.std.specs.Prelude.{Option}
-use Rattle.std.proofs.lemmas.List.{map-append, length-map}
-use Rattle.std.proofs.lemmas.List.Elements.{All-head, All-tail}
+use Rattle.std.proofs.Common.{◌≡◌, ℕ, List, [], ◌∷◌, ◌++◌, length, map, flat_map, refl, ap, ◌∙◌, arith}
 use Rattle.fare_table.specs.Fares.{Fares}
 use Rattle.tap_views.specs.Encoding.{fields_of}
 use Rattle.tap_views.specs.Layout.{Tap}
 use Rattle.tap_views.specs.declared.encoder.TapFields.{TapFields}
-use Rattle.tap_views.specs.declared.fault.LayoutFault.{LayoutFault}
 use Rattle.account_rule.specs.declared.reply.Answer.TheVariants.{Unknown}
 use Rattle.shard_book.specs.declared.entry.Entry.{Entry}
-use Rattle.shard_book.specs.Groups.{sums_by_validator, sums_by_token}
-use Rattle.shard_book.specs.Sums.{sums}
 use Rattle.tap_parts.specs.Parts.{IsFileOf}
-use Rattle.fare_service.specs.Ends.{end_by}
-use Rattle.fare_service.specs.Plain.{AreTapsOf, AreTapsOfEach, HasOneCut, IsPlain, IsPlainEnd, ArePlainEnds, IsReportOver, token_of, unanswered, answered, plain_after}
-use Rattle.fare_service.specs.Shares.{IsFaultOf}
-use Rattle.fare_service.specs.Text.{report}
-use Rattle.fare_service.specs.declared.upload_end.UploadEnd.{UploadEnd}
-use Rattle.settlement.specs.Settled.{joined}
+use Rattle.fare_service.specs.Plain.{AreTapsOf, HasOneCut, token_of, unanswered, answered, plain_after}
 
 -- a file's taps have the fields that it is read as
 pub read_fields : (file : List ℕ) (taps : List Tap) (list : List TapFields) → HasOneCut file → AreTapsOf file taps → IsFileOf file list → map fields_of taps ≡ list

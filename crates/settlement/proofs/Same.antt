@@ -1,21 +1,12 @@
 -- Uploads with the same taps are settled as files that read alike.
-use Rattle.std.proofs.Common.{◌≡◌, ℕ, ◌+◌, ◌==◌, List, [], ◌∷◌, length, map, filter, flat_map, Bool, true, false, cond, suc, refl, sym, ap, subst, ◌∙◌, arith, Some, All}
-use Rattle.std.specs.List.{sum_by, AllZip}
-use Rattle.std.specs.List.Sorted.{IsPermutation}
-use Rattle.std.specs.Prelude.{slice_get}
+use Rattle.std.proofs.Common.{◌≡◌, ℕ, ◌+◌, ◌==◌, List, [], ◌∷◌, map, filter, flat_map, Bool, true, false, cond, refl, sym, ap, ◌∙◌, arith, All}
+use Rattle.std.specs.List.{sum_by}
 use Rattle.std.proofs.lemmas.List.Elements.{All-head, All-tail}
-use Rattle.std.proofs.lemmas.List.Sorted.{sum_by-IsPermutation}
 use Rattle.std.proofs.lemmas.List.Sums.{sum_by-cons}
 use Rattle.tap_views.specs.Encoding.{fields_of}
 use Rattle.tap_views.specs.Layout.{Tap}
-use Rattle.tap_views.specs.declared.encoder.TapFields.{TapFields}
-use Rattle.tap_parts.specs.Parts.{part_of_token, of_part, IsFileOf}
+use Rattle.tap_parts.specs.Parts.{part_of_token, of_part}
 use Rattle.fare_service.specs.Plain.{AreTapsOfEach, HasOneCut}
-use Rattle.fare_service.specs.declared.upload_end.UploadEnd.{UploadEnd}
-use Rattle.settlement.specs.Canonical.{tap_cmp, IsCanonical}
-use Rattle.settlement.specs.Settled.{joined, IsSettled}
-use Rattle.settlement.proofs.Total.{tap_cmp_total, tap_cmp_exact}
-use Rattle.settlement.proofs.Unique.{same_sorted}
 
 -- ---- parts of lists
 pub sum_filter : {X : Type 0} (p : X → Bool) (f : X → ℕ) (xs : List X) → sum_by f (filter p xs) ≡ sum_by (λ x. cond (p x) (f x) 0) xs

@@ -1,11 +1,11 @@
 -- What a run over settled files tells is what the settled history has.
-use Rattle.std.proofs.Common.{true, false, inl, inr, ◌≡◌, ◌↔◌, ℕ, zero, suc, ◌+◌, ◌<◌, ◌≤◌, ◌==◌, List, [], ◌∷◌, ◌++◌, length, map, filter, cond, refl, sym, ap, subst, ◌∙◌, arith, Some, All, mod-lt}
+use Rattle.std.proofs.Common.{true, false, inl, inr, ◌≡◌, ℕ, zero, suc, ◌+◌, ◌<◌, ◌≤◌, ◌==◌, List, [], ◌∷◌, ◌++◌, length, map, cond, refl, sym, ap, subst, ◌∙◌, arith, Some, All, mod-lt}
 use Rattle.std.specs.Prelude.{slice_get, ◌≢◌, ◌⊎◌}
 use Rattle.std.specs.List.{sum_by}
 use Rattle.std.proofs.lemmas.Bool.{cases_lt}
 use Rattle.std.proofs.lemmas.Bool.Decides.{eqb_tells}
 use Rattle.std.proofs.lemmas.List.{map-append}
-use Rattle.std.proofs.lemmas.List.Elements.{All-head, All-tail, All-nil, All-cons}
+use Rattle.std.proofs.lemmas.List.Elements.{All-nil, All-cons}
 use Rattle.std.proofs.lemmas.List.Sorted.{sum_by-IsPermutation}
 use Rattle.std.proofs.lemmas.List.Sums.{sum_by-cons}
 use Rattle.fare_table.specs.Fares.{Fares}
@@ -13,8 +13,7 @@ use Rattle.tap_views.specs.Encoding.{fields_of}
 use Rattle.tap_views.specs.Layout.{Tap}
 use Rattle.tap_views.specs.declared.encoder.TapFields.{TapFields}
 use Rattle.shard_book.specs.Entry.{own}
-use Rattle.shard_book.specs.Groups.{all_entries, sums_by_validator, sums_by_token}
-use Rattle.shard_book.specs.Sums.{sums}
+use Rattle.shard_book.specs.Groups.{all_entries}
 use Rattle.shard_book.specs.Token.{bytes_of}
 use Rattle.shard_book.specs.Visits.{AreEntriesOf}
 use Rattle.shard_book.specs.declared.entry.Entry.{Entry}
@@ -23,8 +22,7 @@ use Rattle.tap_parts.specs.Parts.{part_of_token, of_part}
 use Rattle.fare_service.specs.Gathering.{IsGathered}
 use Rattle.fare_service.specs.Halls.{Hall}
 use Rattle.fare_service.specs.Outcomes.{Gathered}
-use Rattle.fare_service.specs.Plain.{AreTapsOf, AreTapsOfEach, HasOneCut, IsPlain, IsStatementOver, IsWholeGathering, WasWhole, plain, token_of, unanswered}
-use Rattle.fare_service.specs.Printed.{IsStatementOf}
+use Rattle.fare_service.specs.Plain.{AreTapsOfEach, HasOneCut, IsPlain, IsStatementOver, IsWholeGathering, WasWhole, plain, unanswered}
 use Rattle.fare_service.specs.Shares.{Worked}
 use Rattle.fare_service.specs.Text.{report}
 use Rattle.fare_service.specs.declared.upload_end.UploadEnd.{UploadEnd}
@@ -32,7 +30,7 @@ use Rattle.fare_service.proofs.PlainBooks.{each_length}
 use Rattle.fare_service.proofs.PlainReplies.{bare, own_bare, plain_bare, plain_legal, same_replies}
 use Rattle.fare_service.proofs.PlainSums.{AllHere, RisingNumbers, RisingTokens, own_all, same_sums, same_entries, same_by_validator, same_by_token}
 use Rattle.fare_service.proofs.PlainUploads.{AllNamed, same_statement, statement_same}
-use Rattle.settlement.specs.Settled.{joined, IsPartFile, IsSettled, IsSettledHistory}
+use Rattle.settlement.specs.Settled.{joined, IsSettled}
 use Rattle.settlement.specs.Told.{TellsSettled}
 use Rattle.settlement.proofs.Histories.{read_fields}
 use Rattle.settlement.proofs.Own.{IsNamedBy, same_own}

@@ -1,4 +1,4 @@
-use Rattle.std.proofs.Common.{ℕ, List, ◌∷◌, ◌++◌, Vec, Global, map}
+use Rattle.std.proofs.Common.{ℕ, List, Vec, Global, map}
 use Rattle.settlement.proofs.Settlings.{legal_history, some_history, stale, time_order}
 use Rattle.settlement.proofs.laws.time_order.Goals as goal
 

@@ -1,4 +1,4 @@
-use Rattle.std.proofs.Common.{◌≡◌, ℕ, List, [], Vec, Global, get_or, length, map, sym, ap, ◌∙◌, subst, arith, ◌<◌, ◌≤◌}
+use Rattle.std.proofs.Common.{ℕ, List, [], Vec, Global, map, sym, ◌∙◌, subst, arith, ◌<◌}
 use Rattle.tap_views.specs.Encoding.{fields_of}
 use Rattle.tap_views.specs.declared.encoder.TapFields.{TapFields}
 use Rattle.tap_parts.specs.Parts.{of_part}
