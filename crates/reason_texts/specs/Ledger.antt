@@ -1,0 +1,98 @@
+-- The ledger: a head line, and a line of twelve fields for each entry of a token.
+use Rattle.std.specs.Prelude.{◌≡◌, ℕ, ◌+◌, List, [], ◌∷◌, ◌++◌, length, map, Option, Some, None, codes, slice_index_or}
+use Rattle.std.specs.Fmt.{decimal}
+use Rattle.hex.specs.Hex.{encode_lower}
+use Rattle.fare_table.specs.Fares.{Fares, mode_at}
+use Rattle.account_rule.specs.Reasons.{reason}
+use Rattle.account_rule.specs.Rules.{rules_of}
+use Rattle.account_rule.specs.declared.reason.Charge.{Charge}
+use Rattle.account_rule.specs.declared.reason.Charge.TheVariants.{Full, CeilingCut, CeilingReached, RideLimitReached}
+use Rattle.account_rule.specs.declared.reason.Reason.{Reason}
+use Rattle.account_rule.specs.declared.reason.Reason.TheVariants.{Unknown, Stale, Transfer, Ride}
+use Rattle.shard_book.specs.Entry.{tap_of}
+use Rattle.shard_book.specs.Token.{bytes_of}
+use Rattle.shard_book.specs.declared.entry.Entry.{Entry}
+use Rattle.shard_book.specs.declared.token.Token.{Token}
+use Rattle.fare_texts.specs.Moments.{IsMomentText}
+use Rattle.fare_texts.specs.StatementText.{answer_text}
+
+-- the head line
+abbrev pub head_text : List ℕ
+head_text = codes "token,line,moment,validator,mode,answer,cents,window_start,window_end,ride,reason,points_at\n"
+
+-- the name of a mode by its place, or nothing for none
+abbrev pub name_or_empty : List (List ℕ) → Option ℕ → List ℕ
+name_or_empty names None = []
+name_or_empty names (Some place) = slice_index_or names place []
+
+-- the name of a validator's mode, or nothing where the table does not know the validator
+abbrev pub mode_field : Fares → ℕ → List ℕ
+mode_field fares validator = name_or_empty fares.rules.modes (mode_at fares validator)
+
+-- `000000000000000000000000000000a1,1,`
+unfoldable pub line_head : Token → ℕ → List ℕ
+line_head token number = encode_lower (bytes_of token) ++ (codes "," ++ (decimal number ++ codes ","))
+
+-- `,1000,subway,paid,300,`
+unfoldable pub entry_fields : Fares → Entry → List ℕ
+entry_fields fares entry =
+    codes "," ++ (decimal entry.validator ++ (codes "," ++ (mode_field fares entry.validator
+    ++ (codes "," ++ (answer_text entry.answer ++ (codes "," ++ (decimal entry.cents ++ codes ",")))))))
+
+-- `,1,full,`, where the ride's place in its window counts from 1
+unfoldable pub placed : ℕ → List ℕ → List ℕ
+placed place word = codes "," ++ (decimal (place + 1) ++ (codes "," ++ (word ++ codes ",")))
+
+-- a ride's place and what decided its cents; no place where the ride limit is reached
+abbrev pub ride_rest : Charge → List ℕ
+ride_rest (Full place cents) = placed place (codes "full")
+ride_rest (CeilingCut place cents) = placed place (codes "ceiling-cut")
+ride_rest (CeilingReached place) = placed place (codes "ceiling")
+ride_rest RideLimitReached = codes ",,ride-limit,"
+
+-- the window's start and end, the ride's place and what decided its cents
+pub record IsRideFields (start until : ℕ) (charge : Charge) (text : List ℕ) : Type 0 where
+  pub from : List ℕ
+  pub starts : IsMomentText start from
+  pub to : List ℕ
+  pub ends : IsMomentText until to
+  pub shown : text ≡ from ++ (codes "," ++ (to ++ ride_rest charge))
+
+-- the words, and the moment to which they point
+pub record IsPointing (words : List ℕ) (at : ℕ) (text : List ℕ) : Type 0 where
+  pub moment : List ℕ
+  pub is : IsMomentText at moment
+  pub shown : text ≡ words ++ moment
+
+-- the last five fields, by the reason
+abbrev pub IsBecause : Reason → List ℕ → Type 0
+IsBecause Unknown text = text ≡ codes ",,,unknown,"
+IsBecause (Stale latest) text = IsPointing (codes ",,,stale,") latest text
+IsBecause (Transfer moment mode) text = IsPointing (codes ",,,transfer,") moment text
+IsBecause (Ride start until charge) text = IsRideFields start until charge text
+
+-- the line of a token's entry with this number and this reason
+pub record IsLedgerLine (fares : Fares) (token : Token) (number : ℕ) (entry : Entry) (why : Reason) (line : List ℕ) : Type 0 where
+  pub moment : List ℕ
+  pub is : IsMomentText entry.moment moment
+  pub because : List ℕ
+  pub told : IsBecause why because
+  pub shown : line ≡ line_head token number ++ (moment ++ (entry_fields fares entry ++ (because ++ codes "\n")))
+
+-- why the token's entry is answered as it is, after its earlier entries
+abbrev pub reason_after : Fares → Token → List Entry → Entry → Reason
+reason_after fares token earlier entry =
+    reason (rules_of fares (bytes_of token)) (map (tap_of fares) earlier) (tap_of fares entry)
+
+-- a line for each of the token's entries that follow the earlier ones
+abbrev pub AreLinesAfter : Fares → Token → List Entry → List Entry → List ℕ → Type 0
+AreLinesAfter fares token earlier [] text = text ≡ []
+AreLinesAfter fares token earlier (entry ∷ entries) text =
+    (line : List ℕ) × (rest : List ℕ)
+    × IsLedgerLine fares token (length earlier + 1) entry (reason_after fares token earlier entry) line
+    × AreLinesAfter fares token (earlier ++ entry ∷ []) entries rest
+    × (text ≡ line ++ rest)
+
+-- a line for each of the token's entries, in order, numbered from 1
+abbrev pub AreTokenLines : Fares → Token → List Entry → List ℕ → Type 0
+AreTokenLines fares token entries text = AreLinesAfter fares token [] entries text

@@ -1,0 +1,63 @@
+//! One line of a ledger.
+
+ghost use Rattle.std.specs.Prelude.{◌≡◌, ◌<◌, ◌++◌, length, List, ℕ, OnOk, Some, slice_get, string_bytes};
+ghost use Rattle.reason_texts.specs.Ledger.{IsLedgerLine, entry_fields, line_head, mode_field};
+
+use crate::because::write_because;
+use account_rule::Reason;
+use fare_table::FareTable;
+use fare_texts::{Digits, answer_name, write_moment};
+use shard_book::{Entry, Token};
+use std::alloc::AllocError;
+
+/// Appends the line of a token's entry, whose number among the token's lines counts from 1.
+pub fn write_line(
+    text: &mut String,
+    table: &FareTable,
+    token: Token,
+    number: u64,
+    entry: &Entry,
+    reason: &Reason,
+) -> Result<(), AllocError>
+    ensures { OnOk result ((line : List ℕ)
+        × IsLedgerLine table.now token number entry.now reason.now line
+        × (string_bytes text.new ≡ string_bytes text.old ++ line)) }
+{
+    write_head(text, token, number)?;
+    write_moment(text, entry.moment)?;
+    write_fields(text, table, entry)?;
+    write_because(text, reason)?;
+    text.push_str("\n")?;
+    Ok(())
+}
+
+/// Appends the token and the number.
+#[tactic(auto, unfolding(crate::specs::Ledger::line_head))]
+fn write_head(text: &mut String, token: Token, number: u64) -> Result<(), AllocError>
+    ensures { OnOk result (string_bytes text.new ≡ string_bytes text.old ++ line_head token number) }
+{
+    let digits = Digits(token);
+    write!(text, "{digits},{number},")
+}
+
+/// Appends the entry's fields behind its moment.
+#[tactic(auto, unfolding(crate::specs::Ledger::entry_fields))]
+fn write_fields(text: &mut String, table: &FareTable, entry: &Entry) -> Result<(), AllocError>
+    ensures { OnOk result (string_bytes text.new ≡ string_bytes text.old ++ entry_fields table.now entry.now) }
+{
+    let validator = entry.validator;
+    let mode = mode_field(table, validator);
+    let answer = answer_name(entry.answer);
+    let cents = entry.cents;
+    write!(text, ",{validator},{mode},{answer},{cents},")
+}
+
+/// The name of the validator's mode, or nothing where the table does not know the validator.
+fn mode_field(table: &FareTable, validator: u32) -> &str
+    ensures { result.now ≡ mode_field table.now validator }
+{
+    match table.mode_of(validator) {
+        Some(mode) => table.mode_name(mode),
+        None => "",
+    }
+}
