@@ -40,7 +40,7 @@ fn parts_for(uploads: &[Vec<u8>]) -> u32
 }
 
 /// Settles uploads. Four threads put the parts' taps into order; where one is refused, another does
-/// its work. It fails only where memory is refused. The bytes of the uploads are given back as soon
+/// its work. Its one error is want of memory. The bytes of the uploads are given back as soon
 /// as their taps are dealt to parts.
 pub fn settle<R: Threads + Sync>(
     rt: &R,
