@@ -20,7 +20,7 @@ use Rattle.std.proofs.lemmas.List.Elements.{filter-append}
 use Rattle.std.proofs.lemmas.List.Sums.{length-filter, count_by-le-length}
 use Rattle.std.proofs.lemmas.List.Folds.{list_any-append}
 use Rattle.shard_book.specs.declared.entry.Entry.{Entry}
-use Rattle.shard_book.specs.declared.tally.Tally.{Tally}
+use Rattle.shard_book.specs.declared.sums.tally.Tally.{Tally}
 use Rattle.shard_book.specs.Entry.{reply_of, own}
 use Rattle.shard_book.specs.Groups.{group, sums_by, sums_by_token, sums_by_validator, tokens, validators, all_entries}
 use Rattle.shard_book.specs.Shown.{token_sum, validator_sum}

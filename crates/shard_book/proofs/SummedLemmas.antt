@@ -20,7 +20,7 @@ use Rattle.shard_book.specs.declared.accounts.Kept.{Kept}
 use Rattle.shard_book.specs.declared.entry.Entry.{Entry}
 use Rattle.shard_book.specs.declared.token.Token.{Token}
 use Rattle.shard_book.specs.Accounts.{kept_at, counted, is_used, pair_of, pairs_of}
-use Rattle.shard_book.specs.declared.counts.TokenCounts.{TokenCounts}
+use Rattle.shard_book.specs.declared.sums.counts.TokenCounts.{TokenCounts}
 use Rattle.tap_views.specs.Shards.{shard_of_token}
 use Rattle.shard_book.specs.Book.{Book, AreOfShard}
 use Rattle.shard_book.specs.Counting.{AreCounted, AreSummed, AddsSums, AreBelow}

@@ -1,7 +1,7 @@
 -- What small counts stand for.
 use Rattle.std.specs.Prelude.{◌+◌}
-use Rattle.shard_book.specs.declared.counts.Counts.{Counts}
-use Rattle.shard_book.specs.declared.counts.TokenCounts.{TokenCounts}
+use Rattle.shard_book.specs.declared.sums.counts.Counts.{Counts}
+use Rattle.shard_book.specs.declared.sums.counts.TokenCounts.{TokenCounts}
 use Rattle.shard_book.specs.declared.token.Token.{Token}
 use Rattle.shard_book.specs.Sums.{Sums}
 

@@ -3,8 +3,8 @@ use Rattle.std.specs.Prelude.{ℕ, List, map}
 use Rattle.shard_book.specs.declared.sums.TokenSum.{TokenSum}
 use Rattle.shard_book.specs.declared.sums.ValidatorSum.{ValidatorSum}
 use Rattle.shard_book.specs.declared.token.Token.{Token}
-use Rattle.shard_book.specs.declared.token_sums.SumList.{SumList}
-use Rattle.shard_book.specs.declared.token_sums.SumList.TheVariants.{Counted, Added}
+use Rattle.shard_book.specs.declared.sums.token_sums.SumList.{SumList}
+use Rattle.shard_book.specs.declared.sums.token_sums.SumList.TheVariants.{Counted, Added}
 use Rattle.shard_book.specs.Counts.{token_counts}
 use Rattle.shard_book.specs.Sums.{Sums, sums_of}
 

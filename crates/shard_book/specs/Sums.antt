@@ -4,7 +4,7 @@ use Rattle.account_rule.specs.declared.reply.Answer.{Answer}
 use Rattle.account_rule.specs.declared.reply.Answer.TheVariants.{Paid, Transfer, Capped, Stale, Unknown}
 use Rattle.account_rule.specs.declared.reply.Reply.{Reply}
 use Rattle.shard_book.specs.declared.entry.Entry.{Entry}
-use Rattle.shard_book.specs.declared.totals.Totals.{Totals}
+use Rattle.shard_book.specs.declared.sums.totals.Totals.{Totals}
 use Rattle.shard_book.specs.Entry.{reply_of}
 
 abbrev pub is_paid : Answer → Bool

@@ -1,6 +1,6 @@
 -- What a tally stands for.
 use Rattle.std.specs.Prelude.{ℕ, List, slice_index}
-use Rattle.shard_book.specs.declared.tally.Tally.{Tally}
+use Rattle.shard_book.specs.declared.sums.tally.Tally.{Tally}
 use Rattle.shard_book.specs.Places.{all_of}
 use Rattle.shard_book.specs.Sums.{Sums}
 

@@ -15,8 +15,8 @@ ghost use Rattle.shard_book.specs.Sums.{sums_of_replies, add_sums};
 ghost use Rattle.shard_book.specs.Token.{bytes_of, token_eq};
 ghost use Rattle.shard_book.specs.declared.token.Token.{Token};
 
-use crate::counts::{Counts, TokenCounts};
 use crate::keys::TokenKeys;
+use crate::sums::counts::{Counts, TokenCounts};
 use crate::token::Token;
 use account_rule::{Account, Reply, TapIn};
 use fare_table::{FareTable, NoMemory};
@@ -24,34 +24,18 @@ use indexmap::IndexMap;
 use indexmap::map::Entry as Place;
 use std::alloc::Global;
 
-/// A place at which no account is.
-pub(crate) const NO_PLACE: usize = usize::MAX;
-
 /// What is kept of one token: its account, and the counts of its entries.
 #[derive(Clone, Copy, Debug, PartialEq, Eq)]
 pub(crate) struct Kept {
-    account: Account,
-    counts: Counts,
-}
-
-impl Kept {
-    // Whether a cent more can be counted and the window, if there is one, has a length. Nearly all are so: who asks
-    // has both lines of memory near.
-    #[inline(always)]
-    fn is_usual(&self) -> bool {
-        let is_open = match self.account.window() {
-            Some(window) => window.start < window.until,
-            None => true,
-        };
-        is_open & self.counts.has_room()
-    }
+    pub(crate) account: Account,
+    pub(crate) counts: Counts,
 }
 
 /// An account for each token that has taps, with the counts of its entries; also for tokens whose taps were looked up
 /// and not posted.
 #[derive(Drop)]
 pub(crate) struct Accounts {
-    map: IndexMap<Token, Kept, TokenKeys>,
+    pub(crate) map: IndexMap<Token, Kept, TokenKeys>,
     // Whether the counts are right: it ends where one of them would be too large.
     counting: bool,
 }
@@ -104,25 +88,6 @@ impl Accounts {
                 });
                 Ok(last)
             }
-        }
-    }
-
-    /// The place of the token's account, for `step`. It is opened where there is none. On want of memory all that is kept
-    /// stays.
-    #[inline(always)]
-    pub(crate) fn place_ahead(&mut self, token: Token) -> Result<usize, NoMemory>
-        ensures stays { (other : Token) → StandsOn (kept_at self.old other) (kept_at self.new other) }
-        ensures counting { self.new.counting ≡ self.old.counting }
-    {
-        self.open(token)
-    }
-
-    /// The same place, where what is kept there is usual, else none. It is read, so that it is near when the tap is posted.
-    #[inline(always)]
-    pub(crate) fn usual_place(&self, place: usize) -> usize {
-        match self.map.get_index(place) {
-            Some((_, kept)) if kept.is_usual() => place,
-            _ => NO_PLACE,
         }
     }
 

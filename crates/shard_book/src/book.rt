@@ -11,10 +11,11 @@ ghost use Rattle.shard_book.specs.Token.{bytes_of};
 ghost use Rattle.shard_book.specs.Book.{AreOfShard, PostsTap, limit_of};
 ghost use Rattle.shard_book.specs.History.{IsLegal};
 
-use crate::accounts::{Accounts, NO_PLACE};
-use crate::counts::TokenCounts;
+use crate::accounts::Accounts;
 use crate::entry::Entry;
 use crate::keys::TokenKeys;
+use crate::prefetch::NO_PLACE;
+use crate::sums::counts::TokenCounts;
 use crate::token::Token;
 use account_rule::{Account, Reply, TapIn};
 use fare_table::{FareTable, NoMemory};
@@ -31,7 +32,7 @@ pub struct ShardBook {
     table: FareTable,
     shard: u32,
     shards: u32,
-    accounts: Accounts,
+    pub(crate) accounts: Accounts,
     history: Vec<Entry>,
 }
 
@@ -112,20 +113,6 @@ impl ShardBook {
             cents: reply.cents,
         });
         Ok(reply)
-    }
-
-    /// The place of the token's account, for `post_at`. An account without taps is opened where there is none.
-    #[inline(always)]
-    pub(crate) fn place_ahead(&mut self, token: Token) -> Result<usize, NoMemory>
-        ensures { self.new ≡ self.old }
-    {
-        self.accounts.place_ahead(token)
-    }
-
-    /// The same place, where what is kept there is usual, else none. It is read on the way.
-    #[inline(always)]
-    pub(crate) fn usual_place(&self, place: usize) -> usize {
-        self.accounts.usual_place(place)
     }
 
     /// The book's fare table.

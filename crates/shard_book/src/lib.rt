@@ -6,25 +6,19 @@
 
 mod accounts;
 mod book;
-mod by_token;
-mod counts;
 mod difference;
 mod ends;
 mod entry;
-mod groups;
 mod keys;
 pub mod laws;
 mod lines;
 mod post_run;
+mod prefetch;
 mod replies;
 mod run_end;
-mod side_by_side;
 mod statement;
 mod sums;
-mod tally;
 mod token;
-mod token_sums;
-mod totals;
 
 pub use book::ShardBook;
 pub use difference::first_difference;
@@ -35,8 +29,8 @@ pub use lines::Lines;
 pub use replies::Replies;
 pub use run_end::RunEnd;
 pub use statement::Statement;
+pub use sums::tally::Tally;
+pub use sums::token_sums::TokenSums;
+pub use sums::totals::Totals;
 pub use sums::{TokenSum, ValidatorSum, sums_by_token, sums_by_validator, totals_of};
-pub use tally::Tally;
 pub use token::Token;
-pub use token_sums::TokenSums;
-pub use totals::Totals;

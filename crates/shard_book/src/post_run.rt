@@ -5,62 +5,14 @@ ghost use Rattle.tap_views.specs.Shards.{run_taps};
 ghost use Rattle.shard_book.specs.History.{IsLegal};
 ghost use Rattle.shard_book.specs.Visits.{PostsRun, limits_of};
 
-use crate::accounts::NO_PLACE;
 use crate::book::ShardBook;
 use crate::ends::Ends;
+use crate::prefetch::{AT_ONCE, NO_PLACE};
 use crate::replies::Replies;
 use crate::run_end::RunEnd;
-use crate::token::Token;
-use fare_table::NoMemory;
-use tap_views::{Run, RunTaps};
-
-/// How many accounts are looked up at once: so many look-ups in a row wait for memory side by side, where each
-/// tap's own would wait alone.
-const AT_ONCE: usize = 16;
+use tap_views::Run;
 
 impl ShardBook {
-    // Looks up the accounts of the next taps, where it is their turn.
-    #[inline(always)]
-    fn look_ahead(
-        &mut self,
-        turn: usize,
-        ahead: &mut RunTaps,
-        places: &mut [usize; AT_ONCE],
-    ) -> Result<(), NoMemory>
-        ensures { self.new ≡ self.old }
-    {
-        if turn == 0 {
-            self.look_up(ahead, places)
-        } else {
-            Ok(())
-        }
-    }
-
-    // Looks up the accounts of the next taps, and opens those that are missing. Nothing is posted.
-    fn look_up(
-        &mut self,
-        ahead: &mut RunTaps,
-        places: &mut [usize; AT_ONCE],
-    ) -> Result<(), NoMemory>
-        ensures { self.new ≡ self.old }
-    {
-        for place in places.iter_mut() {
-            let Some(tap) = ahead.next() else {
-                break;
-            };
-            *place = self.place_ahead(Token::of(tap.token()))?;
-        }
-        // What is kept there is read in a loop of its own, so short that all its reads wait side by side. Behind the taps of a
-        // short run there is no place.
-        for place in places.iter_mut() {
-            if *place == NO_PLACE {
-                break;
-            }
-            *place = self.usual_place(*place);
-        }
-        Ok(())
-    }
-
     /// Posts the taps of a run in their order and appends their replies to `out`, up to the first want of memory.
     ///
     /// `ends` are the table's limits for the run's taps, and `out` has room for a reply to each.
@@ -81,7 +33,7 @@ impl ShardBook {
         self.post_taps(run, ends, out)
     }
 
-    // The same, made ready for taps.
+    /// Posts a run that has taps, as `post_run` does.
     #[inline(never)]
     fn post_taps(&mut self, run: &Run, ends: &Ends, out: &mut Replies) -> RunEnd
         requires shard { run.now.shard ≡ self.old.shard }
@@ -97,7 +49,10 @@ impl ShardBook {
         let mut places = [NO_PLACE; AT_ONCE];
         for tap in run.taps() {
             let turn = posted as usize % AT_ONCE;
-            if self.look_ahead(turn, &mut ahead, &mut places).is_err() {
+            if self
+                .prefetch_in_turn(turn, &mut ahead, &mut places)
+                .is_err()
+            {
                 return RunEnd::Cut { posted };
             }
             match self.post_at(&tap, ends.at(posted), places[turn]) {

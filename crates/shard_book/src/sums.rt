@@ -7,18 +7,26 @@ ghost use Rattle.shard_book.specs.Shown.{validator_sum, token_sum};
 ghost use Rattle.shard_book.specs.Sums.{Sums, sums, sums_of};
 
 use crate::book::ShardBook;
-use crate::by_token::rising_counts;
-use crate::counts::TokenCounts;
 use crate::entry::Entry;
-use crate::groups::{GroupKey, listed, sums_of_books};
-use crate::side_by_side::tallies_by_validator;
-use crate::tally::Tally;
+use crate::sums::by_threads::tallies_by_validator;
+use crate::sums::by_token::rising_counts;
+use crate::sums::counts::TokenCounts;
+use crate::sums::groups::{GroupKey, listed, sums_of_books};
+use crate::sums::tally::Tally;
+use crate::sums::totals::Totals;
 use crate::token::Token;
-use crate::totals::Totals;
 use fare_table::NoMemory;
 use std::alloc::Global;
 use std::marker::Sync;
 use std::thread::Threads;
+
+pub(crate) mod by_threads;
+pub(crate) mod by_token;
+pub(crate) mod counts;
+pub(crate) mod groups;
+pub(crate) mod tally;
+pub(crate) mod token_sums;
+pub(crate) mod totals;
 
 /// A validator and the totals of its entries.
 #[derive(Clone, Copy, Debug, PartialEq, Eq)]
@@ -139,7 +147,7 @@ pub fn sums_by_token(alloc: Global, books: &[ShardBook]) -> Result<Vec<TokenSum>
     ensures { IfOk result (λ list. map token_sum list.items ≡ sums_by_token (all_entries books.now)) }
 {
     match rising_counts(alloc, books)? {
-        Some(list) => token_sums(alloc, &list),
+        Some(list) => widened_sums(alloc, &list),
         None => added_by_token(alloc, books),
     }
 }
@@ -154,7 +162,7 @@ pub(crate) fn added_by_token(alloc: Global, books: &[ShardBook]) -> Result<Vec<T
 }
 
 /// The sums that the counts are.
-fn token_sums(alloc: Global, list: &[TokenCounts]) -> Result<Vec<TokenSum>, NoMemory>
+fn widened_sums(alloc: Global, list: &[TokenCounts]) -> Result<Vec<TokenSum>, NoMemory>
     ensures { IfOk result (λ sums. map token_sum sums.items ≡ map token_counts list.now) }
 {
     let mut sums = Vec::with_capacity(alloc, list.len())?;

@@ -2,7 +2,9 @@
 
 ghost use Rattle.tap_views.specs.Files.{IsReading};
 
-use crate::steps::Batches;
+use crate::file::iter::Batches;
+
+pub(crate) mod iter;
 
 /// The batches of a file, and at its first layout fault that fault with the offset of its batch. An
 /// empty file gives nothing.

@@ -14,7 +14,6 @@ mod file;
 pub mod laws;
 mod run;
 mod shard;
-mod steps;
 mod taps;
 mod view;
 
@@ -23,8 +22,8 @@ pub use cut::Cut;
 pub use encoder::{EncodeFault, Tap2Fields, TapFields, encode, encode_tap2};
 pub use fault::LayoutFault;
 pub use file::batches;
+pub use file::iter::Batches;
 pub use run::{Run, RunTaps};
 pub use shard::shard_of;
-pub use steps::Batches;
 pub use taps::Taps;
 pub use view::TapView;

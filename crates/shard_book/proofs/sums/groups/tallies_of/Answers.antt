@@ -1,0 +1,16 @@
+use Rattle.std.proofs.Common.{◌≤◌, ◌*◌, ◌^◌, length, take, arith}
+use Rattle.shard_book.specs.Groups.{all_entries}
+use Rattle.shard_book.specs.Grouping.{HasRoom}
+use Rattle.shard_book.proofs.GroupingLemmas.{grouped-none}
+use Rattle.shard_book.proofs.sums.groups.tallies_of.Goals as goal
+
+pub loop-book-init : goal.loop-book-init
+loop-book-init g c = (grouped-none _ _ _ c.with_hasher-tallies.ensures.empty, omega arith)
+
+pub add_entries-requires : goal.add_entries-requires
+unfolding HasRoom
+add_entries-requires g c =
+    let before = take c.loop-book.book-index c.args.books.now in
+    let bound : length (all_entries before) ≤ c.loop-book.book-index * 2 ^ 64 = c.loop-book.invariant.1 in
+    let most : length c.args.books.now ≤ 64 = c.requires in
+    (all_entries before, c.loop-book.invariant.0, omega arith)

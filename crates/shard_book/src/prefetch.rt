@@ -1,0 +1,115 @@
+//! Prefetch: what is read before its time, for the processor's sake. Each tap needs its account from
+//! wherever the caches have it. Sixteen look-ups in a row wait for memory side by side, where each
+//! tap's own would wait alone. No promise rests on what is found here: a place that is not the
+//! token's costs a second look-up.
+
+ghost use Rattle.std.specs.Prelude.{◌≡◌};
+ghost use Rattle.shard_book.specs.Accounts.{kept_at, StandsOn};
+
+use crate::accounts::{Accounts, Kept};
+use crate::book::ShardBook;
+use crate::sums::counts::Counts;
+use crate::token::Token;
+use fare_table::NoMemory;
+use tap_views::RunTaps;
+
+/// How many accounts are looked up at once.
+pub(crate) const AT_ONCE: usize = 16;
+
+/// A place at which no account is.
+pub(crate) const NO_PLACE: usize = usize::MAX;
+
+impl Counts {
+    /// Prefetch: reads the cents. True unless no cent more can be counted, so nearly always.
+    #[inline(always)]
+    pub(crate) fn prefetch(&self) -> bool {
+        self.cents < u32::MAX
+    }
+}
+
+impl Kept {
+    /// Prefetch: reads the account and its counts, so that both cache lines are loaded when the tap
+    /// is posted. False only costs a second look-up.
+    #[inline(always)]
+    fn prefetch(&self) -> bool {
+        let is_open = match self.account.window() {
+            Some(window) => window.start < window.until,
+            None => true,
+        };
+        is_open & self.counts.prefetch()
+    }
+}
+
+impl Accounts {
+    /// The place of the token's account, for `step`. If there is none, an account without taps is
+    /// opened. If memory is refused, all that is kept stays.
+    #[inline(always)]
+    pub(crate) fn open_early(&mut self, token: Token) -> Result<usize, NoMemory>
+        ensures stays { (other : Token) → StandsOn (kept_at self.old other) (kept_at self.new other) }
+        ensures counting { self.new.counting ≡ self.old.counting }
+    {
+        self.open(token)
+    }
+
+    /// Prefetch: reads what is kept at the place, and returns the place, or `NO_PLACE`.
+    #[inline(always)]
+    pub(crate) fn prefetch(&self, place: usize) -> usize {
+        match self.map.get_index(place) {
+            Some((_, kept)) if kept.prefetch() => place,
+            _ => NO_PLACE,
+        }
+    }
+}
+
+impl ShardBook {
+    /// The place of the token's account, for `post_at`. If there is none, an account without taps is
+    /// opened: the book stays as it is.
+    #[inline(always)]
+    pub(crate) fn open_early(&mut self, token: Token) -> Result<usize, NoMemory>
+        ensures { self.new ≡ self.old }
+    {
+        self.accounts.open_early(token)
+    }
+
+    /// Looks up the accounts of the next sixteen taps at each sixteenth tap.
+    #[inline(always)]
+    pub(crate) fn prefetch_in_turn(
+        &mut self,
+        turn: usize,
+        ahead: &mut RunTaps,
+        places: &mut [usize; AT_ONCE],
+    ) -> Result<(), NoMemory>
+        ensures { self.new ≡ self.old }
+    {
+        if turn == 0 {
+            self.prefetch(ahead, places)
+        } else {
+            Ok(())
+        }
+    }
+
+    /// Looks up the accounts of the next taps, and opens those that are missing. Nothing is posted.
+    fn prefetch(
+        &mut self,
+        ahead: &mut RunTaps,
+        places: &mut [usize; AT_ONCE],
+    ) -> Result<(), NoMemory>
+        ensures { self.new ≡ self.old }
+    {
+        for place in places.iter_mut() {
+            let Some(tap) = ahead.next() else {
+                break;
+            };
+            *place = self.open_early(Token::of(tap.token()))?;
+        }
+        // A loop of its own, so short that all its reads wait side by side. A run of fewer taps has
+        // no place behind its last.
+        for place in places.iter_mut() {
+            if *place == NO_PLACE {
+                break;
+            }
+            *place = self.accounts.prefetch(*place);
+        }
+        Ok(())
+    }
+}

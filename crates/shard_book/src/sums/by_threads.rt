@@ -1,0 +1,144 @@
+//! Tallies of the entries of several books, which threads make side by side.
+
+ghost use Rattle.std.specs.Prelude.{◌≡◌, ◌+◌, ◌*◌, ◌≤◌, ◌^◌, ◌==◌, List, ◌++◌, Some, cond, length, IfOk, OnOk};
+ghost use Rattle.std.specs.HashMap.{get};
+ghost use Rattle.shard_book.specs.declared.entry.Entry.{Entry};
+ghost use Rattle.shard_book.specs.declared.sums.tally.Tally.{Tally};
+ghost use Rattle.shard_book.specs.Grouping.{HaveRoom, IsGrouped, kept_sums};
+ghost use Rattle.shard_book.specs.Groups.{all_entries, validator_of};
+ghost use Rattle.shard_book.specs.Sums.{add_sums};
+ghost use Rattle.shard_book.specs.Tally.{sums_of_tally};
+
+use crate::book::ShardBook;
+use crate::keys::TokenKeys;
+use crate::sums::groups::{GroupKey, tallies_of};
+use crate::sums::tally::Tally;
+use fare_table::NoMemory;
+use std::alloc::Global;
+use std::collections::HashMap;
+use std::marker::Sync;
+use std::thread;
+use std::thread::Threads;
+
+/// From how many entries on threads share the work: with fewer, to start them takes longer than they spare.
+const WORTH_THREADS: u64 = 65_536;
+
+/// Adds one tally to that of its key.
+fn add_tally<K: GroupKey>(
+    tallies: &mut HashMap<K, Tally, TokenKeys>,
+    key: K,
+    tally: &Tally,
+) -> Result<(), NoMemory>
+    requires { (kept_sums (get K.eq tallies.old key)).taps + (sums_of_tally tally.now).taps ≤ 2 ^ 95 }
+    ensures { OnOk result ((sum : Tally)
+        × (sums_of_tally sum ≡ add_sums (kept_sums (get K.eq tallies.old key)) (sums_of_tally tally.now))
+        × ((other : K) → get K.eq tallies.new other ≡ cond (K.eq key other) (Some sum) (get K.eq tallies.old other))) }
+{
+    let kept = tallies.entry(key)?.or_insert(Tally::new());
+    kept.add_all(tally);
+    Ok(())
+}
+
+/// Adds the tallies of more entries.
+fn add_tallies<K: GroupKey>(
+    tallies: &mut HashMap<K, Tally, TokenKeys>,
+    more: &HashMap<K, Tally, TokenKeys>,
+) -> Result<(), NoMemory>
+    requires { HaveRoom K.eq K.key_of tallies.old.entries more.now.entries }
+    ensures { OnOk result ((before after : List Entry) → IsGrouped K.eq K.key_of before tallies.old.entries
+        → IsGrouped K.eq K.key_of after more.now.entries → IsGrouped K.eq K.key_of (before ++ after) tallies.new.entries) }
+{
+    for (key, tally) in more.iter() {
+        add_tally(tallies, *key, tally)?;
+    }
+    Ok(())
+}
+
+/// The tallies of all entries of the books by their validators, half of the books by a thread of their own.
+fn tallies_by_two<R: Threads + Sync>(
+    rt: &R,
+    alloc: Global,
+    keys: TokenKeys,
+    books: &[ShardBook],
+) -> Result<HashMap<u32, Tally, TokenKeys>, NoMemory>
+    requires { length books.now ≤ 64 }
+    ensures grouped { IfOk result (λ tallies. IsGrouped ◌==◌ validator_of (all_entries books.now) tallies.entries) }
+    ensures few { OnOk result (length (all_entries books.now) ≤ length books.now * 2 ^ 64) }
+{
+    let (front, back) = books.split_at(books.len() / 2);
+    let (tallies, more) = thread::join(
+        rt,
+        move || -> Result<HashMap<u32, Tally, TokenKeys>, NoMemory>
+            requires { length front.now ≤ 64 }
+            ensures grouped { IfOk result (λ tallies. IsGrouped ◌==◌ validator_of (all_entries front.entry.now) tallies.entries) }
+            ensures few { OnOk result (length (all_entries front.entry.now) ≤ length front.entry.now * 2 ^ 64) }
+        { tallies_of::<u32>(alloc, keys, front) },
+        move || -> Result<HashMap<u32, Tally, TokenKeys>, NoMemory>
+            requires { length back.now ≤ 64 }
+            ensures grouped { IfOk result (λ tallies. IsGrouped ◌==◌ validator_of (all_entries back.entry.now) tallies.entries) }
+            ensures few { OnOk result (length (all_entries back.entry.now) ≤ length back.entry.now * 2 ^ 64) }
+        { tallies_of::<u32>(alloc, keys, back) },
+    );
+    let mut tallies = tallies?;
+    let more = more?;
+    add_tallies(&mut tallies, &more)?;
+    Ok(tallies)
+}
+
+/// The same, a quarter of the books by each of four threads.
+fn tallies_by_four<R: Threads + Sync>(
+    rt: &R,
+    alloc: Global,
+    keys: TokenKeys,
+    books: &[ShardBook],
+) -> Result<HashMap<u32, Tally, TokenKeys>, NoMemory>
+    requires { length books.now ≤ 64 }
+    ensures grouped { IfOk result (λ tallies. IsGrouped ◌==◌ validator_of (all_entries books.now) tallies.entries) }
+    ensures few { OnOk result (length (all_entries books.now) ≤ length books.now * 2 ^ 64) }
+{
+    let (front, back) = books.split_at(books.len() / 2);
+    let (tallies, more) = thread::join(
+        rt,
+        move || -> Result<HashMap<u32, Tally, TokenKeys>, NoMemory>
+            requires { length front.now ≤ 64 }
+            ensures grouped { IfOk result (λ tallies. IsGrouped ◌==◌ validator_of (all_entries front.entry.now) tallies.entries) }
+            ensures few { OnOk result (length (all_entries front.entry.now) ≤ length front.entry.now * 2 ^ 64) }
+        { tallies_by_two(rt, alloc, keys, front) },
+        move || -> Result<HashMap<u32, Tally, TokenKeys>, NoMemory>
+            requires { length back.now ≤ 64 }
+            ensures grouped { IfOk result (λ tallies. IsGrouped ◌==◌ validator_of (all_entries back.entry.now) tallies.entries) }
+            ensures few { OnOk result (length (all_entries back.entry.now) ≤ length back.entry.now * 2 ^ 64) }
+        { tallies_by_two(rt, alloc, keys, back) },
+    );
+    let mut tallies = tallies?;
+    let more = more?;
+    add_tallies(&mut tallies, &more)?;
+    Ok(tallies)
+}
+
+/// Whether the books have so many entries that threads share the work.
+fn are_worth_threads(books: &[ShardBook]) -> bool {
+    let mut entries = 0u64;
+    for book in books {
+        entries = entries.saturating_add(book.len());
+    }
+    entries >= WORTH_THREADS
+}
+
+/// The tallies of all entries of the books by their validators. Of many entries, threads go over a quarter of the books each.
+pub(crate) fn tallies_by_validator<R: Threads + Sync>(
+    rt: &R,
+    alloc: Global,
+    keys: TokenKeys,
+    books: &[ShardBook],
+) -> Result<HashMap<u32, Tally, TokenKeys>, NoMemory>
+    requires { length books.now ≤ 64 }
+    ensures grouped { IfOk result (λ tallies. IsGrouped ◌==◌ validator_of (all_entries books.now) tallies.entries) }
+    ensures few { OnOk result (length (all_entries books.now) ≤ length books.now * 2 ^ 64) }
+{
+    if are_worth_threads(books) {
+        tallies_by_four(rt, alloc, keys, books)
+    } else {
+        tallies_of::<u32>(alloc, keys, books)
+    }
+}

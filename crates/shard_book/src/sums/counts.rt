@@ -1,0 +1,124 @@
+//! The counts that a book keeps of each token, small and beside the token's account.
+
+ghost use Rattle.std.specs.Prelude.{◌≡◌, ◌+◌, ◌*◌, ◌<◌, ◌≤◌, IsTrue};
+
+use crate::sums::TokenSum;
+use crate::sums::totals::Totals;
+use crate::token::Token;
+use account_rule::{Answer, Reply};
+
+/// What `Totals` counts, while the cents fit 32 bits and each other number 16. Of 16 bytes, where `Totals` has
+/// 112, so that an account and its counts take 64.
+#[derive(Clone, Copy, Debug, PartialEq, Eq)]
+pub(crate) struct Counts {
+    pub(crate) cents: u32,
+    paid: u16,
+    transfers: u16,
+    capped: u16,
+    stale: u16,
+    unknown: u16,
+    ghost in_cents: { cents ≤ (paid + transfers + capped + stale + unknown) * 4294967295 },
+}
+
+/// Adds one, and returns whether there was room: the largest number stays.
+#[inline(always)]
+fn add_one(count: &mut u16) -> bool
+    ensures added { IsTrue result → count.new ≡ count.old + 1 }
+    ensures some { 0 < count.new }
+{
+    let had_room = *count < u16::MAX;
+    *count = count.saturating_add(1);
+    had_room
+}
+
+impl Counts {
+    ghost use Rattle.std.specs.Prelude.{◌≡◌, ◌+◌, [], ◌∷◌, IsTrue};
+    ghost use Rattle.shard_book.specs.Counts.{sums_of_counts};
+    ghost use Rattle.shard_book.specs.Sums.{sums_of, sums_of_replies, add_sums, has_taps};
+
+    /// The counts of nothing.
+    #[tactic(auto, unfolding(crate::specs::Sums::sums_of_replies))]
+    pub(crate) fn new() -> Self
+        ensures { sums_of_counts result ≡ sums_of_replies [] }
+    {
+        Counts {
+            cents: 0,
+            paid: 0,
+            transfers: 0,
+            capped: 0,
+            stale: 0,
+            unknown: 0,
+        }
+    }
+
+    /// Counts one reply more, and returns whether there was room: else the counts are right no more.
+    #[tactic(auto, unfolding(crate::specs::Sums::sums_of_replies))]
+    pub(crate) fn add(&mut self, reply: Reply) -> bool
+        ensures { IsTrue result → sums_of_counts self.new ≡ add_sums (sums_of_counts self.old) (sums_of_replies (reply ∷ [])) }
+    {
+        let had_room = match reply.answer {
+            Answer::Paid => add_one(&mut self.paid),
+            Answer::Transfer => add_one(&mut self.transfers),
+            Answer::Capped => add_one(&mut self.capped),
+            Answer::Stale => add_one(&mut self.stale),
+            Answer::Unknown => add_one(&mut self.unknown),
+        };
+        let (cents, carries) = self.cents.overflowing_add(reply.cents);
+        self.cents = cents;
+        had_room & !carries
+    }
+
+    /// Whether they count any tap.
+    pub(crate) fn has_taps(&self) -> bool
+        ensures { result ≡ has_taps (sums_of_counts self.now) }
+    {
+        let some = u32::from(self.paid) + u32::from(self.transfers);
+        let free = u32::from(self.capped) + u32::from(self.stale) + u32::from(self.unknown);
+        some + free != 0
+    }
+
+    /// The counts, widened to totals.
+    pub(crate) fn totals(&self) -> Totals
+        ensures { sums_of result ≡ sums_of_counts self.now }
+    {
+        let paid = u128::from(self.paid);
+        let transfers = u128::from(self.transfers);
+        let capped = u128::from(self.capped);
+        let stale = u128::from(self.stale);
+        let unknown = u128::from(self.unknown);
+        Totals {
+            taps: paid + transfers + capped + stale + unknown,
+            paid,
+            transfers,
+            capped,
+            stale,
+            unknown,
+            cents: u128::from(self.cents),
+        }
+    }
+}
+
+/// A token and the counts of its entries.
+#[derive(Clone, Copy, Debug, PartialEq, Eq)]
+pub(crate) struct TokenCounts {
+    pub(crate) token: Token,
+    pub(crate) counts: Counts,
+}
+
+impl TokenCounts {
+    ghost use Rattle.std.specs.Prelude.{◌≡◌};
+    ghost use Rattle.shard_book.specs.Counts.{token_counts};
+    ghost use Rattle.shard_book.specs.Shown.{token_sum};
+
+    /// The token with its counts, widened to totals.
+    pub(crate) fn sum(&self) -> TokenSum
+        ensures { token_sum result ≡ token_counts self.now }
+    {
+        TokenSum {
+            token: self.token,
+            totals: self.counts.totals(),
+        }
+    }
+}
+
+const _: () = prove!(size_of::<Counts>() == 16);

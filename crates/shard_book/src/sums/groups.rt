@@ -1,0 +1,140 @@
+//! Sums of entries by a key, in one pass over the entries and a sort of the keys.
+
+ghost use Rattle.std.specs.Prelude.{◌≡◌, ◌+◌, ◌*◌, ◌≤◌, ◌^◌, List, [], ◌∷◌, ◌++◌, length, map, true, IfOk, OnOk};
+ghost use Rattle.shard_book.specs.declared.entry.Entry.{Entry};
+ghost use Rattle.shard_book.specs.Groups.{sums_by, all_entries};
+ghost use Rattle.shard_book.specs.Grouping.{IsGrouped, HasRoom, kept_sums};
+ghost use Rattle.shard_book.specs.Rising.{rising};
+ghost use Rattle.std.specs.HashMap.{get};
+ghost use Rattle.shard_book.specs.Sums.{Sums, sums_of};
+
+use crate::book::ShardBook;
+use crate::entry::Entry;
+use crate::keys::TokenKeys;
+use crate::sums::tally::Tally;
+use crate::sums::totals::Totals;
+use fare_table::NoMemory;
+use std::alloc::Global;
+use std::collections::HashMap;
+use std::hash::Hash;
+
+/// What entries are summed by.
+pub(crate) trait GroupKey: Copy + Ord + Hash + Drop {
+    /// A key with its totals.
+    type Sum: Drop;
+
+    // The entry's key.
+    ghost key_of: { Entry → Self };
+
+    // What a sum shows.
+    ghost shown: { Self.Sum → Self × Sums };
+
+    /// The entry's key.
+    fn of(entry: &Entry) -> Self
+        ensures { result ≡ key_of entry.now };
+
+    /// The key with its totals.
+    fn sum(self, totals: Totals) -> Self::Sum
+        ensures { shown result ≡ (self, sums_of totals) };
+
+    // Keys that are equal by `==` are the same.
+    ghost same: { (a b : Self) → Self.eq a b ≡ true → a ≡ b };
+}
+
+/// Adds one entry to the tally of its key.
+fn add_entry<K: GroupKey>(
+    tallies: &mut HashMap<K, Tally, TokenKeys>,
+    entry: &Entry,
+) -> Result<(), NoMemory>
+    requires { HasRoom K.eq K.key_of tallies.old.entries 1 }
+    ensures { OnOk result ((before : List Entry) → IsGrouped K.eq K.key_of before tallies.old.entries → IsGrouped K.eq K.key_of (before ++ entry.now ∷ []) tallies.new.entries) }
+{
+    let kept = tallies.entry(K::of(entry))?.or_insert(Tally::new());
+    kept.add(entry.reply());
+    Ok(())
+}
+
+/// Adds entries to the tallies of their keys.
+fn add_entries<K: GroupKey>(
+    tallies: &mut HashMap<K, Tally, TokenKeys>,
+    entries: &[Entry],
+) -> Result<(), NoMemory>
+    requires { HasRoom K.eq K.key_of tallies.old.entries (length entries.now) }
+    ensures { OnOk result ((before : List Entry) → IsGrouped K.eq K.key_of before tallies.old.entries → IsGrouped K.eq K.key_of (before ++ entries.now) tallies.new.entries) }
+{
+    for entry in entries {
+        add_entry(tallies, entry)?;
+    }
+    Ok(())
+}
+
+/// The keys, rising.
+fn rising_keys<K: GroupKey>(
+    alloc: Global,
+    tallies: &HashMap<K, Tally, TokenKeys>,
+) -> Result<Vec<K>, NoMemory>
+    ensures { IfOk result (λ keys. (entries : List Entry) → IsGrouped K.eq K.key_of entries tallies.now.entries → keys.items ≡ rising K.cmp (map K.key_of entries)) }
+{
+    let mut keys: Vec<K> = tallies.keys().copied().collect(alloc)?;
+    keys.sort_unstable();
+    Ok(keys)
+}
+
+/// The totals that are kept for the key, of nothing where there are none.
+fn kept_totals<K: GroupKey>(tallies: &HashMap<K, Tally, TokenKeys>, key: K) -> Totals
+    requires { HasRoom K.eq K.key_of tallies.now.entries 0 }
+    ensures { sums_of result ≡ kept_sums (get K.eq tallies.now key) }
+{
+    match tallies.get(&key) {
+        Some(kept) => kept.totals(),
+        None => Totals::new(),
+    }
+}
+
+/// Each key with its totals, by rising keys.
+pub(crate) fn listed<K: GroupKey>(
+    alloc: Global,
+    tallies: &HashMap<K, Tally, TokenKeys>,
+) -> Result<Vec<K::Sum>, NoMemory>
+    requires { HasRoom K.eq K.key_of tallies.now.entries 0 }
+    ensures { IfOk result (λ list. (entries : List Entry) → IsGrouped K.eq K.key_of entries tallies.now.entries → map K.shown list.items ≡ sums_by K.cmp K.eq K.key_of entries) }
+{
+    let keys = rising_keys(alloc, tallies)?;
+    let mut list = Vec::with_capacity(alloc, keys.len())?;
+    for key in &keys {
+        list.push_reserved(key.sum(kept_totals(tallies, *key)));
+    }
+    Ok(list)
+}
+
+/// The tallies of all entries of the books by their keys.
+pub(crate) fn tallies_of<K: GroupKey>(
+    alloc: Global,
+    keys: TokenKeys,
+    books: &[ShardBook],
+) -> Result<HashMap<K, Tally, TokenKeys>, NoMemory>
+    requires { length books.now ≤ 64 }
+    ensures grouped { IfOk result (λ tallies. IsGrouped K.eq K.key_of (all_entries books.now) tallies.entries) }
+    ensures few { OnOk result (length (all_entries books.now) ≤ length books.now * 2 ^ 64) }
+{
+    let mut tallies = HashMap::with_hasher(alloc, keys);
+    for book in books {
+        add_entries::<K>(&mut tallies, book.entries())?;
+    }
+    Ok(tallies)
+}
+
+/// The sums of all entries of the books by their keys.
+pub(crate) fn sums_of_books<K: GroupKey>(
+    alloc: Global,
+    books: &[ShardBook],
+) -> Result<Vec<K::Sum>, NoMemory>
+    requires { length books.now ≤ 64 }
+    ensures { IfOk result (λ list. map K.shown list.items ≡ sums_by K.cmp K.eq K.key_of (all_entries books.now)) }
+{
+    let Some(first) = books.first() else {
+        return Ok(Vec::new(alloc));
+    };
+    let tallies = tallies_of::<K>(alloc, first.keys(), books)?;
+    listed(alloc, &tallies)
+}
