@@ -1,7 +1,10 @@
 pub mod ChainLemmas
+pub mod EntryLemmas
 pub mod MaskLemmas
 pub mod OverlapLemmas
 pub mod PairLemmas
+pub mod PartLemmas
+pub mod ReadLemmas
 pub mod UntilLemmas
 pub mod TextFaultLemmas
 pub mod TokenBytes

@@ -1,4 +1,5 @@
 pub mod Classes
+pub mod Entries
 pub mod Fares
 pub mod Key
 pub mod Marks

@@ -1,7 +1,8 @@
 //! Laws of fare tables. Each function's contract is the law; it has nothing to do.
-ghost use Rattle.std.specs.Prelude.{◌≡◌, ◌↔◌, ℕ, ◌<◌, true, Ok};
+ghost use Rattle.std.specs.Prelude.{◌≡◌, ◌↔◌, ℕ, ◌<◌, true, None, Ok, Some};
 ghost use Rattle.toml.specs.Data.{Members};
-ghost use Rattle.fare_table.specs.Fares.{Fares};
+ghost use Rattle.fare_table.specs.Entries.{EntryGives, EntryHas};
+ghost use Rattle.fare_table.specs.Fares.{Fares, mode_at};
 ghost use Rattle.fare_table.specs.Rules.{Rules, rules_of};
 ghost use Rattle.fare_table.specs.Transfers.{has_pair, ListsPair};
 ghost use Rattle.fare_table.specs.Until.{IsLimit, until};
@@ -24,4 +25,17 @@ pub fn windows_have_one_limit()
 pub fn permitted_pairs_are_listed()
     ensures { (tree : Members) (rules : Rules) (from to : ℕ) → rules_of tree ≡ Ok rules
         → (has_pair rules.transfers from to ≡ true) ↔ ListsPair rules.modes tree from to }
+{}
+
+/// The mode of a validator is the one that the entry of the text's `validators` names which has it,
+/// and none exactly where no entry has it. At most one entry has it.
+pub fn modes_are_of_entries()
+    ensures some { (tree : Members) (fares : Fares) (validator mode : ℕ)
+        → rules_of tree ≡ Ok fares.rules
+        → (mode_at fares validator ≡ Some mode) ↔ EntryGives fares.rules.modes tree validator mode }
+    ensures none { (tree : Members) (fares : Fares) (validator : ℕ) → rules_of tree ≡ Ok fares.rules
+        → (mode_at fares validator ≡ None) ↔ ((place : ℕ) → ¬ EntryHas tree validator place) }
+    ensures one { (tree : Members) (rules : Rules) (validator place place' : ℕ)
+        → rules_of tree ≡ Ok rules → EntryHas tree validator place → EntryHas tree validator place'
+        → place ≡ place' }
 {}
