@@ -38,7 +38,7 @@ other_has n one other ends has = elim (cases_Bool (has_number n other)) [
   | inr none ↦ none
 ]
 
-with_one : ℕ × Span → List (ℕ × Span) → List (ℕ × Span)
+pub with_one : ℕ × Span → List (ℕ × Span) → List (ℕ × Span)
 with_one range ranges = insert_entry nat_cmp ranges range.0 range.1
 
 found_step : (n : ℕ) (range other : ℕ × Span) (more : List (ℕ × Span)) → range.0 ≤ range.1.last → other.0 ≤ other.1.last → share_number range other ≡ false
@@ -109,10 +109,10 @@ pub record Reads (modes : List (List ℕ)) (value : Data) (range : ℕ × Span) 
   pub order : range.0 ≤ range.1.last
   pub names : NamesMode modes entry range.1.mode
 
-abbrev span_of : ℕ → ℕ → Span
+abbrev pub span_of : ℕ → ℕ → Span
 span_of last mode = record { last = last; mode = mode }
 
-abbrev by_mode : ℕ → ℕ → ℕ → Outcome (ℕ × Span)
+abbrev pub by_mode : ℕ → ℕ → ℕ → Outcome (ℕ × Span)
 by_mode first last mode = Ok (first, span_of last mode)
 
 abbrev by_name : List (List ℕ) → ℕ → ℕ → List ℕ → Outcome (ℕ × Span)
@@ -292,7 +292,7 @@ only modes n earlier (item first more) ranges (suc place) (suc place') value val
     ap suc (only modes n s.next more ranges place place' value value' range range' s.rest s.chain at read has at' read' has')
 
 -- ---- the laws
-if_ok : {A : Type 0} (b : Bool) (o : Outcome A) (e : TableFault) (a : A) → (if b then o else Err e) ≡ Ok a → o ≡ Ok a
+pub if_ok : {A : Type 0} (b : Bool) (o : Outcome A) (e : TableFault) (a : A) → (if b then o else Err e) ≡ Ok a → o ≡ Ok a
 if_ok true o e a is = is
 if_ok false o e a is = absurd (cc)
 
@@ -301,7 +301,7 @@ pub record AreRead (modes : List (List ℕ)) (tree : Members) (ranges : List (�
   pub listed : get_member (codes "validators") tree ≡ Some (array items)
   pub read : ranges_from modes [] items ≡ Ok ranges
 
-abbrev by_tables : List (List ℕ) → Items → Outcome (List (ℕ × Span))
+abbrev pub by_tables : List (List ℕ) → Items → Outcome (List (ℕ × Span))
 by_tables modes items = if are_tables items then ranges_from modes [] items else Err (Kind the_key.Validators)
 
 ranges_read : (modes : List (List ℕ)) (tree : Members) (ranges : List (ℕ × Span)) → ranges_of modes tree ≡ Ok ranges → AreRead modes tree ranges

@@ -1,9 +1,11 @@
 pub mod ChainLemmas
 pub mod EntryLemmas
 pub mod MaskLemmas
+pub mod OrderLemmas
 pub mod OverlapLemmas
 pub mod PairLemmas
 pub mod PartLemmas
+pub mod PayLemmas
 pub mod ReadLemmas
 pub mod UntilLemmas
 pub mod TextFaultLemmas

@@ -9,7 +9,7 @@ use Rattle.fare_table.specs.Outcome.{Outcome, ◌>>=◌}
 use Rattle.fare_table.specs.declared.fault.Key.{Key}
 use Rattle.fare_table.specs.declared.fault.TableFault.TheVariants.{Missing, Kind, Range}
 
-is_text : (value : Data) (key : Key) (text : List ℕ) → of_kind key (as_str value) ≡ Ok text → value ≡ string text
+pub is_text : (value : Data) (key : Key) (text : List ℕ) → of_kind key (as_str value) ≡ Ok text → value ≡ string text
 is_text (string s) key text is = cc
 is_text _ key text is = absurd (cc)
 

@@ -1,3 +1,4 @@
+pub mod ByteOrder
 pub mod Classes
 pub mod Entries
 pub mod Fares
@@ -6,6 +7,7 @@ pub mod Marks
 pub mod Members
 pub mod Modes
 pub mod Outcome
+pub mod Paying
 pub mod PosixRule
 pub mod Riders
 pub mod Rules

@@ -1,11 +1,15 @@
 //! Laws of fare tables. Each function's contract is the law; it has nothing to do.
-ghost use Rattle.std.specs.Prelude.{◌≡◌, ◌↔◌, ℕ, ◌<◌, true, None, Ok, Some};
-ghost use Rattle.toml.specs.Data.{Members};
+ghost use Rattle.std.specs.Prelude.{◌≡◌, ◌↔◌, ℕ, ◌<◌, true, List, None, Ok, Some};
+ghost use Rattle.toml.specs.Data.{Members, table, get_member};
+ghost use Rattle.toml.specs.Parse.{parse_document};
+ghost use Rattle.fare_table.specs.ByteOrder.{in_byte_order};
 ghost use Rattle.fare_table.specs.Entries.{EntryGives, EntryHas};
-ghost use Rattle.fare_table.specs.Fares.{Fares, mode_at};
+ghost use Rattle.fare_table.specs.Fares.{Fares, mode_at, terms_at};
+ghost use Rattle.fare_table.specs.Paying.{NamesRider, Pays};
 ghost use Rattle.fare_table.specs.Rules.{Rules, rules_of};
 ghost use Rattle.fare_table.specs.Transfers.{has_pair, ListsPair};
 ghost use Rattle.fare_table.specs.Until.{IsLimit, until};
+ghost use Rattle.fare_table.specs.declared.terms.Terms.{Terms};
 
 /// A window that starts before 2100-01-01T00:00Z ends after it starts.
 pub fn windows_end_later()
@@ -38,4 +42,22 @@ pub fn modes_are_of_entries()
     ensures one { (tree : Members) (rules : Rules) (validator place place' : ℕ)
         → rules_of tree ≡ Ok rules → EntryHas tree validator place → EntryHas tree validator place'
         → place ≡ place' }
+{}
+
+/// What a token pays are the terms of the class that the key of the text's `riders` has which names
+/// it, else those of the default class. At most one key names it.
+pub fn terms_are_of_classes()
+    ensures terms { (tree : Members) (fares : Fares) (token : List ℕ) (terms : Terms)
+        → rules_of tree ≡ Ok fares.rules
+        → (terms_at fares token ≡ terms) ↔ Pays tree token terms }
+    ensures one { (tree : Members) (rules : Rules) (token key key' class class' : List ℕ)
+        → rules_of tree ≡ Ok rules → NamesRider tree token key class
+        → NamesRider tree token key' class' → key ≡ key' }
+{}
+
+/// The keys of the tables of a text, as of `classes` and `riders`, stand in the byte order in which
+/// they are read.
+pub fn keys_come_in_byte_order()
+    ensures { (text key : List ℕ) (tree keys : Members) → parse_document text ≡ Some tree
+        → get_member key tree ≡ Some (table keys) → in_byte_order keys ≡ true }
 {}
