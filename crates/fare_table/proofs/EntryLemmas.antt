@@ -38,7 +38,7 @@ other_has n one other ends has = elim (cases_Bool (has_number n other)) [
   | inr none ↦ none
 ]
 
-pub with_one : ℕ × Span → List (ℕ × Span) → List (ℕ × Span)
+with_one : ℕ × Span → List (ℕ × Span) → List (ℕ × Span)
 with_one range ranges = insert_entry nat_cmp ranges range.0 range.1
 
 found_step : (n : ℕ) (range other : ℕ × Span) (more : List (ℕ × Span)) → range.0 ≤ range.1.last → other.0 ≤ other.1.last → share_number range other ≡ false

@@ -1,5 +1,6 @@
 pub mod ChainLemmas
 pub mod EntryLemmas
+pub mod FaultLemmas
 pub mod MaskLemmas
 pub mod OrderLemmas
 pub mod OverlapLemmas
@@ -7,6 +8,7 @@ pub mod PairLemmas
 pub mod PartLemmas
 pub mod PayLemmas
 pub mod ReadLemmas
+pub mod RowLemmas
 pub mod UntilLemmas
 pub mod TextFaultLemmas
 pub mod TokenBytes

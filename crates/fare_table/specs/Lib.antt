@@ -2,6 +2,7 @@ pub mod ByteOrder
 pub mod Classes
 pub mod Entries
 pub mod Fares
+pub mod Faults
 pub mod Key
 pub mod Marks
 pub mod Members

@@ -1,14 +1,16 @@
 //! Laws of fare tables. Each function's contract is the law; it has nothing to do.
-ghost use Rattle.std.specs.Prelude.{◌≡◌, ◌↔◌, ℕ, ◌<◌, true, List, None, Ok, Some};
+ghost use Rattle.std.specs.Prelude.{◌≡◌, ◌↔◌, ℕ, ◌<◌, true, List, Err, None, Ok, Some};
 ghost use Rattle.toml.specs.Data.{Members, table, get_member};
 ghost use Rattle.toml.specs.Parse.{parse_document};
 ghost use Rattle.fare_table.specs.ByteOrder.{in_byte_order};
 ghost use Rattle.fare_table.specs.Entries.{EntryGives, EntryHas};
 ghost use Rattle.fare_table.specs.Fares.{Fares, mode_at, terms_at};
+ghost use Rattle.fare_table.specs.Faults.{first_fault};
 ghost use Rattle.fare_table.specs.Paying.{NamesRider, Pays};
-ghost use Rattle.fare_table.specs.Rules.{Rules, rules_of};
+ghost use Rattle.fare_table.specs.Rules.{Rules, rules_in, rules_of};
 ghost use Rattle.fare_table.specs.Transfers.{has_pair, ListsPair};
 ghost use Rattle.fare_table.specs.Until.{IsLimit, until};
+ghost use Rattle.fare_table.specs.declared.fault.TableFault.{TableFault};
 ghost use Rattle.fare_table.specs.declared.terms.Terms.{Terms};
 
 /// A window that starts before 2100-01-01T00:00Z ends after it starts.
@@ -60,4 +62,11 @@ pub fn terms_are_of_classes()
 pub fn keys_come_in_byte_order()
     ensures { (text key : List ℕ) (tree keys : Members) → parse_document text ≡ Some tree
         → get_member key tree ≡ Some (table keys) → in_byte_order keys ≡ true }
+{}
+
+/// A text has a fault exactly where a row of the table of faults holds, and it is that of the first
+/// such row.
+pub fn first_row_tells_the_fault()
+    ensures { (text : List ℕ) (fault : TableFault)
+        → (rules_in text ≡ Err fault) ↔ (first_fault (parse_document text) ≡ Some fault) }
 {}
