@@ -1,5 +1,5 @@
 -- The mode of a validator is the one that the text's entry which has it names.
-use Rattle.std.proofs.Common.{◌≡◌, ◌⊎◌, ◌↔◌, ℕ, ◌<◌, ◌≤◌, ◌&&◌, ◌||◌, Bool, true, false, List, [], ◌∷◌, Option, Some, None, Ok, Err, cond, option_map, refl, sym, ap, ◌∙◌, subst, arith, inl, inr, ⊎_elim, zero, suc, codes, le-leb}
+use Rattle.std.proofs.Common.{◌≡◌, ◌⊎◌, ◌↔◌, ℕ, ◌<◌, ◌≤◌, ◌||◌, Bool, true, false, List, [], ◌∷◌, Option, Some, None, Ok, Err, cond, option_map, refl, sym, ap, ◌∙◌, arith, inl, inr, ⊎_elim, zero, suc, codes, le-leb}
 use Rattle.std.proofs.lemmas.Bool.{and_parts, cases_Bool, false≢true, leb-true, or_parts}
 use Rattle.std.specs.BTreeMap.{insert_entry}
 use Rattle.std.specs.List.{find, list_any}
@@ -183,7 +183,7 @@ pub record Steps (modes : List (List ℕ)) (earlier : List (ℕ × Span)) (value
 abbrev after_range : List (List ℕ) → List (ℕ × Span) → Items → ℕ × Span → Outcome (List (ℕ × Span))
 after_range modes earlier more range = with_range earlier range >>= (λ ranges. ranges_from modes ranges more)
 
-step : (modes : List (List ℕ)) (earlier : List (ℕ × Span)) (value : Data) (more : Items) (ranges : List (ℕ × Span))
+pub step : (modes : List (List ℕ)) (earlier : List (ℕ × Span)) (value : Data) (more : Items) (ranges : List (ℕ × Span))
     → ranges_from modes earlier (item value more) ≡ Ok ranges → is_chain earlier ≡ true → Steps modes earlier value more ranges
 unfolding with_one
 step modes earlier value more ranges is chain =
@@ -304,7 +304,7 @@ pub record AreRead (modes : List (List ℕ)) (tree : Members) (ranges : List (�
 abbrev pub by_tables : List (List ℕ) → Items → Outcome (List (ℕ × Span))
 by_tables modes items = if are_tables items then ranges_from modes [] items else Err (Kind the_key.Validators)
 
-ranges_read : (modes : List (List ℕ)) (tree : Members) (ranges : List (ℕ × Span)) → ranges_of modes tree ≡ Ok ranges → AreRead modes tree ranges
+pub ranges_read : (modes : List (List ℕ)) (tree : Members) (ranges : List (ℕ × Span)) → ranges_of modes tree ≡ Ok ranges → AreRead modes tree ranges
 unfolding ranges_of
 ranges_read modes tree ranges is =
     let items = bind_ok (array_at (codes "validators") the_key.Validators tree) (by_tables modes) ranges is in

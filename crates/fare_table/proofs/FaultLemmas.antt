@@ -1,42 +1,27 @@
 -- The fault that the rules of a tree tell is that of the first row that holds.
-use Rattle.std.proofs.Common.{◌≡◌, ◌≢◌, ◌⊎◌, ◌↔◌, ⊎_elim, ℕ, zero, suc, ◌+◌, ◌≤◌, ◌*◌, ◌&&◌, ◌||◌, not, Bool, true, false, List, [], ◌∷◌, ◌++◌, Option, Some, None, Ok, Err, cond, option_map, refl, sym, ap, ◌∙◌, subst, arith, codes, append_assoc, inl, inr, Ordering, Less, Equal, Greater}
-use Rattle.std.proofs.lemmas.Bool.{and_parts, cases_Bool, false≢true, or_parts}
+use Rattle.std.proofs.Common.{◌≡◌, ⊎_elim, ℕ, zero, suc, ◌+◌, ◌*◌, ◌&&◌, ◌||◌, not, Bool, true, false, List, [], ◌∷◌, ◌++◌, Option, Some, None, Ok, Err, cond, option_map, refl, sym, ap, ◌∙◌, subst, arith, codes, append_assoc}
+use Rattle.std.proofs.lemmas.Bool.{false≢true}
 use Rattle.std.proofs.lemmas.List.Folds.{find-append}
-use Rattle.std.specs.BTreeMap.{insert_entry}
 use Rattle.std.specs.Cmp.Lexicographic.{slice_cmp}
 use Rattle.std.specs.List.{cons_option, find, list_any}
-use Rattle.std.specs.Option.{is_none, is_some, ok_or, option_and_then, option_or, unwrap_or}
-use Rattle.std.specs.Ordering.{is_eq, match_ordering, nat_cmp}
-use Rattle.std.specs.Prelude.{ℤ, pos, int_le, nat_le, position, unsigned_abs, if◌then◌else◌}
-use Rattle.std.specs.Result.{result_err, result_ok}
-use Rattle.hex.specs.Hex.{decode_sized}
-use Rattle.jiff.specs.Words.{read_whole}
-use Rattle.toml.specs.Data.{Data, Items, no_items, item, Members, no_members, member, string, integer, array, table, get_member, get_item, as_str, as_integer, as_array, as_table}
-use Rattle.toml.specs.Parse.{parse_document}
-use Rattle.fare_table.proofs.EntryLemmas.{Reads, adds_range, reads, by_mode, span_of}
-use Rattle.fare_table.proofs.EntryLemmas as entry
-use Rattle.fare_table.proofs.OverlapLemmas.{chain-insert, comes_after, comes_before, ends_after, free_apart, rest_chain}
+use Rattle.std.specs.Option.{is_none, is_some, ok_or, option_or}
+use Rattle.std.specs.Ordering.{is_eq, nat_cmp}
+use Rattle.std.specs.Prelude.{pos, int_le, position, unsigned_abs, if◌then◌else◌}
+use Rattle.std.specs.Result.{result_err}
+use Rattle.toml.specs.Data.{Data, Items, no_items, item, Members, no_members, member, string, integer, array, table, get_member, as_str, as_integer, as_array, as_table}
 use Rattle.fare_table.proofs.PartLemmas.{bind_ok}
-use Rattle.fare_table.proofs.PayLemmas.{Named, by_check, by_class, by_some, by_strings, by_table, classes_read, classes_sound, member-found, named_with, terms_by}
-use Rattle.fare_table.proofs.ReadLemmas.{number-read}
+use Rattle.fare_table.proofs.PayLemmas.{by_some, by_table, member-found, terms_by}
 use Rattle.fare_table.specs.Classes.{ceiling_of, checked, class_named, class_of, classes_of, default_of, is_empty}
-use Rattle.fare_table.specs.Faults.{Row, Where, top, class, range, rider, a_row, amount_of, are_pairs, are_texts, class_rows, classes_in, entries_in, first_at, first_fault, first_of, holds, is_again, is_earlier, is_from, is_kind, is_mode, is_no_class, is_no_zone, is_within, is_wrong, items_of, last_at, member_at, members_at, members_of, mode_names, names_no_mode, names_no_rider, needed_rows, pairs, passes, range_rows, rider_rows, riders_in, rows, rows_of_class, rows_of_range, same_token, shares_validator, texts, token_at, value_at, word_of}
-use Rattle.fare_table.specs.Members.{are_tables, array_at, hold_strings, hold_tables, number_at, number_in, of_kind, table_at, text_at, within}
-use Rattle.fare_table.specs.Modes.{are_mode_names, mode_named, modes_of, same_name, strings_from}
+use Rattle.fare_table.specs.Faults.{Row, Where, top, class, a_row, are_pairs, are_texts, class_rows, classes_in, first_of, holds, is_from, is_kind, is_mode, is_within, is_wrong, items_of, member_at, members_at, members_of, mode_names, needed_rows, pairs, passes, rows_of_class, texts, value_at, word_of}
+use Rattle.fare_table.specs.Members.{hold_tables, number_at, number_in, of_kind, within}
+use Rattle.fare_table.specs.Modes.{are_mode_names, modes_of, same_name, strings_from}
 use Rattle.fare_table.specs.Outcome.{Outcome, ◌>>=◌}
-use Rattle.fare_table.specs.Riders.{is_rider, rider_of, riders_from, riders_of, token_of, with_rider}
-use Rattle.fare_table.specs.Riders as riders
-use Rattle.fare_table.specs.Rules.{Rules, rules_in, rules_of}
-use Rattle.fare_table.specs.Transfers.{pair_of, pairs_from, places_of, transfers_from, transfers_of, with_pair}
-use Rattle.fare_table.specs.Validators.{is_chain, range_in, range_of, ranges_from, ranges_of, share_number, with_range}
-use Rattle.fare_table.specs.Zone.{zone_in, zone_of}
+use Rattle.fare_table.specs.Transfers.{pair_of, pairs_from, transfers_from, transfers_of, with_pair}
 use Rattle.fare_table.specs.declared.fault.Key.{Key}
 use Rattle.fare_table.specs.declared.fault.Key.TheVariants as the_key
 use Rattle.fare_table.specs.declared.fault.TableFault.{TableFault}
-use Rattle.fare_table.specs.declared.fault.TableFault.TheVariants as the_fault
-use Rattle.fare_table.specs.declared.fault.TableFault.TheVariants.{Missing, Kind, Range, Mode, Overlap, Rider}
+use Rattle.fare_table.specs.declared.fault.TableFault.TheVariants.{Missing, Kind, Range, Mode, Rider}
 use Rattle.fare_table.specs.declared.terms.Terms.{Terms}
-use Rattle.fare_table.specs.declared.validators.Span.{Span}
 
 -- ---- rows, one after the other
 abbrev pub fault_in : {A : Type 0} → Outcome A → Option TableFault

@@ -9,6 +9,7 @@ pub mod PartLemmas
 pub mod PayLemmas
 pub mod ReadLemmas
 pub mod RowLemmas
+pub mod SortLemmas
 pub mod UntilLemmas
 pub mod TextFaultLemmas
 pub mod TokenBytes

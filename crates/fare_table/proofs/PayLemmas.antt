@@ -157,7 +157,7 @@ pub record StepsRider (classes : Members) (earlier : List (List ℕ × Terms)) (
   pub found : (token : List ℕ) → Named token next ≡ cond (is_eq (slice_cmp nat_cmp token rider.0)) (Some rider.1) (Named token earlier)
   pub rest : riders_from classes next more ≡ Ok riders
 
-abbrev after_rider : Members → List (List ℕ × Terms) → Members → List ℕ × Terms → Outcome (List (List ℕ × Terms))
+abbrev pub after_rider : Members → List (List ℕ × Terms) → Members → List ℕ × Terms → Outcome (List (List ℕ × Terms))
 after_rider classes earlier more rider = with_rider earlier rider.0 rider.1 >>= (λ riders. riders_from classes riders more)
 
 step : (classes : Members) (earlier : List (List ℕ × Terms)) (key : List ℕ) (value : Data) (more : Members) (riders : List (List ℕ × Terms))
@@ -437,7 +437,7 @@ abbrev pub by_strings : Members → Members → Outcome (List (List ℕ × Terms
 by_strings classes text = if hold_strings text then riders_from classes [] text else Err (Kind the_key.Riders)
 
 -- the riders are those of the text's key, or none where it has no such key
-AreRiders : Members → Option Data → List (List ℕ × Terms) → Type 0
+unfoldable pub AreRiders : Members → Option Data → List (List ℕ × Terms) → Type 0
 AreRiders classes o riders = ((o ≡ None) × (riders ≡ [])) ⊎ ((text : Members) × (o ≡ Some (table text)) × (riders_from classes [] text ≡ Ok riders))
 
 are_riders : (classes : Members) (o : Option Data) (riders : List (List ℕ × Terms)) → riders_in classes o ≡ Ok riders → AreRiders classes o riders
@@ -447,7 +447,7 @@ are_riders classes (Some value) riders is =
     let text = bind_ok (of_kind the_key.Riders (as_table value)) (by_strings classes) riders is in
     inr (text.0, ap (λ (d : Data). Some d) (is_table value the_key.Riders text.0 text.1), if_ok (hold_strings text.0) (riders_from classes [] text.0) (Kind the_key.Riders) riders text.2)
 
-riders_read : (classes tree : Members) (riders : List (List ℕ × Terms)) → riders_of classes tree ≡ Ok riders → AreRiders classes (get_member (codes "riders") tree) riders
+pub riders_read : (classes tree : Members) (riders : List (List ℕ × Terms)) → riders_of classes tree ≡ Ok riders → AreRiders classes (get_member (codes "riders") tree) riders
 unfolding riders_of
 riders_read classes tree riders is = are_riders classes (get_member (codes "riders") tree) riders is
 

@@ -1,13 +1,13 @@
 -- What stands in the text where a step that reads a key came to an end.
-use Rattle.std.proofs.Common.{◌≡◌, ℕ, ◌≤◌, ◌&&◌, Bool, true, false, List, Option, Some, None, Ok, Err, refl, ap, ◌∙◌, arith}
+use Rattle.std.proofs.Common.{◌≡◌, ℕ, ◌≤◌, ◌&&◌, Bool, true, false, List, Option, Some, None, Ok, Err, refl, ap, arith}
 use Rattle.std.proofs.lemmas.Bool.{and_parts, leb-true}
 use Rattle.std.specs.Option.{ok_or}
-use Rattle.std.specs.Prelude.{ℤ, pos, negsuc, int_le, unsigned_abs, nat_le, if◌then◌else◌}
-use Rattle.toml.specs.Data.{Data, Items, Members, string, integer, float, boolean, datetime, array, table, as_str, as_array, as_table, as_integer, get_member}
+use Rattle.std.specs.Prelude.{ℤ, pos, negsuc, nat_le, if◌then◌else◌}
+use Rattle.toml.specs.Data.{Data, Items, Members, string, integer, array, table, as_str, as_array, as_table, get_member}
 use Rattle.fare_table.specs.Members.{array_at, number_at, number_in, of_kind, table_at, text_at, within}
-use Rattle.fare_table.specs.Outcome.{Outcome, ◌>>=◌}
+use Rattle.fare_table.specs.Outcome.{◌>>=◌}
 use Rattle.fare_table.specs.declared.fault.Key.{Key}
-use Rattle.fare_table.specs.declared.fault.TableFault.TheVariants.{Missing, Kind, Range}
+use Rattle.fare_table.specs.declared.fault.TableFault.TheVariants.{Missing, Range}
 
 pub is_text : (value : Data) (key : Key) (text : List ℕ) → of_kind key (as_str value) ≡ Ok text → value ≡ string text
 is_text (string s) key text is = cc

@@ -1,32 +1,32 @@
 -- The same of the entries of `validators`, the keys of `riders` and the zone, and of the whole.
-use Rattle.std.proofs.Common.{◌≡◌, ◌≢◌, ◌⊎◌, ◌↔◌, ⊎_elim, ℕ, zero, suc, ◌+◌, ◌≤◌, ◌*◌, ◌&&◌, ◌||◌, not, Bool, true, false, List, [], ◌∷◌, ◌++◌, Option, Some, None, Ok, Err, cond, option_map, refl, sym, ap, ◌∙◌, subst, arith, codes, inl, inr, Ordering, Less, Equal, Greater}
-use Rattle.std.proofs.lemmas.Bool.{and_parts, cases_Bool, false≢true, or_parts}
+use Rattle.std.proofs.Common.{◌≡◌, ◌↔◌, ℕ, zero, suc, ◌+◌, ◌≤◌, ◌&&◌, ◌||◌, not, Bool, true, false, List, [], ◌∷◌, ◌++◌, Option, Some, None, Ok, Err, cond, option_map, refl, sym, ap, ◌∙◌, subst, arith, codes, inl, inr}
+use Rattle.std.proofs.lemmas.Bool.{false≢true, or_parts}
 use Rattle.std.specs.BTreeMap.{insert_entry}
 use Rattle.std.specs.Cmp.Lexicographic.{slice_cmp}
 use Rattle.std.specs.List.{list_any}
-use Rattle.std.specs.Option.{is_none, is_some, ok_or, option_and_then, option_or, unwrap_or}
+use Rattle.std.specs.Option.{is_none, is_some, ok_or, option_and_then}
 use Rattle.std.specs.Ordering.{is_eq, nat_cmp}
 use Rattle.std.specs.Prelude.{pos, nat_le, position, if◌then◌else◌}
 use Rattle.std.specs.Result.{result_ok}
 use Rattle.hex.specs.Hex.{decode_sized}
 use Rattle.jiff.specs.Words.{read_whole}
-use Rattle.toml.specs.Data.{Data, Items, no_items, item, Members, no_members, member, string, integer, array, table, get_member, get_item, as_str, as_array, as_table}
+use Rattle.toml.specs.Data.{Data, Items, no_items, item, Members, no_members, member, string, integer, array, table, get_member, get_item, as_str, as_array}
 use Rattle.toml.specs.Parse.{parse_document}
 use Rattle.fare_table.proofs.EntryLemmas.{Reads, by_mode, by_tables, reads}
-use Rattle.fare_table.proofs.FaultLemmas.{Stand, classes-told, default-told, done, fails, fault_in, modes-known, modes-told, named-told, needs, number_tells, stand_all, stand_here, stand_next, steps, told, told_append, told_needed, told_two, transfers-told}
+use Rattle.fare_table.proofs.FaultLemmas.{Stand, classes-told, default-told, done, fails, fault_in, modes-known, modes-told, named-told, needs, number_tells, stand_all, stand_here, stand_next, steps, told, told_needed, told_two, transfers-told}
 use Rattle.fare_table.proofs.OverlapLemmas.{chain-insert, comes_after, comes_before, ends_after, free_apart, rest_chain}
 use Rattle.fare_table.proofs.PayLemmas.{Named, by_class, classes_read, classes_sound, named_with}
 use Rattle.fare_table.proofs.ReadLemmas.{number-read}
 use Rattle.fare_table.specs.Classes.{checked, class_named, classes_of, default_of}
-use Rattle.fare_table.specs.Faults.{Row, Where, classes_step, default_step, riders_step, transfers_step, validators_step, zone_step, top, class, range, rider, a_row, amount_of, classes_in, entries_in, first_at, first_fault, first_of, is_again, is_earlier, is_from, is_kind, is_mode, is_no_class, is_no_zone, is_within, is_wrong, items_of, last_at, member_at, members_at, members_of, mode_names, names_no_mode, names_no_rider, needed_rows, passes, range_rows, rider_rows, riders_in, rows, rows_of_range, same_token, shares_validator, token_at, value_at, word_of}
-use Rattle.fare_table.specs.Members.{are_tables, array_at, hold_strings, number_at, of_kind, text_at}
+use Rattle.fare_table.specs.Faults.{Where, classes_step, default_step, riders_step, transfers_step, validators_step, zone_step, top, range, rider, a_row, amount_of, classes_in, entries_in, first_at, first_fault, first_of, is_again, is_earlier, is_from, is_kind, is_mode, is_no_zone, is_wrong, items_of, last_at, member_at, members_at, members_of, mode_names, needed_rows, passes, range_rows, rider_rows, riders_in, rows, rows_of_range, same_token, shares_validator, token_at, value_at, word_of}
+use Rattle.fare_table.specs.Members.{are_tables, hold_strings, number_at, of_kind}
 use Rattle.fare_table.specs.Modes.{mode_named, modes_of, same_name}
 use Rattle.fare_table.specs.Outcome.{Outcome, ◌>>=◌}
 use Rattle.fare_table.specs.Riders.{is_rider, rider_of, riders_from, riders_of, token_of, with_rider}
 use Rattle.fare_table.specs.Riders as riders
 use Rattle.fare_table.specs.Rules.{Rules, rules_in, rules_of}
 use Rattle.fare_table.specs.Transfers.{transfers_of}
-use Rattle.fare_table.specs.Validators.{is_chain, range_in, range_of, ranges_from, ranges_of, share_number, with_range}
+use Rattle.fare_table.specs.Validators.{is_chain, range_of, ranges_from, ranges_of, share_number, with_range}
 use Rattle.fare_table.specs.Zone.{zone_in, zone_of}
 use Rattle.fare_table.specs.declared.fault.Key.TheVariants as the_key
 use Rattle.fare_table.specs.declared.fault.TableFault.{TableFault}
@@ -327,5 +327,15 @@ told_fault {A} (Err e) fault = (λ is. ap (λ (x : Outcome A). fault_in x) is, �
 pub first-row : (text : List ℕ) (fault : TableFault) → (rules_in text ≡ Err fault) ↔ (first_fault (parse_document text) ≡ Some fault)
 first-row text fault =
     let both = told_fault (rules_in text) fault in
+    let told = text_tells (parse_document text) in
+    (λ is. sym told ∙ both.0 is, λ is. both.1 (told ∙ is))
+
+told_none : {A : Type 0} (o : Outcome A) → ((a : A) × (o ≡ Ok a)) ↔ (fault_in o ≡ None)
+told_none {A} (Ok a) = (λ is. refl, λ is. (a, refl))
+told_none {A} (Err e) = (λ is. ap (λ (x : Outcome A). fault_in x) is.1, λ is. absurd (cc))
+
+pub no-row : (text : List ℕ) → ((rules : Rules) × (rules_in text ≡ Ok rules)) ↔ (first_fault (parse_document text) ≡ None)
+no-row text =
+    let both = told_none (rules_in text) in
     let told = text_tells (parse_document text) in
     (λ is. sym told ∙ both.0 is, λ is. both.1 (told ∙ is))

@@ -8,7 +8,6 @@ use Rattle.std.specs.Result.{result_ok}
 use Rattle.hex.specs.Hex.{decode_sized}
 use Rattle.jiff.specs.Words.{read_whole}
 use Rattle.toml.specs.Data.{Data, Items, no_items, item, Members, no_members, member, get_member, get_item, as_str, as_integer, as_array, as_table}
-use Rattle.toml.specs.Parse.{parse_document}
 use Rattle.fare_table.specs.Classes.{is_empty}
 use Rattle.fare_table.specs.Members.{are_tables, hold_strings, hold_tables}
 use Rattle.fare_table.specs.Modes.{are_mode_names, same_name}

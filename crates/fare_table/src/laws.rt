@@ -1,5 +1,9 @@
 //! Laws of fare tables. Each function's contract is the law; it has nothing to do.
 ghost use Rattle.std.specs.Prelude.{◌≡◌, ◌↔◌, ℕ, ◌<◌, true, List, Err, None, Ok, Some};
+ghost use Rattle.std.specs.Cmp.Lexicographic.{slice_cmp};
+ghost use Rattle.std.specs.List.Sorted.{IsStrictlySortedBy};
+ghost use Rattle.std.specs.Map.{keys_of};
+ghost use Rattle.std.specs.Ordering.{nat_cmp};
 ghost use Rattle.toml.specs.Data.{Members, table, get_member};
 ghost use Rattle.toml.specs.Parse.{parse_document};
 ghost use Rattle.fare_table.specs.ByteOrder.{in_byte_order};
@@ -10,6 +14,7 @@ ghost use Rattle.fare_table.specs.Paying.{NamesRider, Pays};
 ghost use Rattle.fare_table.specs.Rules.{Rules, rules_in, rules_of};
 ghost use Rattle.fare_table.specs.Transfers.{has_pair, ListsPair};
 ghost use Rattle.fare_table.specs.Until.{IsLimit, until};
+ghost use Rattle.fare_table.specs.Validators.{is_chain};
 ghost use Rattle.fare_table.specs.declared.fault.TableFault.{TableFault};
 ghost use Rattle.fare_table.specs.declared.terms.Terms.{Terms};
 
@@ -64,9 +69,19 @@ pub fn keys_come_in_byte_order()
         → get_member key tree ≡ Some (table keys) → in_byte_order keys ≡ true }
 {}
 
+/// The ranges of a table rise and stand apart, and its riders come in the byte order of their tokens.
+pub fn rules_come_in_order()
+    ensures ranges { (tree : Members) (rules : Rules) → rules_of tree ≡ Ok rules
+        → is_chain rules.ranges ≡ true }
+    ensures riders { (tree : Members) (rules : Rules) → rules_of tree ≡ Ok rules
+        → IsStrictlySortedBy (slice_cmp nat_cmp) (keys_of rules.riders) }
+{}
+
 /// A text has a fault exactly where a row of the table of faults holds, and it is that of the first
-/// such row.
+/// such row. Where none holds it has a meaning.
 pub fn first_row_tells_the_fault()
-    ensures { (text : List ℕ) (fault : TableFault)
+    ensures fault { (text : List ℕ) (fault : TableFault)
         → (rules_in text ≡ Err fault) ↔ (first_fault (parse_document text) ≡ Some fault) }
+    ensures none { (text : List ℕ) → ((rules : Rules) × (rules_in text ≡ Ok rules))
+        ↔ (first_fault (parse_document text) ≡ None) }
 {}
