@@ -130,9 +130,11 @@ one_range first last mode range is = (ap (first_of first) is, ap (last_of last) 
     first_of : ℕ → Outcome (ℕ × Span) → ℕ
     first_of d (Ok r) = r.0
     first_of d (Err e) = d
+
     last_of : ℕ → Outcome (ℕ × Span) → ℕ
     last_of d (Ok r) = r.1.last
     last_of d (Err e) = d
+
     mode_of : ℕ → Outcome (ℕ × Span) → ℕ
     mode_of d (Ok r) = r.1.mode
     mode_of d (Err e) = d

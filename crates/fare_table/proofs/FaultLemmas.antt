@@ -117,6 +117,7 @@ names_known (Some (array ds)) modes is =
     in_range : (b : Bool) (names modes : List (List ℕ)) → (if b then Ok names else Err (Range the_key.Modes)) ≡ Ok modes → names ≡ modes
     in_range true names modes is = cc
     in_range false names modes is = absurd (cc)
+
     known : (b : Bool) (names modes : List (List ℕ)) → ((if b then Ok names else Err (Kind the_key.Modes)) >>= (λ found. if are_mode_names found then Ok found else Err (Range the_key.Modes))) ≡ Ok modes → names ≡ modes
     known true names modes is = in_range (are_mode_names names) names modes is
     known false names modes is = absurd (cc)

@@ -294,7 +294,7 @@ MembersSorted read n = (found : Nodes) (text : List ℕ) (p : Members × List �
 
 members_if : (read : List ℕ → Read Data) (n : ℕ) (b : Bool) (found : Nodes) (start : List ℕ) (p : Members × List ℕ) → SortsValues read → MembersSorted read n
     → (if b then Some (close found, drop 1 start)
-       else option_and_then (λ e. option_and_then (λ more. option_and_then (members read n more) (after_element right_brace e.1)) (put e.0.0 e.0.1 found)) (keyval read start)) ≡ Some p
+    else option_and_then (λ e. option_and_then (λ more. option_and_then (members read n more) (after_element right_brace e.1)) (put e.0.0 e.0.1 found)) (keyval read start)) ≡ Some p
     → Sorted found → members_are_sorted p.0 ≡ true
 unfolding Keeps
 members_if read n true found start p sorts ih is sorted = subst (λ (q : Members × List ℕ). members_are_sorted q.0 ≡ true) (some_of (close found, drop 1 start) p is) sorted
@@ -313,7 +313,7 @@ members_sorted read sorts (suc n) found text p is sorted =
 
 val_if : (depth : ℕ) (b c : Bool) (text : List ℕ) (p : Data × List ℕ) → SortsValues (val depth)
     → (if b then read_map array (items (val depth) (length text) no_items (drop 1 text))
-       else if c then read_map table (members (val depth) (length text) no_nodes (drop 1 text)) else atom text) ≡ Some p
+    else if c then read_map table (members (val depth) (length text) no_nodes (drop 1 text)) else atom text) ≡ Some p
     → is_sorted p.0 ≡ true
 unfolding SortsValues
 val_if depth true c text p sorts is = mapped array (items (val depth) (length text) no_items (drop 1 text)) p (λ a at. items_sorted (val depth) sorts (length text) no_items (drop 1 text) a at refl) is
@@ -327,7 +327,7 @@ vals (suc depth) text p is = val_if depth (first text == left_bracket) (first te
 
 expression_if : (b c : Bool) (text : List ℕ) (e : Expression × List ℕ)
     → (if b then option_and_then (λ k. option_map (λ rest. ((k.0, array_table), rest)) (after_byte right_bracket k.1)) (header_key (drop 2 text))
-       else if c then read_map (λ k. (k, std_table)) (header_key (drop 1 text)) else read_map (λ p. (p.0, key_value p.1)) (keyval (val recursion_limit) text)) ≡ Some e
+    else if c then read_map (λ k. (k, std_table)) (header_key (drop 1 text)) else read_map (λ p. (p.0, key_value p.1)) (keyval (val recursion_limit) text)) ≡ Some e
     → WritesSorted e.0.1
 unfolding WritesSorted
 expression_if true c text e is =

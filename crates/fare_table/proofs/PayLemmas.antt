@@ -132,6 +132,7 @@ same_rider token terms rider is = (ap (token_in token) is, ap (terms_in terms) i
     token_in : List ℕ → Outcome (List ℕ × Terms) → List ℕ
     token_in d (Ok r) = r.0
     token_in d (Err e) = d
+
     terms_in : Terms → Outcome (List ℕ × Terms) → Terms
     terms_in d (Ok r) = r.1
     terms_in d (Err e) = d
@@ -210,9 +211,11 @@ there classes token earlier (member first value more) riders key class is at nam
     ⊎_elim
     (λ (one : (key ≡ first) × (value ≡ string class)).
     let same : token ≡ s.rider.0 = same_token key first token s.rider.0 one.0 named s.read.token in
-    let names : s.read.class ≡ class = same_class value s.read.class class s.read.is one.1 in
-    (s.rider.1, ap (class_named classes) (sym names) ∙ s.read.terms,
-      still classes token s.next more riders s.rider.1 s.rest (here classes earlier first value more riders s token same)))
+    let names : s.read.class ≡ class = same_class value s.read.class class s.read.is one.1 in (
+      s.rider.1,
+      ap (class_named classes) (sym names) ∙ s.read.terms,
+      still classes token s.next more riders s.rider.1 s.rest (here classes earlier first value more riders s token same),
+    ))
     (λ (later : (is_eq (slice_cmp nat_cmp key first) ≡ false) × (get_member key more ≡ Some (string class))).
     there classes token s.next more riders key class s.rest later.1 named)
     (member-found key first value (string class) more at)
@@ -489,10 +492,13 @@ pays_if tree classes rules token None read standard are at =
     let d = default_named classes tree rules.standard standard in
     record {
       class = d.0;
-      is = inr (d.1, λ key other n.
-          let t = there classes token [] n.riders rules.riders key other (named_from classes tree rules.riders token key other are n) n.stands n.named in
-          let no : None ≡ Some t.0 = sym at ∙ t.2 in
-          absurd (cc (no)));
+      is = inr (
+        d.1,
+        λ key other n.
+            let t = there classes token [] n.riders rules.riders key other (named_from classes tree rules.riders token key other are n) n.stands n.named in
+            let no : None ≡ Some t.0 = sym at ∙ t.2 in
+            absurd (cc (no)),
+      );
       has = has_terms tree classes d.0 rules.standard read d.2;
     }
 pays_if tree classes rules token (Some terms) read standard are at =

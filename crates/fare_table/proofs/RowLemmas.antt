@@ -1,5 +1,5 @@
 -- The same of the entries of `validators`, the keys of `riders` and the zone, and of the whole.
-use Rattle.std.proofs.Common.{◌≡◌, ◌↔◌, ℕ, zero, suc, ◌+◌, ◌≤◌, ◌&&◌, ◌||◌, not, Bool, true, false, List, [], ◌∷◌, ◌++◌, Option, Some, None, Ok, Err, cond, option_map, refl, sym, ap, ◌∙◌, subst, arith, codes, inl, inr}
+use Rattle.std.proofs.Common.{◌≡◌, ◌↔◌, ℕ, zero, suc, ◌+◌, ◌≤◌, ◌&&◌, ◌||◌, not, Bool, true, false, List, [], ◌∷◌, ◌++◌, Option, Some, None, Ok, Err, cond, option_map, refl, sym, ap, ◌∙◌, subst, arith, codes, inl, inr, ◌≢◌, Result, IfErr, IfOk}
 use Rattle.std.proofs.lemmas.Bool.{false≢true, or_parts}
 use Rattle.std.specs.BTreeMap.{insert_entry}
 use Rattle.std.specs.Cmp.Lexicographic.{slice_cmp}
@@ -339,3 +339,14 @@ no-row text =
     let both = told_none (rules_in text) in
     let told = text_tells (parse_document text) in
     (λ is. sym told ∙ both.0 is, λ is. both.1 (told ∙ is))
+
+-- the same of what reading a text answers
+pub first-of-err : {A : Type 0} (P : Type 0) (text : List ℕ) (result : Result A TableFault) → IfErr result (λ e. e ≢ the_fault.NoMemory → P → rules_in text ≡ Err e)
+    → IfErr result (λ e. e ≢ the_fault.NoMemory → P → first_fault (parse_document text) ≡ Some e)
+first-of-err P text (Ok a) is = tt
+first-of-err P text (Err e) is = λ other known. (first-row text e).0 (is other known)
+
+pub none-of-ok : {A : Type 0} (P : Type 0) (text : List ℕ) (result : Result A TableFault) (f : A → Rules) → IfOk result (λ a. P × (rules_in text ≡ Ok (f a)))
+    → IfOk result (λ a. first_fault (parse_document text) ≡ None)
+none-of-ok P text (Ok a) f is = (no-row text).0 (f a, is.1)
+none-of-ok P text (Err e) f is = tt

@@ -1,4 +1,5 @@
--- When a text is no fare table: the rows of the table of faults in their order. The first row that holds tells the fault.
+-- When a text is no fare table: the rows of the table of faults, in their order. The first row that
+-- holds tells the fault.
 use Rattle.std.specs.Prelude.{ℕ, zero, suc, pos, ◌&&◌, ◌||◌, ◌++◌, ◌∷◌, [], Bool, true, false, not, List, Option, Some, None, codes, int_le, nat_le, option_map, position, unsigned_abs}
 use Rattle.std.specs.Cmp.Lexicographic.{slice_cmp}
 use Rattle.std.specs.List.{cons_option, find, list_any}
@@ -17,7 +18,9 @@ use Rattle.fare_table.specs.declared.fault.Key.TheVariants as the_key
 use Rattle.fare_table.specs.declared.fault.TableFault.{TableFault}
 use Rattle.fare_table.specs.declared.fault.TableFault.TheVariants.{Text, Missing, Kind, Range, Mode, Overlap, Rider, NoMemory, Zone}
 
--- where a row looks: at the keys of the text, of one of its classes, of one of its entries of `validators`, or at one key of `riders`, each by its place
+-- where a row looks: at the keys of the text, at those of one of its classes or of one entry of its
+-- `validators`, or at one key of its `riders`, each by its place. Classes and keys have the places of
+-- their byte order (`laws::keys_come_in_byte_order`).
 pub data Where : Type 0 where
   top : Where
   class : ℕ → Where
@@ -30,7 +33,7 @@ passes test None = false
 passes test (Some value) = test value
 
 -- ---- what stands in the text
--- the words that the text has for keys
+-- the word that the text has for a key
 abbrev pub key_word : Key → List ℕ
 key_word the_key.Modes = codes "modes"
 key_word the_key.Transfers = codes "transfers"
@@ -156,7 +159,7 @@ is_within the_key.Zone beside value = true
 abbrev pub is_mode : List (List ℕ) → List ℕ → Bool
 is_mode names name = is_some (position (same_name name) names)
 
--- a name is none of the text's modes: one of a transfer, or that of an entry of `validators`
+-- one of the names of a transfer, or that of an entry of `validators`, is none of the text's modes
 abbrev pub names_no_mode : Where → Members → Bool
 names_no_mode top tree = list_any (λ pair. not (is_mode (mode_names tree) pair.0 && is_mode (mode_names tree) pair.1)) (pairs (items_of (get_member (codes "transfers") tree)))
 names_no_mode (class place) tree = false
@@ -168,10 +171,11 @@ abbrev pub is_earlier : (ℕ → Bool) → ℕ → Bool
 is_earlier test zero = false
 is_earlier test (suc place) = test place || is_earlier test place
 
--- the first and the last validator of an entry
+-- the first validator of the entry at a place
 abbrev pub first_at : Members → ℕ → ℕ
 first_at tree place = amount_of (value_at (range place) the_key.First tree)
 
+-- the last validator of the entry at a place
 abbrev pub last_at : Members → ℕ → ℕ
 last_at tree place = amount_of (value_at (range place) the_key.Last tree)
 
@@ -187,6 +191,7 @@ shares_validator (rider place) tree = false
 abbrev pub token_at : Members → ℕ → Option (List ℕ)
 token_at tree place = option_and_then (λ one. result_ok (decode_sized one.0 16)) (member_at place (riders_in tree))
 
+-- the one token is the other one, where there is one
 abbrev pub same_token : List ℕ → Option (List ℕ) → Bool
 same_token token other = passes (λ o. is_eq (slice_cmp nat_cmp token o)) other
 
@@ -198,7 +203,8 @@ is_again tree place = passes (λ token. is_earlier (λ earlier. same_token token
 abbrev pub is_no_class : Members → List ℕ → Bool
 is_no_class tree name = is_none (get_member name (classes_in tree))
 
--- a class is none of the text's, or a key of `riders` is no token or one that an earlier key names
+-- the default class, or the class of a key of `riders`, is none of the text's; or the key is no token,
+-- or the token of an earlier key
 abbrev pub names_no_rider : Where → Members → Bool
 names_no_rider top tree = is_no_class tree (word_of (get_member (codes "default_class") tree))
 names_no_rider (class place) tree = false
@@ -210,7 +216,7 @@ names_no_rider (rider place) tree =
 abbrev pub is_no_zone : Option Data → Bool
 is_no_zone value = passes (λ text. is_none (read_whole text)) (option_and_then as_str value)
 
--- what each fault says of the place where the row looks
+-- what each fault says is wrong where the row looks
 abbrev pub is_wrong : Members → Where → TableFault → Bool
 is_wrong tree at Text = false
 is_wrong tree at (Missing key) = is_none (value_at at key tree)
@@ -223,13 +229,15 @@ is_wrong tree at NoMemory = false
 is_wrong tree at Zone = is_no_zone (get_member (codes "zone") tree)
 
 -- ---- the rows, in their order
+-- a row: where it looks, and the fault that it tells
 abbrev pub Row : Type 0
 Row = Where × TableFault
 
--- a row that looks there for this fault
+-- the row that looks there for this fault
 abbrev pub a_row : Where → TableFault → Row
 a_row at fault = (at, fault)
 
+-- what the row says of the text is so
 abbrev pub holds : Members → Row → Bool
 holds tree one = is_wrong tree one.0 one.1
 
@@ -237,50 +245,59 @@ holds tree one = is_wrong tree one.0 one.1
 abbrev pub needed_rows : Where → Key → List Row
 needed_rows at key = a_row at (Missing key) ∷ a_row at (Kind key) ∷ a_row at (Range key) ∷ []
 
+-- of one class: `fare`, `rides`, `ceiling`
 abbrev pub rows_of_class : ℕ → List Row
 rows_of_class place =
     needed_rows (class place) the_key.Fare
     ++ (needed_rows (class place) the_key.Rides ++ (a_row (class place) (Kind the_key.Ceiling) ∷ a_row (class place) (Range the_key.Ceiling) ∷ []))
 
+-- of one entry of `validators`: `first`, `last`, `mode`
 abbrev pub rows_of_range : ℕ → List Row
 rows_of_range place =
     needed_rows (range place) the_key.First
     ++ (needed_rows (range place) the_key.Last
     ++ (a_row (range place) (Missing the_key.ModeName) ∷ a_row (range place) (Kind the_key.ModeName) ∷ a_row (range place) Mode ∷ []))
 
--- class by class from this place on, and so entry by entry, and key by key of the riders
+-- class by class, from this place on
 abbrev pub class_rows : ℕ → Members → List Row
 class_rows place no_members = []
 class_rows place (member name value more) = rows_of_class place ++ class_rows (suc place) more
 
+-- entry by entry, each with the entries before it
 abbrev pub range_rows : ℕ → Items → List Row
 range_rows place no_items = []
 range_rows place (item value more) = rows_of_range place ++ (a_row (range place) Overlap ∷ range_rows (suc place) more)
 
+-- key by key of the riders
 abbrev pub rider_rows : ℕ → Members → List Row
 rider_rows place no_members = []
 rider_rows place (member key value more) = a_row (rider place) Rider ∷ rider_rows (suc place) more
 
--- the rows of each step
+-- the step `transfers`
 abbrev pub transfers_step : List Row
 transfers_step = a_row top (Missing the_key.Transfers) ∷ a_row top (Kind the_key.Transfers) ∷ a_row top Mode ∷ []
 
+-- the step `classes`
 abbrev pub classes_step : Members → List Row
 classes_step tree = needed_rows top the_key.Classes ++ class_rows 0 (classes_in tree)
 
+-- the step `default_class`
 abbrev pub default_step : List Row
 default_step = a_row top (Missing the_key.DefaultClass) ∷ a_row top (Kind the_key.DefaultClass) ∷ a_row top Rider ∷ []
 
+-- the step `validators`
 abbrev pub validators_step : Members → List Row
 validators_step tree = a_row top (Missing the_key.Validators) ∷ a_row top (Kind the_key.Validators) ∷ range_rows 0 (entries_in tree)
 
+-- the step `riders`
 abbrev pub riders_step : Members → List Row
 riders_step tree = a_row top (Kind the_key.Riders) ∷ rider_rows 0 (riders_in tree)
 
+-- the step `zone`
 abbrev pub zone_step : List Row
 zone_step = a_row top (Kind the_key.Zone) ∷ a_row top Zone ∷ []
 
--- all rows: `modes`, `transfers`, `classes`, `default_class`, `validators`, `riders`, `zone`
+-- all rows, step by step: `modes` first
 abbrev pub rows : Members → List Row
 rows tree =
     needed_rows top the_key.Modes

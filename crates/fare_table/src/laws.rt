@@ -1,5 +1,7 @@
-//! Laws of fare tables. Each function's contract is the law; it has nothing to do.
-ghost use Rattle.std.specs.Prelude.{◌≡◌, ◌↔◌, ℕ, ◌<◌, true, List, Err, None, Ok, Some};
+//! Laws of fare tables. Each function's contract is the law; it has nothing to do, but for
+//! `read_tells_the_first_row`, which reads.
+ghost use Rattle.std.specs.Prelude.{◌≡◌, ◌≢◌, ◌⊎◌, ◌↔◌, ℕ, ◌<◌, true, List, Err, None, Ok, Some};
+ghost use Rattle.std.specs.Prelude.{IfErr, IfOk, IsErrOf, IsUtf8};
 ghost use Rattle.std.specs.Cmp.Lexicographic.{slice_cmp};
 ghost use Rattle.std.specs.List.Sorted.{IsStrictlySortedBy};
 ghost use Rattle.std.specs.Map.{keys_of};
@@ -17,6 +19,10 @@ ghost use Rattle.fare_table.specs.Until.{IsLimit, until};
 ghost use Rattle.fare_table.specs.Validators.{is_chain};
 ghost use Rattle.fare_table.specs.declared.fault.TableFault.{TableFault};
 ghost use Rattle.fare_table.specs.declared.terms.Terms.{Terms};
+
+use crate::fault::TableFault;
+use crate::table::FareTable;
+use std::alloc::Global;
 
 /// A window that starts before 2100-01-01T00:00Z ends after it starts.
 pub fn windows_end_later()
@@ -69,7 +75,7 @@ pub fn keys_come_in_byte_order()
         → get_member key tree ≡ Some (table keys) → in_byte_order keys ≡ true }
 {}
 
-/// The ranges of a table rise and stand apart, and its riders come in the byte order of their tokens.
+/// The ranges of a table rise and stand apart. Its riders come in the byte order of their tokens.
 pub fn rules_come_in_order()
     ensures ranges { (tree : Members) (rules : Rules) → rules_of tree ≡ Ok rules
         → is_chain rules.ranges ≡ true }
@@ -85,3 +91,16 @@ pub fn first_row_tells_the_fault()
     ensures none { (text : List ℕ) → ((rules : Rules) × (rules_in text ≡ Ok rules))
         ↔ (first_fault (parse_document text) ≡ None) }
 {}
+
+/// The same of `FareTable::read`, which it calls: a text of which a row holds is answered by the
+/// fault of the first such row, or by want of memory. Any other answer is of no row.
+pub fn read_tells_the_first_row(alloc: Global, text: &[u8]) -> Result<FareTable, TableFault>
+    ensures told { IsUtf8 text.now → (fault : TableFault)
+        → first_fault (parse_document text.now) ≡ Some fault
+        → IsErrOf result fault ⊎ IsErrOf result TableFault.NoMemory }
+    ensures first { IfErr result (λ fault. fault ≢ TableFault.NoMemory → IsUtf8 text.now
+        → first_fault (parse_document text.now) ≡ Some fault) }
+    ensures none { IfOk result (λ _. first_fault (parse_document text.now) ≡ None) }
+{
+    FareTable::read(alloc, text)
+}
