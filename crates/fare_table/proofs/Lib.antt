@@ -1,7 +1,15 @@
 pub mod ChainLemmas
+pub mod EntryLemmas
+pub mod FaultLemmas
 pub mod MaskLemmas
+pub mod OrderLemmas
 pub mod OverlapLemmas
 pub mod PairLemmas
+pub mod PartLemmas
+pub mod PayLemmas
+pub mod ReadLemmas
+pub mod RowLemmas
+pub mod SortLemmas
 pub mod UntilLemmas
 pub mod TextFaultLemmas
 pub mod TokenBytes

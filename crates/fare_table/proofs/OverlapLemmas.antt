@@ -60,7 +60,7 @@ and_true : (b : Bool) → (b && true) ≡ b
 and_true true = refl
 and_true false = refl
 
-rest_chain : (range : ℕ × Span) (more : List (ℕ × Span)) → is_chain (range ∷ more) ≡ true → is_chain more ≡ true
+pub rest_chain : (range : ℕ × Span) (more : List (ℕ × Span)) → is_chain (range ∷ more) ≡ true → is_chain more ≡ true
 rest_chain range [] chain = refl
 rest_chain range (next ∷ more) chain = (apart range next more chain).rest
 
@@ -72,7 +72,7 @@ last_begun-begun n (range ∷ more) chain = elim (leb_tells range.0 n) [
   | inr a ↦ rw (begun_none n range more chain a.1, a.0)
 ]
 
-ends_after : (range : ℕ × Span) (more : List (ℕ × Span)) → is_chain (range ∷ more) ≡ true → range.0 ≤ range.1.last
+pub ends_after : (range : ℕ × Span) (more : List (ℕ × Span)) → is_chain (range ∷ more) ≡ true → range.0 ≤ range.1.last
 ends_after range [] chain = alone range chain
 ends_after range (next ∷ more) chain = (apart range next more chain).begins
 
@@ -139,7 +139,7 @@ cons_chain range next more begins ends rest =
     rw (first, second, rest)
 
 -- a range that shares no number with another ends before it or begins after it
-free_apart : (range other : ℕ × Span) → share_number range other ≡ false → (range.1.last < other.0) ⊎ (other.1.last < range.0)
+pub free_apart : (range other : ℕ × Span) → share_number range other ≡ false → (range.1.last < other.0) ⊎ (other.1.last < range.0)
 free_apart range other free = elim (leb_tells range.0 other.1.last) [
   | inl a ↦ elim (leb_tells other.0 range.1.last) [
     | inl b ↦ let both : true ≡ false = rw (a.0, b.0) at free in absurd (false≢true (sym both))
@@ -148,10 +148,10 @@ free_apart range other free = elim (leb_tells range.0 other.1.last) [
   | inr a ↦ inr a.1
 ]
 
-comes_before : (range other : ℕ × Span) → range.0 ≤ range.1.last → range.1.last < other.0 → nat_cmp range.0 other.0 ≡ Less
+pub comes_before : (range other : ℕ × Span) → range.0 ≤ range.1.last → range.1.last < other.0 → nat_cmp range.0 other.0 ≡ Less
 comes_before range other order before = sym (nat_cmp_is range.0 other.0 Less (omega arith))
 
-comes_after : (range other : ℕ × Span) → other.0 ≤ other.1.last → other.1.last < range.0 → nat_cmp range.0 other.0 ≡ Greater
+pub comes_after : (range other : ℕ × Span) → other.0 ≤ other.1.last → other.1.last < range.0 → nat_cmp range.0 other.0 ≡ Greater
 comes_after range other order after = sym (nat_cmp_is range.0 other.0 Greater (omega arith))
 
 with_one : ℕ × Span → List (ℕ × Span) → List (ℕ × Span)

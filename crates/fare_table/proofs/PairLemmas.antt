@@ -1,27 +1,16 @@
 -- The pairs of places of a table are those of the pairs of names that its text lists.
-use Rattle.std.proofs.Common.{◌≡◌, ◌⊎◌, ◌↔◌, ℕ, ◌<◌, ◌==◌, ◌||◌, ◌&&◌, Bool, true, false, List, [], ◌∷◌, ◌++◌, length, Option, Ok, Err, refl, sym, ap, ◌∙◌, subst, arith, inl, inr, ⊎_elim, slice_index_or, zero, suc}
+use Rattle.std.proofs.Common.{◌≡◌, ◌⊎◌, ◌↔◌, ℕ, ◌<◌, ◌==◌, ◌||◌, ◌&&◌, Bool, true, false, List, [], ◌∷◌, ◌++◌, length, Ok, refl, sym, ap, ◌∙◌, subst, arith, inl, inr, ⊎_elim, slice_index_or, zero, suc}
 use Rattle.std.specs.Prelude.{Contains, codes, if◌then◌else◌}
 use Rattle.std.proofs.lemmas.Bool.Decides.{eqb_tells}
 use Rattle.std.proofs.lemmas.List.Elements.{Contains-append_right, Contains-get_or}
 use Rattle.std.proofs.lemmas.List.Folds.{list_any-append}
 use Rattle.toml.specs.Data.{Items, Members}
-use Rattle.fare_table.specs.Classes.{classes_of, default_of}
+use Rattle.fare_table.proofs.PartLemmas.{bind_ok, parts}
 use Rattle.fare_table.specs.Members.{array_at}
-use Rattle.fare_table.specs.Modes.{modes_of}
 use Rattle.fare_table.specs.Outcome.{Outcome, ◌>>=◌}
-use Rattle.fare_table.specs.Riders.{riders_of}
 use Rattle.fare_table.specs.Rules.{Rules, rules_of}
 use Rattle.fare_table.specs.Transfers.{has_pair, joins, named_pairs, pairs_from, places_of, transfers_from, transfers_of, with_pair, ListsPair}
-use Rattle.fare_table.specs.Validators.{ranges_of}
-use Rattle.fare_table.specs.Zone.{zone_of}
 use Rattle.fare_table.specs.declared.fault.Key.TheVariants as the_key
-use Rattle.fare_table.specs.declared.terms.Terms.{Terms}
-use Rattle.fare_table.specs.declared.validators.Span.{Span}
-
--- two steps that came to an end: the first gave a value, and the second went on with it
-bind_ok : {A B : Type 0} (o : Outcome A) (f : A → Outcome B) (b : B) → (o >>= f) ≡ Ok b → (a : A) × (o ≡ Ok a) × (f a ≡ Ok b)
-bind_ok (Ok a) f b is = (a, refl, is)
-bind_ok (Err e) f b is = absurd (cc)
 
 or_left : (a b : Bool) → a ≡ true → (a || b) ≡ true
 or_left true b is = refl
@@ -166,49 +155,6 @@ pairs-listed modes tree pairs from to is =
           there modes [] text.0 pairs text.2 from to listed.pair (subst C same listed.is_one) listed.places,
     )
 
-abbrev by_zone : Members → List (List ℕ) → List (ℕ × ℕ) → Terms → List (ℕ × Span) → List (List ℕ × Terms) → Option (List ℕ) → Outcome Rules
-by_zone tree modes transfers standard ranges riders zone = Ok (record { modes = modes; transfers = transfers; standard = standard; ranges = ranges; riders = riders; zone = zone })
-
-abbrev by_riders : Members → List (List ℕ) → List (ℕ × ℕ) → Terms → List (ℕ × Span) → List (List ℕ × Terms) → Outcome Rules
-by_riders tree modes transfers standard ranges riders = zone_of tree >>= by_zone tree modes transfers standard ranges riders
-
-abbrev by_ranges : Members → List (List ℕ) → List (ℕ × ℕ) → Members → Terms → List (ℕ × Span) → Outcome Rules
-by_ranges tree modes transfers classes standard ranges = riders_of classes tree >>= by_riders tree modes transfers standard ranges
-
-abbrev by_default : Members → List (List ℕ) → List (ℕ × ℕ) → Members → Terms → Outcome Rules
-by_default tree modes transfers classes standard = ranges_of modes tree >>= by_ranges tree modes transfers classes standard
-
-abbrev by_classes : Members → List (List ℕ) → List (ℕ × ℕ) → Members → Outcome Rules
-by_classes tree modes transfers classes = default_of classes tree >>= by_default tree modes transfers classes
-
-abbrev by_transfers : Members → List (List ℕ) → List (ℕ × ℕ) → Outcome Rules
-by_transfers tree modes transfers = classes_of tree >>= by_classes tree modes transfers
-
-abbrev by_modes : Members → List (List ℕ) → Outcome Rules
-by_modes tree modes = transfers_of modes tree >>= by_transfers tree modes
-
-abbrev outcome_of : Rules → Outcome Rules
-outcome_of rules = Ok rules
-
-same_rules : (one other : Rules) → outcome_of one ≡ outcome_of other → one ≡ other
-same_rules one other is = cc
-
-moved : (tree : Members) (one other : Rules) → outcome_of one ≡ outcome_of other → transfers_of one.modes tree ≡ Ok one.transfers → transfers_of other.modes tree ≡ Ok other.transfers
-moved tree one other is has = subst (λ (r : Rules). transfers_of r.modes tree ≡ Ok r.transfers) (same_rules one other is) has
-
--- the pairs of the rules are those that the key `transfers` gives
-transfers_in : (tree : Members) (rules : Rules) → rules_of tree ≡ Ok rules → transfers_of rules.modes tree ≡ Ok rules.transfers
-unfolding rules_of
-transfers_in tree rules is =
-    let modes = bind_ok (modes_of tree) (by_modes tree) rules is in
-    let transfers = bind_ok (transfers_of modes.0 tree) (by_transfers tree modes.0) rules modes.2 in
-    let classes = bind_ok (classes_of tree) (by_classes tree modes.0 transfers.0) rules transfers.2 in
-    let standard = bind_ok (default_of classes.0 tree) (by_default tree modes.0 transfers.0 classes.0) rules classes.2 in
-    let ranges = bind_ok (ranges_of modes.0 tree) (by_ranges tree modes.0 transfers.0 classes.0 standard.0) rules standard.2 in
-    let riders = bind_ok (riders_of classes.0 tree) (by_riders tree modes.0 transfers.0 standard.0 ranges.0) rules ranges.2 in
-    let zone = bind_ok (zone_of tree) (by_zone tree modes.0 transfers.0 standard.0 ranges.0 riders.0) rules riders.2 in
-    moved tree _ rules zone.2 transfers.1
-
 -- the law
 pub permitted-listed : (tree : Members) (rules : Rules) (from to : ℕ) → rules_of tree ≡ Ok rules → (has_pair rules.transfers from to ≡ true) ↔ ListsPair rules.modes tree from to
-permitted-listed tree rules from to is = pairs-listed rules.modes tree rules.transfers from to (transfers_in tree rules is)
+permitted-listed tree rules from to is = pairs-listed rules.modes tree rules.transfers from to (parts tree rules is).transfers

@@ -1,10 +1,14 @@
+pub mod ByteOrder
 pub mod Classes
+pub mod Entries
 pub mod Fares
+pub mod Faults
 pub mod Key
 pub mod Marks
 pub mod Members
 pub mod Modes
 pub mod Outcome
+pub mod Paying
 pub mod PosixRule
 pub mod Riders
 pub mod Rules

@@ -1,10 +1,28 @@
-//! Laws of fare tables. Each function's contract is the law; it has nothing to do.
-ghost use Rattle.std.specs.Prelude.{◌≡◌, ◌↔◌, ℕ, ◌<◌, true, Ok};
-ghost use Rattle.toml.specs.Data.{Members};
-ghost use Rattle.fare_table.specs.Fares.{Fares};
-ghost use Rattle.fare_table.specs.Rules.{Rules, rules_of};
+//! Laws of fare tables. Each function's contract is the law; it has nothing to do, but for
+//! `read_tells_the_first_row`, which reads.
+ghost use Rattle.std.specs.Prelude.{◌≡◌, ◌≢◌, ◌⊎◌, ◌↔◌, ℕ, ◌<◌, true, List, Err, None, Ok, Some};
+ghost use Rattle.std.specs.Prelude.{IfErr, IfOk, IsErrOf, IsUtf8};
+ghost use Rattle.std.specs.Cmp.Lexicographic.{slice_cmp};
+ghost use Rattle.std.specs.List.Sorted.{IsStrictlySortedBy};
+ghost use Rattle.std.specs.Map.{keys_of};
+ghost use Rattle.std.specs.Ordering.{nat_cmp};
+ghost use Rattle.toml.specs.Data.{Members, table, get_member};
+ghost use Rattle.toml.specs.Parse.{parse_document};
+ghost use Rattle.fare_table.specs.ByteOrder.{in_byte_order};
+ghost use Rattle.fare_table.specs.Entries.{EntryGives, EntryHas};
+ghost use Rattle.fare_table.specs.Fares.{Fares, mode_at, terms_at};
+ghost use Rattle.fare_table.specs.Faults.{first_fault};
+ghost use Rattle.fare_table.specs.Paying.{NamesRider, Pays};
+ghost use Rattle.fare_table.specs.Rules.{Rules, rules_in, rules_of};
 ghost use Rattle.fare_table.specs.Transfers.{has_pair, ListsPair};
 ghost use Rattle.fare_table.specs.Until.{IsLimit, until};
+ghost use Rattle.fare_table.specs.Validators.{is_chain};
+ghost use Rattle.fare_table.specs.declared.fault.TableFault.{TableFault};
+ghost use Rattle.fare_table.specs.declared.terms.Terms.{Terms};
+
+use crate::fault::TableFault;
+use crate::table::FareTable;
+use std::alloc::Global;
 
 /// A window that starts before 2100-01-01T00:00Z ends after it starts.
 pub fn windows_end_later()
@@ -25,3 +43,64 @@ pub fn permitted_pairs_are_listed()
     ensures { (tree : Members) (rules : Rules) (from to : ℕ) → rules_of tree ≡ Ok rules
         → (has_pair rules.transfers from to ≡ true) ↔ ListsPair rules.modes tree from to }
 {}
+
+/// The mode of a validator is the one that the entry of the text's `validators` names which has it,
+/// and none exactly where no entry has it. At most one entry has it.
+pub fn modes_are_of_entries()
+    ensures some { (tree : Members) (fares : Fares) (validator mode : ℕ)
+        → rules_of tree ≡ Ok fares.rules
+        → (mode_at fares validator ≡ Some mode) ↔ EntryGives fares.rules.modes tree validator mode }
+    ensures none { (tree : Members) (fares : Fares) (validator : ℕ) → rules_of tree ≡ Ok fares.rules
+        → (mode_at fares validator ≡ None) ↔ ((place : ℕ) → ¬ EntryHas tree validator place) }
+    ensures one { (tree : Members) (rules : Rules) (validator place place' : ℕ)
+        → rules_of tree ≡ Ok rules → EntryHas tree validator place → EntryHas tree validator place'
+        → place ≡ place' }
+{}
+
+/// What a token pays are the terms of the class that the key of the text's `riders` has which names
+/// it, else those of the default class. At most one key names it.
+pub fn terms_are_of_classes()
+    ensures terms { (tree : Members) (fares : Fares) (token : List ℕ) (terms : Terms)
+        → rules_of tree ≡ Ok fares.rules
+        → (terms_at fares token ≡ terms) ↔ Pays tree token terms }
+    ensures one { (tree : Members) (rules : Rules) (token key key' class class' : List ℕ)
+        → rules_of tree ≡ Ok rules → NamesRider tree token key class
+        → NamesRider tree token key' class' → key ≡ key' }
+{}
+
+/// The keys of the tables of a text, as of `classes` and `riders`, stand in the byte order in which
+/// they are read.
+pub fn keys_come_in_byte_order()
+    ensures { (text key : List ℕ) (tree keys : Members) → parse_document text ≡ Some tree
+        → get_member key tree ≡ Some (table keys) → in_byte_order keys ≡ true }
+{}
+
+/// The ranges of a table rise and stand apart. Its riders come in the byte order of their tokens.
+pub fn rules_come_in_order()
+    ensures ranges { (tree : Members) (rules : Rules) → rules_of tree ≡ Ok rules
+        → is_chain rules.ranges ≡ true }
+    ensures riders { (tree : Members) (rules : Rules) → rules_of tree ≡ Ok rules
+        → IsStrictlySortedBy (slice_cmp nat_cmp) (keys_of rules.riders) }
+{}
+
+/// A text has a fault exactly where a row of the table of faults holds, and it is that of the first
+/// such row. Where none holds it has a meaning.
+pub fn first_row_tells_the_fault()
+    ensures fault { (text : List ℕ) (fault : TableFault)
+        → (rules_in text ≡ Err fault) ↔ (first_fault (parse_document text) ≡ Some fault) }
+    ensures none { (text : List ℕ) → ((rules : Rules) × (rules_in text ≡ Ok rules))
+        ↔ (first_fault (parse_document text) ≡ None) }
+{}
+
+/// The same of `FareTable::read`, which it calls: a text of which a row holds is answered by the
+/// fault of the first such row, or by want of memory. Any other answer is of no row.
+pub fn read_tells_the_first_row(alloc: Global, text: &[u8]) -> Result<FareTable, TableFault>
+    ensures told { IsUtf8 text.now → (fault : TableFault)
+        → first_fault (parse_document text.now) ≡ Some fault
+        → IsErrOf result fault ⊎ IsErrOf result TableFault.NoMemory }
+    ensures first { IfErr result (λ fault. fault ≢ TableFault.NoMemory → IsUtf8 text.now
+        → first_fault (parse_document text.now) ≡ Some fault) }
+    ensures none { IfOk result (λ _. first_fault (parse_document text.now) ≡ None) }
+{
+    FareTable::read(alloc, text)
+}
