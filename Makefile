@@ -9,7 +9,7 @@
 # make hostile  memory, reads, writes, threads and the seed refused one at a time, in every place
 # make bench    one table of speed and memory beside plain Rust, within ten minutes
 # make audit    the checkers of ledgers over the example, a generated week and 20 spoilt ledgers
-# make sql      the example's ledger in SQLite, and an auditor's questions
+# make sql      the example's ledger in SQLite and in PostgreSQL, and an auditor's questions
 # make viewer   the page that shows a ledger, in headless Chromium
 #
 # run, build, test and wrong need the toolchain (rt, which needs Python 3), make and bash.
