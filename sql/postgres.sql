@@ -1,7 +1,7 @@
 -- The same in PostgreSQL, into the schema of the search path:
 --   psql -v ON_ERROR_STOP=1 -v zone=EST5EDT,M3.2.0,M11.1.0 -f postgres.sql < LEDGER
 --   psql -f questions.sql
--- Texts are compared by bytes, as SQLite does, whatever order the database has. The rows are written
+-- Texts are compared by bytes, as SQLite does, whatever order the database has. Rows are written
 -- once, already frozen, and the key is made when all are there. `sql/run_postgres` tries it.
 \set ON_ERROR_STOP 1
 \if :{?zone}
