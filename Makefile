@@ -1,6 +1,8 @@
 # make run      the main job on the example data: the report of two uploads under the sample table.
 #               Where nothing is proved it is a trial build of a minute or two, and it says so
 # make build    proves the program and all below it, and builds it: crates/omny_cli/out/omny_cli
+# make install  the proved program, its manual page and completions, into DESTDIR/PREFIX; PREFIX is
+#               /usr/local if not given. scripts/installed tries it
 # make test     everything that must pass: what must not compile, the proofs, the tests, the wrong
 #               bodies in must-fail/, the stored runs, and then the cases of the built program and
 #               the settled week
@@ -16,13 +18,18 @@
 # hostile also needs a C compiler, bench also rustc. audit needs Python 3.11. sql needs sqlite3 and
 # viewer needs chromium: where these are not there, they say so in a line and are skipped.
 
-.PHONY: run build test wrong hostile bench audit sql viewer
+.PHONY: run build install test wrong hostile bench audit sql viewer
+
+PREFIX ?= /usr/local
 
 run:
 	@scripts/run_example
 
 build:
 	@scripts/build_program
+
+install:
+	@scripts/install_programs "$(DESTDIR)" "$(PREFIX)"
 
 # At most four checks at once, which take 10 GB: without RT_JOBS rt ci plans for more than they take.
 # The last line of the output is the verdict of rt ci: the cases are silent where all is well.

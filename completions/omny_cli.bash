@@ -3,7 +3,7 @@
 _omny_cli() {
     local word=${COMP_WORDS[COMP_CWORD]} before=${COMP_WORDS[COMP_CWORD - 1]} given
     local options=(
-        --table --list --settle --workers --shards --token --help
+        --table --list --settle --workers --shards --token -h --help
         # >>> --ledger
         --ledger
         # <<< --ledger
