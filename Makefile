@@ -31,8 +31,8 @@ build:
 install:
 	@scripts/install_programs "$(DESTDIR)" "$(PREFIX)"
 
-# At most four checks at once, which take 10 GB: without RT_JOBS rt ci plans for more than they take.
-# The last line of the output is the verdict of rt ci: the cases are silent where all is well.
+# At most four checks at once, which take 10 GB: without RT_JOBS rt ci plans for more than they
+# take. The last line of the output is the verdict of rt ci: the cases are silent where all is well.
 test:
 	scripts/must_not_compile
 	@n=$$(nproc) && RT_JOBS=$${RT_JOBS:-$$((n < 4 ? n : 4))} rt ci
