@@ -1,6 +1,8 @@
 # make run      the main job on the example data: the report of two uploads under the sample table.
 #               Where nothing is proved it is a trial build of a minute or two, and it says so
 # make build    proves the program and all below it, and builds it: crates/omny_cli/out/omny_cli
+# make install  the proved program, its manual page and completions, into DESTDIR/PREFIX; PREFIX is
+#               /usr/local if not given. scripts/installed tries it
 # make test     everything that must pass: what must not compile, the proofs, the tests, the wrong
 #               bodies in must-fail/, the stored runs, and then the cases of the built program and
 #               the settled week
@@ -9,14 +11,16 @@
 # make hostile  memory, reads, writes, threads and the seed refused one at a time, in every place
 # make bench    one table of speed and memory beside plain Rust, within ten minutes
 # make audit    the checkers of ledgers over the example, a generated week and 20 spoilt ledgers
-# make sql      the example's ledger in SQLite, and an auditor's questions
+# make sql      the example's ledger in SQLite and in PostgreSQL, and an auditor's questions
 # make viewer   the page that shows a ledger, in headless Chromium
 #
 # run, build, test and wrong need the toolchain (rt, which needs Python 3), make and bash.
 # hostile also needs a C compiler, bench also rustc. audit needs Python 3.11. sql needs sqlite3 and
 # viewer needs chromium: where these are not there, they say so in a line and are skipped.
 
-.PHONY: run build test wrong hostile bench audit sql viewer
+.PHONY: run build install test wrong hostile bench audit sql viewer
+
+PREFIX ?= /usr/local
 
 run:
 	@scripts/run_example
@@ -24,8 +28,11 @@ run:
 build:
 	@scripts/build_program
 
-# At most four checks at once, which take 10 GB: without RT_JOBS rt ci plans for more than they take.
-# The last line of the output is the verdict of rt ci: the cases are silent where all is well.
+install:
+	@scripts/install_programs "$(DESTDIR)" "$(PREFIX)"
+
+# At most four checks at once, which take 10 GB: without RT_JOBS rt ci plans for more than they
+# take. The last line of the output is the verdict of rt ci: the cases are silent where all is well.
 test:
 	scripts/must_not_compile
 	@n=$$(nproc) && RT_JOBS=$${RT_JOBS:-$$((n < 4 ? n : 4))} rt ci

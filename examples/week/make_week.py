@@ -57,8 +57,10 @@ def week_of(rnd):
     for rider in range(RIDERS):
         token, taps = f"{rnd.getrandbits(128):032x}", []
         kind = rnd.choices(("commuter", "heavy", "weekend", "rare"), (55, 20, 15, 10))[0]
-        home, work, bus = 1000 + rnd.randrange(40), 1040 + rnd.randrange(40), 2000 + rnd.randrange(30)
-        for day in {"commuter": range(5), "heavy": range(7), "weekend": (5, 6)}.get(kind, (rider % 7,)):
+        home, work = 1000 + rnd.randrange(40), 1040 + rnd.randrange(40)
+        bus = 2000 + rnd.randrange(30)
+        days = {"commuter": range(5), "heavy": range(7), "weekend": (5, 6)}
+        for day in days.get(kind, (rider % 7,)):
             hour = rnd.uniform(6, 9)
             if kind == "heavy":
                 while hour < 22:
@@ -77,7 +79,8 @@ def week_of(rnd):
             if rnd.random() < .01:
                 yield token, moment, validator      # the same tap once more
             if rnd.random() < .01:
-                yield token, moment, validator + 1  # a tie: the validator beside it, the same moment
+                # a tie: the validator beside it, the same moment
+                yield token, moment, validator + 1
 
 
 def tap1(taps):
@@ -149,7 +152,8 @@ def report_of(ends, of):
             at[validator].append((answer, int(cents)))
             every.append((answer, int(cents)))
     own = {token: [(line[3], int(line[4])) for line in lines] for token, lines in of.items()}
-    return "".join([f"uploads {len(ends)}\n", *(f"upload {n} {end}\n" for n, end in enumerate(ends)),
+    return "".join([f"uploads {len(ends)}\n",
+                    *(f"upload {n} {end}\n" for n, end in enumerate(ends)),
                     f"totals {sums(every)}\n", f"validators {len(at)}\n",
                     *(f"validator {v} {sums(lines)}\n" for v, lines in sorted(at.items())),
                     f"tokens {len(own)}\n",
