@@ -93,7 +93,7 @@ pub fn first_row_tells_the_fault()
 {}
 
 /// The same of `FareTable::read`, which it calls: a text of which a row holds is answered by the
-/// fault of the first such row, or by want of memory. Any other answer is of no row.
+/// fault of the first such row, or by want of memory. A table is answered only where no row holds.
 pub fn read_tells_the_first_row(alloc: Global, text: &[u8]) -> Result<FareTable, TableFault>
     ensures told { IsUtf8 text.now → (fault : TableFault)
         → first_fault (parse_document text.now) ≡ Some fault
