@@ -12,7 +12,8 @@ use Rattle.account_rule.specs.declared.tap.TapIn.{TapIn}
 use Rattle.account_rule.specs.declared.window.Window.{Window}
 use Rattle.account_rule.specs.Chains.{chains, continues, ends_in_transfer, is_even}
 use Rattle.account_rule.specs.Cut.{cut, cut_from, last_block}
-use Rattle.account_rule.specs.Kept.{State, gives, is_after, kept_giver, kept_window, next_reason, open_window, window_at}
+use Rattle.account_rule.specs.Kept.{State, is_after, kept_giver, kept_window}
+use Rattle.account_rule.specs.inside.Kept.{gives, next_reason, open_window, window_at}
 use Rattle.account_rule.specs.Reasons.{charge_by, charged_by, given_by, latest, live_reason, reason, replied_by, ride_of}
 use Rattle.account_rule.specs.Replies.{live_reply, reply, reply_of, ride_reply}
 use Rattle.account_rule.specs.Rules.{Rules}

@@ -14,7 +14,8 @@ use Rattle.account_rule.specs.Chains.{chains, ends_in_transfer}
 use Rattle.account_rule.specs.Cut.{last_block}
 use Rattle.account_rule.specs.Replies.{live_reply, reply, reply_of, ride_reply}
 use Rattle.account_rule.specs.Rules.{Rules}
-use Rattle.account_rule.specs.Kept.{IsRoomy, KeepsTerms, State, fields_of, gives, is_after, kept_giver, kept_of, kept_window, open_window, window_at, with_ride}
+use Rattle.account_rule.specs.Kept.{KeepsTerms, State, fields_of, is_after, kept_giver, kept_of, kept_window}
+use Rattle.account_rule.specs.inside.Kept.{IsRoomy, gives, open_window, window_at, with_ride}
 use Rattle.account_rule.specs.Stands.{KeepsOf, Stands, giver_of, window_of}
 use Rattle.account_rule.specs.Taps.{is_later, live_at, live_tap}
 use Rattle.account_rule.specs.Windows.{charge, windows}

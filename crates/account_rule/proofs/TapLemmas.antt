@@ -9,7 +9,7 @@ use Rattle.account_rule.specs.declared.tap.TapIn.{TapIn}
 use Rattle.account_rule.specs.Chains.{chains, continues, ends_in_transfer, is_even, is_linked, rides}
 use Rattle.account_rule.specs.Cut.{last_block}
 use Rattle.account_rule.specs.Rules.{Rules}
-use Rattle.account_rule.specs.Kept.{gives}
+use Rattle.account_rule.specs.inside.Kept.{gives}
 use Rattle.account_rule.specs.Stands.{giver_of}
 use Rattle.account_rule.specs.Taps.{LiveTap, is_later, live, live_after, live_tap}
 use Rattle.account_rule.specs.Windows.{is_within, windows}

@@ -2,7 +2,7 @@
 use Rattle.std.proofs.Common.{◌≡◌, ℕ, suc, ◌+◌, ◌-◌, ◌≤◌, true, false, cond, List, [], ◌∷◌, ◌++◌, length, min, ltb, Some, option_map, IfSome, refl, ap, arith}
 use Rattle.fare_table.specs.Terms.{HasLimits}
 use Rattle.account_rule.specs.Rules.{Rules}
-use Rattle.account_rule.specs.Kept.{IsRoomy, open_window, shown_of, window_at, with_ride}
+use Rattle.account_rule.specs.inside.Kept.{IsRoomy, open_window, shown_of, window_at, with_ride}
 use Rattle.account_rule.specs.Stands.{window_of}
 use Rattle.account_rule.specs.Taps.{LiveTap}
 use Rattle.account_rule.specs.Windows.{charge, is_within, paid_rides, ride_cents, shown_window}

@@ -1,4 +1,5 @@
-use Rattle.std.specs.Prelude.{ℕ, zero, suc, ◌-◌, Bool, true, false, not, ◌&&◌, List, [], ◌∷◌, length, nat_le}
+use Rattle.std.specs.Prelude.{ℕ, zero, suc, ◌-◌, Bool, true, false, not, ◌&&◌, List, [], ◌∷◌}
+use Rattle.std.specs.Prelude.{length, nat_le}
 use Rattle.std.specs.List.{flat_map}
 use Rattle.fare_table.specs.declared.mode.Mode.{Mode}
 use Rattle.account_rule.specs.declared.tap.TapIn.{TapIn}
@@ -6,9 +7,11 @@ use Rattle.account_rule.specs.Cut.{cut, last_block}
 use Rattle.account_rule.specs.Rules.{Rules}
 use Rattle.account_rule.specs.Taps.{LiveTap, live}
 
--- whether the next tap is within two hours of the one before it, the limit included, and their modes are permitted
+-- whether the next tap is within two hours of the one before it, the limit included, and their
+-- modes are permitted
 unfoldable pub is_linked : (Mode → Mode → Bool) → LiveTap → LiveTap → Bool
-is_linked permits earlier tap = nat_le (tap.moment - earlier.moment) 7_200_000 && permits earlier.mode tap.mode
+is_linked permits earlier tap =
+    nat_le (tap.moment - earlier.moment) 7_200_000 && permits earlier.mode tap.mode
 
 -- whether the tap is linked to the last one of the chain
 unfoldable pub continues : (Mode → Mode → Bool) → List LiveTap → LiveTap → Bool

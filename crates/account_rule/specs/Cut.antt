@@ -1,14 +1,15 @@
 use Rattle.std.specs.Prelude.{◌≡◌, Bool, false, if◌then◌else◌, IsTrue, List, [], ◌∷◌, ◌++◌, ⊤}
 use Rattle.std.specs.List.{flat_map}
 
--- A list cut into blocks of consecutive elements, by a test that says whether an element joins the block that stands
--- before it. An element that does not join opens the next block.
+-- A list cut into blocks of consecutive elements, by a test that says whether an element joins the
+-- block that stands before it. An element that does not join opens the next block.
 
 -- the blocks of a list whose first block has begun
 unfoldable pub cut_from : {A : Type 0} → (List A → A → Bool) → List A → List A → List (List A)
 cut_from joins block [] = block ∷ []
 cut_from joins block (x ∷ xs) =
-    if joins block x then cut_from joins (block ++ x ∷ []) xs else block ∷ cut_from joins (x ∷ []) xs
+    if joins block x then cut_from joins (block ++ x ∷ []) xs
+    else block ∷ cut_from joins (x ∷ []) xs
 
 -- the blocks of a list
 unfoldable pub cut : {A : Type 0} → (List A → A → Bool) → List A → List (List A)
@@ -44,6 +45,7 @@ AreBlocks joins (block ∷ next ∷ blocks) =
     IsBlock joins block × IsApart joins block next × AreBlocks joins (next ∷ blocks)
 
 -- the blocks are the list, cut where an element does not join
-pub record IsCut {A : Type 0} (joins : List A → A → Bool) (xs : List A) (blocks : List (List A)) : Type 0 where
+pub record IsCut {A : Type 0} (joins : List A → A → Bool) (xs : List A) (blocks : List (List A))
+    : Type 0 where
   pub whole : flat_map (λ block. block) blocks ≡ xs
   pub apart : AreBlocks joins blocks

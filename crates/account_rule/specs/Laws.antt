@@ -1,8 +1,10 @@
-use Rattle.std.specs.Prelude.{◌≡◌, ◌↔◌, ℕ, zero, suc, ◌≤◌, Bool, true, false, List, [], ◌∷◌, ◌++◌, length, filter, All, sum_by, count_by}
+use Rattle.std.specs.Prelude.{◌≡◌, ◌↔◌, ℕ, zero, suc, ◌≤◌, Bool, true, false, List, [], ◌∷◌, ◌++◌}
+use Rattle.std.specs.Prelude.{length, filter, All, sum_by, count_by}
 use Rattle.std.specs.List.{flat_map}
 use Rattle.fare_table.specs.declared.terms.Terms.{Terms}
 use Rattle.account_rule.specs.declared.reply.Answer.{Answer}
-use Rattle.account_rule.specs.declared.reply.Answer.TheVariants.{Paid, Transfer, Capped, Stale, Unknown}
+use Rattle.account_rule.specs.declared.reply.Answer.TheVariants.{Paid, Transfer, Capped, Stale}
+use Rattle.account_rule.specs.declared.reply.Answer.TheVariants.{Unknown}
 use Rattle.account_rule.specs.declared.reply.Reply.{Reply}
 use Rattle.account_rule.specs.declared.tap.TapIn.{TapIn}
 use Rattle.account_rule.specs.Chains.{continues, chains, rides}
@@ -28,13 +30,15 @@ WindowsAreTheOnlyCut =
 abbrev pub WindowsKeepTheRideLimit : Type 0
 WindowsKeepTheRideLimit =
     (rules : Rules) (taps : List TapIn)
-    → All (λ window. paid_rides rules.terms (length window) ≤ rules.terms.rides) (windows rules taps)
+    → All (λ window. paid_rides rules.terms (length window) ≤ rules.terms.rides)
+    (windows rules taps)
 
 -- no window costs more than the ceiling
 abbrev pub WindowsKeepTheCeiling : Type 0
 WindowsKeepTheCeiling =
     (rules : Rules) (taps : List TapIn)
-    → All (λ window. ride_cents rules.terms (length window) ≤ rules.terms.ceiling) (windows rules taps)
+    → All (λ window. ride_cents rules.terms (length window) ≤ rules.terms.ceiling)
+    (windows rules taps)
 
 abbrev pub is_paid : Reply → Bool
 is_paid reply = is_paid_answer reply.answer

@@ -1,10 +1,12 @@
 -- Why a tap is answered as it is, over the whole list of its token's earlier taps.
-use Rattle.std.specs.Prelude.{◌≡◌, ℕ, ◌+◌, ◌-◌, ◌*◌, false, if◌then◌else◌, List, [], ◌∷◌, ◌++◌, length, Option, Some, None, is_some, max, nat_le}
+use Rattle.std.specs.Prelude.{◌≡◌, ℕ, ◌+◌, ◌-◌, ◌*◌, false, if◌then◌else◌, List, [], ◌∷◌, ◌++◌}
+use Rattle.std.specs.Prelude.{length, Option, Some, None, is_some, max, nat_le}
 use Rattle.std.specs.List.{last_or}
 use Rattle.fare_table.specs.declared.mode.Mode.{Mode}
 use Rattle.fare_table.specs.declared.terms.Terms.{Terms}
 use Rattle.account_rule.specs.declared.reason.Charge.{Charge}
-use Rattle.account_rule.specs.declared.reason.Charge.TheVariants.{Full, CeilingCut, CeilingReached, RideLimitReached}
+use Rattle.account_rule.specs.declared.reason.Charge.TheVariants.{Full, CeilingCut, CeilingReached}
+use Rattle.account_rule.specs.declared.reason.Charge.TheVariants.{RideLimitReached}
 use Rattle.account_rule.specs.declared.reason.Reason.{Reason}
 use Rattle.account_rule.specs.declared.reason.Reason.TheVariants.{Unknown, Stale, Transfer, Ride}
 use Rattle.account_rule.specs.declared.reply.Answer.TheVariants as answer
@@ -38,7 +40,8 @@ given_by (Some giver) = Transfer giver.moment giver.mode
 -- a ride is the last one of its window (which has a ride at least)
 unfoldable pub ride_of : Rules → List LiveTap → Reason
 ride_of rules [] = Unknown
-ride_of rules (first ∷ window) = Ride first.moment (rules.until first.moment) (charge_by rules.terms (length window))
+ride_of rules (first ∷ window) =
+    Ride first.moment (rules.until first.moment) (charge_by rules.terms (length window))
 
 -- why a live tap is answered as it is: `taps` ends with it
 unfoldable pub live_reason : Rules → List TapIn → List TapIn → Reason
@@ -51,7 +54,8 @@ live_reason rules earlier taps =
 unfoldable pub reason : Rules → List TapIn → TapIn → Reason
 reason rules earlier tap =
     if is_some tap.mode
-    then (if is_later earlier tap.moment then live_reason rules earlier (earlier ++ tap ∷ []) else Stale (latest earlier))
+    then (if is_later earlier tap.moment then live_reason rules earlier (earlier ++ tap ∷ [])
+    else Stale (latest earlier))
     else Unknown
 
 -- the cents that follow from what decides them
@@ -67,15 +71,6 @@ replied_by Unknown = reply_of answer.Unknown 0
 replied_by (Stale moment) = reply_of answer.Stale 0
 replied_by (Transfer moment mode) = reply_of answer.Transfer 0
 replied_by (Ride start until charge) = ride_reply (charged_by charge)
-
--- the reasons to the taps that follow the earlier ones
-unfoldable pub reasons_after : Rules → List TapIn → List TapIn → List Reason
-reasons_after rules earlier [] = []
-reasons_after rules earlier (tap ∷ taps) = reason rules earlier tap ∷ reasons_after rules (earlier ++ tap ∷ []) taps
-
--- the reason of each tap after those before it
-unfoldable pub reasons : Rules → List TapIn → List Reason
-reasons rules taps = reasons_after rules [] taps
 
 -- each reply is the one that follows from the reason
 abbrev pub RepliesFollow : Type 0

@@ -1,6 +1,7 @@
 use Rattle.std.specs.Prelude.{ℕ, ◌-◌, if◌then◌else◌, List, [], ◌∷◌, ◌++◌, length, is_some, nat_lt}
 use Rattle.account_rule.specs.declared.reply.Answer.{Answer}
-use Rattle.account_rule.specs.declared.reply.Answer.TheVariants.{Paid, Transfer, Capped, Stale, Unknown}
+use Rattle.account_rule.specs.declared.reply.Answer.TheVariants.{Paid, Transfer, Capped, Stale}
+use Rattle.account_rule.specs.declared.reply.Answer.TheVariants.{Unknown}
 use Rattle.account_rule.specs.declared.reply.Reply.{Reply}
 use Rattle.account_rule.specs.declared.tap.TapIn.{TapIn}
 use Rattle.account_rule.specs.Chains.{ends_in_transfer}
@@ -27,13 +28,15 @@ live_reply rules taps =
 unfoldable pub reply : Rules → List TapIn → TapIn → Reply
 reply rules earlier tap =
     if is_some tap.mode
-    then (if is_later earlier tap.moment then live_reply rules (earlier ++ tap ∷ []) else reply_of Stale 0)
+    then (if is_later earlier tap.moment then live_reply rules (earlier ++ tap ∷ [])
+    else reply_of Stale 0)
     else reply_of Unknown 0
 
 -- the replies to the taps that follow the earlier ones
 unfoldable pub replies_after : Rules → List TapIn → List TapIn → List Reply
 replies_after rules earlier [] = []
-replies_after rules earlier (tap ∷ taps) = reply rules earlier tap ∷ replies_after rules (earlier ++ tap ∷ []) taps
+replies_after rules earlier (tap ∷ taps) =
+    reply rules earlier tap ∷ replies_after rules (earlier ++ tap ∷ []) taps
 
 -- the reply to each tap after those before it
 unfoldable pub replies : Rules → List TapIn → List Reply

@@ -1,4 +1,5 @@
-use Rattle.std.specs.Prelude.{ℕ, zero, suc, ◌+◌, ◌-◌, ◌*◌, Bool, false, ◌||◌, if◌then◌else◌, List, [], ◌∷◌, length, min, nat_lt, nat_le, Option, Some, None}
+use Rattle.std.specs.Prelude.{ℕ, zero, suc, ◌+◌, ◌-◌, ◌*◌, Bool, false, ◌||◌, if◌then◌else◌, List}
+use Rattle.std.specs.Prelude.{[], ◌∷◌, length, min, nat_lt, nat_le, Option, Some, None}
 use Rattle.fare_table.specs.declared.terms.Terms.{Terms}
 use Rattle.account_rule.specs.declared.tap.TapIn.{TapIn}
 use Rattle.account_rule.specs.declared.window.WindowView.{WindowView}
@@ -26,7 +27,8 @@ charge terms place =
 -- how many of a window's first rides are charged
 unfoldable pub paid_rides : Terms → ℕ → ℕ
 paid_rides terms zero = 0
-paid_rides terms (suc place) = paid_rides terms place + (if nat_lt 0 (charge terms place) then 1 else 0)
+paid_rides terms (suc place) =
+    paid_rides terms place + (if nat_lt 0 (charge terms place) then 1 else 0)
 
 -- the cents of a window's first rides
 unfoldable pub ride_cents : Terms → ℕ → ℕ

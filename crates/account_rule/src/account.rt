@@ -1,11 +1,13 @@
-ghost use Rattle.std.specs.Prelude.{◌≡◌, ℕ, ◌<◌, ◌≤◌, List, [], ◌∷◌, ◌++◌, length, option_map, IfSome, Some};
+ghost use Rattle.std.specs.Prelude.{◌≡◌, ℕ, ◌<◌, ◌≤◌, List, [], ◌∷◌, ◌++◌, length, option_map};
+ghost use Rattle.std.specs.Prelude.{IfSome, Some};
 ghost use Rattle.std.specs.Option.{ForSome};
 ghost use Rattle.fare_table.specs.Terms.{HasLimits};
 ghost use Rattle.fare_table.specs.Until.{until};
 ghost use Rattle.account_rule.specs.declared.tap.TapIn.{TapIn};
 ghost use Rattle.account_rule.specs.Replies.{reply, ride_reply};
 ghost use Rattle.account_rule.specs.Rules.{Rules, permits_of, rules_of};
-ghost use Rattle.account_rule.specs.Kept.{IsRoomy, gives, kept_of, open_window, window_at, with_ride};
+ghost use Rattle.account_rule.specs.Kept.{kept_of};
+ghost use Rattle.account_rule.specs.inside.Kept.{IsRoomy, gives, open_window, window_at, with_ride};
 ghost use Rattle.account_rule.specs.Stands.{Stands, StandsForSome};
 ghost use Rattle.account_rule.specs.Taps.{live_at};
 ghost use Rattle.account_rule.specs.Windows.{charge, last_window};
@@ -117,7 +119,7 @@ impl Account {
     /// Kept out of the step, since it runs once a token and the rest of the step at every tap.
     #[cold]
     #[inline(never)]
-    #[tactic(auto, unfolding(crate::specs::Kept::kept_of, crate::specs::Kept::open_window, crate::specs::Rules::rules_of))]
+    #[tactic(auto, unfolding(crate::specs::Kept::kept_of, crate::specs::inside::Kept::open_window, crate::specs::Rules::rules_of))]
     fn first_ride(&mut self, table: &FareTable, token: &[u8], mode: Mode, tap: TapIn) -> Reply
         requires { length token.now ≡ 16 }
         ensures limits { let terms = (rules_of table.now token.now).terms in HasLimits terms }
@@ -145,9 +147,10 @@ impl Account {
     }
 
     /// Whether the last live tap gives a transfer to a live tap at the moment, on the mode.
-    #[tactic(auto, unfolding(crate::specs::Chains::is_linked, crate::specs::Rules::permits_of, crate::specs::Kept::gives, crate::specs::Taps::live_at))]
+    #[tactic(auto, unfolding(crate::specs::Chains::is_linked, crate::specs::Rules::permits_of, crate::specs::inside::Kept::gives, crate::specs::Taps::live_at))]
     fn gives_transfer(&self, table: &FareTable, moment: u64, mode: Mode) -> bool
-        requires giver { ForSome self.now.giver (λ giver. giver.place < length table.now.rules.modes) }
+        requires giver { ForSome self.now.giver
+            (λ giver. giver.place < length table.now.rules.modes) }
         requires mode { mode.place < length table.now.rules.modes }
         ensures { result ≡ gives (permits_of table.now)
             (option_map (live_at self.now.last) self.now.giver) (live_at moment mode) }
@@ -160,16 +163,19 @@ impl Account {
     }
 
     /// Takes a live tap on the mode as a ride, and returns what it costs.
-    #[tactic(auto, unfolding(crate::specs::Kept::window_at))]
+    #[tactic(auto, unfolding(crate::specs::inside::Kept::window_at))]
     fn take_ride(&mut self, mode: Mode, tap: TapIn) -> u32
         requires limits { HasLimits self.old.terms }
-        requires room { IsRoomy self.old.terms (window_at (Some self.old.window) tap.moment tap.until) }
-        ensures cost { result ≡ charge self.old.terms (window_at (Some self.old.window) tap.moment tap.until).rides }
+        requires room { IsRoomy self.old.terms
+            (window_at (Some self.old.window) tap.moment tap.until) }
+        ensures cost { result ≡ charge self.old.terms
+            (window_at (Some self.old.window) tap.moment tap.until).rides }
         ensures last { self.new.last ≡ tap.moment }
         ensures has_window { self.new.has_window ≡ self.old.has_window }
         ensures giver { self.new.giver ≡ Some mode }
         ensures terms { self.new.terms ≡ self.old.terms }
-        ensures window { self.new.window ≡ with_ride self.old.terms (window_at (Some self.old.window) tap.moment tap.until) }
+        ensures window { self.new.window
+            ≡ with_ride self.old.terms (window_at (Some self.old.window) tap.moment tap.until) }
     {
         if tap.moment >= self.window.until {
             self.window = Window::open(tap.moment, tap.until);

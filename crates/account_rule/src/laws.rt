@@ -2,7 +2,10 @@
 //! a function that does nothing.
 
 ghost use Rattle.account_rule.specs.Reasons.{GiversAreRides, RepliesFollow};
-ghost use Rattle.account_rule.specs.Laws.{ChainsAreTheOnlyCut, WindowsAreTheOnlyCut, WindowsKeepTheCeiling, WindowsKeepTheRideLimit, WindowsShareTheCents, WindowsShareThePaidRides, WindowsShareTheRides};
+ghost use Rattle.account_rule.specs.Laws.{ChainsAreTheOnlyCut, WindowsAreTheOnlyCut};
+ghost use Rattle.account_rule.specs.Laws.{WindowsKeepTheCeiling, WindowsKeepTheRideLimit};
+ghost use Rattle.account_rule.specs.Laws.{WindowsShareTheCents, WindowsShareThePaidRides};
+ghost use Rattle.account_rule.specs.Laws.{WindowsShareTheRides};
 
 /// The chains are the only way to cut live taps by links, and the windows the only way to cut rides
 /// by the limits of windows.

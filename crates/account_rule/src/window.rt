@@ -1,6 +1,7 @@
 ghost use Rattle.std.specs.Prelude.{◌≡◌, ◌+◌, ◌*◌, ◌^◌, ◌<◌, ◌≤◌};
 ghost use Rattle.fare_table.specs.Terms.{HasLimits};
-ghost use Rattle.account_rule.specs.Kept.{IsRoomy, next_reason, open_window, shown_of, with_ride};
+ghost use Rattle.account_rule.specs.inside.Kept.{IsRoomy, next_reason, open_window, shown_of};
+ghost use Rattle.account_rule.specs.inside.Kept.{with_ride};
 ghost use Rattle.account_rule.specs.Reasons.{charge_by};
 ghost use Rattle.account_rule.specs.Windows.{charge};
 
@@ -12,7 +13,8 @@ use fare_table::Terms;
 pub struct WindowView {
     /// The moment of its first ride, in milliseconds since 1970-01-01T00:00Z.
     pub start: u64,
-    /// The moment from which on a ride opens the next window, in milliseconds since 1970-01-01T00:00Z.
+    /// The moment from which on a ride opens the next window, in milliseconds since
+    /// 1970-01-01T00:00Z.
     pub until: u64,
     /// How many of its rides were charged.
     pub paid: u32,
@@ -34,7 +36,7 @@ pub(crate) struct Window {
 
 impl Window {
     /// A window with no ride yet, for a first ride at `start`.
-    #[tactic(auto, unfolding(crate::specs::Kept::open_window))]
+    #[tactic(auto, unfolding(crate::specs::inside::Kept::open_window))]
     pub(crate) fn open(start: u64, until: u64) -> Self
         ensures { result ≡ open_window start until }
     {
@@ -48,7 +50,7 @@ impl Window {
     }
 
     /// What its owner sees of it.
-    #[tactic(auto, unfolding(crate::specs::Kept::shown_of))]
+    #[tactic(auto, unfolding(crate::specs::inside::Kept::shown_of))]
     pub(crate) fn shown(self) -> WindowView
         ensures { result ≡ shown_of self }
     {
@@ -61,7 +63,7 @@ impl Window {
     }
 
     /// Counts one more ride, and returns what it costs.
-    #[tactic(auto, unfolding(crate::specs::Kept::with_ride, crate::specs::Windows::charge))]
+    #[tactic(auto, unfolding(crate::specs::inside::Kept::with_ride, crate::specs::Windows::charge))]
     pub(crate) fn add_ride(&mut self, terms: Terms) -> u32
         requires limits { HasLimits terms }
         requires room { IsRoomy terms self.old }
@@ -79,7 +81,7 @@ impl Window {
     }
 
     /// Why its next ride is answered as it is.
-    #[tactic(auto, unfolding(crate::specs::Kept::next_reason))]
+    #[tactic(auto, unfolding(crate::specs::inside::Kept::next_reason))]
     pub(crate) fn next_reason(self, terms: Terms) -> Reason
         requires limits { HasLimits terms }
         requires room { IsRoomy terms self }

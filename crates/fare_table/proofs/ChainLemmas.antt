@@ -11,7 +11,8 @@ use Rattle.std.specs.List.Sorted.{IsNonDecreasingBy, IsPartitionedBy}
 use Rattle.std.specs.Option.{option_or}
 use Rattle.std.specs.Prelude.{nat_le, nat_lt, if◌then◌else◌}
 use Rattle.fare_table.specs.Fares.{has_number}
-use Rattle.fare_table.specs.Validators.{is_chain, is_rising, last_begun, IsSplit}
+use Rattle.fare_table.specs.Validators.{is_chain}
+use Rattle.fare_table.specs.inside.Validators.{is_rising, last_begun, IsSplit}
 use Rattle.fare_table.specs.declared.validators.Span.{Span}
 
 -- the range, where it reaches the number

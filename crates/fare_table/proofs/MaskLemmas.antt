@@ -7,7 +7,8 @@ use Rattle.std.proofs.lemmas.Nat.Bits.{bit_at-zero, bit_at_set_same, bit_at_set_
 use Rattle.std.proofs.Math.Bool.{or-false}
 use Rattle.std.proofs.Math.ListN.{replicate}
 use Rattle.std.specs.Int.{bit_at}
-use Rattle.fare_table.specs.Transfers.{AreMasksOf, has_pair, joins}
+use Rattle.fare_table.specs.Transfers.{has_pair, joins}
+use Rattle.fare_table.specs.inside.Transfers.{AreMasksOf}
 
 -- words without bits stand for no pairs
 pub masks-none : AreMasksOf (replicate 32 0) []

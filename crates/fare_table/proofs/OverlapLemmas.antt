@@ -12,7 +12,8 @@ use Rattle.std.specs.Ordering.{nat_cmp, is_lt, match_ordering}
 use Rattle.std.specs.Prelude.{nat_le, nat_lt}
 use Rattle.std.specs.declared.ops.Bound.TheVariants.{Unbounded, Included}
 use Rattle.fare_table.proofs.ChainLemmas.{AreApart, apart, or_twice}
-use Rattle.fare_table.specs.Validators.{are_modes_below, is_chain, last_begun, share_number}
+use Rattle.fare_table.specs.Validators.{are_modes_below, is_chain, share_number}
+use Rattle.fare_table.specs.inside.Validators.{last_begun}
 use Rattle.fare_table.specs.declared.validators.Span.{Span}
 
 Range : Type 0

@@ -34,4 +34,5 @@ is_permitted fares from to = has_pair fares.rules.transfers from to
 -- what the rider pays: the terms of the rider's own class, else of the default class
 abbrev pub terms_at : Fares → List ℕ → Terms
 terms_at fares token =
-    unwrap_or (lookup (λ rider. is_eq (slice_cmp nat_cmp token rider)) fares.rules.riders) fares.rules.standard
+    unwrap_or (lookup (λ rider.
+    is_eq (slice_cmp nat_cmp token rider)) fares.rules.riders) fares.rules.standard

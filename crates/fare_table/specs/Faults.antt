@@ -1,6 +1,8 @@
 -- When a text is no fare table: the rows of the table of faults, in their order. The first row that
 -- holds tells the fault.
-use Rattle.std.specs.Prelude.{ℕ, zero, suc, pos, ◌&&◌, ◌||◌, ◌++◌, ◌∷◌, [], Bool, true, false, not, List, Option, Some, None, codes, int_le, nat_le, option_map, position, unsigned_abs}
+use Rattle.std.specs.Prelude.{ℕ, zero, suc, pos, ◌&&◌, ◌||◌, ◌++◌, ◌∷◌, [], Bool, true, false, not}
+use Rattle.std.specs.Prelude.{List, Option, Some, None, codes, int_le, nat_le, option_map, position}
+use Rattle.std.specs.Prelude.{unsigned_abs}
 use Rattle.std.specs.Cmp.Lexicographic.{slice_cmp}
 use Rattle.std.specs.List.{cons_option, find, list_any}
 use Rattle.std.specs.Option.{is_none, is_some, option_and_then, unwrap_or}
@@ -8,7 +10,8 @@ use Rattle.std.specs.Ordering.{is_eq, nat_cmp}
 use Rattle.std.specs.Result.{result_ok}
 use Rattle.hex.specs.Hex.{decode_sized}
 use Rattle.jiff.specs.Words.{read_whole}
-use Rattle.toml.specs.Data.{Data, Items, no_items, item, Members, no_members, member, get_member, get_item, as_str, as_integer, as_array, as_table}
+use Rattle.toml.specs.Data.{Data, Items, no_items, item, Members, no_members, member, get_member}
+use Rattle.toml.specs.Data.{get_item, as_str, as_integer, as_array, as_table}
 use Rattle.fare_table.specs.Classes.{is_empty}
 use Rattle.fare_table.specs.Members.{are_tables, hold_strings, hold_tables}
 use Rattle.fare_table.specs.Modes.{are_mode_names, same_name}
@@ -16,11 +19,12 @@ use Rattle.fare_table.specs.Transfers.{pair_of}
 use Rattle.fare_table.specs.declared.fault.Key.{Key}
 use Rattle.fare_table.specs.declared.fault.Key.TheVariants as the_key
 use Rattle.fare_table.specs.declared.fault.TableFault.{TableFault}
-use Rattle.fare_table.specs.declared.fault.TableFault.TheVariants.{Text, Missing, Kind, Range, Mode, Overlap, Rider, NoMemory, Zone}
+use Rattle.fare_table.specs.declared.fault.TableFault.TheVariants.{Text, Missing, Kind, Range, Mode}
+use Rattle.fare_table.specs.declared.fault.TableFault.TheVariants.{Overlap, Rider, NoMemory, Zone}
 
 -- where a row looks: at the keys of the text, at those of one of its classes or of one entry of its
--- `validators`, or at one key of its `riders`, each by its place. Classes and keys have the places of
--- their byte order (`laws::keys_come_in_byte_order`).
+-- `validators`, or at one key of its `riders`, each by its place. Classes and keys have the places
+-- of their byte order (`laws::keys_come_in_byte_order`).
 pub data Where : Type 0 where
   top : Where
   class : ℕ → Where
@@ -100,7 +104,8 @@ riders_in tree = members_of (get_member (codes "riders") tree)
 -- the keys and values where a row looks
 abbrev pub members_at : Where → Members → Members
 members_at top tree = tree
-members_at (class place) tree = members_of (option_map (λ one. one.1) (member_at place (classes_in tree)))
+members_at (class place) tree =
+    members_of (option_map (λ one. one.1) (member_at place (classes_in tree)))
 members_at (range place) tree = members_of (get_item place (entries_in tree))
 members_at (rider place) tree = no_members
 
@@ -137,11 +142,13 @@ is_kind the_key.Zone value = is_some (as_str value)
 
 -- the value is a number from the one limit to the other
 abbrev pub is_from : ℕ → ℕ → Data → Bool
-is_from low high value = passes (λ number. int_le (pos low) number && int_le number (pos high)) (as_integer value)
+is_from low high value =
+    passes (λ number. int_le (pos low) number && int_le number (pos high)) (as_integer value)
 
 -- the value is within the limits of the key; `last` is not below `first` beside it
 abbrev pub is_within : Key → Members → Data → Bool
-is_within the_key.Modes beside value = passes (λ names. are_mode_names (texts names)) (as_array value)
+is_within the_key.Modes beside value =
+    passes (λ names. are_mode_names (texts names)) (as_array value)
 is_within the_key.Transfers beside value = true
 is_within the_key.Classes beside value = passes (λ classes. not (is_empty classes)) (as_table value)
 is_within the_key.Fare beside value = is_from 1 100_000 value
@@ -150,7 +157,8 @@ is_within the_key.Ceiling beside value = is_from 1 100_000_000 value
 is_within the_key.DefaultClass beside value = true
 is_within the_key.Validators beside value = true
 is_within the_key.First beside value = is_from 0 4_294_967_295 value
-is_within the_key.Last beside value = is_from (amount_of (get_member (codes "first") beside)) 4_294_967_295 value
+is_within the_key.Last beside value =
+    is_from (amount_of (get_member (codes "first") beside)) 4_294_967_295 value
 is_within the_key.ModeName beside value = true
 is_within the_key.Riders beside value = true
 is_within the_key.Zone beside value = true
@@ -161,9 +169,12 @@ is_mode names name = is_some (position (same_name name) names)
 
 -- one of the names of a transfer, or that of an entry of `validators`, is none of the text's modes
 abbrev pub names_no_mode : Where → Members → Bool
-names_no_mode top tree = list_any (λ pair. not (is_mode (mode_names tree) pair.0 && is_mode (mode_names tree) pair.1)) (pairs (items_of (get_member (codes "transfers") tree)))
+names_no_mode top tree =
+    list_any (λ pair. not (is_mode (mode_names tree) pair.0 && is_mode (mode_names tree) pair.1))
+    (pairs (items_of (get_member (codes "transfers") tree)))
 names_no_mode (class place) tree = false
-names_no_mode (range place) tree = not (is_mode (mode_names tree) (word_of (value_at (range place) the_key.ModeName tree)))
+names_no_mode (range place) tree =
+    not (is_mode (mode_names tree) (word_of (value_at (range place) the_key.ModeName tree)))
 names_no_mode (rider place) tree = false
 
 -- the test holds of an earlier place
@@ -184,12 +195,14 @@ abbrev pub shares_validator : Where → Members → Bool
 shares_validator top tree = false
 shares_validator (class place) tree = false
 shares_validator (range place) tree =
-    is_earlier (λ earlier. nat_le (first_at tree place) (last_at tree earlier) && nat_le (first_at tree earlier) (last_at tree place)) place
+    is_earlier (λ earlier. nat_le (first_at tree place) (last_at tree earlier)
+    && nat_le (first_at tree earlier) (last_at tree place)) place
 shares_validator (rider place) tree = false
 
 -- the token that a key of `riders` names
 abbrev pub token_at : Members → ℕ → Option (List ℕ)
-token_at tree place = option_and_then (λ one. result_ok (decode_sized one.0 16)) (member_at place (riders_in tree))
+token_at tree place =
+    option_and_then (λ one. result_ok (decode_sized one.0 16)) (member_at place (riders_in tree))
 
 -- the one token is the other one, where there is one
 abbrev pub same_token : List ℕ → Option (List ℕ) → Bool
@@ -197,20 +210,24 @@ same_token token other = passes (λ o. is_eq (slice_cmp nat_cmp token o)) other
 
 -- the key names the token that an earlier key names
 abbrev pub is_again : Members → ℕ → Bool
-is_again tree place = passes (λ token. is_earlier (λ earlier. same_token token (token_at tree earlier)) place) (token_at tree place)
+is_again tree place =
+    passes (λ token. is_earlier (λ earlier. same_token token (token_at tree earlier)) place)
+    (token_at tree place)
 
 -- the text has no class of this name
 abbrev pub is_no_class : Members → List ℕ → Bool
 is_no_class tree name = is_none (get_member name (classes_in tree))
 
--- the default class, or the class of a key of `riders`, is none of the text's; or the key is no token,
--- or the token of an earlier key
+-- the default class, or the class of a key of `riders`, is none of the text's; or the key is no
+-- token, or the token of an earlier key
 abbrev pub names_no_rider : Where → Members → Bool
 names_no_rider top tree = is_no_class tree (word_of (get_member (codes "default_class") tree))
 names_no_rider (class place) tree = false
 names_no_rider (range place) tree = false
 names_no_rider (rider place) tree =
-    is_none (token_at tree place) || (is_no_class tree (word_of (option_map (λ one. one.1) (member_at place (riders_in tree)))) || is_again tree place)
+    is_none (token_at tree place)
+    || (is_no_class tree (word_of
+    (option_map (λ one. one.1) (member_at place (riders_in tree)))) || is_again tree place)
 
 -- the zone is a text that reads as no rule
 abbrev pub is_no_zone : Option Data → Bool
@@ -221,7 +238,8 @@ abbrev pub is_wrong : Members → Where → TableFault → Bool
 is_wrong tree at Text = false
 is_wrong tree at (Missing key) = is_none (value_at at key tree)
 is_wrong tree at (Kind key) = passes (λ value. not (is_kind key value)) (value_at at key tree)
-is_wrong tree at (Range key) = passes (λ value. not (is_within key (members_at at tree) value)) (value_at at key tree)
+is_wrong tree at (Range key) =
+    passes (λ value. not (is_within key (members_at at tree) value)) (value_at at key tree)
 is_wrong tree at Mode = names_no_mode at tree
 is_wrong tree at Overlap = shares_validator at tree
 is_wrong tree at Rider = names_no_rider at tree
@@ -249,14 +267,17 @@ needed_rows at key = a_row at (Missing key) ∷ a_row at (Kind key) ∷ a_row at
 abbrev pub rows_of_class : ℕ → List Row
 rows_of_class place =
     needed_rows (class place) the_key.Fare
-    ++ (needed_rows (class place) the_key.Rides ++ (a_row (class place) (Kind the_key.Ceiling) ∷ a_row (class place) (Range the_key.Ceiling) ∷ []))
+    ++ (needed_rows (class place) the_key.Rides
+    ++ (a_row (class place) (Kind the_key.Ceiling) ∷ a_row (class place) (Range the_key.Ceiling)
+    ∷ []))
 
 -- of one entry of `validators`: `first`, `last`, `mode`
 abbrev pub rows_of_range : ℕ → List Row
 rows_of_range place =
     needed_rows (range place) the_key.First
     ++ (needed_rows (range place) the_key.Last
-    ++ (a_row (range place) (Missing the_key.ModeName) ∷ a_row (range place) (Kind the_key.ModeName) ∷ a_row (range place) Mode ∷ []))
+    ++ (a_row (range place) (Missing the_key.ModeName) ∷ a_row (range place) (Kind the_key.ModeName)
+    ∷ a_row (range place) Mode ∷ []))
 
 -- class by class, from this place on
 abbrev pub class_rows : ℕ → Members → List Row
@@ -266,7 +287,8 @@ class_rows place (member name value more) = rows_of_class place ++ class_rows (s
 -- entry by entry, each with the entries before it
 abbrev pub range_rows : ℕ → Items → List Row
 range_rows place no_items = []
-range_rows place (item value more) = rows_of_range place ++ (a_row (range place) Overlap ∷ range_rows (suc place) more)
+range_rows place (item value more) =
+    rows_of_range place ++ (a_row (range place) Overlap ∷ range_rows (suc place) more)
 
 -- key by key of the riders
 abbrev pub rider_rows : ℕ → Members → List Row
@@ -275,7 +297,8 @@ rider_rows place (member key value more) = a_row (rider place) Rider ∷ rider_r
 
 -- the step `transfers`
 abbrev pub transfers_step : List Row
-transfers_step = a_row top (Missing the_key.Transfers) ∷ a_row top (Kind the_key.Transfers) ∷ a_row top Mode ∷ []
+transfers_step =
+    a_row top (Missing the_key.Transfers) ∷ a_row top (Kind the_key.Transfers) ∷ a_row top Mode ∷ []
 
 -- the step `classes`
 abbrev pub classes_step : Members → List Row
@@ -283,11 +306,15 @@ classes_step tree = needed_rows top the_key.Classes ++ class_rows 0 (classes_in 
 
 -- the step `default_class`
 abbrev pub default_step : List Row
-default_step = a_row top (Missing the_key.DefaultClass) ∷ a_row top (Kind the_key.DefaultClass) ∷ a_row top Rider ∷ []
+default_step =
+    a_row top (Missing the_key.DefaultClass) ∷ a_row top (Kind the_key.DefaultClass)
+    ∷ a_row top Rider ∷ []
 
 -- the step `validators`
 abbrev pub validators_step : Members → List Row
-validators_step tree = a_row top (Missing the_key.Validators) ∷ a_row top (Kind the_key.Validators) ∷ range_rows 0 (entries_in tree)
+validators_step tree =
+    a_row top (Missing the_key.Validators) ∷ a_row top (Kind the_key.Validators)
+    ∷ range_rows 0 (entries_in tree)
 
 -- the step `riders`
 abbrev pub riders_step : Members → List Row
@@ -301,7 +328,8 @@ zone_step = a_row top (Kind the_key.Zone) ∷ a_row top Zone ∷ []
 abbrev pub rows : Members → List Row
 rows tree =
     needed_rows top the_key.Modes
-    ++ (transfers_step ++ (classes_step tree ++ (default_step ++ (validators_step tree ++ (riders_step tree ++ zone_step)))))
+    ++ (transfers_step ++ (classes_step tree
+    ++ (default_step ++ (validators_step tree ++ (riders_step tree ++ zone_step)))))
 
 -- the fault of the first row that holds, if one does
 abbrev pub first_of : Members → List Row → Option TableFault

@@ -1,7 +1,9 @@
 -- The words that fault lines print for keys.
 use Rattle.std.specs.Prelude.{ℕ, List, codes}
 use Rattle.fare_table.specs.declared.fault.Key.{Key}
-use Rattle.fare_table.specs.declared.fault.Key.TheVariants.{Modes, Transfers, Classes, Fare, Rides, Ceiling, DefaultClass, Validators, First, Last, ModeName, Riders, Zone}
+use Rattle.fare_table.specs.declared.fault.Key.TheVariants.{Modes, Transfers, Classes, Fare, Rides}
+use Rattle.fare_table.specs.declared.fault.Key.TheVariants.{Ceiling, DefaultClass, Validators}
+use Rattle.fare_table.specs.declared.fault.Key.TheVariants.{First, Last, ModeName, Riders, Zone}
 
 -- the bytes of the variant's name
 abbrev pub key_name : Key → List ℕ

@@ -12,10 +12,10 @@ pub mod Paying
 pub mod PosixRule
 pub mod Riders
 pub mod Rules
-pub mod Table
 pub mod Terms
 pub mod Token
 pub mod Transfers
 pub mod Until
 pub mod Validators
 pub mod Zone
+pub mod inside

@@ -1,8 +1,10 @@
 -- The values at the keys of a TOML table.
-use Rattle.std.specs.Prelude.{ℕ, ℤ, pos, ◌&&◌, Bool, true, List, Option, Ok, Err, int_le, unsigned_abs, if◌then◌else◌}
+use Rattle.std.specs.Prelude.{ℕ, ℤ, pos, ◌&&◌, Bool, true, List, Option, Ok, Err, int_le}
+use Rattle.std.specs.Prelude.{unsigned_abs, if◌then◌else◌}
 use Rattle.std.specs.Option.{is_some}
 use Rattle.std.specs.Option.{ok_or}
-use Rattle.toml.specs.Data.{Data, Items, no_items, item, Members, no_members, member, get_member, as_str, as_integer, as_array, as_table}
+use Rattle.toml.specs.Data.{Data, Items, no_items, item, Members, no_members, member, get_member}
+use Rattle.toml.specs.Data.{as_str, as_integer, as_array, as_table}
 use Rattle.fare_table.specs.Outcome.{Outcome, ◌>>=◌}
 use Rattle.fare_table.specs.declared.fault.Key.{Key}
 use Rattle.fare_table.specs.declared.fault.TableFault.TheVariants.{Missing, Kind, Range}
@@ -17,7 +19,9 @@ of_kind key part = ok_or part (Kind key)
 
 -- the number, where it lies from `low` to `high`
 abbrev pub within : Key → ℕ → ℕ → ℤ → Outcome ℕ
-within key low high number = if int_le (pos low) number && int_le number (pos high) then Ok (unsigned_abs number) else Err (Range key)
+within key low high number =
+    if int_le (pos low) number && int_le number (pos high) then Ok (unsigned_abs number)
+    else Err (Range key)
 
 abbrev pub text_at : List ℕ → Key → Members → Outcome (List ℕ)
 text_at name key tree = do

@@ -1,5 +1,6 @@
 -- The key `modes`: the names of the modes by their places.
-use Rattle.std.specs.Prelude.{ℕ, ◌&&◌, ◌++◌, ◌∷◌, [], Bool, true, not, List, Ok, Err, codes, length, nat_eq, nat_le, position, if◌then◌else◌}
+use Rattle.std.specs.Prelude.{ℕ, ◌&&◌, ◌++◌, ◌∷◌, [], Bool, true, not, List, Ok, Err, codes, length}
+use Rattle.std.specs.Prelude.{nat_eq, nat_le, position, if◌then◌else◌}
 use Rattle.std.specs.Char.{is_ascii_lowercase}
 use Rattle.std.specs.Cmp.Lexicographic.{pointwise}
 use Rattle.std.specs.List.{list_all, list_any}
@@ -13,7 +14,8 @@ use Rattle.fare_table.specs.declared.fault.TableFault.TheVariants.{Range, Mode}
 -- the strings found and those of the items
 abbrev pub strings_from : List (List ℕ) → Items → Outcome (List (List ℕ))
 strings_from found no_items = Ok found
-strings_from found (item value more) = of_kind Modes (as_str value) >>= (λ name. strings_from (found ++ name ∷ []) more)
+strings_from found (item value more) =
+    of_kind Modes (as_str value) >>= (λ name. strings_from (found ++ name ∷ []) more)
 
 -- two names of the same bytes
 abbrev pub same_name : List ℕ → List ℕ → Bool
@@ -21,7 +23,8 @@ same_name name other = pointwise nat_eq name other
 
 -- 1 to 16 letters `a` to `z`
 abbrev pub is_mode_name : List ℕ → Bool
-is_mode_name name = nat_le 1 (length name) && nat_le (length name) 16 && list_all is_ascii_lowercase name
+is_mode_name name =
+    nat_le 1 (length name) && nat_le (length name) 16 && list_all is_ascii_lowercase name
 
 -- no name comes twice
 abbrev pub are_distinct : List (List ℕ) → Bool
@@ -30,7 +33,9 @@ are_distinct (name ∷ more) = not (list_any (same_name name) more) && are_disti
 
 -- 1 to 32 names of modes, none twice
 abbrev pub are_mode_names : List (List ℕ) → Bool
-are_mode_names names = nat_le 1 (length names) && nat_le (length names) 32 && list_all is_mode_name names && are_distinct names
+are_mode_names names =
+    nat_le 1 (length names) && nat_le (length names) 32 && list_all is_mode_name names
+    && are_distinct names
 
 unfoldable pub modes_of : Members → Outcome (List (List ℕ))
 modes_of tree = do

@@ -8,7 +8,8 @@ Outcome A = Result A TableFault
 
 -- steps one after the other, up to the first fault
 infixl 10 ◌>>=◌
-abbrev pub ◌>>=◌ : {A B : Type 0} → Result A TableFault → (A → Result B TableFault) → Result B TableFault
+abbrev pub ◌>>=◌ : {A B : Type 0} → Result A TableFault → (A → Result B TableFault)
+    → Result B TableFault
 Ok x >>= f = f x
 Err e >>= f = Err e
 

@@ -15,7 +15,8 @@ pub record NamesRider (tree : Members) (token key class : List ℕ) : Type 0 whe
 abbrev pub IsClassOf : Members → List ℕ → List ℕ → Type 0
 IsClassOf tree token class =
     ((key : List ℕ) × NamesRider tree token key class)
-    ⊎ ((get_member (codes "default_class") tree ≡ Some (string class)) × ((key other : List ℕ) → ¬ NamesRider tree token key other))
+    ⊎ ((get_member (codes "default_class") tree ≡ Some (string class))
+    × ((key other : List ℕ) → ¬ NamesRider tree token key other))
 
 -- the ceiling that the class has, else the price of all its rides
 abbrev pub IsCeiling : ℕ → Option Data → ℕ → Type 0
@@ -30,7 +31,8 @@ pub record HasTerms (tree : Members) (class : List ℕ) (terms : Terms) : Type 0
   pub stands : get_member class classes ≡ Some (table entry)
   pub fare : get_member (codes "fare") entry ≡ Some (integer (pos terms.fare))
   pub rides : get_member (codes "rides") entry ≡ Some (integer (pos terms.rides))
-  pub ceiling : IsCeiling (terms.rides * terms.fare) (get_member (codes "ceiling") entry) terms.ceiling
+  pub ceiling : IsCeiling (terms.rides * terms.fare)
+      (get_member (codes "ceiling") entry) terms.ceiling
 
 -- the terms of the class that the token pays by
 pub record Pays (tree : Members) (token : List ℕ) (terms : Terms) : Type 0 where

@@ -27,7 +27,8 @@ is_rider riders token = is_some (lookup (is_at (slice_cmp nat_cmp token)) riders
 -- the riders and one more, at its place in the order of tokens
 abbrev pub with_rider : List (List ℕ × Terms) → List ℕ → Terms → Outcome (List (List ℕ × Terms))
 with_rider riders token terms =
-    if is_rider riders token then Err Rider else Ok (insert_entry (slice_cmp nat_cmp) riders token terms)
+    if is_rider riders token then Err Rider
+    else Ok (insert_entry (slice_cmp nat_cmp) riders token terms)
 
 -- the token and the terms of one key
 abbrev pub rider_of : Members → List ℕ → Data → Outcome (List ℕ × Terms)

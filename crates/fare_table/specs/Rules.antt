@@ -14,9 +14,9 @@ use Rattle.fare_table.specs.declared.fault.TableFault.TheVariants.{Text}
 use Rattle.fare_table.specs.declared.terms.Terms.{Terms}
 use Rattle.fare_table.specs.declared.validators.Span.{Span}
 
--- the modes' names by their places, the pairs of places with a transfer, each once, the terms of the
--- default class, the ranges of validators by their first numbers, rising, the terms of the riders
--- by their tokens, rising, and the text of the zone
+-- the modes' names by their places, the pairs of places with a transfer, each once, the terms of
+-- the default class, the ranges of validators by their first numbers, rising, the terms of the
+-- riders by their tokens, rising, and the text of the zone
 pub record Rules : Type 0 where
   pub modes : List (List ℕ)
   pub transfers : List (ℕ × ℕ)

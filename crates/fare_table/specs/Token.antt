@@ -1,8 +1,6 @@
 -- Tokens that are kept as two numbers, and the 16 bytes that they stand for.
 use Rattle.std.specs.Prelude.{ℕ, ◌^◌, ◌<◌, List, ◌++◌, map}
 use Rattle.std.specs.Int.{to_be_bytes, w64}
-use Rattle.std.specs.Ordering.{nat_cmp, ordering_then}
-use Rattle.std.specs.declared.cmp.Ordering.{Ordering}
 use Rattle.fare_table.specs.declared.terms.Terms.{Terms}
 use Rattle.fare_table.specs.declared.token.Token.{Token}
 
@@ -14,10 +12,6 @@ bytes_of token = to_be_bytes w64 token.high ++ to_be_bytes w64 token.low
 pub record Fits (token : Token) : Type 0 where
   pub high : token.high < 2 ^ 64
   pub low : token.low < 2 ^ 64
-
--- the order of tokens
-abbrev pub token_cmp : Token → Token → Ordering
-token_cmp a b = ordering_then (nat_cmp a.high b.high) (nat_cmp a.low b.low)
 
 -- terms by tokens, as terms by the tokens' bytes
 abbrev pub by_bytes : List (Token × Terms) → List (List ℕ × Terms)

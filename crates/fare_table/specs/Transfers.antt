@@ -1,6 +1,6 @@
 -- The key `transfers`: the pairs of modes between which a ride includes a transfer.
-use Rattle.std.specs.Prelude.{ℕ, ◌≡◌, Contains, ◌<◌, ◌==◌, ◌&&◌, ◌++◌, ◌∷◌, [], Bool, List, Option, None, Ok, codes, if◌then◌else◌, option_map, slice_index}
-use Rattle.std.specs.Int.{bit_at}
+use Rattle.std.specs.Prelude.{ℕ, ◌≡◌, Contains, ◌==◌, ◌&&◌, ◌++◌, ◌∷◌, [], Bool, List, Option, None}
+use Rattle.std.specs.Prelude.{Ok, codes, if◌then◌else◌, option_map}
 use Rattle.std.specs.List.{list_any}
 use Rattle.std.specs.Option.{option_and_then}
 use Rattle.toml.specs.Data.{Data, Items, no_items, item, Members, as_array, as_str}
@@ -21,15 +21,12 @@ has_pair pairs from to = list_any (joins from to) pairs
 abbrev pub with_pair : List (ℕ × ℕ) → ℕ → ℕ → List (ℕ × ℕ)
 with_pair pairs from to = if has_pair pairs from to then pairs else pairs ++ (from, to) ∷ []
 
--- bit `to` of the word at `from` says whether the pairs have one from `from` to `to`
-abbrev pub AreMasksOf : List ℕ → List (ℕ × ℕ) → Type 0
-AreMasksOf masks pairs = (from to : ℕ) → from < 32 → to < 32 → (bit_at (slice_index masks from) to == 1) ≡ has_pair pairs from to
-
 -- the two strings of an array of exactly two strings
 abbrev pub two_strings : Items → Option (List ℕ × List ℕ)
 two_strings no_items = None
 two_strings (item from no_items) = None
-two_strings (item from (item to no_items)) = option_and_then (λ a. option_map (λ b. (a, b)) (as_str to)) (as_str from)
+two_strings (item from (item to no_items)) =
+    option_and_then (λ a. option_map (λ b. (a, b)) (as_str to)) (as_str from)
 two_strings (item from (item to (item third more))) = None
 
 abbrev pub pair_of : Data → Option (List ℕ × List ℕ)
@@ -38,7 +35,8 @@ pair_of value = option_and_then two_strings (as_array value)
 -- the pairs of names found and those of the items
 abbrev pub pairs_from : List (List ℕ × List ℕ) → Items → Outcome (List (List ℕ × List ℕ))
 pairs_from found no_items = Ok found
-pairs_from found (item value more) = of_kind the_key.Transfers (pair_of value) >>= (λ pair. pairs_from (found ++ pair ∷ []) more)
+pairs_from found (item value more) =
+    of_kind the_key.Transfers (pair_of value) >>= (λ pair. pairs_from (found ++ pair ∷ []) more)
 
 -- the places of a pair of names
 abbrev pub places_of : List (List ℕ) → List ℕ × List ℕ → Outcome (ℕ × ℕ)
@@ -48,9 +46,12 @@ places_of modes pair = do
   Ok (from, to)
 
 -- the pairs of places found and those of the pairs of names, each once
-abbrev pub transfers_from : List (List ℕ) → List (ℕ × ℕ) → List (List ℕ × List ℕ) → Outcome (List (ℕ × ℕ))
+abbrev pub transfers_from : List (List ℕ) → List (ℕ × ℕ) → List (List ℕ × List ℕ)
+    → Outcome (List (ℕ × ℕ))
 transfers_from modes found [] = Ok found
-transfers_from modes found (pair ∷ more) = places_of modes pair >>= (λ places. transfers_from modes (with_pair found places.0 places.1) more)
+transfers_from modes found (pair ∷ more) =
+    places_of modes pair >>= (λ places.
+    transfers_from modes (with_pair found places.0 places.1) more)
 
 unfoldable pub transfers_of : List (List ℕ) → Members → Outcome (List (ℕ × ℕ))
 transfers_of modes tree = do
@@ -64,7 +65,8 @@ named_pairs tree = do
   items ← array_at (codes "transfers") the_key.Transfers tree
   pairs_from [] items
 
--- the text lists a pair of which the one name is that of the mode at the one place, and the other that of the mode at the other
+-- the text lists a pair of which the one name is that of the mode at the one place, and the other
+-- that of the mode at the other
 pub record ListsPair (modes : List (List ℕ)) (tree : Members) (from to : ℕ) : Type 0 where
   pub pairs : List (List ℕ × List ℕ)
   pub listed : named_pairs tree ≡ Ok pairs

@@ -1,8 +1,10 @@
 -- Where a window ends that starts at a moment.
-use Rattle.std.specs.Prelude.{◌≡◌, ℕ, ℤ, pos, ◌+◌, ◌*◌, ◌+ℤ◌, ◌-ℤ◌, ◌*ℤ◌, unsigned_abs, int_div, Option, Some, None}
+use Rattle.std.specs.Prelude.{◌≡◌, ℕ, ℤ, pos, ◌+◌, ◌*◌, ◌+ℤ◌, ◌-ℤ◌, ◌*ℤ◌, unsigned_abs, int_div}
+use Rattle.std.specs.Prelude.{Option, Some, None}
 use Rattle.std.specs.Int.{int_div_euclid}
 use Rattle.jiff.specs.Types.{DateTime, TimeZone, Posix, Offset, AmbiguousOffset, Unambiguous}
-use Rattle.jiff.specs.Words.{epoch_day, civil_nanos, time_nanos, nanos_of_seconds, offset_at, compatible_offset, picked_instant}
+use Rattle.jiff.specs.Words.{epoch_day, civil_nanos, time_nanos, nanos_of_seconds, offset_at}
+use Rattle.jiff.specs.Words.{compatible_offset, picked_instant}
 use Rattle.jiff_tz.specs.PosixRule.{ambiguous_by, nanos_per_day, rule_nanos}
 use Rattle.jiff_tz.specs.PosixRule as rule
 use Rattle.jiff_tz.specs.Year.{year_of_day}
@@ -19,7 +21,8 @@ moment_nanos moment = pos (moment * 1_000_000)
 -- is the earlier one.
 pub record IsCivilLimit (zone : TimeZone) (start limit : ℕ) : Type 0 where
   pub shown : DateTime
-  pub shows : civil_nanos shown ≡ moment_nanos start +ℤ nanos_of_seconds (offset_at zone (moment_nanos start))
+  pub shows : civil_nanos shown
+      ≡ moment_nanos start +ℤ nanos_of_seconds (offset_at zone (moment_nanos start))
   pub midnight : DateTime
   pub date : epoch_day midnight.date ≡ epoch_day shown.date +ℤ pos 7
   pub time : time_nanos midnight.time ≡ 0
@@ -42,19 +45,24 @@ offsets_by std (Some dst) year at = ambiguous_by std dst.offset
 
 -- the offset that a midnight takes
 abbrev pub midnight_offset : PosixRule → ℤ → Offset
-midnight_offset zone day = compatible_offset (offsets_by zone.std_offset zone.dst (year_of_day day) (midnight_nanos day))
+midnight_offset zone day =
+    compatible_offset (offsets_by zone.std_offset zone.dst (year_of_day day) (midnight_nanos day))
 
 -- the instant of a midnight
 abbrev pub midnight_instant : PosixRule → ℤ → ℤ
-midnight_instant zone day = midnight_nanos day -ℤ nanos_of_seconds (midnight_offset zone day).seconds
+midnight_instant zone day =
+    midnight_nanos day -ℤ nanos_of_seconds (midnight_offset zone day).seconds
 
 -- the day that clocks of the zone show at an instant
 abbrev pub day_at : PosixRule → ℤ → ℤ
-day_at zone instant = int_div_euclid (instant +ℤ nanos_of_seconds (rule.offset_at zone instant).seconds) nanos_per_day
+day_at zone instant =
+    int_div_euclid (instant +ℤ nanos_of_seconds (rule.offset_at zone instant).seconds) nanos_per_day
 
 -- the milliseconds of the midnight of the seventh day after the start's day
 unfoldable pub civil_limit : PosixRule → ℕ → ℕ
-civil_limit zone start = unsigned_abs (int_div (midnight_instant zone (day_at zone (moment_nanos start) +ℤ pos 7)) (pos 1_000_000))
+civil_limit zone start =
+    unsigned_abs (int_div (midnight_instant zone (day_at zone (moment_nanos start) +ℤ pos 7))
+    (pos 1_000_000))
 
 -- the limit of a window that starts at the moment
 abbrev pub limit_in : Option PosixRule → ℕ → ℕ

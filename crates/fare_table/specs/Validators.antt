@@ -1,13 +1,13 @@
 -- The key `validators`: ranges of validators and their modes.
-use Rattle.std.specs.Prelude.{◌≡◌, ℕ, ◌+◌, ◌&&◌, Bool, true, false, List, [], ◌∷◌, Option, Some, None, Ok, Err, codes, length, map, nat_le, nat_lt, if◌then◌else◌}
+use Rattle.std.specs.Prelude.{ℕ, ◌&&◌, Bool, true, List, [], ◌∷◌, Ok, Err, codes, nat_le, nat_lt}
+use Rattle.std.specs.Prelude.{if◌then◌else◌}
 use Rattle.std.specs.BTreeMap.{insert_entry}
-use Rattle.std.specs.List.{AllWithin, list_all, list_any}
-use Rattle.std.specs.Option.{option_or}
+use Rattle.std.specs.List.{list_all, list_any}
 use Rattle.std.specs.Ordering.{nat_cmp}
 use Rattle.toml.specs.Data.{Data, Items, no_items, item, Members, as_table}
 use Rattle.fare_table.specs.Members.{array_at, number_at, of_kind, text_at, are_tables}
 use Rattle.fare_table.specs.Modes.{mode_named}
-use Rattle.fare_table.specs.Outcome.{Outcome, ◌>>=◌}
+use Rattle.fare_table.specs.Outcome.{Outcome}
 use Rattle.fare_table.specs.declared.fault.Key.TheVariants as the_key
 use Rattle.fare_table.specs.declared.fault.TableFault.TheVariants.{Kind, Overlap}
 use Rattle.fare_table.specs.declared.validators.Span.{Span}
@@ -16,33 +16,12 @@ use Rattle.fare_table.specs.declared.validators.Span.{Span}
 abbrev pub is_chain : List (ℕ × Span) → Bool
 is_chain [] = true
 is_chain (range ∷ []) = nat_le range.0 range.1.last
-is_chain (range ∷ next ∷ more) = nat_le range.0 range.1.last && nat_lt range.1.last next.0 && is_chain (next ∷ more)
+is_chain (range ∷ next ∷ more) =
+    nat_le range.0 range.1.last && nat_lt range.1.last next.0 && is_chain (next ∷ more)
 
 -- each range's mode is one of so many
 abbrev pub are_modes_below : ℕ → List (ℕ × Span) → Bool
 are_modes_below count ranges = list_all (λ range. nat_lt range.1.mode count) ranges
-
--- the last range that begins at the number or before it, of ranges that rise
-abbrev pub last_begun : ℕ → List (ℕ × Span) → Option (ℕ × Span)
-last_begun number [] = None
-last_begun number (range ∷ more) =
-    if nat_le range.0 number then option_or (last_begun number more) (Some range) else None
-
--- each number is below the next one
-abbrev pub is_rising : List ℕ → Bool
-is_rising [] = true
-is_rising (first ∷ []) = true
-is_rising (first ∷ next ∷ more) = nat_lt first next && is_rising (next ∷ more)
-
--- ranges that rise and stand apart, and their first numbers
-pub record AreSearchable (ranges : List (ℕ × Span)) (firsts : List ℕ) : Type 0 where
-  pub apart : is_chain ranges ≡ true
-  pub same : firsts ≡ map (λ range. range.0) ranges
-
--- each number before the index is not above `number`, and each from `size` places after the index on is
-pub record IsSplit (number : ℕ) (firsts : List ℕ) (index size : ℕ) : Type 0 where
-  pub front : AllWithin (λ first. nat_le first number ≡ true) firsts 0 index
-  pub back : AllWithin (λ first. nat_le first number ≡ false) firsts (index + size) (length firsts)
 
 -- the two ranges have a validator in common
 abbrev pub share_number : ℕ × Span → ℕ × Span → Bool
@@ -51,7 +30,8 @@ share_number range other = nat_le range.0 other.1.last && nat_le other.0 range.1
 -- the ranges and one more, at its place in the order of first numbers
 abbrev pub with_range : List (ℕ × Span) → ℕ × Span → Outcome (List (ℕ × Span))
 with_range earlier range =
-    if list_any (share_number range) earlier then Err Overlap else Ok (insert_entry nat_cmp earlier range.0 range.1)
+    if list_any (share_number range) earlier then Err Overlap
+    else Ok (insert_entry nat_cmp earlier range.0 range.1)
 
 unfoldable pub range_of : List (List ℕ) → Members → Outcome (ℕ × Span)
 range_of modes entry = do

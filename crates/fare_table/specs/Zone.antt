@@ -1,5 +1,6 @@
 -- The key `zone`: a text, and the rule that it reads as.
-use Rattle.std.specs.Prelude.{◌≡◌, ℕ, List, Option, Some, None, Ok, Err, codes, if◌then◌else◌, option_map, string_bytes}
+use Rattle.std.specs.Prelude.{◌≡◌, ℕ, List, Option, Some, None, Ok, Err, codes, if◌then◌else◌}
+use Rattle.std.specs.Prelude.{option_map, string_bytes}
 use Rattle.std.specs.Option.{is_some, option_and_then}
 use Rattle.toml.specs.Data.{Data, Members, get_member, as_str}
 use Rattle.fare_table.specs.Members.{of_kind}

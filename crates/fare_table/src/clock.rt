@@ -25,7 +25,7 @@ impl Model for Clock {
 
     ghost Value = { Option PosixRule };
 
-    ghost use Rattle.fare_table.specs.PosixRule.{HasRule, rule_of};
+    ghost use Rattle.fare_table.specs.inside.PosixRule.{HasRule, rule_of};
 
     ghost view = { λ c. rule_of c.zone };
 
@@ -34,7 +34,7 @@ impl Model for Clock {
 
 impl Clock {
     ghost use Rattle.std.specs.Prelude.{◌≡◌, ◌<◌, IfOk, IsOk};
-    ghost use Rattle.fare_table.specs.PosixRule.{HasRule, rule_of};
+    ghost use Rattle.fare_table.specs.inside.PosixRule.{HasRule, rule_of};
     ghost use Rattle.fare_table.specs.Until.{IsLimit, limit_in};
 
     pub(crate) fn new(zone: Option<TimeZone<'static>>) -> Clock
@@ -45,11 +45,11 @@ impl Clock {
     }
 
     /// The limit of a window that starts at the moment, both in milliseconds since
-    /// 1970-01-01T00:00Z; the moment lies before 2100-01-01T00:00Z. It is seven days later, or, where
-    /// the table names a zone, 00:00 of the seventh civil date after the start's (the period of seven
-    /// days is the MTA's, where it ends is this project's choice). A midnight that clocks skip takes
-    /// the offset before the gap, one that comes twice is the earlier. It always answers, since it
-    /// takes no memory.
+    /// 1970-01-01T00:00Z; the moment lies before 2100-01-01T00:00Z. It is seven days later, or,
+    /// where the table names a zone, 00:00 of the seventh civil date after the start's (the period
+    /// of seven days is the MTA's, where it ends is this project's choice). A midnight that clocks
+    /// skip takes the offset before the gap, one that comes twice is the earlier. It always
+    /// answers, since it takes no memory.
     #[inline]
     pub fn until(&self, moment: u64) -> Result<u64, NoMemory>
         requires { moment < 4_102_444_800_000 }
@@ -65,7 +65,8 @@ impl Clock {
     }
 }
 
-// Kept out of `until`, so that the few instructions of a table without a zone stand where it is called.
+// Kept out of `until`, so that the few instructions of a table without a zone stand where it is
+// called.
 #[inline(never)]
 fn civil_limit(zone: &TimeZone<'static>, moment: u64) -> u64
     requires { moment < 4_102_444_800_000 }

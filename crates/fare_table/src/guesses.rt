@@ -11,10 +11,11 @@ const STEPS_FOR_EACH: u64 = 4;
 
 /// Guesses which of some ranges, which rise and stand apart, has a number.
 ///
-/// The way from the lowest last number of a range to the highest is cut into steps of one width, a power of two, and kept is for
-/// each step the place of the first range that ends in it or behind it. That range has the numbers of the step, or the next one
-/// has those behind its end. An answer is a guess alone: who asks checks it, and searches where it is wrong, as it may be where
-/// many ranges end in one step.
+/// The way from the lowest last number of a range to the highest is cut into steps of one width, a
+/// power of two, and kept is for each step the place of the first range that ends in it or behind
+/// it. That range has the numbers of the step, or the next one has those behind its end. An answer
+/// is a guess alone: who asks checks it, and searches where it is wrong, as it may be where many
+/// ranges end in one step.
 #[derive(Drop)]
 pub struct Guesses {
     lowest: u32,
@@ -42,8 +43,8 @@ impl Guesses {
         })
     }
 
-    /// The place of the range that may have the number, or of the one before it. No branch of it depends on the number, since
-    /// numbers come in no order that a processor could guess.
+    /// The place of the range that may have the number, or of the one before it. No branch of it
+    /// depends on the number, since numbers come in no order that a processor could guess.
     pub fn at(&self, number: u32) -> usize {
         let step = step_of(number.saturating_sub(self.lowest), self.width_bits);
         match self.places.get(step.min(self.last_step)) {
@@ -69,7 +70,8 @@ fn step_of(above: u32, width_bits: u32) -> usize
     (u64::from(above) >> width_bits) as usize
 }
 
-// For each step, up to that of the highest last number, how many ranges end before it, and in the end how many there are.
+// For each step, up to that of the highest last number, how many ranges end before it, and in the
+// end how many there are.
 fn places_of(
     alloc: Global,
     ranges: &[(u32, Span)],
@@ -90,7 +92,8 @@ fn places_of(
     Ok(places)
 }
 
-// The width of a step, as a power of two, where the highest last number lies so far above the lowest.
+// The width of a step, as a power of two, where the highest last number lies so far above the
+// lowest.
 fn width_bits(height: u32, ranges: usize) -> u32
     ensures { result ≤ 32 }
 {

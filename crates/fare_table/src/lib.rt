@@ -1,8 +1,9 @@
 //! The fare table of an agency: modes, permitted transfers, terms of rider classes, validators and
 //! the zone of its days, read from a TOML text and looked up at every tap.
 //!
-//! That a ride may include one transfer and that paid rides are capped is the rule of the MTA's OMNY;
-//! every number, name, pair and class is data of the table, and the text's layout is this project's.
+//! That a ride may include one transfer and that paid rides are capped is the rule of the MTA's
+//! OMNY; every number, name, pair and class is data of the table, and the text's layout is this
+//! project's.
 #![tactic(auto)]
 
 mod classes;

@@ -11,16 +11,18 @@ use std::alloc::Global;
 use std::collections::BTreeMap;
 use std::marker::Model;
 
-/// How many marks there are at least for each token: so many that most other tokens' slots have none.
+/// How many marks there are at least for each token: so many that most other tokens' slots have
+/// none.
 const MARKS_FOR_EACH: usize = 8;
 
 /// A mark for each of some tokens, at the slot that its last bits tell.
 ///
-/// A token whose slot has no mark is none of them. One whose slot has a mark may be, since tokens share slots: who asks
-/// looks further then. So slots that many tokens share cost time alone.
+/// A token whose slot has no mark is none of them. One whose slot has a mark may be, since tokens
+/// share slots: who asks looks further then. So slots that many tokens share cost time alone.
 #[derive(Drop)]
 pub struct Marks {
-    // a power of two of them, so that a slot is found without a division; none where there is no token
+    // a power of two of them, so that a slot is found without a division; none where there is no
+    // token
     marks: Vec<bool>,
 }
 
@@ -35,7 +37,8 @@ impl Model for Marks {
 impl Marks {
     /// The marks of a map's tokens. `NoMemory` is answered where a growth is refused.
     pub fn new(alloc: Global, terms: &BTreeMap<Token, Terms>) -> Result<Marks, NoMemory>
-        ensures marked { IfOk result (λ marks. All (λ token. is_marked marks token ≡ true) (keys_of terms.now.entries)) }
+        ensures marked { IfOk result
+            (λ marks. All (λ token. is_marked marks token ≡ true) (keys_of terms.now.entries)) }
         ensures few { IfOk result (λ marks. length marks ≤ 16 * length terms.now.entries) }
     {
         let mut marks = vec![in alloc; false; marks_for(terms.len())?]?;

@@ -30,7 +30,7 @@ pub struct Riders {
 impl Model for Riders {
     ghost use Rattle.std.specs.Prelude.{ℕ, List};
     ghost use Rattle.fare_table.specs.declared.terms.Terms.{Terms};
-    ghost use Rattle.fare_table.specs.Marks.{AreMarked};
+    ghost use Rattle.fare_table.specs.inside.Marks.{AreMarked};
     ghost use Rattle.fare_table.specs.Token.{by_bytes};
 
     ghost Value = { List (List ℕ × Terms) };

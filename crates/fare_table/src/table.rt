@@ -1,10 +1,12 @@
 //! The fare table and its look-ups.
-ghost use Rattle.std.specs.Prelude.{◌≡◌, ◌≢◌, ◌⊎◌, ◌<◌, ◌≤◌, length, option_map, IfSome, IfErr, IfOk, IsErrOf, IsUtf8, IsOk, Err, Ok, None, Some, map, slice_get, string_bytes};
+ghost use Rattle.std.specs.Prelude.{◌≡◌, ◌≢◌, ◌⊎◌, ◌<◌, ◌≤◌, length, option_map, IfSome, IfErr};
+ghost use Rattle.std.specs.Prelude.{IfOk, IsErrOf, IsUtf8, IsOk, Err, Ok, None, Some, map};
+ghost use Rattle.std.specs.Prelude.{slice_get, string_bytes};
 ghost use Rattle.toml.specs.Parse.{parse_document};
 ghost use Rattle.toml.specs.View.{table_view};
 ghost use Rattle.fare_table.specs.Fares.{mode_at, is_permitted, terms_at};
 ghost use Rattle.fare_table.specs.Outcome.{Answers};
-ghost use Rattle.fare_table.specs.PosixRule.{HasRule, rule_of};
+ghost use Rattle.fare_table.specs.inside.PosixRule.{HasRule, rule_of};
 ghost use Rattle.fare_table.specs.declared.fault.TableFault.{TableFault};
 ghost use Rattle.fare_table.specs.Rules.{rules_in, rules_of};
 ghost use Rattle.fare_table.specs.Zone.{IsZoneOf, zone_rule, zone_text};
@@ -40,7 +42,7 @@ impl Model for FareTable {
 
     ghost Value = { Fares };
 
-    ghost use Rattle.fare_table.specs.Table.{fares_of, IsSound};
+    ghost use Rattle.fare_table.specs.inside.Table.{fares_of, IsSound};
 
     ghost view = { λ t. fares_of (arc_value t.parts) };
 
@@ -66,7 +68,8 @@ impl FareTable {
         ensures ok { IfOk result (λ t. IsUtf8 text.now × (rules_in text.now ≡ Ok t.rules)) }
         ensures zone { IfOk result (λ t. IsZoneOf t.rules.zone t.zone) }
 
-        // A fault is the text's first, and a text with a fault is answered by it or by want of memory.
+        // A fault is the text's first, and a text with a fault is answered by it or by want of
+        // memory.
         ensures fault { IfErr result (λ e. e ≢ TableFault.NoMemory → IsUtf8 text.now
             → rules_in text.now ≡ Err e) }
         ensures refused { IsUtf8 text.now → (e : TableFault) → rules_in text.now ≡ Err e
@@ -99,8 +102,8 @@ impl FareTable {
         Ok(Clock::new(rule(&self.parts.zone)))
     }
 
-    /// An equal table, which shares this one's memory. `NoMemory` is answered where it is shared too
-    /// often to be counted.
+    /// An equal table, which shares this one's memory. `NoMemory` is answered where it is shared
+    /// too often to be counted.
     pub fn try_clone(&self, _alloc: Global) -> Result<FareTable, NoMemory>
         ensures { IfOk result (λ t. t ≡ self.now) }
     {

@@ -31,7 +31,8 @@ impl Token {
         }
     }
 
-    /// The token's slot among so many, a power of two: its last bits, which spread well, since most tokens are random.
+    /// The token's slot among so many, a power of two: its last bits, which spread well, since most
+    /// tokens are random.
     pub fn slot(self, slots: usize) -> usize
         requires { 0 < slots }
         ensures slot { result ≡ slot self slots }

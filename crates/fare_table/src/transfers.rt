@@ -1,5 +1,6 @@
 //! The key `transfers`: the pairs of modes between which a ride includes a transfer.
-ghost use Rattle.std.specs.Prelude.{◌≡◌, ◌<◌, ◌≤◌, [], IfOk, OnOk, OnErr, length, map, option_map, string_bytes};
+ghost use Rattle.std.specs.Prelude.{◌≡◌, ◌<◌, ◌≤◌, [], IfOk, OnOk, OnErr, length, map, option_map};
+ghost use Rattle.std.specs.Prelude.{string_bytes};
 ghost use Rattle.toml.specs.View.{view, array_view, table_view};
 ghost use Rattle.fare_table.specs.Outcome.{Answers};
 ghost use Rattle.fare_table.specs.Transfers.{has_pair, with_pair};
@@ -26,7 +27,7 @@ pub struct Transfers {
 
 impl Model for Transfers {
     ghost use Rattle.std.specs.Prelude.{◌≡◌, ℕ, List, length};
-    ghost use Rattle.fare_table.specs.Transfers.{AreMasksOf};
+    ghost use Rattle.fare_table.specs.inside.Transfers.{AreMasksOf};
 
     ghost Value = { List (ℕ × ℕ) };
 

@@ -1,10 +1,13 @@
 //! The key `validators`: ranges of validators and their modes.
-ghost use Rattle.std.specs.Prelude.{◌≡◌, ◌<◌, ◌≤◌, [], true, if◌then◌else◌, IfOk, IfSome, None, length, nat_le, map, option_copied, option_map, string_bytes, IsTrue};
+ghost use Rattle.std.specs.Prelude.{◌≡◌, ◌<◌, ◌≤◌, [], true, if◌then◌else◌, IfOk, IfSome, None};
+ghost use Rattle.std.specs.Prelude.{length, nat_le, map, option_copied, option_map, string_bytes};
+ghost use Rattle.std.specs.Prelude.{IsTrue};
 ghost use Rattle.std.specs.List.{list_any};
 ghost use Rattle.toml.specs.View.{view, array_view, table_view};
 ghost use Rattle.fare_table.specs.Fares.{range_at};
 ghost use Rattle.fare_table.specs.Outcome.{Answers};
-ghost use Rattle.fare_table.specs.Validators.{is_chain, is_rising, are_modes_below, last_begun, share_number, AreSearchable, IsSplit};
+ghost use Rattle.fare_table.specs.Validators.{is_chain, are_modes_below, share_number};
+ghost use Rattle.fare_table.specs.inside.Validators.{is_rising, last_begun, AreSearchable, IsSplit};
 ghost use Rattle.fare_table.specs.Validators as spec;
 
 use crate::fault::{Key, NoMemory, TableFault};
@@ -35,14 +38,15 @@ pub struct Ranges {
     ranges: Vec<(u32, Span)>,
     // the first numbers again, side by side, so that a search touches little memory
     firsts: Vec<u32>,
-    // where to look first: a table has hundreds of ranges, and a search by halves costs a tap ten steps
+    // where to look first: a table has hundreds of ranges, and a search by halves costs a tap ten
+    // steps
     guesses: Guesses,
 }
 
 impl Model for Ranges {
     ghost use Rattle.std.specs.Prelude.{ℕ, List};
     ghost use Rattle.fare_table.specs.declared.validators.Span.{Span};
-    ghost use Rattle.fare_table.specs.Validators.{AreSearchable};
+    ghost use Rattle.fare_table.specs.inside.Validators.{AreSearchable};
 
     ghost Value = { List (ℕ × Span) };
 
@@ -52,11 +56,13 @@ impl Model for Ranges {
 }
 
 impl Ranges {
-    ghost use Rattle.std.specs.Prelude.{◌≡◌, ◌≤◌, true, IfOk, length, nat_le, map, option_copied, option_map};
+    ghost use Rattle.std.specs.Prelude.{◌≡◌, ◌≤◌, true, IfOk, length, nat_le, map, option_copied};
+    ghost use Rattle.std.specs.Prelude.{option_map};
     ghost use Rattle.fare_table.specs.Fares.{range_at};
     ghost use Rattle.fare_table.specs.Validators.{is_chain};
 
-    /// The ranges of a map by their first numbers. `NoMemory` is answered where a growth is refused.
+    /// The ranges of a map by their first numbers. `NoMemory` is answered where a growth is
+    /// refused.
     pub fn new(alloc: Global, ranges: BTreeMap<u32, Span>) -> Result<Ranges, NoMemory>
         requires { is_chain ranges.entries ≡ true }
         ensures { IfOk result (λ r. r ≡ ranges.entries) }
@@ -80,7 +86,8 @@ impl Ranges {
     }
 }
 
-// The range of the number. Of few ranges none is guessed, since two or three halves are found sooner.
+// The range of the number. Of few ranges none is guessed, since two or three halves are found
+// sooner.
 fn range_at<'a>(
     ranges: &'a [(u32, Span)],
     firsts: &[u32],
@@ -98,9 +105,10 @@ fn range_at<'a>(
     range_by_halves(ranges, firsts, number)
 }
 
-// The range of the number, or that it has none, where the range at the place that was guessed or the next one tells: in a chain
-// what has the number is the only one that does, whatever the guess. The choice between the two is a sum and no branch, since
-// numbers come in no order that a processor could guess.
+// The range of the number, or that it has none, where the range at the place that was guessed or
+// the next one tells: in a chain what has the number is the only one that does, whatever the guess.
+// The choice between the two is a sum and no branch, since numbers come in no order that a
+// processor could guess.
 fn guessed<'a>(
     ranges: &'a [(u32, Span)],
     guess: usize,
@@ -160,8 +168,9 @@ fn last_begun<'a>(ranges: &'a [(u32, Span)], firsts: &[u32], number: u32) -> Opt
     ranges[..begun_by_halves(firsts, number)].last()
 }
 
-// How many of the first numbers are not above the number. Each half is taken or left by a mask and not by a
-// branch, since a processor that guesses wrongly at every second step makes the search three times as slow.
+// How many of the first numbers are not above the number. Each half is taken or left by a mask and
+// not by a branch, since a processor that guesses wrongly at every second step makes the search
+// three times as slow.
 fn begun_by_halves(firsts: &[u32], number: u32) -> usize
     requires { is_rising firsts.now ≡ true }
     ensures bound { result ≤ length firsts.now }
@@ -180,8 +189,8 @@ fn begun_by_halves(firsts: &[u32], number: u32) -> usize
     base + taken_if_begun(1, firsts[base], number)
 }
 
-// The places, where the first number is not above the number, else 0. The upper half of the difference
-// is the mask: a comparison in its place would be compiled to a branch again.
+// The places, where the first number is not above the number, else 0. The upper half of the
+// difference is the mask: a comparison in its place would be compiled to a branch again.
 fn taken_if_begun(places: usize, first: u32, number: u32) -> usize
     requires { places < 0x1_0000_0000 }
     ensures { result ≡ (if nat_le first number then places else 0) }

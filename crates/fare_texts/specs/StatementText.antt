@@ -1,10 +1,12 @@
 -- The text of a statement: a line for each entry of the token, its totals, and its last window.
-use Rattle.std.specs.Prelude.{◌≡◌, ℕ, List, [], ◌∷◌, ◌++◌, Option, Some, None, codes, slice_index_or}
+use Rattle.std.specs.Prelude.{◌≡◌, ℕ, List, [], ◌∷◌, ◌++◌, Option, Some, None, codes}
+use Rattle.std.specs.Prelude.{slice_index_or}
 use Rattle.std.specs.Fmt.{decimal}
 use Rattle.hex.specs.Hex.{encode_lower}
 use Rattle.fare_table.specs.Fares.{Fares, mode_at}
 use Rattle.account_rule.specs.declared.reply.Answer.{Answer}
-use Rattle.account_rule.specs.declared.reply.Answer.TheVariants.{Paid, Transfer, Capped, Stale, Unknown}
+use Rattle.account_rule.specs.declared.reply.Answer.TheVariants.{Paid, Transfer, Capped, Stale}
+use Rattle.account_rule.specs.declared.reply.Answer.TheVariants.{Unknown}
 use Rattle.account_rule.specs.declared.window.WindowView.{WindowView}
 use Rattle.shard_book.specs.Token.{bytes_of}
 use Rattle.shard_book.specs.Sums.{sums_of}
@@ -38,7 +40,8 @@ statement_head token = codes "statement " ++ (encode_lower (bytes_of token) ++ c
 unfoldable pub entry_rest : Fares → Entry → List ℕ
 entry_rest fares entry =
     codes " " ++ (mode_text fares entry.validator ++ (codes " " ++ (decimal entry.validator
-    ++ (codes " " ++ (answer_text entry.answer ++ (codes " " ++ (decimal entry.cents ++ codes "\n")))))))
+    ++ (codes " " ++ (answer_text entry.answer
+    ++ (codes " " ++ (decimal entry.cents ++ codes "\n")))))))
 
 -- `2024-03-08T17:00:00.000Z subway 1000 paid 300`
 pub record IsEntryLine (fares : Fares) (entry : Entry) (line : List ℕ) : Type 0 where
@@ -50,13 +53,15 @@ pub record IsEntryLine (fares : Fares) (entry : Entry) (line : List ℕ) : Type 
 abbrev pub AreEntryLines : Fares → List Entry → List ℕ → Type 0
 AreEntryLines fares [] text = text ≡ []
 AreEntryLines fares (entry ∷ entries) text =
-    (line : List ℕ) × (rest : List ℕ) × IsEntryLine fares entry line × AreEntryLines fares entries rest
+    (line : List ℕ) × (rest : List ℕ) × IsEntryLine fares entry line
+    × AreEntryLines fares entries rest
     × (text ≡ line ++ rest)
 
 -- ` paid 1 cents 300`, with the end of the line
 unfoldable pub window_rest : WindowView → List ℕ
 window_rest window =
-    codes " paid " ++ (decimal window.paid ++ (codes " cents " ++ (decimal window.cents ++ codes "\n")))
+    codes " paid " ++ (decimal window.paid
+    ++ (codes " cents " ++ (decimal window.cents ++ codes "\n")))
 
 -- `window 2024-03-08T17:00:00.000Z 2024-03-15T17:00:00.000Z paid 1 cents 300`
 pub record IsLineOf (window : WindowView) (line : List ℕ) : Type 0 where
@@ -77,4 +82,5 @@ pub record IsStatementText (fares : Fares) (statement : Statement) (text : List 
   pub of_entries : AreEntryLines fares statement.lines lines
   pub window : List ℕ
   pub of_window : IsWindowLine statement.window window
-  pub whole : text ≡ statement_head statement.token ++ (lines ++ (totals_line (sums_of statement.totals) ++ window))
+  pub whole : text ≡ statement_head statement.token
+      ++ (lines ++ (totals_line (sums_of statement.totals) ++ window))

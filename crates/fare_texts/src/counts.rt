@@ -10,7 +10,8 @@ use std::alloc::AllocError;
 /// The totals over all books, or those of a statement.
 #[tactic(auto, using(crate::proofs::Parts::in_parts))]
 pub fn write_totals(text: &mut String, totals: &Totals) -> Result<(), AllocError>
-    ensures { OnOk result (string_bytes text.new ≡ string_bytes text.old ++ totals_line (sums_of totals.now)) }
+    ensures { OnOk result (string_bytes text.new ≡ string_bytes text.old
+        ++ totals_line (sums_of totals.now)) }
 {
     text.push_str("totals ")?;
     write_counts(text, totals)
@@ -19,7 +20,8 @@ pub fn write_totals(text: &mut String, totals: &Totals) -> Result<(), AllocError
 /// The counts that end a line.
 #[tactic(auto, using(crate::proofs::Parts::in_parts))]
 pub fn write_counts(text: &mut String, totals: &Totals) -> Result<(), AllocError>
-    ensures { OnOk result (string_bytes text.new ≡ string_bytes text.old ++ counts (sums_of totals.now)) }
+    ensures { OnOk result (string_bytes text.new ≡ string_bytes text.old
+        ++ counts (sums_of totals.now)) }
 {
     write_live_counts(text, totals)?;
     write_other_counts(text, totals)
@@ -27,7 +29,8 @@ pub fn write_counts(text: &mut String, totals: &Totals) -> Result<(), AllocError
 
 #[tactic(auto, unfolding(crate::specs::Counts::live_counts))]
 fn write_live_counts(text: &mut String, totals: &Totals) -> Result<(), AllocError>
-    ensures { OnOk result (string_bytes text.new ≡ string_bytes text.old ++ live_counts (sums_of totals.now)) }
+    ensures { OnOk result (string_bytes text.new ≡ string_bytes text.old
+        ++ live_counts (sums_of totals.now)) }
 {
     let taps = totals.taps;
     let paid = totals.paid;
@@ -41,7 +44,8 @@ fn write_live_counts(text: &mut String, totals: &Totals) -> Result<(), AllocErro
 
 #[tactic(auto, unfolding(crate::specs::Counts::other_counts))]
 fn write_other_counts(text: &mut String, totals: &Totals) -> Result<(), AllocError>
-    ensures { OnOk result (string_bytes text.new ≡ string_bytes text.old ++ other_counts (sums_of totals.now)) }
+    ensures { OnOk result (string_bytes text.new ≡ string_bytes text.old
+        ++ other_counts (sums_of totals.now)) }
 {
     let stale = totals.stale;
     let unknown = totals.unknown;

@@ -13,7 +13,8 @@ const CALENDAR_END: u64 = 253_402_207_200_000;
 
 /// Appends the moment, in milliseconds since 1970-01-01T00:00Z, as `2024-03-08T17:00:00.000Z`.
 pub fn write_moment(text: &mut String, moment: u64) -> Result<(), AllocError>
-    ensures { OnOk result ((written : List ℕ) × IsMomentText moment written × (string_bytes text.new ≡ string_bytes text.old ++ written)) }
+    ensures { OnOk result ((written : List ℕ) × IsMomentText moment written
+        × (string_bytes text.new ≡ string_bytes text.old ++ written)) }
 {
     if moment < CALENDAR_END {
         text.push_str(civil_text(moment).as_str())

@@ -1,8 +1,11 @@
 //! The text of a statement: a function for each line and for the list of lines.
 
-ghost use Rattle.std.specs.Prelude.{◌≡◌, ◌++◌, IfOk, OnOk, ◌<◌, length, List, ℕ, slice_get, Some, string_bytes};
+ghost use Rattle.std.specs.Prelude.{◌≡◌, ◌++◌, IfOk, OnOk, ◌<◌, length, List, ℕ, slice_get, Some};
+ghost use Rattle.std.specs.Prelude.{string_bytes};
 ghost use Rattle.fare_texts.specs.Moments.{IsMomentText};
-ghost use Rattle.fare_texts.specs.StatementText.{IsStatementText, IsWindowLine, IsLineOf, IsEntryLine, AreEntryLines, statement_head, entry_rest, window_rest};
+ghost use Rattle.fare_texts.specs.StatementText.{IsStatementText, IsWindowLine, IsLineOf};
+ghost use Rattle.fare_texts.specs.StatementText.{IsEntryLine, AreEntryLines, statement_head};
+ghost use Rattle.fare_texts.specs.StatementText.{entry_rest, window_rest};
 
 use crate::counts::write_totals;
 use crate::digits::Digits;
@@ -38,7 +41,8 @@ fn write_head(text: &mut String, token: Token) -> Result<(), AllocError>
 }
 
 fn write_lines(text: &mut String, table: &FareTable, lines: &Lines) -> Result<(), AllocError>
-    ensures { OnOk result ((written : List ℕ) × AreEntryLines table.now lines.now written × (string_bytes text.new ≡ string_bytes text.old ++ written)) }
+    ensures { OnOk result ((written : List ℕ) × AreEntryLines table.now lines.now written
+        × (string_bytes text.new ≡ string_bytes text.old ++ written)) }
 {
     for place in 0..lines.len() {
         write_entry(text, table, lines.get(place))?;
@@ -47,7 +51,8 @@ fn write_lines(text: &mut String, table: &FareTable, lines: &Lines) -> Result<()
 }
 
 fn write_entry(text: &mut String, table: &FareTable, entry: &Entry) -> Result<(), AllocError>
-    ensures { OnOk result ((line : List ℕ) × IsEntryLine table.now entry.now line × (string_bytes text.new ≡ string_bytes text.old ++ line)) }
+    ensures { OnOk result ((line : List ℕ) × IsEntryLine table.now entry.now line
+        × (string_bytes text.new ≡ string_bytes text.old ++ line)) }
 {
     write_moment(text, entry.moment)?;
     write_entry_rest(text, table, entry)?;
@@ -56,7 +61,8 @@ fn write_entry(text: &mut String, table: &FareTable, entry: &Entry) -> Result<()
 
 #[tactic(auto, unfolding(crate::specs::StatementText::entry_rest))]
 fn write_entry_rest(text: &mut String, table: &FareTable, entry: &Entry) -> Result<(), AllocError>
-    ensures { OnOk result (string_bytes text.new ≡ string_bytes text.old ++ entry_rest table.now entry.now) }
+    ensures { OnOk result (string_bytes text.new ≡ string_bytes text.old
+        ++ entry_rest table.now entry.now) }
 {
     let mode = mode_name(table, entry.validator);
     let validator = entry.validator;
@@ -66,7 +72,8 @@ fn write_entry_rest(text: &mut String, table: &FareTable, entry: &Entry) -> Resu
 }
 
 fn write_window(text: &mut String, window: Option<WindowView>) -> Result<(), AllocError>
-    ensures { OnOk result ((line : List ℕ) × IsWindowLine window line × (string_bytes text.new ≡ string_bytes text.old ++ line)) }
+    ensures { OnOk result ((line : List ℕ) × IsWindowLine window line
+        × (string_bytes text.new ≡ string_bytes text.old ++ line)) }
 {
     match window {
         Some(window) => write_last_window(text, window),
@@ -75,7 +82,8 @@ fn write_window(text: &mut String, window: Option<WindowView>) -> Result<(), All
 }
 
 fn write_last_window(text: &mut String, window: WindowView) -> Result<(), AllocError>
-    ensures { OnOk result ((line : List ℕ) × IsLineOf window line × (string_bytes text.new ≡ string_bytes text.old ++ line)) }
+    ensures { OnOk result ((line : List ℕ) × IsLineOf window line
+        × (string_bytes text.new ≡ string_bytes text.old ++ line)) }
 {
     text.push_str("window ")?;
     write_moment(text, window.start)?;

@@ -302,8 +302,8 @@ fn has_first(alloc: Global, book: &ShardBook, count: u64) -> Result<bool, Fail> 
     Ok(are_equal(&entries, &forty_entries()[..count.min(40) as usize]))
 }
 
-/// Posts the forty taps: how it ended, and whether there are as many replies as taps were posted, and just
-/// their entries.
+/// Posts the forty taps: how it ended, and whether there are as many replies as taps were posted,
+/// and just their entries.
 fn post_forty(
     alloc: Global,
     book: &mut ShardBook,
@@ -316,7 +316,8 @@ fn post_forty(
     Ok((end, [out.len() == count, is_first]))
 }
 
-/// Posts what is left of the forty taps: how it ended, and whether the replies and the entries are theirs.
+/// Posts what is left of the forty taps: how it ended, and whether the replies and the entries are
+/// theirs.
 fn post_rest(
     alloc: Global,
     book: &mut ShardBook,
@@ -339,8 +340,8 @@ fn post_twice(alloc: Global, book: &mut ShardBook) -> Result<([bool; 2], RunEnd,
     Ok((first, end, all))
 }
 
-/// Posts forty tokens in one run. Where memory is refused within the run, exactly its first taps are posted,
-/// and the others can be posted afterwards.
+/// Posts forty tokens in one run. Where memory is refused within the run, exactly its first taps
+/// are posted, and the others can be posted afterwards.
 #[test]
 fn forty_tokens_in_one_run(rt: HostRuntime) -> Result<(), Fail> {
     let alloc = rt.alloc();
@@ -714,7 +715,8 @@ fn sums_of_a_shared_token(rt: HostRuntime) -> Result<(), Fail> {
     Ok(())
 }
 
-/// A book with 70,000 taps of one token at a validator that no table knows: more than a count of it holds.
+/// A book with 70,000 taps of one token at a validator that no table knows: more than a count of it
+/// holds.
 fn busy_book<R: RandomSource>(alloc: Global, rt: &R) -> Result<ShardBook, Fail> {
     let mut book = book_after(alloc, rt, &four_taps(), 0, 1)?;
     let taps = [tap(0xa1, 9, START); 1000];

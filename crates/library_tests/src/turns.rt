@@ -61,7 +61,8 @@ fn tap(last: u8, validator: u32, moment: u64) -> TapFields {
     }
 }
 
-// A book that is the only one of its service, shared from the number on, with its first pass and its clock.
+// A book that is the only one of its service, shared from the number on, with its first pass and
+// its clock.
 fn shared_from<R: RandomSource>(
     rt: &R,
     alloc: Global,
@@ -222,7 +223,8 @@ fn begin(first: &Lines, second: &Lines) -> bool {
 
 const TURNS: u64 = 100;
 
-// Reads the token again and again. Nothing where a read has no answer, or does not begin with the lines of the one before.
+// Reads the token again and again. Nothing where a read has no answer, or does not begin with the
+// lines of the one before.
 fn read_often<R: Wait>(rt: &R, alloc: Global, shared: &SharedBook, mut pass: Pass) -> Option<Pass>
     requires own { pass.book ≡ shared.now }
     ensures { IfSome result (λ pass. pass.book ≡ shared.now) }
@@ -280,7 +282,8 @@ fn a_reader_beside_a_visitor_sees_the_history_grow(rt: HostRuntime) -> Result<()
             ensures { IfSome result (λ pass. pass.book ≡ book.entry.now) }
         { read_often(&rt, alloc, book, reader) },
         || -> Option<Pass>
-            requires { (pass.book ≡ book.now) × (hours.now ≡ book.now.table.zone) × (book.now.shard ≡ 0) × (book.now.shards ≡ 1) }
+            requires { (pass.book ≡ book.now) × (hours.now ≡ book.now.table.zone)
+                × (book.now.shard ≡ 0) × (book.now.shards ≡ 1) }
             ensures { IfSome result (λ pass. pass.book ≡ book.entry.now) }
         { visit_often(&rt, alloc, book, hours, pass) },
     );
@@ -298,7 +301,8 @@ fn a_reader_beside_a_visitor_sees_the_history_grow(rt: HostRuntime) -> Result<()
     Ok(())
 }
 
-// What one of several threads does: as many visits of these taps as it is told, or fewer where the book gets full.
+// What one of several threads does: as many visits of these taps as it is told, or fewer where the
+// book gets full.
 #[derive(Drop)]
 struct Job<'a> {
     shared: &'a SharedBook,
@@ -357,7 +361,8 @@ fn jobs_of<'a>(
     Ok(jobs)
 }
 
-// Visits by several threads, each so long that whoever waits for it falls asleep: how many were made in all, and are counted.
+// Visits by several threads, each so long that whoever waits for it falls asleep: how many were
+// made in all, and are counted.
 fn visits_by_all<R: AllocGlobal + RandomSource + Threads + Wait + Sync>(
     rt: &R,
     first: u64,

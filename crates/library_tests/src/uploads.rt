@@ -1,4 +1,5 @@
-//! What no clause says: the vectors of the formats, damaged files, the texts of faults, and each public function once.
+//! What no clause says: the vectors of the formats, damaged files, the texts of faults, and each
+//! public function once.
 
 use std::alloc::Global;
 use std::fmt::Display;

@@ -9,7 +9,7 @@ use Rattle.account_rule.specs.Rules.{Rules}
 use Rattle.account_rule.specs.Stands.{Stands}
 use Rattle.shard_book.specs.declared.accounts.Accounts.{Accounts}
 use Rattle.shard_book.specs.declared.accounts.Kept.{Kept}
-use Rattle.shard_book.specs.Accounts.{IsKept, IsKeptOrFresh, IsMade, IsPlace, StandsOn, counted, kept_at}
+use Rattle.shard_book.specs.inside.Accounts.{IsKept, IsKeptOrFresh, IsMade, IsPlace, StandsOn, counted, kept_at}
 use Rattle.shard_book.specs.Counts.{sums_of_counts}
 use Rattle.shard_book.specs.Sums.{sums_of_replies}
 use Rattle.shard_book.specs.Token.{token_eq}

@@ -22,13 +22,14 @@ use Rattle.std.proofs.lemmas.List.Folds.{list_any-append}
 use Rattle.shard_book.specs.declared.entry.Entry.{Entry}
 use Rattle.shard_book.specs.declared.sums.tally.Tally.{Tally}
 use Rattle.shard_book.specs.Entry.{reply_of, own}
-use Rattle.shard_book.specs.Groups.{group, sums_by, sums_by_token, sums_by_validator, tokens, validators, all_entries}
+use Rattle.shard_book.specs.Groups.{sums_by_token, sums_by_validator, tokens, validators, all_entries}
+use Rattle.shard_book.specs.inside.Groups.{group, sums_by}
 use Rattle.shard_book.specs.Shown.{token_sum, validator_sum}
 use Rattle.shard_book.specs.declared.sums.TokenSum.{TokenSum}
 use Rattle.shard_book.specs.declared.sums.ValidatorSum.{ValidatorSum}
 use Rattle.shard_book.specs.declared.token.Token.{Token}
 use Rattle.shard_book.specs.Book.{Book}
-use Rattle.shard_book.specs.Grouping.{IsGrouped, HasRoom, kept_sums}
+use Rattle.shard_book.specs.inside.Grouping.{IsGrouped, HasRoom, kept_sums}
 use Rattle.shard_book.specs.Sums.{Sums, sums, sums_of_replies, add_sums}
 use Rattle.shard_book.specs.Tally.{sums_of_tally}
 use Rattle.shard_book.proofs.SumsLemmas.{sums-append, sums-taps}

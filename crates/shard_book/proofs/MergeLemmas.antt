@@ -14,8 +14,9 @@ use Rattle.std.proofs.lemmas.Grind.{flat_map-append}
 use Rattle.shard_book.specs.declared.entry.Entry.{Entry}
 use Rattle.shard_book.specs.declared.sums.tally.Tally.{Tally}
 use Rattle.shard_book.specs.Book.{Book}
-use Rattle.shard_book.specs.Groups.{all_entries, group}
-use Rattle.shard_book.specs.Grouping.{IsGrouped, HaveRoom, kept_sums}
+use Rattle.shard_book.specs.Groups.{all_entries}
+use Rattle.shard_book.specs.inside.Groups.{group}
+use Rattle.shard_book.specs.inside.Grouping.{IsGrouped, HaveRoom, kept_sums}
 use Rattle.shard_book.specs.Sums.{Sums, sums, sums_of_replies, add_sums}
 use Rattle.shard_book.specs.Tally.{sums_of_tally}
 use Rattle.shard_book.proofs.GroupingLemmas.{kept-or}

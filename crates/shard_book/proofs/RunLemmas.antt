@@ -10,7 +10,8 @@ use Rattle.shard_book.specs.Book.{Book, PostsTap, with_entries}
 use Rattle.shard_book.specs.Entry.{IsEntryOf, reply_of}
 use Rattle.shard_book.specs.History.{IsLegal}
 use Rattle.shard_book.specs.Replies.{RepliesView}
-use Rattle.shard_book.specs.Visits.{AreEntriesOf, PostsRun, PostsTaps}
+use Rattle.shard_book.specs.Visits.{AreEntriesOf, PostsRun}
+use Rattle.shard_book.specs.inside.Visits.{PostsTaps}
 use Rattle.shard_book.specs.declared.run_end.RunEnd.TheVariants.{Whole}
 
 -- the first taps of the run are posted, and the others are left

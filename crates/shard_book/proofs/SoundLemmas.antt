@@ -14,10 +14,10 @@ use Rattle.shard_book.specs.declared.accounts.Accounts.{Accounts}
 use Rattle.shard_book.specs.declared.accounts.Kept.{Kept}
 use Rattle.shard_book.specs.declared.entry.Entry.{Entry}
 use Rattle.shard_book.specs.declared.token.Token.{Token}
-use Rattle.shard_book.specs.Accounts.{kept_at, counted, IsCounting, IsKept, StandsOn}
+use Rattle.shard_book.specs.inside.Accounts.{kept_at, counted, IsCounting, IsKept, StandsOn}
 use Rattle.shard_book.specs.Entry.{own, tap_of, taps_of, reply_of}
 use Rattle.shard_book.specs.History.{IsReplied}
-use Rattle.shard_book.specs.Sound.{IsSound, AreKept}
+use Rattle.shard_book.specs.inside.Sound.{IsSound, AreKept}
 use Rattle.shard_book.specs.Token.{Fits, bytes_of, token_eq}
 use Rattle.shard_book.specs.Sums.{sums_of_replies, add_sums}
 use Rattle.shard_book.proofs.AccountsLemmas.{on-same}

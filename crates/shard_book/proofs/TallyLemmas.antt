@@ -4,7 +4,7 @@ use Rattle.std.specs.Prelude.{slice_index}
 use Rattle.account_rule.specs.declared.reply.Answer.{Answer}
 use Rattle.account_rule.specs.declared.reply.Answer.TheVariants.{Paid, Transfer, Capped, Stale, Unknown}
 use Rattle.account_rule.specs.declared.reply.Reply.{Reply}
-use Rattle.shard_book.specs.Places.{place}
+use Rattle.shard_book.specs.inside.Places.{place}
 use Rattle.shard_book.specs.Sums.{Sums, sums_of_replies, add_sums}
 use Rattle.shard_book.specs.Tally.{sums_of_places}
 

@@ -22,7 +22,13 @@ pub record AreOfShard (shard shards : ℕ) (entries : List Entry) : Type 0 where
 
 -- the book with more entries
 abbrev pub with_entries : Book → List Entry → Book
-with_entries book more = record { table = book.table; shard = book.shard; shards = book.shards; entries = book.entries ++ more }
+with_entries book more =
+    record {
+      table = book.table;
+      shard = book.shard;
+      shards = book.shards;
+      entries = book.entries ++ more;
+    }
 
 -- the limit of a window that would start at the tap
 abbrev pub limit_of : Fares → Tap → ℕ

@@ -2,7 +2,8 @@
 use Rattle.std.specs.Prelude.{◌≡◌, ◌≢◌, ℕ, List, Option, Some, None, take, slice_get}
 use Rattle.shard_book.specs.declared.entry.Entry.{Entry}
 
--- the lists agree before the place, and at the place they do not: another entry, or one list has ended
+-- the lists agree before the place, and at the place they do not: another entry, or one list has
+-- ended
 pub record DifferFirstAt (left right : List Entry) (place : ℕ) : Type 0 where
   pub before : take place left ≡ take place right
   pub here : slice_get left place ≢ slice_get right place

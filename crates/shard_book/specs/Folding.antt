@@ -1,5 +1,6 @@
 -- The hash of the accounts: a product for each word, its halves joined by xor.
-use Rattle.std.specs.Prelude.{ℕ, ◌*◌, ◌/◌, ◌-◌, ◌^◌, List, [], ◌∷◌, length, nat_le, nat_lt, if◌then◌else◌, slice_index, bit_and, bit_xor}
+use Rattle.std.specs.Prelude.{ℕ, ◌*◌, ◌/◌, ◌-◌, ◌^◌, List, [], ◌∷◌, length, nat_le, nat_lt}
+use Rattle.std.specs.Prelude.{if◌then◌else◌, slice_index, bit_and, bit_xor}
 use Rattle.std.specs.Int.{from_le_bytes, w32, w64}
 use Rattle.shard_book.specs.declared.keys.FoldedProduct.{FoldedProduct}
 use Rattle.shard_book.specs.declared.keys.TokenKeys.{TokenKeys}
@@ -12,12 +13,18 @@ folded_multiply a b = bit_xor (bit_and (a * b) (2 ^ 64 - 1)) (a * b / 2 ^ 64)
 unfoldable pub first_word : List ℕ → ℕ
 first_word bytes =
     let at = slice_index bytes in
-    if nat_le 8 (length bytes) then from_le_bytes w64 (at 0 ∷ at 1 ∷ at 2 ∷ at 3 ∷ at 4 ∷ at 5 ∷ at 6 ∷ at 7 ∷ [])
-    else (if nat_le 4 (length bytes) then from_le_bytes w32 (at 0 ∷ at 1 ∷ at 2 ∷ at 3 ∷ []) else (if nat_lt 0 (length bytes) then at 0 else 0))
+    if nat_le 8 (length bytes)
+    then from_le_bytes w64 (at 0 ∷ at 1 ∷ at 2 ∷ at 3 ∷ at 4 ∷ at 5 ∷ at 6 ∷ at 7 ∷ [])
+    else (if nat_le 4 (length bytes) then from_le_bytes w32 (at 0 ∷ at 1 ∷ at 2 ∷ at 3 ∷ [])
+    else (if nat_lt 0 (length bytes) then at 0 else 0))
 
 -- the state after a write
 unfoldable pub written : FoldedProduct → List ℕ → FoldedProduct
-written hasher bytes = record { state = folded_multiply (bit_xor hasher.state (first_word bytes)) hasher.multiplier; multiplier = hasher.multiplier }
+written hasher bytes =
+    record {
+      state = folded_multiply (bit_xor hasher.state (first_word bytes)) hasher.multiplier;
+      multiplier = hasher.multiplier;
+    }
 
 -- what the hasher answers
 abbrev pub state_of : FoldedProduct → ℕ

@@ -1,7 +1,6 @@
 -- Sums of a history by the validators and by the tokens of its entries.
-use Rattle.std.specs.Prelude.{ℕ, Bool, List, map, filter, flat_map}
+use Rattle.std.specs.Prelude.{ℕ, List, map, filter, flat_map}
 use Rattle.std.specs.Ordering.{nat_cmp}
-use Rattle.std.specs.declared.cmp.Ordering.{Ordering}
 use Rattle.shard_book.specs.declared.entry.Entry.{Entry}
 use Rattle.shard_book.specs.declared.token.Token.{Token}
 use Rattle.shard_book.specs.Book.{Book}
@@ -9,14 +8,6 @@ use Rattle.shard_book.specs.Entry.{is_at, own}
 use Rattle.shard_book.specs.Rising.{rising}
 use Rattle.shard_book.specs.Sums.{Sums, sums}
 use Rattle.shard_book.specs.Token.{token_cmp}
-
--- the entries with the key, in order
-unfoldable pub group : {K : Type 0} → (K → K → Bool) → (Entry → K) → K → List Entry → List Entry
-group eq key_of key entries = filter (λ entry. eq (key_of entry) key) entries
-
--- the keys of the entries, rising, each with the sums of its entries
-unfoldable pub sums_by : {K : Type 0} → (K → K → Ordering) → (K → K → Bool) → (Entry → K) → List Entry → List (K × Sums)
-sums_by cmp eq key_of entries = map (λ key. (key, sums (group eq key_of key entries))) (rising cmp (map key_of entries))
 
 abbrev pub validator_of : Entry → ℕ
 validator_of entry = entry.validator
@@ -38,7 +29,8 @@ at validator entries = filter (is_at validator) entries
 
 -- the validators, rising, each with the sums of its entries
 unfoldable pub sums_by_validator : List Entry → List (ℕ × Sums)
-sums_by_validator entries = map (λ validator. (validator, sums (at validator entries))) (validators entries)
+sums_by_validator entries =
+    map (λ validator. (validator, sums (at validator entries))) (validators entries)
 
 -- the tokens, rising, each with the sums of its own entries
 unfoldable pub sums_by_token : List Entry → List (Token × Sums)

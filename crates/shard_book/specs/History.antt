@@ -10,8 +10,10 @@ use Rattle.shard_book.specs.Token.{bytes_of}
 -- after these entries, the entry's reply is the account rule's for its token's earlier taps
 unfoldable pub IsReplied : Fares → List Entry → Entry → Type 0
 IsReplied table before entry =
-    reply_of entry ≡ reply (rules_of table (bytes_of entry.token)) (taps_of table entry.token before) (tap_of table entry)
+    reply_of entry ≡ reply (rules_of table (bytes_of entry.token))
+    (taps_of table entry.token before) (tap_of table entry)
 
 -- each entry, wherever it stands, has the reply that the account rule gives after those before it
 pub record IsLegal (table : Fares) (entries : List Entry) : Type 0 where
-  pub each : (before : List Entry) (entry : Entry) (after : List Entry) → entries ≡ before ++ entry ∷ after → IsReplied table before entry
+  pub each : (before : List Entry) (entry : Entry) (after : List Entry)
+      → entries ≡ before ++ entry ∷ after → IsReplied table before entry

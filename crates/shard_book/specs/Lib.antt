@@ -1,11 +1,8 @@
-pub mod Accounts
 pub mod Book
-pub mod Counting
 pub mod Counts
 pub mod Difference
 pub mod Entry
 pub mod Folding
-pub mod Grouping
 pub mod Groups
 pub mod History
 pub mod Keys
@@ -13,10 +10,10 @@ pub mod Places
 pub mod Replies
 pub mod Rising
 pub mod Shown
-pub mod Sound
 pub mod Statement
 pub mod Sums
 pub mod Tally
 pub mod Token
 pub mod Visits
 pub mod Windows
+pub mod inside

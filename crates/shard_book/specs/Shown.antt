@@ -1,11 +1,8 @@
 -- What the sums of a key show.
-use Rattle.std.specs.Prelude.{ℕ, List, map}
+use Rattle.std.specs.Prelude.{ℕ}
 use Rattle.shard_book.specs.declared.sums.TokenSum.{TokenSum}
 use Rattle.shard_book.specs.declared.sums.ValidatorSum.{ValidatorSum}
 use Rattle.shard_book.specs.declared.token.Token.{Token}
-use Rattle.shard_book.specs.declared.sums.token_sums.SumList.{SumList}
-use Rattle.shard_book.specs.declared.sums.token_sums.SumList.TheVariants.{Counted, Added}
-use Rattle.shard_book.specs.Counts.{token_counts}
 use Rattle.shard_book.specs.Sums.{Sums, sums_of}
 
 -- a validator with its sums
@@ -15,8 +12,3 @@ validator_sum sum = (sum.validator, sums_of sum.totals)
 -- a token with its sums
 abbrev pub token_sum : TokenSum → Token × Sums
 token_sum sum = (sum.token, sums_of sum.totals)
-
--- the tokens of a list with their sums, kept small or as totals
-abbrev pub sums_in : SumList → List (Token × Sums)
-sums_in (Counted list) = map token_counts list.items
-sums_in (Added list) = map token_sum list.items

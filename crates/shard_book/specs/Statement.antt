@@ -11,8 +11,10 @@ use Rattle.shard_book.specs.Sums.{sums, sums_of}
 use Rattle.shard_book.specs.Token.{bytes_of}
 
 -- the token's own entries, their sums, and the last window of its taps
-pub record IsStatement (table : Fares) (entries : List Entry) (name : Token) (statement : Statement) : Type 0 where
+pub record IsStatement (table : Fares) (entries : List Entry) (name : Token) (statement : Statement)
+    : Type 0 where
   pub token : statement.token ≡ name
   pub lines : statement.lines ≡ own name entries
   pub totals : sums_of statement.totals ≡ sums (own name entries)
-  pub window : statement.window ≡ last_window (rules_of table (bytes_of name)) (taps_of table name entries)
+  pub window : statement.window
+      ≡ last_window (rules_of table (bytes_of name)) (taps_of table name entries)

@@ -1,7 +1,8 @@
 -- Sums over replies and over entries.
-use Rattle.std.specs.Prelude.{ℕ, ◌+◌, ◌==◌, Bool, true, false, not, List, length, map, count_by, sum_by}
+use Rattle.std.specs.Prelude.{ℕ, ◌+◌, Bool, true, false, List, length, map, count_by, sum_by}
 use Rattle.account_rule.specs.declared.reply.Answer.{Answer}
-use Rattle.account_rule.specs.declared.reply.Answer.TheVariants.{Paid, Transfer, Capped, Stale, Unknown}
+use Rattle.account_rule.specs.declared.reply.Answer.TheVariants.{Paid, Transfer, Capped, Stale}
+use Rattle.account_rule.specs.declared.reply.Answer.TheVariants.{Unknown}
 use Rattle.account_rule.specs.declared.reply.Reply.{Reply}
 use Rattle.shard_book.specs.declared.entry.Entry.{Entry}
 use Rattle.shard_book.specs.declared.sums.totals.Totals.{Totals}
@@ -64,10 +65,6 @@ sums_of_replies replies = record {
 -- the sums of a history: those of its replies
 abbrev pub sums : List Entry → Sums
 sums entries = sums_of_replies (map reply_of entries)
-
--- whether there is a tap
-abbrev pub has_taps : Sums → Bool
-has_taps sums = not (sums.taps == 0)
 
 -- two sums, joined
 abbrev pub add_sums : Sums → Sums → Sums

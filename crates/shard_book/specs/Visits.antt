@@ -20,8 +20,10 @@ abbrev pub IsVisit : List Tap → RunEnd → List Entry → Type 0
 IsVisit taps Whole visit = AreEntriesOf taps visit
 IsVisit taps (Cut posted) visit = (posted < length taps) × AreEntriesOf (take posted taps) visit
 
--- the run's visit was appended to the book, and its replies to the replies, in the room that was there
-pub record PostsRun (taps : List Tap) (how : RunEnd) (book after : Book) (replies replied : RepliesView) : Type 0 where
+-- the run's visit was appended to the book, and its replies to the replies, in the room that was
+-- there
+pub record PostsRun (taps : List Tap) (how : RunEnd) (book after : Book)
+    (replies replied : RepliesView) : Type 0 where
   pub visit : List Entry
   pub of_run : IsVisit taps how visit
   pub appended : after ≡ with_entries book visit
@@ -35,11 +37,3 @@ limits_by limit taps = map (λ tap. limit (num tap.moment)) taps
 -- the same under a table
 abbrev pub limits_of : Fares → List Tap → List ℕ
 limits_of table taps = limits_by (until table) taps
-
--- one entry for each of the taps was appended to the book, and its reply to the replies, in the room that was there
-pub record PostsTaps (taps : List Tap) (book after : Book) (replies replied : RepliesView) : Type 0 where
-  pub visit : List Entry
-  pub of_taps : AreEntriesOf taps visit
-  pub appended : after ≡ with_entries book visit
-  pub items : replied.items ≡ replies.items ++ map reply_of visit
-  pub spare : replied.spare + length visit ≡ replies.spare

@@ -13,17 +13,24 @@ use Rattle.shard_book.specs.Entry.{own, taps_of, reply_of}
 use Rattle.shard_book.specs.Sums.{sums_of_replies}
 use Rattle.shard_book.specs.Token.{bytes_of}
 
--- No window has more paid rides than the ride limit or costs more than the ceiling. The replies to rides are, window by
--- window, those of their places, so that the windows' paid rides and cents add up to those of all replies.
-pub record KeepLimits (terms : Terms) (blocks : List (List LiveTap)) (replied : List Reply) : Type 0 where
+-- No window has more paid rides than the ride limit or costs more than the ceiling. The replies to
+-- rides are, window by window, those of their places, so that the windows' paid rides and cents add
+-- up to those of all replies.
+pub record KeepLimits (terms : Terms) (blocks : List (List LiveTap)) (replied : List Reply)
+    : Type 0 where
   pub rides : All (λ window. paid_rides terms (length window) ≤ terms.rides) blocks
   pub ceiling : All (λ window. ride_cents terms (length window) ≤ terms.ceiling) blocks
-  pub shared : filter is_ride replied ≡ flat_map (λ window. place_replies terms (length window)) blocks
-  pub paid : (sums_of_replies replied).paid ≡ sum_by (λ window. paid_rides terms (length window)) blocks
-  pub cents : (sums_of_replies replied).cents ≡ sum_by (λ window. ride_cents terms (length window)) blocks
+  pub shared : filter is_ride replied
+      ≡ flat_map (λ window. place_replies terms (length window)) blocks
+  pub paid : (sums_of_replies replied).paid
+      ≡ sum_by (λ window. paid_rides terms (length window)) blocks
+  pub cents : (sums_of_replies replied).cents
+      ≡ sum_by (λ window. ride_cents terms (length window)) blocks
 
--- the windows of the token's taps keep the limits of its terms, and share what its entries were charged
+-- the windows of the token's taps keep the limits of its terms, and share what its entries were
+-- charged
 abbrev pub WindowsKeepLimits : Fares → List Entry → Token → Type 0
 WindowsKeepLimits table entries token =
     let rules = rules_of table (bytes_of token) in
-    KeepLimits rules.terms (windows rules (taps_of table token entries)) (map reply_of (own token entries))
+    KeepLimits rules.terms (windows rules (taps_of table token entries))
+    (map reply_of (own token entries))

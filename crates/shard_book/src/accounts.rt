@@ -1,14 +1,16 @@
 //! The accounts of a book, by token: the one place that knows in which kind of map they stand.
 
-ghost use Rattle.std.specs.Prelude.{◌≡◌, ◌<◌, List, [], ◌∷◌, ◌++◌, length, map, is_some, IfOk, IfNone, IfSome, OnOk, OnErr, None, true, false, IsTrue};
+ghost use Rattle.std.specs.Prelude.{◌≡◌, ◌<◌, List, [], ◌∷◌, ◌++◌, length, map, is_some, IfOk};
+ghost use Rattle.std.specs.Prelude.{IfNone, IfSome, OnOk, OnErr, None, true, false, IsTrue};
 ghost use Rattle.std.specs.Option.{ForSome};
 ghost use Rattle.fare_table.specs.Until.{until};
 ghost use Rattle.account_rule.specs.Replies.{reply};
 ghost use Rattle.account_rule.specs.Rules.{Rules, rules_of};
 ghost use Rattle.account_rule.specs.Stands.{Stands, StandsForSome};
 ghost use Rattle.account_rule.specs.declared.tap.TapIn.{TapIn};
-ghost use Rattle.shard_book.specs.Accounts.{kept_at, counted, pairs_of, IsCounting, IsKept, IsMade, IsPlace, StandsOn};
-ghost use Rattle.shard_book.specs.Counting.{AreCounted, AreSummed};
+ghost use Rattle.shard_book.specs.inside.Accounts.{kept_at, counted, pairs_of, IsCounting, IsKept};
+ghost use Rattle.shard_book.specs.inside.Accounts.{IsMade, IsPlace, StandsOn};
+ghost use Rattle.shard_book.specs.inside.Counting.{AreCounted, AreSummed};
 ghost use Rattle.shard_book.specs.Counts.{token_counts};
 ghost use Rattle.shard_book.specs.declared.entry.Entry.{Entry};
 ghost use Rattle.shard_book.specs.Sums.{sums_of_replies, add_sums};
@@ -31,8 +33,8 @@ pub(crate) struct Kept {
     pub(crate) counts: Counts,
 }
 
-/// An account for each token that has taps, with the counts of its entries; also for tokens whose taps were looked up
-/// and not posted.
+/// An account for each token that has taps, with the counts of its entries; also for tokens whose
+/// taps were looked up and not posted.
 #[derive(Drop)]
 pub(crate) struct Accounts {
     pub(crate) map: IndexMap<Token, Kept, TokenKeys>,
@@ -42,7 +44,7 @@ pub(crate) struct Accounts {
 
 impl Accounts {
     /// No accounts. It takes no memory.
-    #[tactic(auto, unfolding(crate::specs::Accounts::kept_at))]
+    #[tactic(auto, unfolding(crate::specs::inside::Accounts::kept_at))]
     pub(crate) fn new(alloc: Global, keys: TokenKeys) -> Self
         ensures { (token : Token) → kept_at result token ≡ None }
     {
@@ -58,9 +60,10 @@ impl Accounts {
     }
 
     /// The token's account, a fresh one where none is kept.
-    #[tactic(auto, unfolding(crate::specs::Accounts::kept_at))]
+    #[tactic(auto, unfolding(crate::specs::inside::Accounts::kept_at))]
     pub(crate) fn account_of(&self, token: Token) -> Account
-        ensures { (rules : Rules) (taps : List TapIn) → IsKept rules (kept_at self.now token) taps → Stands rules result taps }
+        ensures { (rules : Rules) (taps : List TapIn) → IsKept rules (kept_at self.now token) taps
+            → Stands rules result taps }
     {
         match self.map.get(&token) {
             Some(kept) => kept.account,
@@ -68,15 +71,17 @@ impl Accounts {
         }
     }
 
-    /// The place of the token's account, which is opened where there is none: the one look-up that a tap takes. On
-    /// want of memory all that is kept stays.
+    /// The place of the token's account, which is opened where there is none: the one look-up that
+    /// a tap takes. On want of memory all that is kept stays.
     #[inline(always)]
-    #[tactic(auto, unfolding(crate::specs::Accounts::kept_at))]
+    #[tactic(auto, unfolding(crate::specs::inside::Accounts::kept_at))]
     pub(crate) fn open(&mut self, token: Token) -> Result<usize, NoMemory>
         ensures made { IfOk result (IsMade self.old self.new token) }
-        ensures others { OnOk result ((other : Token) → token_eq token other ≡ false → kept_at self.new other ≡ kept_at self.old other) }
+        ensures others { OnOk result ((other : Token) → token_eq token other ≡ false
+            → kept_at self.new other ≡ kept_at self.old other) }
         ensures counting { self.new.counting ≡ self.old.counting }
-        ensures err { OnErr result ((other : Token) → kept_at self.new other ≡ kept_at self.old other) }
+        ensures err { OnErr result ((other : Token)
+            → kept_at self.new other ≡ kept_at self.old other) }
     {
         let last = self.map.len();
         match self.map.entry(token)? {
@@ -93,7 +98,7 @@ impl Accounts {
 
     // Whether the token's account is at this place.
     #[inline(always)]
-    #[tactic(auto, unfolding(crate::specs::Accounts::kept_at))]
+    #[tactic(auto, unfolding(crate::specs::inside::Accounts::kept_at))]
     fn is_at(&self, place: usize, token: Token) -> bool
         ensures { IsTrue result → IsPlace self.now token place }
     {
@@ -103,13 +108,16 @@ impl Accounts {
         }
     }
 
-    // The place of the token's account, which is opened where there is none. No look-up is needed where it is at `known`.
+    // The place of the token's account, which is opened where there is none. No look-up is needed
+    // where it is at `known`.
     #[inline(always)]
     fn place(&mut self, token: Token, known: usize) -> Result<usize, NoMemory>
         ensures made { IfOk result (IsMade self.old self.new token) }
-        ensures others { OnOk result ((other : Token) → token_eq token other ≡ false → kept_at self.new other ≡ kept_at self.old other) }
+        ensures others { OnOk result ((other : Token) → token_eq token other ≡ false
+            → kept_at self.new other ≡ kept_at self.old other) }
         ensures counting { self.new.counting ≡ self.old.counting }
-        ensures err { OnErr result ((other : Token) → kept_at self.new other ≡ kept_at self.old other) }
+        ensures err { OnErr result ((other : Token)
+            → kept_at self.new other ≡ kept_at self.old other) }
     {
         if self.is_at(known, token) {
             Ok(known)
@@ -118,9 +126,10 @@ impl Accounts {
         }
     }
 
-    /// The account rule's step of the token's account, whose reply is then counted. Where the account is at the
-    /// known place no look-up is needed; another place costs time alone. On want of memory all that is kept stays.
-    #[tactic(auto, unfolding(crate::specs::Accounts::kept_at))]
+    /// The account rule's step of the token's account, whose reply is then counted. Where the
+    /// account is at the known place no look-up is needed; another place costs time alone. On want
+    /// of memory all that is kept stays.
+    #[tactic(auto, unfolding(crate::specs::inside::Accounts::kept_at))]
     pub(crate) fn step(
         &mut self,
         table: &FareTable,
@@ -130,19 +139,24 @@ impl Accounts {
     ) -> Result<Reply, NoMemory>
         requires mode { ForSome tap.mode (λ mode. mode.place < length table.now.rules.modes) }
         requires until { tap.until ≡ until table.now tap.moment }
-        requires kept { (taps : List TapIn) × IsKept (rules_of table.now (bytes_of token)) (kept_at self.old token) taps }
+        requires kept { (taps : List TapIn)
+            × IsKept (rules_of table.now (bytes_of token)) (kept_at self.old token) taps }
 
         ensures reply { IfOk result (λ answered. (taps : List TapIn)
             → IsKept (rules_of table.now (bytes_of token)) (kept_at self.old token) taps
             → answered ≡ reply (rules_of table.now (bytes_of token)) taps tap) }
         ensures kept { OnOk result ((taps : List TapIn)
             → IsKept (rules_of table.now (bytes_of token)) (kept_at self.old token) taps
-            → IsKept (rules_of table.now (bytes_of token)) (kept_at self.new token) (taps ++ tap ∷ [])) }
-        ensures counted { IfOk result (λ answered. IsCounting self.new → counted (kept_at self.new token)
+            → IsKept (rules_of table.now (bytes_of token)) (kept_at self.new token)
+            (taps ++ tap ∷ [])) }
+        ensures counted { IfOk result (λ answered. IsCounting self.new
+            → counted (kept_at self.new token)
             ≡ add_sums (counted (kept_at self.old token)) (sums_of_replies (answered ∷ []))) }
         ensures counting { IsCounting self.new → IsCounting self.old }
-        ensures others { OnOk result ((other : Token) → token_eq token other ≡ false → kept_at self.new other ≡ kept_at self.old other) }
-        ensures err { OnErr result ((other : Token) → kept_at self.new other ≡ kept_at self.old other) }
+        ensures others { OnOk result ((other : Token) → token_eq token other ≡ false
+            → kept_at self.new other ≡ kept_at self.old other) }
+        ensures err { OnErr result ((other : Token)
+            → kept_at self.new other ≡ kept_at self.old other) }
     {
         let place = self.place(token, known)?;
         let (_, kept) = self.map.pair_mut(place);
@@ -160,10 +174,13 @@ impl Accounts {
     }
 
     /// Appends each token that has taps with its counts, in no order.
-    #[tactic(auto, unfolding(crate::specs::Accounts::pairs_of))]
+    #[tactic(auto, unfolding(crate::specs::inside::Accounts::pairs_of))]
     pub(crate) fn push_counts(&self, list: &mut Vec<TokenCounts>) -> Result<(), NoMemory>
-        ensures list { OnOk result (map token_counts list.new.items ≡ map token_counts list.old.items ++ pairs_of self.now) }
-        ensures summed { (entries : List Entry) → AreCounted self.now entries → AreSummed entries (pairs_of self.now) }
+        ensures list { OnOk result
+            (map token_counts list.new.items ≡ map token_counts list.old.items
+            ++ pairs_of self.now) }
+        ensures summed { (entries : List Entry) → AreCounted self.now entries
+            → AreSummed entries (pairs_of self.now) }
     {
         let kept_tokens = self.map.iter();
         list.reserve(self.map.len())?;

@@ -1,10 +1,11 @@
 //! The book of one shard: its table, its accounts and its whole history.
 
-ghost use Rattle.std.specs.Prelude.{◌≡◌, ◌<◌, ◌≤◌, [], length, map, slice_get, IfOk, OnOk, OnErr, IsTrue, ◌↔◌, Some};
+ghost use Rattle.std.specs.Prelude.{◌≡◌, ◌<◌, ◌≤◌, [], length, map, slice_get, IfOk, OnOk, OnErr};
+ghost use Rattle.std.specs.Prelude.{IsTrue, ◌↔◌, Some};
 ghost use Rattle.tap_views.specs.Shards.{shard_of_token};
 ghost use Rattle.account_rule.specs.Rules.{rules_of};
 ghost use Rattle.account_rule.specs.Stands.{Stands};
-ghost use Rattle.shard_book.specs.Counting.{AddsSums};
+ghost use Rattle.shard_book.specs.inside.Counting.{AddsSums};
 ghost use Rattle.shard_book.specs.Counts.{token_counts};
 ghost use Rattle.shard_book.specs.Entry.{TokensFit, taps_of};
 ghost use Rattle.shard_book.specs.Token.{bytes_of};
@@ -25,8 +26,8 @@ use tap_views::TapView;
 
 /// The accounts and the history of one shard.
 ///
-/// Contracts see the table, the shard, the number of shards and the list of entries. The history is legal at
-/// all times: each entry has the account rule's reply for its token's earlier taps.
+/// Contracts see the table, the shard, the number of shards and the list of entries. The history is
+/// legal at all times: each entry has the account rule's reply for its token's earlier taps.
 #[derive(Drop)]
 pub struct ShardBook {
     table: FareTable,
@@ -38,11 +39,16 @@ pub struct ShardBook {
 
 impl Model for ShardBook {
     ghost use Rattle.shard_book.specs.Book.{Book};
-    ghost use Rattle.shard_book.specs.Sound.{IsSound};
+    ghost use Rattle.shard_book.specs.inside.Sound.{IsSound};
 
     ghost Value = { Book };
 
-    ghost view = { λ b. record { table = b.table; shard = b.shard; shards = b.shards; entries = b.history.items } };
+    ghost view = { λ b. record {
+      table = b.table;
+      shard = b.shard;
+      shards = b.shards;
+      entries = b.history.items;
+    } };
 
     ghost invariant = { λ b. IsSound b.table b.shard b.shards b.accounts b.history.items };
 }
@@ -54,7 +60,12 @@ impl ShardBook {
     pub fn open(alloc: Global, keys: TokenKeys, table: FareTable, shard: u32, shards: u32) -> Self
         requires shard { shard < shards }
         requires shards { shards ≤ 64 }
-        ensures book { result ≡ record { table = table; shard = shard; shards = shards; entries = [] } }
+        ensures book { result ≡ record {
+          table = table;
+          shard = shard;
+          shards = shards;
+          entries = [];
+        } }
         ensures legal { IsLegal result.table result.entries }
     {
         ShardBook {
@@ -68,8 +79,8 @@ impl ShardBook {
 
     /// Posts one tap: the account rule answers it, and one entry is appended to the history.
     ///
-    /// `until` is the table's limit of a window that starts at the tap. On want of memory the book stays as
-    /// it was: all room is taken first.
+    /// `until` is the table's limit of a window that starts at the tap. On want of memory the book
+    /// stays as it was: all room is taken first.
     pub fn post(&mut self, tap: &TapView, until: u64) -> Result<Reply, NoMemory>
         requires here { shard_of_token tap.now.token self.old.shards ≡ self.old.shard }
         requires until { until ≡ limit_of self.old.table tap.now }
@@ -80,7 +91,8 @@ impl ShardBook {
         self.post_at(tap, until, NO_PLACE)
     }
 
-    /// Posts one tap as `post` does. Where its token's account is at the known place, no look-up is needed.
+    /// Posts one tap as `post` does. Where its token's account is at the known place, no look-up is
+    /// needed.
     #[inline(always)]
     pub(crate) fn post_at(
         &mut self,
@@ -175,10 +187,12 @@ impl ShardBook {
         self.accounts.keys()
     }
 
-    /// Appends each token of the history with the counts of its entries, in no order. It answers `false`, and
-    /// appends none, where a count has grown too large to be kept.
+    /// Appends each token of the history with the counts of its entries, in no order. It answers
+    /// `false`, and appends none, where a count has grown too large to be kept.
     pub(crate) fn push_counts(&self, list: &mut Vec<TokenCounts>) -> Result<bool, NoMemory>
-        ensures sums { IfOk result (λ told. IsTrue told → AddsSums self.now.entries (map token_counts list.old.items) (map token_counts list.new.items)) }
+        ensures sums { IfOk result (λ told. IsTrue told
+            → AddsSums self.now.entries (map token_counts list.old.items)
+            (map token_counts list.new.items)) }
         ensures here { AreOfShard self.now.shard self.now.shards self.now.entries }
     {
         if !self.accounts.is_counting() {
@@ -190,7 +204,8 @@ impl ShardBook {
 
     /// The token's account.
     pub(crate) fn account_of(&self, token: Token) -> Account
-        ensures { Stands (rules_of self.now.table (bytes_of token)) result (taps_of self.now.table token self.now.entries) }
+        ensures { Stands (rules_of self.now.table (bytes_of token)) result
+            (taps_of self.now.table token self.now.entries) }
     {
         self.accounts.account_of(token)
     }

@@ -10,8 +10,9 @@ use std::alloc::Global;
 use std::marker::Model;
 use tap_views::Run;
 
-/// One limit for each tap of a run, in milliseconds since 1970-01-01T00:00Z: where a window ends that starts at
-/// the tap. Made before a book is held, since a zone's limit takes longer than a post. Contracts see the list.
+/// One limit for each tap of a run, in milliseconds since 1970-01-01T00:00Z: where a window ends
+/// that starts at the tap. Made before a book is held, since a zone's limit takes longer than a
+/// post. Contracts see the list.
 #[derive(Drop)]
 pub struct Ends {
     limits: Vec<u64>,
@@ -44,8 +45,8 @@ impl Ends {
         Ok(ends)
     }
 
-    /// Puts the limits of the run's taps in the place of those that are kept, in the room that is there. On want
-    /// of memory no limits are kept.
+    /// Puts the limits of the run's taps in the place of those that are kept, in the room that is
+    /// there. On want of memory no limits are kept.
     pub fn fill(&mut self, clock: &Clock, run: &Run) -> Result<(), NoMemory>
         ensures ok { OnOk result (self.new ≡ limits_by (limit_in clock.now) (run_taps run.now)) }
         ensures err { OnErr result (self.new ≡ []) }
@@ -69,7 +70,8 @@ impl Ends {
 
 /// Appends the limits of the run's taps.
 fn push_limits(limits: &mut Vec<u64>, clock: &Clock, run: &Run) -> Result<(), NoMemory>
-    ensures { OnOk result (limits.new.items ≡ limits.old.items ++ limits_by (limit_in clock.now) (run_taps run.now)) }
+    ensures { OnOk result (limits.new.items ≡ limits.old.items
+        ++ limits_by (limit_in clock.now) (run_taps run.now)) }
 {
     for tap in run.taps() {
         limits.push(clock.until(tap.moment_ms())?)?;

@@ -1,7 +1,7 @@
 //! The seed of the accounts' hash.
 //!
-//! Uploads come from strangers, who could fill one bucket of a hash whose seed they know. So the seed is
-//! random, made once a service, and handed to each book that is opened.
+//! Uploads come from strangers, who could fill one bucket of a hash whose seed they know. So the
+//! seed is random, made once a service, and handed to each book that is opened.
 
 ghost use Rattle.std.specs.Prelude.{◌≡◌};
 ghost use Rattle.shard_book.specs.Folding.{first_word, folded_multiply};
@@ -12,9 +12,10 @@ use std::random::RandomSource;
 
 /// The seed under which a book hashes tokens. One value serves any number of books.
 ///
-/// The hash multiplies each word into a state and folds the two halves of the product: a few instructions a
-/// token. State and multiplier are 128 bits from the system's randomness. No proof says that a stranger
-/// cannot find tokens that collide; a collision costs time and changes no answer.
+/// The hash multiplies each word into a state and folds the two halves of the product: a few
+/// instructions a token. State and multiplier are 128 bits from the system's randomness. No proof
+/// says that a stranger cannot find tokens that collide; a collision costs time and changes no
+/// answer.
 #[derive(Clone, Copy)]
 pub struct TokenKeys {
     state: u64,
@@ -22,7 +23,8 @@ pub struct TokenKeys {
 }
 
 impl TokenKeys {
-    /// A seed from the system's randomness. A seed that the system refuses counts as want of memory.
+    /// A seed from the system's randomness. A seed that the system refuses counts as want of
+    /// memory.
     pub fn new<R: RandomSource>(rt: &R) -> Result<Self, NoMemory> {
         match RandomState::new(rt) {
             Ok(random) => {

@@ -30,22 +30,26 @@ pub fn same_bytes()
 
 /// The rising list of the keys is the one strictly rising list that has the same members.
 pub fn rising()
-    ensures numbers { (keys risen : List ℕ) → IsRising nat_cmp keys risen ↔ (risen ≡ rising nat_cmp keys) }
-    ensures tokens { (keys risen : List Token) → IsRising token_cmp keys risen ↔ (risen ≡ rising token_cmp keys) }
+    ensures numbers { (keys risen : List ℕ) → IsRising nat_cmp keys risen
+        ↔ (risen ≡ rising nat_cmp keys) }
+    ensures tokens { (keys risen : List Token) → IsRising token_cmp keys risen
+        ↔ (risen ≡ rising token_cmp keys) }
 {}
 
 /// The sums of one history after another are the sums of both, joined.
 pub fn sums()
-    ensures { (before after : List Entry) → sums (before ++ after) ≡ add_sums (sums before) (sums after) }
+    ensures { (before after : List Entry)
+        → sums (before ++ after) ≡ add_sums (sums before) (sums after) }
 {}
 
 /// The beginning of a legal history is legal.
 pub fn beginnings()
-    ensures { (table : Fares) (before after : List Entry) → IsLegal table (before ++ after) → IsLegal table before }
+    ensures { (table : Fares) (before after : List Entry) → IsLegal table (before ++ after)
+        → IsLegal table before }
 {}
 
-/// No window of any token has more paid rides than the ride limit or costs more than the ceiling (MTA, fare
-/// capping), and the token's entries were charged what its windows cost.
+/// No window of any token has more paid rides than the ride limit or costs more than the ceiling
+/// (MTA, fare capping), and the token's entries were charged what its windows cost.
 pub fn windows(book: &ShardBook)
     ensures { (token : Token) → WindowsKeepLimits book.now.table book.now.entries token }
 {

@@ -1,7 +1,7 @@
 //! The accounts and the whole history of one shard.
 //!
-//! A `ShardBook` posts taps: it answers each by the account rule and appends one entry to its history, which
-//! is legal at all times. Statements and sums are read from the history.
+//! A `ShardBook` posts taps: it answers each by the account rule and appends one entry to its
+//! history, which is legal at all times. Statements and sums are read from the history.
 #![tactic(auto)]
 
 mod accounts;

@@ -13,7 +13,8 @@ use crate::run_end::RunEnd;
 use tap_views::Run;
 
 impl ShardBook {
-    /// Posts the taps of a run in their order and appends their replies to `out`, up to the first want of memory.
+    /// Posts the taps of a run in their order and appends their replies to `out`, up to the first
+    /// want of memory.
     ///
     /// `ends` are the table's limits for the run's taps, and `out` has room for a reply to each.
     #[inline(always)]

@@ -1,10 +1,10 @@
-//! Prefetch: what is read before its time, for the processor's sake. Each tap needs its account from
-//! wherever the caches have it. Sixteen look-ups in a row wait for memory side by side, where each
-//! tap's own would wait alone. No promise rests on what is found here: a place that is not the
+//! Prefetch: what is read before its time, for the processor's sake. Each tap needs its account
+//! from wherever the caches have it. Sixteen look-ups in a row wait for memory side by side, where
+//! each tap's own would wait alone. No promise rests on what is found here: a place that is not the
 //! token's costs a second look-up.
 
 ghost use Rattle.std.specs.Prelude.{◌≡◌};
-ghost use Rattle.shard_book.specs.Accounts.{kept_at, StandsOn};
+ghost use Rattle.shard_book.specs.inside.Accounts.{kept_at, StandsOn};
 
 use crate::accounts::{Accounts, Kept};
 use crate::book::ShardBook;
@@ -45,7 +45,8 @@ impl Accounts {
     /// opened. If memory is refused, all that is kept stays.
     #[inline(always)]
     pub(crate) fn open_early(&mut self, token: Token) -> Result<usize, NoMemory>
-        ensures stays { (other : Token) → StandsOn (kept_at self.old other) (kept_at self.new other) }
+        ensures stays { (other : Token)
+            → StandsOn (kept_at self.old other) (kept_at self.new other) }
         ensures counting { self.new.counting ≡ self.old.counting }
     {
         self.open(token)
@@ -62,8 +63,8 @@ impl Accounts {
 }
 
 impl ShardBook {
-    /// The place of the token's account, for `post_at`. If there is none, an account without taps is
-    /// opened: the book stays as it is.
+    /// The place of the token's account, for `post_at`. If there is none, an account without taps
+    /// is opened: the book stays as it is.
     #[inline(always)]
     pub(crate) fn open_early(&mut self, token: Token) -> Result<usize, NoMemory>
         ensures { self.new ≡ self.old }

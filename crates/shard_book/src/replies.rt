@@ -1,6 +1,7 @@
 //! The replies that a caller collects, with room taken beforehand.
 
-ghost use Rattle.std.specs.Prelude.{◌≡◌, ◌+◌, ◌-◌, ◌<◌, ◌≤◌, [], ◌∷◌, ◌++◌, length, slice_get, Some, OnOk, OnErr, IsTrue, ◌↔◌};
+ghost use Rattle.std.specs.Prelude.{◌≡◌, ◌+◌, ◌-◌, ◌<◌, ◌≤◌, [], ◌∷◌, ◌++◌, length, slice_get};
+ghost use Rattle.std.specs.Prelude.{Some, OnOk, OnErr, IsTrue, ◌↔◌};
 
 use account_rule::Reply;
 use fare_table::NoMemory;
@@ -19,7 +20,10 @@ impl Model for Replies {
 
     ghost Value = { RepliesView };
 
-    ghost view = { λ r. record { items = r.replies.items; spare = vec_capacity r.replies - vec_len r.replies } };
+    ghost view = { λ r. record {
+      items = r.replies.items;
+      spare = vec_capacity r.replies - vec_len r.replies;
+    } };
 }
 
 impl Replies {

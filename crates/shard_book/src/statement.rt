@@ -41,8 +41,8 @@ fn own_entries(alloc: Global, entries: &[Entry], token: Token) -> Result<Vec<Ent
 }
 
 impl ShardBook {
-    /// The token's statement: its entries in history order, their totals and its last window, in one pass over
-    /// the history. A token without entries has an empty statement.
+    /// The token's statement: its entries in history order, their totals and its last window, in
+    /// one pass over the history. A token without entries has an empty statement.
     pub fn statement(&self, alloc: Global, token: &Token) -> Result<Statement, NoMemory>
         ensures { IfOk result (IsStatement self.now.table self.now.entries token.now) }
     {

@@ -122,16 +122,17 @@ pub fn totals_of(books: &[ShardBook]) -> Totals
     totals
 }
 
-/// The validators of the books, rising, each with the totals of its entries: one pass a book, and a sort of the
-/// validators. Of many entries, threads go over a quarter of the books each.
-#[tactic(auto, unfolding(crate::specs::Groups::sums_by, crate::specs::Groups::group, crate::specs::Groups::sums_by_validator, crate::specs::Groups::validators, crate::specs::Groups::at))]
+/// The validators of the books, rising, each with the totals of its entries: one pass a book, and a
+/// sort of the validators. Of many entries, threads go over a quarter of the books each.
+#[tactic(auto, unfolding(crate::specs::inside::Groups::sums_by, crate::specs::inside::Groups::group, crate::specs::Groups::sums_by_validator, crate::specs::Groups::validators, crate::specs::Groups::at))]
 pub fn sums_by_validator<R: Threads + Sync>(
     rt: &R,
     alloc: Global,
     books: &[ShardBook],
 ) -> Result<Vec<ValidatorSum>, NoMemory>
     requires { length books.now ≤ 64 }
-    ensures { IfOk result (λ list. map validator_sum list.items ≡ sums_by_validator (all_entries books.now)) }
+    ensures { IfOk result (λ list.
+        map validator_sum list.items ≡ sums_by_validator (all_entries books.now)) }
 {
     let Some(first) = books.first() else {
         return Ok(Vec::new(alloc));
@@ -140,11 +141,13 @@ pub fn sums_by_validator<R: Threads + Sync>(
     listed(alloc, &tallies)
 }
 
-/// The tokens of the books, rising, each with the totals of its entries: one pass over what the books keep of
-/// their tokens, and a sort of the tokens. Where two books may share a token, a pass over the histories.
+/// The tokens of the books, rising, each with the totals of its entries: one pass over what the
+/// books keep of their tokens, and a sort of the tokens. Where two books may share a token, a pass
+/// over the histories.
 pub fn sums_by_token(alloc: Global, books: &[ShardBook]) -> Result<Vec<TokenSum>, NoMemory>
     requires { length books.now ≤ 64 }
-    ensures { IfOk result (λ list. map token_sum list.items ≡ sums_by_token (all_entries books.now)) }
+    ensures { IfOk result (λ list.
+        map token_sum list.items ≡ sums_by_token (all_entries books.now)) }
 {
     match rising_counts(alloc, books)? {
         Some(list) => widened_sums(alloc, &list),
@@ -153,10 +156,11 @@ pub fn sums_by_token(alloc: Global, books: &[ShardBook]) -> Result<Vec<TokenSum>
 }
 
 /// The same, added up entry by entry.
-#[tactic(auto, unfolding(crate::specs::Groups::sums_by, crate::specs::Groups::group, crate::specs::Groups::sums_by_token, crate::specs::Groups::tokens, crate::specs::Entry::own))]
+#[tactic(auto, unfolding(crate::specs::inside::Groups::sums_by, crate::specs::inside::Groups::group, crate::specs::Groups::sums_by_token, crate::specs::Groups::tokens, crate::specs::Entry::own))]
 pub(crate) fn added_by_token(alloc: Global, books: &[ShardBook]) -> Result<Vec<TokenSum>, NoMemory>
     requires { length books.now ≤ 64 }
-    ensures { IfOk result (λ list. map token_sum list.items ≡ sums_by_token (all_entries books.now)) }
+    ensures { IfOk result (λ list.
+        map token_sum list.items ≡ sums_by_token (all_entries books.now)) }
 {
     sums_of_books::<Token>(alloc, books)
 }
@@ -189,17 +193,18 @@ impl ShardBook {
         totals_of_entries(self.entries())
     }
 
-    /// The validators of the history, rising, each with the totals of its entries: one pass over the history,
-    /// and a sort of the validators.
-    #[tactic(auto, unfolding(crate::specs::Groups::sums_by, crate::specs::Groups::group, crate::specs::Groups::sums_by_validator, crate::specs::Groups::validators, crate::specs::Groups::at))]
+    /// The validators of the history, rising, each with the totals of its entries: one pass over
+    /// the history, and a sort of the validators.
+    #[tactic(auto, unfolding(crate::specs::inside::Groups::sums_by, crate::specs::inside::Groups::group, crate::specs::Groups::sums_by_validator, crate::specs::Groups::validators, crate::specs::Groups::at))]
     pub fn by_validator(&self, alloc: Global) -> Result<Vec<ValidatorSum>, NoMemory>
-        ensures { IfOk result (λ list. map validator_sum list.items ≡ sums_by_validator self.now.entries) }
+        ensures { IfOk result (λ list.
+            map validator_sum list.items ≡ sums_by_validator self.now.entries) }
     {
         sums_of_books::<u32>(alloc, std::slice::from_ref(self))
     }
 
-    /// The tokens of the history, rising, each with the totals of its entries: one pass over what the book keeps
-    /// of its tokens, and a sort of them.
+    /// The tokens of the history, rising, each with the totals of its entries: one pass over what
+    /// the book keeps of its tokens, and a sort of them.
     pub fn by_token(&self, alloc: Global) -> Result<Vec<TokenSum>, NoMemory>
         ensures { IfOk result (λ list. map token_sum list.items ≡ sums_by_token self.now.entries) }
     {

@@ -5,7 +5,8 @@ use Rattle.shard_book.specs.declared.entry.Entry.{Entry}
 use Rattle.shared_books.specs.declared.turns.rule.Opening.{Opening}
 use Rattle.shared_books.specs.Marks.{mark, others, visits_of, joined}
 use Rattle.shared_books.specs.Turns.{Boxed, IsTurn}
-use Rattle.shared_books.specs.Views.{Seat, view, HasTaken, IsFree, GoesOn, HasBookOut, BringsVisit, given_back}
+use Rattle.shared_books.specs.Views.{Seat, view, HasTaken, given_back}
+use Rattle.shared_books.specs.inside.Views.{IsFree, GoesOn, HasBookOut, BringsVisit}
 use Rattle.shared_books.proofs.MarkLists.{drop_all}
 use Rattle.shared_books.proofs.TurnSteps.{gives_turn}
 

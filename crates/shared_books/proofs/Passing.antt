@@ -8,14 +8,16 @@ use Rattle.shared_books.specs.declared.turns.rule.Opening.{Opening}
 use Rattle.shared_books.specs.declared.turns.rule.Mark.{Mark}
 use Rattle.shared_books.specs.declared.turns.rule.View.{View}
 use Rattle.shared_books.specs.Marks.{mark, others, visits_of, joined, made_from, numbered, merged, Apart}
-use Rattle.shared_books.specs.Passes.{Knowledge, opened_of, seen_by, book_of, IsLater, Visits, IsFull, IsJoined, HasMadeAll}
+use Rattle.shared_books.specs.Passes.{PassView, seen_by, book_of, IsLater, Visits, IsFull, IsJoined, HasMadeAll}
+use Rattle.shared_books.specs.inside.Passes.{opened_of}
 use Rattle.shared_books.specs.Turns.{Boxed, book_after}
-use Rattle.shared_books.specs.Views.{Seat, view, fresh, both_views, HasSeen, HasSettled, IsFree, GoesOn, HasBookOut, FindsFull, BringsVisit, IsPass}
+use Rattle.shared_books.specs.Views.{Seat, view, fresh, both_views, HasSeen, HasSettled}
+use Rattle.shared_books.specs.inside.Views.{IsFree, GoesOn, HasBookOut, FindsFull, BringsVisit, IsPass}
 use Rattle.shared_books.proofs.MarkLists.{visits-caught, visits-append, visits-others, length-visits, others-append, joined-snoc, made-others, made-caught, made-snoc, made_few, made_all, length-made-merged}
 use Rattle.shared_books.proofs.TurnSteps.{Closes}
 
 -- a pass, as contracts see it
-abbrev pub knows : TableId → Seat → Knowledge
+abbrev pub knows : TableId → Seat → PassView
 knows home me = record { book = opened_of home me.0.opened; marks = me.0.marks }
 
 -- going on
@@ -256,15 +258,15 @@ made_whole home k held me word slot book closed p c le is out =
     }
 
 -- the same, of a pass as contracts saw it before
-pub full_told : (home there : TableId) (old : Knowledge) (a b : Seat) → knows home a ≡ old → there ≡ home → FindsFull a b → IsLater old (knows there b) × IsFull (knows there b)
+pub full_told : (home there : TableId) (old : PassView) (a b : Seat) → knows home a ≡ old → there ≡ home → FindsFull a b → IsLater old (knows there b) × IsFull (knows there b)
 full_told home there old a b is same f =
-    let P : TableId → Knowledge → Type 0 = λ h k. IsLater k (knows h b) × IsFull (knows h b) in
+    let P : TableId → PassView → Type 0 = λ h k. IsLater k (knows h b) × IsFull (knows h b) in
     subst (λ k. P there k) is (subst (λ h. P h (knows home a)) (sym same) (later_of home a b f.goes_on f.legal, full_pass home b f.count))
 
 pub full_pass_is : (held : ℕ) (a b : Seat) → IsPass held a → FindsFull a b → IsPass held b
 full_pass_is held a b p f = pass_goes_on held a b p f.goes_on (omega (arith, f.count))
 
-pub visit_told : (home there : TableId) (old : Knowledge) (a b c : Seat) (number : ℕ) (book : Book) (visit : List Entry) → knows home a ≡ old → there ≡ home → HasBookOut a b number book → c ≡ gave_back b visit
+pub visit_told : (home there : TableId) (old : PassView) (a b c : Seat) (number : ℕ) (book : Book) (visit : List Entry) → knows home a ≡ old → there ≡ home → HasBookOut a b number book → c ≡ gave_back b visit
     → IsLegal b.0.opened.book.value.table (joined (visits_of b.0.marks ++ visit ∷ [])) → Visits old (knows there c) number visit
 visit_told home there old a b c number book visit is same h e legal =
     subst (λ k. Visits k (knows there c) number visit) is (subst (λ x. Visits (knows home a) (knows x c) number visit) (sym same) (visits_made home a b c number book visit h e legal))
@@ -281,5 +283,5 @@ seen_out there a b c number book h e =
     entries_now a b number book book [] h (nothing_more book)
     ∙ (sym (joined-snoc (visits_of b.0.marks) []) ∙ (ap joined (sym (visits-append b.0.marks (mark true [] ∷ []))) ∙ ap (λ me. joined (visits_of me.0.marks)) (sym e)))
 
-pub table_out : (home : TableId) (old : Knowledge) (a b : Seat) (number : ℕ) (book : Book) → knows home a ≡ old → HasBookOut a b number book → book.table ≡ old.book.table
+pub table_out : (home : TableId) (old : PassView) (a b : Seat) (number : ℕ) (book : Book) → knows home a ≡ old → HasBookOut a b number book → book.table ≡ old.book.table
 table_out home old a b number book is h = ap (λ x. x.table) h.book_is ∙ ap (λ k. k.book.table) is

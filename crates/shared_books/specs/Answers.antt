@@ -9,24 +9,26 @@ use Rattle.shard_book.specs.Visits.{IsVisit}
 use Rattle.shared_books.specs.declared.turns.answers.Visit.{Visit}
 use Rattle.shared_books.specs.declared.turns.answers.ReadFault.{ReadFault}
 use Rattle.shared_books.specs.declared.turns.answers.ReadFault.TheVariants.{Full, NoMemory}
-use Rattle.shared_books.specs.Passes.{Opened, Knowledge, IsLater, Visits, IsFull}
+use Rattle.shared_books.specs.Passes.{SharedBookView, PassView, IsLater, Visits, IsFull}
 
 -- the shared book has the number, and the table, shard and shards of the book that was handed in
-pub record IsOpenedAs (first : ℕ) (handed : Book) (o : Opened) : Type 0 where
+pub record IsOpenedAs (first : ℕ) (handed : Book) (o : SharedBookView) : Type 0 where
   pub first_is : o.first ≡ first
   pub table : o.table ≡ handed.table
   pub shard : o.shard ≡ handed.shard
   pub shards : o.shards ≡ handed.shards
 
 -- the pass made a visit of the run, whole or cut, and its replies were appended
-pub record MakesVisit (run : ShardRun) (old new : Knowledge) (replies replied : RepliesView) (v : Visit) : Type 0 where
+pub record MakesVisit (run : ShardRun) (old new : PassView) (replies replied : RepliesView)
+    (v : Visit) : Type 0 where
   pub visit : List Entry
   pub stands : Visits old new v.number visit
   pub of_run : IsVisit (run_taps run) v.how visit
   pub items : replied.items ≡ replies.items ++ map reply_of visit
   pub spare : replied.spare + length visit ≡ replies.spare
 
--- full: the pass made no visit; for want of memory: it made an empty one, and the history is as it was
-abbrev pub IsReadFault : Knowledge → Knowledge → ReadFault → Type 0
+-- full: the pass made no visit; for want of memory: it made an empty one, and the history is as it
+-- was
+abbrev pub IsReadFault : PassView → PassView → ReadFault → Type 0
 IsReadFault old new Full = IsLater old new × IsFull new
 IsReadFault old new NoMemory = (number : ℕ) × Visits old new number []

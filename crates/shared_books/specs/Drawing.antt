@@ -1,5 +1,7 @@
--- Drawing: the uploads are numbered 0, 1, 2, .., and each is drawn once. One word says how many are drawn.
-use Rattle.std.specs.Prelude.{◌≡◌, ℕ, ◌≤◌, ◌<◌, ◌==◌, List, ◌++◌, length, true, sum_by, count_by, slice_index}
+-- Drawing: the uploads are numbered 0, 1, 2, .., and each is drawn once. One word says how many are
+-- drawn.
+use Rattle.std.specs.Prelude.{◌≡◌, ℕ, ◌≤◌, ◌<◌, ◌==◌, List, ◌++◌, length, true, sum_by, count_by}
+use Rattle.std.specs.Prelude.{slice_index}
 use mathlib.Core.Option.{some}
 use lib.ListN.{get_elem?}
 use Rattle.atomic_table.specs.Table.{State}
@@ -27,22 +29,25 @@ pub record Drawing : Type 0 where
   pub home : TableId
   pub numbers : ℕ
 
--- what contracts see of a drawer: the drawing that it belongs to, how many numbers it has seen drawn, and those that it drew
-pub record Drawings : Type 0 where
+-- what contracts see of a drawer: the drawing that it belongs to, how many numbers it has seen
+-- drawn, and those that it drew
+pub record DrawerView : Type 0 where
   pub source : Drawing
   pub seen : ℕ
   pub drawn : List ℕ
 
--- a drawer that took over what another one holds: no number is there twice, so the two had none in common
-pub record HasMet (old other new : Drawings) : Type 0 where
+-- a drawer that took over what another one holds: no number is there twice, so the two had none in
+-- common
+pub record HasMet (old other new : DrawerView) : Type 0 where
   pub source : new.source ≡ old.source
   pub drawn : new.drawn ≡ old.drawn ++ other.drawn
   pub apart : NoneTwice new.drawn
   pub later : old.seen ≤ new.seen
   pub later_too : other.seen ≤ new.seen
 
--- what the closing tells of the count of drawn numbers: it is above each number that the drawer holds, and not less than any count that it has seen
-pub record IsCount (count : ℕ) (drawer : Drawings) : Type 0 where
+-- what the closing tells of the count of drawn numbers: it is above each number that the drawer
+-- holds, and not less than any count that it has seen
+pub record IsCount (count : ℕ) (drawer : DrawerView) : Type 0 where
   pub later : drawer.seen ≤ count
   pub within : count ≤ drawer.source.numbers
   pub below : AllBelow count drawer.drawn
@@ -51,10 +56,12 @@ pub record IsCount (count : ℕ) (drawer : Drawings) : Type 0 where
 abbrev pub times_drawn : ℕ → List Hand → ℕ
 times_drawn x hands = sum_by (λ h. times x h.drawn) hands
 
--- between any two steps: each number below the word was drawn by one drawer and once, no other number was, and no drawer has seen more than the word
+-- between any two steps: each number below the word was drawn by one drawer and once, no other
+-- number was, and no drawer has seen more than the word
 pub record IsDrawn (numbers : ℕ) (s : State (Unit {0}) Hand) : Type 0 where
   pub one_word : length s.words ≡ 1
   pub within : slice_index s.words 0 ≤ numbers
   pub once : (x : ℕ) → x < slice_index s.words 0 → times_drawn x s.views ≡ 1
   pub no_other : (x : ℕ) → slice_index s.words 0 ≤ x → times_drawn x s.views ≡ 0
-  pub each : (j : ℕ) (h : Hand) → get_elem? s.views j ≡ some h → h.live ≡ true → (h.numbers ≡ numbers) × (h.seen ≤ slice_index s.words 0)
+  pub each : (j : ℕ) (h : Hand) → get_elem? s.views j ≡ some h → h.live ≡ true
+      → (h.numbers ≡ numbers) × (h.seen ≤ slice_index s.words 0)

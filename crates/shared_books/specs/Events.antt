@@ -1,5 +1,6 @@
 -- What word, slot and views show of the turn machine, between any two steps.
-use Rattle.std.specs.Prelude.{◌≡◌, ℕ, ◌+◌, ◌*◌, ◌^◌, ◌<◌, List, [], ◌∷◌, ◌++◌, length, slice_index, slice_set, Option, Some, true, false}
+use Rattle.std.specs.Prelude.{◌≡◌, ℕ, ◌+◌, ◌*◌, ◌^◌, ◌<◌, List, [], ◌∷◌, ◌++◌, length, slice_index}
+use Rattle.std.specs.Prelude.{slice_set, Option, Some, true, false}
 use mathlib.Core.Option.{some, none}
 use lib.ListN.{get_elem?}
 use Rattle.atomic_table.specs.Table.{State}
@@ -12,8 +13,10 @@ use Rattle.shared_books.specs.Marks.{mark, others, visits_of, joined, Begins}
 use Rattle.shared_books.specs.Turns.{Boxed, book_after, HasBook, HoldsTurn, IsTurn}
 use Rattle.shared_books.specs.Views.{view}
 
--- the word is even: so many visits are counted, nobody has the turn, and the book of all visits is in the slot
-pub record ShowsFree (k : Opening) (m : Machine) (s : State (Option Boxed) View) (count : ℕ) : Type 0 where
+-- the word is even: so many visits are counted, nobody has the turn, and the book of all visits is
+-- in the slot
+pub record ShowsFree (k : Opening) (m : Machine) (s : State (Option Boxed) View) (count : ℕ)
+    : Type 0 where
   pub count_is : m.count ≡ count
   pub no_holder : m.holder ≡ none
   pub no_turn : (seat : ℕ) → HoldsTurn s seat → ⊥
@@ -28,12 +31,14 @@ pub record ShowsHeld (m : Machine) (s : State (Option Boxed) View) (count : ℕ)
   pub alone : (other : ℕ) → HoldsTurn s other → other ≡ seat
   pub empty : get_elem? s.homes 0 ≡ some none
 
--- word, slot and views show this state of the machine; each pass has seen a beginning of its visits, and their history is legal
+-- word, slot and views show this state of the machine; each pass has seen a beginning of its
+-- visits, and their history is legal
 pub record IsShown (k : Opening) (m : Machine) (s : State (Option Boxed) View) : Type 0 where
   pub even : (n : ℕ) → slice_index s.words 0 ≡ 2 * n → ShowsFree k m s n
   pub odd : (n : ℕ) → slice_index s.words 0 ≡ 2 * n + 1 → ShowsHeld m s n
   pub count : m.count ≡ k.first + length m.visits
-  pub seen : (seat : ℕ) (v : View) → get_elem? s.views seat ≡ some v → v.live ≡ true → Begins (visits_of v.marks) m.visits
+  pub seen : (seat : ℕ) (v : View) → get_elem? s.views seat ≡ some v → v.live ≡ true
+      → Begins (visits_of v.marks) m.visits
   pub legal : IsLegal k.book.value.table (joined m.visits)
 
 -- the state is one that a schedule of takes and gives reaches
@@ -46,16 +51,20 @@ pub record IsReached (k : Opening) (s : State (Option Boxed) View) : Type 0 wher
 abbrev pub StepsAreEvents : Type 0
 StepsAreEvents = (k : Opening) (s : State (Option Boxed) View) → IsTurn k s → IsReached k s
 
--- the state after a seat took the turn: the word is one more, the slot is empty, and the seat has seen the visits between
-abbrev pub taken_by : State (Option Boxed) View → ℕ → View → List (List Entry) → State (Option Boxed) View
+-- the state after a seat took the turn: the word is one more, the slot is empty, and the seat has
+-- seen the visits between
+abbrev pub taken_by : State (Option Boxed) View → ℕ → View → List (List Entry)
+    → State (Option Boxed) View
 taken_by s seat v between = record {
   words = slice_set s.words 0 (slice_index s.words 0 + 1);
   homes = slice_set s.homes 0 none;
   views = slice_set s.views seat (view v.opened true (v.marks ++ others between) v.met);
 }
 
--- the state after a seat gave the turn back with a visit: the word is one more, and the book is in the slot
-abbrev pub given_by : State (Option Boxed) View → ℕ → View → List Entry → Boxed → State (Option Boxed) View
+-- the state after a seat gave the turn back with a visit: the word is one more, and the book is in
+-- the slot
+abbrev pub given_by : State (Option Boxed) View → ℕ → View → List Entry → Boxed
+    → State (Option Boxed) View
 given_by s seat v visit book = record {
   words = slice_set s.words 0 (slice_index s.words 0 + 1);
   homes = slice_set s.homes 0 (some (Some book));
@@ -64,12 +73,20 @@ given_by s seat v visit book = record {
 
 -- a take at an even word is the event of its seat
 abbrev pub TakesAreEvents : Type 0
-TakesAreEvents = (k : Opening) (s : State (Option Boxed) View) (seat : ℕ) (v : View) (t : IsTurn k s) → get_elem? s.views seat ≡ some v → v.live ≡ true
+TakesAreEvents =
+    (k : Opening) (s : State (Option Boxed) View) (seat : ℕ) (v : View) (t : IsTurn k s)
+    → get_elem? s.views seat ≡ some v → v.live ≡ true
     → (n : ℕ) → slice_index s.words 0 ≡ 2 * n → n < 2 ^ 62
-    → (between : List (List Entry)) × (u : IsTurn k (taken_by s seat v between)) × (u.events ≡ t.events ++ taken seat ∷ [])
+    → (between : List (List Entry)) × (u : IsTurn k (taken_by s seat v between))
+    × (u.events ≡ t.events ++ taken seat ∷ [])
 
--- a give by the seat that has the turn, of the book that gained a visit, is the event of that seat and visit
+-- a give by the seat that has the turn, of the book that gained a visit, is the event of that seat
+-- and visit
 abbrev pub GivesAreEvents : Type 0
-GivesAreEvents = (k : Opening) (s : State (Option Boxed) View) (seat : ℕ) (v : View) (t : IsTurn k s) → get_elem? s.views seat ≡ some v → v.live ≡ true → v.turn ≡ true
-    → (visit : List Entry) (book : Boxed) → book.value ≡ book_after k (visits_of v.marks ++ visit ∷ []) → IsLegal k.book.value.table (joined (visits_of v.marks ++ visit ∷ []))
+GivesAreEvents =
+    (k : Opening) (s : State (Option Boxed) View) (seat : ℕ) (v : View) (t : IsTurn k s)
+    → get_elem? s.views seat ≡ some v → v.live ≡ true → v.turn ≡ true
+    → (visit : List Entry) (book : Boxed)
+    → book.value ≡ book_after k (visits_of v.marks ++ visit ∷ [])
+    → IsLegal k.book.value.table (joined (visits_of v.marks ++ visit ∷ []))
     → (u : IsTurn k (given_by s seat v visit book)) × (u.events ≡ t.events ++ given seat visit ∷ [])

@@ -1,5 +1,5 @@
 -- What the steps of drawing do to the hands of the drawers.
-use Rattle.std.specs.Prelude.{◌≡◌, ◌≢◌, ℕ, ◌+◌, ◌≤◌, ◌<◌, true, false, List, [], ◌∷◌, ◌++◌, max, length, ◌^◌}
+use Rattle.std.specs.Prelude.{◌≡◌, ◌≢◌, ℕ, ◌+◌, ◌≤◌, true, false, List, [], ◌∷◌, ◌++◌, max}
 use Rattle.atomic_table.specs.Table.{Step, Me}
 use Rattle.shared_books.specs.declared.drawing.rule.Hand.{Hand}
 use Rattle.shared_books.specs.Drawing.{NoneTwice, AllBelow}
@@ -18,29 +18,21 @@ abbrev pub both_hands : Hand → Hand → Hand
 both_hands h k = hand h.numbers (max h.seen k.seen) (h.drawn ++ k.drawn)
 
 -- a try from s.first to the next number: it drew that number, or it has seen that more were drawn
-pub record HasTried (s : Step (Unit {0})) (before : Me (Unit {0}) Hand) (found : ℕ) (after : Me (Unit {0}) Hand) : Type 0 where
-  pub won : found ≡ s.first → after.0 ≡ hand before.0.numbers (found + 1) (before.0.drawn ++ found ∷ [])
+pub record HasTried (s : Step (Unit {0})) (before : Me (Unit {0}) Hand) (found : ℕ)
+    (after : Me (Unit {0}) Hand) : Type 0 where
+  pub won : found ≡ s.first
+      → after.0 ≡ hand before.0.numbers (found + 1) (before.0.drawn ++ found ∷ [])
   pub lost : found ≢ s.first → after.0 ≡ hand before.0.numbers found before.0.drawn
   pub later : before.0.seen ≤ found
   pub within : found ≤ before.0.numbers
   pub carries : after.1 ≡ before.1
 
 -- a look at the word: what the drawer drew is below it, and nothing twice
-pub record HasLooked (s : Step (Unit {0})) (before : Me (Unit {0}) Hand) (found : ℕ) (after : Me (Unit {0}) Hand) : Type 0 where
+pub record HasLooked (s : Step (Unit {0})) (before : Me (Unit {0}) Hand) (found : ℕ)
+    (after : Me (Unit {0}) Hand) : Type 0 where
   pub seen : after.0 ≡ hand before.0.numbers found before.0.drawn
   pub later : before.0.seen ≤ found
   pub within : found ≤ before.0.numbers
   pub none_twice : NoneTwice before.0.drawn
   pub below : AllBelow found before.0.drawn
   pub carries : after.1 ≡ before.1
-
--- what a drawer keeps of its number of numbers, its word and its seat
-pub record IsHeld (held seen : ℕ) (me : Me (Unit {0}) Hand) : Type 0 where
-  pub live : me.0.live ≡ true
-  pub carries : me.1 ≡ []
-  pub seen_is : seen ≡ me.0.seen
-  pub held_is : held ≡ length me.0.drawn
-  pub none_twice : NoneTwice me.0.drawn
-  pub below : AllBelow me.0.seen me.0.drawn
-  pub within : me.0.seen ≤ me.0.numbers
-  pub small : me.0.numbers < 2 ^ 32

@@ -8,3 +8,4 @@ pub mod Nobody
 pub mod Passes
 pub mod Turns
 pub mod Views
+pub mod inside

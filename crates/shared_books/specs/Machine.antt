@@ -1,4 +1,5 @@
--- The turn machine of one shard's book: at most one seat holds the turn, and gives it back with a visit.
+-- The turn machine of one shard's book: at most one seat holds the turn, and gives it back with a
+-- visit.
 use Rattle.std.specs.Prelude.{◌≡◌, ℕ, ◌+◌, List, [], ◌∷◌, ◌++◌}
 use mathlib.Core.Option.{Option, none, some}
 use Rattle.shard_book.specs.declared.entry.Entry.{Entry}
@@ -24,7 +25,8 @@ May m (given seat visit) = m.holder ≡ some seat
 
 abbrev pub next : Machine → Event → Machine
 next m (taken seat) = record { count = m.count; holder = some seat; visits = m.visits }
-next m (given seat visit) = record { count = m.count + 1; holder = none; visits = m.visits ++ visit ∷ [] }
+next m (given seat visit) =
+    record { count = m.count + 1; holder = none; visits = m.visits ++ visit ∷ [] }
 
 abbrev pub after : Machine → List Event → Machine
 after m [] = m

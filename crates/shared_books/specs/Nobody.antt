@@ -1,11 +1,20 @@
--- A book that stands for none: what is left of a pass that was joined into another speaks of some book.
+-- A book that stands for none: what is left of a pass that was joined into another speaks of some
+-- book.
 use Rattle.std.specs.Prelude.{[], None}
 use Rattle.fare_table.specs.Fares.{Fares}
 use Rattle.shard_book.specs.Book.{Book}
 
 abbrev pub no_fares : Fares
 no_fares = record {
-  rules = record { modes = []; transfers = []; standard = record { fare = 0; rides = 0; ceiling = 0 }; ranges = []; riders = []; zone = None };
+  rules =
+      record {
+        modes = [];
+        transfers = [];
+        standard = record { fare = 0; rides = 0; ceiling = 0 };
+        ranges = [];
+        riders = [];
+        zone = None;
+      };
   zone = None;
 }
 

@@ -5,57 +5,57 @@ use Rattle.fare_table.specs.Fares.{Fares}
 use Rattle.shard_book.specs.declared.entry.Entry.{Entry}
 use Rattle.shard_book.specs.Book.{Book}
 use Rattle.shard_book.specs.History.{IsLegal}
-use Rattle.shared_books.specs.declared.turns.rule.Opening.{Opening}
 use Rattle.shared_books.specs.declared.turns.rule.Mark.{Mark}
-use Rattle.shared_books.specs.Marks.{mark, others, visits_of, joined, made_from, numbered, merged, Apart, Begins}
+use Rattle.shared_books.specs.Marks.{mark, others, visits_of, joined, made_from, numbered, merged}
+use Rattle.shared_books.specs.Marks.{Apart, Begins}
 
--- a shared book: which one it is, the number of its first visit, and the table, shard and shards that it was opened with. They never change
-pub record Opened : Type 0 where
+-- a shared book: which one it is, the number of its first visit, and the table, shard and shards
+-- that it was opened with. They never change
+pub record SharedBookView : Type 0 where
   pub home : TableId
   pub first : ℕ
   pub table : Fares
   pub shard : ℕ
   pub shards : ℕ
 
--- a pass: the book that it belongs to, and the visits that it has seen, each marked with whether it made it
-pub record Knowledge : Type 0 where
-  pub book : Opened
+-- a pass: the book that it belongs to, and the visits that it has seen, each marked with whether it
+-- made it
+pub record PassView : Type 0 where
+  pub book : SharedBookView
   pub marks : List Mark
 
 -- the visits that a pass has seen
-abbrev pub seen_by : Knowledge → List (List Entry)
+abbrev pub seen_by : PassView → List (List Entry)
 seen_by pass = visits_of pass.marks
 
 -- the visits that a pass made, each with its number
-abbrev pub made_by : Knowledge → List (ℕ × List Entry)
+abbrev pub made_by : PassView → List (ℕ × List Entry)
 made_by pass = made_from pass.book.first pass.marks
 
--- what contracts see of a book that was opened so
-abbrev pub opened_of : TableId → Opening → Opened
-opened_of home k = record { home = home; first = k.first; table = k.book.value.table; shard = k.book.value.shard; shards = k.book.value.shards }
-
 -- a pass that has seen nothing
-abbrev pub new_pass : Opened → Knowledge
+abbrev pub new_pass : SharedBookView → PassView
 new_pass book = record { book = book; marks = [] }
 
 -- a pass that has seen as much, and made nothing
-abbrev pub fresh_pass : Knowledge → Knowledge
+abbrev pub fresh_pass : PassView → PassView
 fresh_pass pass = record { book = pass.book; marks = others (seen_by pass) }
 
 -- the book after these visits
-abbrev pub book_of : Opened → List (List Entry) → Book
-book_of o visits = record { table = o.table; shard = o.shard; shards = o.shards; entries = joined visits }
+abbrev pub book_of : SharedBookView → List (List Entry) → Book
+book_of o visits =
+    record { table = o.table; shard = o.shard; shards = o.shards; entries = joined visits }
 
 -- the pass has seen visits of others more, and the history that it has seen is legal
-pub record IsLater (old new : Knowledge) : Type 0 where
+pub record IsLater (old new : PassView) : Type 0 where
   pub between : List (List Entry)
   pub book : new.book ≡ old.book
   pub marks : new.marks ≡ old.marks ++ others between
   pub made : made_by new ≡ made_by old
   pub legal : IsLegal new.book.table (joined (seen_by new))
 
--- the pass made a visit, which stands at its number: before it stand all visits that the pass had seen, and then others', and the history with it is legal
-pub record Visits (old new : Knowledge) (number : ℕ) (visit : List Entry) : Type 0 where
+-- the pass made a visit, which stands at its number: before it stand all visits that the pass had
+-- seen, and then others', and the history with it is legal
+pub record Visits (old new : PassView) (number : ℕ) (visit : List Entry) : Type 0 where
   pub between : List (List Entry)
   pub book : new.book ≡ old.book
   pub marks : new.marks ≡ (old.marks ++ others between) ++ mark true visit ∷ []
@@ -65,11 +65,12 @@ pub record Visits (old new : Knowledge) (number : ℕ) (visit : List Entry) : Ty
   pub legal : IsLegal new.book.table (joined (seen_by new))
 
 -- the book has as many visits as are counted
-pub record IsFull (pass : Knowledge) : Type 0 where
+pub record IsFull (pass : PassView) : Type 0 where
   pub count : pass.book.first + length (seen_by pass) ≡ 2 ^ 62
 
--- one pass has what two had: what they had seen begins one with the other, and no visit was made by both
-pub record IsJoined (old other new : Knowledge) : Type 0 where
+-- one pass has what two had: what they had seen begins one with the other, and no visit was made by
+-- both
+pub record IsJoined (old other new : PassView) : Type 0 where
   pub book : new.book ≡ old.book
   pub marks : new.marks ≡ merged old.marks other.marks
   pub held : length (made_by new) ≡ length (made_by old) + length (made_by other)
@@ -77,12 +78,12 @@ pub record IsJoined (old other new : Knowledge) : Type 0 where
   pub begins : Begins (seen_by old) (seen_by other) ⊎ Begins (seen_by other) (seen_by old)
 
 -- the pass made all visits to the book that is handed back
-pub record HasMadeAll (pass : Knowledge) (closed : Book) : Type 0 where
+pub record HasMadeAll (pass : PassView) (closed : Book) : Type 0 where
   pub made : made_by pass ≡ numbered pass.book.first (seen_by pass)
   pub book : closed ≡ book_of pass.book (seen_by pass)
 
 -- the pass made fewer visits than were taken
-pub record LacksVisits (pass : Knowledge) (held kept : ℕ) : Type 0 where
+pub record LacksVisits (pass : PassView) (held kept : ℕ) : Type 0 where
   pub own : held ≡ length (made_by pass)
   pub fewer : held < kept
   pub seen : length (seen_by pass) ≤ kept

@@ -1,5 +1,7 @@
--- The rule of a shared book: between any two steps, word, slot and all views show a state of the turn machine.
-use Rattle.std.specs.Prelude.{◌≡◌, ℕ, ◌+◌, ◌*◌, ◌^◌, ◌<◌, ◌≤◌, true, List, length, slice_index, sum_by, Option, Some}
+-- The rule of a shared book: between any two steps, word, slot and all views show a state of the
+-- turn machine.
+use Rattle.std.specs.Prelude.{◌≡◌, ℕ, ◌+◌, ◌*◌, ◌^◌, ◌<◌, ◌≤◌, true, List, length, slice_index}
+use Rattle.std.specs.Prelude.{sum_by, Option, Some}
 use mathlib.Core.Option.{none, some}
 use lib.ListN.{get_elem?}
 use Rattle.atomic_table.specs.Table.{State}
@@ -19,13 +21,20 @@ Boxed = Box Book Global
 
 -- the opened book after these visits
 abbrev pub book_after : Opening → List (List Entry) → Book
-book_after k visits = record { table = k.book.value.table; shard = k.book.value.shard; shards = k.book.value.shards; entries = joined visits }
+book_after k visits =
+    record {
+      table = k.book.value.table;
+      shard = k.book.value.shard;
+      shards = k.book.value.shards;
+      entries = joined visits;
+    }
 
 -- how many of all passes made the visit at place i
 abbrev pub makers : ℕ → List View → ℕ
 makers i views = sum_by (λ v. made_at i v.marks + made_at i v.met) views
 
--- a seat's view fits the machine: what it has seen begins the visits, and who has the turn is the holder and has seen them all
+-- a seat's view fits the machine: what it has seen begins the visits, and who has the turn is the
+-- holder and has seen them all
 pub record Fits (k : Opening) (m : Machine) (seat : ℕ) (v : View) : Type 0 where
   pub opened : v.opened ≡ k
   pub seen : Begins (visits_of v.marks) m.visits
@@ -34,11 +43,13 @@ pub record Fits (k : Opening) (m : Machine) (seat : ℕ) (v : View) : Type 0 whe
 
 -- the slot is at home with the book of these visits
 abbrev pub HasBook : Opening → List (List Entry) → State (Option Boxed) View → Type 0
-HasBook k visits s = (b : Boxed) × (get_elem? s.homes 0 ≡ some (some (Some b))) × (b.value ≡ book_after k visits)
+HasBook k visits s =
+    (b : Boxed) × (get_elem? s.homes 0 ≡ some (some (Some b))) × (b.value ≡ book_after k visits)
 
 -- the seat's view is of a pass that was not joined into another, and has the turn
 abbrev pub HoldsTurn : State (Option Boxed) View → ℕ → Type 0
-HoldsTurn s seat = (v : View) × (get_elem? s.views seat ≡ some v) × (v.live ≡ true) × (v.turn ≡ true)
+HoldsTurn s seat =
+    (v : View) × (get_elem? s.views seat ≡ some v) × (v.live ≡ true) × (v.turn ≡ true)
 
 -- word, slot and views show this state of the machine
 pub record Shows (k : Opening) (m : Machine) (s : State (Option Boxed) View) : Type 0 where
@@ -47,9 +58,11 @@ pub record Shows (k : Opening) (m : Machine) (s : State (Option Boxed) View) : T
   pub most : slice_index s.words 0 ≤ 2 ^ 63
   pub count : m.count ≡ k.first + length m.visits
   pub free : m.holder ≡ none → (slice_index s.words 0 ≡ 2 * m.count) × HasBook k m.visits s
-  pub held : (seat : ℕ) → m.holder ≡ some seat → (slice_index s.words 0 ≡ 2 * m.count + 1) × (get_elem? s.homes 0 ≡ some none) × HoldsTurn s seat
+  pub held : (seat : ℕ) → m.holder ≡ some seat → (slice_index s.words 0 ≡ 2 * m.count + 1)
+      × (get_elem? s.homes 0 ≡ some none) × HoldsTurn s seat
   pub legal : IsLegal k.book.value.table (joined m.visits)
-  pub each : (seat : ℕ) (v : View) → get_elem? s.views seat ≡ some v → v.live ≡ true → Fits k m seat v
+  pub each : (seat : ℕ) (v : View) → get_elem? s.views seat ≡ some v → v.live ≡ true
+      → Fits k m seat v
   pub once : (i : ℕ) → i < length m.visits → makers i s.views ≡ 1
   pub no_other : (i : ℕ) → length m.visits ≤ i → makers i s.views ≡ 0
 

@@ -1,13 +1,13 @@
 -- What the steps of a turn do to the views of the passes.
-use Rattle.std.specs.Prelude.{◌≡◌, ◌≢◌, ℕ, ◌+◌, ◌*◌, ◌^◌, ◌<◌, ◌≤◌, Bool, true, false, List, [], ◌∷◌, ◌++◌, length, drop, ◌⊎◌, Option, Some, None}
+use Rattle.std.specs.Prelude.{◌≡◌, ◌≢◌, ℕ, ◌+◌, ◌*◌, ◌^◌, ◌≤◌, Bool, true, false, List, [], ◌∷◌}
+use Rattle.std.specs.Prelude.{◌++◌, length, drop, ◌⊎◌, Option, Some, None}
 use Rattle.atomic_table.specs.Table.{Step, Me}
 use Rattle.shard_book.specs.declared.entry.Entry.{Entry}
-use Rattle.shard_book.specs.Book.{Book}
 use Rattle.shard_book.specs.History.{IsLegal}
 use Rattle.shared_books.specs.declared.turns.rule.Opening.{Opening}
 use Rattle.shared_books.specs.declared.turns.rule.Mark.{Mark}
 use Rattle.shared_books.specs.declared.turns.rule.View.{View}
-use Rattle.shared_books.specs.Marks.{mark, others, visits_of, joined, made_from, merged, Apart, Begins}
+use Rattle.shared_books.specs.Marks.{mark, others, visits_of, joined, merged, Apart, Begins}
 use Rattle.shared_books.specs.Turns.{Boxed, book_after}
 use Rattle.shared_books.specs.Nobody.{no_book}
 
@@ -19,7 +19,17 @@ view o turn marks met = record { live = true; opened = o; turn = turn; marks = m
 
 -- what is left of a pass that was joined into another
 abbrev pub nobody : View
-nobody = record { live = false; opened = record { first = 0; book = record { marker = record {}; value = no_book } }; turn = false; marks = []; met = [] }
+nobody =
+    record {
+      live = false;
+      opened = record {
+        first = 0;
+        book = record { marker = record {}; value = no_book };
+      };
+      turn = false;
+      marks = [];
+      met = [];
+    }
 
 -- a new pass has seen as much, and made nothing
 abbrev pub fresh : View → View
@@ -31,29 +41,36 @@ both_views v w = view v.opened v.turn v.marks w.marks
 
 -- the word found is twice the count of visits seen, and one more where a pass holds the turn
 abbrev pub IsWord : ℕ → Opening → List Mark → Type 0
-IsWord found o marks = (found ≡ 2 * (o.first + length marks)) ⊎ (found ≡ 2 * (o.first + length marks) + 1)
+IsWord found o marks =
+    (found ≡ 2 * (o.first + length marks)) ⊎ (found ≡ 2 * (o.first + length marks) + 1)
 
 -- a look at the word: the pass has seen all visits that are counted
 pub record HasSeen (before : Seat) (found : ℕ) (after : Seat) : Type 0 where
   pub between : List (List Entry)
-  pub view_is : after.0 ≡ view before.0.opened before.0.turn (before.0.marks ++ others between) before.0.met
+  pub view_is : after.0 ≡ view before.0.opened before.0.turn
+      (before.0.marks ++ others between) before.0.met
   pub word : IsWord found before.0.opened (before.0.marks ++ others between)
   pub most : found ≤ 2 ^ 63
-  pub legal : IsLegal before.0.opened.book.value.table (joined (visits_of (before.0.marks ++ others between)))
+  pub legal : IsLegal before.0.opened.book.value.table
+      (joined (visits_of (before.0.marks ++ others between)))
   pub carries : after.1 ≡ before.1
 
--- the turn was taken: the pass has seen all visits that are counted, and the book of these visits is out with it
+-- the turn was taken: the pass has seen all visits that are counted, and the book of these visits
+-- is out with it
 pub record HasTaken (s : Step (Option Boxed)) (before after : Seat) : Type 0 where
   pub between : List (List Entry)
   pub view_is : after.0 ≡ view before.0.opened true (before.0.marks ++ others between) before.0.met
   pub word : s.first ≡ 2 * (before.0.opened.first + length (before.0.marks ++ others between))
-  pub legal : IsLegal before.0.opened.book.value.table (joined (visits_of (before.0.marks ++ others between)))
+  pub legal : IsLegal before.0.opened.book.value.table
+      (joined (visits_of (before.0.marks ++ others between)))
   pub book : Boxed
-  pub book_is : book.value ≡ book_after before.0.opened (visits_of (before.0.marks ++ others between))
+  pub book_is : book.value ≡ book_after before.0.opened
+      (visits_of (before.0.marks ++ others between))
   pub carries : after.1 ≡ (0, Some book) ∷ before.1
 
 -- a try to take the turn
-pub record HasTriedTurn (s : Step (Option Boxed)) (before : Seat) (found : ℕ) (after : Seat) : Type 0 where
+pub record HasTriedTurn (s : Step (Option Boxed)) (before : Seat) (found : ℕ) (after : Seat)
+    : Type 0 where
   pub won : found ≡ s.first → HasTaken s before after
   pub lost : found ≢ s.first → HasSeen before found after
 
@@ -61,58 +78,17 @@ pub record HasTriedTurn (s : Step (Option Boxed)) (before : Seat) (found : ℕ) 
 abbrev pub given_back : Seat → Seat
 given_back (v, []) = (v, [])
 given_back (v, (slot, None) ∷ out) = (v, out)
-given_back (v, (slot, Some b) ∷ out) = (view v.opened false (v.marks ++ mark true (drop (length (joined (visits_of v.marks))) b.value.entries) ∷ []) v.met, out)
+given_back (v, (slot, Some b) ∷ out) = (
+  view v.opened false (v.marks
+      ++ mark true (drop (length (joined (visits_of v.marks))) b.value.entries) ∷ []) v.met,
+  out,
+)
 
 -- the look that ends a join: the marks of both passes lie beside one another
 pub record HasSettled (before after : Seat) : Type 0 where
   pub view_is : after.0 ≡ view before.0.opened before.0.turn (merged before.0.marks before.0.met) []
   pub apart : Apart before.0.marks before.0.met
-  pub begins : Begins (visits_of before.0.marks) (visits_of before.0.met) ⊎ Begins (visits_of before.0.met) (visits_of before.0.marks)
+  pub begins : Begins (visits_of before.0.marks) (visits_of before.0.met)
+      ⊎ Begins (visits_of before.0.met) (visits_of before.0.marks)
   pub small : before.0.opened.first + length (merged before.0.marks before.0.met) ≤ 2 ^ 62
   pub carries : after.1 ≡ before.1
-
--- a seat of a pass that does not have the turn
-pub record IsFree (me : Seat) : Type 0 where
-  pub live : me.0.live ≡ true
-  pub turn : me.0.turn ≡ false
-  pub met : me.0.met ≡ []
-  pub carries : me.1 ≡ []
-
--- the seat has seen visits of others more, and all else is as it was
-pub record GoesOn (before after : Seat) : Type 0 where
-  pub between : List (List Entry)
-  pub view_is : after.0 ≡ view before.0.opened before.0.turn (before.0.marks ++ others between) before.0.met
-  pub carries : after.1 ≡ before.1
-
--- the seat has the turn, the number of its visit, and the book of all visits so far, whose slot is empty
-pub record HasBookOut (before after : Seat) (number : ℕ) (book : Book) : Type 0 where
-  pub between : List (List Entry)
-  pub view_is : after.0 ≡ view before.0.opened true (before.0.marks ++ others between) []
-  pub number_is : number ≡ before.0.opened.first + length (before.0.marks ++ others between)
-  pub few : number < 2 ^ 62
-  pub legal : IsLegal before.0.opened.book.value.table (joined (visits_of (before.0.marks ++ others between)))
-  pub book_is : book ≡ book_after before.0.opened (visits_of (before.0.marks ++ others between))
-  pub carries : after.1 ≡ (0, None) ∷ []
-
--- all visits are counted that a book takes
-pub record FindsFull (before after : Seat) : Type 0 where
-  pub goes_on : GoesOn before after
-  pub legal : IsLegal after.0.opened.book.value.table (joined (visits_of after.0.marks))
-  pub count : after.0.opened.first + length after.0.marks ≡ 2 ^ 62
-
--- the book has gained a visit, and the history with it is legal
-pub record BringsVisit (me : Seat) (number : ℕ) (book : Book) : Type 0 where
-  pub visit : List Entry
-  pub live : me.0.live ≡ true
-  pub turn : me.0.turn ≡ true
-  pub carries : me.1 ≡ (0, None) ∷ []
-  pub number_is : number ≡ me.0.opened.first + length me.0.marks
-  pub few : number < 2 ^ 62
-  pub legal : IsLegal me.0.opened.book.value.table (joined (visits_of me.0.marks ++ visit ∷ []))
-  pub book_is : book ≡ book_after me.0.opened (visits_of me.0.marks ++ visit ∷ [])
-
--- what a pass keeps of its number of own visits and its seat
-pub record IsPass (held : ℕ) (me : Seat) : Type 0 where
-  pub free : IsFree me
-  pub held_is : held ≡ length (made_from me.0.opened.first me.0.marks)
-  pub small : me.0.opened.first + length me.0.marks ≤ 2 ^ 62

@@ -8,7 +8,8 @@ use thiserror::Error;
 
 mod rule;
 
-/// The numbers `0, 1, ..` below a number of uploads, which drawers draw from. One word says how many are drawn.
+/// The numbers `0, 1, ..` below a number of uploads, which drawers draw from. One word says how
+/// many are drawn.
 #[derive(Drop)]
 pub struct Draw {
     table: Table<(), Hand, u32, DrawRule, Global>,
@@ -24,7 +25,8 @@ impl Model for Draw {
 
     ghost view = { λ d. record { home = d.table.shared.table_id; numbers = d.numbers } };
 
-    ghost invariant = { λ d. (d.table.shared.key ≡ d.numbers) × (d.table.shared.table_id.words ≡ 1) × (d.table.shared.table_id.slots ≡ 0) };
+    ghost invariant = { λ d. (d.table.shared.key ≡ d.numbers) × (d.table.shared.table_id.words ≡ 1)
+        × (d.table.shared.table_id.slots ≡ 0) };
 }
 
 /// The numbers that one worker drew.
@@ -36,13 +38,17 @@ pub struct Drawer {
 }
 
 impl Model for Drawer {
-    ghost use Rattle.shared_books.specs.Drawing.{Drawings};
+    ghost use Rattle.shared_books.specs.Drawing.{DrawerView};
 
-    ghost Value = { Drawings };
+    ghost Value = { DrawerView };
 
-    ghost use Rattle.shared_books.specs.Hands.{IsHeld};
+    ghost use Rattle.shared_books.specs.inside.Hands.{IsHeld};
 
-    ghost view = { λ d. record { source = record { home = d.seat.table_id; numbers = d.seat.me.0.numbers }; seen = d.seat.me.0.seen; drawn = d.seat.me.0.drawn } };
+    ghost view = { λ d. record {
+      source = record { home = d.seat.table_id; numbers = d.seat.me.0.numbers };
+      seen = d.seat.me.0.seen;
+      drawn = d.seat.me.0.drawn;
+    } };
 
     ghost invariant = { λ d. IsHeld d.held d.seen d.seat.me };
 }
@@ -56,7 +62,8 @@ pub struct DrawMissing {
 }
 
 impl Draw {
-    ghost use Rattle.std.specs.Prelude.{◌≡◌, ◌+◌, ◌≤◌, ◌<◌, ◌++◌, ◌∷◌, [], length, IfOk, IfErr, IfSome, IfNone, IsOkAnd};
+    ghost use Rattle.std.specs.Prelude.{◌≡◌, ◌+◌, ◌≤◌, ◌<◌, ◌++◌, ◌∷◌, [], length, IfOk, IfErr};
+    ghost use Rattle.std.specs.Prelude.{IfSome, IfNone, IsOkAnd};
     ghost use Rattle.shared_books.specs.Drawing.{HasAll, HasMet, IsCount};
 
     /// The numbers below `numbers`, none of them drawn, and a drawer that holds none.
@@ -79,10 +86,16 @@ impl Draw {
         ))
     }
 
-    /// Draws a number that no other drawing gives, or `None` where all are drawn. It waits for nobody.
+    /// Draws a number that no other drawing gives, or `None` where all are drawn. It waits for
+    /// nobody.
     pub fn draw(&self, drawer: &mut Drawer) -> Option<u32>
         requires own { drawer.old.source ≡ self.now }
-        ensures some { IfSome result (λ number. (drawer.old.seen ≤ number) × (number < self.now.numbers) × (drawer.new ≡ record drawer.old { seen = number + 1; drawn = drawer.old.drawn ++ number ∷ [] })) }
+        ensures some { IfSome result (λ number. (drawer.old.seen ≤ number)
+            × (number < self.now.numbers)
+            × (drawer.new ≡ record drawer.old {
+              seen = number + 1;
+              drawn = drawer.old.drawn ++ number ∷ [];
+            })) }
         ensures none { IfNone result (drawer.new ≡ record drawer.old { seen = self.now.numbers }) }
     {
         while drawer.seen < u64::from(self.numbers) {
@@ -136,8 +149,10 @@ impl Draw {
     /// How many numbers were drawn, where the drawer holds them all.
     pub fn finish(self, drawer: Drawer) -> Result<u32, DrawMissing>
         requires own { drawer.source ≡ self }
-        ensures ok { IfOk result (λ drawn. HasAll drawn drawer.drawn × (drawn ≡ length drawer.drawn) × IsCount drawn drawer) }
-        ensures err { IfErr result (λ missing. (missing.held ≡ length drawer.drawn) × (missing.held < missing.drawn) × IsCount missing.drawn drawer) }
+        ensures ok { IfOk result (λ drawn. HasAll drawn drawer.drawn × (drawn ≡ length drawer.drawn)
+            × IsCount drawn drawer) }
+        ensures err { IfErr result (λ missing. (missing.held ≡ length drawer.drawn)
+            × (missing.held < missing.drawn) × IsCount missing.drawn drawer) }
     {
         let Draw { table, numbers: _ } = self;
         let Drawer {
@@ -157,7 +172,8 @@ impl Draw {
 
     /// The same for an owner who holds no drawer: `Ok` where no number was drawn.
     pub fn finish_unseen(self) -> Result<(), DrawMissing>
-        ensures err { IfErr result (λ missing. (missing.held ≡ 0) × (0 < missing.drawn) × (missing.drawn ≤ self.numbers)) }
+        ensures err { IfErr result (λ missing. (missing.held ≡ 0) × (0 < missing.drawn)
+            × (missing.drawn ≤ self.numbers)) }
     {
         let Draw { table, numbers: _ } = self;
         let closed = table.close();
@@ -179,7 +195,8 @@ impl Drawer {
     pub fn held(&self) -> u32
         ensures count { result ≡ length self.now.drawn }
         ensures distinct { NoneTwice self.now.drawn }
-        ensures below { AllBelow self.now.seen self.now.drawn × (self.now.seen ≤ self.now.source.numbers) }
+        ensures below { AllBelow self.now.seen self.now.drawn
+            × (self.now.seen ≤ self.now.source.numbers) }
     {
         self.held
     }

@@ -1,4 +1,5 @@
-//! Books that threads share: uploads are drawn, each once, and the visits to a shard's book take turns and stand in one legal history.
+//! Books that threads share: uploads are drawn, each once, and the visits to a shard's book take
+//! turns and stand in one legal history.
 #![tactic(auto)]
 
 mod drawing;

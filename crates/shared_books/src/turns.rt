@@ -1,4 +1,5 @@
-//! Turns at a shard's book: a pass takes the turn, changes the book, and gives both back with its visit.
+//! Turns at a shard's book: a pass takes the turn, changes the book, and gives both back with its
+//! visit.
 use crate::turns::answers::{Full, Missing, ReadFault, Readout, Visit};
 use crate::turns::rule::{
     Gives, Looks, Meets, Opening, Parts, Settles, Slot, Takes, TurnRule, View,
@@ -20,11 +21,13 @@ pub(crate) mod rule;
 // The word at which `2^62` visits are counted.
 const FULL: u64 = 1 << 63;
 
-// How often a waiting visit looks at the word before it sleeps. It looks no more where others sleep already.
+// How often a waiting visit looks at the word before it sleeps. It looks no more where others sleep
+// already.
 const LOOKS: u32 = 100;
 
-/// A shard's book that passes take turns at. One word is `2k` where `k` visits are counted and nobody has the turn, and `2k + 1`
-/// where a pass has it. The book lies in one slot, which is empty while a pass has the turn.
+/// A shard's book that passes take turns at. One word is `2k` where `k` visits are counted and
+/// nobody has the turn, and `2k + 1` where a pass has it. The book lies in one slot, which is empty
+/// while a pass has the turn.
 #[derive(Drop)]
 pub struct SharedBook {
     table: Table<Slot, View, Opening, TurnRule, Global>,
@@ -36,16 +39,17 @@ pub struct SharedBook {
 }
 
 impl Model for SharedBook {
-    ghost use Rattle.shared_books.specs.Passes.{Opened};
+    ghost use Rattle.shared_books.specs.Passes.{SharedBookView};
 
-    ghost Value = { Opened };
+    ghost Value = { SharedBookView };
 
     ghost use Rattle.std.specs.Prelude.{◌≡◌};
-    ghost use Rattle.shared_books.specs.Passes.{opened_of};
+    ghost use Rattle.shared_books.specs.inside.Passes.{opened_of};
 
     ghost view = { λ s. opened_of s.table.shared.table_id s.table.shared.key };
 
-    ghost invariant = { λ s. (s.table.shared.key.first ≡ s.first) × (s.table.shared.table_id.words ≡ 1) × (s.table.shared.table_id.slots ≡ 1) };
+    ghost invariant = { λ s. (s.table.shared.key.first ≡ s.first) × (s.table.shared.table_id.words ≡ 1)
+        × (s.table.shared.table_id.slots ≡ 1) };
 }
 
 /// What one worker knows of a shared book: the visits that it has seen, and those that it made.
@@ -58,23 +62,28 @@ pub struct Pass {
 }
 
 impl Model for Pass {
-    ghost use Rattle.shared_books.specs.Passes.{Knowledge};
+    ghost use Rattle.shared_books.specs.Passes.{PassView};
 
-    ghost Value = { Knowledge };
+    ghost Value = { PassView };
 
-    ghost use Rattle.shared_books.specs.Passes.{opened_of};
-    ghost use Rattle.shared_books.specs.Views.{IsPass};
+    ghost use Rattle.shared_books.specs.inside.Passes.{opened_of};
+    ghost use Rattle.shared_books.specs.inside.Views.{IsPass};
 
-    ghost view = { λ p. record { book = opened_of p.seat.table_id p.seat.me.0.opened; marks = p.seat.me.0.marks } };
+    ghost view = { λ p. record {
+      book = opened_of p.seat.table_id p.seat.me.0.opened;
+      marks = p.seat.me.0.marks;
+    } };
 
     ghost invariant = { λ p. IsPass p.held p.seat.me };
 }
 
 impl SharedBook {
-    ghost use Rattle.std.specs.Prelude.{◌≡◌, ◌+◌, ◌*◌, ◌/◌, ◌^◌, ◌≤◌, ◌<◌, ◌++◌, ◌∷◌, [], ℕ, true, false, List, length, IfSome, IfNone};
+    ghost use Rattle.std.specs.Prelude.{◌≡◌, ◌+◌, ◌*◌, ◌/◌, ◌^◌, ◌≤◌, ◌<◌, ◌++◌, ◌∷◌, [], ℕ, true};
+    ghost use Rattle.std.specs.Prelude.{false, List, length, IfSome, IfNone};
     ghost use Rattle.shard_book.specs.declared.entry.Entry.{Entry};
     ghost use Rattle.shared_books.specs.Marks.{mark, joined, visits_of};
-    ghost use Rattle.shared_books.specs.Views.{view, IsFree, GoesOn, HasSeen, HasBookOut, BringsVisit};
+    ghost use Rattle.shared_books.specs.Views.{view, HasSeen};
+    ghost use Rattle.shared_books.specs.inside.Views.{IsFree, GoesOn, HasBookOut, BringsVisit};
 
     // Loads the word.
     fn look(&self, seat: &mut Seat<Slot, View>) -> u64
@@ -93,7 +102,8 @@ impl SharedBook {
         requires even { (count : ℕ) × (found ≡ 2 * count) }
         requires few { found < 2 ^ 63 }
         ensures same { seat.new.table_id ≡ seat.old.table_id }
-        ensures taken { IfSome result (λ book. HasBookOut seat.old.me seat.new.me (found / 2) book.value) }
+        ensures taken { IfSome result
+            (λ book. HasBookOut seat.old.me seat.new.me (found / 2) book.value) }
         ensures lost { IfNone result (GoesOn seat.old.me seat.new.me) }
     {
         let before = self
@@ -112,7 +122,8 @@ impl SharedBook {
         requires own { seat.old.table_id ≡ self.now.home }
         requires free { IsFree seat.old.me }
         ensures same { seat.new.table_id ≡ seat.old.table_id }
-        ensures taken { IfSome result (λ book. HasBookOut seat.old.me seat.new.me expected book.value) }
+        ensures taken { IfSome result
+            (λ book. HasBookOut seat.old.me seat.new.me expected book.value) }
         ensures lost { IfNone result (GoesOn seat.old.me seat.new.me) }
     {
         if expected >= FULL / 2 {
@@ -126,13 +137,20 @@ impl SharedBook {
         requires own { seat.old.table_id ≡ self.now.home }
         requires brings { BringsVisit seat.old.me number book.value }
         ensures same { seat.new.table_id ≡ seat.old.table_id }
-        ensures given { (visit : List Entry) → book.value.entries ≡ joined (visits_of seat.old.me.0.marks) ++ visit → seat.new.me ≡ (view seat.old.me.0.opened false (seat.old.me.0.marks ++ mark true visit ∷ []) seat.old.me.0.met, []) }
+        ensures given { (visit : List Entry)
+            → book.value.entries ≡ joined (visits_of seat.old.me.0.marks) ++ visit
+            → seat.new.me ≡ (
+              view seat.old.me.0.opened false
+                  (seat.old.me.0.marks ++ mark true visit ∷ []) seat.old.me.0.met,
+              [],
+            ) }
     {
         match self.table.shared.exchange(seat, 0, Some(book)) {
             None => {}
             Some(_) => unreachable!(),
         }
-        // Cleared while the turn is held: later, it would lose the wake of a visit that falls asleep in between.
+        // Cleared while the turn is held: later, it would lose the wake of a visit that falls
+        // asleep in between.
         let slept = self.asleep.load(Ordering::SeqCst);
         if slept {
             self.asleep.store(false, Ordering::SeqCst);
@@ -143,7 +161,8 @@ impl SharedBook {
         }
     }
 
-    // Waits until the word is no longer the one that was found, and tells whether it slept. It may return sooner.
+    // Waits until the word is no longer the one that was found, and tells whether it slept. It may
+    // return sooner.
     fn rest<R: Wait>(&self, rt: &R, found: u64) -> bool {
         for _ in 0..LOOKS {
             if self.table.shared.peek(0) != found {
@@ -168,12 +187,13 @@ impl SharedBook {
     ghost use Rattle.shard_book.specs.Visits.{limits_of};
     ghost use Rattle.shard_book.specs.Statement.{IsStatement};
     ghost use Rattle.shared_books.specs.Marks.{joined};
-    ghost use Rattle.shared_books.specs.Passes.{new_pass, fresh_pass, seen_by, book_of, IsLater, Visits, IsFull, IsJoined, HasMadeAll, LacksVisits};
+    ghost use Rattle.shared_books.specs.Passes.{new_pass, fresh_pass, seen_by, book_of, IsLater};
+    ghost use Rattle.shared_books.specs.Passes.{Visits, IsFull, IsJoined, HasMadeAll, LacksVisits};
     ghost use Rattle.shared_books.specs.Answers.{MakesVisit, IsOpenedAs, IsReadFault};
-    ghost use Rattle.shared_books.specs.Views.{IsFree, HasBookOut, FindsFull};
+    ghost use Rattle.shared_books.specs.inside.Views.{IsFree, HasBookOut, FindsFull};
 
-    /// Shares a book that has no entries, and gives the first pass to it. Visits are numbered from `first`.
-    /// On want of memory the book is dropped.
+    /// Shares a book that has no entries, and gives the first pass to it. Visits are numbered from
+    /// `first`. On want of memory the book is dropped.
     pub fn open(alloc: Global, first: u64, book: ShardBook) -> Result<(SharedBook, Pass), NoMemory>
         requires first { first ≤ 2 ^ 62 }
         requires empty { book.entries ≡ [] }
@@ -210,8 +230,8 @@ impl SharedBook {
         ))
     }
 
-    // Takes the turn with the number of the visit and the book. Where nobody has visited since the pass did, the number is the
-    // expected one, and the word need not be looked at before.
+    // Takes the turn with the number of the visit and the book. Where nobody has visited since the
+    // pass did, the number is the expected one, and the word need not be looked at before.
     fn take<R: Wait>(
         &self,
         rt: &R,
@@ -221,7 +241,8 @@ impl SharedBook {
         requires own { seat.old.table_id ≡ self.now.home }
         requires free { IsFree seat.old.me }
         ensures same { seat.new.table_id ≡ seat.old.table_id }
-        ensures taken { IfOk result (λ taken. HasBookOut seat.old.me seat.new.me taken.0 taken.1.value) }
+        ensures taken { IfOk result
+            (λ taken. HasBookOut seat.old.me seat.new.me taken.0 taken.1.value) }
         ensures full { IfErr result (λ _. FindsFull seat.old.me seat.new.me) }
     {
         match self.try_expected(seat, expected) {
@@ -239,7 +260,8 @@ impl SharedBook {
         requires own { seat.old.table_id ≡ self.now.home }
         requires free { IsFree seat.old.me }
         ensures same { seat.new.table_id ≡ seat.old.table_id }
-        ensures taken { IfOk result (λ taken. HasBookOut seat.old.me seat.new.me taken.0 taken.1.value) }
+        ensures taken { IfOk result
+            (λ taken. HasBookOut seat.old.me seat.new.me taken.0 taken.1.value) }
         ensures full { IfErr result (λ _. FindsFull seat.old.me seat.new.me) }
     {
         let mut slept = false;
@@ -254,7 +276,8 @@ impl SharedBook {
                 slept |= self.rest(rt, found);
             } else if let Some(book) = self.try_take(seat, found) {
                 if slept && self.sleepers.load(Ordering::SeqCst) > 0 {
-                    // Others still sleep: who was woken wakes the next with the turn that it gives back.
+                    // Others still sleep: who was woken wakes the next with the turn that it gives
+                    // back.
                     self.asleep.store(true, Ordering::SeqCst);
                 }
                 return Ok((found / 2, book));
@@ -263,8 +286,8 @@ impl SharedBook {
         unreachable!()
     }
 
-    /// Waits for the turn, posts the run, and gives the turn back. The limits are made before the turn. `Full` where `2^62`
-    /// visits are counted: nothing changes then.
+    /// Waits for the turn, posts the run, and gives the turn back. The limits are made before the
+    /// turn. `Full` where `2^62` visits are counted: nothing changes then.
     pub fn visit<R: Wait>(
         &self,
         rt: &R,
@@ -279,7 +302,8 @@ impl SharedBook {
         requires ends { ends.now ≡ limits_of self.now.table (run_taps run.now) }
         requires spare { length (run_taps run.now) ≤ out.old.spare }
         ensures visit { IfOk result (MakesVisit run.now pass.old pass.new out.old out.new) }
-        ensures full { IfErr result (λ _. IsLater pass.old pass.new × IsFull pass.new × (out.new ≡ out.old)) }
+        ensures full { IfErr result (λ _. IsLater pass.old pass.new × IsFull pass.new
+            × (out.new ≡ out.old)) }
     {
         let Pass { seat, held, next } = pass;
         let (number, mut book) = self.take(rt, seat, *next)?;
@@ -290,8 +314,8 @@ impl SharedBook {
         Ok(Visit { number, how })
     }
 
-    /// Waits for the turn, makes the statement of a token over all visits so far, and gives the turn back with an empty visit.
-    /// The token of another shard has an empty statement.
+    /// Waits for the turn, makes the statement of a token over all visits so far, and gives the
+    /// turn back with an empty visit. The token of another shard has an empty statement.
     pub fn read<R: Wait>(
         &self,
         rt: &R,
@@ -300,7 +324,8 @@ impl SharedBook {
         token: &Token,
     ) -> Result<Readout, ReadFault>
         requires own { pass.old.book ≡ self.now }
-        ensures read { IfOk result (λ r. Visits pass.old pass.new r.number [] × IsStatement self.now.table (joined (seen_by pass.new)) token.now r.statement) }
+        ensures read { IfOk result (λ r. Visits pass.old pass.new r.number []
+            × IsStatement self.now.table (joined (seen_by pass.new)) token.now r.statement) }
         ensures fault { IfErr result (IsReadFault pass.old pass.new) }
     {
         let Pass { seat, held, next } = pass;
@@ -352,7 +377,8 @@ impl SharedBook {
         *held += more;
     }
 
-    /// The book, where the pass made all visits; otherwise both are dropped. A turn that was taken and not given back counts as a visit.
+    /// The book, where the pass made all visits; otherwise both are dropped. A turn that was taken
+    /// and not given back counts as a visit.
     pub fn close(self, pass: Pass) -> Result<ShardBook, Missing>
         requires own { pass.book ≡ self }
         ensures ok { IfOk result (HasMadeAll pass) }

@@ -5,7 +5,8 @@ use Rattle.std.proofs.lemmas.List.{length-take-le, length-drop, take-append-le, 
 use Rattle.std.specs.List.{AllByRecursion}
 use Rattle.tap_views.specs.Layout.{Tap, IsTap, Layout}
 use Rattle.tap_views.specs.Faults.{width}
-use Rattle.tap_views.specs.Records.{cut, taps_in, tap_at, AreRecords}
+use Rattle.tap_views.specs.inside.Records.{cut}
+use Rattle.tap_views.specs.inside.Records.{taps_in, tap_at, AreRecords}
 
 module _ (w : ℕ) (tap_of : List ℕ → Tap) where
   pub length-cut : (n : ℕ) (bytes : List ℕ) → length (cut w tap_of n bytes) ≡ n

@@ -5,10 +5,11 @@ use Rattle.std.proofs.lemmas.Slice.Eq.{bytes_eq-Decides}
 use Rattle.std.specs.Bool.{Decides}
 use Rattle.std.specs.Str.{bytes_eq}
 use Rattle.tap_views.specs.Layout.{moment_limit, Tap, IsBatch}
-use Rattle.tap_views.specs.Faults.{header, width, layout_in, count_in, flags_in, size_in, moment_in, Row, place, IsFault, AllEarly, IsMeasured}
+use Rattle.tap_views.specs.Faults.{header, width, layout_in, count_in, flags_in, size_in, moment_in, Row, place, IsFault}
+use Rattle.tap_views.specs.inside.Faults.{AllEarly, IsMeasured}
 use Rattle.tap_views.specs.declared.fault.LayoutFault.{LayoutFault}
 use Rattle.tap_views.specs.declared.fault.LayoutFault.TheVariants.{Short, Magic, Flags, TooMany, Length, Moment}
-use Rattle.tap_views.specs.Records.{taps_in}
+use Rattle.tap_views.specs.inside.Records.{taps_in}
 use Rattle.tap_views.proofs.Grammar.{found}
 
 -- ---- one fault

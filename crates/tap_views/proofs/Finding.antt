@@ -6,8 +6,9 @@ use Rattle.std.specs.Str.{bytes_eq}
 use Rattle.std.proofs.lemmas.Bool.{eqb-true, eqb-false, ltb-true, lt-ltb, le-ltb, cases_lt}
 use Rattle.std.proofs.lemmas.Slice.Eq.{bytes_eq-Decides}
 use Rattle.tap_views.specs.Layout.{moment_limit}
-use Rattle.tap_views.specs.Faults.{header, layout_in, count_in, flags_in, size_in, moment_in, Row, IsFault, AllEarly}
-use Rattle.tap_views.specs.Readings.{is_row, first_fault}
+use Rattle.tap_views.specs.Faults.{header, layout_in, count_in, flags_in, size_in, moment_in, Row, IsFault}
+use Rattle.tap_views.specs.inside.Faults.{AllEarly}
+use Rattle.tap_views.specs.inside.Readings.{is_row, first_fault}
 use Rattle.tap_views.specs.declared.fault.LayoutFault.{LayoutFault}
 use Rattle.tap_views.specs.declared.fault.LayoutFault.TheVariants.{Short, Magic, Flags, TooMany, Length, Moment}
 

@@ -4,10 +4,11 @@ use Rattle.std.proofs.Math.Nat.{mul-suc, mul-zero, mul-le-mul_left}
 use Rattle.std.proofs.lemmas.List.{length-append, length-drop, length-take-le, take_at, drop_at, take-append-drop, take-take, take_all, drop-drop, drop-take, append_assoc}
 use Rattle.std.specs.List.{AllByRecursion}
 use Rattle.tap_views.specs.Layout.{num, moment_limit, Tap, IsTap, Layout, Tap1, Tap2, IsLayout, IsTapOf, magic, shared, spelling, IsBatchIn, IsBatch}
-use Rattle.tap_views.specs.Faults.{header, width, layout_in, count_in, flags_in, size_in, AllEarly, IsHeader, IsMeasured, Row}
+use Rattle.tap_views.specs.Faults.{header, width, layout_in, count_in, flags_in, size_in, Row}
+use Rattle.tap_views.specs.inside.Faults.{AllEarly, IsHeader, IsMeasured}
 use Rattle.tap_views.specs.declared.fault.LayoutFault.{LayoutFault}
 use Rattle.tap_views.specs.declared.fault.LayoutFault.TheVariants.{Short, Magic, Flags, TooMany, Length, Moment}
-use Rattle.tap_views.specs.Records.{taps_in, tap_at, AreRecords}
+use Rattle.tap_views.specs.inside.Records.{taps_in, tap_at, AreRecords}
 use Rattle.tap_views.proofs.Cuts.{length-cut, cut-append, all-cut}
 
 -- ---- one record

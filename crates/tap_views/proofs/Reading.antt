@@ -2,11 +2,12 @@
 use Rattle.std.proofs.Common.{◌≡◌, ℕ, zero, suc, ◌+◌, ◌-◌, ◌*◌, ◌<◌, ◌≤◌, List, [], ◌∷◌, ◌++◌, length, map, drop, Ok, Err, None, refl, sym, ap, subst, ◌∙◌, inl, inr, arith}
 use Rattle.std.proofs.lemmas.List.{length-append, length-drop, drop-drop, append_cancel_right, nil_from_length}
 use Rattle.tap_views.specs.Layout.{Tap, Layout, Tap1, Tap2, magic, IsBatch}
-use Rattle.tap_views.specs.Faults.{header, width, layout_in, count_in, size_in, AllEarly, IsFault}
+use Rattle.tap_views.specs.Faults.{header, width, layout_in, count_in, size_in, IsFault}
+use Rattle.tap_views.specs.inside.Faults.{AllEarly}
 use Rattle.tap_views.specs.declared.fault.LayoutFault.{LayoutFault}
 use Rattle.tap_views.specs.Files.{HasNoBatch, IsFile, Item, IsEnd, IsReading}
 use Rattle.tap_views.proofs.Grammar.{begins, no_row}
-use Rattle.tap_views.specs.Readings.{first_fault, first_taps, items_within, items_from}
+use Rattle.tap_views.specs.inside.Readings.{first_fault, first_taps, items_within, items_from}
 use Rattle.tap_views.proofs.Finding.{first_fault-none, first_fault-some}
 use Rattle.tap_views.proofs.Deciding.{same_fault, decided, Found}
 

@@ -1,5 +1,6 @@
 -- What the encoders write, by what a reader gets back, and when they refuse.
-use Rattle.std.specs.Prelude.{◌≡◌, ℕ, ◌^◌, ◌<◌, ◌≤◌, List, length, map, take, slice_get, All, IsSomeAnd}
+use Rattle.std.specs.Prelude.{◌≡◌, ℕ, ◌^◌, ◌<◌, ◌≤◌, List, length, map, take, slice_get, All}
+use Rattle.std.specs.Prelude.{IsSomeAnd}
 use Rattle.byteorder.specs.Endian.{big_bytes}
 use Rattle.tap_views.specs.Layout.{num, moment_limit, Tap, Tap1, Tap2, IsBatchIn}
 use Rattle.tap_views.specs.declared.encoder.TapFields.{TapFields}
@@ -14,7 +15,8 @@ fields_of tap = record { token = tap.token; validator = num tap.validator; momen
 abbrev pub fields_2_of : Tap → Tap2Fields
 fields_2_of tap = record { token = tap.token; moment = num tap.moment }
 
--- the bytes are a `TAP1` batch, from which these fields are read again; as no batch begins another, whatever stands behind them
+-- the bytes are a `TAP1` batch, from which these fields are read again; as no batch begins another,
+-- whatever stands behind them
 pub record Encodes (bytes : List ℕ) (fields : List TapFields) : Type 0 where
   pub taps : List Tap
   pub batch : IsBatchIn Tap1 bytes taps
@@ -30,7 +32,8 @@ pub record Encodes2 (bytes : List ℕ) (validator : ℕ) (fields : List Tap2Fiel
 
 -- the fields of a tap that was written with the validator of its whole batch
 abbrev pub with_validator : ℕ → Tap2Fields → TapFields
-with_validator validator fields = record { token = fields.token; validator = validator; moment = fields.moment }
+with_validator validator fields =
+    record { token = fields.token; validator = validator; moment = fields.moment }
 
 module _ {Fields : Type 0} (moment : Fields → ℕ) (taps : List Fields) where
   -- every moment is below the limit
@@ -55,10 +58,20 @@ module _ {Fields : Type 0} (moment : Fields → ℕ) (taps : List Fields) where
 -- ---- what the private functions tell each other
 -- the taps that are written for these fields
 abbrev pub written : TapFields → Tap
-written fields = record { token = fields.token; validator = big_bytes 4 fields.validator; moment = big_bytes 8 fields.moment }
+written fields =
+    record {
+      token = fields.token;
+      validator = big_bytes 4 fields.validator;
+      moment = big_bytes 8 fields.moment;
+    }
 
 abbrev pub written_2 : ℕ → Tap2Fields → Tap
-written_2 validator fields = record { token = fields.token; validator = big_bytes 4 validator; moment = big_bytes 8 fields.moment }
+written_2 validator fields =
+    record {
+      token = fields.token;
+      validator = big_bytes 4 validator;
+      moment = big_bytes 8 fields.moment;
+    }
 
 -- what the types of the fields say
 pub record IsFields (fields : TapFields) : Type 0 where

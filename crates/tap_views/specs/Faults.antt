@@ -1,9 +1,12 @@
--- When bytes begin with no batch: the table of faults, and the first row of it that holds. The places are those of the two layouts.
-use Rattle.std.specs.Prelude.{◌≡◌, ◌⊎◌, ℕ, ◌+◌, ◌*◌, ◌<◌, ◌≤◌, List, length, take, drop, codes, nat_eq, if◌then◌else◌}
+-- When bytes begin with no batch: the table of faults, and the first row of it that holds. The
+-- places are those of the two layouts.
+use Rattle.std.specs.Prelude.{◌≡◌, ℕ, ◌+◌, ◌*◌, ◌<◌, ◌≤◌, List, length, take, drop, codes, nat_eq}
+use Rattle.std.specs.Prelude.{if◌then◌else◌}
 use Rattle.std.specs.List.{starts_with}
 use Rattle.tap_views.specs.Layout.{num, moment_limit, Layout, Tap1, Tap2}
 use Rattle.tap_views.specs.declared.fault.LayoutFault.{LayoutFault}
-use Rattle.tap_views.specs.declared.fault.LayoutFault.TheVariants.{Short, Magic, Flags, TooMany, Length, Moment}
+use Rattle.tap_views.specs.declared.fault.LayoutFault.TheVariants.{Short, Magic, Flags, TooMany}
+use Rattle.tap_views.specs.declared.fault.LayoutFault.TheVariants.{Length, Moment}
 
 -- bytes of the header, and of one tap
 abbrev pub header : Layout → ℕ
@@ -16,7 +19,8 @@ width (Tap2 validator) = 24
 
 -- the layout that the first bytes ask for
 abbrev pub layout_in : List ℕ → Layout
-layout_in bytes = if starts_with nat_eq bytes (codes "TAP2") then Tap2 (take 4 (drop 8 bytes)) else Tap1
+layout_in bytes =
+    if starts_with nat_eq bytes (codes "TAP2") then Tap2 (take 4 (drop 8 bytes)) else Tap1
 
 abbrev pub count_in : List ℕ → ℕ
 count_in bytes = num (take 2 (drop 4 bytes))
@@ -28,11 +32,13 @@ flags_in bytes = num (take 2 (drop 6 bytes))
 abbrev pub size_in : List ℕ → ℕ
 size_in bytes = header (layout_in bytes) + width (layout_in bytes) * count_in bytes
 
--- the moment of the tap at an index stands at the same place in both layouts: behind the header, a token and a validator
+-- the moment of the tap at an index stands at the same place in both layouts: behind the header, a
+-- token and a validator
 abbrev pub moment_in : List ℕ → ℕ → ℕ
 moment_in bytes index = num (take 8 (drop (28 + width (layout_in bytes) * index) bytes))
 
--- what each fault says of the bytes from the batch's start on; the header of `TAP2` is the longer one, so its bytes may be short where those of another magic are not
+-- what each fault says of the bytes from the batch's start on; the header of `TAP2` is the longer
+-- one, so its bytes may be short where those of another magic are not
 abbrev pub Row : LayoutFault → List ℕ → Type 0
 Row (Short have) bytes = (have ≡ length bytes) × (length bytes < header (layout_in bytes))
 Row Magic bytes = ¬ (take 4 bytes ≡ codes "TAP1") × ¬ (take 4 bytes ≡ codes "TAP2")
@@ -56,22 +62,3 @@ place (Moment index) = 6
 pub record IsFault (bytes : List ℕ) (fault : LayoutFault) : Type 0 where
   pub holds : Row fault bytes
   pub first : (other : LayoutFault) → place other < place fault → ¬ (Row other bytes)
-
--- ---- what the private functions tell each other
--- the first moments are below the limit
-abbrev pub AllEarly : List ℕ → ℕ → Type 0
-AllEarly bytes n = (index : ℕ) → index < n → moment_in bytes index < moment_limit
-
--- the header is sound and counts n taps
-pub record IsHeader (bytes : List ℕ) (n : ℕ) : Type 0 where
-  pub whole : header (layout_in bytes) ≤ length bytes
-  pub known : (take 4 bytes ≡ codes "TAP1") ⊎ (take 4 bytes ≡ codes "TAP2")
-  pub plain : flags_in bytes ≡ 0
-  pub count : n ≡ count_in bytes
-  pub most : n ≤ 4096
-
--- the bytes begin with n whole taps, and none is late
-pub record IsMeasured (bytes : List ℕ) (n : ℕ) : Type 0 where
-  pub sound : IsHeader bytes n
-  pub whole : size_in bytes ≤ length bytes
-  pub early : AllEarly bytes n

@@ -1,5 +1,7 @@
--- The batch grammar: which bytes are a batch, and of which taps. It speaks of whole texts: no offset stands here.
-use Rattle.std.specs.Prelude.{◌≡◌, ℕ, ◌+◌, ◌*◌, ◌^◌, ◌<◌, ◌≤◌, List, [], ◌∷◌, ◌++◌, length, codes, flat_map}
+-- The batch grammar: which bytes are a batch, and of which taps. It speaks of whole texts: no
+-- offset stands here.
+use Rattle.std.specs.Prelude.{◌≡◌, ℕ, ◌+◌, ◌*◌, ◌^◌, ◌<◌, ◌≤◌, List, [], ◌∷◌, ◌++◌, length, codes}
+use Rattle.std.specs.Prelude.{flat_map}
 use Rattle.std.specs.List.{AllByRecursion}
 
 -- the big-endian number of some bytes
@@ -61,7 +63,8 @@ pub record IsBatchIn (layout : Layout) (bytes : List ℕ) (taps : List Tap) : Ty
   pub most : length taps ≤ 4096
   pub fits : IsLayout layout
   pub each : AllByRecursion (IsTapOf layout) taps
-  pub spelt : bytes ≡ magic layout ++ (count ++ (0 ∷ 0 ∷ (shared layout ++ flat_map (spelling layout) taps)))
+  pub spelt : bytes ≡ magic layout
+      ++ (count ++ (0 ∷ 0 ∷ (shared layout ++ flat_map (spelling layout) taps)))
 
 -- the bytes are a batch of these taps, in one of the two layouts
 abbrev pub IsBatch : List ℕ → List Tap → Type 0

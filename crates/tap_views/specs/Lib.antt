@@ -1,8 +1,7 @@
-pub mod Layout
-pub mod Faults
-pub mod Records
-pub mod Readings
-pub mod Shards
-pub mod Files
-pub mod Encoding
 pub mod Cut
+pub mod Encoding
+pub mod Faults
+pub mod Files
+pub mod Layout
+pub mod Shards
+pub mod inside

@@ -1,11 +1,14 @@
 //! The first batch of some bytes.
 
-ghost use Rattle.std.specs.Prelude.{◌≡◌, ◌+◌, ◌*◌, ◌<◌, ◌≤◌, ◌++◌, ℕ, List, length, slice_get, Some, IfOk, IfErr, IsErrOf, MatchResult, MatchOption};
+ghost use Rattle.std.specs.Prelude.{◌≡◌, ◌+◌, ◌*◌, ◌<◌, ◌≤◌, ◌++◌, ℕ, List, length, slice_get};
+ghost use Rattle.std.specs.Prelude.{Some, IfOk, IfErr, IsErrOf, MatchResult, MatchOption};
 ghost use Rattle.tap_views.specs.Layout.{num, moment_limit, Tap, IsBatch};
 ghost use Rattle.tap_views.specs.Cut.{places_from};
-ghost use Rattle.tap_views.specs.Records.{layout_of};
+ghost use Rattle.tap_views.specs.inside.Records.{layout_of};
 ghost use Rattle.tap_views.specs.declared.fault.LayoutFault.{LayoutFault};
-ghost use Rattle.tap_views.specs.Faults.{header, width, layout_in, count_in, size_in, moment_in, IsFault, IsHeader, IsMeasured, AllEarly};
+ghost use Rattle.tap_views.specs.Faults.{header, width, layout_in, count_in, size_in, moment_in};
+ghost use Rattle.tap_views.specs.Faults.{IsFault};
+ghost use Rattle.tap_views.specs.inside.Faults.{IsHeader, IsMeasured, AllEarly};
 
 use crate::fault::LayoutFault;
 use crate::run::Run;
@@ -35,7 +38,7 @@ pub struct Batch<'a> {
 impl<'a> Model for Batch<'a> {
     ghost use Rattle.std.specs.Prelude.{List};
     ghost use Rattle.tap_views.specs.Layout.{Tap};
-    ghost use Rattle.tap_views.specs.Records.{layout_of, taps_in, AreRecords};
+    ghost use Rattle.tap_views.specs.inside.Records.{layout_of, taps_in, AreRecords};
 
     ghost Value = { List Tap };
 
@@ -48,13 +51,16 @@ impl<'a> Batch<'a> {
     /// The first batch of these bytes, and the bytes after it; else the first layout fault.
     pub fn first(bytes: &'a [u8]) -> Result<(Batch<'a>, &'a [u8]), LayoutFault>
         // What is answered is a batch that the bytes begin with, and the bytes after it.
-        ensures found { IfOk result (λ (taps, rest). (front : List ℕ) × IsBatch front taps × (bytes.now ≡ front ++ rest.now)) }
+        ensures found { IfOk result (λ (taps, rest). (front : List ℕ) × IsBatch front taps
+            × (bytes.now ≡ front ++ rest.now)) }
 
         // Where the bytes begin with a batch, that one is answered: no batch begins another.
-        ensures only { (front rest : List ℕ) (taps : List Tap) → IsBatch front taps → bytes.now ≡ front ++ rest
+        ensures only { (front rest : List ℕ) (taps : List Tap) → IsBatch front taps
+            → bytes.now ≡ front ++ rest
             → MatchResult result (λ answer. (answer.0 ≡ taps) × (answer.1.now ≡ rest)) (λ _. ⊥) }
 
-        // The fault is the first row of the table that holds, and wherever a row holds it is answered.
+        // The fault is the first row of the table that holds, and wherever a row holds it is
+        // answered.
         ensures fault { IfErr result (IsFault bytes.now) }
         ensures refused { (fault : LayoutFault) → IsFault bytes.now fault → IsErrOf result fault }
     {
@@ -187,8 +193,10 @@ fn count_of(bytes: &[u8]) -> Result<u32, LayoutFault>
 
 // The first of the batch's taps with a moment past the limit.
 fn first_late(bytes: &[u8], count: u32) -> Option<u32>
-    requires { header (layout_in bytes.now) + width (layout_in bytes.now) * count ≤ length bytes.now }
-    ensures { MatchOption result (AllEarly bytes.now count) (λ index. (index < count) × (moment_limit ≤ moment_in bytes.now index) × AllEarly bytes.now index) }
+    requires { header (layout_in bytes.now) + width (layout_in bytes.now) * count
+        ≤ length bytes.now }
+    ensures { MatchOption result (AllEarly bytes.now count) (λ index. (index < count)
+        × (moment_limit ≤ moment_in bytes.now index) × AllEarly bytes.now index) }
 {
     let width = width_in(bytes);
     for i in 0..count {

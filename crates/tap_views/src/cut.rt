@@ -1,6 +1,7 @@
 //! The cut of a batch into its shards: one pass over the batch for all of them.
 
-ghost use Rattle.std.specs.Prelude.{◌≡◌, ◌+◌, ◌<◌, ◌≤◌, ◌++◌, ◌∷◌, [], ℕ, length, slice_index_or, IfOk};
+ghost use Rattle.std.specs.Prelude.{◌≡◌, ◌+◌, ◌<◌, ◌≤◌, ◌++◌, ◌∷◌, [], ℕ, length, slice_index_or};
+ghost use Rattle.std.specs.Prelude.{IfOk};
 ghost use Rattle.tap_views.specs.Cut.{IsCut};
 
 use crate::batch::Batch;
@@ -57,7 +58,8 @@ impl Places {
 
 // Empties all lists.
 fn clear_all(lists: &mut [Places])
-    ensures empty { (shard : ℕ) → shard < length lists.new → slice_index_or lists.new shard [] ≡ [] }
+    ensures empty { (shard : ℕ) → shard < length lists.new
+        → slice_index_or lists.new shard [] ≡ [] }
     ensures number { length lists.new ≡ length lists.old }
 {
     for places in lists.iter_mut() {
@@ -69,7 +71,8 @@ fn clear_all(lists: &mut [Places])
 fn sort_in(lists: &mut [Places], batch: &Batch<'_>)
     requires least { 1 ≤ length lists.old }
     requires most { length lists.old ≤ 64 }
-    requires empty { (shard : ℕ) → shard < length lists.old → slice_index_or lists.old shard [] ≡ [] }
+    requires empty { (shard : ℕ) → shard < length lists.old
+        → slice_index_or lists.old shard [] ≡ [] }
     ensures cut { IsCut batch.now lists.new }
     ensures number { length lists.new ≡ length lists.old }
 {
@@ -86,9 +89,9 @@ fn sort_in(lists: &mut [Places], batch: &Batch<'_>)
 
 /// The places of a batch's taps, shard by shard, found by one pass over the batch.
 ///
-/// Where all runs of a batch are wanted, `Batch::run_of` passes over the batch once a shard and use; a cut passes over
-/// it once for all of them. A worker keeps one cut, with room for any batch (8 KiB a shard), and fills it anew for
-/// each batch; what an earlier batch left is gone.
+/// Where all runs of a batch are wanted, `Batch::run_of` passes over the batch once a shard and
+/// use; a cut passes over it once for all of them. A worker keeps one cut, with room for any batch
+/// (8 KiB a shard), and fills it anew for each batch; what an earlier batch left is gone.
 #[derive(Drop)]
 pub struct Cut {
     lists: Vec<Places>,
@@ -105,7 +108,8 @@ impl Model for Cut {
 }
 
 impl Cut {
-    /// An empty cut into 1 to 64 shards, with room for any batch. It fails only where that memory is refused.
+    /// An empty cut into 1 to 64 shards, with room for any batch. It fails only where that memory
+    /// is refused.
     pub fn new(alloc: Global, shards: u32) -> Result<Self, AllocError>
         requires least { 1 ≤ shards }
         requires most { shards ≤ 64 }
@@ -127,8 +131,8 @@ impl Cut {
         sort_in(&mut self.lists, batch);
     }
 
-    /// The taps of one shard, as `run_of` gives them, of the batch that was cut last. The run knows its places: its
-    /// length takes no pass, and its taps none but over themselves.
+    /// The taps of one shard, as `run_of` gives them, of the batch that was cut last. The run knows
+    /// its places: its length takes no pass, and its taps none but over themselves.
     pub fn run<'b>(&'b self, batch: &'b Batch<'_>, shard: u32) -> Run<'b>
         requires cut { IsCut batch.now self.now }
         requires below { shard < length self.now }

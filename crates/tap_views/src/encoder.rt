@@ -1,9 +1,11 @@
 //! Batches written from their fields.
 
-ghost use Rattle.std.specs.Prelude.{◌≡◌, ◌≤◌, ◌++◌, ◌∷◌, [], ℕ, length, All, IfOk, IfErr, OnOk, flat_map};
+ghost use Rattle.std.specs.Prelude.{◌≡◌, ◌≤◌, ◌++◌, ◌∷◌, [], ℕ, length, All, IfOk, IfErr, OnOk};
+ghost use Rattle.std.specs.Prelude.{flat_map};
 ghost use Rattle.byteorder.specs.Endian.{big_bytes};
 ghost use Rattle.tap_views.specs.Layout.{magic, Tap1, Tap2, spelling};
-ghost use Rattle.tap_views.specs.Encoding.{Encodes, Encodes2, AreEncodable, IsRefused, IsFields, IsFields2, written, written_2};
+ghost use Rattle.tap_views.specs.Encoding.{Encodes, Encodes2, AreEncodable, IsRefused, IsFields};
+ghost use Rattle.tap_views.specs.Encoding.{IsFields2, written, written_2};
 
 use crate::batch::{LIMIT, MOST};
 use std::alloc::{AllocError, Global};
@@ -57,8 +59,8 @@ impl From<AllocError> for EncodeFault {
     }
 }
 
-/// The `TAP1` batch of these taps. With any bytes behind it, `Batch::first` reads these taps again and leaves those
-/// bytes: `laws::round_trip`.
+/// The `TAP1` batch of these taps. With any bytes behind it, `Batch::first` reads these taps again
+/// and leaves those bytes: `laws::round_trip`.
 pub fn encode(alloc: Global, taps: &[TapFields]) -> Result<Vec<u8>, EncodeFault>
     ensures batch { IfOk result (λ bytes. Encodes bytes.items taps.now) }
     ensures sound { OnOk result (AreEncodable (λ tap. tap.moment) taps.now) }
@@ -68,8 +70,8 @@ pub fn encode(alloc: Global, taps: &[TapFields]) -> Result<Vec<u8>, EncodeFault>
     Ok(write(alloc, taps)?)
 }
 
-/// The `TAP2` batch of these taps, which share this validator. With any bytes behind it, `Batch::first` reads these
-/// taps again and leaves those bytes: `laws::round_trip`.
+/// The `TAP2` batch of these taps, which share this validator. With any bytes behind it,
+/// `Batch::first` reads these taps again and leaves those bytes: `laws::round_trip`.
 pub fn encode_tap2(
     alloc: Global,
     validator: u32,
@@ -127,7 +129,9 @@ fn check<T: Timed>(taps: &[T]) -> Result<(), EncodeFault>
 fn write(alloc: Global, taps: &[TapFields]) -> Result<Vec<u8>, AllocError>
     requires { length taps.now ≤ 4096 }
     ensures fields { OnOk result (All IsFields taps.now) }
-    ensures bytes { IfOk result (λ bytes. bytes.items ≡ (magic Tap1 ++ big_bytes 2 (length taps.now) ++ 0 ∷ 0 ∷ []) ++ flat_map (λ tap. spelling Tap1 (written tap)) taps.now) }
+    ensures bytes { IfOk result
+        (λ bytes. bytes.items ≡ (magic Tap1 ++ big_bytes 2 (length taps.now) ++ 0 ∷ 0 ∷ [])
+        ++ flat_map (λ tap. spelling Tap1 (written tap)) taps.now) }
 {
     let mut bytes = Vec::with_capacity(alloc, 8 + 28 * taps.len())?;
     bytes.extend_from_slice(b"TAP1")?;
@@ -141,7 +145,8 @@ fn write(alloc: Global, taps: &[TapFields]) -> Result<Vec<u8>, AllocError>
 
 // Adds one tap with its validator.
 fn put_tap(bytes: &mut Vec<u8>, tap: &TapFields) -> Result<(), AllocError>
-    ensures bytes { OnOk result (bytes.new.items ≡ bytes.old.items ++ spelling Tap1 (written tap.now)) }
+    ensures bytes { OnOk result
+        (bytes.new.items ≡ bytes.old.items ++ spelling Tap1 (written tap.now)) }
     ensures fields { OnOk result (IsFields tap.now) }
 {
     bytes.extend_from_slice(&tap.token)?;
@@ -154,7 +159,10 @@ fn put_tap(bytes: &mut Vec<u8>, tap: &TapFields) -> Result<(), AllocError>
 fn write_tap2(alloc: Global, validator: u32, taps: &[Tap2Fields]) -> Result<Vec<u8>, AllocError>
     requires { length taps.now ≤ 4096 }
     ensures fields { OnOk result (All IsFields2 taps.now) }
-    ensures bytes { IfOk result (λ bytes. bytes.items ≡ (magic (Tap2 []) ++ big_bytes 2 (length taps.now) ++ 0 ∷ 0 ∷ [] ++ big_bytes 4 validator) ++ flat_map (λ tap. spelling (Tap2 []) (written_2 validator tap)) taps.now) }
+    ensures bytes { IfOk result
+        (λ bytes. bytes.items ≡ (magic (Tap2 []) ++ big_bytes 2 (length taps.now) ++ 0 ∷ 0 ∷ []
+        ++ big_bytes 4 validator)
+        ++ flat_map (λ tap. spelling (Tap2 []) (written_2 validator tap)) taps.now) }
 {
     let mut bytes = Vec::with_capacity(alloc, 12 + 24 * taps.len())?;
     bytes.extend_from_slice(b"TAP2")?;
@@ -169,7 +177,8 @@ fn write_tap2(alloc: Global, validator: u32, taps: &[Tap2Fields]) -> Result<Vec<
 
 // Adds one tap without its validator.
 fn put_tap2(bytes: &mut Vec<u8>, bare: &Tap2Fields) -> Result<(), AllocError>
-    ensures bytes { OnOk result ((validator : ℕ) → bytes.new.items ≡ bytes.old.items ++ spelling (Tap2 []) (written_2 validator bare.now)) }
+    ensures bytes { OnOk result ((validator : ℕ)
+        → bytes.new.items ≡ bytes.old.items ++ spelling (Tap2 []) (written_2 validator bare.now)) }
     ensures fields { OnOk result (IsFields2 bare.now) }
 {
     bytes.extend_from_slice(&bare.token)?;

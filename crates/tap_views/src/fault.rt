@@ -2,8 +2,8 @@
 
 use thiserror::Error;
 
-/// Why bytes do not begin with a batch: the first of these that holds, in this order. Lengths are in
-/// bytes, from the batch's start on.
+/// Why bytes do not begin with a batch: the first of these that holds, in this order. Lengths are
+/// in bytes, from the batch's start on.
 #[derive(Clone, Copy, Debug, PartialEq, Eq, Error)]
 pub enum LayoutFault {
     /// The header is not whole: 8 bytes, or 12 after `TAP2`.

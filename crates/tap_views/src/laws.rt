@@ -1,5 +1,5 @@
-//! What the grammar promises whoever reads bytes by it. Each law is the contract of a function, which
-//! does nothing at run time, `round_trip` apart; call it where a proof needs its law.
+//! What the grammar promises whoever reads bytes by it. Each law is the contract of a function,
+//! which does nothing at run time, `round_trip` apart; call it where a proof needs its law.
 
 ghost use Rattle.std.specs.Prelude.{◌≡◌, ◌++◌, ℕ, List, map, MatchResult};
 ghost use Rattle.tap_views.specs.Layout.{Tap, IsBatch};
@@ -15,28 +15,37 @@ use crate::fault::LayoutFault;
 
 /// Bytes begin with at most one batch, so that no batch is the beginning of another.
 pub fn one_batch(bytes: &[u8])
-    ensures { (front front' rest rest' : List ℕ) (taps taps' : List Tap) → IsBatch front taps → bytes.now ≡ front ++ rest
-        → IsBatch front' taps' → bytes.now ≡ front' ++ rest' → (taps ≡ taps') × (rest ≡ rest') × (front ≡ front') }
+    ensures { (front front' rest rest' : List ℕ) (taps taps' : List Tap) → IsBatch front taps
+        → bytes.now ≡ front ++ rest → IsBatch front' taps' → bytes.now ≡ front' ++ rest'
+        → (taps ≡ taps') × (rest ≡ rest') × (front ≡ front') }
 {}
 
 /// Bytes have at most one first fault.
 pub fn one_fault(bytes: &[u8])
-    ensures { (fault fault' : LayoutFault) → IsFault bytes.now fault → IsFault bytes.now fault' → fault ≡ fault' }
+    ensures { (fault fault' : LayoutFault) → IsFault bytes.now fault → IsFault bytes.now fault'
+        → fault ≡ fault' }
 {}
 
 /// A file has at most one cut into batches and a rest that begins with none.
 pub fn one_cut(file: &[u8])
-    ensures { (batches batches' : List (List Tap)) (rest rest' : List ℕ) → IsFile file.now batches rest → IsFile file.now batches' rest'
-        → (batches ≡ batches') × (rest ≡ rest') }
+    ensures { (batches batches' : List (List Tap)) (rest rest' : List ℕ)
+        → IsFile file.now batches rest → IsFile file.now batches' rest' → (batches ≡ batches')
+        × (rest ≡ rest') }
 {}
 
-/// The round trip: of the bytes that `encode` or `encode_tap2` gave for some taps, and any bytes behind them, the first
-/// batch is these taps, and the bytes left are those behind them. It is `Batch::first`, told of encoded bytes.
+/// The round trip: of the bytes that `encode` or `encode_tap2` gave for some taps, and any bytes
+/// behind them, the first batch is these taps, and the bytes left are those behind them. It is
+/// `Batch::first`, told of encoded bytes.
 pub fn round_trip<'a>(bytes: &'a [u8]) -> Result<(Batch<'a>, &'a [u8]), LayoutFault>
-    ensures tap1 { (encoded behind : List ℕ) (taps : List TapFields) → Encodes encoded taps → bytes.now ≡ encoded ++ behind
-        → MatchResult result (λ (batch, rest). (map fields_of batch ≡ taps) × (rest.now ≡ behind)) (λ _. ⊥) }
-    ensures tap2 { (encoded behind : List ℕ) (validator : ℕ) (taps : List Tap2Fields) → Encodes2 encoded validator taps → bytes.now ≡ encoded ++ behind
-        → MatchResult result (λ (batch, rest). (map fields_of batch ≡ map (with_validator validator) taps) × (rest.now ≡ behind)) (λ _. ⊥) }
+    ensures tap1 { (encoded behind : List ℕ) (taps : List TapFields) → Encodes encoded taps
+        → bytes.now ≡ encoded ++ behind
+        → MatchResult result (λ (batch, rest). (map fields_of batch ≡ taps)
+        × (rest.now ≡ behind)) (λ _. ⊥) }
+    ensures tap2 { (encoded behind : List ℕ) (validator : ℕ) (taps : List Tap2Fields)
+        → Encodes2 encoded validator taps → bytes.now ≡ encoded ++ behind
+        → MatchResult result (λ (batch, rest).
+        (map fields_of batch ≡ map (with_validator validator) taps)
+        × (rest.now ≡ behind)) (λ _. ⊥) }
 {
     Batch::first(bytes)
 }

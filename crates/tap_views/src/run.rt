@@ -10,8 +10,8 @@ use crate::taps::Taps;
 use crate::view::TapView;
 use std::marker::Model;
 
-/// The taps of one shard of a batch, in the batch's order. It takes no memory: a run of `run_of` passes
-/// over the batch anew at each call, and one of a `Cut` over its own taps alone.
+/// The taps of one shard of a batch, in the batch's order. It takes no memory: a run of `run_of`
+/// passes over the batch anew at each call, and one of a `Cut` over its own taps alone.
 #[derive(Drop)]
 pub struct Run<'a> {
     pub(crate) shared: Option<&'a [u8]>,
@@ -24,16 +24,23 @@ pub struct Run<'a> {
 
 impl<'a> Model for Run<'a> {
     ghost use Rattle.std.specs.Prelude.{◌<◌, ◌≤◌};
-    ghost use Rattle.tap_views.specs.Records.{layout_of, taps_in, AreRecords};
+    ghost use Rattle.tap_views.specs.inside.Records.{layout_of, taps_in, AreRecords};
     ghost use Rattle.tap_views.specs.Shards.{ShardRun};
-    ghost use Rattle.tap_views.specs.Cut.{AreKept, places_from};
+    ghost use Rattle.tap_views.specs.Cut.{places_from};
+    ghost use Rattle.tap_views.specs.inside.Cut.{AreKept};
 
     ghost Value = { ShardRun };
 
-    ghost view = { λ run. record { batch = taps_in (layout_of run.shared) run.count run.records.now; shard = run.shard; shards = run.shards } };
+    ghost view = { λ run. record {
+      batch = taps_in (layout_of run.shared) run.count run.records.now;
+      shard = run.shard;
+      shards = run.shards;
+    } };
 
-    ghost invariant = { λ run. AreRecords (layout_of run.shared) run.count run.records.now × (run.shard < run.shards) × (run.shards ≤ 64)
-        × AreKept run.places (places_from run.shard run.shards 0 (taps_in (layout_of run.shared) run.count run.records.now)) };
+    ghost invariant = { λ run. AreRecords (layout_of run.shared) run.count run.records.now
+        × (run.shard < run.shards) × (run.shards ≤ 64)
+        × AreKept run.places (places_from run.shard run.shards 0
+        (taps_in (layout_of run.shared) run.count run.records.now)) };
 }
 
 impl<'a> Run<'a> {
@@ -48,7 +55,8 @@ impl<'a> Run<'a> {
         }
     }
 
-    /// Whether there are no taps. It passes over the batch up to the first one where their places are not known.
+    /// Whether there are no taps. It passes over the batch up to the first one where their places
+    /// are not known.
     #[inline(always)]
     pub fn is_empty(&self) -> bool
         ensures { IsTrue result ↔ (run_taps self.now ≡ []) }
@@ -104,13 +112,14 @@ pub struct RunTaps<'a> {
 impl<'a> Model for RunTaps<'a> {
     ghost use Rattle.std.specs.Prelude.{List, ◌<◌, ◌≤◌, length};
     ghost use Rattle.tap_views.specs.Layout.{Tap};
-    ghost use Rattle.tap_views.specs.Cut.{left_of, AreBelow};
+    ghost use Rattle.tap_views.specs.inside.Cut.{left_of, AreBelow};
 
     ghost Value = { List Tap };
 
     ghost view = { λ left. left_of left.places left.shard left.shards left.taps };
 
-    ghost invariant = { λ left. (left.shard < left.shards) × (left.shards ≤ 64) × AreBelow left.places (length left.taps) };
+    ghost invariant = { λ left. (left.shard < left.shards) × (left.shards ≤ 64)
+        × AreBelow left.places (length left.taps) };
 }
 
 impl<'a> Iterator for RunTaps<'a> {

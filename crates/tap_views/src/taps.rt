@@ -3,7 +3,7 @@
 ghost use Rattle.std.specs.Iterator.{YieldsFirst, YieldsLast, item_count};
 ghost use Rattle.std.specs.Prelude.{◌≡◌, ◌+◌, ◌*◌, ◌<◌, ◌≤◌, length, take, drop, slice_get, Some};
 ghost use Rattle.tap_views.specs.Faults.{width};
-ghost use Rattle.tap_views.specs.Records.{layout_of};
+ghost use Rattle.tap_views.specs.inside.Records.{layout_of};
 
 use crate::view::TapView;
 use std::marker::Model;
@@ -19,7 +19,7 @@ pub struct Taps<'a> {
 impl<'a> Model for Taps<'a> {
     ghost use Rattle.std.specs.Prelude.{List};
     ghost use Rattle.tap_views.specs.Layout.{Tap};
-    ghost use Rattle.tap_views.specs.Records.{layout_of, taps_in, AreRecords};
+    ghost use Rattle.tap_views.specs.inside.Records.{layout_of, taps_in, AreRecords};
 
     ghost Value = { List Tap };
 

@@ -3,7 +3,7 @@
 ghost use Rattle.std.specs.Prelude.{◌≡◌, ◌<◌, length};
 ghost use Rattle.tap_views.specs.Layout.{num, moment_limit, IsTap};
 ghost use Rattle.tap_views.specs.Faults.{width};
-ghost use Rattle.tap_views.specs.Records.{layout_of, tap_at};
+ghost use Rattle.tap_views.specs.inside.Records.{layout_of, tap_at};
 
 use byteorder::{BigEndian, ByteOrder};
 use std::marker::Model;
@@ -21,9 +21,17 @@ impl<'a> Model for TapView<'a> {
 
     ghost Value = { Tap };
 
-    ghost view = { λ tap. record { token = tap.token.now; validator = tap.validator.now; moment = tap.moment.now } };
+    ghost view = { λ tap. record {
+      token = tap.token.now;
+      validator = tap.validator.now;
+      moment = tap.moment.now;
+    } };
 
-    ghost invariant = { λ tap. IsTap (record { token = tap.token.now; validator = tap.validator.now; moment = tap.moment.now }) };
+    ghost invariant = { λ tap. IsTap (record {
+      token = tap.token.now;
+      validator = tap.validator.now;
+      moment = tap.moment.now;
+    }) };
 }
 
 impl<'a> TapView<'a> {

@@ -4,7 +4,7 @@ ghost use Rattle.std.specs.Prelude.{◌≡◌, ◌<◌, List, length, option_map
 ghost use Rattle.std.specs.Option.{ForSome};
 ghost use Rattle.fare_table.specs.Until.{until};
 ghost use Rattle.account_rule.specs.declared.tap.TapIn.{TapIn};
-ghost use Rattle.account_rule.specs.Kept.{window_at};
+ghost use Rattle.account_rule.specs.inside.Kept.{window_at};
 ghost use Rattle.account_rule.specs.Reasons.{given_by, reason};
 ghost use Rattle.account_rule.specs.Rules.{rules_of};
 ghost use Rattle.account_rule.specs.Stands.{Stands, StandsForSome};
@@ -61,7 +61,7 @@ impl Account {
     }
 
     /// The window to which a ride at the moment belongs, without that ride.
-    #[tactic(auto, unfolding(crate::specs::Kept::window_at))]
+    #[tactic(auto, unfolding(crate::specs::inside::Kept::window_at))]
     fn window_at(&self, moment: u64, until: u64) -> Window
         ensures { result ≡ window_at (Some self.now.window) moment until }
     {

@@ -40,7 +40,8 @@ pub(crate) fn tap_of(
 ) -> Result<TapIn, NoMemory>
     requires clock { clock.now ≡ table.now.zone }
     requires moment { moment < 4_102_444_800_000 }
-    ensures mode { IfOk result (λ tap. ForSome tap.mode (λ mode. mode.place < length table.now.rules.modes)) }
+    ensures mode { IfOk result
+        (λ tap. ForSome tap.mode (λ mode. mode.place < length table.now.rules.modes)) }
     ensures until { IfOk result (λ tap. tap.until ≡ until table.now tap.moment) }
 {
     let until = clock.until(moment)?;

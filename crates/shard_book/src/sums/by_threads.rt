@@ -1,10 +1,11 @@
 //! Tallies of the entries of several books, which threads make side by side.
 
-ghost use Rattle.std.specs.Prelude.{◌≡◌, ◌+◌, ◌*◌, ◌≤◌, ◌^◌, ◌==◌, List, ◌++◌, Some, cond, length, IfOk, OnOk};
+ghost use Rattle.std.specs.Prelude.{◌≡◌, ◌+◌, ◌*◌, ◌≤◌, ◌^◌, ◌==◌, List, ◌++◌, Some, cond, length};
+ghost use Rattle.std.specs.Prelude.{IfOk, OnOk};
 ghost use Rattle.std.specs.HashMap.{get};
 ghost use Rattle.shard_book.specs.declared.entry.Entry.{Entry};
 ghost use Rattle.shard_book.specs.declared.sums.tally.Tally.{Tally};
-ghost use Rattle.shard_book.specs.Grouping.{HaveRoom, IsGrouped, kept_sums};
+ghost use Rattle.shard_book.specs.inside.Grouping.{HaveRoom, IsGrouped, kept_sums};
 ghost use Rattle.shard_book.specs.Groups.{all_entries, validator_of};
 ghost use Rattle.shard_book.specs.Sums.{add_sums};
 ghost use Rattle.shard_book.specs.Tally.{sums_of_tally};
@@ -20,7 +21,8 @@ use std::marker::Sync;
 use std::thread;
 use std::thread::Threads;
 
-/// From how many entries on threads share the work: with fewer, to start them takes longer than they spare.
+/// From how many entries on threads share the work: with fewer, to start them takes longer than
+/// they spare.
 const WORTH_THREADS: u64 = 65_536;
 
 /// Adds one tally to that of its key.
@@ -29,10 +31,13 @@ fn add_tally<K: GroupKey>(
     key: K,
     tally: &Tally,
 ) -> Result<(), NoMemory>
-    requires { (kept_sums (get K.eq tallies.old key)).taps + (sums_of_tally tally.now).taps ≤ 2 ^ 95 }
+    requires { (kept_sums (get K.eq tallies.old key)).taps + (sums_of_tally tally.now).taps
+        ≤ 2 ^ 95 }
     ensures { OnOk result ((sum : Tally)
-        × (sums_of_tally sum ≡ add_sums (kept_sums (get K.eq tallies.old key)) (sums_of_tally tally.now))
-        × ((other : K) → get K.eq tallies.new other ≡ cond (K.eq key other) (Some sum) (get K.eq tallies.old other))) }
+        × (sums_of_tally sum ≡ add_sums (kept_sums (get K.eq tallies.old key))
+        (sums_of_tally tally.now))
+        × ((other : K) → get K.eq tallies.new other
+        ≡ cond (K.eq key other) (Some sum) (get K.eq tallies.old other))) }
 {
     let kept = tallies.entry(key)?.or_insert(Tally::new());
     kept.add_all(tally);
@@ -45,8 +50,10 @@ fn add_tallies<K: GroupKey>(
     more: &HashMap<K, Tally, TokenKeys>,
 ) -> Result<(), NoMemory>
     requires { HaveRoom K.eq K.key_of tallies.old.entries more.now.entries }
-    ensures { OnOk result ((before after : List Entry) → IsGrouped K.eq K.key_of before tallies.old.entries
-        → IsGrouped K.eq K.key_of after more.now.entries → IsGrouped K.eq K.key_of (before ++ after) tallies.new.entries) }
+    ensures { OnOk result ((before after : List Entry)
+        → IsGrouped K.eq K.key_of before tallies.old.entries
+        → IsGrouped K.eq K.key_of after more.now.entries
+        → IsGrouped K.eq K.key_of (before ++ after) tallies.new.entries) }
 {
     for (key, tally) in more.iter() {
         add_tally(tallies, *key, tally)?;
@@ -54,7 +61,8 @@ fn add_tallies<K: GroupKey>(
     Ok(())
 }
 
-/// The tallies of all entries of the books by their validators, half of the books by a thread of their own.
+/// The tallies of all entries of the books by their validators, half of the books by a thread of
+/// their own.
 fn tallies_by_two<R: Threads + Sync>(
     rt: &R,
     alloc: Global,
@@ -62,7 +70,8 @@ fn tallies_by_two<R: Threads + Sync>(
     books: &[ShardBook],
 ) -> Result<HashMap<u32, Tally, TokenKeys>, NoMemory>
     requires { length books.now ≤ 64 }
-    ensures grouped { IfOk result (λ tallies. IsGrouped ◌==◌ validator_of (all_entries books.now) tallies.entries) }
+    ensures grouped { IfOk result
+        (λ tallies. IsGrouped ◌==◌ validator_of (all_entries books.now) tallies.entries) }
     ensures few { OnOk result (length (all_entries books.now) ≤ length books.now * 2 ^ 64) }
 {
     let (front, back) = books.split_at(books.len() / 2);
@@ -70,13 +79,19 @@ fn tallies_by_two<R: Threads + Sync>(
         rt,
         move || -> Result<HashMap<u32, Tally, TokenKeys>, NoMemory>
             requires { length front.now ≤ 64 }
-            ensures grouped { IfOk result (λ tallies. IsGrouped ◌==◌ validator_of (all_entries front.entry.now) tallies.entries) }
-            ensures few { OnOk result (length (all_entries front.entry.now) ≤ length front.entry.now * 2 ^ 64) }
+            ensures grouped { IfOk result
+                (λ tallies. IsGrouped ◌==◌ validator_of
+                (all_entries front.entry.now) tallies.entries) }
+            ensures few { OnOk result
+                (length (all_entries front.entry.now) ≤ length front.entry.now * 2 ^ 64) }
         { tallies_of::<u32>(alloc, keys, front) },
         move || -> Result<HashMap<u32, Tally, TokenKeys>, NoMemory>
             requires { length back.now ≤ 64 }
-            ensures grouped { IfOk result (λ tallies. IsGrouped ◌==◌ validator_of (all_entries back.entry.now) tallies.entries) }
-            ensures few { OnOk result (length (all_entries back.entry.now) ≤ length back.entry.now * 2 ^ 64) }
+            ensures grouped { IfOk result
+                (λ tallies. IsGrouped ◌==◌ validator_of
+                (all_entries back.entry.now) tallies.entries) }
+            ensures few { OnOk result
+                (length (all_entries back.entry.now) ≤ length back.entry.now * 2 ^ 64) }
         { tallies_of::<u32>(alloc, keys, back) },
     );
     let mut tallies = tallies?;
@@ -93,7 +108,8 @@ fn tallies_by_four<R: Threads + Sync>(
     books: &[ShardBook],
 ) -> Result<HashMap<u32, Tally, TokenKeys>, NoMemory>
     requires { length books.now ≤ 64 }
-    ensures grouped { IfOk result (λ tallies. IsGrouped ◌==◌ validator_of (all_entries books.now) tallies.entries) }
+    ensures grouped { IfOk result
+        (λ tallies. IsGrouped ◌==◌ validator_of (all_entries books.now) tallies.entries) }
     ensures few { OnOk result (length (all_entries books.now) ≤ length books.now * 2 ^ 64) }
 {
     let (front, back) = books.split_at(books.len() / 2);
@@ -101,13 +117,19 @@ fn tallies_by_four<R: Threads + Sync>(
         rt,
         move || -> Result<HashMap<u32, Tally, TokenKeys>, NoMemory>
             requires { length front.now ≤ 64 }
-            ensures grouped { IfOk result (λ tallies. IsGrouped ◌==◌ validator_of (all_entries front.entry.now) tallies.entries) }
-            ensures few { OnOk result (length (all_entries front.entry.now) ≤ length front.entry.now * 2 ^ 64) }
+            ensures grouped { IfOk result
+                (λ tallies. IsGrouped ◌==◌ validator_of
+                (all_entries front.entry.now) tallies.entries) }
+            ensures few { OnOk result
+                (length (all_entries front.entry.now) ≤ length front.entry.now * 2 ^ 64) }
         { tallies_by_two(rt, alloc, keys, front) },
         move || -> Result<HashMap<u32, Tally, TokenKeys>, NoMemory>
             requires { length back.now ≤ 64 }
-            ensures grouped { IfOk result (λ tallies. IsGrouped ◌==◌ validator_of (all_entries back.entry.now) tallies.entries) }
-            ensures few { OnOk result (length (all_entries back.entry.now) ≤ length back.entry.now * 2 ^ 64) }
+            ensures grouped { IfOk result
+                (λ tallies. IsGrouped ◌==◌ validator_of
+                (all_entries back.entry.now) tallies.entries) }
+            ensures few { OnOk result
+                (length (all_entries back.entry.now) ≤ length back.entry.now * 2 ^ 64) }
         { tallies_by_two(rt, alloc, keys, back) },
     );
     let mut tallies = tallies?;
@@ -125,7 +147,8 @@ fn are_worth_threads(books: &[ShardBook]) -> bool {
     entries >= WORTH_THREADS
 }
 
-/// The tallies of all entries of the books by their validators. Of many entries, threads go over a quarter of the books each.
+/// The tallies of all entries of the books by their validators. Of many entries, threads go over a
+/// quarter of the books each.
 pub(crate) fn tallies_by_validator<R: Threads + Sync>(
     rt: &R,
     alloc: Global,
@@ -133,7 +156,8 @@ pub(crate) fn tallies_by_validator<R: Threads + Sync>(
     books: &[ShardBook],
 ) -> Result<HashMap<u32, Tally, TokenKeys>, NoMemory>
     requires { length books.now ≤ 64 }
-    ensures grouped { IfOk result (λ tallies. IsGrouped ◌==◌ validator_of (all_entries books.now) tallies.entries) }
+    ensures grouped { IfOk result
+        (λ tallies. IsGrouped ◌==◌ validator_of (all_entries books.now) tallies.entries) }
     ensures few { OnOk result (length (all_entries books.now) ≤ length books.now * 2 ^ 64) }
 {
     if are_worth_threads(books) {

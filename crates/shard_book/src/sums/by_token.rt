@@ -3,7 +3,7 @@
 ghost use Rattle.std.specs.Prelude.{◌≡◌, length, map, IfOk, IfSome};
 ghost use Rattle.std.specs.List.Sorted.{IsPermutation, IsSorted};
 ghost use Rattle.std.specs.Map.{keys_of};
-ghost use Rattle.shard_book.specs.Counting.{AreSummed};
+ghost use Rattle.shard_book.specs.inside.Counting.{AreSummed};
 ghost use Rattle.shard_book.specs.Counts.{token_counts};
 ghost use Rattle.shard_book.specs.Groups.{all_entries, sums_by_token};
 ghost use Rattle.shard_book.specs.Token.{token_cmp};
@@ -13,10 +13,12 @@ use crate::sums::counts::TokenCounts;
 use fare_table::NoMemory;
 use std::alloc::Global;
 
-/// The tokens of the books, in no order, each with its counts. `None` where a book does not keep them, and where
-/// two books may share a token: those of rising shards, of one number of shards, share none.
+/// The tokens of the books, in no order, each with its counts. `None` where a book does not keep
+/// them, and where two books may share a token: those of rising shards, of one number of shards,
+/// share none.
 fn collected(alloc: Global, books: &[ShardBook]) -> Result<Option<Vec<TokenCounts>>, NoMemory>
-    ensures { IfOk result (λ found. IfSome found (λ list. AreSummed (all_entries books.now) (map token_counts list.items))) }
+    ensures { IfOk result (λ found.
+        IfSome found (λ list. AreSummed (all_entries books.now) (map token_counts list.items))) }
 {
     let mut list = Vec::new(alloc);
     let Some(first) = books.first() else {
@@ -39,18 +41,22 @@ fn collected(alloc: Global, books: &[ShardBook]) -> Result<Option<Vec<TokenCount
 
 /// Sorts by token.
 fn sort(list: &mut Vec<TokenCounts>)
-    ensures permutation { IsPermutation (map token_counts list.old.items) (map token_counts list.new.items) }
+    ensures permutation { IsPermutation (map token_counts list.old.items)
+        (map token_counts list.new.items) }
     ensures sorted { IsSorted token_cmp (keys_of (map token_counts list.new.items)) }
 {
     list.sort_unstable_by_key(|counts| counts.token);
 }
 
-/// The tokens of the books, rising, each with its counts. `None` where the books' counts do not tell it.
+/// The tokens of the books, rising, each with its counts. `None` where the books' counts do not
+/// tell it.
 pub(crate) fn rising_counts(
     alloc: Global,
     books: &[ShardBook],
 ) -> Result<Option<Vec<TokenCounts>>, NoMemory>
-    ensures { IfOk result (λ found. IfSome found (λ list. map token_counts list.items ≡ sums_by_token (all_entries books.now))) }
+    ensures { IfOk result (λ found.
+        IfSome found (λ list. map token_counts list.items
+        ≡ sums_by_token (all_entries books.now))) }
 {
     let Some(mut list) = collected(alloc, books)? else {
         return Ok(None);

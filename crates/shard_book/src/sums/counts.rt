@@ -7,8 +7,8 @@ use crate::sums::totals::Totals;
 use crate::token::Token;
 use account_rule::{Answer, Reply};
 
-/// What `Totals` counts, while the cents fit 32 bits and each other number 16. Of 16 bytes, where `Totals` has
-/// 112, so that an account and its counts take 64.
+/// What `Totals` counts, while the cents fit 32 bits and each other number 16. Of 16 bytes, where
+/// `Totals` has 112, so that an account and its counts take 64.
 #[derive(Clone, Copy, Debug, PartialEq, Eq)]
 pub(crate) struct Counts {
     pub(crate) cents: u32,
@@ -34,7 +34,8 @@ fn add_one(count: &mut u16) -> bool
 impl Counts {
     ghost use Rattle.std.specs.Prelude.{◌≡◌, ◌+◌, [], ◌∷◌, IsTrue};
     ghost use Rattle.shard_book.specs.Counts.{sums_of_counts};
-    ghost use Rattle.shard_book.specs.Sums.{sums_of, sums_of_replies, add_sums, has_taps};
+    ghost use Rattle.shard_book.specs.Sums.{sums_of, sums_of_replies, add_sums};
+    ghost use Rattle.shard_book.specs.inside.Sums.{has_taps};
 
     /// The counts of nothing.
     #[tactic(auto, unfolding(crate::specs::Sums::sums_of_replies))]
@@ -51,10 +52,12 @@ impl Counts {
         }
     }
 
-    /// Counts one reply more, and returns whether there was room: else the counts are right no more.
+    /// Counts one reply more, and returns whether there was room: else the counts are right no
+    /// more.
     #[tactic(auto, unfolding(crate::specs::Sums::sums_of_replies))]
     pub(crate) fn add(&mut self, reply: Reply) -> bool
-        ensures { IsTrue result → sums_of_counts self.new ≡ add_sums (sums_of_counts self.old) (sums_of_replies (reply ∷ [])) }
+        ensures { IsTrue result → sums_of_counts self.new
+            ≡ add_sums (sums_of_counts self.old) (sums_of_replies (reply ∷ [])) }
     {
         let had_room = match reply.answer {
             Answer::Paid => add_one(&mut self.paid),

@@ -1,9 +1,11 @@
 //! Sums of entries by a key, in one pass over the entries and a sort of the keys.
 
-ghost use Rattle.std.specs.Prelude.{◌≡◌, ◌+◌, ◌*◌, ◌≤◌, ◌^◌, List, [], ◌∷◌, ◌++◌, length, map, true, IfOk, OnOk};
+ghost use Rattle.std.specs.Prelude.{◌≡◌, ◌+◌, ◌*◌, ◌≤◌, ◌^◌, List, [], ◌∷◌, ◌++◌, length, map};
+ghost use Rattle.std.specs.Prelude.{true, IfOk, OnOk};
 ghost use Rattle.shard_book.specs.declared.entry.Entry.{Entry};
-ghost use Rattle.shard_book.specs.Groups.{sums_by, all_entries};
-ghost use Rattle.shard_book.specs.Grouping.{IsGrouped, HasRoom, kept_sums};
+ghost use Rattle.shard_book.specs.Groups.{all_entries};
+ghost use Rattle.shard_book.specs.inside.Groups.{sums_by};
+ghost use Rattle.shard_book.specs.inside.Grouping.{IsGrouped, HasRoom, kept_sums};
 ghost use Rattle.shard_book.specs.Rising.{rising};
 ghost use Rattle.std.specs.HashMap.{get};
 ghost use Rattle.shard_book.specs.Sums.{Sums, sums_of};
@@ -47,7 +49,9 @@ fn add_entry<K: GroupKey>(
     entry: &Entry,
 ) -> Result<(), NoMemory>
     requires { HasRoom K.eq K.key_of tallies.old.entries 1 }
-    ensures { OnOk result ((before : List Entry) → IsGrouped K.eq K.key_of before tallies.old.entries → IsGrouped K.eq K.key_of (before ++ entry.now ∷ []) tallies.new.entries) }
+    ensures { OnOk result ((before : List Entry)
+        → IsGrouped K.eq K.key_of before tallies.old.entries
+        → IsGrouped K.eq K.key_of (before ++ entry.now ∷ []) tallies.new.entries) }
 {
     let kept = tallies.entry(K::of(entry))?.or_insert(Tally::new());
     kept.add(entry.reply());
@@ -60,7 +64,9 @@ fn add_entries<K: GroupKey>(
     entries: &[Entry],
 ) -> Result<(), NoMemory>
     requires { HasRoom K.eq K.key_of tallies.old.entries (length entries.now) }
-    ensures { OnOk result ((before : List Entry) → IsGrouped K.eq K.key_of before tallies.old.entries → IsGrouped K.eq K.key_of (before ++ entries.now) tallies.new.entries) }
+    ensures { OnOk result ((before : List Entry)
+        → IsGrouped K.eq K.key_of before tallies.old.entries
+        → IsGrouped K.eq K.key_of (before ++ entries.now) tallies.new.entries) }
 {
     for entry in entries {
         add_entry(tallies, entry)?;
@@ -73,7 +79,9 @@ fn rising_keys<K: GroupKey>(
     alloc: Global,
     tallies: &HashMap<K, Tally, TokenKeys>,
 ) -> Result<Vec<K>, NoMemory>
-    ensures { IfOk result (λ keys. (entries : List Entry) → IsGrouped K.eq K.key_of entries tallies.now.entries → keys.items ≡ rising K.cmp (map K.key_of entries)) }
+    ensures { IfOk result (λ keys. (entries : List Entry)
+        → IsGrouped K.eq K.key_of entries tallies.now.entries
+        → keys.items ≡ rising K.cmp (map K.key_of entries)) }
 {
     let mut keys: Vec<K> = tallies.keys().copied().collect(alloc)?;
     keys.sort_unstable();
@@ -97,7 +105,9 @@ pub(crate) fn listed<K: GroupKey>(
     tallies: &HashMap<K, Tally, TokenKeys>,
 ) -> Result<Vec<K::Sum>, NoMemory>
     requires { HasRoom K.eq K.key_of tallies.now.entries 0 }
-    ensures { IfOk result (λ list. (entries : List Entry) → IsGrouped K.eq K.key_of entries tallies.now.entries → map K.shown list.items ≡ sums_by K.cmp K.eq K.key_of entries) }
+    ensures { IfOk result (λ list. (entries : List Entry)
+        → IsGrouped K.eq K.key_of entries tallies.now.entries
+        → map K.shown list.items ≡ sums_by K.cmp K.eq K.key_of entries) }
 {
     let keys = rising_keys(alloc, tallies)?;
     let mut list = Vec::with_capacity(alloc, keys.len())?;
@@ -114,7 +124,8 @@ pub(crate) fn tallies_of<K: GroupKey>(
     books: &[ShardBook],
 ) -> Result<HashMap<K, Tally, TokenKeys>, NoMemory>
     requires { length books.now ≤ 64 }
-    ensures grouped { IfOk result (λ tallies. IsGrouped K.eq K.key_of (all_entries books.now) tallies.entries) }
+    ensures grouped { IfOk result
+        (λ tallies. IsGrouped K.eq K.key_of (all_entries books.now) tallies.entries) }
     ensures few { OnOk result (length (all_entries books.now) ≤ length books.now * 2 ^ 64) }
 {
     let mut tallies = HashMap::with_hasher(alloc, keys);
@@ -130,7 +141,8 @@ pub(crate) fn sums_of_books<K: GroupKey>(
     books: &[ShardBook],
 ) -> Result<Vec<K::Sum>, NoMemory>
     requires { length books.now ≤ 64 }
-    ensures { IfOk result (λ list. map K.shown list.items ≡ sums_by K.cmp K.eq K.key_of (all_entries books.now)) }
+    ensures { IfOk result (λ list.
+        map K.shown list.items ≡ sums_by K.cmp K.eq K.key_of (all_entries books.now)) }
 {
     let Some(first) = books.first() else {
         return Ok(Vec::new(alloc));

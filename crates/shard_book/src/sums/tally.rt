@@ -1,13 +1,14 @@
 //! Counts of replies, a place for each answer, so that counting takes no branch.
 
 ghost use Rattle.std.specs.Prelude.{◌≡◌, ◌<◌};
-ghost use Rattle.shard_book.specs.Places.{place, HasFewCents};
+ghost use Rattle.shard_book.specs.inside.Places.{place, HasFewCents};
 
 use crate::sums::totals::Totals;
 use account_rule::{Answer, Reply};
 
-/// What `Totals` counts, before the counts are added up. Answers come in no order that a processor could guess, so that a reply is
-/// counted at the place of its answer, and not by a choice between five counts.
+/// What `Totals` counts, before the counts are added up. Answers come in no order that a processor
+/// could guess, so that a reply is counted at the place of its answer, and not by a choice between
+/// five counts.
 #[derive(Clone, Copy, Debug, PartialEq, Eq)]
 pub struct Tally {
     // By the places of the answers.
@@ -49,7 +50,8 @@ impl Tally {
     /// Counts one reply more.
     pub fn add(&mut self, reply: Reply)
         requires { (sums_of_tally self.old).taps < 2 ^ 95 }
-        ensures { sums_of_tally self.new ≡ add_sums (sums_of_tally self.old) (sums_of_replies (reply ∷ [])) }
+        ensures { sums_of_tally self.new
+            ≡ add_sums (sums_of_tally self.old) (sums_of_replies (reply ∷ [])) }
     {
         self.counts[place_of(reply.answer)] += 1;
         self.cents += u128::from(reply.cents);
@@ -58,7 +60,8 @@ impl Tally {
     /// Adds what another tally counts.
     pub(crate) fn add_all(&mut self, other: &Tally)
         requires { (sums_of_tally self.old).taps + (sums_of_tally other.now).taps ≤ 2 ^ 95 }
-        ensures { sums_of_tally self.new ≡ add_sums (sums_of_tally self.old) (sums_of_tally other.now) }
+        ensures { sums_of_tally self.new
+            ≡ add_sums (sums_of_tally self.old) (sums_of_tally other.now) }
     {
         let [paid, transfers, capped, stale, unknown] = self.counts;
         let [

@@ -29,7 +29,7 @@ impl Model for TokenSums {
     ghost use Rattle.std.specs.Prelude.{List};
     ghost use Rattle.shard_book.specs.declared.token.Token.{Token};
     ghost use Rattle.shard_book.specs.Sums.{Sums};
-    ghost use Rattle.shard_book.specs.Shown.{sums_in};
+    ghost use Rattle.shard_book.specs.inside.Shown.{sums_in};
 
     ghost Value = { List (Token × Sums) };
 
@@ -37,7 +37,8 @@ impl Model for TokenSums {
 }
 
 impl TokenSums {
-    /// The sums by token of all entries of the books, as `sums_by_token` lists them. Each is made when it is asked for.
+    /// The sums by token of all entries of the books, as `sums_by_token` lists them. Each is made
+    /// when it is asked for.
     pub fn of(alloc: Global, books: &[ShardBook]) -> Result<Self, NoMemory>
         requires { length books.now ≤ 64 }
         ensures { IfOk result (λ sums. sums ≡ sums_by_token (all_entries books.now)) }

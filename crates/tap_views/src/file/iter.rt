@@ -18,7 +18,7 @@ pub struct Batches<'a> {
 impl<'a> Model for Batches<'a> {
     ghost use Rattle.std.specs.Prelude.{List, ℕ, ◌+◌, ◌^◌, ◌<◌, length};
     ghost use Rattle.tap_views.specs.Files.{Item};
-    ghost use Rattle.tap_views.specs.Readings.{items_from};
+    ghost use Rattle.tap_views.specs.inside.Readings.{items_from};
 
     ghost Value = { List Item };
 

@@ -1,5 +1,5 @@
 use Rattle.std.proofs.Common.{◌+◌, ◌<◌, ◌≤◌, length}
-use Rattle.fare_table.specs.Validators.{IsSplit}
+use Rattle.fare_table.specs.inside.Validators.{IsSplit}
 use Rattle.fare_table.proofs.validators.begun_by_halves.Given as goal
 
 abbrev pub invariant-loop-size : goal.invariant-loop-size

@@ -3,7 +3,7 @@ use Rattle.std.proofs.lemmas.List.{length-map}
 use Rattle.std.specs.List.{AllWithin}
 use Rattle.std.specs.Prelude.{nat_le}
 use Rattle.fare_table.proofs.ChainLemmas.{chain-rises, last_begun-split, within-firsts}
-use Rattle.fare_table.specs.Validators.{IsSplit}
+use Rattle.fare_table.specs.inside.Validators.{IsSplit}
 use Rattle.fare_table.specs.declared.validators.Span.{Span}
 use Rattle.fare_table.proofs.validators.last_begun.Goals as goal
 

@@ -1,7 +1,7 @@
 use Rattle.std.proofs.Common.{◌≡◌, ◌∙◌, ℕ, false, Option, Some, None, option_map, refl, sym}
 use Rattle.std.specs.Prelude.{nat_le}
 use Rattle.fare_table.proofs.OverlapLemmas.{reaches, shares-last_begun}
-use Rattle.fare_table.specs.Validators.{last_begun}
+use Rattle.fare_table.specs.inside.Validators.{last_begun}
 use Rattle.fare_table.specs.declared.validators.Span.{Span}
 use Rattle.fare_table.proofs.validators.shares_number.Goals as goal
 

@@ -2,7 +2,8 @@
 use Rattle.std.proofs.Common.{◌≡◌, ◌≤◌, List, Option, refl, sym, subst, option_map, ◌∙◌}
 use Rattle.std.specs.Prelude.{IfSome}
 use Rattle.account_rule.specs.Cut.{last_block}
-use Rattle.account_rule.specs.Kept.{kept_of, kept_window, shown_of}
+use Rattle.account_rule.specs.Kept.{kept_of, kept_window}
+use Rattle.account_rule.specs.inside.Kept.{shown_of}
 use Rattle.account_rule.specs.Rules.{Rules}
 use Rattle.account_rule.specs.Stands.{Stands}
 use Rattle.account_rule.specs.Windows.{last_window, windows}

@@ -4,7 +4,8 @@ use Rattle.jiff.specs.Types.{TimeZone, UTC, Unknown, Fixed, Posix, Tzif}
 use Rattle.jiff.specs.ZoneView.{plain_zone}
 use Rattle.jiff.specs.declared.tz.timezone.TimeZone.{TimeZone as Zone}
 use Rattle.fare_table.proofs.UntilLemmas.{civil_limit-is}
-use Rattle.fare_table.specs.PosixRule.{HasRule, posix_rule, rule_of}
+use Rattle.fare_table.specs.PosixRule.{posix_rule}
+use Rattle.fare_table.specs.inside.PosixRule.{HasRule, rule_of}
 use Rattle.fare_table.specs.Until.{IsCivilLimit, limit_in}
 use Rattle.fare_table.proofs.clock.Clock.until.Goals as goal
 

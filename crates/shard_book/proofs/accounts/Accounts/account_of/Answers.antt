@@ -2,7 +2,7 @@ use Rattle.std.proofs.Common.{◌≡◌, List, [], Option, subst, sym}
 use Rattle.account_rule.specs.declared.tap.TapIn.{TapIn}
 use Rattle.account_rule.specs.Stands.{Stands}
 use Rattle.shard_book.specs.declared.accounts.Kept.{Kept}
-use Rattle.shard_book.specs.Accounts.{kept_at, IsKept}
+use Rattle.shard_book.specs.inside.Accounts.{kept_at, IsKept}
 use Rattle.shard_book.proofs.accounts.Accounts.account_of.Goals as goal
 
 pub returns-in-None : goal.returns-in-None

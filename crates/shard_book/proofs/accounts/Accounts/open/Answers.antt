@@ -1,5 +1,5 @@
 use Rattle.std.proofs.Common.{rules, ◌∙◌}
-use Rattle.shard_book.specs.Accounts.{kept_at}
+use Rattle.shard_book.specs.inside.Accounts.{kept_at}
 use Rattle.shard_book.specs.declared.accounts.Kept.{Kept}
 use Rattle.shard_book.proofs.AccountsLemmas.{made_found, made_last}
 use Rattle.shard_book.proofs.accounts.Accounts.open.Goals as goal

@@ -3,7 +3,7 @@ use Rattle.std.proofs.Common.{arith, [], ◌∷◌, ◌++◌, Option, subst, sym
 use Rattle.account_rule.specs.Rules.{rules_of}
 use Rattle.account_rule.specs.Stands.{Stands, StandsForSome}
 use Rattle.shard_book.specs.declared.accounts.Kept.{Kept}
-use Rattle.shard_book.specs.Accounts.{kept_at, counted, IsKept}
+use Rattle.shard_book.specs.inside.Accounts.{kept_at, counted, IsKept}
 use Rattle.shard_book.specs.Sums.{Sums, add_sums, sums_of_replies}
 use Rattle.shard_book.specs.Token.{bytes_of}
 use Rattle.shard_book.proofs.AccountsLemmas.{stands_or, counted_or, found, written}

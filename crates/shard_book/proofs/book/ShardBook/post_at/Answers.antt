@@ -5,7 +5,7 @@ use Rattle.fare_table.specs.Until.{until}
 use Rattle.shard_book.specs.Book.{Book, with_entries}
 use Rattle.tap_views.specs.Shards.{shard_of_token}
 use Rattle.shard_book.specs.declared.entry.Entry.{Entry}
-use Rattle.shard_book.specs.Sound.{AreKept, IsSound}
+use Rattle.shard_book.specs.inside.Sound.{AreKept, IsSound}
 use Rattle.shard_book.specs.Token.{bytes_of}
 use Rattle.shard_book.proofs.SoundLemmas.{sound-same, sound-post}
 use Rattle.shard_book.proofs.book.ShardBook.post_at.Goals as goal

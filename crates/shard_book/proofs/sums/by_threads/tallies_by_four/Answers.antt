@@ -1,6 +1,6 @@
 use Rattle.std.proofs.Common.{◌==◌, ◌≤◌, ◌*◌, ◌^◌, length, IfOk, OnOk, subst}
 use Rattle.shard_book.specs.Groups.{all_entries, validator_of}
-use Rattle.shard_book.specs.Grouping.{IsGrouped}
+use Rattle.shard_book.specs.inside.Grouping.{IsGrouped}
 use Rattle.shard_book.proofs.MergeLemmas.{parts-room, parts-grouped}
 use Rattle.shard_book.proofs.sums.by_threads.tallies_by_four.Goals as goal
 

@@ -4,7 +4,7 @@ use Rattle.std.specs.Option.{option_copied}
 use Rattle.tap_views.specs.Shards.{shard_of_token}
 use Rattle.shard_book.specs.declared.entry.Entry.{Entry}
 use Rattle.shard_book.specs.declared.token.Token.{Token}
-use Rattle.shard_book.specs.Counting.{AreSummed, AreBelow}
+use Rattle.shard_book.specs.inside.Counting.{AreSummed, AreBelow}
 use Rattle.shard_book.specs.Counts.{token_counts}
 use Rattle.shard_book.specs.Groups.{all_entries}
 use Rattle.shard_book.specs.Sums.{Sums}

@@ -1,5 +1,5 @@
 use Rattle.std.proofs.Common.{map, take}
-use Rattle.shard_book.specs.Counting.{AreSummed, AreBelow}
+use Rattle.shard_book.specs.inside.Counting.{AreSummed, AreBelow}
 use Rattle.shard_book.specs.Counts.{token_counts}
 use Rattle.shard_book.specs.Groups.{all_entries}
 use Rattle.shard_book.proofs.sums.by_token.collected.Given as goal

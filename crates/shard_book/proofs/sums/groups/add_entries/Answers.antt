@@ -1,6 +1,6 @@
 use Rattle.std.proofs.Common.{◌++◌, take, arith}
 use Rattle.std.proofs.lemmas.List.{length-append, length-take-le}
-use Rattle.shard_book.specs.Grouping.{HasRoom}
+use Rattle.shard_book.specs.inside.Grouping.{HasRoom}
 use Rattle.shard_book.proofs.sums.groups.add_entries.Goals as goal
 
 pub add_entry-requires : goal.add_entry-requires

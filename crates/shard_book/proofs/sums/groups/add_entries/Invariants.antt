@@ -1,6 +1,6 @@
 use Rattle.std.proofs.Common.{List, ◌++◌, take}
 use Rattle.shard_book.specs.declared.entry.Entry.{Entry}
-use Rattle.shard_book.specs.Grouping.{IsGrouped}
+use Rattle.shard_book.specs.inside.Grouping.{IsGrouped}
 use Rattle.shard_book.proofs.sums.groups.add_entries.Given as goal
 
 abbrev pub invariant-loop-entry : goal.invariant-loop-entry

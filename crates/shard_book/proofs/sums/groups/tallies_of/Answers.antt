@@ -1,6 +1,6 @@
 use Rattle.std.proofs.Common.{◌≤◌, ◌*◌, ◌^◌, length, take, arith}
 use Rattle.shard_book.specs.Groups.{all_entries}
-use Rattle.shard_book.specs.Grouping.{HasRoom}
+use Rattle.shard_book.specs.inside.Grouping.{HasRoom}
 use Rattle.shard_book.proofs.GroupingLemmas.{grouped-none}
 use Rattle.shard_book.proofs.sums.groups.tallies_of.Goals as goal
 

@@ -1,6 +1,6 @@
 use Rattle.std.proofs.Common.{◌≤◌, ◌*◌, ◌^◌, length, take}
 use Rattle.shard_book.specs.Groups.{all_entries}
-use Rattle.shard_book.specs.Grouping.{IsGrouped}
+use Rattle.shard_book.specs.inside.Grouping.{IsGrouped}
 use Rattle.shard_book.proofs.sums.groups.tallies_of.Given as goal
 
 abbrev pub invariant-loop-book : goal.invariant-loop-book

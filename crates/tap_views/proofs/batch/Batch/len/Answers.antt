@@ -1,4 +1,4 @@
-use Rattle.tap_views.specs.Records.{layout_of, tap_at}
+use Rattle.tap_views.specs.inside.Records.{layout_of, tap_at}
 use Rattle.tap_views.specs.Faults.{width}
 use Rattle.tap_views.proofs.Cuts.{length-cut}
 use Rattle.tap_views.proofs.batch.Batch.len.Goals as goal

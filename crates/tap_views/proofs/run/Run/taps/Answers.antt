@@ -1,5 +1,5 @@
 use Rattle.std.proofs.Common.{arith}
-use Rattle.tap_views.specs.Records.{layout_of, tap_at, taps_in}
+use Rattle.tap_views.specs.inside.Records.{layout_of, tap_at, taps_in}
 use Rattle.tap_views.specs.Faults.{width}
 use Rattle.tap_views.proofs.Cuts.{length-cut}
 use Rattle.tap_views.proofs.Runs.{own_taps, few_taps}

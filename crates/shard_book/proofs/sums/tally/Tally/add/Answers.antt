@@ -1,6 +1,6 @@
 use Rattle.std.proofs.Common.{rules, ◌+◌, ap, ◌∙◌}
 use Rattle.std.specs.Prelude.{slice_index, slice_set}
-use Rattle.shard_book.specs.Places.{place}
+use Rattle.shard_book.specs.inside.Places.{place}
 use Rattle.shard_book.specs.Tally.{sums_of_places}
 use Rattle.shard_book.proofs.TallyLemmas.{tallied}
 use Rattle.shard_book.proofs.sums.tally.Tally.add.Goals as goal

@@ -1,5 +1,6 @@
 -- What a book's accounts know of a list of taps.
-use Rattle.std.specs.Prelude.{◌≡◌, ℕ, Bool, List, [], Option, Some, None, map, filter, slice_get, IsTrue}
+use Rattle.std.specs.Prelude.{◌≡◌, ℕ, Bool, List, [], Option, Some, None, map, filter, slice_get}
+use Rattle.std.specs.Prelude.{IsTrue}
 use Rattle.indexmap.specs.IndexMap.{get}
 use Rattle.account_rule.specs.declared.tap.TapIn.{TapIn}
 use Rattle.account_rule.specs.Rules.{Rules}
@@ -8,7 +9,8 @@ use Rattle.shard_book.specs.declared.accounts.Accounts.{Accounts}
 use Rattle.shard_book.specs.declared.accounts.Kept.{Kept}
 use Rattle.shard_book.specs.declared.token.Token.{Token}
 use Rattle.shard_book.specs.Counts.{sums_of_counts}
-use Rattle.shard_book.specs.Sums.{Sums, has_taps, sums_of_replies}
+use Rattle.shard_book.specs.Sums.{Sums, sums_of_replies}
+use Rattle.shard_book.specs.inside.Sums.{has_taps}
 use Rattle.shard_book.specs.Token.{token_eq}
 
 -- what is kept of the token
@@ -26,7 +28,9 @@ IsKept rules (Some kept) taps = Stands rules kept.account taps
 
 -- what was kept, or else a fresh account and the counts of nothing
 abbrev pub IsKeptOrFresh : Option Kept → Kept → Type 0
-IsKeptOrFresh None kept = ((rules : Rules) → Stands rules kept.account []) × (sums_of_counts kept.counts ≡ sums_of_replies [])
+IsKeptOrFresh None kept =
+    ((rules : Rules) → Stands rules kept.account [])
+    × (sums_of_counts kept.counts ≡ sums_of_replies [])
 IsKeptOrFresh (Some old) kept = kept ≡ old
 
 -- the token and what is kept of it stand at the place
@@ -47,7 +51,8 @@ abbrev pub counted : Option Kept → Sums
 counted None = sums_of_replies []
 counted (Some kept) = sums_of_counts kept.counts
 
--- what is kept now stands for the taps for which that before it stood, and counts the same: it stayed, or is fresh
+-- what is kept now stands for the taps for which that before it stood, and counts the same: it
+-- stayed, or is fresh
 pub record StandsOn (old new : Option Kept) : Type 0 where
   pub kept : (rules : Rules) (taps : List TapIn) → IsKept rules old taps → IsKept rules new taps
   pub sums : counted new ≡ counted old

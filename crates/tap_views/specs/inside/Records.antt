@@ -1,5 +1,7 @@
--- How the views see their bytes: a run of records of one width, each a tap. No contract that other crates read names these words.
-use Rattle.std.specs.Prelude.{◌≡◌, ℕ, zero, suc, ◌*◌, ◌≤◌, List, [], ◌∷◌, length, take, drop, Option, Some, None}
+-- How the views see their bytes: a run of records of one width, each a tap. No contract that other
+-- crates read names these words.
+use Rattle.std.specs.Prelude.{◌≡◌, ℕ, zero, suc, ◌*◌, ◌≤◌, List, [], ◌∷◌, length, take, drop}
+use Rattle.std.specs.Prelude.{Option, Some, None}
 use Rattle.std.specs.List.{AllByRecursion}
 use Rattle.std.specs.Borrow.{Bor}
 use Rattle.tap_views.specs.Layout.{Tap, IsTap, Layout, Tap1, Tap2, IsLayout}
@@ -12,8 +14,14 @@ layout_of (Some validator) = Tap2 validator.now
 
 -- the tap in a record
 abbrev pub tap_at : Layout → List ℕ → Tap
-tap_at Tap1 bytes = record { token = take 16 bytes; validator = take 4 (drop 16 bytes); moment = take 8 (drop 20 bytes) }
-tap_at (Tap2 validator) bytes = record { token = take 16 bytes; validator = validator; moment = take 8 (drop 16 bytes) }
+tap_at Tap1 bytes =
+    record {
+      token = take 16 bytes;
+      validator = take 4 (drop 16 bytes);
+      moment = take 8 (drop 20 bytes);
+    }
+tap_at (Tap2 validator) bytes =
+    record { token = take 16 bytes; validator = validator; moment = take 8 (drop 16 bytes) }
 
 module _ (wide : ℕ) (tap_of : List ℕ → Tap) where
   -- the taps of the first n records

@@ -1,23 +1,28 @@
--- What is left to give of a file, as a function of its bytes: the view of the iterator, and of nothing else. Contracts say it by `IsReading`.
-use Rattle.std.specs.Prelude.{ℕ, zero, suc, ◌+◌, ◌==◌, nat_lt, not, ◌||◌, Bool, List, [], ◌∷◌, length, map, take, drop, find, codes, Option, Some, None, Ok, Err}
+-- What is left to give of a file, as a function of its bytes: the view of the iterator, and of
+-- nothing else. Contracts say it by `IsReading`.
+use Rattle.std.specs.Prelude.{ℕ, zero, suc, ◌+◌, ◌==◌, nat_lt, not, ◌||◌, Bool, List, [], ◌∷◌}
+use Rattle.std.specs.Prelude.{length, map, take, drop, find, codes, Option, Some, None, Ok, Err}
 use Rattle.std.specs.List.{range_with_len}
 use Rattle.std.specs.Str.{bytes_eq}
 use Rattle.tap_views.specs.Layout.{moment_limit, Tap}
 use Rattle.tap_views.specs.Faults.{header, layout_in, count_in, flags_in, size_in, moment_in}
 use Rattle.tap_views.specs.Files.{Item}
-use Rattle.tap_views.specs.Records.{taps_in}
+use Rattle.tap_views.specs.inside.Records.{taps_in}
 use Rattle.tap_views.specs.declared.fault.LayoutFault.{LayoutFault}
-use Rattle.tap_views.specs.declared.fault.LayoutFault.TheVariants.{Short, Magic, Flags, TooMany, Length, Moment}
+use Rattle.tap_views.specs.declared.fault.LayoutFault.TheVariants.{Short, Magic, Flags, TooMany}
+use Rattle.tap_views.specs.declared.fault.LayoutFault.TheVariants.{Length, Moment}
 
 -- the table's rows, with the fields that these bytes give them
 abbrev pub rows_of : List ℕ → List LayoutFault
 rows_of bytes =
-    Short (length bytes) ∷ Magic ∷ Flags ∷ TooMany (count_in bytes) ∷ Length (size_in bytes) (length bytes) ∷ map Moment (range_with_len 0 (count_in bytes))
+    Short (length bytes) ∷ Magic ∷ Flags ∷ TooMany (count_in bytes)
+    ∷ Length (size_in bytes) (length bytes) ∷ map Moment (range_with_len 0 (count_in bytes))
 
 -- whether a row holds
 abbrev pub is_row : List ℕ → LayoutFault → Bool
 is_row bytes (Short have) = nat_lt (length bytes) (header (layout_in bytes))
-is_row bytes Magic = not (bytes_eq (take 4 bytes) (codes "TAP1") || bytes_eq (take 4 bytes) (codes "TAP2"))
+is_row bytes Magic =
+    not (bytes_eq (take 4 bytes) (codes "TAP1") || bytes_eq (take 4 bytes) (codes "TAP2"))
 is_row bytes Flags = not (flags_in bytes == 0)
 is_row bytes (TooMany count) = nat_lt 4096 (count_in bytes)
 is_row bytes (Length want have) = nat_lt (length bytes) (size_in bytes)
@@ -28,7 +33,8 @@ first_fault bytes = find (is_row bytes) (rows_of bytes)
 
 -- the taps of bytes that begin with a batch
 abbrev pub first_taps : List ℕ → List Tap
-first_taps bytes = taps_in (layout_in bytes) (count_in bytes) (drop (header (layout_in bytes)) bytes)
+first_taps bytes =
+    taps_in (layout_in bytes) (count_in bytes) (drop (header (layout_in bytes)) bytes)
 
 -- what is given at an offset, before what comes behind the batch there
 abbrev pub given_at : ℕ → List ℕ → Option LayoutFault → List Item → List Item
@@ -41,8 +47,10 @@ items_within zero offset bytes = []
 items_within (suc fuel) offset [] = []
 items_within (suc fuel) offset (byte ∷ more) =
     given_at offset (byte ∷ more) (first_fault (byte ∷ more))
-    (items_within fuel (offset + size_in (byte ∷ more)) (drop (size_in (byte ∷ more)) (byte ∷ more)))
+    (items_within fuel (offset + size_in (byte ∷ more))
+    (drop (size_in (byte ∷ more)) (byte ∷ more)))
 
--- the items that a reader is given of bytes which stand at an offset of their file: each batch has a byte at least
+-- the items that a reader is given of bytes which stand at an offset of their file: each batch has
+-- a byte at least
 abbrev pub items_from : ℕ → List ℕ → List Item
 items_from offset bytes = items_within (length bytes) offset bytes

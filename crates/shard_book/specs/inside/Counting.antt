@@ -7,7 +7,7 @@ use Rattle.tap_views.specs.Shards.{shard_of_token}
 use Rattle.shard_book.specs.declared.accounts.Accounts.{Accounts}
 use Rattle.shard_book.specs.declared.entry.Entry.{Entry}
 use Rattle.shard_book.specs.declared.token.Token.{Token}
-use Rattle.shard_book.specs.Accounts.{kept_at, counted}
+use Rattle.shard_book.specs.inside.Accounts.{kept_at, counted}
 use Rattle.shard_book.specs.Entry.{own}
 use Rattle.shard_book.specs.Groups.{token_of}
 use Rattle.shard_book.specs.Sums.{Sums, sums}
@@ -21,7 +21,8 @@ pub record AreCounted (accounts : Accounts) (entries : List Entry) : Type 0 wher
 pub record AreSummed (entries : List Entry) (pairs : List (Token × Sums)) : Type 0 where
   pub each : All (λ pair. pair.1 ≡ sums (own pair.0 entries)) pairs
   pub once : IsDistinct token_eq (keys_of pairs)
-  pub keys : (token : Token) → is_member token_eq (keys_of pairs) token ≡ is_member token_eq (map token_of entries) token
+  pub keys : (token : Token)
+      → is_member token_eq (keys_of pairs) token ≡ is_member token_eq (map token_of entries) token
 
 -- each token of the entries, with the sums of its own entries, was appended to a list
 pub record AddsSums (entries : List Entry) (before after : List (Token × Sums)) : Type 0 where

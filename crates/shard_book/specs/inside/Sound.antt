@@ -5,19 +5,23 @@ use Rattle.account_rule.specs.Rules.{rules_of}
 use Rattle.shard_book.specs.declared.accounts.Accounts.{Accounts}
 use Rattle.shard_book.specs.declared.entry.Entry.{Entry}
 use Rattle.shard_book.specs.declared.token.Token.{Token}
-use Rattle.shard_book.specs.Accounts.{kept_at, IsCounting, IsKept}
+use Rattle.shard_book.specs.inside.Accounts.{kept_at, IsCounting, IsKept}
 use Rattle.shard_book.specs.Book.{AreOfShard}
-use Rattle.shard_book.specs.Counting.{AreCounted}
+use Rattle.shard_book.specs.inside.Counting.{AreCounted}
 use Rattle.shard_book.specs.Entry.{TokensFit, taps_of}
 use Rattle.shard_book.specs.History.{IsLegal}
 use Rattle.shard_book.specs.Token.{bytes_of}
 
 -- the accounts stand for the taps of their tokens
 unfoldable pub AreKept : Fares → Accounts → List Entry → Type 0
-AreKept table accounts entries = (token : Token) → IsKept (rules_of table (bytes_of token)) (kept_at accounts token) (taps_of table token entries)
+AreKept table accounts entries =
+    (token : Token) → IsKept (rules_of table (bytes_of token)) (kept_at accounts token)
+    (taps_of table token entries)
 
--- the history is legal, of tokens of 16 bytes and of the shard alone, and the accounts stand for it and, while they count, count it
-pub record IsSound (table : Fares) (shard shards : ℕ) (accounts : Accounts) (entries : List Entry) : Type 0 where
+-- the history is legal, of tokens of 16 bytes and of the shard alone, and the accounts stand for it
+-- and, while they count, count it
+pub record IsSound (table : Fares) (shard shards : ℕ) (accounts : Accounts) (entries : List Entry)
+    : Type 0 where
   pub within : shard < shards
   pub few : shards ≤ 64
   pub legal : IsLegal table entries

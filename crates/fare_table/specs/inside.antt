@@ -1,0 +1,7 @@
+-- What only private functions cite. Who reads the contracts of public calls need not read it.
+pub mod Marks
+pub mod PosixRule
+pub mod Table
+pub mod Token
+pub mod Transfers
+pub mod Validators

@@ -1,0 +1,31 @@
+-- Validators: what private functions alone cite.
+use Rattle.std.specs.Prelude.{◌≡◌, ℕ, ◌+◌, ◌&&◌, Bool, true, false, List, [], ◌∷◌, Option, Some}
+use Rattle.std.specs.Prelude.{None, length, map, nat_le, nat_lt, if◌then◌else◌}
+use Rattle.std.specs.List.{AllWithin}
+use Rattle.std.specs.Option.{option_or}
+use Rattle.fare_table.specs.declared.fault.Key.TheVariants as the_key
+use Rattle.fare_table.specs.declared.validators.Span.{Span}
+use Rattle.fare_table.specs.Validators.{is_chain}
+
+-- the last range that begins at the number or before it, of ranges that rise
+abbrev pub last_begun : ℕ → List (ℕ × Span) → Option (ℕ × Span)
+last_begun number [] = None
+last_begun number (range ∷ more) =
+    if nat_le range.0 number then option_or (last_begun number more) (Some range) else None
+
+-- each number is below the next one
+abbrev pub is_rising : List ℕ → Bool
+is_rising [] = true
+is_rising (first ∷ []) = true
+is_rising (first ∷ next ∷ more) = nat_lt first next && is_rising (next ∷ more)
+
+-- ranges that rise and stand apart, and their first numbers
+pub record AreSearchable (ranges : List (ℕ × Span)) (firsts : List ℕ) : Type 0 where
+  pub apart : is_chain ranges ≡ true
+  pub same : firsts ≡ map (λ range. range.0) ranges
+
+-- each number before the index is not above `number`, and each from `size` places after the index
+-- on is
+pub record IsSplit (number : ℕ) (firsts : List ℕ) (index size : ℕ) : Type 0 where
+  pub front : AllWithin (λ first. nat_le first number ≡ true) firsts 0 index
+  pub back : AllWithin (λ first. nat_le first number ≡ false) firsts (index + size) (length firsts)

@@ -1,0 +1,10 @@
+-- What only private functions cite. Who reads the contracts of public calls need not read it.
+pub mod Accounts
+pub mod Counting
+pub mod Grouping
+pub mod Groups
+pub mod Places
+pub mod Shown
+pub mod Sound
+pub mod Sums
+pub mod Visits

@@ -1,0 +1,5 @@
+-- What only private functions cite. Who reads the contracts of public calls need not read it.
+pub mod Cut
+pub mod Faults
+pub mod Readings
+pub mod Records
