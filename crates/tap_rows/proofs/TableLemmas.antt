@@ -1,5 +1,5 @@
 -- A table, read row by row, and what is written of it.
-use Rattle.std.proofs.Common.{◌≡◌, ℕ, ◌+◌, ◌<◌, ◌≤◌, List, [], ◌∷◌, ◌++◌, length, None, Some, Ok, Err, refl, sym, ap, subst, ◌∙◌, arith, append-nil, append_assoc, length-append}
+use Rattle.std.proofs.Common.{◌≡◌, ℕ, zero, suc, ◌+◌, ◌<◌, ◌≤◌, List, [], ◌∷◌, ◌++◌, length, None, Some, Ok, Err, refl, sym, ap, subst, ◌∙◌, arith, append-nil, append_assoc, length-append}
 use Rattle.std.specs.Prelude.{Option, Result, IfSome}
 use Rattle.std.specs.Io.BufRead.{first_line, drop_through}
 use Rattle.std.specs.Io.KnownBytes.{Appends}
@@ -7,7 +7,10 @@ use Rattle.tap_views.specs.declared.encoder.TapFields.{TapFields}
 use Rattle.std.specs.Prelude.{map, flat_map}
 use Rattle.std.proofs.lemmas.List.{map-append}
 use Rattle.std.proofs.lemmas.List.Concat.{flat_map-append}
-use Rattle.tap_views.specs.Encoding.{fields_of}
+use Rattle.std.specs.Prelude.{All, IsSome, IsSomeAnd, slice_get, slice_index_or}
+use Rattle.tap_views.specs.Encoding.{fields_of, AreEncodable, IsRefused as IsFaultOf}
+use Rattle.tap_views.specs.declared.encoder.EncodeFault.{EncodeFault}
+use Rattle.tap_views.specs.declared.encoder.EncodeFault.TheVariants.{TooMany, Moment, NoMemory as ForMemory}
 use Rattle.tap_views.specs.Files.{IsFile}
 use Rattle.tap_views.specs.Layout.{Tap}
 use Rattle.tap_parts.specs.Parts.{IsFileOf}
@@ -29,6 +32,28 @@ appends_more None b c x y p q = tt
 appends_more (Some xs) None c x y p q = elim p [ ]
 appends_more (Some xs) (Some ys) None x y p q = elim q [ ]
 appends_more (Some xs) (Some ys) (Some zs) x y p q = q ∙ ap (λ bs. bs ++ y) p ∙ append_assoc xs x y
+
+-- what holds of known bytes, in another form
+pub weaker : (o : Option (List ℕ)) (P Q : List ℕ → Type 0) → ((text : List ℕ) → P text → Q text) → IfSome o P → IfSome o Q
+weaker None P Q f holds = tt
+weaker (Some text) P Q f holds = f text holds
+
+-- ---- batches
+pub nothing : (taps : List TapFields) → length taps ≡ 0 → taps ≡ []
+nothing [] e = refl
+nothing (tap ∷ taps) e = absurd (omega (arith, e))
+
+-- none of early taps is late
+no_late : (taps : List TapFields) (index : ℕ) → All (λ tap. tap.moment < 4102444800000) taps → ¬ (IsSomeAnd (slice_get taps index) (λ tap. 4102444800000 ≤ tap.moment))
+no_late [] index early late = elim late [ ]
+no_late (tap ∷ taps) zero early late = let soon : tap.moment < 4102444800000 = early 0 tap (omega arith) in absurd (omega (arith, soon, late))
+no_late (tap ∷ taps) (suc index) early late = no_late taps index (λ k d within. early (suc k) d (omega (arith, within))) late
+
+-- taps that may stand in a batch are refused for want of memory alone
+pub only_memory : (taps : List TapFields) (fault : EncodeFault) → AreEncodable (λ tap. tap.moment) taps → IsFaultOf (λ tap. tap.moment) taps fault → fault ≡ ForMemory
+only_memory taps TooMany fits refused = absurd (omega (arith, fits.0, refused))
+only_memory taps (Moment index) fits refused = absurd (no_late taps index fits.1 refused.1.late)
+only_memory taps ForMemory fits refused = refl
 
 -- ---- rows
 -- one row more
@@ -56,6 +81,11 @@ pub reached_more : (text : List ℕ) (now new : Option (List ℕ)) (number : ℕ
 reached_more text now new number taps tap reached next =
     let (some, row, after) = known (λ left. IsNextRow left number new (Ok (Some tap))) now reached.left reached.now_is next in
     record { left = drop_through 10 reached.left; head_line = reached.head_line; now_is = after; rows = more_rows (drop_through 10 text) taps reached.left tap reached.rows row }
+
+-- the same, of a row that was answered
+pub next_of : (now new : Option (List ℕ)) (number : ℕ) (result other : Result (Option TapFields) RowsFault) → result ≡ other
+    → IfSome now (λ left. IsNextRow left number new result) → IfSome now (λ left. IsNextRow left number new other)
+next_of now new number result other is next = subst (λ r. IfSome now (λ left. IsNextRow left number new r)) is next
 
 -- at the end the text is the table of the taps
 pub reached_end : (text : List ℕ) (now new : Option (List ℕ)) (number : ℕ) (taps : List TapFields) → Reached text now taps
@@ -188,3 +218,70 @@ writing_end text now after count number pending old out new writing next (more, 
   upload = two_files writing.file more writing.done pending writing.upload is;
   written = appends_more old out new writing.file more writing.written appended;
 }
+
+-- a row can be added: there is room in the batch
+pub record Ready (old now out0 out : Option (List ℕ)) (count : ℕ) (pending : List TapFields) : Type 0 where
+  pub room : length pending < 4096
+  pub early : All (λ tap. tap.moment < 4102444800000) pending
+  pub writing : IfSome old (λ text. Writing text now count pending out0 out)
+
+-- after a full batch was written
+pub ready_written : (old now out0 here there out : Option (List ℕ)) (count : ℕ) (pending after : List TapFields) → after ≡ [] → out ≡ there
+    → IfSome old (λ text. Writing text now count pending out0 here) → IsEncodedAs pending here there → Ready old now out0 out count after
+ready_written old now out0 here there out count pending after none same writing encoded =
+    let P : List TapFields → Option (List ℕ) → Type 0 = λ taps o. IfSome old (λ text. Writing text now count taps out0 o) in
+    let done : P [] there = weaker old _ _ (λ text w. writing_batch text now count pending out0 here there w encoded) writing in
+    record {
+      room = omega (arith, ap length none);
+      early = λ k d within. absurd (omega (arith, within, ap length none));
+      writing = subst (λ taps. P taps out) (sym none) (subst (λ o. P [] o) (sym same) done);
+    }
+
+-- where the batch is not full
+pub ready_same : (old now out0 here out : Option (List ℕ)) (count : ℕ) (pending after : List TapFields) → after ≡ pending → out ≡ here → length pending < 4096
+    → All (λ tap. tap.moment < 4102444800000) pending → IfSome old (λ text. Writing text now count pending out0 here) → Ready old now out0 out count after
+ready_same old now out0 here out count pending after is same room early writing =
+    let P : List TapFields → Option (List ℕ) → Type 0 = λ taps o. IfSome old (λ text. Writing text now count taps out0 o) in
+    let E : List TapFields → Type 0 = λ taps. All (λ tap. tap.moment < 4102444800000) taps in
+    record {
+      room = omega (arith, room, ap length is);
+      early = subst E (sym is) early;
+      writing = subst (λ taps. P taps out) (sym is) (subst (λ o. P pending o) (sym same) writing);
+    }
+
+-- one early tap more
+early_push : (taps : List TapFields) (tap : TapFields) → All (λ tap. tap.moment < 4102444800000) taps → tap.moment < 4102444800000
+    → (k : ℕ) (d : TapFields) → k < length (taps ++ tap ∷ []) → (slice_index_or (taps ++ tap ∷ []) k d).moment < 4102444800000
+early_push [] tap all is zero d within = is
+early_push [] tap all is (suc k) d within = absurd (omega (arith, within))
+early_push (first ∷ taps) tap all is zero d within = all 0 d (omega arith)
+early_push (first ∷ taps) tap all is (suc k) d within = early_push taps tap (λ j e inside. all (suc j) e (omega (arith, inside))) is k d (omega (arith, within))
+
+pub ready_early : (old now out0 out : Option (List ℕ)) (count : ℕ) (pending more : List TapFields) (tap : TapFields) → Ready old now out0 out count pending → more ≡ pending ++ tap ∷ []
+    → tap.moment < 4102444800000 → All (λ tap. tap.moment < 4102444800000) more
+ready_early old now out0 out count pending more tap ready is early =
+    let E : List TapFields → Type 0 = λ taps. All (λ tap. tap.moment < 4102444800000) taps in
+    subst E (sym is) (early_push pending tap ready.early early)
+
+-- ---- a table that was read twice
+pub same_count : (first second old new : Option (List ℕ)) (count written : ℕ) → IsSome first → first ≡ second → IfSome first (λ text. IsTableOf text count)
+    → IfSome second (λ text. IsEncoded text old new written) → written ≡ count
+same_count None second old new count written some same table encoded = absurd (cc)
+same_count (Some text) second old new count written some same table encoded =
+    let again = subst (λ o. IfSome o (λ text. IsEncoded text old new written)) (sym same) encoded in
+    let taps = one_list (drop_through 10 text) table.taps again.taps table.table.rows again.table.rows in
+    omega (arith, ap length taps, table.number, again.number)
+
+pub no_change : (first second : Option (List ℕ)) (count : ℕ) (fault answer : RowsFault) → (IsOfTable fault → answer ≡ Changed) → (¬ (IsOfTable fault) → answer ≡ fault) → answer ≡ Changed
+    → IsSome first → first ≡ second → IfSome first (λ text. IsTableOf text count) → IfSome second (λ text. IsRefused text fault) → ⊥
+no_change None second count fault answer own other is some same table refused = absurd (cc)
+no_change (Some text) second count fault answer own other is some same table refused =
+    by_fault fault other (subst (λ o. IfSome o (λ text. IsRefused text fault)) (sym same) refused)
+  where
+    by_fault : (fault : RowsFault) → (¬ (IsOfTable fault) → answer ≡ fault) → IsRefused text fault → ⊥
+    by_fault Head other refused = no_fault text table.taps Head table.table tt refused
+    by_fault (Row number column) other refused = no_fault text table.taps (Row number column) table.table tt refused
+    by_fault Changed other refused = refused
+    by_fault Unread other refused = let e : Unread ≡ Changed = sym (other (λ x. x)) ∙ is in absurd (cc)
+    by_fault Write other refused = let e : Write ≡ Changed = sym (other (λ x. x)) ∙ is in absurd (cc)
+    by_fault NoMemory other refused = let e : NoMemory ≡ Changed = sym (other (λ x. x)) ∙ is in absurd (cc)

@@ -15,9 +15,9 @@ HasNoComma text = All (λ byte. ¬ (byte ≡ 44)) text
 -- the line is these three fields, with a comma after each but the last, and none within any
 pub record AreFields (line token validator moment : List ℕ) : Type 0 where
   pub joined : line ≡ token ++ 44 ∷ (validator ++ 44 ∷ moment)
-  pub token : HasNoComma token
-  pub validator : HasNoComma validator
-  pub moment : HasNoComma moment
+  pub first : HasNoComma token
+  pub second : HasNoComma validator
+  pub third : HasNoComma moment
 
 -- the text is 32 hexadecimal digits, of either case, and they spell these 16 bytes
 abbrev pub IsToken : List ℕ → List ℕ → Type 0

@@ -15,6 +15,17 @@ use tap_views::{EncodeFault, TapFields};
 /// The most taps of one batch.
 const BATCH_TAPS: usize = 4_096;
 
+/// Why taps that may stand in one batch were not encoded.
+fn why(fault: EncodeFault) -> RowsFault
+    requires { fault ≡ EncodeFault.NoMemory }
+    ensures { result ≡ RowsFault.NoMemory }
+{
+    match fault {
+        EncodeFault::NoMemory => RowsFault::NoMemory,
+        EncodeFault::TooMany | EncodeFault::Moment { .. } => unreachable!(),
+    }
+}
+
 /// Writes these taps as one batch; nothing where there are none.
 fn write_batch<W: Write>(alloc: Global, taps: &[TapFields], out: &mut W) -> Result<(), RowsFault>
     requires { AreEncodable (λ tap. tap.moment) taps.now }
@@ -29,8 +40,7 @@ fn write_batch<W: Write>(alloc: Global, taps: &[TapFields], out: &mut W) -> Resu
             Ok(()) => Ok(()),
             Err(_) => Err(RowsFault::Write),
         },
-        Err(EncodeFault::NoMemory) => Err(RowsFault::NoMemory),
-        Err(_) => unreachable!(),
+        Err(fault) => Err(why(fault)),
     }
 }
 
@@ -64,6 +74,18 @@ fn write_taps<R: BufRead, W: Write>(
     Err(RowsFault::Unread)
 }
 
+/// The fault of a table that had none when it was read first: then its rows have changed.
+fn when_read_again(fault: RowsFault) -> RowsFault
+    ensures own { IsOfTable fault → result ≡ RowsFault.Changed }
+    ensures other { (¬ (IsOfTable fault)) → result ≡ fault }
+    ensures none { ¬ (IsOfTable result) }
+{
+    match fault {
+        RowsFault::Head | RowsFault::Row { .. } => RowsFault::Changed,
+        fault => fault,
+    }
+}
+
 /// Writes the upload of a table: `TAP1` batches of 4,096 taps, the last of fewer. The table is read
 /// twice, from two readers of it, so that nothing is written where a row is bad.
 pub fn encode<R: BufRead, S: BufRead, W: Write>(
@@ -80,7 +102,6 @@ pub fn encode<R: BufRead, S: BufRead, W: Write>(
     let count = check(alloc, table)?;
     match write_taps(alloc, again, out) {
         Ok(written) => if written == count { Ok(count) } else { Err(RowsFault::Changed) },
-        Err(RowsFault::Head | RowsFault::Row { .. }) => Err(RowsFault::Changed),
-        Err(fault) => Err(fault),
+        Err(fault) => Err(when_read_again(fault)),
     }
 }

@@ -1,6 +1,6 @@
 //! The rows of a table, one after the other.
 
-ghost use Rattle.std.specs.Prelude.{◌≡◌, ◌≢◌, ◌≤◌, ◌⊎◌, ◌^◌, ◌<◌, ℕ, List, [], Some, IfErr, IfOk, IfSome, OnOk, if◌then◌else◌, length};
+ghost use Rattle.std.specs.Prelude.{◌≡◌, ◌⊎◌, ◌<◌, [], Some, IfErr, IfOk, IfSome, OnOk, if◌then◌else◌, length, true, false};
 ghost use Rattle.std.specs.Io.BufRead.{drop_through, ends_with_byte, first_line, strip_last, take_through};
 ghost use Rattle.tap_rows.specs.Tables.{head, IsHeadFault, IsNextRow, IsRefused, IsTableOf};
 ghost use Rattle.tap_views.specs.Layout.{moment_limit};
