@@ -6,6 +6,7 @@ mod column;
 mod fault;
 mod into_table;
 mod into_upload;
+pub mod laws;
 mod read;
 mod row;
 
