@@ -1,0 +1,92 @@
+//! `encode` and `decode`.
+
+use crate::fault::{Fault, say};
+use crate::input::{is_plain_file, load, load_upload, open_in_pieces};
+use crate::names::Name;
+use crate::output::Output;
+use std::alloc::Global;
+use std::io::{BufRead, Write};
+use tap_rows::RowsFault;
+
+/// Why the file of this name was not turned into the other form.
+fn fault_of<'a, W: Write + Drop>(name: Name<'a>, fault: RowsFault, out: &Output<W>) -> Fault<'a> {
+    match fault {
+        RowsFault::Write => out.failed(),
+        RowsFault::NoMemory => Fault::NoMemory,
+        fault => Fault::Table(name, fault),
+    }
+}
+
+/// Writes the upload of a table, which is read twice.
+fn encode_table<'a, R: BufRead, S: BufRead, W: Write + Drop>(
+    alloc: Global,
+    name: Name<'a>,
+    table: &mut R,
+    again: &mut S,
+    out: &mut Output<W>,
+) -> Result<(), Fault<'a>> {
+    match tap_rows::encode(alloc, table, again, out) {
+        Ok(_) => Ok(()),
+        Err(fault) => Err(fault_of(name, fault, out)),
+    }
+}
+
+/// Writes the upload of the table of this name: a plain file is read twice, anything else is held in
+/// memory.
+pub(crate) fn encode<'a, W: Write + Drop>(
+    rt: &HostRuntime,
+    name: Name<'a>,
+    out: &mut Output<W>,
+) -> Result<(), Fault<'a>> {
+    if is_plain_file(rt, name) {
+        let mut table = open_in_pieces(rt, name)?;
+        let mut again = open_in_pieces(rt, name)?;
+        return encode_table(rt.alloc(), name, &mut table, &mut again, out);
+    }
+    let text = load(rt, name)?;
+    let mut table = text.as_slice();
+    let mut again = text.as_slice();
+    encode_table(rt.alloc(), name, &mut table, &mut again, out)
+}
+
+/// Writes the rows of the upload of this name, before its first layout fault.
+fn decode_one<'a, W: Write + Drop>(
+    rt: &HostRuntime,
+    name: Name<'a>,
+    out: &mut Output<W>,
+) -> Result<(), Fault<'a>> {
+    let upload = load_upload(rt, name)?;
+    match tap_rows::decode(rt.alloc(), &upload, out) {
+        Ok(None) => Ok(()),
+        Ok(Some((offset, fault))) => Err(Fault::Layout(name, offset, fault)),
+        Err(fault) => Err(fault_of(name, fault, out)),
+    }
+}
+
+/// Writes a table of the taps of these uploads, in their order. Of an upload with a layout fault the
+/// taps before it are written, the fault is told on `err`, and the next upload follows. Says whether
+/// there was none.
+pub(crate) fn decode<'a, W: Write + Drop, E: Write>(
+    rt: &HostRuntime,
+    names: &[Name<'a>],
+    out: &mut Output<W>,
+    err: &mut E,
+) -> Result<bool, Fault<'a>> {
+    if tap_rows::write_head(out).is_err() {
+        return Err(out.failed());
+    }
+    let mut is_well = true;
+    for name in names {
+        match decode_one(rt, *name, out) {
+            Ok(()) => {}
+            Err(fault) => {
+                if !fault.is_of_layout() {
+                    return Err(fault);
+                }
+                say(err, &fault);
+                is_well = false;
+            }
+        }
+    }
+    Ok(is_well)
+}

@@ -1,0 +1,75 @@
+//! Files and standard input.
+
+use crate::fault::Fault;
+use crate::names::Name;
+use std::alloc::Global;
+use std::io::{BufReader, Read};
+use std::{fs, io};
+
+/// The most bytes of an upload: 64 MiB.
+const MOST_UPLOAD_BYTES: u64 = 67_108_864;
+
+/// How many bytes one read of a file asks for.
+const READ_BYTES: usize = 65_536;
+
+/// All bytes that the reader has left.
+fn read_whole<'a, R: Read>(alloc: Global, name: Name<'a>, from: &mut R) -> Result<Vec<u8>, Fault<'a>> {
+    let mut bytes = Vec::new(alloc);
+    match from.read_to_end(&mut bytes) {
+        Ok(_) => Ok(bytes),
+        Err(error) if error.kind() == io::ErrorKind::OutOfMemory => Err(Fault::NoMemory),
+        Err(_) => Err(Fault::Unread(name)),
+    }
+}
+
+/// All bytes of an upload. One that is longer than an upload may be is not read to its end.
+fn read_upload<'a, R: Read + Drop>(alloc: Global, name: Name<'a>, from: R) -> Result<Vec<u8>, Fault<'a>> {
+    let bytes = read_whole(alloc, name, &mut from.take(MOST_UPLOAD_BYTES + 1))?;
+    if bytes.len() as u64 > MOST_UPLOAD_BYTES {
+        return Err(Fault::TooLong(name));
+    }
+    Ok(bytes)
+}
+
+/// Opens a file.
+pub(crate) fn open<'a>(rt: &HostRuntime, name: Name<'a>) -> Result<fs::File, Fault<'a>> {
+    match fs::open(rt, name.0) {
+        Ok(file) => Ok(file),
+        Err(_) => Err(Fault::Unread(name)),
+    }
+}
+
+/// A file, read in pieces.
+pub(crate) fn open_in_pieces<'a>(rt: &HostRuntime, name: Name<'a>) -> Result<BufReader<fs::File>, Fault<'a>> {
+    match BufReader::with_capacity(rt.alloc(), READ_BYTES, open(rt, name)?) {
+        Ok(reader) => Ok(reader),
+        Err(_) => Err(Fault::NoMemory),
+    }
+}
+
+/// Whether the same bytes can be read twice: not from standard input, and not from a pipe.
+pub(crate) fn is_plain_file(rt: &HostRuntime, name: Name<'_>) -> bool {
+    if name.is_input() {
+        return false;
+    }
+    match fs::metadata(rt, name.0) {
+        Ok(about) => about.is_file(),
+        Err(_) => false,
+    }
+}
+
+/// All bytes of a file or of standard input.
+pub(crate) fn load<'a>(rt: &HostRuntime, name: Name<'a>) -> Result<Vec<u8>, Fault<'a>> {
+    if name.is_input() {
+        return read_whole(rt.alloc(), name, &mut rt.reader());
+    }
+    read_whole(rt.alloc(), name, &mut open(rt, name)?)
+}
+
+/// All bytes of an upload, from a file or from standard input.
+pub(crate) fn load_upload<'a>(rt: &HostRuntime, name: Name<'a>) -> Result<Vec<u8>, Fault<'a>> {
+    if name.is_input() {
+        return read_upload(rt.alloc(), name, rt.reader());
+    }
+    read_upload(rt.alloc(), name, open(rt, name)?)
+}

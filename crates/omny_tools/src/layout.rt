@@ -1,0 +1,56 @@
+//! What a layout fault means, and what to do.
+
+use std::fmt;
+use tap_views::LayoutFault;
+
+/// The number of a layout fault, from L1 to L6, with its cause.
+#[derive(Clone, Copy)]
+pub(crate) struct Cause(pub(crate) LayoutFault);
+
+impl fmt::Display for Cause {
+    fn fmt<W: fmt::Write>(&self, f: &mut fmt::Formatter<W>) -> fmt::Result {
+        f.write_str(match self.0 {
+            LayoutFault::Short { .. } => "L1, the file ends inside a batch's header",
+            LayoutFault::Magic => "L2, a batch does not begin with TAP1 or TAP2",
+            LayoutFault::Flags => "L3, the flags of a batch are not 0",
+            LayoutFault::TooMany { .. } => "L4, a batch counts more than 4096 taps",
+            LayoutFault::Length { .. } => "L5, the file ends inside a batch's taps",
+            LayoutFault::Moment { .. } => "L6, a tap is dated 2100 or later",
+        })
+    }
+}
+
+/// What to do at a layout fault.
+#[derive(Clone, Copy)]
+pub(crate) struct Remedy(pub(crate) LayoutFault);
+
+impl fmt::Display for Remedy {
+    fn fmt<W: fmt::Write>(&self, f: &mut fmt::Formatter<W>) -> fmt::Result {
+        f.write_str(match self.0 {
+            LayoutFault::Short { .. } => "send the upload again, whole",
+            LayoutFault::Magic => {
+                "look at the file's first four bytes, then at the count of the batch before"
+            }
+            LayoutFault::Flags => "have the writer write 0 there",
+            LayoutFault::TooMany { .. } => "have the writer cut the batch",
+            LayoutFault::Length { .. } => "send the upload again, whole, or mend the count",
+            LayoutFault::Moment { .. } => {
+                "look at the validator's clock and at its unit, which is milliseconds"
+            }
+        })
+    }
+}
+
+/// The number of the tap that a layout fault names, counted from 0 in its batch, as ` tap N`; nothing
+/// where it names none.
+#[derive(Clone, Copy)]
+pub(crate) struct AtTap(pub(crate) LayoutFault);
+
+impl fmt::Display for AtTap {
+    fn fmt<W: fmt::Write>(&self, f: &mut fmt::Formatter<W>) -> fmt::Result {
+        match self.0 {
+            LayoutFault::Moment { index } => write!(f, " tap {index}"),
+            _ => Ok(()),
+        }
+    }
+}

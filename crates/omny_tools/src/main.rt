@@ -1,0 +1,43 @@
+//! The program: turns tables of taps into uploads and back, and tells what uploads have.
+//!
+//! | module | what it does |
+//! |---|---|
+//! | `words` | the command line, as `clap` reads it |
+//! | `names` | the names of files, as they are shown and opened |
+//! | `input`, `output` | files and standard input; standard output |
+//! | `fault` | why a task is given up, and the line that says so |
+//! | `layout` | what a layout fault means, and what to do |
+//! | `coding` | `encode` and `decode` |
+//! | `telling` | `uploads` |
+//! | `tasks` | the whole, from the words to the status |
+#![tactic(auto)]
+
+mod coding;
+mod fault;
+mod input;
+mod layout;
+mod names;
+mod output;
+mod tasks;
+mod telling;
+mod words;
+
+use std::env::Env;
+use std::process::ExitCode;
+use std::{env, io};
+use tasks::{run, unread_words};
+
+/// The words of the command line, the program's name first.
+fn words_of<R: Env + AllocGlobal>(rt: &R) -> io::Result<Vec<String>> {
+    let words = env::args(rt)?.collect(rt.alloc())?;
+    Ok(words)
+}
+
+fn main(rt: HostRuntime) -> ExitCode {
+    let mut err = rt.stderr();
+    let status = match words_of(&rt) {
+        Ok(words) => run(&rt, &words, &mut err),
+        Err(error) => unread_words(&error, &mut err),
+    };
+    ExitCode::from(status)
+}

@@ -1,0 +1,39 @@
+//! The names of files.
+
+use std::fmt;
+
+/// The word that stands for standard input.
+const STANDARD_INPUT: &str = "-";
+
+/// The name of a file as the command line has it; `-` stands for standard input. Its `Display` is the
+/// name with its control characters escaped, so that it stays within its line.
+#[derive(Clone, Copy, Debug)]
+pub(crate) struct Name<'a>(pub(crate) &'a str);
+
+impl<'a> Name<'a> {
+    /// Standard input.
+    pub(crate) fn input() -> Name<'a> {
+        Name(STANDARD_INPUT)
+    }
+
+    /// Whether this is standard input.
+    pub(crate) fn is_input(&self) -> bool {
+        self.0 == STANDARD_INPUT
+    }
+}
+
+impl fmt::Display for Name<'_> {
+    fn fmt<W: fmt::Write>(&self, f: &mut fmt::Formatter<W>) -> fmt::Result {
+        if self.is_input() {
+            return f.write_str("standard input");
+        }
+        for letter in self.0.chars() {
+            if letter.is_control() {
+                write!(f, "\\x{:02x}", letter as u32)?;
+            } else {
+                f.write_char(letter)?;
+            }
+        }
+        Ok(())
+    }
+}

@@ -1,0 +1,68 @@
+//! Standard output.
+
+use crate::fault::Fault;
+use std::alloc::Global;
+use std::io;
+use std::io::{BufWriter, ErrorKind, Write};
+
+/// How many bytes are collected before they are written.
+const WRITE_BYTES: usize = 65_536;
+
+/// A writer that remembers whether a write failed because the reader is gone.
+#[derive(Drop)]
+pub(crate) struct Output<W: Write + Drop> {
+    inner: BufWriter<W>,
+    is_closed: bool,
+}
+
+impl<W: Write + Drop> Output<W> {
+    /// Collects what is written to this writer.
+    pub(crate) fn new<'a>(alloc: Global, inner: W) -> Result<Output<W>, Fault<'a>> {
+        match BufWriter::with_capacity(alloc, WRITE_BYTES, inner) {
+            Ok(inner) => Ok(Output {
+                inner,
+                is_closed: false,
+            }),
+            Err(_) => Err(Fault::NoMemory),
+        }
+    }
+
+    /// Brings what was collected through. Says why a write failed, this one or an earlier one.
+    pub(crate) fn finish<'a>(&mut self) -> Result<(), Fault<'a>> {
+        match self.flush() {
+            Ok(()) => Ok(()),
+            Err(_) => Err(self.failed()),
+        }
+    }
+
+    /// Why a write failed.
+    pub(crate) fn failed<'a>(&self) -> Fault<'a> {
+        if self.is_closed {
+            Fault::Closed
+        } else {
+            Fault::Write
+        }
+    }
+}
+
+impl<W: Write + Drop> Write for Output<W> {
+    fn write(&mut self, bytes: &[u8]) -> io::Result<usize> {
+        match self.inner.write(bytes) {
+            Ok(count) => Ok(count),
+            Err(error) => {
+                self.is_closed = error.kind() == ErrorKind::BrokenPipe;
+                Err(error)
+            }
+        }
+    }
+
+    fn flush(&mut self) -> io::Result<()> {
+        match self.inner.flush() {
+            Ok(()) => Ok(()),
+            Err(error) => {
+                self.is_closed = error.kind() == ErrorKind::BrokenPipe;
+                Err(error)
+            }
+        }
+    }
+}

@@ -1,0 +1,99 @@
+//! `uploads`.
+
+use crate::fault::Fault;
+use crate::input::load_upload;
+use crate::layout::{AtTap, Cause, Remedy};
+use crate::names::Name;
+use crate::output::Output;
+use fare_texts::write_moment;
+use std::alloc::{AllocError, Global};
+use std::fs;
+use std::io::{ErrorKind, Write};
+use upload_facts::{Facts, facts_of, good_part};
+
+/// Appends a moment, or `-` where there is none.
+fn push_moment(text: &mut String, moment: Option<u64>) -> Result<(), AllocError> {
+    match moment {
+        Some(moment) => write_moment(text, moment),
+        None => text.push_str("-"),
+    }
+}
+
+/// The lines of an upload that has this number.
+fn lines_of(
+    alloc: Global,
+    number: usize,
+    name: Name<'_>,
+    facts: &Facts,
+) -> Result<String, AllocError> {
+    let batches = facts.batches;
+    let taps = facts.taps;
+    let mut text = format!(in alloc; "upload {number} batches {batches} taps {taps} first ")?;
+    push_moment(&mut text, facts.span.map(|span| span.first))?;
+    text.push_str(" last ")?;
+    push_moment(&mut text, facts.span.map(|span| span.last))?;
+    write!(text, " {name}\n")?;
+    if let Some((offset, fault)) = facts.fault {
+        let at_tap = AtTap(fault);
+        let cause = Cause(fault);
+        let remedy = Remedy(fault);
+        write!(text, "fault {number} batch {batches}{at_tap} at {offset} {cause}; {remedy}\n")?;
+    }
+    Ok(text)
+}
+
+/// Writes what the upload of this name has. Gives the upload.
+fn tell_one<'a, W: Write + Drop>(
+    rt: &HostRuntime,
+    number: usize,
+    name: Name<'a>,
+    out: &mut Output<W>,
+) -> Result<(Vec<u8>, bool), Fault<'a>> {
+    let upload = load_upload(rt, name)?;
+    let facts = facts_of(&upload);
+    let Ok(text) = lines_of(rt.alloc(), number, name, &facts) else {
+        return Err(Fault::NoMemory);
+    };
+    if out.write_all(text.as_bytes()).is_err() {
+        return Err(out.failed());
+    }
+    Ok((upload, facts.fault.is_none()))
+}
+
+/// Writes what these uploads have, in their order. Says whether none has a layout fault.
+pub(crate) fn tell<'a, W: Write + Drop>(
+    rt: &HostRuntime,
+    names: &[Name<'a>],
+    out: &mut Output<W>,
+) -> Result<bool, Fault<'a>> {
+    let mut is_well = true;
+    for (number, name) in names.iter().enumerate() {
+        let (_, is_whole) = tell_one(rt, number, *name, out)?;
+        is_well &= is_whole;
+    }
+    Ok(is_well)
+}
+
+/// Makes a file of these bytes. One that is there already is left as it is.
+fn make<'a>(rt: &HostRuntime, name: Name<'a>, bytes: &[u8]) -> Result<(), Fault<'a>> {
+    match fs::File::create_new(rt, name.0) {
+        Ok(mut file) => match file.write_all(bytes) {
+            Ok(()) => Ok(()),
+            Err(_) => Err(Fault::Write),
+        },
+        Err(error) if error.kind() == ErrorKind::AlreadyExists => Err(Fault::Exists(name)),
+        Err(_) => Err(Fault::Unmade(name)),
+    }
+}
+
+/// Writes what the upload has, and makes a file of its batches before its layout fault.
+pub(crate) fn tell_and_keep<'a, W: Write + Drop>(
+    rt: &HostRuntime,
+    name: Name<'a>,
+    good: Name<'a>,
+    out: &mut Output<W>,
+) -> Result<bool, Fault<'a>> {
+    let (upload, is_whole) = tell_one(rt, 0, name, out)?;
+    make(rt, good, good_part(&upload))?;
+    Ok(is_whole)
+}

@@ -1,0 +1,3 @@
+mod RowLemmas
+mod TableLemmas
+mod WrittenLemmas

@@ -1,0 +1,206 @@
+-- The table that is written is read as the taps that it was written for.
+use Rattle.std.proofs.Common.{◌≡◌, ℕ, zero, suc, ◌+◌, ◌-◌, ◌<◌, ◌≤◌, ◌^◌, List, [], ◌∷◌, ◌++◌, length, take, refl, sym, ap, subst, ◌∙◌, arith, append-nil, append_assoc, length-append, All, Ok, true, false, Bool, Some, None, ◌==◌, ◌&&◌, codes}
+use Rattle.std.specs.Prelude.{slice_index, slice_index_or, nat_lt, nat_le, IsOk, if◌then◌else◌, is_some}
+use Rattle.std.specs.List.{AllByRecursion, AllPass}
+use Rattle.std.specs.Char.{digit_value}
+use Rattle.std.specs.Int.{IsInRange}
+use Rattle.std.specs.Fmt.{decimal}
+use Rattle.std.specs.Str.Parse.{IsNumeral, AllDigits, digits_value}
+use Rattle.std.specs.Io.BufRead.{first_line, take_through, drop_through, ends_with_byte, strip_last}
+use Rattle.std.proofs.lemmas.Bool.{lt-ltb, ltb-true}
+use Rattle.std.proofs.lemmas.Bool.Decides.{nat_tests}
+use Rattle.std.proofs.lemmas.Fmt.{decimal_is_IsNumeral}
+use Rattle.std.proofs.lemmas.Str.Parse.{digit_from_value}
+use Rattle.std.proofs.Math.Seq.{get_or-append_seam}
+use Rattle.hex.specs.Hex.{encode_lower, decode_sized, is_hex_digit, hex_digit_value, IsBytes}
+use Rattle.hex.proofs.HexLemmas.{decode_sized-encode_lower, IsOk-decode_sized}
+use Rattle.tap_views.specs.declared.encoder.TapFields.{TapFields}
+use Rattle.tap_rows.specs.Rows.{HasNoComma, AreFields, IsDecimal, IsRow, IsTapFields, row_text, rows_text}
+use Rattle.tap_rows.specs.Tables.{head, BeginsWithRows, IsTable, table_text}
+
+-- each byte is a digit or comes after them
+abbrev pub AreHigh : List ℕ → Type 0
+AreHigh text = AllByRecursion (λ byte. 48 ≤ byte) text
+
+-- each byte comes after the line breaks
+abbrev pub ArePlain : List ℕ → Type 0
+ArePlain text = AllByRecursion (λ byte. 13 < byte) text
+
+plain_high : (text : List ℕ) → AreHigh text → ArePlain text
+plain_high [] high = tt
+plain_high (x ∷ text) high = (omega (arith, high.0), plain_high text high.1)
+
+plain_joined : (text more : List ℕ) → ArePlain text → ArePlain more → ArePlain (text ++ more)
+plain_joined [] more is also = also
+plain_joined (x ∷ text) more is also = (is.0, plain_joined text more is.1 also)
+
+-- high bytes have no comma
+no_comma : (text : List ℕ) → AreHigh text → (k d : ℕ) → k < length text → ¬ (slice_index_or text k d ≡ 44)
+no_comma [] high k d within = absurd (omega (arith, within))
+no_comma (x ∷ text) high zero d within = λ e. absurd (omega (arith, high.0, e))
+no_comma (x ∷ text) high (suc k) d within = no_comma text high.1 k d (omega (arith, within))
+
+-- ---- digits are high
+digits_high : (text : List ℕ) → AllDigits 10 text → AreHigh text
+digits_high [] digits = tt
+digits_high (x ∷ text) digits = let range = digit_from_value x digits.0 in (omega (arith, range), digits_high text digits.1)
+
+hex_high_one : (c : ℕ) → is_hex_digit c ≡ true → 48 ≤ c
+hex_high_one c is = grind (arith, nat_tests, is)
+
+hex_high : (text : List ℕ) → AllPass is_hex_digit text → AreHigh text
+hex_high [] digits = tt
+hex_high (x ∷ text) digits = (hex_high_one x (digits 0 0 (omega arith)), hex_high text (λ k d within. digits (suc k) d (omega (arith, within))))
+
+-- ---- lines
+is_not : (x y : ℕ) → y < x → (x == y) ≡ false
+is_not x y less = grind (arith, nat_tests)
+
+-- up to and with the line feed
+taken : (line rest : List ℕ) → ArePlain line → take_through 10 (line ++ 10 ∷ rest) ≡ line ++ 10 ∷ []
+taken [] rest plain = refl
+taken (x ∷ line) rest plain = let other = is_not x 10 (omega (arith, plain.0)) in rw other (ap (λ bytes. x ∷ bytes) (taken line rest plain.1))
+
+-- behind the line feed
+pub dropped : (line rest : List ℕ) → ArePlain line → drop_through 10 (line ++ 10 ∷ rest) ≡ rest
+dropped [] rest plain = refl
+dropped (x ∷ line) rest plain = let other = is_not x 10 (omega (arith, plain.0)) in rw other (dropped line rest plain.1)
+
+-- a line without its end
+abbrev trimmed : List ℕ → List ℕ
+trimmed line = if ends_with_byte 10 line then strip_last 13 (strip_last 10 line) else strip_last 10 line
+
+positive : (n : ℕ) → 0 < n → nat_lt 0 n ≡ true
+positive n some = lt-ltb 0 n some
+
+-- a line feed stands last
+ends_so : (line : List ℕ) → ends_with_byte 10 (line ++ 10 ∷ []) ≡ true
+ends_so line =
+    let size : length (line ++ 10 ∷ []) ≡ length line + 1 = length-append line (10 ∷ []) in
+    let some = positive (length (line ++ 10 ∷ [])) (omega (arith, size)) in
+    let at : length (line ++ 10 ∷ []) - 1 ≡ length line = omega (arith, size) in
+    let last : slice_index (line ++ 10 ∷ []) (length (line ++ 10 ∷ []) - 1) ≡ 10 = ap (λ k. slice_index (line ++ 10 ∷ []) k) at ∙ get_or-append_seam line 10 [] 0 in
+    rw (some, last) refl
+
+take_front : (front rest : List ℕ) → take (length front) (front ++ rest) ≡ front
+take_front [] rest = refl
+take_front (x ∷ front) rest = ap (λ bytes. x ∷ bytes) (take_front front rest)
+
+no_feed : (line : List ℕ) → strip_last 10 (line ++ 10 ∷ []) ≡ line
+no_feed line =
+    let size : length (line ++ 10 ∷ []) ≡ length line + 1 = length-append line (10 ∷ []) in
+    let at : length (line ++ 10 ∷ []) - 1 ≡ length line = omega (arith, size) in
+    let ends = ends_so line in
+    rw ends (ap (λ k. take k (line ++ 10 ∷ [])) at ∙ take_front line (10 ∷ []))
+
+plain_at : (line : List ℕ) → ArePlain line → (k : ℕ) → k < length line → 13 < slice_index line k
+plain_at [] plain k within = absurd (omega (arith, within))
+plain_at (x ∷ line) plain zero within = plain.0
+plain_at (x ∷ line) plain (suc k) within = plain_at line plain.1 k (omega (arith, within))
+
+and_false : (b : Bool) → (b && false) ≡ false
+and_false true = refl
+and_false false = refl
+
+-- no carriage return stands last
+no_return : (line : List ℕ) → ArePlain line → ends_with_byte 13 line ≡ false
+no_return [] plain = refl
+no_return (x ∷ line) plain =
+    let last = plain_at (x ∷ line) plain (length (x ∷ line) - 1) (omega arith) in
+    let other = is_not (slice_index (x ∷ line) (length (x ∷ line) - 1)) 13 last in
+    rw other (and_false (nat_lt 0 (length (x ∷ line))))
+
+strip_none : (line : List ℕ) → ends_with_byte 13 line ≡ false → strip_last 13 line ≡ line
+strip_none line none = rw none refl
+
+-- the line without its end
+pub first : (line rest : List ℕ) → ArePlain line → first_line (line ++ 10 ∷ rest) ≡ line
+first line rest plain =
+    let ends = ends_so line in
+    let whole : trimmed (line ++ 10 ∷ []) ≡ strip_last 13 (strip_last 10 (line ++ 10 ∷ [])) = rw ends refl in
+    ap trimmed (taken line rest plain) ∙ whole ∙ ap (strip_last 13) (no_feed line) ∙ strip_none line (no_return line plain)
+
+-- whether each byte comes after the line breaks
+abbrev all_plain : List ℕ → Bool
+all_plain [] = true
+all_plain (x ∷ text) = nat_lt 13 x && all_plain text
+
+and_left : (a b : Bool) → (a && b) ≡ true → a ≡ true
+and_left true b is = refl
+and_left false b is = is
+
+and_right : (a b : Bool) → (a && b) ≡ true → b ≡ true
+and_right true b is = is
+and_right false b is = absurd (cc)
+
+plain_one : (x : ℕ) → nat_lt 13 x ≡ true → 13 < x
+plain_one x is = ltb-true 13 x is
+
+plain_test : (text : List ℕ) → all_plain text ≡ true → ArePlain text
+plain_test [] is = tt
+plain_test (x ∷ text) is = (plain_one x (and_left (nat_lt 13 x) (all_plain text) is), plain_test text (and_right (nat_lt 13 x) (all_plain text) is))
+
+-- ---- rows
+-- the row of a tap, without its line feed
+abbrev pub line_of : TapFields → List ℕ
+line_of tap = encode_lower tap.token ++ 44 ∷ (decimal tap.validator ++ 44 ∷ decimal tap.moment)
+
+number_back : (number : ℕ) → number < 2 ^ 64 → IsDecimal (decimal number) number
+number_back number small = let (is, value) = decimal_is_IsNumeral number small in record { digits = is; value = sym value }
+
+token_high : (tap : TapFields) → IsTapFields tap → AreHigh (encode_lower tap.token)
+token_high tap is =
+    let decoded = decode_sized-encode_lower tap.token 16 is.token is.bytes in
+    let ok : IsOk (decode_sized (encode_lower tap.token) 16) = subst IsOk (sym decoded) refl in
+    hex_high (encode_lower tap.token) ((IsOk-decode_sized (encode_lower tap.token) 16).0 ok).1
+
+decimal_high : (number : ℕ) → number < 2 ^ 64 → AreHigh (decimal number)
+decimal_high number small = digits_high (decimal number) (decimal_is_IsNumeral number small).0.1
+
+line_plain : (tap : TapFields) → IsTapFields tap → ArePlain (line_of tap)
+line_plain tap is =
+    plain_joined (encode_lower tap.token) (44 ∷ (decimal tap.validator ++ 44 ∷ decimal tap.moment)) (plain_high _ (token_high tap is))
+    (omega arith, plain_joined (decimal tap.validator) (44 ∷ decimal tap.moment) (plain_high _ (decimal_high tap.validator (omega (arith, is.validator)))) (omega arith, plain_high _ (decimal_high tap.moment (omega (arith, is.moment)))))
+
+row_back : (tap : TapFields) → IsTapFields tap → IsRow (line_of tap) tap
+row_back tap is = record {
+  token_text = encode_lower tap.token;
+  validator_text = decimal tap.validator;
+  moment_text = decimal tap.moment;
+  fields = record {
+    joined = refl;
+    first = no_comma (encode_lower tap.token) (token_high tap is);
+    second = no_comma (decimal tap.validator) (decimal_high tap.validator (omega (arith, is.validator)));
+    third = no_comma (decimal tap.moment) (decimal_high tap.moment (omega (arith, is.moment)));
+  };
+  token = decode_sized-encode_lower tap.token 16 is.token is.bytes;
+  validator = (number_back tap.validator (omega (arith, is.validator)), is.validator);
+  moment = (number_back tap.moment (omega (arith, is.moment)), is.moment);
+}
+
+-- the text of a row is its line and a line feed
+row_spelt : (tap : TapFields) (rest : List ℕ) → row_text tap ++ rest ≡ line_of tap ++ 10 ∷ rest
+row_spelt tap rest =
+    append_assoc (encode_lower tap.token) (44 ∷ (decimal tap.validator ++ 44 ∷ (decimal tap.moment ++ 10 ∷ []))) rest
+    ∙ ap (λ text. encode_lower tap.token ++ 44 ∷ text)
+    (append_assoc (decimal tap.validator) (44 ∷ (decimal tap.moment ++ 10 ∷ [])) rest
+    ∙ ap (λ text. decimal tap.validator ++ 44 ∷ text) (append_assoc (decimal tap.moment) (10 ∷ []) rest)
+    ∙ sym (append_assoc (decimal tap.validator) (44 ∷ decimal tap.moment) (10 ∷ rest)))
+    ∙ sym (append_assoc (encode_lower tap.token) (44 ∷ (decimal tap.validator ++ 44 ∷ decimal tap.moment)) (10 ∷ rest))
+
+rows_back : (taps : List TapFields) → AllByRecursion IsTapFields taps → BeginsWithRows (rows_text taps) taps []
+rows_back [] are = refl
+rows_back (tap ∷ taps) are =
+    let spelt = row_spelt tap (rows_text taps) in
+    let plain = line_plain tap are.0 in
+    let line : first_line (rows_text (tap ∷ taps)) ≡ line_of tap = ap first_line spelt ∙ first (line_of tap) (rows_text taps) plain in
+    let rest : drop_through 10 (rows_text (tap ∷ taps)) ≡ rows_text taps = ap (drop_through 10) spelt ∙ dropped (line_of tap) (rows_text taps) plain in
+    (subst (λ text. IsRow text tap) (sym line) (row_back tap are.0), subst (λ text. BeginsWithRows text taps []) (sym rest) (rows_back taps are.1))
+
+pub table_back : (taps : List TapFields) → AllByRecursion IsTapFields taps → IsTable (table_text taps) taps
+table_back taps are =
+    let plain : ArePlain head = plain_test head refl in
+    record {
+      head_line = first head (rows_text taps) plain;
+      rows = subst (λ text. BeginsWithRows text taps []) (sym (dropped head (rows_text taps) plain)) (rows_back taps are);
+    }

@@ -1,0 +1,15 @@
+use Rattle.std.proofs.Common.{◌≡◌, ◌∙◌, ℕ, List, [], sym, ap, refl, None, Some}
+use Rattle.std.specs.Prelude.{Option}
+use Rattle.tap_views.specs.declared.fault.LayoutFault.{LayoutFault}
+use Rattle.upload_facts.specs.Facts.{IsEnd}
+use Rattle.tap_rows.specs.Decoded.{fields_in}
+use Rattle.tap_rows.proofs.laws.decodes_back.Goals as goal
+
+no_fault : (upload rest : List ℕ) (fault : Option (ℕ × LayoutFault)) → rest ≡ [] → IsEnd upload rest fault → fault ≡ None
+no_fault upload rest None none is = refl
+no_fault upload rest (Some (offset, fault)) none is = absurd (is.some none)
+
+pub returns : goal.returns
+returns c = λ taps batches fault file read.
+    let (same, rest) = c.one_cut.ensures batches file.batches read.rest [] read.is_file file.is_file in
+    (ap fields_in same ∙ file.read, no_fault c.args.upload.now read.rest fault rest read.is_end)

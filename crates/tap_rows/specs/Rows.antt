@@ -1,0 +1,96 @@
+-- A tap as a row of CSV: three fields, with commas between them.
+use Rattle.std.specs.Prelude.{◌≡◌, ℕ, ◌<◌, ◌^◌, List, [], ◌∷◌, ◌++◌, length, All, Ok, flat_map}
+use Rattle.std.specs.Fmt.{decimal}
+use Rattle.std.specs.Str.Parse.{IsNumeral, digits_value}
+use Rattle.hex.specs.Hex.{decode_sized, encode_lower, IsBytes}
+use Rattle.tap_views.specs.Layout.{moment_limit}
+use Rattle.tap_views.specs.declared.encoder.TapFields.{TapFields}
+use Rattle.tap_rows.specs.declared.column.Column.{Column}
+use Rattle.tap_rows.specs.declared.column.Column.TheVariants.{Fields, Token, Validator, Moment}
+
+-- no byte of the text is a comma
+abbrev pub HasNoComma : List ℕ → Type 0
+HasNoComma text = All (λ byte. ¬ (byte ≡ 44)) text
+
+-- the line is these three fields, with a comma after each but the last, and none within any
+pub record AreFields (line token validator moment : List ℕ) : Type 0 where
+  pub joined : line ≡ token ++ 44 ∷ (validator ++ 44 ∷ moment)
+  pub first : HasNoComma token
+  pub second : HasNoComma validator
+  pub third : HasNoComma moment
+
+-- the text is 32 hexadecimal digits, of either case, and they spell these 16 bytes
+abbrev pub IsToken : List ℕ → List ℕ → Type 0
+IsToken text token = decode_sized text 16 ≡ Ok token
+
+-- the text is one decimal digit or more, and they write this number
+pub record IsDecimal (text : List ℕ) (number : ℕ) : Type 0 where
+  pub digits : IsNumeral 10 text
+  pub value : number ≡ digits_value 10 text
+
+-- the text writes a validator's number
+abbrev pub IsValidator : List ℕ → ℕ → Type 0
+IsValidator text number = IsDecimal text number × (number < 2 ^ 32)
+
+-- the text writes a moment in milliseconds, below the limit of moments
+abbrev pub IsMoment : List ℕ → ℕ → Type 0
+IsMoment text number = IsDecimal text number × (number < moment_limit)
+
+-- the line is a row of this tap
+pub record IsRow (line : List ℕ) (tap : TapFields) : Type 0 where
+  pub token_text : List ℕ
+  pub validator_text : List ℕ
+  pub moment_text : List ℕ
+  pub fields : AreFields line token_text validator_text moment_text
+  pub token : IsToken token_text tap.token
+  pub validator : IsValidator validator_text tap.validator
+  pub moment : IsMoment moment_text tap.moment
+
+-- the line has three fields, and the token's tells no token
+pub record HasNoToken (line : List ℕ) : Type 0 where
+  pub token_text : List ℕ
+  pub validator_text : List ℕ
+  pub moment_text : List ℕ
+  pub fields : AreFields line token_text validator_text moment_text
+  pub wrong : (token : List ℕ) → ¬ (IsToken token_text token)
+
+-- the line has three fields, the first tells a token, and the second no validator
+pub record HasNoValidator (line : List ℕ) : Type 0 where
+  pub token_text : List ℕ
+  pub validator_text : List ℕ
+  pub moment_text : List ℕ
+  pub fields : AreFields line token_text validator_text moment_text
+  pub token : (token : List ℕ) × IsToken token_text token
+  pub wrong : (number : ℕ) → ¬ (IsValidator validator_text number)
+
+-- the line has three fields, the first two tell a token and a validator, and the third no moment
+pub record HasNoMoment (line : List ℕ) : Type 0 where
+  pub token_text : List ℕ
+  pub validator_text : List ℕ
+  pub moment_text : List ℕ
+  pub fields : AreFields line token_text validator_text moment_text
+  pub token : (token : List ℕ) × IsToken token_text token
+  pub validator : (number : ℕ) × IsValidator validator_text number
+  pub wrong : (number : ℕ) → ¬ (IsMoment moment_text number)
+
+-- the line is a row of no tap, and this is the first column that is wrong
+abbrev pub IsNoRow : List ℕ → Column → Type 0
+IsNoRow line Fields = (token validator moment : List ℕ) → ¬ (AreFields line token validator moment)
+IsNoRow line Token = HasNoToken line
+IsNoRow line Validator = HasNoValidator line
+IsNoRow line Moment = HasNoMoment line
+
+-- the row of a tap as it is written, with its line feed
+abbrev pub row_text : TapFields → List ℕ
+row_text tap = encode_lower tap.token ++ 44 ∷ (decimal tap.validator ++ 44 ∷ (decimal tap.moment ++ 10 ∷ []))
+
+-- the rows of taps, in their order
+abbrev pub rows_text : List TapFields → List ℕ
+rows_text taps = flat_map row_text taps
+
+-- what the types of a tap's fields say, and that its moment is below the limit
+pub record IsTapFields (tap : TapFields) : Type 0 where
+  pub token : length tap.token ≡ 16
+  pub bytes : IsBytes tap.token
+  pub validator : tap.validator < 2 ^ 32
+  pub moment : tap.moment < moment_limit

@@ -1,0 +1,14 @@
+//! The columns of a table of taps.
+
+/// What is wrong with a row: the number of its fields, or its first field that tells nothing.
+#[derive(Clone, Copy, Debug, PartialEq, Eq)]
+pub enum Column {
+    /// The row has not three fields.
+    Fields,
+    /// The token's field is not 32 hexadecimal digits.
+    Token,
+    /// The validator's field is no decimal number below 2^32.
+    Validator,
+    /// The moment's field tells no moment below 2100-01-01T00:00Z.
+    Moment,
+}

@@ -1,0 +1,48 @@
+//! Why a table of taps is not turned into an upload, or an upload into a table.
+
+use crate::column::Column;
+use std::alloc::{AllocError, AllocFailed};
+
+/// Why a table of taps is not turned into an upload, or an upload into a table.
+#[derive(Clone, Copy, Debug, PartialEq, Eq)]
+pub enum RowsFault {
+    /// The first line is not `token,validator,moment`.
+    Head,
+    /// A line is the row of no tap.
+    Row {
+        /// The number of the line; the head is line 1.
+        number: u64,
+        /// The first column that is wrong.
+        column: Column,
+    },
+    /// A read failed.
+    Unread,
+    /// The table was another one when it was read again.
+    Changed,
+    /// A write failed.
+    Write,
+    /// A growth of memory was refused.
+    NoMemory,
+}
+
+impl From<AllocError> for RowsFault {
+    ghost use Rattle.std.specs.Prelude.{◌≡◌};
+    ghost use Rattle.tap_rows.specs.declared.fault.RowsFault.TheVariants.{NoMemory};
+
+    ghost from_gives = { λ _ fault. fault ≡ NoMemory };
+
+    fn from(_refused: AllocError) -> RowsFault {
+        RowsFault::NoMemory
+    }
+}
+
+impl<T: Drop> From<AllocFailed<T>> for RowsFault {
+    ghost use Rattle.std.specs.Prelude.{◌≡◌};
+    ghost use Rattle.tap_rows.specs.declared.fault.RowsFault.TheVariants.{NoMemory};
+
+    ghost from_gives = { λ _ fault. fault ≡ NoMemory };
+
+    fn from(_refused: AllocFailed<T>) -> RowsFault {
+        RowsFault::NoMemory
+    }
+}

@@ -1,0 +1,83 @@
+//! Uploads, written as rows of a table.
+
+ghost use Rattle.std.specs.Prelude.{◌≡◌, ◌++◌, ◌∷◌, [], ℕ, List, IfErr, IfOk, OnOk, map};
+ghost use Rattle.std.specs.Io.KnownBytes.{Appends};
+ghost use Rattle.tap_rows.specs.Decoded.{IsDecoded};
+ghost use Rattle.tap_rows.specs.Rows.{row_text, rows_text};
+ghost use Rattle.tap_rows.specs.Tables.{head};
+ghost use Rattle.tap_views.specs.Encoding.{fields_of};
+
+use crate::fault::RowsFault;
+use itoa::Buffer;
+use std::alloc::Global;
+use std::io::Write;
+use tap_views::{Batch, LayoutFault, TapView, batches};
+
+/// Writes bytes whole.
+fn put<W: Write>(out: &mut W, bytes: &[u8]) -> Result<(), RowsFault>
+    ensures bytes { OnOk result (Appends (W.contents out.old) (W.contents out.new) bytes.now) }
+    ensures fault { IfErr result (λ fault. fault ≡ RowsFault.Write) }
+{
+    match out.write_all(bytes) {
+        Ok(()) => Ok(()),
+        Err(_) => Err(RowsFault::Write),
+    }
+}
+
+/// Appends a tap's row, with its line feed.
+fn push_row(text: &mut Vec<u8>, tap: &TapView) -> Result<(), RowsFault>
+    ensures { OnOk result (text.new.items ≡ text.old.items ++ row_text (fields_of tap.now)) }
+{
+    let mut token = [0; 32];
+    let _ = hex::encode_to_slice(tap.token(), &mut token);
+    let mut validator = Buffer::new();
+    let mut moment = Buffer::new();
+    text.extend_from_slice(&token)?;
+    text.extend_from_slice(b",")?;
+    text.extend_from_slice(validator.format(tap.validator_number()).as_bytes())?;
+    text.extend_from_slice(b",")?;
+    text.extend_from_slice(moment.format(tap.moment_ms()).as_bytes())?;
+    text.extend_from_slice(b"\n")?;
+    Ok(())
+}
+
+/// Puts the rows of a batch in place of what `text` holds.
+fn fill(text: &mut Vec<u8>, batch: &Batch) -> Result<(), RowsFault>
+    ensures { OnOk result (text.new.items ≡ rows_text (map fields_of batch.now)) }
+{
+    text.clear();
+    for tap in batch.taps() {
+        push_row(text, &tap)?;
+    }
+    Ok(())
+}
+
+/// Writes the head line of a table.
+pub fn write_head<W: Write>(out: &mut W) -> Result<(), RowsFault>
+    ensures head { OnOk result (Appends (W.contents out.old) (W.contents out.new) (head ++ 10 ∷ [])) }
+    ensures fault { IfErr result (λ fault. fault ≡ RowsFault.Write) }
+{
+    put(out, b"token,validator,moment\n")
+}
+
+/// Writes the rows of an upload's taps, without a head line: of all of them, or of those before its
+/// first layout fault, which is given with the offset of its batch.
+pub fn decode<W: Write>(
+    alloc: Global,
+    file: &[u8],
+    out: &mut W,
+) -> Result<Option<(u64, LayoutFault)>, RowsFault>
+    ensures rows { IfOk result (λ fault. (text : List ℕ) × IsDecoded file.now text fault × Appends (W.contents out.old) (W.contents out.new) text) }
+{
+    let mut text = Vec::new(alloc);
+    for item in batches(file) {
+        match item {
+            Ok(batch) => {
+                fill(&mut text, &batch)?;
+                put(out, &text)?;
+            }
+            Err((offset, fault)) => return Ok(Some((offset, fault))),
+        }
+    }
+    Ok(None)
+}

@@ -1,0 +1,107 @@
+//! Tables of taps, written as uploads.
+
+ghost use Rattle.std.specs.Prelude.{◌≡◌, ◌<◌, ◌≤◌, ℕ, List, [], All, IfErr, IfOk, IfSome, IsSome, IsErrOf, OnOk, length};
+ghost use Rattle.std.specs.Io.KnownBytes.{Appends};
+ghost use Rattle.tap_parts.specs.Parts.{IsFileOf};
+ghost use Rattle.tap_rows.specs.Tables.{IsBatchFault, IsEncoded, IsEncodedAs, IsOfTable, IsRefused};
+ghost use Rattle.tap_views.specs.Encoding.{AreEncodable};
+
+use crate::fault::RowsFault;
+use crate::read::{check, next_row, read_head};
+use std::alloc::Global;
+use std::io::{BufRead, Write};
+use tap_views::{EncodeFault, TapFields};
+
+/// The most taps of one batch.
+const BATCH_TAPS: usize = 4_096;
+
+/// Why taps that may stand in one batch were not encoded.
+fn why(fault: EncodeFault) -> RowsFault
+    requires { fault ≡ EncodeFault.NoMemory }
+    ensures { result ≡ RowsFault.NoMemory }
+{
+    match fault {
+        EncodeFault::NoMemory => RowsFault::NoMemory,
+        EncodeFault::TooMany | EncodeFault::Moment { .. } => unreachable!(),
+    }
+}
+
+/// Writes these taps as one batch; nothing where there are none.
+fn write_batch<W: Write>(alloc: Global, taps: &[TapFields], out: &mut W) -> Result<(), RowsFault>
+    requires { AreEncodable (λ tap. tap.moment) taps.now }
+    ensures upload { OnOk result (IsEncodedAs taps.now (W.contents out.old) (W.contents out.new)) }
+    ensures fault { IfErr result IsBatchFault }
+{
+    if taps.is_empty() {
+        return Ok(());
+    }
+    match tap_views::encode(alloc, taps) {
+        Ok(bytes) => match out.write_all(&bytes) {
+            Ok(()) => Ok(()),
+            Err(_) => Err(RowsFault::Write),
+        },
+        Err(fault) => Err(why(fault)),
+    }
+}
+
+/// Writes the taps of a table as they are read, in full batches but the last. Gives their number.
+fn write_taps<R: BufRead, W: Write>(
+    alloc: Global,
+    table: &mut R,
+    out: &mut W,
+) -> Result<u64, RowsFault>
+    ensures upload { IfOk result (λ count. IfSome (R.remaining table.old) (λ text. IsEncoded text (W.contents out.old) (W.contents out.new) count)) }
+    ensures refused { IfErr result (λ fault. IfSome (R.remaining table.old) (λ text. IsRefused text fault)) }
+{
+    let mut line = Vec::new(alloc);
+    let mut taps = Vec::with_capacity(alloc, BATCH_TAPS)?;
+    read_head(table, &mut line)?;
+    for count in 0..u64::MAX - 1 {
+        match next_row(table, &mut line, count + 2)? {
+            Some(tap) => {
+                if taps.len() == BATCH_TAPS {
+                    write_batch(alloc, &taps, out)?;
+                    taps.clear();
+                }
+                taps.push(tap)?;
+            }
+            None => {
+                write_batch(alloc, &taps, out)?;
+                return Ok(count);
+            }
+        }
+    }
+    Err(RowsFault::Unread)
+}
+
+/// The fault of a table that had none when it was read first: then its rows have changed.
+fn when_read_again(fault: RowsFault) -> RowsFault
+    ensures own { IsOfTable fault → result ≡ RowsFault.Changed }
+    ensures other { (¬ (IsOfTable fault)) → result ≡ fault }
+    ensures none { ¬ (IsOfTable result) }
+{
+    match fault {
+        RowsFault::Head | RowsFault::Row { .. } => RowsFault::Changed,
+        fault => fault,
+    }
+}
+
+/// Writes the upload of a table: `TAP1` batches of 4,096 taps, the last of fewer. The table is read
+/// twice, from two readers of it, so that nothing is written where a row is bad.
+pub fn encode<R: BufRead, S: BufRead, W: Write>(
+    alloc: Global,
+    table: &mut R,
+    again: &mut S,
+    out: &mut W,
+) -> Result<u64, RowsFault>
+    ensures upload { IfOk result (λ count. IfSome (S.remaining again.old) (λ text. IsEncoded text (W.contents out.old) (W.contents out.new) count)) }
+    ensures refused { IfErr result (λ fault. IsOfTable fault → IfSome (R.remaining table.old) (λ text. IsRefused text fault)) }
+    ensures nothing { IfErr result (λ fault. IsOfTable fault → out.new ≡ out.old) }
+    ensures same { IsErrOf result RowsFault.Changed → IsSome (R.remaining table.old) → R.remaining table.old ≡ S.remaining again.old → ⊥ }
+{
+    let count = check(alloc, table)?;
+    match write_taps(alloc, again, out) {
+        Ok(written) => if written == count { Ok(count) } else { Err(RowsFault::Changed) },
+        Err(fault) => Err(when_read_again(fault)),
+    }
+}

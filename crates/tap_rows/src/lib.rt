@@ -1,0 +1,18 @@
+//! Taps as CSV: a table with a head line and a row for each tap, read into uploads and written from
+//! them.
+#![tactic(auto)]
+
+mod column;
+mod fault;
+mod into_table;
+mod into_upload;
+pub mod laws;
+mod read;
+mod row;
+
+pub use column::Column;
+pub use fault::RowsFault;
+pub use into_table::{decode, write_head};
+pub use into_upload::encode;
+pub use read::check;
+pub use row::tap_of;

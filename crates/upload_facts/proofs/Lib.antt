@@ -1,0 +1,3 @@
+pub mod ReadingLemmas
+mod Fronts
+mod Spans

@@ -1,0 +1,59 @@
+-- What an upload is read as, and what is told of it.
+use Rattle.std.specs.Prelude.{◌≡◌, ℕ, ◌+◌, ◌≤◌, List, [], ◌++◌, length, map, flat_map, Contains, Option, None, Some}
+use Rattle.std.specs.List.{AllByRecursion}
+use Rattle.tap_views.specs.Layout.{Tap, num}
+use Rattle.tap_views.specs.Faults.{IsFault}
+use Rattle.tap_views.specs.Files.{IsFile}
+use Rattle.tap_views.specs.declared.fault.LayoutFault.{LayoutFault}
+use Rattle.upload_facts.specs.declared.facts.Facts.{Facts}
+use Rattle.upload_facts.specs.declared.span.Span.{Span}
+
+-- what is left of the upload behind its batches begins at this offset, and this is its layout fault
+pub record IsFaultAt (upload rest : List ℕ) (offset : ℕ) (fault : LayoutFault) : Type 0 where
+  pub some : ¬ (rest ≡ [])
+  pub is_fault : IsFault rest fault
+  pub place : offset + length rest ≡ length upload
+
+-- how the upload ends behind its batches: with nothing, or with a layout fault
+abbrev pub IsEnd : List ℕ → List ℕ → Option (ℕ × LayoutFault) → Type 0
+IsEnd upload rest None = rest ≡ []
+IsEnd upload rest (Some (offset, fault)) = IsFaultAt upload rest offset fault
+
+-- the upload is these batches, one after the other, and then ends so
+pub record IsReadAs (upload : List ℕ) (batches : List (List Tap)) (fault : Option (ℕ × LayoutFault)) : Type 0 where
+  pub rest : List ℕ
+  pub is_file : IsFile upload batches rest
+  pub is_end : IsEnd upload rest fault
+
+-- the taps of all batches, in their order
+abbrev pub taps_of : List (List Tap) → List Tap
+taps_of batches = flat_map (λ batch. batch) batches
+
+-- the moment of a tap in milliseconds
+abbrev pub moment_of : Tap → ℕ
+moment_of tap = num tap.moment
+
+-- the moment lies within the span
+abbrev pub IsWithin : Span → ℕ → Type 0
+IsWithin span moment = (span.first ≤ moment) × (moment ≤ span.last)
+
+-- the span of these moments: from one of them to one of them, and all lie within; none of no moments
+abbrev pub IsSpan : List ℕ → Option Span → Type 0
+IsSpan moments None = moments ≡ []
+IsSpan moments (Some span) = Contains moments span.first × Contains moments span.last × AllByRecursion (IsWithin span) moments
+
+-- the facts are those of the upload
+pub record AreFacts (upload : List ℕ) (facts : Facts) : Type 0 where
+  pub read_batches : List (List Tap)
+  pub read : IsReadAs upload read_batches facts.fault
+  pub number : facts.batches ≡ length read_batches
+  pub tap_number : facts.taps ≡ length (taps_of read_batches)
+  pub moments : IsSpan (map moment_of (taps_of read_batches)) facts.span
+
+-- the upload begins with these bytes, which are its batches without a fault, and what follows begins with no batch
+pub record IsGoodPart (upload front : List ℕ) : Type 0 where
+  pub batches : List (List Tap)
+  pub rest : List ℕ
+  pub of_upload : IsFile upload batches rest
+  pub of_front : IsFile front batches []
+  pub joined : upload ≡ front ++ rest

@@ -1,0 +1,61 @@
+//! What an upload has.
+
+ghost use Rattle.std.specs.Prelude.{◌≡◌, length};
+ghost use Rattle.upload_facts.specs.Facts.{AreFacts};
+
+use crate::span::{Span, over_batch};
+use tap_views::{LayoutFault, batches};
+
+/// What an upload has before its first layout fault, and the fault.
+#[derive(Clone, Copy, Debug, PartialEq, Eq)]
+pub struct Facts {
+    /// How many batches.
+    pub batches: u64,
+    /// How many taps.
+    pub taps: u64,
+    /// The first and the last moment; none where there is no tap.
+    pub span: Option<Span>,
+    /// The layout fault that ends the upload, and the offset of its batch in bytes.
+    pub fault: Option<(u64, LayoutFault)>,
+}
+
+/// The number of bytes.
+// proof: an upload has fewer than 2^64 bytes, so that its batches and taps can be counted
+fn size(upload: &[u8]) -> u64
+    ensures { result ≡ length upload.now }
+{
+    upload.len() as u64
+}
+
+/// What an upload has. It takes no memory.
+pub fn facts_of(upload: &[u8]) -> Facts
+    ensures { AreFacts upload.now result }
+{
+    let _ = size(upload);
+    let mut count = 0;
+    let mut taps = 0;
+    let mut span = None;
+    for item in batches(upload) {
+        match item {
+            Ok(batch) => {
+                span = over_batch(span, &batch);
+                taps += u64::from(batch.len());
+                count += 1;
+            }
+            Err((offset, fault)) => {
+                return Facts {
+                    batches: count,
+                    taps,
+                    span,
+                    fault: Some((offset, fault)),
+                };
+            }
+        }
+    }
+    Facts {
+        batches: count,
+        taps,
+        span,
+        fault: None,
+    }
+}

@@ -1,0 +1,42 @@
+//! The first and the last of some moments.
+
+ghost use Rattle.std.specs.Prelude.{◌≡◌, ◌++◌, ◌∷◌, [], ℕ, List, map};
+ghost use Rattle.upload_facts.specs.Facts.{IsSpan, moment_of};
+
+use tap_views::Batch;
+
+/// The first and the last of some moments, in milliseconds since 1970-01-01T00:00Z.
+#[derive(Clone, Copy, Debug, PartialEq, Eq)]
+pub struct Span {
+    /// The earliest moment.
+    pub first: u64,
+    /// The latest moment.
+    pub last: u64,
+}
+
+/// The span of one moment more.
+pub(crate) fn widened(span: Option<Span>, moment: u64) -> Option<Span>
+    ensures { (moments : List ℕ) → IsSpan moments span → IsSpan (moments ++ moment ∷ []) result }
+{
+    match span {
+        None => Some(Span {
+            first: moment,
+            last: moment,
+        }),
+        Some(span) => Some(Span {
+            first: span.first.min(moment),
+            last: span.last.max(moment),
+        }),
+    }
+}
+
+/// The span of the moments of a batch more.
+pub(crate) fn over_batch(span: Option<Span>, batch: &Batch) -> Option<Span>
+    ensures { (moments : List ℕ) → IsSpan moments span → IsSpan (moments ++ map moment_of batch.now) result }
+{
+    let mut wide = span;
+    for tap in batch.taps() {
+        wide = widened(wide, tap.moment_ms());
+    }
+    wide
+}
