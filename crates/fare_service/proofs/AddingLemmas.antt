@@ -20,16 +20,17 @@ use Rattle.fare_table.specs.Fares.{Fares}
 use Rattle.fare_service.specs.declared.upload_end.UploadEnd.{UploadEnd}
 use Rattle.fare_service.specs.declared.upload_end.UploadEnd.TheVariants.{Posted, Refused, Cut, Undrawn}
 use Rattle.fare_service.specs.Adding.{add_all, taps_told, AddUp}
-use Rattle.fare_service.specs.Gathering.{Signed, IsBookOfWork, all_works, end_of, IsGathered}
+use Rattle.fare_service.specs.Headline.{Signed, end_of}
 use Rattle.fare_service.specs.Closing.{IsClosedWork}
-use Rattle.fare_service.specs.Halls.{Hall, IsHall, shards_of, upload_at}
+use Rattle.fare_service.specs.Halls.{Hall, IsHall}
 use Rattle.fare_service.specs.Holdings.{Holding}
 use Rattle.fare_service.specs.Joining.{told_all}
 use Rattle.fare_service.specs.Outcomes.{Gathered}
 use Rattle.fare_service.specs.Runs.{Visit, IsEntered, visits_to, entries_of, taps_posted}
-use Rattle.fare_service.specs.Shares.{Worked, all_visits, IsWorked, IsEndOf, IsShareOf}
-use Rattle.fare_service.proofs.GatherLemmas.{has_outcome, times_same, fewer_after, not_drawn, end_same, end_other}
+use Rattle.fare_service.specs.Shares.{Worked, all_visits, IsWorkOf, IsEndOf, IsShareOf, all_works, file_at}
+use Rattle.fare_service.proofs.GatherLemmas.{has_gathered, times_same, fewer_after, not_drawn, end_same, end_other}
 use Rattle.fare_service.proofs.VisitLemmas.{same_seven, sums-append, add_none}
+use Rattle.fare_service.proofs.GatheredWork.{Given, IsBookOfWork, IsGathered, given_of}
 
 -- f of the first n numbers, added up
 abbrev pub sum_below : (ℕ → ℕ) → ℕ → ℕ
@@ -139,35 +140,35 @@ sum_of_book f table shard shards works book is =
         sym (sum_by-joined f (λ (v : Signed). v.entries) (filter (λ v. v.worker == worker) is.visits))
         ∙ (ap (λ vs. sum_by f (joined vs)) (is.order worker done at) ∙ sum_by-joined f (λ (v : Visit). v.entries) (visits_to shard (all_visits done)))
 
-all_within : (hall : Hall) (done : List Worked) → All (IsWorked hall) done → All (λ v. v.shard < shards_of hall) (all_visits done)
-all_within hall [] all = All-nil (λ (v : Visit). v.shard < shards_of hall)
-all_within hall (w ∷ done) all =
-    All-append (λ (v : Visit). v.shard < shards_of hall) w.visits (all_visits done)
-    (All-weaker (IsEntered (shards_of hall)) (λ v. v.shard < shards_of hall) (λ v e. e.within) w.visits (All-head (IsWorked hall) w done all).entered) (all_within hall done (All-tail (IsWorked hall) w done all))
+all_within : (given : Given) (done : List Worked) → All (IsWorkOf given.shards given.uploads) done → All (λ v. v.shard < given.shards) (all_visits done)
+all_within given [] all = All-nil (λ (v : Visit). v.shard < given.shards)
+all_within given (w ∷ done) all =
+    All-append (λ (v : Visit). v.shard < given.shards) w.visits (all_visits done)
+    (All-weaker (IsEntered given.shards) (λ v. v.shard < given.shards) (λ v e. e.within) w.visits (All-head (IsWorkOf given.shards given.uploads) w done all).entered) (all_within given done (All-tail (IsWorkOf given.shards given.uploads) w done all))
 
 -- f of all books' entries is f of all entries that the workers' visits made
-sum_of_books : (f : Entry → ℕ) (hall : Hall) (works : List (List Worked)) (outcome : Gathered) → IsGathered hall works outcome
+sum_of_books : (f : Entry → ℕ) (given : Given) (works : List (List Worked)) (outcome : Gathered) → IsGathered given works outcome
     → sum_by f (all_entries outcome.books) ≡ sum_by f (flat_map (λ done. entries_of (all_visits done)) works)
-sum_of_books f hall works outcome is =
+sum_of_books f given works outcome is =
     let ent : Visit → ℕ = λ v. sum_by f v.entries in
     let at_shard : ℕ → List Worked → ℕ = λ s done. sum_by ent (visits_to s (all_visits done)) in
     let h : ℕ → ℕ = λ s. sum_by (at_shard s) works in
     sum_by-flat_map f (λ (b : Book). b.entries) outcome.books
-    ∙ (sym (sum_of_places (λ (b : Book). sum_by f b.entries) outcome.books h (λ s b at. sym (sum_of_book f hall.table s (shards_of hall) works b (is.books s b at))))
+    ∙ (sym (sum_of_places (λ (b : Book). sum_by f b.entries) outcome.books h (λ s b at. sym (sum_of_book f given.table s given.shards works b (is.books s b at))))
     ∙ (ap (sum_below h) is.shards
-    ∙ (swapped at_shard (shards_of hall) works
-    ∙ (same_sum (λ done. sum_below (λ s. at_shard s done) (shards_of hall)) (λ done. sum_by f (entries_of (all_visits done))) works each
+    ∙ (swapped at_shard given.shards works
+    ∙ (same_sum (λ done. sum_below (λ s. at_shard s done) given.shards) (λ done. sum_by f (entries_of (all_visits done))) works each
     ∙ sym (sum_by-flat_map f (λ done. entries_of (all_visits done)) works)))))
   where
-    here : (done : List Worked) → All (IsWorked hall) done → sum_below (λ s. sum_by (λ v. sum_by f v.entries) (visits_to s (all_visits done))) (shards_of hall) ≡ sum_by f (entries_of (all_visits done))
+    here : (done : List Worked) → All (IsWorkOf given.shards given.uploads) done → sum_below (λ s. sum_by (λ v. sum_by f v.entries) (visits_to s (all_visits done))) given.shards ≡ sum_by f (entries_of (all_visits done))
     here done all =
-        sym (sum_by_key (λ (v : Visit). v.shard) (λ v. sum_by f v.entries) (shards_of hall) (all_visits done) (all_within hall done all))
+        sym (sum_by_key (λ (v : Visit). v.shard) (λ v. sum_by f v.entries) given.shards (all_visits done) (all_within given done all))
         ∙ sym (sum_by-flat_map f (λ (v : Visit). v.entries) (all_visits done))
 
-    each : All (λ done. sum_below (λ s. sum_by (λ (v : Visit). sum_by f v.entries) (visits_to s (all_visits done))) (shards_of hall) ≡ sum_by f (entries_of (all_visits done))) works
+    each : All (λ done. sum_below (λ s. sum_by (λ (v : Visit). sum_by f v.entries) (visits_to s (all_visits done))) given.shards ≡ sum_by f (entries_of (all_visits done))) works
     each =
-        All-weaker (λ done. All (IsWorked hall) done)
-        (λ done. sum_below (λ s. sum_by (λ (v : Visit). sum_by f v.entries) (visits_to s (all_visits done))) (shards_of hall) ≡ sum_by f (entries_of (all_visits done))) here works is.each
+        All-weaker (λ done. All (IsWorkOf given.shards given.uploads) done)
+        (λ done. sum_below (λ s. sum_by (λ (v : Visit). sum_by f v.entries) (visits_to s (all_visits done))) given.shards ≡ sum_by f (entries_of (all_visits done))) here works is.each
 
 pub length_sum : {X : Type 0} (xs : List X) → length xs ≡ sum_by (λ x. 1) xs
 length_sum [] = refl
@@ -199,10 +200,10 @@ unfolding sums_of_replies
 taps_of_sums entries = length_sum (map reply_of entries) ∙ sum_by-map (λ r. 1) reply_of entries
 
 -- what an upload's end tells of its taps
-told_end_taps : (hall : Hall) (w : Worked) → IsWorked hall w → taps_told w.end ≡ taps_posted w.visits
-told_end_taps hall w is = by_end w.end is.ended
+told_end_taps : (given : Given) (w : Worked) → IsWorkOf given.shards given.uploads w → taps_told w.end ≡ taps_posted w.visits
+told_end_taps given w is = by_end w.end is.ended
   where
-    by_end : (end : UploadEnd) → IsEndOf (shards_of hall) (upload_at hall w.upload) is.batches is.rest w.visits end → taps_told end ≡ taps_posted w.visits
+    by_end : (end : UploadEnd) → IsEndOf given.shards (file_at given.uploads w.upload) is.batches is.rest w.visits end → taps_told end ≡ taps_posted w.visits
     by_end (Posted taps) e = e.2
     by_end (Refused taps offset fault) e = e.2
     by_end (Cut taps) e = e.1
@@ -231,48 +232,49 @@ ends_sum n (w ∷ works) once all =
         omega arith
 
 -- the taps that the uploads' ends tell are those of the workers' visits
-uploads_sum : (hall : Hall) (works : List (List Worked)) → All (λ done. All (IsWorked hall) done) works
+uploads_sum : (given : Given) (works : List (List Worked)) → All (λ done. All (IsWorkOf given.shards given.uploads) done) works
     → sum_by (λ w. taps_told w.end) (all_works works) ≡ sum_by (λ e. 1) (flat_map (λ done. entries_of (all_visits done)) works)
-uploads_sum hall works each =
+uploads_sum given works each =
     sum_by-flat_map (λ w. taps_told w.end) (λ (done : List Worked). done) works
     ∙ (same_sum (λ done. sum_by (λ w. taps_told w.end) done) (λ done. sum_by (λ e. 1) (entries_of (all_visits done))) works
-    (All-weaker (λ done. All (IsWorked hall) done) (λ done. sum_by (λ w. taps_told w.end) done ≡ sum_by (λ e. 1) (entries_of (all_visits done))) here works each)
+    (All-weaker (λ done. All (IsWorkOf given.shards given.uploads) done) (λ done. sum_by (λ w. taps_told w.end) done ≡ sum_by (λ e. 1) (entries_of (all_visits done))) here works each)
     ∙ sym (sum_by-flat_map (λ e. 1) (λ done. entries_of (all_visits done)) works))
   where
-    one : (w : Worked) → IsWorked hall w → taps_told w.end ≡ sum_by (λ v. sum_by (λ e. 1) v.entries) w.visits
-    one w is = told_end_taps hall w is ∙ (length_sum (entries_of w.visits) ∙ sum_by-flat_map (λ e. 1) (λ (v : Visit). v.entries) w.visits)
+    one : (w : Worked) → IsWorkOf given.shards given.uploads w → taps_told w.end ≡ sum_by (λ v. sum_by (λ e. 1) v.entries) w.visits
+    one w is = told_end_taps given w is ∙ (length_sum (entries_of w.visits) ∙ sum_by-flat_map (λ e. 1) (λ (v : Visit). v.entries) w.visits)
 
-    here : (done : List Worked) → All (IsWorked hall) done → sum_by (λ w. taps_told w.end) done ≡ sum_by (λ e. 1) (entries_of (all_visits done))
+    here : (done : List Worked) → All (IsWorkOf given.shards given.uploads) done → sum_by (λ w. taps_told w.end) done ≡ sum_by (λ e. 1) (entries_of (all_visits done))
     here done all =
         same_sum (λ w. taps_told w.end) (λ w. sum_by (λ v. sum_by (λ e. 1) v.entries) w.visits) done
-        (All-weaker (IsWorked hall) (λ w. taps_told w.end ≡ sum_by (λ v. sum_by (λ e. 1) v.entries) w.visits) one done all)
+        (All-weaker (IsWorkOf given.shards given.uploads) (λ w. taps_told w.end ≡ sum_by (λ v. sum_by (λ e. 1) v.entries) w.visits) one done all)
         ∙ (sym (sum_by-flat_map (λ (v : Visit). sum_by (λ e. 1) v.entries) (λ (w : Worked). w.visits) done)
         ∙ sym (sum_by-flat_map (λ e. 1) (λ (v : Visit). v.entries) (all_visits done)))
 
-all_uploads : (hall : Hall) (works : List (List Worked)) → All (λ done. All (IsWorked hall) done) works → All (λ w. w.upload < length hall.uploads) (all_works works)
-all_uploads hall [] each = All-nil (λ (w : Worked). w.upload < length hall.uploads)
-all_uploads hall (done ∷ works) each =
-    All-append (λ (w : Worked). w.upload < length hall.uploads) done (all_works works)
-    (All-weaker (IsWorked hall) (λ w. w.upload < length hall.uploads) (λ w is. is.within) done (All-head (λ d. All (IsWorked hall) d) done works each))
-    (all_uploads hall works (All-tail (λ d. All (IsWorked hall) d) done works each))
+all_uploads : (given : Given) (works : List (List Worked)) → All (λ done. All (IsWorkOf given.shards given.uploads) done) works → All (λ w. w.upload < length given.uploads) (all_works works)
+all_uploads given [] each = All-nil (λ (w : Worked). w.upload < length given.uploads)
+all_uploads given (done ∷ works) each =
+    All-append (λ (w : Worked). w.upload < length given.uploads) done (all_works works)
+    (All-weaker (IsWorkOf given.shards given.uploads) (λ w. w.upload < length given.uploads) (λ w is. is.within) done (All-head (λ d. All (IsWorkOf given.shards given.uploads) d) done works each))
+    (all_uploads given works (All-tail (λ d. All (IsWorkOf given.shards given.uploads) d) done works each))
 
 -- the books and the workers have the same totals, whatever is told of them
-pub workers_add_up : (hall : Hall) (works : List (List Worked)) (outcome : Gathered) → IsGathered hall works outcome → sums (all_entries outcome.books) ≡ add_all outcome.workers
-workers_add_up hall works outcome is =
+pub workers_add_up : (given : Given) (works : List (List Worked)) (outcome : Gathered) → IsGathered given works outcome → sums (all_entries outcome.books) ≡ add_all outcome.workers
+workers_add_up given works outcome is =
     let made : List Entry = flat_map (λ done. entries_of (all_visits done)) works in
-    same_sums (all_entries outcome.books) made (λ f. sum_of_books f hall works outcome is)
+    same_sums (all_entries outcome.books) made (λ f. sum_of_books f given works outcome is)
     ∙ (add_flat (λ done. entries_of (all_visits done)) works ∙ ap add_all (sym is.workers))
 
 -- what was gathered adds up
-pub gathered_sums : (hall : Hall) (works : List (List Worked)) (outcome : Gathered) → IsGathered hall works outcome → outcome.totals ≡ sums (all_entries outcome.books) → AddUp outcome
-gathered_sums hall works outcome is totals =
+pub gathered_sums : (given : Given) (works : List (List Worked)) (outcome : Gathered) → IsGathered given works outcome → outcome.totals ≡ sums (all_entries outcome.books) → AddUp works outcome
+gathered_sums given works outcome is totals =
     let made : List Entry = flat_map (λ done. entries_of (all_visits done)) works in
-    let by_works : outcome.totals ≡ sums made = totals ∙ same_sums (all_entries outcome.books) made (λ f. sum_of_books f hall works outcome is) in
+    let by_works : outcome.totals ≡ sums made = totals ∙ same_sums (all_entries outcome.books) made (λ f. sum_of_books f given works outcome is) in
     record {
+      each = is.workers;
       books = totals ∙ add_flat (λ (b : Book). b.entries) outcome.books;
-      workers = totals ∙ workers_add_up hall works outcome is;
-      uploads = ap (λ s. s.taps) by_works ∙ (taps_of_sums made ∙ (sym (uploads_sum hall works is.each)
-          ∙ (sym (ends_sum (length hall.uploads) (all_works works) is.once (all_uploads hall works is.each))
+      workers = totals ∙ workers_add_up given works outcome is;
+      uploads = ap (λ s. s.taps) by_works ∙ (taps_of_sums made ∙ (sym (uploads_sum given works is.each)
+          ∙ (sym (ends_sum (length given.uploads) (all_works works) is.once (all_uploads given works is.each))
           ∙ (ap (sum_below (λ u. taps_told (end_of u (all_works works)))) (sym is.uploads)
           ∙ sum_of_places taps_told outcome.ends (λ u. taps_told (end_of u (all_works works))) (λ u end at. ap taps_told (sym (is.ends u end at)))))));
     }
@@ -308,8 +310,8 @@ pub shares_add_up : (hall : Hall) → IsHall hall → (shares : List Holding) �
     → (ends : List UploadEnd) → ends ≡ told_all (replicate (length hall.uploads) Undrawn) shares → length ends ≡ length hall.uploads
     → (workers : List Sums) → workers ≡ map (λ share. share.totals) shares → sums (all_entries closed) ≡ add_all workers
 shares_add_up hall is shares all closed work ends are number workers sums_are =
-    let o = has_outcome hall is shares all closed work ends are number workers sums_are (sums (all_entries closed)) in
-    workers_add_up hall o.0 (record { books = closed; ends = ends; workers = workers; totals = sums (all_entries closed) }) o.2
+    let o = has_gathered hall is shares all closed work ends are number workers sums_are (sums (all_entries closed)) in
+    workers_add_up (given_of hall) o.0 (record { books = closed; ends = ends; workers = workers; totals = sums (all_entries closed) }) o.2
 
 -- few entries, few taps
 pub few_taps : (entries : List Entry) (workers : Sums) (most : ℕ) → sums entries ≡ workers → length entries ≤ most → workers.taps ≤ most

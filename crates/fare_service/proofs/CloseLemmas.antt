@@ -53,6 +53,7 @@ closed_none opened shares closed none number unseen =
       books = λ shard book at. unseen_history opened shard book (unseen shard book at);
       once = λ x. omega arith;
       undrawn = λ upload h. All-nil (λ share. share.drawer.seen ≤ upload);
+      last = λ upload h x above. omega arith;
     })
 
 marks_of : (shard : ℕ) (passes : List Knowledge) (pass : Knowledge) → slice_get passes shard ≡ Some pass → marks_at shard passes ≡ pass.marks
@@ -98,6 +99,7 @@ closed_all drawing opened shares drawer passes closed count all books number has
       books = λ shard book at. history_of drawing opened shares drawer passes shard book all (books shard book at);
       once = subst D all.drawn once;
       undrawn = λ upload none. All-weaker (λ s. s.drawer.seen ≤ drawer.seen) (λ s. s.drawer.seen ≤ upload) (λ s h. omega (arith, h, is.later, past upload none)) shares all.seen;
+      last = λ upload none x above. ap (times x) (sym all.drawn) ∙ is.below x (omega (arith, past upload none, above));
     }
   where
     once : (x : ℕ) → times x drawer.drawn ≤ 1

@@ -1,7 +1,8 @@
 -- Shares are gathered: what their workers did is an outcome.
 use Rattle.std.specs.Prelude.{ℕ, zero, suc, ◌≡◌, ◌≢◌, ◌⊎◌, ◌+◌, ◌<◌, ◌≤◌, ◌==◌, true, false, List, [], ◌∷◌, ◌++◌, length, map, replicate, slice_set, All, slice_get, Some, cond}
 use Rattle.std.specs.List.{flat_map, AllZip}
-use Rattle.std.proofs.Common.{refl, sym, ◌∙◌, ap, inl, inr, subst, arith}
+use Rattle.std.proofs.Common.{refl, sym, ◌∙◌, ap, inl, inr, subst, arith, eq-eqb}
+use Rattle.std.proofs.lemmas.Bool.{cases_lt}
 use Rattle.std.proofs.lemmas.Bool.Decides.{eqb_tells}
 use Rattle.std.proofs.lemmas.List.{map-append}
 use Rattle.std.proofs.lemmas.List.Sums.{sum_by-cons}
@@ -11,18 +12,19 @@ use Rattle.shard_book.specs.Groups.{all_entries}
 use Rattle.shard_book.specs.History.{IsLegal}
 use Rattle.fare_table.specs.Fares.{Fares}
 use Rattle.shard_book.specs.Sums.{Sums, sums}
-use Rattle.shared_books.specs.Drawing.{NoneTwice, times}
+use Rattle.shared_books.specs.Drawing.{AllBelow, NoneTwice, times}
 use Rattle.fare_service.specs.Closing.{IsClosedWork, IsHistoryOf}
 use Rattle.fare_service.specs.declared.share.Done.{Done}
 use Rattle.fare_service.specs.declared.upload_end.UploadEnd.{UploadEnd}
 use Rattle.fare_service.specs.declared.upload_end.UploadEnd.TheVariants.{Posted, Refused, Cut, Undrawn}
-use Rattle.fare_service.specs.Gathering.{IsBookOfWork, all_works, end_of, HasOutcome, HasRun}
-use Rattle.fare_service.specs.Halls.{Hall, IsHall, IsBookOf, shards_of, upload_at}
+use Rattle.fare_service.specs.Headline.{end_of, HasOutcome, HasRun}
+use Rattle.fare_service.specs.Halls.{Hall, IsHall, IsBookOf, shards_of}
 use Rattle.fare_service.specs.Holdings.{Holding}
 use Rattle.fare_service.specs.Joining.{Belongs, told, told_all}
 use Rattle.fare_service.specs.Outcomes.{Gathered, IsOutcome}
 use Rattle.fare_service.specs.Runs.{entries_of}
-use Rattle.fare_service.specs.Shares.{Worked, all_visits, done_of, IsWorked, Keeps, IsShareOf, IsEndOf}
+use Rattle.fare_service.specs.Shares.{Worked, all_visits, all_works, done_of, file_at, IsWorked, IsWorkOf, Keeps, IsShareOf, IsEndOf}
+use Rattle.fare_service.proofs.GatheredWork.{Given, given_of, IsBookOfWork, IsGathered}
 
 -- what each share keeps
 abbrev Kept : Hall → List Holding → List (List Worked) → Type 0
@@ -44,10 +46,10 @@ all_each hall [] (w ∷ works) kept = absurd kept
 all_each hall (s ∷ shares) [] kept = absurd kept
 all_each hall (s ∷ shares) (w ∷ works) kept = All-cons (λ done. All (IsWorked hall) done) w works kept.0.each (all_each hall shares works kept.1)
 
-pub each_work : (hall : Hall) (works : List (List Worked)) → All (λ done. All (IsWorked hall) done) works → All (IsWorked hall) (all_works works)
-each_work hall [] all = All-nil (IsWorked hall)
-each_work hall (w ∷ works) all =
-    All-append (IsWorked hall) w (all_works works) (All-head (λ done. All (IsWorked hall) done) w works all) (each_work hall works (All-tail (λ done. All (IsWorked hall) done) w works all))
+pub each_work : (given : Given) (works : List (List Worked)) → All (λ done. All (IsWorkOf given.shards given.uploads) done) works → All (IsWorkOf given.shards given.uploads) (all_works works)
+each_work given [] all = All-nil (IsWorkOf given.shards given.uploads)
+each_work given (w ∷ works) all =
+    All-append (IsWorkOf given.shards given.uploads) w (all_works works) (All-head (λ done. All (IsWorkOf given.shards given.uploads) done) w works all) (each_work given works (All-tail (λ done. All (IsWorkOf given.shards given.uploads) done) w works all))
 
 drawn_all : (hall : Hall) (shares : List Holding) (works : List (List Worked)) → Kept hall shares works → flat_map (λ share. share.drawer.drawn) shares ≡ map (λ w. w.upload) (all_works works)
 drawn_all hall [] [] kept = refl
@@ -157,7 +159,7 @@ told_end ends (w ∷ works) upload end once at = by_test (eqb_tells w.upload upl
 never_undrawn : (hall : Hall) (w : Worked) → IsWorked hall w → w.end ≢ Undrawn
 never_undrawn hall w worked = by_end w.end worked.ended
   where
-    by_end : (end : UploadEnd) → IsEndOf (shards_of hall) (upload_at hall w.upload) worked.batches worked.rest w.visits end → end ≢ Undrawn
+    by_end : (end : UploadEnd) → IsEndOf (shards_of hall) (file_at hall.uploads w.upload) worked.batches worked.rest w.visits end → end ≢ Undrawn
     by_end Undrawn e is = e
     by_end (Posted taps) e is = absurd (cc)
     by_end (Refused taps offset fault) e is = absurd (cc)
@@ -209,10 +211,14 @@ book_of_work hall is shares works kept shard book h =
 gathered : List Book → List UploadEnd → List Sums → Sums → Gathered
 gathered books ends workers totals = record { books = books; ends = ends; workers = workers; totals = totals }
 
-pub has_outcome : (hall : Hall) → IsHall hall → (shares : List Holding) → All (IsShareOf hall) shares → (closed : List Book) → IsClosedWork hall.books shares closed
+-- what was gathered of shares, by what each keeps
+abbrev pub HasGathered : Hall → List Holding → Gathered → Type 0
+HasGathered hall shares outcome = (works : List (List Worked)) × AllZip (Keeps hall) shares works × IsGathered (given_of hall) works outcome
+
+pub has_gathered : (hall : Hall) → IsHall hall → (shares : List Holding) → All (IsShareOf hall) shares → (closed : List Book) → IsClosedWork hall.books shares closed
     → (ends : List UploadEnd) → ends ≡ told_all (replicate (length hall.uploads) Undrawn) shares → length ends ≡ length hall.uploads
-    → (workers : List Sums) → workers ≡ map (λ share. share.totals) shares → (totals : Sums) → HasOutcome hall shares (record { books = closed; ends = ends; workers = workers; totals = totals })
-has_outcome hall is shares all closed work ends are number workers sums_are totals =
+    → (workers : List Sums) → workers ≡ map (λ share. share.totals) shares → (totals : Sums) → HasGathered hall shares (record { books = closed; ends = ends; workers = workers; totals = totals })
+has_gathered hall is shares all closed work ends are number workers sums_are totals =
     let k = keepings hall shares all in
     let D : List ℕ → Type 0 = NoneTwice in
     let once = subst D (drawn_all hall shares k.0 k.1) work.once in
@@ -245,7 +251,31 @@ told_undrawn hall shares all closed work ends are number upload at =
   where
     by_told : (works : List (List Worked)) → Kept hall shares works → Told (replicate (length hall.uploads) Undrawn) (all_works works) upload Undrawn → All (λ share. share.drawer.seen ≤ upload) shares
     by_told works kept (inl (none, there)) = work.undrawn upload (ap (times upload) (drawn_all hall shares works kept) ∙ none)
-    by_told works kept (inr (some, e)) = absurd (drawn_ended hall (all_works works) upload (each_work hall works (all_each hall shares works kept)) some (sym e))
+    by_told works kept (inr (some, e)) = absurd (drawn_ended hall (all_works works) upload (each_work (given_of hall) works (all_each hall shares works kept)) some (sym e))
+
+-- uploads below a number
+all_below : (works : List Worked) (n : ℕ) → AllBelow n (map (λ w. w.upload) works) → All (λ w. w.upload < n) works
+all_below [] n below = All-nil (λ (w : Worked). w.upload < n)
+all_below (w ∷ works) n below = All-cons (λ x. x.upload < n) w works (here (cases_lt w.upload n)) (all_below works n rest)
+  where
+    here : (w.upload < n) ⊎ (n ≤ w.upload) → w.upload < n
+    here (inl h) = h
+    here (inr h) = absurd (omega (arith, below w.upload h, times_same w works w.upload (eq-eqb w.upload w.upload refl)))
+
+    rest : AllBelow n (map (λ x. x.upload) works)
+    rest x above = omega (arith, below x above, sum_by-cons (λ u. cond (u == x) 1 0) w.upload (map (λ (y : Worked). y.upload) works))
+
+-- the uploads that nobody drew are the last ones
+pub undrawn_last : (hall : Hall) (shares : List Holding) (works : List (List Worked)) → Kept hall shares works → (closed : List Book) → IsClosedWork hall.books shares closed
+    → (upload : ℕ) → end_of upload (all_works works) ≡ Undrawn → All (λ w. w.upload < upload) (all_works works)
+undrawn_last hall shares works kept closed work upload ended = by_times (cases_lt 0 (drawn_times upload (all_works works)))
+  where
+    by_times : (0 < drawn_times upload (all_works works)) ⊎ (drawn_times upload (all_works works) ≤ 0) → All (λ w. w.upload < upload) (all_works works)
+    by_times (inl some) = absurd (drawn_ended hall (all_works works) upload (each_work (given_of hall) works (all_each hall shares works kept)) some ended)
+    by_times (inr few) =
+        let none : times upload (flat_map (λ share. share.drawer.drawn) shares) ≡ 0 = ap (times upload) (drawn_all hall shares works kept) ∙ omega (arith, few) in
+        let B : List ℕ → Type 0 = AllBelow upload in
+        all_below (all_works works) upload (subst B (drawn_all hall shares works kept) (work.last upload none))
 
 -- what always holds of an outcome holds
 pub is_outcome : (hall : Hall) → IsHall hall → (shares : List Holding) (closed : List Book) → IsClosedWork hall.books shares closed → (ends : List UploadEnd) → length ends ≡ length hall.uploads
@@ -269,5 +299,5 @@ done_within hall uploads shares number all =
         subst P (sym h.keeps.done) (All-map (λ d. d.upload < uploads) done_of h.works (All-weaker (IsWorked hall) (λ w. w.upload < uploads) (λ w q. omega (arith, q.within, number)) h.works h.keeps.each))
 
 -- a run of so many workers was gathered
-pub has_run : (hall : Hall) (shares : List Holding) (workers : ℕ) (outcome : Gathered) → length shares ≡ workers → HasOutcome hall shares outcome → HasRun hall workers outcome
-has_run hall shares workers outcome number (works, kept, gathered) = (works, sym (kept_length hall shares works kept) ∙ number, gathered)
+pub has_run : (hall : Hall) (shares : List Holding) (workers : ℕ) (outcome : Gathered) → length shares ≡ workers → HasOutcome hall shares outcome → HasRun hall.table (shards_of hall) hall.uploads workers outcome
+has_run hall shares workers outcome number (works, kept, headline) = (works, sym (kept_length hall shares works kept) ∙ number, headline)

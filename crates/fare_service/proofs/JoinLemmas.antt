@@ -12,7 +12,7 @@ use Rattle.shared_books.specs.declared.turns.rule.Mark.{Mark}
 use Rattle.shared_books.specs.Drawing.{Drawing, Drawings, HasMet}
 use Rattle.shared_books.specs.Marks.{visits_of, merged}
 use Rattle.shared_books.specs.Passes.{Opened, Knowledge, IsJoined}
-use Rattle.fare_service.specs.Gathering.{by_worker}
+use Rattle.fare_service.specs.Headline.{by_worker}
 use Rattle.fare_service.specs.Holdings.{Holding}
 use Rattle.fare_service.specs.Joining.{AreSigns, AreJoined, AreJoinedAt, AreSignedAt, Belongs, IsJoinedOf}
 use Rattle.fare_service.specs.Shares.{books_of, marks_at, own_at}

@@ -2,6 +2,8 @@ pub mod AddingLemmas
 pub mod BatchLemmas
 pub mod CloseLemmas
 pub mod GatherLemmas
+pub mod GatheredWork
+pub mod HeadlineLemmas
 pub mod JoinLemmas
 pub mod OrderLemmas
 pub mod Parts

@@ -13,13 +13,13 @@ use Rattle.shard_book.specs.Entry.{IsEntryOf}
 use Rattle.shared_books.specs.Drawing.{NoneTwice}
 use Rattle.fare_service.specs.declared.upload_end.UploadEnd.{UploadEnd}
 use Rattle.fare_service.specs.declared.upload_end.UploadEnd.TheVariants.{Posted, Refused, Cut, Undrawn}
-use Rattle.fare_service.specs.Gathering.{end_of}
-use Rattle.fare_service.specs.Halls.{Hall, shards_of, upload_at}
-use Rattle.fare_service.specs.Placing.{in_posting_order, WerePostedOf}
+use Rattle.fare_service.specs.Headline.{end_of}
+use Rattle.fare_service.specs.Placing.{posted_of, in_posting_order, WerePostedOf}
 use Rattle.fare_service.specs.Runs.{PlacedTap, placed_from, taps_of, of_shard, Run, run, if_any, runs_below, runs_of, Visit, IsEntered, run_of_visit, ArePosted, AreCut, visits_to, entries_of, taps_posted}
-use Rattle.fare_service.specs.Shares.{Worked, all_visits, IsWorked, IsEndOf}
+use Rattle.fare_service.specs.Shares.{Worked, all_visits, IsWorkOf, IsEndOf, file_at}
 use Rattle.fare_service.proofs.GatherLemmas.{drawn_times, times_same, times_other, fewer_after, end_same, end_other}
 use Rattle.fare_service.proofs.RunVisits.{AllZip-length}
+use Rattle.fare_service.proofs.GatheredWork.{Given}
 
 pub All-front : {X : Type 0} (P : X → Type 0) (xs ys : List X) → All P (xs ++ ys) → All P xs
 All-front P [] ys all = All-nil P
@@ -92,16 +92,16 @@ own_cut shards runs visits all c = made c.made
         (All-append (IsOwnRun shards) c.before (run c.cut.shard (take posted c.cut.taps) ∷ []) before
         (All-cons (IsOwnRun shards) (run c.cut.shard (take posted c.cut.taps)) [] (own_take shards posted c.cut cut) (All-nil (IsOwnRun shards)))) e
 
-pub own_worked : (hall : Hall) (w : Worked) → IsWorked hall w → All (IsOwnVisit (shards_of hall)) w.visits
-own_worked hall w is = by_end w.end is.ended
+pub own_worked : (given : Given) (w : Worked) → IsWorkOf given.shards given.uploads w → All (IsOwnVisit given.shards) w.visits
+own_worked given w is = by_end w.end is.ended
   where
-    own : All (IsOwnRun (shards_of hall)) (runs_of (shards_of hall) 0 is.batches)
-    own = own_runs (shards_of hall) 0 is.batches
+    own : All (IsOwnRun given.shards) (runs_of given.shards 0 is.batches)
+    own = own_runs given.shards 0 is.batches
 
-    by_end : (end : UploadEnd) → IsEndOf (shards_of hall) (upload_at hall w.upload) is.batches is.rest w.visits end → All (IsOwnVisit (shards_of hall)) w.visits
-    by_end (Posted taps) e = own_posted (shards_of hall) (runs_of (shards_of hall) 0 is.batches) w.visits own e.1
-    by_end (Refused taps offset fault) e = own_posted (shards_of hall) (runs_of (shards_of hall) 0 is.batches) w.visits own e.1
-    by_end (Cut taps) e = own_cut (shards_of hall) (runs_of (shards_of hall) 0 is.batches) w.visits own e.0
+    by_end : (end : UploadEnd) → IsEndOf given.shards (file_at given.uploads w.upload) is.batches is.rest w.visits end → All (IsOwnVisit given.shards) w.visits
+    by_end (Posted taps) e = own_posted given.shards (runs_of given.shards 0 is.batches) w.visits own e.1
+    by_end (Refused taps offset fault) e = own_posted given.shards (runs_of given.shards 0 is.batches) w.visits own e.1
+    by_end (Cut taps) e = own_cut given.shards (runs_of given.shards 0 is.batches) w.visits own e.0
     by_end Undrawn e = absurd e
 
 -- a test that all pass, or none
@@ -201,31 +201,27 @@ cut_taps_are runs visits c = made c.made
         })
 
 -- what an end tells of an upload is what its visits posted
-worked_posted : (hall : Hall) (w : Worked) → IsWorked hall w → WerePostedOf (shards_of hall) (upload_at hall w.upload) w.end (flat_map (λ v. v.taps) w.visits)
-worked_posted hall w is = by_end w.end is.ended
+worked_posted : (given : Given) (w : Worked) → IsWorkOf given.shards given.uploads w → WerePostedOf given.shards (file_at given.uploads w.upload) w.end (flat_map (λ v. v.taps) w.visits)
+worked_posted given w is = by_end w.end is.ended
   where
     number : taps_posted w.visits ≡ length (flat_map (λ v. v.taps) w.visits)
-    number = visits_length (shards_of hall) w.visits is.entered
+    number = visits_length given.shards w.visits is.entered
 
-    by_end : (end : UploadEnd) → IsEndOf (shards_of hall) (upload_at hall w.upload) is.batches is.rest w.visits end
-        → WerePostedOf (shards_of hall) (upload_at hall w.upload) end (flat_map (λ v. v.taps) w.visits)
+    by_end : (end : UploadEnd) → IsEndOf given.shards (file_at given.uploads w.upload) is.batches is.rest w.visits end
+        → WerePostedOf given.shards (file_at given.uploads w.upload) end (flat_map (λ v. v.taps) w.visits)
     by_end (Posted taps) e =
-        let R : List ℕ → Type 0 = IsFile (upload_at hall w.upload) is.batches in
-        (is.batches, subst R e.0 is.is_file, posted_taps_are (runs_of (shards_of hall) 0 is.batches) w.visits e.1, e.2 ∙ number)
+        let R : List ℕ → Type 0 = IsFile (file_at given.uploads w.upload) is.batches in
+        (is.batches, subst R e.0 is.is_file, posted_taps_are (runs_of given.shards 0 is.batches) w.visits e.1, e.2 ∙ number)
     by_end (Refused taps offset fault) e =
-        (is.batches, is.rest, is.is_file, e.0, posted_taps_are (runs_of (shards_of hall) 0 is.batches) w.visits e.1, e.2 ∙ number)
+        (is.batches, is.rest, is.is_file, e.0, posted_taps_are (runs_of given.shards 0 is.batches) w.visits e.1, e.2 ∙ number)
     by_end (Cut taps) e =
-        let f = cut_taps_are (runs_of (shards_of hall) 0 is.batches) w.visits e.0 in
-        (is.batches, is.rest, is.is_file, omega (arith, f.fewer, e.1, number), f.front ∙ ap (λ n. take n (in_posting_order (shards_of hall) is.batches)) (sym (e.1 ∙ number)))
+        let f = cut_taps_are (runs_of given.shards 0 is.batches) w.visits e.0 in
+        (is.batches, is.rest, is.is_file, omega (arith, f.fewer, e.1, number), f.front ∙ ap (λ n. take n (in_posting_order given.shards is.batches)) (sym (e.1 ∙ number)))
     by_end Undrawn e = absurd e
 
 -- the works on one upload
 abbrev pub works_on : ℕ → List Worked → List Worked
 works_on upload works = filter (λ w. w.upload == upload) works
-
--- the taps that were posted of an upload
-abbrev pub posted_of : ℕ → List Worked → List PlacedTap
-posted_of upload works = flat_map (λ v. v.taps) (all_visits (works_on upload works))
 
 pub no_works_on : (upload : ℕ) (works : List Worked) → drawn_times upload works ≡ 0 → works_on upload works ≡ []
 no_works_on upload [] none = refl
@@ -237,25 +233,25 @@ no_works_on upload (w ∷ works) none = by_test (eqb_tells w.upload upload) (no_
     by_test (inr (b, ne)) rest = ap (λ t. cond t (w ∷ works_on upload works) (works_on upload works)) b ∙ rest (omega (arith, none, times_other w works upload b))
 
 -- an upload's end tells what was posted of it
-pub end_posted : (hall : Hall) (upload : ℕ) (works : List Worked) → All (IsWorked hall) works → NoneTwice (map (λ w. w.upload) works)
-    → WerePostedOf (shards_of hall) (upload_at hall upload) (end_of upload works) (posted_of upload works)
-end_posted hall upload [] all once = refl
-end_posted hall upload (w ∷ works) all once =
-    by_test (eqb_tells w.upload upload) (end_posted hall upload works (All-tail (IsWorked hall) w works all) (fewer_after w works once))
+pub end_posted : (given : Given) (upload : ℕ) (works : List Worked) → All (IsWorkOf given.shards given.uploads) works → NoneTwice (map (λ w. w.upload) works)
+    → WerePostedOf given.shards (file_at given.uploads upload) (end_of upload works) (posted_of upload works)
+end_posted given upload [] all once = refl
+end_posted given upload (w ∷ works) all once =
+    by_test (eqb_tells w.upload upload) (end_posted given upload works (All-tail (IsWorkOf given.shards given.uploads) w works all) (fewer_after w works once))
   where
     by_test : (((w.upload == upload) ≡ true) × (w.upload ≡ upload)) ⊎ (((w.upload == upload) ≡ false) × (w.upload ≢ upload))
-        → WerePostedOf (shards_of hall) (upload_at hall upload) (end_of upload works) (posted_of upload works)
-        → WerePostedOf (shards_of hall) (upload_at hall upload) (end_of upload (w ∷ works)) (posted_of upload (w ∷ works))
+        → WerePostedOf given.shards (file_at given.uploads upload) (end_of upload works) (posted_of upload works)
+        → WerePostedOf given.shards (file_at given.uploads upload) (end_of upload (w ∷ works)) (posted_of upload (w ∷ works))
     by_test (inl (b, e)) rest =
         let none : works_on upload works ≡ [] = no_works_on upload works (omega (arith, once upload, times_same w works upload b)) in
         let only : works_on upload (w ∷ works) ≡ w ∷ [] = ap (λ t. cond t (w ∷ works_on upload works) (works_on upload works)) b ∙ ap (λ ws. w ∷ ws) none in
         let taps : posted_of upload (w ∷ works) ≡ flat_map (λ v. v.taps) w.visits = ap (λ ws. flat_map (λ (v : Visit). v.taps) (all_visits ws)) only ∙ ap (λ vs. flat_map (λ (v : Visit). v.taps) vs) (append-nil w.visits) in
-        let U : ℕ → Type 0 = λ u. WerePostedOf (shards_of hall) (upload_at hall u) w.end (flat_map (λ v. v.taps) w.visits) in
-        let E : UploadEnd → Type 0 = λ end. WerePostedOf (shards_of hall) (upload_at hall upload) end (flat_map (λ v. v.taps) w.visits) in
-        let T : List PlacedTap → Type 0 = WerePostedOf (shards_of hall) (upload_at hall upload) (end_of upload (w ∷ works)) in
-        subst T (sym taps) (subst E (sym (end_same w works upload b)) (subst U e (worked_posted hall w (All-head (IsWorked hall) w works all))))
+        let U : ℕ → Type 0 = λ u. WerePostedOf given.shards (file_at given.uploads u) w.end (flat_map (λ v. v.taps) w.visits) in
+        let E : UploadEnd → Type 0 = λ end. WerePostedOf given.shards (file_at given.uploads upload) end (flat_map (λ v. v.taps) w.visits) in
+        let T : List PlacedTap → Type 0 = WerePostedOf given.shards (file_at given.uploads upload) (end_of upload (w ∷ works)) in
+        subst T (sym taps) (subst E (sym (end_same w works upload b)) (subst U e (worked_posted given w (All-head (IsWorkOf given.shards given.uploads) w works all))))
     by_test (inr (b, ne)) rest =
         let same : posted_of upload (w ∷ works) ≡ posted_of upload works = ap (λ t. flat_map (λ (v : Visit). v.taps) (all_visits (cond t (w ∷ works_on upload works) (works_on upload works)))) b in
-        let E : UploadEnd → Type 0 = λ end. WerePostedOf (shards_of hall) (upload_at hall upload) end (posted_of upload works) in
-        let T : List PlacedTap → Type 0 = WerePostedOf (shards_of hall) (upload_at hall upload) (end_of upload (w ∷ works)) in
+        let E : UploadEnd → Type 0 = λ end. WerePostedOf given.shards (file_at given.uploads upload) end (posted_of upload works) in
+        let T : List PlacedTap → Type 0 = WerePostedOf given.shards (file_at given.uploads upload) (end_of upload (w ∷ works)) in
         subst T (sym same) (subst E (sym (end_other w works upload b)) rest)

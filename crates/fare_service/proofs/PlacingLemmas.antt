@@ -14,15 +14,15 @@ use Rattle.shard_book.specs.Entry.{IsEntryOf}
 use Rattle.shared_books.specs.Drawing.{NoneTwice, times}
 use Rattle.shared_books.specs.Marks.{joined}
 use Rattle.fare_service.specs.declared.upload_end.UploadEnd.{UploadEnd}
-use Rattle.fare_service.specs.Gathering.{Signed, by_worker, IsBookOfWork, all_works, IsGathered}
-use Rattle.fare_service.specs.Halls.{Hall, shards_of, upload_at}
+use Rattle.fare_service.specs.Headline.{Signed, by_worker}
 use Rattle.fare_service.specs.Outcomes.{Gathered}
-use Rattle.fare_service.specs.Placing.{Origin, of_upload, IsEntryOfOrigin, StandOnce, WerePostedOf}
+use Rattle.fare_service.specs.Placing.{Origin, of_upload, posted_of, StandOnce, WerePostedOf}
 use Rattle.fare_service.specs.Runs.{PlacedTap, taps_of, of_shard, Visit, IsEntered, visits_to, entries_to}
-use Rattle.fare_service.specs.Shares.{Worked, all_visits, IsWorked}
+use Rattle.fare_service.specs.Shares.{Worked, all_visits, IsWorkOf, all_works, file_at}
 use Rattle.fare_service.proofs.GatherLemmas.{drawn_times, times_same, each_work}
-use Rattle.fare_service.proofs.PlacedVisits.{IsOwnVisit, own_worked, shard_taps, works_on, no_works_on, posted_of, end_posted, filter_none}
+use Rattle.fare_service.proofs.PlacedVisits.{IsOwnVisit, own_worked, shard_taps, works_on, no_works_on, end_posted, filter_none}
 use Rattle.fare_service.proofs.Signing.{step_no, step_yes}
+use Rattle.fare_service.proofs.GatheredWork.{Given, IsBookOfWork, IsGathered}
 
 -- a visit, and the upload of its taps
 record Labelled : Type 0 where
@@ -193,9 +193,9 @@ sole upload (done ∷ works) once = by_count (cases_lt 0 (drawn_times upload don
         only (suc w) h = ap suc (rest.only w h)
 
 -- what is known of a labelled visit of a worker
-record IsMade (hall : Hall) (works : List (List Worked)) (worker : ℕ) (x : Labelled) : Type 0 where
-  entered : IsEntered (shards_of hall) x.visit
-  within : x.upload < length hall.uploads
+record IsMade (given : Given) (works : List (List Worked)) (worker : ℕ) (x : Labelled) : Type 0 where
+  entered : IsEntered given.shards x.visit
+  within : x.upload < length given.uploads
   drawn : 0 < drawn_times x.upload (works_at worker works)
 
 drawn_there : (done : List Worked) → All (λ w. 0 < drawn_times w.upload done) done
@@ -214,22 +214,26 @@ both_all : {X : Type 0} (P Q : X → Type 0) (xs : List X) → All P xs → All 
 both_all P Q [] p q = All-nil (λ x. P x × Q x)
 both_all P Q (x ∷ xs) p q = All-cons (λ y. P y × Q y) x xs (All-head P x xs p, All-head Q x xs q) (both_all P Q xs (All-tail P x xs p) (All-tail Q x xs q))
 
-each_at : (hall : Hall) (works : List (List Worked)) → All (λ done. All (IsWorked hall) done) works → (worker : ℕ) → All (IsWorked hall) (works_at worker works)
-each_at hall [] all worker = All-nil (IsWorked hall)
-each_at hall (done ∷ works) all zero = All-head (λ d. All (IsWorked hall) d) done works all
-each_at hall (done ∷ works) all (suc worker) = each_at hall works (All-tail (λ d. All (IsWorked hall) d) done works all) worker
+each_at : (given : Given) (works : List (List Worked)) → All (λ done. All (IsWorkOf given.shards given.uploads) done) works → (worker : ℕ) → All (IsWorkOf given.shards given.uploads) (works_at worker works)
+each_at given [] all worker = All-nil (IsWorkOf given.shards given.uploads)
+each_at given (done ∷ works) all zero = All-head (λ d. All (IsWorkOf given.shards given.uploads) d) done works all
+each_at given (done ∷ works) all (suc worker) = each_at given works (All-tail (λ d. All (IsWorkOf given.shards given.uploads) d) done works all) worker
 
-all_made : (hall : Hall) (works : List (List Worked)) → All (λ done. All (IsWorked hall) done) works → (shard worker : ℕ) → All (IsMade hall works worker) (to_shard shard (works_at worker works))
-all_made hall works each shard worker =
+all_made : (given : Given) (works : List (List Worked)) → All (λ done. All (IsWorkOf given.shards given.uploads) done) works → (shard worker : ℕ) → All (IsMade given works worker) (to_shard shard (works_at worker works))
+all_made given works each shard worker =
     let done = works_at worker works in
-    All-filter (λ x. x.visit.shard == shard) (IsMade hall works worker) (labelled done)
-    (labelled_all (IsMade hall works worker) done
-    (All-weaker (λ w. IsWorked hall w × (0 < drawn_times w.upload (works_at worker works))) (λ w. All (λ v. IsMade hall works worker (label w.upload v)) w.visits) of_work done
-    (both_all (IsWorked hall) (λ w. 0 < drawn_times w.upload (works_at worker works)) done (each_at hall works each worker) (drawn_there done))))
+    All-filter (λ x. x.visit.shard == shard) (IsMade given works worker) (labelled done)
+    (labelled_all (IsMade given works worker) done
+    (All-weaker (λ w. IsWorkOf given.shards given.uploads w × (0 < drawn_times w.upload (works_at worker works))) (λ w. All (λ v. IsMade given works worker (label w.upload v)) w.visits) of_work done
+    (both_all (IsWorkOf given.shards given.uploads) (λ w. 0 < drawn_times w.upload (works_at worker works)) done (each_at given works each worker) (drawn_there done))))
   where
-    of_work : (w : Worked) → (IsWorked hall w × (0 < drawn_times w.upload (works_at worker works))) → All (λ v. IsMade hall works worker (label w.upload v)) w.visits
+    of_work : (w : Worked) → (IsWorkOf given.shards given.uploads w × (0 < drawn_times w.upload (works_at worker works))) → All (λ v. IsMade given works worker (label w.upload v)) w.visits
     of_work w (is, drawn) =
-        All-weaker (IsEntered (shards_of hall)) (λ v. IsMade hall works worker (label w.upload v)) (λ v e. record { entered = e; within = is.within; drawn = drawn }) w.visits is.entered
+        All-weaker (IsEntered given.shards) (λ v. IsMade given works worker (label w.upload v)) (λ v e. record { entered = e; within = is.within; drawn = drawn }) w.visits is.entered
+
+-- the entry has the fields of the tap's bytes
+abbrev IsEntryOfOrigin : Origin → Entry → Type 0
+IsEntryOfOrigin origin entry = IsEntryOf origin.placed.tap entry
 
 -- the taps of a visit, each with its upload
 abbrev origins_of : By → List Origin
@@ -250,24 +254,12 @@ origin_fields upload [] (e ∷ entries) h = absurd h
 origin_fields upload (p ∷ taps) [] h = absurd h
 origin_fields upload (p ∷ taps) (e ∷ entries) h = (h.0, origin_fields upload taps entries h.1)
 
-all_fields : (hall : Hall) (works : List (List Worked)) (made : List By) → All (λ y. IsMade hall works y.worker y.made) made → AllZip IsEntryOfOrigin (all_origins made) (joined (map (λ y. entries_made y.made) made))
-all_fields hall works [] all = tt
-all_fields hall works (y ∷ made) all =
+all_fields : (given : Given) (works : List (List Worked)) (made : List By) → All (λ y. IsMade given works y.worker y.made) made → AllZip IsEntryOfOrigin (all_origins made) (joined (map (λ y. entries_made y.made) made))
+all_fields given works [] all = tt
+all_fields given works (y ∷ made) all =
     AllZip-append IsEntryOfOrigin (origins_of y) (all_origins made) (entries_made y.made) (joined (map (λ z. entries_made z.made) made))
-    (origin_fields y.made.upload y.made.visit.taps (entries_made y.made) (All-head (λ z. IsMade hall works z.worker z.made) y made all).entered.fields)
-    (all_fields hall works made (All-tail (λ z. IsMade hall works z.worker z.made) y made all))
-
-origins_within : (hall : Hall) (works : List (List Worked)) (made : List By) → All (λ y. IsMade hall works y.worker y.made) made → All (λ o. o.upload < length hall.uploads) (all_origins made)
-origins_within hall works [] all = All-nil (λ (o : Origin). o.upload < length hall.uploads)
-origins_within hall works (y ∷ made) all =
-    All-append (λ (o : Origin). o.upload < length hall.uploads) (origins_of y) (all_origins made)
-    (here y.made.visit.taps) (origins_within hall works made (All-tail (λ z. IsMade hall works z.worker z.made) y made all))
-  where
-    here : (taps : List PlacedTap) → All (λ (o : Origin). o.upload < length hall.uploads) (map (λ p. record { upload = y.made.upload; placed = p }) taps)
-    here [] = All-nil (λ (o : Origin). o.upload < length hall.uploads)
-    here (p ∷ taps) =
-        All-cons (λ (o : Origin). o.upload < length hall.uploads) (record { upload = y.made.upload; placed = p }) (map (λ q. record { upload = y.made.upload; placed = q }) taps)
-        (All-head (λ z. IsMade hall works z.worker z.made) y made all).within (here taps)
+    (origin_fields y.made.upload y.made.visit.taps (entries_made y.made) (All-head (λ z. IsMade given works z.worker z.made) y made all).entered.fields)
+    (all_fields given works made (All-tail (λ z. IsMade given works z.worker z.made) y made all))
 
 -- the taps of one upload among a visit's
 origin_yes : (upload from : ℕ) (taps : List PlacedTap) → (from == upload) ≡ true → of_upload upload (map (λ p. record { upload = from; placed = p }) taps) ≡ taps
@@ -370,32 +362,32 @@ flat_map-map : {X Y Z : Type 0} (g : Y → List Z) (f : X → Y) (xs : List X) �
 flat_map-map g f [] = refl
 flat_map-map g f (x ∷ xs) = ap (λ ys. g (f x) ++ ys) (flat_map-map g f xs)
 
-own_all : (hall : Hall) (works : List Worked) → All (IsWorked hall) works → All (IsOwnVisit (shards_of hall)) (all_visits works)
-own_all hall [] all = All-nil (IsOwnVisit (shards_of hall))
-own_all hall (w ∷ works) all =
-    All-append (IsOwnVisit (shards_of hall)) w.visits (all_visits works) (own_worked hall w (All-head (IsWorked hall) w works all)) (own_all hall works (All-tail (IsWorked hall) w works all))
+own_all : (given : Given) (works : List Worked) → All (IsWorkOf given.shards given.uploads) works → All (IsOwnVisit given.shards) (all_visits works)
+own_all given [] all = All-nil (IsOwnVisit given.shards)
+own_all given (w ∷ works) all =
+    All-append (IsOwnVisit given.shards) w.visits (all_visits works) (own_worked given w (All-head (IsWorkOf given.shards given.uploads) w works all)) (own_all given works (All-tail (IsWorkOf given.shards given.uploads) w works all))
 
 -- the taps of one upload in a shard's book
-exactly_posted : (hall : Hall) (works : List (List Worked)) → All (λ done. All (IsWorked hall) done) works → NoneTwice (map (λ w. w.upload) (all_works works)) → (shard upload : ℕ) (made : List By)
-    → ((w : ℕ) → map (λ y. y.made) (filter (λ y. y.worker == w) made) ≡ to_shard shard (works_at w works)) → All (λ y. IsMade hall works y.worker y.made) made
-    → of_upload upload (all_origins made) ≡ of_shard shard (shards_of hall) (posted_of upload (all_works works))
-exactly_posted hall works each once shard upload made own all =
+exactly_posted : (given : Given) (works : List (List Worked)) → All (λ done. All (IsWorkOf given.shards given.uploads) done) works → NoneTwice (map (λ w. w.upload) (all_works works)) → (shard upload : ℕ) (made : List By)
+    → ((w : ℕ) → map (λ y. y.made) (filter (λ y. y.worker == w) made) ≡ to_shard shard (works_at w works)) → All (λ y. IsMade given works y.worker y.made) made
+    → of_upload upload (all_origins made) ≡ of_shard shard given.shards (posted_of upload (all_works works))
+exactly_posted given works each once shard upload made own all =
     origins_for upload made
     ∙ (ap taps_made (filter_within (λ y. y.made.upload == upload) (λ y. y.worker == s.worker) made implied)
     ∙ (flat_map-map (λ (x : Labelled). x.visit.taps) (λ (y : By). y.made) (made_for upload (filter (λ y. y.worker == s.worker) made))
     ∙ (ap (flat_map (λ (x : Labelled). x.visit.taps)) labels
     ∙ (flat_map-map (λ (v : Visit). v.taps) (λ (x : Labelled). x.visit) (to_shard shard (works_on upload (all_works works)))
     ∙ (ap (flat_map (λ (v : Visit). v.taps)) (unlabelled_to shard (works_on upload (all_works works)))
-    ∙ sym (shard_taps shard (shards_of hall) (all_visits (works_on upload (all_works works)))
-    (own_all hall (works_on upload (all_works works)) (All-filter (λ w. w.upload == upload) (IsWorked hall) (all_works works) (each_work hall works each)))))))))
+    ∙ sym (shard_taps shard given.shards (all_visits (works_on upload (all_works works)))
+    (own_all given (works_on upload (all_works works)) (All-filter (λ w. w.upload == upload) (IsWorkOf given.shards given.uploads) (all_works works) (each_work given works each)))))))))
   where
     s : IsSole upload works
     s = sole upload works (once upload)
 
     implied : All (λ y. (y.made.upload == upload) ≡ true → (y.worker == s.worker) ≡ true) made
-    implied = All-weaker (λ y. IsMade hall works y.worker y.made) (λ y. (y.made.upload == upload) ≡ true → (y.worker == s.worker) ≡ true) of_made made all
+    implied = All-weaker (λ y. IsMade given works y.worker y.made) (λ y. (y.made.upload == upload) ≡ true → (y.worker == s.worker) ≡ true) of_made made all
       where
-        of_made : (y : By) → IsMade hall works y.worker y.made → (y.made.upload == upload) ≡ true → (y.worker == s.worker) ≡ true
+        of_made : (y : By) → IsMade given works y.worker y.made → (y.made.upload == upload) ≡ true → (y.worker == s.worker) ≡ true
         of_made y is b =
             let U : ℕ → Type 0 = λ u. 0 < drawn_times u (works_at y.worker works) in
             eq-eqb y.worker s.worker (s.only y.worker (subst U (eqb-true y.made.upload upload b) is.drawn))
@@ -407,16 +399,9 @@ exactly_posted hall works each once shard upload made own all =
         ∙ (filter_swap (λ (x : Labelled). x.upload == upload) (λ x. x.visit.shard == shard) (labelled (works_at s.worker works))
         ∙ (ap (filter (λ (x : Labelled). x.visit.shard == shard)) (labels_for upload (works_at s.worker works)) ∙ ap (to_shard shard) (sym s.found))))
 
--- the taps for which the entries of a shard's book stand
-record HasOrigins (hall : Hall) (outcome : Gathered) (posted : ℕ → List PlacedTap) (shard : ℕ) : Type 0 where
-  origins : List Origin
-  fields : (book : Book) → slice_get outcome.books shard ≡ Some book → AllZip IsEntryOfOrigin origins book.entries
-  uploads : All (λ o. o.upload < length hall.uploads) origins
-  exactly : (upload : ℕ) → shard < length outcome.books → of_upload upload origins ≡ of_shard shard (shards_of hall) (posted upload)
-
-by_worker_at : (hall : Hall) (shard : ℕ) (works : List (List Worked)) (book : Book) → (is : IsBookOfWork hall.table shard (shards_of hall) works book) → (w : ℕ)
+by_worker_at : (given : Given) (shard : ℕ) (works : List (List Worked)) (book : Book) → (is : IsBookOfWork given.table shard given.shards works book) → (w : ℕ)
     → by_worker w is.visits ≡ map entries_made (to_shard shard (works_at w works))
-by_worker_at hall shard works book is w = by_place (cases_lt w (length works))
+by_worker_at given shard works book is w = by_place (cases_lt w (length works))
   where
     by_place : (w < length works) ⊎ (length works ≤ w) → by_worker w is.visits ≡ map entries_made (to_shard shard (works_at w works))
     by_place (inl within) = is.order w (works_at w works) (slice_get-get_or works w [] within) ∙ sym (entries_are shard (works_at w works))
@@ -424,42 +409,23 @@ by_worker_at hall shard works book is w = by_place (cases_lt w (length works))
         ap (map (λ v. v.entries)) (filter_none (λ v. v.worker == w) is.visits (All-weaker (λ v. v.worker < length works) (λ v. (v.worker == w) ≡ false) (λ v h. ne_eqb v.worker w (λ e. omega (arith, e, h, past))) is.visits is.signed))
         ∙ sym (ap (λ done. map entries_made (to_shard shard done)) (get_or_past works w [] past))
 
-origins_at : (hall : Hall) (works : List (List Worked)) (outcome : Gathered) → IsGathered hall works outcome → (shard : ℕ) (there : Option Book) → slice_get outcome.books shard ≡ there
-    → HasOrigins hall outcome (λ upload. posted_of upload (all_works works)) shard
-origins_at hall works outcome is shard None at = record {
-  origins = [];
-  fields = λ book e. absurd (let h : None ≡ Some book = sym at ∙ e in cc);
-  uploads = All-nil (λ (o : Origin). o.upload < length hall.uploads);
-  exactly = λ upload within. absurd (past outcome.books shard at within);
-}
-  where
-    past : (books : List Book) (i : ℕ) → slice_get books i ≡ None → i < length books → ⊥
-    past [] i e h = omega (arith, h)
-    past (b ∷ books) zero e h = cc
-    past (b ∷ books) (suc i) e h = past books i e (omega (arith, h))
-origins_at hall works outcome is shard (Some book) at =
+-- each posted tap of a shard has one entry in its book
+pub stands_once : (given : Given) (works : List (List Worked)) (outcome : Gathered) → IsGathered given works outcome → (shard : ℕ) (book : Book) → slice_get outcome.books shard ≡ Some book
+    → StandOnce shard given.shards (all_works works) book.entries
+stands_once given works outcome is shard book at =
     let work = is.books shard book at in
-    let s = spread (IsMade hall works) work.visits (λ w. to_shard shard (works_at w works)) (by_worker_at hall shard works book work) (all_made hall works is.each shard) in
+    let s = spread (IsMade given works) work.visits (λ w. to_shard shard (works_at w works)) (by_worker_at given shard works book work) (all_made given works is.each shard) in
     let entries : joined (map (λ y. entries_made y.made) s.made) ≡ book.entries = ap joined s.entries ∙ sym work.history in
     let F : List Entry → Type 0 = AllZip IsEntryOfOrigin (all_origins s.made) in
     record {
       origins = all_origins s.made;
-      fields = λ other e. let B : Book → Type 0 = λ b. AllZip IsEntryOfOrigin (all_origins s.made) b.entries in
-          subst B (let h : Some book ≡ Some other = sym at ∙ e in let k : book ≡ other = cc in k) (subst F entries (all_fields hall works s.made s.each));
-      uploads = origins_within hall works s.made s.each;
-      exactly = λ upload within. exactly_posted hall works is.each is.once shard upload s.made s.own s.each;
+      fields = subst F entries (all_fields given works s.made s.each);
+      exactly = λ upload. exactly_posted given works is.each is.once shard upload s.made s.own s.each;
     }
 
--- each posted tap has one entry
-pub gathered_places : (hall : Hall) (works : List (List Worked)) (outcome : Gathered) → IsGathered hall works outcome → StandOnce hall outcome
-gathered_places hall works outcome is =
-    let at : (shard : ℕ) → HasOrigins hall outcome (λ upload. posted_of upload (all_works works)) shard = λ shard. origins_at hall works outcome is shard (slice_get outcome.books shard) refl in
-    record {
-      posted = λ upload. posted_of upload (all_works works);
-      ended = λ upload end e. let E : UploadEnd → Type 0 = λ x. WerePostedOf (shards_of hall) (upload_at hall upload) x (posted_of upload (all_works works)) in
-          subst E (sym (is.ends upload end e)) (end_posted hall upload (all_works works) (each_work hall works is.each) is.once);
-      origins = λ shard. (at shard).origins;
-      fields = λ shard book e. (at shard).fields book e;
-      uploads = λ shard within. (at shard).uploads;
-      exactly = λ shard upload within. (at shard).exactly upload (omega (arith, within, is.shards));
-    }
+-- what each upload's end tells was posted of it
+pub posted_told : (given : Given) (works : List (List Worked)) (outcome : Gathered) → IsGathered given works outcome → (upload : ℕ) (end : UploadEnd) → slice_get outcome.ends upload ≡ Some end
+    → WerePostedOf given.shards (file_at given.uploads upload) end (posted_of upload (all_works works))
+posted_told given works outcome is upload end e =
+    let E : UploadEnd → Type 0 = λ x. WerePostedOf given.shards (file_at given.uploads upload) x (posted_of upload (all_works works)) in
+    subst E (sym (is.ends upload end e)) (end_posted given upload (all_works works) (each_work given works is.each) is.once)

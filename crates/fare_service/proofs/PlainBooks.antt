@@ -19,16 +19,16 @@ use Rattle.shared_books.specs.Drawing.{NoneTwice}
 use Rattle.shared_books.specs.Marks.{joined}
 use Rattle.fare_service.specs.declared.upload_end.UploadEnd.{UploadEnd}
 use Rattle.fare_service.specs.declared.upload_end.UploadEnd.TheVariants.{Posted, Refused, Cut, Undrawn}
-use Rattle.fare_service.specs.Gathering.{Signed, by_worker, IsGathered, IsBookOfWork, all_works, end_of}
-use Rattle.fare_service.specs.Halls.{Hall, shards_of, upload_at}
+use Rattle.fare_service.specs.Headline.{Signed, by_worker, end_of}
 use Rattle.fare_service.specs.Outcomes.{Gathered}
 use Rattle.fare_service.specs.Plain.{AreTapsOf, AreTapsOfEach, AreApart, HasOneCut, IsNamed, WasWhole, unanswered, token_of, plain}
 use Rattle.fare_service.specs.Runs.{Visit, ArePosted, runs_of, entries_to}
-use Rattle.fare_service.specs.Shares.{Worked, all_visits, IsWorked, IsEndOf}
+use Rattle.fare_service.specs.Shares.{Worked, all_visits, IsWorkOf, IsEndOf, all_works, file_at}
 use Rattle.fare_service.proofs.PlainLists.{All-split, All-flat, flat-All, All-at, mapped_at, flat_map-map, count, count_same, count_other, DoTheirs, done_alone, done_none, flat_alone, flat_none, HasOne, none_or_one}
 use Rattle.fare_service.proofs.PlainReplies.{bare, own_bare, plain_bare, plain_legal, same_replies}
 use Rattle.fare_service.proofs.PlainRuns.{IsName, shard_entries, named_entries, all_shards, own_run}
 use Rattle.fare_service.proofs.VisitLemmas.{entries_to-append}
+use Rattle.fare_service.proofs.GatheredWork.{Given, IsBookOfWork, IsGathered}
 
 joined-append : (xs ys : List (List Entry)) → joined (xs ++ ys) ≡ joined xs ++ joined ys
 joined-append [] ys = refl
@@ -85,26 +85,26 @@ record IsRead (shards : ℕ) (token : Token) (taps : List (List Tap)) (w : Worke
   pub names : All IsName (get_or taps w.upload [])
   pub part : map bare (own token (joined (entries_to (shard_of_token (bytes_of token) shards) w.visits))) ≡ own token (map unanswered (get_or taps w.upload []))
 
-work_read : (hall : Hall) (token : Token) (taps : List (List Tap)) (w : Worked) → 0 < shards_of hall → All HasOneCut hall.uploads → AreTapsOfEach hall.uploads taps → IsWorked hall w → WasWhole w.end
-    → ((shard : ℕ) → shard < shards_of hall → All IsNamed (joined (entries_to shard w.visits))) → IsRead (shards_of hall) token taps w
-work_read hall token taps w some cuts each worked whole named =
-    let t = taps_of_upload hall.uploads taps w.upload each worked.within in
+work_read : (given : Given) (token : Token) (taps : List (List Tap)) (w : Worked) → 0 < given.shards → All HasOneCut given.uploads → AreTapsOfEach given.uploads taps → IsWorkOf given.shards given.uploads w → WasWhole w.end
+    → ((shard : ℕ) → shard < given.shards → All IsNamed (joined (entries_to shard w.visits))) → IsRead given.shards token taps w
+work_read given token taps w some cuts each worked whole named =
+    let t = taps_of_upload given.uploads taps w.upload each worked.within in
     let same = cuts w.upload [] worked.within t.batches worked.batches t.rest worked.rest t.is_file worked.is_file in
     let ts = flat_map (λ (batch : List Tap). batch) worked.batches in
     let is : get_or taps w.upload [] ≡ ts = t.all ∙ ap (flat_map (λ (batch : List Tap). batch)) same.0 in
-    let posted = whole_posted (shards_of hall) (upload_at hall w.upload) worked.batches worked.rest w.visits w.end worked.ended whole in
-    let zip : (shard : ℕ) → shard < shards_of hall → AllZip IsEntryOf (run_of shard (shards_of hall) ts) (joined (entries_to shard w.visits)) =
-    λ shard within. shard_entries (shards_of hall) shard worked.batches w.visits within posted worked.entered in
-    let shard = shard_of_token (bytes_of token) (shards_of hall) in
-    let within : shard < shards_of hall = mod-lt _ some in
-    let names : All IsName ts = all_shards IsName (shards_of hall) ts some
-    (λ s below. (named_entries (run_of s (shards_of hall) ts) (joined (entries_to s w.visits)) (zip s below) (named s below)).1) in
+    let posted = whole_posted given.shards (file_at given.uploads w.upload) worked.batches worked.rest w.visits w.end worked.ended whole in
+    let zip : (shard : ℕ) → shard < given.shards → AllZip IsEntryOf (run_of shard given.shards ts) (joined (entries_to shard w.visits)) =
+    λ shard within. shard_entries given.shards shard worked.batches w.visits within posted worked.entered in
+    let shard = shard_of_token (bytes_of token) given.shards in
+    let within : shard < given.shards = mod-lt _ some in
+    let names : All IsName ts = all_shards IsName given.shards ts some
+    (λ s below. (named_entries (run_of s given.shards ts) (joined (entries_to s w.visits)) (zip s below) (named s below)).1) in
     let N : List Tap → Type 0 = All IsName in
     record {
       names = subst N (sym is) names;
       part = own_bare token (joined (entries_to shard w.visits))
-          ∙ ap (own token) (named_entries (run_of shard (shards_of hall) ts) (joined (entries_to shard w.visits)) (zip shard within) (named shard within)).0
-          ∙ own_run token (shards_of hall) ts names ∙ ap (λ us. own token (map unanswered us)) (sym is);
+          ∙ ap (own token) (named_entries (run_of shard given.shards ts) (joined (entries_to shard w.visits)) (zip shard within) (named shard within)).0
+          ∙ own_run token given.shards ts names ∙ ap (λ us. own token (map unanswered us)) (sym is);
     }
 
 -- ---- ends
@@ -174,26 +174,26 @@ end_told (w ∷ works) once =
 
 -- ---- all that was gathered
 -- what the laws of a gathering stand on: no upload was cut or left undrawn, and each token of the books is the name of its bytes
-pub record Stands (hall : Hall) (works : List (List Worked)) (outcome : Gathered) (taps : List (List Tap)) : Type 0 where
-  pub gathered : IsGathered hall works outcome
-  pub some_shard : 0 < shards_of hall
+pub record Stands (given : Given) (works : List (List Worked)) (outcome : Gathered) (taps : List (List Tap)) : Type 0 where
+  pub gathered : IsGathered given works outcome
+  pub some_shard : 0 < given.shards
   pub named : (shard : ℕ) (book : Book) → slice_get outcome.books shard ≡ Some book → All IsNamed book.entries
   pub whole : All WasWhole outcome.ends
-  pub cuts : All HasOneCut hall.uploads
-  pub each : AreTapsOfEach hall.uploads taps
+  pub cuts : All HasOneCut given.uploads
+  pub each : AreTapsOfEach given.uploads taps
 
-module _ (hall : Hall) (works : List (List Worked)) (outcome : Gathered) (taps : List (List Tap)) (all : Stands hall works outcome taps) where
-  pub each_work : All (IsWorked hall) (all_works works)
-  each_work = All-flat (IsWorked hall) works all.gathered.each
+module _ (given : Given) (works : List (List Worked)) (outcome : Gathered) (taps : List (List Tap)) (all : Stands given works outcome taps) where
+  pub each_work : All (IsWorkOf given.shards given.uploads) (all_works works)
+  each_work = All-flat (IsWorkOf given.shards given.uploads) works all.gathered.each
 
   -- the end of an upload, and that it is not undrawn
-  end_at : (upload : ℕ) → upload < length hall.uploads → (end : UploadEnd) × (slice_get outcome.ends upload ≡ Some end) × (end ≡ end_of upload (all_works works)) × WasWhole end
+  end_at : (upload : ℕ) → upload < length given.uploads → (end : UploadEnd) × (slice_get outcome.ends upload ≡ Some end) × (end ≡ end_of upload (all_works works)) × WasWhole end
   end_at upload within =
       let few : upload < length outcome.ends = omega (arith, within, all.gathered.uploads) in
       let at = slice_get-get_or outcome.ends upload Undrawn few in
       (get_or outcome.ends upload Undrawn, at, all.gathered.ends upload (get_or outcome.ends upload Undrawn) at, All-at WasWhole outcome.ends upload (get_or outcome.ends upload Undrawn) all.whole at)
 
-  pub ended : (upload : ℕ) → upload < length hall.uploads → end_of upload (all_works works) ≢ Undrawn
+  pub ended : (upload : ℕ) → upload < length given.uploads → end_of upload (all_works works) ≢ Undrawn
   ended upload within e =
       let (end, at, told, whole) = end_at upload within in
       let W : UploadEnd → Type 0 = WasWhole in
@@ -202,19 +202,19 @@ module _ (hall : Hall) (works : List (List Worked)) (outcome : Gathered) (taps :
   pub all_whole : All (λ w. WasWhole w.end) (all_works works)
   all_whole = λ k d few. of_one (slice_index_or (all_works works) k d) (each_work k d few) (end_told (all_works works) all.gathered.once k d few)
     where
-      of_one : (w : Worked) → IsWorked hall w → end_of w.upload (all_works works) ≡ w.end → WasWhole w.end
+      of_one : (w : Worked) → IsWorkOf given.shards given.uploads w → end_of w.upload (all_works works) ≡ w.end → WasWhole w.end
       of_one w worked told =
           let (end, at, is, whole) = end_at w.upload worked.within in
           let W : UploadEnd → Type 0 = WasWhole in
           subst W (is ∙ told) whole
 
   -- the entries that a worker brought to a shard for an upload are named by their bytes
-  named_works : (shard : ℕ) → shard < shards_of hall → All (λ w. All IsNamed (joined (entries_to shard w.visits))) (all_works works)
+  named_works : (shard : ℕ) → shard < given.shards → All (λ w. All IsNamed (joined (entries_to shard w.visits))) (all_works works)
   named_works shard within = All-flat (λ w. All IsNamed (joined (entries_to shard w.visits))) works (λ worker d few. of_one worker (slice_index_or works worker d) (slice_get-get_or works worker d few))
     where
       of_one : (worker : ℕ) (done : List Worked) → slice_get works worker ≡ Some done → All (λ w. All IsNamed (joined (entries_to shard w.visits))) done
       of_one worker done at =
-          let empty : Book = record { table = hall.table; shard = 0; shards = 0; entries = [] } in
+          let empty : Book = record { table = given.table; shard = 0; shards = 0; entries = [] } in
           let there = slice_get-get_or outcome.books shard empty (omega (arith, within, all.gathered.shards)) in
           let book = get_or outcome.books shard empty in
           let b = all.gathered.books shard book there in
@@ -222,14 +222,14 @@ module _ (hall : Hall) (works : List (List Worked)) (outcome : Gathered) (taps :
           let J : List (List Entry) → Type 0 = λ vs. All IsNamed (joined vs) in
           of_work IsNamed shard done (subst J (b.order worker done at) (of_worker IsNamed worker b.visits (subst A b.history (all.named shard book there))))
 
-  all_read : (token : Token) → All (IsRead (shards_of hall) token taps) (all_works works)
+  all_read : (token : Token) → All (IsRead given.shards token taps) (all_works works)
   all_read token = λ k d few.
-      work_read hall token taps (slice_index_or (all_works works) k d) all.some_shard all.cuts all.each (each_work k d few) (all_whole k d few) (λ shard within. named_works shard within k d few)
+      work_read given token taps (slice_index_or (all_works works) k d) all.some_shard all.cuts all.each (each_work k d few) (all_whole k d few) (λ shard within. named_works shard within k d few)
 
-  pub names_of : (upload : ℕ) → upload < length hall.uploads → All IsName (get_or taps upload [])
+  pub names_of : (upload : ℕ) → upload < length given.uploads → All IsName (get_or taps upload [])
   names_of upload within =
       let token = token_of [] in
-      let (w, read, is) = drawn_by (IsRead (shards_of hall) token taps) (all_works works) (all_read token) upload (ended upload within) in
+      let (w, read, is) = drawn_by (IsRead given.shards token taps) (all_works works) (all_read token) upload (ended upload within) in
       let N : ℕ → Type 0 = λ u. All IsName (get_or taps u []) in
       subst N is read.names
 
@@ -296,7 +296,7 @@ a_tap token (tap ∷ taps) first rest names is = by_test (is_of token (unanswere
         let (x, there, token_is) = more left in
         (x, (suc there.0, omega (arith, there.1), there.2), token_is)
 
-module _ (hall : Hall) (works : List (List Worked)) (outcome : Gathered) (taps : List (List Tap)) (all : Stands hall works outcome taps) (apart : AreApart taps) (token : Token) where
+module _ (given : Given) (works : List (List Worked)) (outcome : Gathered) (taps : List (List Tap)) (all : Stands given works outcome taps) (apart : AreApart taps) (token : Token) where
   -- no other upload than one has taps of the token
   only_one : (one other : ℕ) (first : Entry) (rest : List Entry) → mine_of token taps one ≡ first ∷ rest → other ≢ one → mine_of token taps other ≡ []
   only_one one other first rest is ne = by_list (mine_of token taps other) refl
@@ -306,46 +306,46 @@ module _ (hall : Hall) (works : List (List Worked)) (outcome : Gathered) (taps :
       by_list (e ∷ es) has =
           let within_one = mine_within token taps one first rest is in
           let within_other = mine_within token taps other e es has in
-          let number = each_length hall.uploads taps all.each in
-          let one_tap = a_tap token (get_or taps one []) first rest (names_of hall works outcome taps all one (omega (arith, within_one, number))) is in
-          let other_tap = a_tap token (get_or taps other []) e es (names_of hall works outcome taps all other (omega (arith, within_other, number))) has in
+          let number = each_length given.uploads taps all.each in
+          let one_tap = a_tap token (get_or taps one []) first rest (names_of given works outcome taps all one (omega (arith, within_one, number))) is in
+          let other_tap = a_tap token (get_or taps other []) e es (names_of given works outcome taps all other (omega (arith, within_other, number))) has in
           absurd (ne (apart other one (get_or taps other []) (get_or taps one []) other_tap.0 one_tap.0
           (slice_get-get_or taps other [] within_other) (slice_get-get_or taps one [] within_one) other_tap.1 one_tap.1 (other_tap.2 ∙ sym one_tap.2)))
 
   shard : ℕ
-  shard = shard_of_token (bytes_of token) (shards_of hall)
+  shard = shard_of_token (bytes_of token) given.shards
 
-  works_parts : (done : List Worked) → All (IsRead (shards_of hall) token taps) done
-      → flat_map (bares token) (entries_to (shard_of_token (bytes_of token) (shards_of hall)) (all_visits done)) ≡ flat_map (mine_of token taps) (map (λ w. w.upload) done)
+  works_parts : (done : List Worked) → All (IsRead given.shards token taps) done
+      → flat_map (bares token) (entries_to (shard_of_token (bytes_of token) given.shards) (all_visits done)) ≡ flat_map (mine_of token taps) (map (λ w. w.upload) done)
   works_parts [] read = refl
   works_parts (w ∷ done) read =
-      let s = shard_of_token (bytes_of token) (shards_of hall) in
+      let s = shard_of_token (bytes_of token) given.shards in
       ap (flat_map (bares token)) (entries_to-append s w.visits (all_visits done))
       ∙ flat_map-append (bares token) (entries_to s w.visits) (entries_to s (all_visits done))
-      ∙ ap (λ es. es ++ flat_map (bares token) (entries_to s (all_visits done))) (sym (bares-joined token (entries_to s w.visits)) ∙ (All-head (IsRead (shards_of hall) token taps) w done read).part)
-      ∙ ap (λ es. mine_of token taps w.upload ++ es) (works_parts done (All-tail (IsRead (shards_of hall) token taps) w done read))
+      ∙ ap (λ es. es ++ flat_map (bares token) (entries_to s (all_visits done))) (sym (bares-joined token (entries_to s w.visits)) ∙ (All-head (IsRead given.shards token taps) w done read).part)
+      ∙ ap (λ es. mine_of token taps w.upload ++ es) (works_parts done (All-tail (IsRead given.shards token taps) w done read))
 
   flat_uploads : (lists : List (List Worked)) → flat_map (λ ns. ns) (map (map (λ w. w.upload)) lists) ≡ map (λ w. w.upload) (all_works lists)
   flat_uploads [] = refl
   flat_uploads (done ∷ lists) = ap (λ ns. map (λ (w : Worked). w.upload) done ++ ns) (flat_uploads lists) ∙ sym (map-append (λ w. w.upload) done (all_works lists))
 
   -- the token's entries in the book of its shard, without their replies
-  pub own_book : (book : Book) → slice_get outcome.books (shard_of_token (bytes_of token) (shards_of hall)) ≡ Some book
+  pub own_book : (book : Book) → slice_get outcome.books (shard_of_token (bytes_of token) given.shards) ≡ Some book
       → bares token book.entries ≡ own token (map unanswered (flat_map (λ ts. ts) taps))
   own_book book at =
       ap (bares token) b.history ∙ bares-joined token (map (λ v. v.entries) b.visits) ∙ flat_map-map (bares token) (λ v. v.entries) b.visits
       ∙ by_taps (none_or_one (all_mine token taps)) ∙ sym (own_all token taps)
     where
       s : ℕ
-      s = shard_of_token (bytes_of token) (shards_of hall)
+      s = shard_of_token (bytes_of token) given.shards
 
-      b : IsBookOfWork hall.table (shard_of_token (bytes_of token) (shards_of hall)) (shards_of hall) works book
-      b = all.gathered.books (shard_of_token (bytes_of token) (shards_of hall)) book at
+      b : IsBookOfWork given.table (shard_of_token (bytes_of token) given.shards) given.shards works book
+      b = all.gathered.books (shard_of_token (bytes_of token) given.shards) book at
 
       theirs : DoTheirs (λ v. v.worker) (λ v. bares token v.entries) (mine_of token taps) (map (map (λ w. w.upload)) works) b.visits
       theirs worker ns there =
           let (done, is, same) = mapped_at (map (λ w. w.upload)) works worker ns there in
-          let read = All-at (λ d. All (IsRead (shards_of hall) token taps) d) works worker done (flat-All (IsRead (shards_of hall) token taps) works (all_read hall works outcome taps all token)) is in
+          let read = All-at (λ d. All (IsRead given.shards token taps) d) works worker done (flat-All (IsRead given.shards token taps) works (all_read given works outcome taps all token)) is in
           sym (flat_map-map (bares token) (λ v. v.entries) (filter (λ v. v.worker == worker) b.visits))
           ∙ ap (flat_map (bares token)) (b.order worker done is) ∙ works_parts done read ∙ ap (flat_map (mine_of token taps)) (sym same)
 
@@ -360,17 +360,17 @@ module _ (hall : Hall) (works : List (List Worked)) (outcome : Gathered) (taps :
       by_taps (inr one) =
           let is : mine_of token taps one.place ≡ one.first ∷ one.rest = sym (mine_at token taps one.place (one.first ∷ one.rest) one.at) in
           let others : (n : ℕ) → n ≢ one.place → mine_of token taps n ≡ [] = λ n ne. only_one one.place n one.first one.rest is ne in
-          let few : one.place < length hall.uploads = omega (arith, mine_within token taps one.place one.first one.rest is, each_length hall.uploads taps all.each) in
-          let least = drawn_count (all_works works) one.place (ended hall works outcome taps all one.place few) in
+          let few : one.place < length given.uploads = omega (arith, mine_within token taps one.place one.first one.rest is, each_length given.uploads taps all.each) in
+          let least = drawn_count (all_works works) one.place (ended given works outcome taps all one.place few) in
           let most = all.gathered.once one.place in
           let once : count one.place (flat_map (λ ns. ns) (map (map (λ w. w.upload)) works)) ≡ 1 = ap (count one.place) (flat_uploads works) ∙ omega (arith, least, most) in
           done_alone (λ v. v.worker) (λ v. bares token v.entries) (mine_of token taps) one.place (map (map (λ w. w.upload)) works) b.visits others once within theirs
           ∙ is ∙ sym (flat_alone (all_mine token taps) one.place (one.first ∷ one.rest) one.at (λ other es there ne. mine_at token taps other es there ∙ others other ne))
 
   -- the token's entries in the book of its shard are those of the plain history
-  pub own_plain : (book : Book) → slice_get outcome.books (shard_of_token (bytes_of token) (shards_of hall)) ≡ Some book
-      → own token book.entries ≡ own token (plain hall.table (flat_map (λ ts. ts) taps))
+  pub own_plain : (book : Book) → slice_get outcome.books (shard_of_token (bytes_of token) given.shards) ≡ Some book
+      → own token book.entries ≡ own token (plain given.table (flat_map (λ ts. ts) taps))
   own_plain book at =
-      let b = all.gathered.books (shard_of_token (bytes_of token) (shards_of hall)) book at in
-      same_replies hall.table token book.entries (plain hall.table (flat_map (λ ts. ts) taps)) b.legal (plain_legal hall.table (flat_map (λ ts. ts) taps))
-      (own_book book at ∙ sym (own_bare token (plain hall.table (flat_map (λ ts. ts) taps)) ∙ ap (own token) (plain_bare hall.table [] (flat_map (λ ts. ts) taps))))
+      let b = all.gathered.books (shard_of_token (bytes_of token) given.shards) book at in
+      same_replies given.table token book.entries (plain given.table (flat_map (λ ts. ts) taps)) b.legal (plain_legal given.table (flat_map (λ ts. ts) taps))
+      (own_book book at ∙ sym (own_bare token (plain given.table (flat_map (λ ts. ts) taps)) ∙ ap (own token) (plain_bare given.table [] (flat_map (λ ts. ts) taps))))

@@ -19,15 +19,16 @@ use Rattle.shard_book.specs.Keys.{same_token}
 use Rattle.shard_book.specs.Rising.{rising, IsRising}
 use Rattle.shard_book.specs.Sums.{sums, sums_of_replies, is_paid, is_transfer, is_capped, is_stale, is_unknown}
 use Rattle.shard_book.specs.Token.{bytes_of, token_cmp, token_eq}
-use Rattle.fare_service.specs.Halls.{Hall}
 use Rattle.fare_service.specs.Outcomes.{Gathered}
 use Rattle.fare_service.specs.Plain.{HasOneCut, IsWholeGathering, IsReportOver}
 use Rattle.fare_service.specs.Printed.{report_of, report_with}
 use Rattle.fare_service.specs.Text.{report}
 use Rattle.fare_service.specs.declared.upload_end.UploadEnd.{UploadEnd}
+use Rattle.fare_service.proofs.HeadlineLemmas.{gathered_of}
 use Rattle.fare_service.proofs.PlainEnds.{plain_ends}
 use Rattle.fare_service.proofs.PlainLists.{flat_alone, mapped_at, same_elements, filter-filter}
 use Rattle.fare_service.proofs.PlainUploads.{AllNamed, same_own}
+use Rattle.fare_service.proofs.GatheredWork.{Given}
 
 -- the same elements have the same sums
 pub same_sums : (xs ys : List Entry) → IsPermutation xs ys → sums xs ≡ sums ys
@@ -112,18 +113,18 @@ own_elsewhere token shard shards (entry ∷ entries) here apart =
 abbrev pub AllHere : Gathered → Type 0
 AllHere outcome = (shard : ℕ) (book : Book) → slice_get outcome.books shard ≡ Some book → AreOfShard book.shard book.shards book.entries
 
-module _ (hall : Hall) (outcome : Gathered) (history : List Entry) (some : 0 < length outcome.books) (named : AllNamed outcome) (here : AllHere outcome) (cuts : All HasOneCut hall.uploads) (w : IsWholeGathering hall outcome history) where
+module _ (given : Given) (outcome : Gathered) (history : List Entry) (some : 0 < length outcome.books) (named : AllNamed outcome) (here : AllHere outcome) (cuts : All HasOneCut given.uploads) (w : IsWholeGathering given.table given.shards given.uploads outcome history) where
   -- the entries of a token in all books are those of the plain history
   pub own_all : (token : Token) → own token (all_entries outcome.books) ≡ own token history
   own_all token =
       let shards = length outcome.books in
       let shard = shard_of_token (bytes_of token) shards in
-      let empty : Book = record { table = hall.table; shard = 0; shards = 0; entries = [] } in
+      let empty : Book = record { table = given.table; shard = 0; shards = 0; entries = [] } in
       let there = slice_get-get_or outcome.books shard empty (mod-lt _ some) in
       let book = get_or outcome.books shard empty in
       own_books token outcome.books
       ∙ flat_alone (map (λ b. own token b.entries) outcome.books) shard (own token book.entries) (at_place shard book there) elsewhere
-      ∙ same_own hall outcome history some named cuts w token book there
+      ∙ same_own given outcome history some named cuts w token book there
     where
       at_place : (shard : ℕ) (book : Book) → slice_get outcome.books shard ≡ Some book → slice_get (map (λ b. own token b.entries) outcome.books) shard ≡ Some (own token book.entries)
       at_place shard book there = map_place outcome.books shard there
@@ -136,11 +137,11 @@ module _ (hall : Hall) (outcome : Gathered) (history : List Entry) (some : 0 < l
       elsewhere : (other : ℕ) (es : List Entry) → slice_get (map (λ b. own token b.entries) outcome.books) other ≡ Some es → other ≢ shard_of_token (bytes_of token) (length outcome.books) → es ≡ []
       elsewhere other es there apart =
           let (book, is, same) = mapped_at (λ b. own token b.entries) outcome.books other es there in
-          let b = w.gathered.books other book is in
+          let b = w.headline.books other book is in
           let A : ℕ → ℕ → Type 0 = λ s n. All (λ entry. shard_of_token (bytes_of entry.token) n ≡ s) book.entries in
           let S : ℕ → Type 0 = λ s. A s book.shards in
           let N : ℕ → Type 0 = λ n. A other n in
-          let of_other = subst N (b.of_shards ∙ sym w.gathered.shards) (subst S b.its_shard (here other book is).each) in
+          let of_other = subst N (b.2 ∙ sym w.headline.shards_are) (subst S b.1 (here other book is).each) in
           same ∙ own_elsewhere token other (length outcome.books) book.entries of_other (λ e. apart (sym e))
 
   -- with any ends of uploads, the sums of the report are those of the plain history
@@ -152,10 +153,10 @@ module _ (hall : Hall) (outcome : Gathered) (history : List Entry) (some : 0 < l
       λ i. report ends (totals i) (same_by_validator numbers names entries history own_all i) (same_by_token numbers names entries history own_all i)
 
   -- the report is that over the plain history
-  pub same_report : RisingNumbers → RisingTokens → IsReportOver hall.uploads history (report_of outcome)
+  pub same_report : RisingNumbers → RisingTokens → IsReportOver given.uploads history (report_of outcome)
   same_report numbers names =
       record {
         ends = outcome.ends;
-        of_uploads = plain_ends hall w.works outcome some w.gathered w.whole;
+        of_uploads = plain_ends given w.works outcome some (gathered_of given w.works outcome w.headline) w.whole;
         shown = same_sums_with numbers names outcome.ends;
       }

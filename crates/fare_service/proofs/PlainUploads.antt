@@ -18,14 +18,15 @@ use Rattle.shard_book.specs.History.{IsLegal}
 use Rattle.shard_book.specs.Statement.{IsStatement}
 use Rattle.shard_book.specs.Sums.{sums}
 use Rattle.shard_book.specs.Token.{bytes_of}
-use Rattle.fare_service.specs.Halls.{Hall}
 use Rattle.fare_service.specs.Outcomes.{Gathered}
 use Rattle.fare_service.specs.Plain.{AreTapsOf, AreTapsOfEach, HasOneCut, IsNamed, IsPlain, IsWholeGathering, IsStatementOver, plain}
 use Rattle.fare_service.specs.Printed.{IsStatementOf}
 use Rattle.fare_texts.specs.StatementText.{IsStatementText}
+use Rattle.fare_service.proofs.HeadlineLemmas.{gathered_of}
 use Rattle.fare_service.proofs.PlainBooks.{Stands, own_plain}
 use Rattle.fare_service.proofs.PlainReplies.{plain_legal}
 use Rattle.fare_service.proofs.PlainRuns.{AllZip-append}
+use Rattle.fare_service.proofs.GatheredWork.{Given}
 
 -- one upload more
 pub each_more : (files : List (List ℕ)) (taps : List (List Tap)) (file : List ℕ) (ts : List Tap) → AreTapsOfEach files taps → AreTapsOf file ts → AreTapsOfEach (files ++ file ∷ []) (taps ++ ts ∷ [])
@@ -59,11 +60,11 @@ legal_plain fares files history is =
 abbrev pub AllNamed : Gathered → Type 0
 AllNamed outcome = (shard : ℕ) (book : Book) → slice_get outcome.books shard ≡ Some book → All IsNamed book.entries
 
-pub stands : (hall : Hall) (outcome : Gathered) (history : List Entry) → 0 < length outcome.books → AllNamed outcome → All HasOneCut hall.uploads → (w : IsWholeGathering hall outcome history)
-    → Stands hall w.works outcome w.plain_is.taps
-stands hall outcome history some named cuts w = record {
-  gathered = w.gathered;
-  some_shard = omega (arith, some, w.gathered.shards);
+pub stands : (given : Given) (outcome : Gathered) (history : List Entry) → 0 < length outcome.books → AllNamed outcome → All HasOneCut given.uploads → (w : IsWholeGathering given.table given.shards given.uploads outcome history)
+    → Stands given w.works outcome w.plain_is.taps
+stands given outcome history some named cuts w = record {
+  gathered = gathered_of given w.works outcome w.headline;
+  some_shard = omega (arith, some, w.headline.shards_are);
   named = named;
   whole = w.whole;
   cuts = cuts;
@@ -71,11 +72,11 @@ stands hall outcome history some named cuts w = record {
 }
 
 -- the entries of a token in the book of its shard are those of the plain history
-pub same_own : (hall : Hall) (outcome : Gathered) (history : List Entry) → 0 < length outcome.books → AllNamed outcome → All HasOneCut hall.uploads → IsWholeGathering hall outcome history
+pub same_own : (given : Given) (outcome : Gathered) (history : List Entry) → 0 < length outcome.books → AllNamed outcome → All HasOneCut given.uploads → IsWholeGathering given.table given.shards given.uploads outcome history
     → (token : Token) (book : Book) → slice_get outcome.books (shard_of_token (bytes_of token) (length outcome.books)) ≡ Some book → own token book.entries ≡ own token history
-same_own hall outcome history some named cuts w token book at =
+same_own given outcome history some named cuts w token book at =
     let S : ℕ → Type 0 = λ n. slice_get outcome.books (shard_of_token (bytes_of token) n) ≡ Some book in
-    own_plain hall w.works outcome w.plain_is.taps (stands hall outcome history some named cuts w) w.apart token book (subst S w.gathered.shards at)
+    own_plain given w.works outcome w.plain_is.taps (stands given outcome history some named cuts w) w.apart token book (subst S w.headline.shards_are at)
     ∙ ap (own token) (sym w.plain_is.entries)
 
 -- a statement is a function of the token's own entries
@@ -89,28 +90,28 @@ statement_same fares xs ys token statement same is = record {
 }
 
 -- the text of a token's statement is that over the plain history
-pub same_statement : (hall : Hall) (outcome : Gathered) (history : List Entry) → 0 < length outcome.books → AllNamed outcome → All HasOneCut hall.uploads → IsWholeGathering hall outcome history
-    → (token : Token) (text : List ℕ) → IsStatementOf outcome token text ↔ IsStatementOver hall.table history token text
-same_statement hall outcome history some named cuts w token text = (there, back)
+pub same_statement : (given : Given) (outcome : Gathered) (history : List Entry) → 0 < length outcome.books → AllNamed outcome → All HasOneCut given.uploads → IsWholeGathering given.table given.shards given.uploads outcome history
+    → (token : Token) (text : List ℕ) → IsStatementOf outcome token text ↔ IsStatementOver given.table history token text
+same_statement given outcome history some named cuts w token text = (there, back)
   where
-    table_of : (shard : ℕ) (book : Book) → slice_get outcome.books shard ≡ Some book → book.table ≡ hall.table
-    table_of shard book at = (w.gathered.books shard book at).its_table
+    table_of : (shard : ℕ) (book : Book) → slice_get outcome.books shard ≡ Some book → book.table ≡ given.table
+    table_of shard book at = (w.headline.books shard book at).0
 
-    there : IsStatementOf outcome token text → IsStatementOver hall.table history token text
+    there : IsStatementOf outcome token text → IsStatementOver given.table history token text
     there s =
         let table = table_of (shard_of_token (bytes_of token) (length outcome.books)) s.book s.at in
         let F : Fares → Type 0 = λ f. IsStatement f s.book.entries token s.statement in
         let T : Fares → Type 0 = λ f. IsStatementText f s.statement text in
         record {
           statement = s.statement;
-          of_history = statement_same hall.table s.book.entries history token s.statement (same_own hall outcome history some named cuts w token s.book s.at) (subst F table s.of_book);
+          of_history = statement_same given.table s.book.entries history token s.statement (same_own given outcome history some named cuts w token s.book s.at) (subst F table s.of_book);
           shown = subst T table s.shown;
         }
 
-    back : IsStatementOver hall.table history token text → IsStatementOf outcome token text
+    back : IsStatementOver given.table history token text → IsStatementOf outcome token text
     back s =
         let shard = shard_of_token (bytes_of token) (length outcome.books) in
-        let empty : Book = record { table = hall.table; shard = 0; shards = 0; entries = [] } in
+        let empty : Book = record { table = given.table; shard = 0; shards = 0; entries = [] } in
         let at = slice_get-get_or outcome.books shard empty (mod-lt _ some) in
         let book = get_or outcome.books shard empty in
         let table = table_of shard book at in
@@ -120,6 +121,6 @@ same_statement hall outcome history some named cuts w token text = (there, back)
           book = book;
           at = at;
           statement = s.statement;
-          of_book = subst F (sym table) (statement_same hall.table history book.entries token s.statement (sym (same_own hall outcome history some named cuts w token book at)) s.of_history);
+          of_book = subst F (sym table) (statement_same given.table history book.entries token s.statement (sym (same_own given outcome history some named cuts w token book at)) s.of_history);
           shown = subst T (sym table) s.shown;
         }

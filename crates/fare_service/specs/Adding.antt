@@ -4,6 +4,8 @@ use Rattle.shard_book.specs.Sums.{Sums, sums, add_sums}
 use Rattle.fare_service.specs.declared.upload_end.UploadEnd.{UploadEnd}
 use Rattle.fare_service.specs.declared.upload_end.UploadEnd.TheVariants.{Posted, Refused, Cut, Undrawn}
 use Rattle.fare_service.specs.Outcomes.{Gathered}
+use Rattle.fare_service.specs.Runs.{entries_of}
+use Rattle.fare_service.specs.Shares.{Worked, all_visits}
 
 -- some sums, added up
 abbrev pub add_all : List Sums → Sums
@@ -17,8 +19,10 @@ taps_told (Refused taps offset fault) = taps
 taps_told (Cut taps) = taps
 taps_told Undrawn = 0
 
--- the totals are the sum of the books' totals and of the workers', and their taps are those that the uploads' ends tell
-pub record AddUp (outcome : Gathered) : Type 0 where
-  pub books : outcome.totals ≡ add_all (map (λ book. sums book.entries) outcome.books)
+-- Each worker's totals are those of its replies. The totals are the sum of the workers', and of the books', and their taps are those that
+-- the uploads' ends tell.
+pub record AddUp (works : List (List Worked)) (outcome : Gathered) : Type 0 where
+  pub each : outcome.workers ≡ map (λ done. sums (entries_of (all_visits done))) works
   pub workers : outcome.totals ≡ add_all outcome.workers
+  pub books : outcome.totals ≡ add_all (map (λ book. sums book.entries) outcome.books)
   pub uploads : outcome.totals.taps ≡ sum_by taps_told outcome.ends

@@ -6,9 +6,9 @@ use Rattle.shard_book.specs.History.{IsLegal}
 use Rattle.shared_books.specs.Passes.{Opened, Knowledge, HasMadeAll, book_of}
 use Rattle.fare_service.specs.declared.faults.GatherFault.{GatherFault}
 use Rattle.fare_service.specs.declared.faults.GatherFault.TheVariants.{NoMemory, Missing, Drawn}
-use Rattle.shared_books.specs.Drawing.{NoneTwice, times}
+use Rattle.shared_books.specs.Drawing.{AllBelow, NoneTwice, times}
 use Rattle.shared_books.specs.Marks.{joined}
-use Rattle.fare_service.specs.Gathering.{Signed, by_worker}
+use Rattle.fare_service.specs.Headline.{Signed, by_worker}
 use Rattle.fare_service.specs.Limits.{KeepsLimits}
 use Rattle.fare_service.specs.Holdings.{Holding}
 use Rattle.fare_service.specs.Shares.{marks_at, own_at}
@@ -94,3 +94,4 @@ pub record IsClosedWork (opened : List Opened) (shares : List Holding) (closed :
   pub books : (shard : ℕ) (book : Book) → slice_get closed shard ≡ Some book → IsHistoryOf opened shares shard book
   pub once : NoneTwice (flat_map (λ share. share.drawer.drawn) shares)
   pub undrawn : (upload : ℕ) → times upload (flat_map (λ share. share.drawer.drawn) shares) ≡ 0 → All (λ share. share.drawer.seen ≤ upload) shares
+  pub last : (upload : ℕ) → times upload (flat_map (λ share. share.drawer.drawn) shares) ≡ 0 → AllBelow upload (flat_map (λ share. share.drawer.drawn) shares)

@@ -15,6 +15,7 @@ pub record Hall : Type 0 where
 abbrev pub shards_of : Hall → ℕ
 shards_of hall = length hall.books
 
+-- the bytes of an upload
 abbrev pub upload_at : Hall → ℕ → List ℕ
 upload_at hall upload = slice_index_or hall.uploads upload []
 

@@ -8,7 +8,7 @@ use Rattle.shared_books.specs.Passes.{Opened, Knowledge}
 use Rattle.fare_service.specs.declared.share.Done.{Done}
 use Rattle.fare_service.specs.declared.upload_end.UploadEnd.{UploadEnd}
 use Rattle.fare_service.specs.Faults.{visits_held}
-use Rattle.fare_service.specs.Gathering.{Signed, by_worker}
+use Rattle.fare_service.specs.Headline.{Signed, by_worker}
 use Rattle.fare_service.specs.Holdings.{Holding}
 use Rattle.fare_service.specs.Shares.{books_of, own_visits, marks_at, own_at}
 use Rattle.std.specs.List.{AllZip}

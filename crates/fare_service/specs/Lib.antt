@@ -2,7 +2,7 @@ pub mod Adding
 pub mod Closing
 pub mod Ends
 pub mod Faults
-pub mod Gathering
+pub mod Headline
 pub mod Halls
 pub mod Holdings
 pub mod Joining

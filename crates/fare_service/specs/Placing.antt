@@ -1,18 +1,15 @@
 -- Where the posted taps stand: each in one entry of its shard's book, and the books have no other entries.
-use Rattle.std.specs.Prelude.{◌≡◌, ℕ, ◌<◌, ◌==◌, List, [], length, map, filter, take, All, count_by, slice_get, Some}
+use Rattle.std.specs.Prelude.{◌≡◌, ℕ, ◌<◌, ◌==◌, List, [], length, map, filter, take, All, count_by}
 use Rattle.std.specs.List.{flat_map, AllZip}
 use Rattle.tap_views.specs.Layout.{Tap}
 use Rattle.tap_views.specs.Files.{IsFile}
 use Rattle.tap_views.specs.Shards.{shard_of_token}
 use Rattle.shard_book.specs.declared.entry.Entry.{Entry}
-use Rattle.shard_book.specs.Book.{Book}
 use Rattle.shard_book.specs.Entry.{IsEntryOf}
 use Rattle.fare_service.specs.declared.upload_end.UploadEnd.{UploadEnd}
 use Rattle.fare_service.specs.declared.upload_end.UploadEnd.TheVariants.{Posted, Refused, Cut, Undrawn}
-use Rattle.fare_service.specs.Halls.{Hall, shards_of, upload_at}
-use Rattle.fare_service.specs.Outcomes.{Gathered}
 use Rattle.fare_service.specs.Runs.{PlacedTap, placed_from, of_shard, runs_of}
-use Rattle.fare_service.specs.Shares.{IsRefusal}
+use Rattle.fare_service.specs.Shares.{Worked, all_visits, IsRefusal}
 
 -- the taps of an upload's batches in the order in which they are posted: batch by batch, and each batch by rising shard
 abbrev pub in_posting_order : ℕ → List (List Tap) → List PlacedTap
@@ -40,19 +37,16 @@ pub record Origin : Type 0 where
 abbrev pub of_upload : ℕ → List Origin → List PlacedTap
 of_upload upload origins = map (λ o. o.placed) (filter (λ o. o.upload == upload) origins)
 
--- the entry has the fields of the tap's bytes
-abbrev pub IsEntryOfOrigin : Origin → Entry → Type 0
-IsEntryOfOrigin origin entry = IsEntryOf origin.placed.tap entry
+-- the taps that were posted of an upload, in posting order
+abbrev pub posted_of : ℕ → List Worked → List PlacedTap
+posted_of upload works = flat_map (λ v. v.taps) (all_visits (filter (λ w. w.upload == upload) works))
 
--- Each entry of a book stands for a tap of an upload. Of each upload these are exactly its posted taps of the book's shard, each once, in the
--- order of the upload.
-pub record StandOnce (hall : Hall) (outcome : Gathered) : Type 0 where
-  pub posted : ℕ → List PlacedTap
-  pub ended : (upload : ℕ) (end : UploadEnd) → slice_get outcome.ends upload ≡ Some end → WerePostedOf (shards_of hall) (upload_at hall upload) end (posted upload)
-  pub origins : ℕ → List Origin
-  pub fields : (shard : ℕ) (book : Book) → slice_get outcome.books shard ≡ Some book → AllZip IsEntryOfOrigin (origins shard) book.entries
-  pub uploads : (shard : ℕ) → shard < shards_of hall → All (λ o. o.upload < length hall.uploads) (origins shard)
-  pub exactly : (shard upload : ℕ) → shard < shards_of hall → of_upload upload (origins shard) ≡ of_shard shard (shards_of hall) (posted upload)
+-- Each entry of a shard's book stands for a tap of an upload, and has the fields of its bytes. Of each upload these are exactly its
+-- posted taps of the shard, each once, in the order of the upload.
+pub record StandOnce (shard shards : ℕ) (works : List Worked) (entries : List Entry) : Type 0 where
+  pub origins : List Origin
+  pub fields : AllZip (λ origin entry. IsEntryOf origin.placed.tap entry) origins entries
+  pub exactly : (upload : ℕ) → of_upload upload origins ≡ of_shard shard shards (posted_of upload works)
 
 -- The same taps in another order: those of each shard stand in the same order, and each place that is there stands there once.
 pub record IsReordered (shards : ℕ) (taps ordered : List PlacedTap) : Type 0 where

@@ -20,8 +20,7 @@ use Rattle.shard_book.specs.declared.entry.Entry.{Entry}
 use Rattle.shard_book.specs.declared.statement.Statement.{Statement}
 use Rattle.shard_book.specs.declared.token.Token.{Token}
 use Rattle.fare_service.specs.Ends.{end_by}
-use Rattle.fare_service.specs.Gathering.{IsGathered}
-use Rattle.fare_service.specs.Halls.{Hall}
+use Rattle.fare_service.specs.Headline.{Headline}
 use Rattle.fare_service.specs.Outcomes.{Gathered}
 use Rattle.fare_service.specs.Shares.{Worked, IsFaultOf}
 use Rattle.fare_texts.specs.StatementText.{IsStatementText}
@@ -95,13 +94,12 @@ abbrev pub HasOneCut : List ℕ → Type 0
 HasOneCut file =
     (batches others : List (List Tap)) (rest left : List ℕ) → IsFile file batches rest → IsFile file others left → (batches ≡ others) × (rest ≡ left)
 
--- What was gathered is whole: no upload was cut or left undrawn, and no token has taps in two uploads. The history is the plain one of the
--- service's uploads.
-pub record IsWholeGathering (hall : Hall) (outcome : Gathered) (history : List Entry) : Type 0 where
+-- The headline holds, no upload was cut or left undrawn, and no token has taps in two uploads. The history is the plain one of the uploads.
+pub record IsWholeGathering (fares : Fares) (shards : ℕ) (uploads : List (List ℕ)) (outcome : Gathered) (history : List Entry) : Type 0 where
   pub works : List (List Worked)
-  pub gathered : IsGathered hall works outcome
+  pub headline : Headline fares shards uploads works outcome
   pub whole : All WasWhole outcome.ends
-  pub plain_is : IsPlain hall.table hall.uploads history
+  pub plain_is : IsPlain fares uploads history
   pub apart : AreApart plain_is.taps
 
 -- How an upload of these bytes ends where all batches before its first fault are posted: with the number of their taps, and the fault, if

@@ -12,7 +12,7 @@ use Rattle.shared_books.specs.Passes.{Opened, Knowledge}
 use Rattle.fare_service.specs.declared.upload_end.UploadEnd.{UploadEnd}
 use Rattle.fare_service.specs.declared.upload_end.UploadEnd.TheVariants.{Posted, Refused, Cut, Undrawn}
 use Rattle.fare_service.specs.declared.share.Done.{Done}
-use Rattle.fare_service.specs.Halls.{Hall, shards_of, upload_at}
+use Rattle.fare_service.specs.Halls.{Hall, shards_of}
 use Rattle.fare_service.specs.Holdings.{Holding}
 use Rattle.fare_service.specs.Runs.{Visit, IsEntered, ArePosted, AreCut, runs_of, entries_to, entries_of, taps_posted}
 
@@ -44,6 +44,10 @@ worked upload end visits = record { upload = upload; end = end; visits = visits 
 abbrev pub all_visits : List Worked → List Visit
 all_visits works = flat_map (λ w. w.visits) works
 
+-- what all workers did
+abbrev pub all_works : List (List Worked) → List Worked
+all_works works = flat_map (λ done. done) works
+
 abbrev pub done_of : Worked → Done
 done_of w = record { upload = w.upload; end = w.end }
 
@@ -68,14 +72,22 @@ IsEndOf shards file batches rest visits (Cut taps) =
     AreCut (runs_of shards 0 batches) visits × (taps ≡ taps_posted visits)
 IsEndOf shards file batches rest visits Undrawn = ⊥
 
--- the upload was drawn by a share of the service, and its visits and its end are those of its bytes
-pub record IsWorked (hall : Hall) (w : Worked) : Type 0 where
-  pub within : w.upload < length hall.uploads
+-- the bytes of an upload
+abbrev pub file_at : List (List ℕ) → ℕ → List ℕ
+file_at files upload = slice_index_or files upload []
+
+-- what was done with an upload of these files: its visits and its end are those of its bytes
+pub record IsWorkOf (shards : ℕ) (files : List (List ℕ)) (w : Worked) : Type 0 where
+  pub within : w.upload < length files
   pub batches : List (List Tap)
   pub rest : List ℕ
-  pub is_file : IsFile (upload_at hall w.upload) batches rest
-  pub ended : IsEndOf (shards_of hall) (upload_at hall w.upload) batches rest w.visits w.end
-  pub entered : All (IsEntered (shards_of hall)) w.visits
+  pub is_file : IsFile (file_at files w.upload) batches rest
+  pub ended : IsEndOf shards (file_at files w.upload) batches rest w.visits w.end
+  pub entered : All (IsEntered shards) w.visits
+
+-- the same, of an upload of a service
+abbrev pub IsWorked : Hall → Worked → Type 0
+IsWorked hall = IsWorkOf (shards_of hall) hall.uploads
 
 -- the share keeps what was done for these uploads, in the order in which it drew them
 pub record Keeps (hall : Hall) (share : Holding) (works : List Worked) : Type 0 where

@@ -214,11 +214,8 @@ fn close_with(
 }
 
 impl<'a> Service<'a> {
-    ghost use Rattle.fare_service.specs.Adding.{AddUp};
-    ghost use Rattle.fare_service.specs.Gathering.{HasOutcome, ToldUndrawn};
     ghost use Rattle.fare_service.specs.Halls.{shards_of};
-    ghost use Rattle.fare_service.specs.Limits.{AllKeepLimits};
-    ghost use Rattle.fare_service.specs.Placing.{StandOnce};
+    ghost use Rattle.fare_service.specs.Headline.{HasOutcome, ToldUndrawn};
     ghost use Rattle.fare_service.specs.Shares.{IsShareOf};
 
     /// Gathers shares: joins what their workers did, closes the shards' books, and gives these with the end of each upload and the
@@ -226,11 +223,8 @@ impl<'a> Service<'a> {
     /// misses some, and then missing uploads. On a fault service and shares are dropped.
     pub fn gather(self, alloc: Global, shares: Vec<Share>) -> Result<Outcome, GatherFault>
         requires { All (IsShareOf self) shares.items }
-        ensures outcome { IfOk result (HasOutcome self.entry shares.items) }
+        ensures headline { IfOk result (HasOutcome self.entry shares.items) }
         ensures undrawn { IfOk result (ToldUndrawn shares.items) }
-        ensures places { IfOk result (StandOnce self.entry) }
-        ensures totals { IfOk result AddUp }
-        ensures limits { IfOk result AllKeepLimits }
         ensures fault { IfErr result (IsGatherFault (shards_of self.entry) shares.items) }
         ensures first { IfErr result (IsFirst self.entry.books (length self.entry.uploads) shares.items) }
     {

@@ -3,7 +3,7 @@
 mod places;
 mod schedules;
 
-pub use places::posting_order;
+pub use places::{posted_taps, posting_order};
 pub use schedules::{
     cuts, ended_whole, ends, names, plain_history, report, same_texts, statements,
 };

@@ -1,11 +1,9 @@
 //! A run: a thread for each worker, and the gathering of their shares.
 
 ghost use Rattle.std.specs.Prelude.{◌≡◌, ◌<◌, All, IfOk, IfErr, length};
-ghost use Rattle.fare_service.specs.Adding.{AddUp};
 ghost use Rattle.fare_service.specs.Faults.{IsRunFault};
-ghost use Rattle.fare_service.specs.Gathering.{HasRun};
-ghost use Rattle.fare_service.specs.Limits.{AllKeepLimits};
-ghost use Rattle.fare_service.specs.Placing.{StandOnce};
+ghost use Rattle.fare_service.specs.Halls.{shards_of};
+ghost use Rattle.fare_service.specs.Headline.{HasRun};
 ghost use Rattle.fare_service.specs.Refusals.{WasNotGathered};
 ghost use Rattle.fare_service.specs.Shares.{IsShareOf};
 
@@ -118,10 +116,7 @@ impl<'a> Service<'a> {
         gate: &G,
     ) -> Result<Outcome, RunFault>
         requires { IsShareOf self share }
-        ensures outcome { IfOk result (HasRun self.entry workers) }
-        ensures places { IfOk result (StandOnce self.entry) }
-        ensures totals { IfOk result AddUp }
-        ensures limits { IfOk result AllKeepLimits }
+        ensures headline { IfOk result (HasRun self.entry.table (shards_of self.entry) self.entry.uploads workers) }
         ensures fault { IfErr result (IsRunFault workers) }
         ensures gathered { IfErr result (WasNotGathered self.entry workers) }
     {

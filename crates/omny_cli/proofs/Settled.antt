@@ -5,20 +5,9 @@ use Rattle.shard_book.specs.declared.token.Token.{Token}
 use Rattle.fare_service.specs.Outcomes.{Gathered}
 use Rattle.fare_service.specs.Plain.{IsReportOver}
 use Rattle.fare_service.specs.declared.upload_end.UploadEnd.{UploadEnd}
-use Rattle.settlement.specs.Settled.{IsSettled}
-use Rattle.settlement.specs.Told.{TellsSettled}
 use Rattle.omny_cli.specs.Posted.{are_posted}
-use Rattle.omny_cli.specs.Program.{IsRun, ShowsWith}
+use Rattle.omny_cli.specs.Program.{ShowsWith}
 use Rattle.omny_cli.specs.Settling.{IsOutcomeOf, Settles, ShowsOver}
-
--- by the name of the table that the run has
-pub outcome_is : (fares : Fares) (shards workers : ℕ) (uploads files : List (List ℕ))
-    (ends : List UploadEnd) (outcome : Gathered) → IsSettled uploads ends files
-    → (run : IsRun fares shards workers files outcome)
-    → TellsSettled run.hall.table uploads ends outcome → IsOutcomeOf fares uploads ends outcome
-outcome_is fares shards workers uploads files ends outcome settled run tells =
-    let T : Fares → Type 0 = λ f. TellsSettled f uploads ends outcome in
-    record { ended = settled.ended; tells = subst T run.its_table tells }
 
 -- what is shown of such an outcome is shown over the history
 pub settles : (fares : Fares) (files : List (List ℕ)) (ends : List UploadEnd) (outcome : Gathered)

@@ -1,5 +1,5 @@
 -- What a run of the program does.
-use Rattle.std.specs.Prelude.{◌≡◌, ℕ, Bool, List, [], ◌∷◌, map, Option, None, Some, Ok, MatchBool}
+use Rattle.std.specs.Prelude.{◌≡◌, ℕ, Bool, true, List, [], ◌∷◌, map, Option, None, Some, Ok, MatchBool}
 use Rattle.std.specs.Io.KnownBytes.{Appends}
 use Rattle.hex.specs.Hex.{decode_sized}
 use Rattle.fare_table.specs.Fares.{Fares}
@@ -8,13 +8,14 @@ use Rattle.fare_table.specs.Zone.{IsZoneOf}
 use Rattle.shard_book.specs.Token.{bytes_of}
 use Rattle.shard_book.specs.declared.token.Token.{Token}
 use Rattle.fare_service.specs.declared.upload_end.UploadEnd.{UploadEnd}
-use Rattle.fare_service.specs.Gathering.{HasRun}
-use Rattle.fare_service.specs.Halls.{Hall, shards_of}
+use Rattle.shard_book.specs.declared.entry.Entry.{Entry}
+use Rattle.fare_service.specs.Headline.{HasRun}
 use Rattle.fare_service.specs.Outcomes.{Gathered}
+use Rattle.fare_service.specs.Plain.{AreApart, IsPlain}
 use Rattle.fare_service.specs.Printed.{IsStatementOf, report_with}
 use Rattle.omny_cli.specs.Options.{Asked, lists}
 use Rattle.omny_cli.specs.Posted.{are_posted}
-use Rattle.omny_cli.specs.Settling.{Settles}
+use Rattle.omny_cli.specs.Settling.{Settles, ShowsOver}
 use Rattle.omny_cli.specs.Source.{Loaded, Tells, TellsOne}
 use Rattle.omny_cli.specs.Uploads.{IsListing}
 
@@ -56,14 +57,9 @@ pub record RunsListing (table : Option (List ℕ)) (names : List (List ℕ)) (to
   pub listing : IsListing fares files text clean
   pub written : Appends out out' text
 
--- A service of so many shards, over these files and by these fares, was run by so many workers to this outcome: each book's history is
--- legal and is what the workers did to it.
-pub record IsRun (fares : Fares) (shards workers : ℕ) (files : List (List ℕ)) (outcome : Gathered) : Type 0 where
-  pub hall : Hall
-  pub its_table : hall.table ≡ fares
-  pub its_shards : shards_of hall ≡ shards
-  pub its_uploads : hall.uploads ≡ files
-  pub run : HasRun hall workers outcome
+-- A service of so many shards, over these files and by these fares, was run by so many workers to this outcome, and the headline holds.
+abbrev pub IsRun : Fares → ℕ → ℕ → List (List ℕ) → Gathered → Type 0
+IsRun fares shards workers files outcome = HasRun fares shards files workers outcome
 
 -- the text is the report with these ends of uploads, or the statement of this token
 abbrev pub ShowsWith : Option Token → List UploadEnd → Gathered → List ℕ → Type 0
@@ -73,6 +69,11 @@ ShowsWith (Some token) ends outcome text = IsStatementOf outcome token text
 -- the text is the report, or the statement of this token
 abbrev pub Shows : Option Token → Gathered → List ℕ → Type 0
 Shows token outcome text = ShowsWith token outcome.ends outcome text
+
+-- Where no token has taps in two of the files, the text is the report over the plain history of the files, or the statement of this token.
+-- That is a function of the files and the table: no schedule, no number of workers and no number of shards has a part in it.
+abbrev pub ShowsPlain : Fares → List (List ℕ) → Option Token → List ℕ → Type 0
+ShowsPlain fares files token text = (history : List Entry) (is : IsPlain fares files history) → AreApart is.taps → ShowsOver token fares files history text
 
 -- the token that is asked for, if any, is that of these 32 hexadecimal digits
 abbrev pub IsTokenIn : Option (List ℕ) → Option Token → Type 0
@@ -94,6 +95,7 @@ pub record RunsService (asked : Asked) (told told' : Option (List Loaded)) (out 
   pub shows : Shows token outcome text
   pub written : Appends out out' text
   pub is_well : well ≡ are_posted outcome.ends
+  pub plain : well ≡ true → ShowsPlain fares files token text
 
 -- Table and files were loaded, and their taps were settled; what was appended to the writer is the report or the statement over the settled
 -- history of the files. That is a function of the files and the table: no schedule and no number of workers has a part in it.

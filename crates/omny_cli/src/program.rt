@@ -7,7 +7,7 @@ ghost use Rattle.fare_service.specs.Outcomes.{Gathered};
 ghost use Rattle.omny_cli.specs.Fault.{IsLoadLine, IsTableLine, fault_text, mistake, settle_fault, status_of, token_fault};
 ghost use Rattle.omny_cli.specs.Options.{AsksForHelp, Parses, asked_by, asked_of};
 ghost use Rattle.omny_cli.specs.Posted.{are_posted};
-ghost use Rattle.omny_cli.specs.Program.{Does, IsRun, IsTokenIn, Loads, LoadsFiles, LoadsTable, Shows, wanted};
+ghost use Rattle.omny_cli.specs.Program.{Does, IsRun, IsTokenIn, Loads, LoadsFiles, LoadsTable, Shows, ShowsPlain, wanted};
 ghost use Rattle.omny_cli.specs.Settling.{Settles};
 ghost use Rattle.omny_cli.specs.Source.{TellsOne};
 ghost use Rattle.omny_cli.specs.Uploads.{IsListing};
@@ -17,7 +17,7 @@ use crate::asked::Options;
 use crate::fault::Fault;
 use crate::load::Source;
 use crate::output::{flush, write_text};
-use crate::run::{are_posted, outcome_of, write_outcome};
+use crate::run::{are_posted, outcome_of, shows_plain, write_outcome};
 use crate::settle::charge_settled;
 use crate::uploads::listing_text;
 use clap::Error;
@@ -215,14 +215,19 @@ fn charge<'a, R: Threads + Wait + RandomSource + Sync, W: Write>(
     ensures ok { IfOk result (λ well. (outcome : Gathered) × (text : List ℕ)
         × IsRun table options.now.shards options.now.workers (map (λ f. f.items) files.items) outcome
         × Shows token outcome text × Appends (W.contents out.old) (W.contents out.new) text
-        × (well ≡ are_posted outcome.ends)) }
+        × (well ≡ are_posted outcome.ends)
+        × (well ≡ true → ShowsPlain table (map (λ f. f.items) files.items) token text)) }
     ensures fault { IfErr result (λ fault. fault ≢ Fault.Write → Keeps (W.contents out.old) (W.contents out.new)) }
     ensures status { IfErr result (λ fault. status_of fault ≡ 1) }
 {
-    let outcome = outcome_of(rt, alloc, table, options, &files)?;
+    let uploads = files.as_slice();
+    let outcome = outcome_of(rt, alloc, table, options, uploads)?;
+    // proof: where no token has taps in two files, what is shown does not depend on the schedule
+    shows_plain(uploads, &outcome);
     drop(files);
-    write_outcome(rt, alloc, &outcome, outcome.ends(), token, out)?;
-    Ok(are_posted(outcome.ends()))
+    let ends = outcome.ends();
+    write_outcome(rt, alloc, &outcome, ends, token, out)?;
+    Ok(are_posted(ends))
 }
 
 // Posts the files, settled where that is asked for, and writes the text that is asked for.
@@ -241,7 +246,8 @@ fn post<'a, R: Threads + Wait + RandomSource + Sync, W: Write>(
         ((outcome : Gathered) × (text : List ℕ)
         × IsRun table options.now.shards options.now.workers (map (λ f. f.items) files.items) outcome
         × Shows token outcome text × Appends (W.contents out.old) (W.contents out.new) text
-        × (well ≡ are_posted outcome.ends))) }
+        × (well ≡ are_posted outcome.ends)
+        × (well ≡ true → ShowsPlain table (map (λ f. f.items) files.items) token text))) }
     ensures fault { IfErr result (λ fault. fault ≢ Fault.Write → Keeps (W.contents out.old) (W.contents out.new)) }
     ensures status { IfErr result (λ fault. status_of fault ≡ 1) }
 {

@@ -1,14 +1,16 @@
 //! A run of the service over loaded uploads, and the text of its outcome.
-ghost use Rattle.std.specs.Prelude.{◌≡◌, ◌≢◌, ℕ, List, IfErr, IfOk, OnOk, length, map};
+ghost use Rattle.std.specs.Prelude.{◌≡◌, ◌≢◌, ℕ, true, List, Option, IfErr, IfOk, OnOk, length, map};
 ghost use Rattle.std.specs.Io.KnownBytes.{Appends, Keeps};
 ghost use Rattle.fare_service.specs.Printed.{KeepsUnlessWrite};
+ghost use Rattle.fare_table.specs.Fares.{Fares};
 ghost use Rattle.omny_cli.specs.Fault.{IsRunFailure, status_of};
 ghost use Rattle.omny_cli.specs.Posted.{are_posted, is_posted};
-ghost use Rattle.omny_cli.specs.Program.{IsRun, ShowsWith};
+ghost use Rattle.omny_cli.specs.Program.{IsRun, Shows, ShowsPlain, ShowsWith};
 
 use crate::asked::Options;
 use crate::fault::Fault;
 use crate::output::flush;
+use fare_service::laws;
 use fare_service::{Gate, Outcome, PrintFault, Service, UploadEnd};
 use fare_table::FareTable;
 use shard_book::Token;
@@ -87,6 +89,17 @@ pub fn write_outcome<'a, R: Threads + Sync, W: Write>(
 {
     print(rt, alloc, outcome, ends, token, out)?;
     flush(out)
+}
+
+/// The law that where no token has taps in two files, what is shown of an outcome is shown over the plain history of the files. Reads no tap
+/// and no entry.
+pub fn shows_plain(files: &[Vec<u8>], outcome: &Outcome)
+    ensures { (fares : Fares) (shards workers : ℕ) (token : Option Token) (text : List ℕ)
+        → IsRun fares shards workers (map (λ f. f.items) files.now) outcome.now → are_posted outcome.now.ends ≡ true
+        → Shows token outcome.now text → ShowsPlain fares (map (λ f. f.items) files.now) token text }
+{
+    laws::report(files, outcome);
+    laws::statements(files, outcome);
 }
 
 fn is_posted(end: UploadEnd) -> bool

@@ -54,8 +54,9 @@ fn run<R: Threads + Wait + Sync, G: Gate + Sync>(
 ) -> Result<Outcome, RunFault>
     requires share { IsShareOf service share }
     requires uploads { service.uploads ≡ map (λ upload. upload.items) uploads.now }
-    ensures { IfOk result (λ outcome. All WasWhole outcome.ends → (history : List Entry) (plain : IsPlain service.entry.table service.entry.uploads history)
-        → AreApart plain.taps → IsReportOver service.entry.uploads history (report_of outcome)) }
+    ensures { IfOk result (λ outcome. All WasWhole outcome.ends
+        → (history : List Entry) (plain : IsPlain service.entry.table (map (λ upload. upload.items) uploads.now) history)
+        → AreApart plain.taps → IsReportOver (map (λ upload. upload.items) uploads.now) history (report_of outcome)) }
 {
     let outcome = service.run(rt, alloc, share, workers, gate)?;
     laws::report(uploads, &outcome);

@@ -19,13 +19,13 @@ use Rattle.shard_book.specs.Visits.{AreEntriesOf}
 use Rattle.shard_book.specs.declared.entry.Entry.{Entry}
 use Rattle.shard_book.specs.declared.token.Token.{Token}
 use Rattle.tap_parts.specs.Parts.{part_of_token, of_part}
-use Rattle.fare_service.specs.Gathering.{IsGathered}
-use Rattle.fare_service.specs.Halls.{Hall}
+use Rattle.fare_service.specs.Headline.{Headline}
 use Rattle.fare_service.specs.Outcomes.{Gathered}
 use Rattle.fare_service.specs.Plain.{AreTapsOfEach, HasOneCut, IsPlain, IsStatementOver, IsWholeGathering, WasWhole, plain, unanswered}
 use Rattle.fare_service.specs.Shares.{Worked}
 use Rattle.fare_service.specs.Text.{report}
 use Rattle.fare_service.specs.declared.upload_end.UploadEnd.{UploadEnd}
+use Rattle.fare_service.proofs.GatheredWork.{Given}
 use Rattle.fare_service.proofs.PlainBooks.{each_length}
 use Rattle.fare_service.proofs.PlainReplies.{bare, own_bare, plain_bare, plain_legal, same_replies}
 use Rattle.fare_service.proofs.PlainSums.{AllHere, RisingNumbers, RisingTokens, own_all, same_sums, same_entries, same_by_validator, same_by_token}
@@ -160,31 +160,31 @@ same_plain fares token xs ys same =
     (own_bare token (plain fares xs) ∙ ap (own token) (plain_bare fares [] xs) ∙ same ∙ sym (ap (own token) (plain_bare fares [] ys)) ∙ sym (own_bare token (plain fares ys)))
 
 -- ---- the law
-pub tells : (hall : Hall) (works : List (List Worked)) (outcome : Gathered) (uploads : List (List ℕ)) (ends : List UploadEnd) (later : List Entry)
-    → 0 < length outcome.books → AllNamed outcome → AllHere outcome → All HasOneCut hall.uploads → RisingNumbers → RisingTokens
-    → (is : IsPlain hall.table hall.uploads later) → AreEntriesOf (joined is.taps) later
-    → IsSettled uploads ends hall.uploads → IsGathered hall works outcome → All WasWhole outcome.ends → TellsSettled hall.table uploads ends outcome
-tells hall works outcome uploads ends later some named here cuts numbers tokens is fields settled gathered whole =
+pub tells : (given : Given) (works : List (List Worked)) (outcome : Gathered) (uploads : List (List ℕ)) (ends : List UploadEnd) (later : List Entry)
+    → 0 < length outcome.books → AllNamed outcome → AllHere outcome → All HasOneCut given.uploads → RisingNumbers → RisingTokens
+    → (is : IsPlain given.table given.uploads later) → AreEntriesOf (joined is.taps) later
+    → IsSettled uploads ends given.uploads → Headline given.table given.shards given.uploads works outcome → All WasWhole outcome.ends → TellsSettled given.table uploads ends outcome
+tells given works outcome uploads ends later some named here cuts numbers tokens is fields settled headline whole =
     let (order, canonical) = canonical_order (joined settled.taps) in
-    let history = plain hall.table order in
-    let w : IsWholeGathering hall outcome later = record {
+    let history = plain given.table order in
+    let w : IsWholeGathering given.table given.shards given.uploads outcome later = record {
       works = works;
-      gathered = gathered;
+      headline = headline;
       whole = whole;
       plain_is = is;
-      apart = apart uploads ends hall.uploads is.taps cuts settled is.each;
+      apart = apart uploads ends given.uploads is.taps cuts settled is.each;
     } in
     let alike : AreAlike (map fields_of (joined is.taps)) (map fields_of order) = λ f.
-    files_alike uploads ends hall.uploads is.taps cuts settled is.each (each_length hall.uploads is.taps is.each) f
+    files_alike uploads ends given.uploads is.taps cuts settled is.each (each_length given.uploads is.taps is.each) f
     ∙ sym (sum_by-IsPermutation f (map fields_of (joined settled.taps)) (map fields_of order) canonical.moved) in
-    let names = fields_named (joined is.taps) later fields (ap (map bare) is.entries ∙ plain_bare hall.table [] (joined is.taps)) in
-    let placed = all_placed uploads ends hall.uploads is.taps cuts settled is.each in
-    let P : ℕ → List Tap → Type 0 = λ i ts. IsPlaced (length hall.uploads) i ts in
-    let rises = all_rise (length hall.uploads) 0 is.taps (λ i ts there. subst (λ k. P k ts) (let e : i ≡ 0 + i = omega arith in e) (placed i ts there)) in
+    let names = fields_named (joined is.taps) later fields (ap (map bare) is.entries ∙ plain_bare given.table [] (joined is.taps)) in
+    let placed = all_placed uploads ends given.uploads is.taps cuts settled is.each in
+    let P : ℕ → List Tap → Type 0 = λ i ts. IsPlaced (length given.uploads) i ts in
+    let rises = all_rise (length given.uploads) 0 is.taps (λ i ts there. subst (λ k. P k ts) (let e : i ≡ 0 + i = omega arith in e) (placed i ts there)) in
     let same : (token : Token) → own token later ≡ own token history = λ token.
-    ap (own token) is.entries ∙ same_plain hall.table token (joined is.taps) order (same_own token (joined is.taps) order alike names rises canonical.sorted) in
+    ap (own token) is.entries ∙ same_plain given.table token (joined is.taps) order (same_own token (joined is.taps) order alike names rises canonical.sorted) in
     let all = all_entries outcome.books in
-    let books : (token : Token) → own token all ≡ own token history = λ token. own_all hall outcome later some named here cuts w token ∙ same token in
+    let books : (token : Token) → own token all ≡ own token history = λ token. own_all given outcome later some named here cuts w token ∙ same token in
     record {
       history = history;
       settled = record { taps = settled.taps; of_uploads = settled.of_uploads; order = order; canonical = canonical; entries = refl };
@@ -194,15 +194,15 @@ tells hall works outcome uploads ends later some named here cuts numbers tokens 
         shown = λ i. report ends (same_sums all history (same_entries all history books) i) (same_by_validator numbers tokens all history books i) (same_by_token numbers tokens all history books i);
       };
       statements = λ token text.
-          let over = same_statement hall outcome later some named cuts w token text in
-          let there : IsStatementOver hall.table later token text → IsStatementOver hall.table history token text = λ s. record {
+          let over = same_statement given outcome later some named cuts w token text in
+          let there : IsStatementOver given.table later token text → IsStatementOver given.table history token text = λ s. record {
             statement = s.statement;
-            of_history = statement_same hall.table later history token s.statement (same token) s.of_history;
+            of_history = statement_same given.table later history token s.statement (same token) s.of_history;
             shown = s.shown;
           } in
-          let back : IsStatementOver hall.table history token text → IsStatementOver hall.table later token text = λ s. record {
+          let back : IsStatementOver given.table history token text → IsStatementOver given.table later token text = λ s. record {
             statement = s.statement;
-            of_history = statement_same hall.table history later token s.statement (sym (same token)) s.of_history;
+            of_history = statement_same given.table history later token s.statement (sym (same token)) s.of_history;
             shown = s.shown;
           } in
           (λ a. there (over.0 a), λ b. over.1 (back b));

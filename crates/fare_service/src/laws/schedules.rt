@@ -11,8 +11,7 @@ ghost use Rattle.shard_book.specs.Entry.{own};
 ghost use Rattle.shard_book.specs.History.{IsLegal};
 ghost use Rattle.shard_book.specs.Token.{bytes_of};
 ghost use Rattle.shard_book.specs.Visits.{AreEntriesOf};
-ghost use Rattle.fare_service.specs.Gathering.{IsGathered};
-ghost use Rattle.fare_service.specs.Halls.{Hall};
+ghost use Rattle.fare_service.specs.Headline.{Headline};
 ghost use Rattle.fare_service.specs.Plain.{ArePlainEnds, AreTapsOf, HasOneCut, IsNamed, IsPlain, IsReportOver, IsStatementOver, IsWholeGathering, WasWhole};
 ghost use Rattle.fare_service.specs.Printed.{IsStatementOf, report_of};
 ghost use Rattle.fare_service.specs.Shares.{Worked};
@@ -67,11 +66,11 @@ pub fn plain_history(uploads: &[Vec<u8>])
 /// Where no upload was cut or left undrawn and no token has taps in two uploads, the entries of each token are those of the plain history
 /// of the uploads, and so is the text of its statement: for every schedule, number of workers and number of shards.
 pub fn statements(uploads: &[Vec<u8>], outcome: &Outcome)
-    ensures entries { (hall : Hall) (history : List Entry) → hall.uploads ≡ map (λ upload. upload.items) uploads.now → IsWholeGathering hall outcome.now history
+    ensures entries { (fares : Fares) (shards : ℕ) (history : List Entry) → IsWholeGathering fares shards (map (λ upload. upload.items) uploads.now) outcome.now history
         → (token : Token) (book : Book) → slice_get outcome.now.books (shard_of_token (bytes_of token) (length outcome.now.books)) ≡ Some book
         → own token book.entries ≡ own token history }
-    ensures texts { (hall : Hall) (history : List Entry) → hall.uploads ≡ map (λ upload. upload.items) uploads.now → IsWholeGathering hall outcome.now history
-        → (token : Token) (text : List ℕ) → IsStatementOf outcome.now token text ↔ IsStatementOver hall.table history token text }
+    ensures texts { (fares : Fares) (shards : ℕ) (history : List Entry) → IsWholeGathering fares shards (map (λ upload. upload.items) uploads.now) outcome.now history
+        → (token : Token) (text : List ℕ) → IsStatementOf outcome.now token text ↔ IsStatementOver fares history token text }
 {
     let _ = outcome.shards();
     names(outcome);
@@ -80,7 +79,8 @@ pub fn statements(uploads: &[Vec<u8>], outcome: &Outcome)
 
 /// Where no upload was cut or left undrawn, each ends as its bytes call for.
 pub fn ends(outcome: &Outcome)
-    ensures { (hall : Hall) (works : List (List Worked)) → IsGathered hall works outcome.now → All WasWhole outcome.now.ends → ArePlainEnds hall.uploads outcome.now.ends }
+    ensures { (fares : Fares) (shards : ℕ) (uploads : List (List ℕ)) (works : List (List Worked)) → Headline fares shards uploads works outcome.now
+        → All WasWhole outcome.now.ends → ArePlainEnds uploads outcome.now.ends }
 {
     let _ = outcome.shards();
 }
@@ -88,8 +88,8 @@ pub fn ends(outcome: &Outcome)
 /// Where no upload was cut or left undrawn and no token has taps in two uploads, the report is that of the plain history of the uploads,
 /// each upload posted or refused as its bytes call for: for every schedule, number of workers and number of shards.
 pub fn report(uploads: &[Vec<u8>], outcome: &Outcome)
-    ensures { (hall : Hall) (history : List Entry) → hall.uploads ≡ map (λ upload. upload.items) uploads.now → IsWholeGathering hall outcome.now history
-        → IsReportOver hall.uploads history (report_of outcome.now) }
+    ensures { (fares : Fares) (shards : ℕ) (history : List Entry) → IsWholeGathering fares shards (map (λ upload. upload.items) uploads.now) outcome.now history
+        → IsReportOver (map (λ upload. upload.items) uploads.now) history (report_of outcome.now) }
 {
     let _ = outcome.shards();
     names(outcome);
@@ -100,12 +100,12 @@ pub fn report(uploads: &[Vec<u8>], outcome: &Outcome)
 /// Two outcomes over the same uploads and under one table have the same report and the same text of each statement, where no upload was cut
 /// or left undrawn and no token has taps in two uploads: whatever their schedules, workers and shards were.
 pub fn same_texts(uploads: &[Vec<u8>], one: &Outcome, other: &Outcome)
-    ensures report { (first second : Hall) (history again : List Entry) → first.uploads ≡ map (λ upload. upload.items) uploads.now
-        → second.uploads ≡ map (λ upload. upload.items) uploads.now → first.table ≡ second.table
-        → IsWholeGathering first one.now history → IsWholeGathering second other.now again → report_of one.now ≡ report_of other.now }
-    ensures statements { (first second : Hall) (history again : List Entry) → first.uploads ≡ map (λ upload. upload.items) uploads.now
-        → second.uploads ≡ map (λ upload. upload.items) uploads.now → first.table ≡ second.table
-        → IsWholeGathering first one.now history → IsWholeGathering second other.now again
+    ensures report { (fares : Fares) (shards others : ℕ) (history again : List Entry)
+        → IsWholeGathering fares shards (map (λ upload. upload.items) uploads.now) one.now history
+        → IsWholeGathering fares others (map (λ upload. upload.items) uploads.now) other.now again → report_of one.now ≡ report_of other.now }
+    ensures statements { (fares : Fares) (shards others : ℕ) (history again : List Entry)
+        → IsWholeGathering fares shards (map (λ upload. upload.items) uploads.now) one.now history
+        → IsWholeGathering fares others (map (λ upload. upload.items) uploads.now) other.now again
         → (token : Token) (text : List ℕ) → IsStatementOf one.now token text ↔ IsStatementOf other.now token text }
 {
     plain_history(uploads);

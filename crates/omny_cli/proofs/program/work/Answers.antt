@@ -6,7 +6,7 @@ use Rattle.fare_table.specs.Fares.{Fares}
 use Rattle.fare_service.specs.Outcomes.{Gathered}
 use Rattle.shard_book.specs.declared.token.Token.{Token}
 use Rattle.omny_cli.specs.Options.{Asked}
-use Rattle.omny_cli.specs.Program.{Does, IsRun, IsTokenIn, Loads, LoadsTable, RunsListing, RunsService, RunsSettled, Shows}
+use Rattle.omny_cli.specs.Program.{Does, IsRun, IsTokenIn, Loads, LoadsTable, RunsListing, RunsService, RunsSettled, Shows, ShowsPlain}
 use Rattle.omny_cli.specs.Posted.{are_posted}
 use Rattle.omny_cli.specs.Settling.{Settles}
 use Rattle.omny_cli.specs.Source.{Loaded}
@@ -25,7 +25,7 @@ module _ (asked : Asked) (told told' : Option (List Loaded)) (out out' : Option 
     (same : given ≡ files) (is_token : IsTokenIn asked.token token) where
   abbrev Charged : Type 0
   Charged = (outcome : Gathered) × (text : List ℕ) × IsRun f asked.shards asked.workers given outcome × Shows token outcome text × Appends out out' text
-      × (well ≡ are_posted outcome.ends)
+      × (well ≡ are_posted outcome.ends) × (well ≡ true → ShowsPlain f given token text)
 
   abbrev SettledRun : Type 0
   SettledRun = (text : List ℕ) × Settles f given token text well × Appends out out' text
@@ -46,6 +46,7 @@ module _ (asked : Asked) (told told' : Option (List Loaded)) (out out' : Option 
     shows = done.3;
     written = done.4;
     is_well = done.5;
+    plain = let P : List (List ℕ) → Type 0 = λ fs. well ≡ true → ShowsPlain f fs token done.1 in subst P same done.6;
   }
 
   runs_settled : SettledRun → RunsSettled asked told told' out out' well

@@ -1,6 +1,12 @@
+use Rattle.std.proofs.Common.{ℕ, List, subst}
+use Rattle.fare_service.specs.Halls.{shards_of}
+use Rattle.fare_service.specs.Headline.{Headline}
 use Rattle.service_tests.proofs.callers.run.Goals as goal
 
 pub returns : goal.returns
 returns g c = λ whole history plain apart.
-    let (works, number, gathered) = c.in_ok-outcome.ensures.outcome in
-    c.report.ensures c.args.service history c.requires.uploads (record { works = works; gathered = gathered; whole = whole; plain_is = plain; apart = apart })
+    let hall = c.args.service in
+    let (works, number, headline) = c.in_ok-outcome.ensures.headline in
+    let H : List (List ℕ) → Type 0 = λ files. Headline hall.table (shards_of hall) files works c.in_ok-outcome.outcome in
+    c.report.ensures hall.table (shards_of hall) history
+    (record { works = works; headline = subst H c.requires.uploads headline; whole = whole; plain_is = plain; apart = apart })

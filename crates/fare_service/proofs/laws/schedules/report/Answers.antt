@@ -1,10 +1,9 @@
-use Rattle.std.proofs.Common.{All, List, ℕ, ◌<◌, length, sym, subst, arith}
-use Rattle.fare_service.specs.Plain.{HasOneCut}
+use Rattle.std.proofs.Common.{ℕ, ◌<◌, Vec, Global, length, map, arith}
 use Rattle.fare_service.proofs.PlainSums.{same_report}
 use Rattle.fare_service.proofs.laws.schedules.report.Goals as goal
 
 pub returns : goal.returns
-returns c = λ hall history same whole.
-    let H : List (List ℕ) → Type 0 = All HasOneCut in
+returns c = λ fares shards history whole.
+    let files = map (λ (upload : Vec ℕ Global). upload.items) c.args.uploads.now in
     let some : 0 < length c.args.outcome.now.books = omega (arith, c.shards.ensures.some, c.shards.ensures.number) in
-    same_report hall c.args.outcome.now history some c.names.ensures.named c.names.ensures.here (subst H (sym same) c.cuts.ensures) whole c.rising.ensures.numbers c.rising.ensures.tokens
+    same_report (record { table = fares; shards = shards; uploads = files }) c.args.outcome.now history some c.names.ensures.named c.names.ensures.here c.cuts.ensures whole c.rising.ensures.numbers c.rising.ensures.tokens

@@ -1,16 +1,15 @@
-use Rattle.std.proofs.Common.{All, List, ℕ, ◌<◌, length, sym, subst, arith}
-use Rattle.fare_service.specs.Plain.{HasOneCut}
+use Rattle.std.proofs.Common.{ℕ, ◌<◌, Vec, Global, length, map, arith}
 use Rattle.fare_service.proofs.PlainUploads.{same_own, same_statement}
 use Rattle.fare_service.proofs.laws.schedules.statements.Goals as goal
 
 pub returns-clause-entries : goal.returns-clause-entries
-returns-clause-entries c = λ hall history same whole.
-    let H : List (List ℕ) → Type 0 = All HasOneCut in
+returns-clause-entries c = λ fares shards history whole.
+    let files = map (λ (upload : Vec ℕ Global). upload.items) c.args.uploads.now in
     let some : 0 < length c.args.outcome.now.books = omega (arith, c.shards.ensures.some, c.shards.ensures.number) in
-    same_own hall c.args.outcome.now history some c.names.ensures.named (subst H (sym same) c.cuts.ensures) whole
+    same_own (record { table = fares; shards = shards; uploads = files }) c.args.outcome.now history some c.names.ensures.named c.cuts.ensures whole
 
 pub returns-clause-texts : goal.returns-clause-texts
-returns-clause-texts c = λ hall history same whole.
-    let H : List (List ℕ) → Type 0 = All HasOneCut in
+returns-clause-texts c = λ fares shards history whole.
+    let files = map (λ (upload : Vec ℕ Global). upload.items) c.args.uploads.now in
     let some : 0 < length c.args.outcome.now.books = omega (arith, c.shards.ensures.some, c.shards.ensures.number) in
-    same_statement hall c.args.outcome.now history some c.names.ensures.named (subst H (sym same) c.cuts.ensures) whole
+    same_statement (record { table = fares; shards = shards; uploads = files }) c.args.outcome.now history some c.names.ensures.named c.cuts.ensures whole

@@ -10,11 +10,12 @@ use Rattle.fare_service.specs.Joining.{told_all}
 use Rattle.fare_service.specs.Halls.{Hall}
 use Rattle.fare_service.specs.Holdings.{Holding}
 use Rattle.fare_service.specs.Shares.{IsShareOf}
-use Rattle.fare_service.specs.Gathering.{HasOutcome}
+use Rattle.fare_service.specs.Headline.{HasOutcome}
 use Rattle.fare_service.specs.Adding.{add_all}
-use Rattle.fare_service.proofs.AddingLemmas.{gathered_sums, shares_add_up, few_taps}
-use Rattle.fare_service.proofs.PlacingLemmas.{gathered_places}
-use Rattle.fare_service.proofs.GatherLemmas.{has_outcome, told_undrawn, is_outcome, done_within}
+use Rattle.fare_service.proofs.AddingLemmas.{shares_add_up, few_taps}
+use Rattle.fare_service.proofs.GatheredWork.{given_of}
+use Rattle.fare_service.proofs.GatherLemmas.{has_gathered, told_undrawn, undrawn_last, is_outcome, done_within}
+use Rattle.fare_service.proofs.HeadlineLemmas.{headline_of}
 use Rattle.fare_service.proofs.service.Service.gather.Goals as goal
 
 pub ends_of-requires : goal.ends_of-requires
@@ -63,8 +64,8 @@ invariant_of-result c =
     (c.in_ok-ends.ensures.number ∙ sym number) (map sums_of c.in_ok-workers.workers.items) (sums_of c.added-totals.result)
     (c.added-totals.ensures ∙ ap (λ ts. add_all (map sums_of ts)) c.as_slice-4.ensures.value ∙ sym same)
 
-pub returns-clause-outcome : goal.returns-clause-outcome
-returns-clause-outcome c =
+pub returns-clause-headline : goal.returns-clause-headline
+returns-clause-headline c =
     let hall : Hall = record { table = c.self.inside.table; drawing = c.self.inside.draw; books = c.self.inside.books.items; uploads = map (λ upload. upload.items) c.self.inside.uploads.now } in
     let S : Hall → Type 0 = λ h. All (IsShareOf h) c.args.shares.items in
     let all : All (IsShareOf hall) c.args.shares.items = subst S (sym c.self.view_is) c.requires in
@@ -74,9 +75,17 @@ returns-clause-outcome c =
     ∙ ap (λ n. told_all (replicate n Undrawn) c.args.shares.items) (sym number) in
     let workers : map sums_of c.in_ok-workers.workers.items ≡ map (λ share. share.totals) c.args.shares.items =
     c.in_ok-workers.ensures ∙ ap (λ ss. map (λ (share : Holding). share.totals) ss) c.as_slice-2.ensures.value in
-    let H : Hall → Type 0 = λ h. HasOutcome h c.args.shares.items (record { books = c.close_with.new.closed.items; ends = c.in_ok-ends.ends.items; workers = map sums_of c.in_ok-workers.workers.items; totals = sums_of c.added-totals.result }) in
-    subst H c.self.view_is (has_outcome hall c.self.invariant c.args.shares.items all c.close_with.new.closed.items c.in_ok-close_with.ensures.ok c.in_ok-ends.ends.items told
-    (c.in_ok-ends.ensures.number ∙ sym number) (map sums_of c.in_ok-workers.workers.items) workers (sums_of c.added-totals.result))
+    let closed = c.close_with.new.closed.items in
+    let work = c.in_ok-close_with.ensures.ok in
+    let same : sums (all_entries closed) ≡ add_all (map sums_of c.in_ok-workers.workers.items) =
+    shares_add_up hall c.self.invariant c.args.shares.items all closed work c.in_ok-ends.ends.items told
+    (c.in_ok-ends.ensures.number ∙ sym number) (map sums_of c.in_ok-workers.workers.items) workers in
+    let H : Hall → Type 0 = λ h. HasOutcome h c.args.shares.items (record { books = closed; ends = c.in_ok-ends.ends.items; workers = map sums_of c.in_ok-workers.workers.items; totals = sums_of c.added-totals.result }) in
+    let o = has_gathered hall c.self.invariant c.args.shares.items all closed work c.in_ok-ends.ends.items told
+    (c.in_ok-ends.ensures.number ∙ sym number) (map sums_of c.in_ok-workers.workers.items) workers (sums_of c.added-totals.result) in
+    subst H c.self.view_is
+    (o.0, o.1, headline_of (given_of hall) o.0 _ o.2 (c.added-totals.ensures ∙ ap (λ ts. add_all (map sums_of ts)) c.as_slice-4.ensures.value ∙ sym same)
+    (λ shard book at. (work.books shard book at).limits) (undrawn_last hall c.args.shares.items o.0 o.1 closed work))
 
 pub returns-clause-undrawn : goal.returns-clause-undrawn
 returns-clause-undrawn c =
@@ -88,31 +97,6 @@ returns-clause-undrawn c =
     c.in_ok-ends.ensures.ends ∙ ap (told_all (replicate (length c.self.inside.uploads.now) Undrawn)) c.as_slice.ensures.value
     ∙ ap (λ n. told_all (replicate n Undrawn) c.args.shares.items) (sym number) in
     told_undrawn hall c.args.shares.items all c.close_with.new.closed.items c.in_ok-close_with.ensures.ok c.in_ok-ends.ends.items told (c.in_ok-ends.ensures.number ∙ sym number)
-
-pub returns-clause-places : goal.returns-clause-places
-returns-clause-places c =
-    let o = returns-clause-outcome c in
-    gathered_places _ o.0 _ o.2
-
-pub returns-clause-totals : goal.returns-clause-totals
-returns-clause-totals c =
-    let hall : Hall = record { table = c.self.inside.table; drawing = c.self.inside.draw; books = c.self.inside.books.items; uploads = map (λ upload. upload.items) c.self.inside.uploads.now } in
-    let S : Hall → Type 0 = λ h. All (IsShareOf h) c.args.shares.items in
-    let all : All (IsShareOf hall) c.args.shares.items = subst S (sym c.self.view_is) c.requires in
-    let number : length hall.uploads ≡ length c.self.inside.uploads.now = length-map c.self.inside.uploads.now (λ upload. upload.items) in
-    let told : c.in_ok-ends.ends.items ≡ told_all (replicate (length hall.uploads) Undrawn) c.args.shares.items =
-    c.in_ok-ends.ensures.ends ∙ ap (told_all (replicate (length c.self.inside.uploads.now) Undrawn)) c.as_slice.ensures.value
-    ∙ ap (λ n. told_all (replicate n Undrawn) c.args.shares.items) (sym number) in
-    let workers : map sums_of c.in_ok-workers.workers.items ≡ map (λ share. share.totals) c.args.shares.items =
-    c.in_ok-workers.ensures ∙ ap (λ ss. map (λ (share : Holding). share.totals) ss) c.as_slice-2.ensures.value in
-    let same : sums (all_entries c.close_with.new.closed.items) ≡ add_all (map sums_of c.in_ok-workers.workers.items) =
-    shares_add_up hall c.self.invariant c.args.shares.items all c.close_with.new.closed.items c.in_ok-close_with.ensures.ok c.in_ok-ends.ends.items told
-    (c.in_ok-ends.ensures.number ∙ sym number) (map sums_of c.in_ok-workers.workers.items) workers in
-    let o = returns-clause-outcome c in
-    gathered_sums _ o.0 _ o.2 (c.added-totals.ensures ∙ ap (λ ts. add_all (map sums_of ts)) c.as_slice-4.ensures.value ∙ sym same)
-
-pub returns-clause-limits : goal.returns-clause-limits
-returns-clause-limits c = λ shard book at. (c.in_ok-close_with.ensures.ok.books shard book at).limits
 
 -- an error that was handed on
 handed_on : {T E : Type 0} (r : Result T E) (fault : E) (P : E → Type 0) → IsErrAnd r (λ e. e ≡ fault) → P fault → IfErr r P
