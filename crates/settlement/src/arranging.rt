@@ -1,37 +1,45 @@
 //! The files of the parts, made by four threads.
 
-ghost use Rattle.std.specs.Prelude.{IfOk, map};
-ghost use Rattle.settlement.specs.Dealt.{ArePartFiles};
+ghost use Rattle.std.specs.Prelude.{◌<◌, ◌≤◌, All, length, IfOk, map};
+ghost use Rattle.settlement.specs.Dealt.{AreEarlyBelow, ArePartFiles};
 
 use crate::file::files_of;
-use fare_table::NoMemory;
-use std::alloc::Global;
+use std::alloc::{AllocError, Global};
 use std::marker::Sync;
 use std::thread;
 use std::thread::Threads;
-use tap_parts::PartTaps;
+use tap_parts::Parts;
 
-/// The file of each part, half of them made by a thread of its own. Where one is refused, both
-/// halves are made one after the other.
+/// The files of the parts from the first up to the end, half of them made by a thread of its own.
+/// Where one is refused, both halves are made one after the other.
 fn files_by_two<R: Threads + Sync>(
     rt: &R,
     alloc: Global,
-    lists: &[PartTaps],
-) -> Result<Vec<Vec<u8>>, NoMemory>
-    ensures { IfOk result (λ files. ArePartFiles lists.now
+    lists: &[Parts],
+    first: u32,
+    end: u32,
+) -> Result<Vec<Vec<u8>>, AllocError>
+    requires order { first ≤ end }
+    requires within { All (λ list. end ≤ length list) lists.now }
+    requires early { AreEarlyBelow end lists.now }
+    ensures { IfOk result (λ files. ArePartFiles lists.now first end
         (map (λ file. file.items) files.items)) }
 {
-    let (front, back) = lists.split_at(lists.len() / 2);
+    let middle = first + (end - first) / 2;
     let (files, more) = thread::join(
         rt,
-        move || -> Result<Vec<Vec<u8>>, NoMemory>
-            ensures { IfOk result (λ files. ArePartFiles front.entry.now
+        move || -> Result<Vec<Vec<u8>>, AllocError>
+            requires { (first ≤ middle) × All (λ list. middle ≤ length list) lists.now
+                × AreEarlyBelow middle lists.now }
+            ensures { IfOk result (λ files. ArePartFiles lists.entry.now first middle
                 (map (λ file. file.items) files.items)) }
-        { files_of(alloc, front) },
-        move || -> Result<Vec<Vec<u8>>, NoMemory>
-            ensures { IfOk result (λ files. ArePartFiles back.entry.now
+        { files_of(alloc, lists, first, middle) },
+        move || -> Result<Vec<Vec<u8>>, AllocError>
+            requires { (middle ≤ end) × All (λ list. end ≤ length list) lists.now
+                × AreEarlyBelow end lists.now }
+            ensures { IfOk result (λ files. ArePartFiles lists.entry.now middle end
                 (map (λ file. file.items) files.items)) }
-        { files_of(alloc, back) },
+        { files_of(alloc, lists, middle, end) },
     );
     let mut files = files?;
     let mut more = more?;
@@ -39,26 +47,36 @@ fn files_by_two<R: Threads + Sync>(
     Ok(files)
 }
 
-/// The file of each part, a quarter of them made by each of four threads.
+/// The files of the parts from the first up to the end, a quarter of them made by each of four
+/// threads.
 pub(crate) fn files_by_four<R: Threads + Sync>(
     rt: &R,
     alloc: Global,
-    lists: &[PartTaps],
-) -> Result<Vec<Vec<u8>>, NoMemory>
-    ensures { IfOk result (λ files. ArePartFiles lists.now
+    lists: &[Parts],
+    first: u32,
+    end: u32,
+) -> Result<Vec<Vec<u8>>, AllocError>
+    requires order { first ≤ end }
+    requires within { All (λ list. end ≤ length list) lists.now }
+    requires early { AreEarlyBelow end lists.now }
+    ensures { IfOk result (λ files. ArePartFiles lists.now first end
         (map (λ file. file.items) files.items)) }
 {
-    let (front, back) = lists.split_at(lists.len() / 2);
+    let middle = first + (end - first) / 2;
     let (files, more) = thread::join(
         rt,
-        move || -> Result<Vec<Vec<u8>>, NoMemory>
-            ensures { IfOk result (λ files. ArePartFiles front.entry.now
+        move || -> Result<Vec<Vec<u8>>, AllocError>
+            requires { (first ≤ middle) × All (λ list. middle ≤ length list) lists.now
+                × AreEarlyBelow middle lists.now }
+            ensures { IfOk result (λ files. ArePartFiles lists.entry.now first middle
                 (map (λ file. file.items) files.items)) }
-        { files_by_two(rt, alloc, front) },
-        move || -> Result<Vec<Vec<u8>>, NoMemory>
-            ensures { IfOk result (λ files. ArePartFiles back.entry.now
+        { files_by_two(rt, alloc, lists, first, middle) },
+        move || -> Result<Vec<Vec<u8>>, AllocError>
+            requires { (middle ≤ end) × All (λ list. end ≤ length list) lists.now
+                × AreEarlyBelow end lists.now }
+            ensures { IfOk result (λ files. ArePartFiles lists.entry.now middle end
                 (map (λ file. file.items) files.items)) }
-        { files_by_two(rt, alloc, back) },
+        { files_by_two(rt, alloc, lists, middle, end) },
     );
     let mut files = files?;
     let mut more = more?;

@@ -1,11 +1,13 @@
-//! The taps of uploads, dealt to parts.
+//! The taps of uploads, dealt to parts by four threads.
 
-ghost use Rattle.std.specs.Prelude.{◌≡◌, ◌≤◌, length, IfOk, map};
+ghost use Rattle.std.specs.Prelude.{◌≡◌, ◌≤◌, ◌++◌, length, IfOk, map};
 ghost use Rattle.settlement.specs.Dealt.{AreAllAdded, AreDealt, IsAdded};
 
 use fare_service::UploadEnd;
-use fare_table::NoMemory;
 use std::alloc::{AllocError, Global};
+use std::marker::Sync;
+use std::thread;
+use std::thread::Threads;
 use tap_parts::Parts;
 use tap_views::batches;
 
@@ -15,8 +17,9 @@ const LEAST_BYTES_A_TAP: usize = 24;
 /// What a run of uploads was dealt as.
 #[derive(Drop)]
 pub(crate) struct Dealt {
-    /// The taps of each part.
-    pub(crate) parts: Parts,
+    /// The taps of each part, a list of parts for each thread that dealt: those of earlier uploads
+    /// come first.
+    pub(crate) lists: Vec<Parts>,
     /// How each upload ends.
     pub(crate) ends: Vec<UploadEnd>,
 }
@@ -27,6 +30,15 @@ fn size(upload: &[u8]) -> u64
     ensures { result ≡ length upload.now }
 {
     upload.len() as u64
+}
+
+/// The number of bytes of all uploads, or 2^64 - 1 where there are more.
+pub(crate) fn bytes_of(uploads: &[Vec<u8>]) -> usize {
+    let mut bytes = 0usize;
+    for upload in uploads {
+        bytes = bytes.saturating_add(upload.len());
+    }
+    bytes
 }
 
 /// Adds the taps of all batches before the upload's first layout fault, each to the part of its
@@ -54,41 +66,141 @@ fn add_upload(parts: &mut Parts, upload: &[u8]) -> Result<UploadEnd, AllocError>
     Ok(UploadEnd::Posted { taps })
 }
 
-/// Adds the taps of each upload, and returns how each ends.
+/// Gives an upload's memory back. It is cut short before: the C library keeps larger blocks in its
+/// own heap once it was given back a large one, and the lists that grow there later take more room.
+fn release(upload: Vec<u8>) {
+    let mut upload = upload;
+    upload.truncate(1);
+    upload.shrink_to_fit();
+    drop(upload);
+}
+
+/// Adds the taps of each upload, and returns how each ends. An upload's memory is given back as
+/// soon as its taps are added.
 fn add_all(
     alloc: Global,
     parts: &mut Parts,
-    uploads: &[Vec<u8>],
+    uploads: Vec<Vec<u8>>,
 ) -> Result<Vec<UploadEnd>, AllocError>
-    ensures { IfOk result (λ ends. AreAllAdded (map (λ upload. upload.items) uploads.now)
+    ensures { IfOk result (λ ends. AreAllAdded (map (λ upload. upload.items) uploads.items)
         parts.old parts.new ends.items) }
 {
     let mut ends = Vec::new(alloc);
     for upload in uploads {
         ends.push(add_upload(parts, upload.as_slice())?)?;
+        release(upload);
     }
     Ok(ends)
 }
 
-/// How much room each part takes at first: twice its share of the taps, if tokens were even.
-fn room_for(uploads: &[Vec<u8>], parts: u32) -> usize
-    requires { 1 ≤ parts }
-{
-    let mut bytes = 0usize;
-    for upload in uploads {
-        bytes = bytes.saturating_add(upload.len());
-    }
-    bytes / LEAST_BYTES_A_TAP / parts as usize * 2
-}
-
-/// Deals the taps of the uploads to so many parts.
-pub(crate) fn deal(alloc: Global, uploads: &[Vec<u8>], parts: u32) -> Result<Dealt, NoMemory>
+/// Deals the taps of the uploads to so many parts. Each part has room for half as many taps again as
+/// its share, if tokens were even.
+fn deal(alloc: Global, uploads: Vec<Vec<u8>>, parts: u32) -> Result<Dealt, AllocError>
     requires least { 1 ≤ parts }
     requires most { parts ≤ 65535 }
-    ensures { IfOk result (λ dealt. AreDealt parts (map (λ upload. upload.items) uploads.now)
-        dealt.parts dealt.ends.items) }
+    ensures { IfOk result (λ dealt. AreDealt parts (map (λ upload. upload.items) uploads.items)
+        dealt.lists.items dealt.ends.items) }
 {
-    let mut lists = Parts::with_room(alloc, parts, room_for(uploads, parts))?;
-    let ends = add_all(alloc, &mut lists, uploads)?;
-    Ok(Dealt { parts: lists, ends })
+    let share = bytes_of(&uploads) / LEAST_BYTES_A_TAP / parts as usize;
+    let mut list = Parts::with_room(alloc, parts, share + share / 2)?;
+    let ends = add_all(alloc, &mut list, uploads)?;
+    let mut lists = Vec::new(alloc);
+    lists.push(list)?;
+    Ok(Dealt { lists, ends })
+}
+
+/// The first so many uploads that have half of the bytes, about, and the others.
+fn halves(uploads: Vec<Vec<u8>>) -> Result<(Vec<Vec<u8>>, Vec<Vec<u8>>), AllocError>
+    ensures { IfOk result (λ halves. uploads.items ≡ halves.0.items ++ halves.1.items) }
+{
+    let mut front = uploads;
+    let middle = middle_of(&front);
+    let back = front.split_off(middle)?;
+    Ok((front, back))
+}
+
+/// How many of the first uploads have half of the bytes.
+fn middle_of(uploads: &[Vec<u8>]) -> usize
+    ensures { result ≤ length uploads.now }
+{
+    let half = bytes_of(uploads) / 2;
+    let mut bytes = 0usize;
+    for (number, upload) in uploads.iter().enumerate() {
+        if half <= bytes {
+            return number;
+        }
+        bytes = bytes.saturating_add(upload.len());
+    }
+    uploads.len()
+}
+
+/// Deals the taps of the uploads to so many parts, half of them by a thread of its own. Where one is
+/// refused, both halves are dealt one after the other.
+fn deal_by_two<R: Threads + Sync>(
+    rt: &R,
+    alloc: Global,
+    uploads: Vec<Vec<u8>>,
+    parts: u32,
+) -> Result<Dealt, AllocError>
+    requires least { 1 ≤ parts }
+    requires most { parts ≤ 65535 }
+    ensures { IfOk result (λ dealt. AreDealt parts (map (λ upload. upload.items) uploads.items)
+        dealt.lists.items dealt.ends.items) }
+{
+    let (front, back) = halves(uploads)?;
+    let (dealt, more) = thread::join(
+        rt,
+        move || -> Result<Dealt, AllocError>
+            requires { (1 ≤ parts) × (parts ≤ 65535) }
+            ensures { IfOk result (λ dealt. AreDealt parts
+                (map (λ upload. upload.items) front.items)
+                dealt.lists.items dealt.ends.items) }
+        { deal(alloc, front, parts) },
+        move || -> Result<Dealt, AllocError>
+            requires { (1 ≤ parts) × (parts ≤ 65535) }
+            ensures { IfOk result (λ dealt. AreDealt parts
+                (map (λ upload. upload.items) back.items)
+                dealt.lists.items dealt.ends.items) }
+        { deal(alloc, back, parts) },
+    );
+    let mut dealt = dealt?;
+    let mut more = more?;
+    dealt.lists.append(&mut more.lists)?;
+    dealt.ends.append(&mut more.ends)?;
+    Ok(dealt)
+}
+
+/// Deals the taps of the uploads to so many parts, a quarter of them by each of four threads.
+pub(crate) fn deal_by_four<R: Threads + Sync>(
+    rt: &R,
+    alloc: Global,
+    uploads: Vec<Vec<u8>>,
+    parts: u32,
+) -> Result<Dealt, AllocError>
+    requires least { 1 ≤ parts }
+    requires most { parts ≤ 65535 }
+    ensures { IfOk result (λ dealt. AreDealt parts (map (λ upload. upload.items) uploads.items)
+        dealt.lists.items dealt.ends.items) }
+{
+    let (front, back) = halves(uploads)?;
+    let (dealt, more) = thread::join(
+        rt,
+        move || -> Result<Dealt, AllocError>
+            requires { (1 ≤ parts) × (parts ≤ 65535) }
+            ensures { IfOk result (λ dealt. AreDealt parts
+                (map (λ upload. upload.items) front.items)
+                dealt.lists.items dealt.ends.items) }
+        { deal_by_two(rt, alloc, front, parts) },
+        move || -> Result<Dealt, AllocError>
+            requires { (1 ≤ parts) × (parts ≤ 65535) }
+            ensures { IfOk result (λ dealt. AreDealt parts
+                (map (λ upload. upload.items) back.items)
+                dealt.lists.items dealt.ends.items) }
+        { deal_by_two(rt, alloc, back, parts) },
+    );
+    let mut dealt = dealt?;
+    let mut more = more?;
+    dealt.lists.append(&mut more.lists)?;
+    dealt.ends.append(&mut more.ends)?;
+    Ok(dealt)
 }

@@ -4,7 +4,7 @@ ghost use Rattle.std.specs.Prelude.{◌≤◌, IfOk, map};
 ghost use Rattle.settlement.specs.Settled.{IsSettled};
 
 use crate::arranging::files_by_four;
-use crate::dealing::deal;
+use crate::dealing::{Dealt, bytes_of, deal_by_four};
 use fare_service::UploadEnd;
 use fare_table::NoMemory;
 use std::alloc::Global;
@@ -27,21 +27,17 @@ pub struct Settled {
     pub files: Vec<Vec<u8>>,
 }
 
-/// How many parts there are to be.
+/// How many parts there are to be. They are counted by the uploads' bytes, whatever these are.
 fn parts_for(uploads: &[Vec<u8>]) -> u32
     ensures least { 1 ≤ result }
     ensures most { result ≤ 65535 }
 {
-    let mut bytes = 0usize;
-    for upload in uploads {
-        bytes = bytes.saturating_add(upload.len());
-    }
-    (bytes / BYTES_OF_PART).clamp(1, MAX_PARTS) as u32
+    (bytes_of(uploads) / BYTES_OF_PART).clamp(1, MAX_PARTS) as u32
 }
 
-/// Settles uploads. Four threads put the parts' taps into order; where one is refused, another does
-/// its work. Its one error is want of memory. The bytes of the uploads are given back as soon
-/// as their taps are dealt to parts.
+/// Settles uploads. Four threads deal the taps, and four put the parts' taps into order; where one
+/// is refused, another does its work. Its one error is want of memory. The bytes of an upload are
+/// given back as soon as its taps are dealt to parts.
 pub fn settle<R: Threads + Sync>(
     rt: &R,
     alloc: Global,
@@ -51,11 +47,7 @@ pub fn settle<R: Threads + Sync>(
         made.ends.items (map (λ file. file.items) made.files.items)) }
 {
     let parts = parts_for(&uploads);
-    let dealt = deal(alloc, &uploads, parts)?;
-    drop(uploads);
-    let files = files_by_four(rt, alloc, dealt.parts.lists())?;
-    Ok(Settled {
-        ends: dealt.ends,
-        files,
-    })
+    let Dealt { lists, ends } = deal_by_four(rt, alloc, uploads, parts)?;
+    let files = files_by_four(rt, alloc, &lists, 0, parts)?;
+    Ok(Settled { ends, files })
 }

@@ -1,5 +1,6 @@
-use Rattle.std.proofs.Common.{ℕ, List, [], ◌∷◌, ◌++◌, Vec, Global, map, take, sym, ap, ◌∙◌, subst, take_all}
-use Rattle.std.proofs.lemmas.List.{map_more}
+use Rattle.std.proofs.Common.{◌≡◌, refl, ℕ, List, [], ◌∷◌, ◌++◌, Vec, Global, length, map, sym, ap, ◌∙◌, subst, arith, append_assoc, append-nil}
+use Rattle.std.proofs.lemmas.List.{map-append}
+use Rattle.std.specs.Vec.Iter.{into_iter_items}
 use Rattle.fare_service.specs.declared.upload_end.UploadEnd.{UploadEnd}
 use Rattle.fare_service.specs.Plain.{AreTapsOfEach, IsPlainEnd, ArePlainEnds}
 use Rattle.fare_service.proofs.PlainUploads.{each_more}
@@ -11,33 +12,54 @@ use Rattle.settlement.proofs.dealing.add_all.Goals as goal
 abbrev bytes_in : Vec ℕ Global → List ℕ
 bytes_in upload = upload.items
 
+nothing : (xs : List (Vec ℕ Global)) → length xs ≡ 0 → xs ≡ []
+nothing [] e = refl
+nothing (x ∷ xs) e = absurd (omega (arith, e))
+
 pub loop-upload-init : goal.loop-upload-init
-loop-upload-init c = ([], tt, none_added c.args.parts.now, subst (λ ends. ArePlainEnds [] ends) (sym c.new-ends.ensures.items) tt)
+loop-upload-init c =
+    let gives = c.into_iter-upload-iterator.ensures.into_iter_gives in
+    record {
+      may = tt;
+      ends = tt;
+      left = gives.0;
+      left_len = gives.1 ∙ (c.args.uploads.ok.0 ∙ ap length (sym gives.0));
+      made = ([], tt, none_added c.args.parts.now, subst (λ ends. ArePlainEnds [] ends) (sym c.new-ends.ensures.items) tt);
+    }
 
 pub loop-upload-preserved : goal.loop-upload-preserved
 loop-upload-preserved c =
-    let uploads = c.args.uploads.now in
-    let upload = c.upload-item.result in
-    let i = c.loop-upload.upload-index in
-    let (taps, each, added, ended) = c.loop-upload.invariant in
+    let steps = c.in-Some.ensures.steps in
+    let upload = c.in-Some.upload in
+    let yielded = c.loop-upload.yielded in
+    let (taps, each, added, ended) = c.loop-upload.invariant.made in
     let end = c.in_ok-add_upload.field-0 in
     let one : IsAdded upload.items c.loop-upload.parts c.add_upload.new.parts end =
     subst (λ bytes. IsAdded bytes c.loop-upload.parts c.add_upload.new.parts end) c.as_slice.ensures.value c.in_ok-add_upload.ensures in
-    let files = map bytes_in (take i uploads) in
-    let all = map_more bytes_in uploads i upload c.loop-upload-test.true ∙ ap (λ u. files ++ bytes_in u ∷ []) (sym c.upload-item.is) in
+    let files = map bytes_in yielded in
+    let all = map-append bytes_in yielded (upload ∷ []) in
     let T : List (List ℕ) → Type 0 = λ fs. AreTapsOfEach fs (taps ++ one.taps ∷ []) in
     let E : List (List ℕ) → Type 0 = λ fs. ArePlainEnds fs c.push.new.self.items in
-    let F : List UploadEnd → Type 0 = λ es. ArePlainEnds (files ++ upload.items ∷ []) es in (
-      taps ++ one.taps ∷ [],
-      subst T (sym all) (each_more files taps upload.items one.taps each one.of_upload),
-      batch_added taps one.taps c.args.parts.now c.loop-upload.parts c.add_upload.new.parts added one.added,
-      subst E (sym all) (subst F (sym c.in_ok-push.ensures.items) (AllZip-append IsPlainEnd files c.loop-upload.ends.items (upload.items ∷ []) (end ∷ []) ended (one.ended, tt))),
-    )
+    let F : List UploadEnd → Type 0 = λ es. ArePlainEnds (files ++ upload.items ∷ []) es in
+    record {
+      may = tt;
+      ends = tt;
+      left = append_assoc yielded (upload ∷ []) (into_iter_items c.next.new.self) ∙ ap (λ us. yielded ++ us) (sym steps.0) ∙ c.loop-upload.invariant.left;
+      left_len = omega (arith, steps.1, c.loop-upload.invariant.left_len, ap length steps.0);
+      made = (
+        taps ++ one.taps ∷ [],
+        subst T (sym all) (each_more files taps upload.items one.taps each one.of_upload),
+        batch_added taps one.taps c.args.parts.now c.loop-upload.parts c.add_upload.new.parts added one.added,
+        subst E (sym all) (subst F (sym c.in_ok-push.ensures.items) (AllZip-append IsPlainEnd files c.loop-upload.ends.items (upload.items ∷ []) (end ∷ []) ended (one.ended, tt))),
+      );
+    }
 
 pub returns : goal.returns
 returns c =
-    let (taps, each, added, ended) = c.loop-upload.invariant in
-    let all = take_all c.loop-upload.upload-index c.args.uploads.now c.loop-upload-test.false in
+    let (taps, each, added, ended) = c.loop-upload.invariant.made in
+    let left = into_iter_items c.loop-upload.upload-iterator in
+    let none : left ≡ [] = nothing left (omega (arith, c.in-None.ensures.steps.0, c.loop-upload.invariant.left_len)) in
+    let all = sym (append-nil c.loop-upload.yielded) ∙ (ap (λ us. c.loop-upload.yielded ++ us) (sym none) ∙ c.loop-upload.invariant.left) in
     let T : List (Vec ℕ Global) → Type 0 = λ uploads. AreTapsOfEach (map bytes_in uploads) taps in
     let E : List (Vec ℕ Global) → Type 0 = λ uploads. ArePlainEnds (map bytes_in uploads) c.loop-upload.ends.items in
     record { taps = taps; of_uploads = subst T all each; added = added; ended = subst E all ended }

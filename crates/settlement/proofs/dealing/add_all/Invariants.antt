@@ -1,4 +1,5 @@
-use Rattle.std.proofs.Common.{List, map, take}
+use Rattle.std.proofs.Common.{◌≡◌, ◌++◌, List, length, map}
+use Rattle.std.specs.Vec.Iter.{into_iter_items, into_iter_len}
 use Rattle.tap_views.specs.Layout.{Tap}
 use Rattle.tap_parts.specs.Parts.{AreAdded}
 use Rattle.fare_service.specs.Plain.{AreTapsOfEach, ArePlainEnds}
@@ -6,6 +7,10 @@ use Rattle.settlement.specs.Settled.{joined}
 use Rattle.settlement.proofs.dealing.add_all.Given as goal
 
 abbrev pub invariant-loop-upload : goal.invariant-loop-upload
-invariant-loop-upload l =
-    let files = map (λ upload. upload.items) (take l.upload-index l.uploads) in
-    (taps : List (List Tap)) × AreTapsOfEach files taps × AreAdded (joined taps) l.fn.parts l.parts × ArePlainEnds files l.ends.items
+invariant-loop-upload l = record {
+  may : (goal.iterator-loop-upload).can_next l.upload-iterator;
+  ends : (goal.iterator-loop-upload).is_finite l.upload-iterator;
+  left : l.yielded ++ into_iter_items l.upload-iterator ≡ l.fn.uploads.items;
+  left_len : into_iter_len l.upload-iterator ≡ length (into_iter_items l.upload-iterator);
+  made : (taps : List (List Tap)) × AreTapsOfEach (map (λ upload. upload.items) l.yielded) taps × AreAdded (joined taps) l.fn.parts l.parts × ArePlainEnds (map (λ upload. upload.items) l.yielded) l.ends.items;
+}

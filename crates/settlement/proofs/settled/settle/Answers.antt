@@ -1,35 +1,43 @@
-use Rattle.std.proofs.Common.{ℕ, List, [], Vec, Global, map, sym, ◌∙◌, subst, arith, ◌<◌}
-use Rattle.tap_views.specs.Encoding.{fields_of}
+use Rattle.std.proofs.Common.{◌≡◌, ℕ, ◌+◌, ◌<◌, List, Vec, Global, length, map, sym, ap, ◌∙◌, subst, arith}
+use Rattle.tap_views.specs.Encoding.{fields_of, AreEarly}
 use Rattle.tap_views.specs.declared.encoder.TapFields.{TapFields}
 use Rattle.tap_parts.specs.Parts.{of_part}
-use Rattle.settlement.specs.Dealt.{AreDealt, ArePartFiles}
+use Rattle.settlement.specs.Dealt.{ArePartFiles, in_part}
 use Rattle.settlement.specs.Settled.{IsPartFile, joined}
-use Rattle.settlement.proofs.Files.{there_below, zip_length, zip_there}
+use Rattle.settlement.proofs.Early.{part_early}
+use Rattle.settlement.proofs.Files.{there_below}
+use Rattle.settlement.proofs.Halves.{bytes_in}
 use Rattle.settlement.proofs.settled.settle.Goals as goal
 
-abbrev bytes_in : Vec ℕ Global → List ℕ
-bytes_in file = file.items
+pub files_by_four-requires-clause-early : goal.files_by_four-requires-clause-early
+files_by_four-requires-clause-early g c = λ _ _ part within.
+    let parts = c.parts_for-parts.result in
+    let dealt = c.in_ok-lists.ensures in
+    let E : List TapFields → Type 0 = λ taps. AreEarly (λ (tap : TapFields). tap.moment) taps in
+    let L : List (List (List TapFields)) → Type 0 = λ ls. E (in_part part ls) in
+    let early = part_early part parts (map bytes_in c.args.uploads.items) dealt.taps dealt.of_uploads in
+    subst L (sym c.deref-2.ensures.value) (subst E (sym (dealt.each part within)) early)
 
 pub returns : goal.returns
 returns g c =
-    let made = c.in_ok-dealt.dealt in
-    let D : List (Vec ℕ Global) → Type 0 = λ us. AreDealt c.parts_for-parts.result (map bytes_in us) made.parts made.ends.items in
-    let dealt = subst D c.deref-2.ensures.value c.in_ok-dealt.ensures in
-    let files = c.in_ok-files.ensures in
-    let P : List (List TapFields) → Type 0 = λ ls. ArePartFiles ls (map bytes_in c.in_ok-files.files.items) in
-    let zipped = subst P c.lists.ensures files in
-    let number = sym (zip_length IsPartFile _ _ zipped) ∙ dealt.number in
-    let least = c.parts_for-parts.ensures.least in
-    let most = c.parts_for-parts.ensures.most in
+    let parts = c.parts_for-parts.result in
+    let made = c.in_ok-lists.field-0 in
+    let dealt = c.in_ok-lists.ensures in
+    let bytes = map bytes_in c.in_ok-files.files.items in
+    let P : List (List (List TapFields)) → Type 0 = λ ls. ArePartFiles ls 0 parts bytes in
+    let files = subst P c.deref-2.ensures.value c.in_ok-files.ensures in
+    let number : parts ≡ length bytes = omega (arith, files.number) in
     record {
       ended = dealt.ended;
       taps = dealt.taps;
       of_uploads = dealt.of_uploads;
-      some_part = omega (arith, number, least);
-      few_parts = omega (arith, number, most);
+      some_part = omega (arith, number, c.parts_for-parts.ensures.least);
+      few_parts = omega (arith, number, c.parts_for-parts.ensures.most);
       each = λ part file there.
-          let within : part < c.parts_for-parts.result = subst (λ n. part < n) number (there_below _ part file there) in
-          let P : List TapFields → Type 0 = λ taps. IsPartFile taps file in
+          let within : part < parts = omega (arith, number, there_below bytes part file there) in
+          let here : in_part (0 + part) made.lists.items ≡ map fields_of (of_part part parts (joined dealt.taps)) =
+          ap (λ n. in_part n made.lists.items) (let e : 0 + part ≡ part = omega arith in e) ∙ dealt.each part within in
+          let Q : List TapFields → Type 0 = λ taps. IsPartFile taps file in
           let N : ℕ → Type 0 = λ n. IsPartFile (map fields_of (of_part part n (joined dealt.taps))) file in
-          subst N (sym number) (subst P (dealt.each part within) (zip_there IsPartFile _ _ [] zipped part file there));
+          subst N number (subst Q here (files.each part file there));
     }
