@@ -38,9 +38,15 @@ pub fn run<
 struct Open;
 
 impl Gate for Open {
-    fn before(&self, _upload: u32) {}
+    type Begun = u32;
 
-    fn after(&self, _upload: u32) {}
+    ghost begins = { λ begun. begun };
+
+    fn before(&self, upload: u32) -> u32 {
+        upload
+    }
+
+    fn after(&self, _: u32) {}
 }
 
 #[inline(never)]

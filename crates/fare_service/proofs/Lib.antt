@@ -1,6 +1,7 @@
 pub mod AddingLemmas
 pub mod BatchLemmas
 pub mod CloseLemmas
+pub mod FullLemmas
 pub mod GatherLemmas
 pub mod GatheredWork
 pub mod HeadlineLemmas
@@ -15,6 +16,7 @@ pub mod RunLemmas
 pub mod RunVisits
 pub mod ShareLemmas
 pub mod Signing
+pub mod StoppingLemmas
 pub mod TapCounts
 pub mod UploadLemmas
 pub mod VisitLemmas

@@ -84,26 +84,12 @@ works_drawn hall share is = sym (ap length is.keeps.drawn ∙ length-map is.work
 abbrev pub holding : Drawings → List Knowledge → Sums → List Done → Holding
 holding drawer passes totals done = record { drawer = drawer; passes = passes; totals = totals; done = done }
 
--- a worker that drew nothing
-pub stayed : (hall : Hall) (drawer drawer' : Drawings) (passes : List Knowledge) (totals : Sums) (done done' : List Done) (old : Holding) → holding drawer passes totals done ≡ old
-    → drawer'.drawn ≡ drawer.drawn → done' ≡ done → WentOn hall old (holding drawer' passes totals done')
-stayed hall drawer drawer' passes totals done done' old is drawn same =
-    let P : Holding → Type 0 = λ h. WentOn hall h (holding drawer' passes totals done') in
-    subst P is ([], worked_none hall (holding drawer passes totals done) (holding drawer' passes totals done') drawn same refl refl)
-
 -- a worker that drew an upload and posted it
 pub next_done : (hall : Hall) (drawer drawer' : Drawings) (passes passes' : List Knowledge) (totals totals' : Sums) (done done' : List Done) (upload : ℕ) (end : UploadEnd) (visits : List Visit)
     → drawer'.drawn ≡ drawer.drawn ++ upload ∷ [] → done' ≡ done ++ record { upload = upload; end = end } ∷ [] → Made (shards_of hall) passes passes' totals totals' visits → IsWorked hall (worked upload end visits)
     → HasWorked hall (holding drawer passes totals done) (holding drawer' passes' totals' done') (worked upload end visits ∷ [])
 next_done hall drawer drawer' passes passes' totals totals' done done' upload end visits drawn more made is =
     worked_one hall (holding drawer passes totals done) (holding drawer' passes' totals' done') (worked upload end visits) is drawn more made
-
-pub next_went_on : (hall : Hall) (drawer drawer' : Drawings) (passes passes' : List Knowledge) (totals totals' : Sums) (done done' : List Done) (upload : ℕ) (end : UploadEnd) (old : Holding)
-    → holding drawer passes totals done ≡ old → drawer'.drawn ≡ drawer.drawn ++ upload ∷ [] → done' ≡ done ++ record { upload = upload; end = end } ∷ []
-    → ((visits : List Visit) × Made (shards_of hall) passes passes' totals totals' visits × IsWorked hall (worked upload end visits)) → WentOn hall old (holding drawer' passes' totals' done')
-next_went_on hall drawer drawer' passes passes' totals totals' done done' upload end old is drawn more (visits, made, did) =
-    let P : Holding → Type 0 = λ h. WentOn hall h (holding drawer' passes' totals' done') in
-    subst P is (worked upload end visits ∷ [], next_done hall drawer drawer' passes passes' totals totals' done done' upload end visits drawn more made did)
 
 pub next_share : (hall : Hall) (drawer drawer' : Drawings) (passes passes' : List Knowledge) (totals totals' : Sums) (done done' : List Done) (upload : ℕ) (end : UploadEnd) (old : Holding)
     → holding drawer passes totals done ≡ old → IsShareOf hall old → drawer'.drawn ≡ drawer.drawn ++ upload ∷ [] → drawer'.source ≡ drawer.source → done' ≡ done ++ record { upload = upload; end = end } ∷ []

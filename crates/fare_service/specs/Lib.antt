@@ -13,5 +13,6 @@ pub mod Printed
 pub mod Refusals
 pub mod Runs
 pub mod Shares
+pub mod Stopping
 pub mod Text
 pub mod Plain

@@ -1,6 +1,6 @@
 //! The work of one thread: it draws uploads and posts their batches, run by run.
 
-ghost use Rattle.std.specs.Prelude.{◌≡◌, ℕ, ◌+◌, ◌*◌, ◌^◌, ◌<◌, ◌≤◌, List, length, OnOk, IfOk, is_ok, is_some, map};
+ghost use Rattle.std.specs.Prelude.{◌≡◌, ◌⊎◌, ℕ, ◌+◌, ◌*◌, ◌^◌, ◌<◌, ◌≤◌, List, length, OnOk, IfOk, IfNone, IfSome, is_ok, is_some, map, true, false, ◌++◌, ◌∷◌, []};
 ghost use Rattle.shard_book.specs.Sums.{sums_of, sums_of_replies, add_sums};
 ghost use Rattle.fare_service.specs.Ends.{end_by};
 
@@ -9,18 +9,28 @@ use crate::share::{Done, Posting, Share};
 use crate::upload_end::UploadEnd;
 use fare_table::{Clock, NoMemory};
 use shard_book::{Ends, Replies, RunEnd, Tally, Totals};
-use shared_books::Full;
+use shared_books::{Drawer, Full};
 use std::alloc::Global;
 use std::sync::Wait;
 use tap_views::{Batch, Cut, LayoutFault, batches};
 
 /// Where workers tell that they begin an upload and that they are done with it.
 pub trait Gate {
-    /// The upload was drawn, and nothing of it is posted yet.
-    fn before(&self, upload: u32);
+    ghost use Rattle.std.specs.Prelude.{ℕ, ◌≡◌};
 
-    /// Nothing more of the upload will be posted.
-    fn after(&self, upload: u32);
+    /// What shows that an upload was begun. A worker cannot post the upload without it, nor let it go:
+    /// only `before` gives it, and only `after` takes it.
+    type Begun;
+
+    // The upload that was begun.
+    ghost begins: { Self.Begun → ℕ };
+
+    /// The upload was drawn, and nothing of it is posted yet.
+    fn before(&self, upload: u32) -> Self::Begun
+        ensures { begins result ≡ upload };
+
+    /// Nothing more of the upload that was begun will be posted.
+    fn after(&self, begun: Self::Begun);
 }
 
 /// What a worker makes once: its clock, and the buffers that it keeps from run to run.
@@ -109,6 +119,8 @@ impl<'a> Service<'a> {
     ghost use Rattle.tap_views.specs.Files.{IsFile};
     ghost use Rattle.fare_service.specs.Runs.{Visit, WerePosted, if_any, of_shard, placed_from, runs_below, runs_of};
     ghost use Rattle.fare_service.specs.Shares.{Made, books_of, IsFaultOf, IsShareOf, IsWorked, WentOn, worked};
+    ghost use Rattle.fare_service.specs.Plain.{WasWhole};
+    ghost use Rattle.fare_service.specs.Stopping.{SomeFull, StoppedWell, TellsFull, TellsMemory, WasCut};
 
     /// Posts a run of the batch that was cut, if it has a tap. Memory is taken, and the limits of windows are made, before the turn.
     fn post_run<'b, R: Wait>(
@@ -130,6 +142,8 @@ impl<'a> Service<'a> {
             × WerePosted (if_any shard (of_shard shard (shards_of self.now) (placed_from place batch.now))) (is_ok result) more }
         ensures clock { buffers.new.clock ≡ buffers.old.clock }
         ensures few { posting.new.totals.taps ≤ posting.old.totals.taps + 4096 }
+        ensures full { TellsFull result posting.old.passes.items posting.new.passes.items }
+        ensures memory { TellsMemory shard result posting.old.passes.items posting.new.passes.items }
     {
         let run = cut.run(batch, shard);
         let len = run.len();
@@ -169,6 +183,7 @@ impl<'a> Service<'a> {
             × WerePosted (runs_below (shards_of self.now) (shards_of self.now) (placed_from place batch.now)) (is_ok result) more }
         ensures clock { buffers.new.run.clock ≡ buffers.old.run.clock }
         ensures cut { length buffers.new.cut ≡ length buffers.old.cut }
+        ensures full { TellsFull result posting.old.passes.items posting.new.passes.items }
     {
         buffers.cut.fill(batch);
         for shard in 0..self.shards() {
@@ -196,6 +211,7 @@ impl<'a> Service<'a> {
         ensures clock { buffers.new.run.clock ≡ buffers.old.run.clock }
         ensures cut { length buffers.new.cut ≡ length buffers.old.cut }
         ensures few { posting.new.totals.taps ≤ posting.old.totals.taps + 2 ^ 60 }
+        ensures full { TellsFull result posting.old.passes.items posting.new.passes.items }
     {
         // a file has fewer than 2^64 bytes, so that the counts of its taps fit
         let _bytes = bytes_in(file);
@@ -208,14 +224,16 @@ impl<'a> Service<'a> {
         Ok(None)
     }
 
-    /// Posts an upload. Tells how it ended, and whether the worker may go on.
-    fn post_upload<R: Wait>(
+    /// Posts an upload that was begun at the gate. Tells how it ended, and whether the worker may go on.
+    fn post_upload<R: Wait, G: Gate>(
         &self,
         rt: &R,
         posting: &mut Posting,
         buffers: &mut Buffers,
         upload: u32,
+        _begun: &G::Begun,
     ) -> (UploadEnd, bool)
+        requires begun { G.begins _begun.now ≡ upload }
         requires upload { upload < length self.now.uploads }
         requires passes { books_of posting.old.passes.items ≡ self.now.books }
         requires clock { buffers.old.run.clock ≡ self.now.table.zone }
@@ -226,6 +244,9 @@ impl<'a> Service<'a> {
         ensures clock { buffers.new.run.clock ≡ buffers.old.run.clock }
         ensures cut { length buffers.new.cut ≡ length buffers.old.cut }
         ensures few { posting.new.totals.taps ≤ posting.old.totals.taps + 2 ^ 60 }
+        ensures full { SomeFull posting.old.passes.items → SomeFull posting.new.passes.items }
+        ensures goes_on { result.1 ≡ true → WasWhole result.0 ⊎ SomeFull posting.new.passes.items }
+        ensures stops { result.1 ≡ false → WasCut result.0 }
     {
         let before = posting.totals.taps;
         let file = self.uploads[upload as usize].as_slice();
@@ -237,46 +258,55 @@ impl<'a> Service<'a> {
         }
     }
 
-    /// Draws an upload and posts it, after room was taken for its result. Tells whether the worker may go on.
+    /// Draws an upload and posts it, where one is left. Tells how it ended, and whether the worker may go on.
     fn next_upload<R: Wait, G: Gate>(
         &self,
         rt: &R,
-        share: &mut Share,
+        drawer: &mut Drawer,
+        posting: &mut Posting,
         buffers: &mut Buffers,
         gate: &G,
-    ) -> bool
-        requires share { IsShareOf self.now share.old }
+    ) -> Option<(Done, bool)>
+        requires drawer { drawer.old.source ≡ self.now.drawing }
+        requires passes { books_of posting.old.passes.items ≡ self.now.books }
         requires clock { buffers.old.run.clock ≡ self.now.table.zone }
         requires cut { length buffers.old.cut ≡ shards_of self.now }
-        ensures share { IsShareOf self.now share.new }
-        ensures went_on { WentOn self.now share.old share.new }
+        requires room { posting.old.totals.taps + 2 ^ 60 ≤ 2 ^ 94 }
+        ensures none { IfNone result ((drawer.new ≡ record drawer.old { seen = length self.now.uploads })
+            × (posting.new ≡ posting.old)) }
+        ensures drawn { IfSome result (λ next. (drawer.old.seen ≤ next.0.upload)
+            × (next.0.upload < length self.now.uploads)
+            × (drawer.new ≡ record drawer.old { seen = next.0.upload + 1; drawn = drawer.old.drawn ++ next.0.upload ∷ [] })) }
+        ensures worked { IfSome result (λ next. (visits : List Visit) × Made (shards_of self.now) posting.old.passes.items posting.new.passes.items (sums_of posting.old.totals) (sums_of posting.new.totals) visits
+            × IsWorked self.now (worked next.0.upload next.0.end visits)) }
+        ensures few { posting.new.totals.taps ≤ posting.old.totals.taps + 2 ^ 60 }
+        ensures full { SomeFull posting.old.passes.items → SomeFull posting.new.passes.items }
+        ensures goes_on { IfSome result (λ next. next.1 ≡ true
+            → WasWhole next.0.end ⊎ SomeFull posting.new.passes.items) }
+        ensures stops { IfSome result (λ next. next.1 ≡ false → WasCut next.0.end) }
         ensures clock { buffers.new.run.clock ≡ buffers.old.run.clock }
         ensures cut { length buffers.new.cut ≡ length buffers.old.cut }
     {
-        if share.done.reserve(1).is_err() {
-            return false;
-        }
-        // it holds fewer than 2^32 uploads, so that the totals have room
-        let _held = share.drawer.held();
-        let Some(upload) = self.draw.draw(&mut share.drawer) else {
-            return false;
+        let Some(upload) = self.draw.draw(drawer) else {
+            return None;
         };
-        gate.before(upload);
-        let (end, goes_on) = self.post_upload(rt, &mut share.posting, buffers, upload);
-        gate.after(upload);
-        share.done.push_reserved(Done { upload, end });
-        goes_on
+        let begun = gate.before(upload);
+        let (end, goes_on) = self.post_upload::<R, G>(rt, posting, buffers, upload, &begun);
+        gate.after(begun);
+        Some((Done { upload, end }, goes_on))
     }
 
     /// Draws uploads and posts their batches, until all are drawn or memory is refused. A refusal after the draw ends that upload as
-    /// cut. Where a shard takes no more visits the upload ends as cut, and the work goes on.
+    /// cut. Where a shard takes no more visits the upload ends as cut, and the work goes on. Memory for the results of all
+    /// uploads is taken first: where it is refused, the share is given back as it was.
     ///
     /// Gives the share back with the uploads that it drew, the visits that it made and the totals of their replies. It waits for
     /// turns at the shards' books.
-    pub fn work<R: Wait, G: Gate>(&self, rt: &R, alloc: Global, mut share: Share, gate: &G) -> Share
+    pub fn work<R: Wait, G: Gate>(&self, rt: &R, alloc: Global, share: Share, gate: &G) -> Share
         requires { IsShareOf self.now share }
         ensures share { IsShareOf self.now result }
         ensures went_on { WentOn self.now share result }
+        ensures stopped { (result ≡ share) ⊎ StoppedWell self.now share result }
     {
         let Ok(clock) = self.table.clock(alloc) else {
             return share;
@@ -290,11 +320,39 @@ impl<'a> Service<'a> {
             ends: Ends::new(alloc),
         };
         let mut buffers = Buffers { cut, run };
+        let Share {
+            mut drawer,
+            mut posting,
+            mut done,
+        } = share;
+        if done.reserve(self.uploads.len()).is_err() {
+            return Share {
+                drawer,
+                posting,
+                done,
+            };
+        }
         for _ in rt.forever() {
-            if !self.next_upload(rt, &mut share, &mut buffers, gate) {
-                break;
+            // proof: it holds fewer than 2^32 uploads, so that the totals have room
+            let _held = drawer.held();
+            let Some((next, goes_on)) =
+                self.next_upload(rt, &mut drawer, &mut posting, &mut buffers, gate)
+            else {
+                return Share {
+                    drawer,
+                    posting,
+                    done,
+                };
+            };
+            done.push_reserved(next);
+            if !goes_on {
+                return Share {
+                    drawer,
+                    posting,
+                    done,
+                };
             }
         }
-        share
+        unreachable!()
     }
 }

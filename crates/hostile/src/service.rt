@@ -15,7 +15,13 @@ use std::thread::Threads;
 struct Open;
 
 impl Gate for Open {
-    fn before(&self, _: u32) {}
+    type Begun = u32;
+
+    ghost begins = { λ begun. begun };
+
+    fn before(&self, upload: u32) -> u32 {
+        upload
+    }
 
     fn after(&self, _: u32) {}
 }
@@ -27,7 +33,13 @@ struct Telling<'a, R> {
 }
 
 impl<R: Print> Gate for Telling<'_, R> {
-    fn before(&self, _: u32) {}
+    type Begun = u32;
+
+    ghost begins = { λ begun. begun };
+
+    fn before(&self, upload: u32) -> u32 {
+        upload
+    }
 
     fn after(&self, upload: u32) {
         let _printed = println!(self.rt; "upload {upload} ended");

@@ -26,7 +26,13 @@ use std::thread::Threads;
 struct Open;
 
 impl Gate for Open {
-    fn before(&self, _: u32) {}
+    type Begun = u32;
+
+    ghost begins = { λ begun. begun };
+
+    fn before(&self, upload: u32) -> u32 {
+        upload
+    }
 
     fn after(&self, _: u32) {}
 }

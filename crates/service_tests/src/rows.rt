@@ -266,13 +266,18 @@ impl Both {
 }
 
 impl Gate for Both {
-    fn before(&self, upload: u32) {
+    type Begun = u32;
+
+    ghost begins = { λ begun. begun };
+
+    fn before(&self, upload: u32) -> u32 {
         if upload == 0 {
             self.started.store(true, Ordering::SeqCst);
             self.wait(&self.ended);
         } else {
             self.wait(&self.started);
         }
+        upload
     }
 
     fn after(&self, upload: u32) {

@@ -107,7 +107,13 @@ pub fn two_uploads(alloc: Global) -> Result<Vec<Vec<u8>>, Fail> {
 pub struct Open;
 
 impl Gate for Open {
-    fn before(&self, _: u32) {}
+    type Begun = u32;
+
+    ghost begins = { λ begun. begun };
+
+    fn before(&self, upload: u32) -> u32 {
+        upload
+    }
 
     fn after(&self, _: u32) {}
 }

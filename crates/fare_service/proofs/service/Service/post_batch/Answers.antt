@@ -1,9 +1,10 @@
-use Rattle.std.proofs.Common.{ℕ, ◌≡◌, [], ◌∙◌, subst, refl, arith}
+use Rattle.std.proofs.Common.{ℕ, ◌≡◌, [], ◌∙◌, inl, subst, refl, arith}
 use Rattle.shard_book.specs.Sums.{sums_of}
 use Rattle.fare_service.specs.Halls.{shards_of}
 use Rattle.fare_service.specs.Runs.{placed_from, runs_below}
 use Rattle.fare_service.proofs.VisitLemmas.{made_none}
 use Rattle.fare_service.proofs.BatchLemmas.{Posts, batch_more, batch_cut, cuts_told}
+use Rattle.fare_service.proofs.FullLemmas.{handed_on, tells_ok, the_error}
 use Rattle.fare_service.proofs.service.Service.post_batch.Goals as goal
 
 pub loop-shard-init : goal.loop-shard-init
@@ -14,6 +15,7 @@ loop-shard-init g c = record {
   shards = c.fill.ensures.shards ∙ c.requires.cut;
   room = omega arith;
   within = omega arith;
+  full = λ h. h;
   made = λ place. ([], made_none (shards_of c.args.self.now) c.args.posting.now.passes.items (sums_of c.args.posting.now.totals), refl);
 }
 
@@ -27,6 +29,7 @@ loop-shard-preserved g c =
       shards = c.loop-shard.invariant.shards;
       room = omega (arith, c.in_ok-post_run.ensures.few, c.loop-shard.invariant.room);
       within = omega (arith, c.loop-shard-test.true);
+      full = λ h. c.in_ok-post_run.ensures.full (inl (c.loop-shard.invariant.full h));
       made = λ place. batch_more shards c.loop-shard.shard (placed_from place c.args.batch.now) c.args.posting.now.passes.items c.loop-shard.posting.passes.items c.post_run.new.posting.passes.items
           (sums_of c.args.posting.now.totals) (sums_of c.loop-shard.posting.totals) (sums_of c.post_run.new.posting.totals) (c.loop-shard.invariant.made place) (c.in_ok-post_run.ensures.made place);
     }
@@ -48,3 +51,11 @@ returns-clause-made g c =
     let N : ℕ → Type 0 = λ n. Posts shards c.args.posting.now.passes.items c.loop-shard.posting.passes.items (sums_of c.args.posting.now.totals) (sums_of c.loop-shard.posting.totals)
     (runs_below shards n (placed_from place c.args.batch.now)) in
     subst N all (c.loop-shard.invariant.made place)
+
+pub returns-in_err-post_run-clause-full : goal.returns-in_err-post_run-clause-full
+returns-in_err-post_run-clause-full g c =
+    handed_on c.post_run.result c.from_residual.result c.in_err-post_run.field-0.0 _ _ _ c.in_err-post_run.was
+    (the_error c.from_residual.result c.in_err-post_run.field-0.0 c.from_residual.ensures.1) c.loop-shard.invariant.full c.post_run.ensures.full
+
+pub returns-clause-full : goal.returns-clause-full
+returns-clause-full g c = tells_ok tt _ _ c.loop-shard.invariant.full

@@ -1,4 +1,4 @@
-use Rattle.std.proofs.Common.{List, [], ◌++◌, ◌∷◌, map, Ok, Err, ◌≤◌, ◌+◌, ◌*◌, ◌<◌, ◌^◌, length, true, false, ap, ◌∙◌, sym, refl, subst, append_assoc, append-nil, arith}
+use Rattle.std.proofs.Common.{List, [], ◌++◌, ◌∷◌, map, Ok, Err, ◌≤◌, ◌+◌, ◌*◌, ◌<◌, ◌^◌, length, true, false, inl, ap, ◌∙◌, sym, refl, subst, append_assoc, append-nil, arith}
 use Rattle.std.proofs.lemmas.List.{map-append}
 use Rattle.tap_views.specs.Layout.{Tap}
 use Rattle.tap_views.specs.Files.{Item, IsReading, IsFile}
@@ -7,6 +7,7 @@ use Rattle.fare_service.specs.Halls.{shards_of}
 use Rattle.fare_service.proofs.VisitLemmas.{made_none}
 use Rattle.fare_service.proofs.TapCounts.{batches_taps}
 use Rattle.fare_service.proofs.ReadingLemmas.{same_items, read_all, read_fault, read_batch, done_room, posted_few, batches_more, batches_cut, cut_upload}
+use Rattle.fare_service.proofs.FullLemmas.{handed_on, tells_ok, the_error}
 use Rattle.fare_service.proofs.service.Service.post_batches.Goals as goal
 
 pub loop-item-init : goal.loop-item-init
@@ -19,6 +20,7 @@ loop-item-init g c =
       passes = c.requires.passes;
       clock = refl;
       cut = refl;
+      full = λ h. h;
       made = ([], refl, ([], made_none (shards_of c.args.self.now) c.args.posting.now.passes.items (sums_of c.args.posting.now.totals), refl));
     }
 
@@ -46,6 +48,7 @@ loop-item-preserved g c =
       passes = (c.in_ok-post_batch-in-Ok.ensures.made 0).1.books ∙ c.loop-item.invariant.passes;
       clock = c.in_ok-post_batch-in-Ok.ensures.clock ∙ c.loop-item.invariant.clock;
       cut = c.in_ok-post_batch-in-Ok.ensures.cut ∙ c.loop-item.invariant.cut;
+      full = λ h. c.in_ok-post_batch-in-Ok.ensures.full (inl (c.loop-item.invariant.full h));
       made = (
         made.0 ++ c.in-Ok.batch ∷ [],
         ap (λ ys. ys ++ c.in-Some.item ∷ []) made.1 ∙ (ap (λ i. map (λ (b : List Tap). Ok b) made.0 ++ i ∷ []) c.in-Ok.is ∙ sym (map-append (λ (b : List Tap). Ok b) made.0 (c.in-Ok.batch ∷ []))),
@@ -117,3 +120,14 @@ returns-clause-few g c =
     let room : 24 * batches_taps made.0 ≤ length c.args.file.now = done_room c.args.file.now made.0 [] read.0 (subst F (sym (append-nil made.0)) read.1) in
     let small : length c.args.file.now < 2 ^ 64 = omega (arith, c.bytes_in-bytes.ensures, c.bytes_in-bytes.type_inv) in
     posted_few shards c.args.posting.now.passes.items c.loop-item.posting.passes.items (sums_of c.args.posting.now.totals) (sums_of c.loop-item.posting.totals) made.2.0 c.args.file.now made.0 true made.2.1 made.2.2 room small
+
+pub returns-in_err-post_batch-in-Ok-clause-full : goal.returns-in_err-post_batch-in-Ok-clause-full
+returns-in_err-post_batch-in-Ok-clause-full g c =
+    handed_on c.post_batch.result c.from_residual.result c.in_err-post_batch-in-Ok.field-0.0 _ _ _ c.in_err-post_batch-in-Ok.was
+    (the_error c.from_residual.result c.in_err-post_batch-in-Ok.field-0.0 c.from_residual.ensures.1) c.loop-item.invariant.full c.post_batch.ensures.full
+
+pub returns-in-Err-clause-full : goal.returns-in-Err-clause-full
+returns-in-Err-clause-full g c = tells_ok _ _ _ c.loop-item.invariant.full
+
+pub returns-clause-full : goal.returns-clause-full
+returns-clause-full g c = tells_ok _ _ _ c.loop-item.invariant.full

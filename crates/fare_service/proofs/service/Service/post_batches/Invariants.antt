@@ -5,6 +5,7 @@ use Rattle.shard_book.specs.Sums.{sums_of}
 use Rattle.fare_service.specs.Halls.{shards_of}
 use Rattle.fare_service.specs.Runs.{runs_of}
 use Rattle.fare_service.specs.Shares.{books_of}
+use Rattle.fare_service.specs.Stopping.{SomeFull}
 use Rattle.fare_service.proofs.BatchLemmas.{Posts}
 use Rattle.fare_service.proofs.service.Service.post_batches.Given as goal
 
@@ -16,6 +17,7 @@ invariant-loop-item g l = record {
   passes : books_of l.posting.passes.items ≡ l.fn.self.books;
   clock : l.buffers.run.clock ≡ l.fn.buffers.run.clock;
   cut : length l.buffers.cut ≡ length l.fn.buffers.cut;
+  full : SomeFull l.fn.posting.passes.items → SomeFull l.posting.passes.items;
   made : (done : List (List Tap)) × (l.yielded ≡ map Ok done)
       × Posts (shards_of l.fn.self) l.fn.posting.passes.items l.posting.passes.items (sums_of l.fn.posting.totals) (sums_of l.posting.totals) (runs_of (shards_of l.fn.self) 0 done);
 }

@@ -1,4 +1,4 @@
-use Rattle.std.proofs.Common.{◌≡◌, ◌<◌, List, ◌++◌, length, map, sym, ◌∙◌, ap, subst, arith}
+use Rattle.std.proofs.Common.{◌≡◌, ◌<◌, List, inr, refl, ◌++◌, length, map, sym, ◌∙◌, ap, subst, arith}
 use Rattle.std.proofs.lemmas.List.{length-map}
 use Rattle.tap_views.specs.Layout.{Tap}
 use Rattle.tap_views.specs.Shards.{run_of, run_taps}
@@ -9,9 +9,11 @@ use Rattle.shard_book.specs.Entry.{reply_of}
 use Rattle.shard_book.specs.Sums.{sums_of, sums_of_replies, add_sums}
 use Rattle.shard_book.specs.Visits.{IsVisit, limits_by}
 use Rattle.shared_books.specs.Passes.{Knowledge}
+use Rattle.fare_service.specs.declared.working.Stop.TheVariants.{Memory}
 use Rattle.fare_service.specs.Halls.{shards_of}
 use Rattle.fare_service.proofs.RunVisits.{same_run, run_empty, run_refused, run_full, run_visited, visit_length, book_at}
 use Rattle.fare_service.proofs.VisitLemmas.{taps_after}
+use Rattle.fare_service.proofs.FullLemmas.{full_here, full_stays, is_full, own_grows, the_error, tells_ok, tells_refused, visits_full}
 use Rattle.fare_service.proofs.service.Service.post_run.Goals as goal
 
 pub returns-then-len-eq0-clause-made : goal.returns-then-len-eq0-clause-made
@@ -115,3 +117,39 @@ returns-in-Cut-clause-few g c =
     let items : c.visit.new.out.items ≡ map reply_of made.visit = made.items ∙ ap (λ xs. xs ++ map reply_of made.visit) (c.in_ok-reserve.ensures.items ∙ c.clear.ensures.items) in
     let more = ap (λ s. s.taps) c.count.ensures ∙ taps_after (sums_of c.args.posting.now.totals) c.visit.new.out.items in
     omega (arith, few, c.len-len.ensures.number, c.len-len.ensures.most, ap length items, length-map made.visit reply_of, more)
+
+pub returns-then-len-eq0-clause-full : goal.returns-then-len-eq0-clause-full
+returns-then-len-eq0-clause-full g c = tells_ok tt _ _ (λ h. h)
+
+pub returns-in_err-reserve-clause-full : goal.returns-in_err-reserve-clause-full
+returns-in_err-reserve-clause-full g c = tells_refused c.from_residual.result _ _ (the_error c.from_residual.result Memory c.from_residual.ensures.1) (λ h. h)
+
+pub returns-in_err-fill-clause-full : goal.returns-in_err-fill-clause-full
+returns-in_err-fill-clause-full g c = tells_refused c.from_residual-in_err-fill.result _ _ (the_error c.from_residual-in_err-fill.result Memory c.from_residual-in_err-fill.ensures.1) (λ h. h)
+
+pub returns-in_err-visit-clause-full : goal.returns-in_err-visit-clause-full
+returns-in_err-visit-clause-full g c =
+    let within : c.args.shard < length c.args.posting.now.passes.items =
+    omega (arith, c.requires.shard, ap length c.requires.passes, length-map c.args.posting.now.passes.items (λ (p : Knowledge). p.book)) in
+    λ h. full_here c.args.posting.now.passes.items c.args.shard c.visit.new.pass within (is_full c.visit.new.pass c.in_err-visit.ensures.full.1)
+
+pub returns-in-Whole-clause-full : goal.returns-in-Whole-clause-full
+returns-in-Whole-clause-full g c =
+    let within : c.args.shard < length c.args.posting.now.passes.items =
+    omega (arith, c.requires.shard, ap length c.requires.passes, length-map c.args.posting.now.passes.items (λ (p : Knowledge). p.book)) in
+    tells_ok tt _ _ (full_stays c.args.posting.now.passes.items c.args.shard c.index_mut.result.now c.visit.new.pass within c.index_mut.ensures.value
+    (visits_full c.index_mut.result.now c.visit.new.pass _ _ c.in_ok-visit.ensures.visit.stands))
+
+pub returns-in-Cut-clause-full : goal.returns-in-Cut-clause-full
+returns-in-Cut-clause-full g c =
+    let within : c.args.shard < length c.args.posting.now.passes.items =
+    omega (arith, c.requires.shard, ap length c.requires.passes, length-map c.args.posting.now.passes.items (λ (p : Knowledge). p.book)) in
+    tells_refused _ _ _ refl (full_stays c.args.posting.now.passes.items c.args.shard c.index_mut.result.now c.visit.new.pass within c.index_mut.ensures.value
+    (visits_full c.index_mut.result.now c.visit.new.pass _ _ c.in_ok-visit.ensures.visit.stands))
+
+pub returns-in-Cut-clause-memory : goal.returns-in-Cut-clause-memory
+returns-in-Cut-clause-memory g c =
+    let within : c.args.shard < length c.args.posting.now.passes.items =
+    omega (arith, c.requires.shard, ap length c.requires.passes, length-map c.args.posting.now.passes.items (λ (p : Knowledge). p.book)) in
+    λ is. inr (c.in_ok-visit.ensures.visit.visit,
+    own_grows c.args.posting.now.passes.items c.args.shard c.index_mut.result.now c.visit.new.pass _ _ within c.index_mut.ensures.value c.in_ok-visit.ensures.visit.stands)

@@ -1,12 +1,16 @@
-use Rattle.std.proofs.Common.{◌≡◌, length}
+use Rattle.std.proofs.Common.{◌≡◌, ◌+◌, ◌-◌, ◌≤◌, length, vec_len, vec_capacity}
+use Rattle.shard_book.specs.Sums.{sums_of}
 use Rattle.fare_service.specs.Halls.{shards_of}
-use Rattle.fare_service.specs.Shares.{IsShareOf, WentOn}
+use Rattle.fare_service.specs.Shares.{IsShareOf}
+use Rattle.fare_service.proofs.ShareLemmas.{holding}
+use Rattle.fare_service.proofs.StoppingLemmas.{Going}
 use Rattle.fare_service.proofs.service.Service.work.Given as goal
 
 abbrev pub invariant-loop : goal.invariant-loop
 invariant-loop g l = record {
-  share : IsShareOf l.fn.self l.share;
-  went_on : WentOn l.fn.self l.fn.share l.share;
+  share : IsShareOf l.fn.self (holding l.drawer l.posting.passes.items (sums_of l.posting.totals) l.done.items);
+  going : Going l.fn.self l.fn.share (holding l.drawer l.posting.passes.items (sums_of l.posting.totals) l.done.items);
   clock : l.buffers.run.clock ≡ l.fn.self.table.zone;
   cut : length l.buffers.cut ≡ shards_of l.fn.self;
+  room : vec_len l.done + (length l.fn.self.uploads - l.drawer.seen) ≤ vec_capacity l.done;
 }
