@@ -1,0 +1,94 @@
+//! The moment that a text tells.
+
+ghost use Rattle.std.specs.Prelude.{◌≡◌, ◌+◌, ◌/◌, ◌%◌, ◌<◌, ℕ, pos, IfSome, Some};
+ghost use Rattle.jiff_core.specs.declared.civil.date.Date.{Date};
+ghost use Rattle.jiff_core.specs.Date.{epoch_day};
+ghost use Rattle.jiff_fmt.specs.Text.{date_text};
+ghost use Rattle.fare_texts.specs.Moments.{IsMomentText, clock_text};
+
+use jiff_core::civil::Date;
+
+/// A day in milliseconds.
+const DAY: u64 = 86_400_000;
+
+/// The moment at which taps end, in milliseconds: 2100-01-01T00:00Z.
+const MOMENT_LIMIT: u64 = 4_102_444_800_000;
+
+/// The number of two decimal digits.
+fn two_digits(tens: u8, ones: u8) -> Option<u64>
+    ensures small { IfSome result (λ number. number < 100) }
+    ensures found { (number : ℕ) → number < 100 → tens ≡ 48 + number / 10
+        → ones ≡ 48 + number % 10 → result ≡ Some number }
+{
+    if tens.is_ascii_digit() && ones.is_ascii_digit() {
+        Some(u64::from(tens - b'0') * 10 + u64::from(ones - b'0'))
+    } else {
+        None
+    }
+}
+
+/// The day number of a date of the years 0 to 9999, where 1970-01-01 is 0; `None` before that.
+fn read_day(text: &[u8; 10]) -> Option<u64>
+    ensures small { IfSome result (λ day. day < 2_932_897) }
+    ensures found { (date : Date) (day : ℕ) → epoch_day date ≡ pos day
+        → text.now ≡ date_text date → result ≡ Some day }
+{
+    if text[4] != b'-' || text[7] != b'-' {
+        return None;
+    }
+    let century = two_digits(text[0], text[1])?;
+    let year = two_digits(text[2], text[3])?;
+    let month = two_digits(text[5], text[6])?;
+    let day = two_digits(text[8], text[9])?;
+    let date = Date::new((century * 100 + year) as i16, month as i8, day as i8).ok()?;
+    u64::try_from(date.to_unix_epoch_day()).ok()
+}
+
+/// The milliseconds since midnight of a time of day, as `T17:00:00.000Z`.
+fn read_clock(text: &[u8; 14]) -> Option<u64>
+    ensures small { IfSome result (λ ms. ms < 86_400_000) }
+    ensures found { (ms : ℕ) → ms < 86_400_000 → text.now ≡ clock_text ms → result ≡ Some ms }
+{
+    if text[0] != b'T'
+        || text[3] != b':'
+        || text[6] != b':'
+        || text[9] != b'.'
+        || text[13] != b'Z'
+    {
+        return None;
+    }
+    let hour = two_digits(text[1], text[2])?;
+    let minute = two_digits(text[4], text[5])?;
+    let second = two_digits(text[7], text[8])?;
+    let hundreds = two_digits(b'0', text[10])?;
+    let rest = two_digits(text[11], text[12])?;
+    if hour > 23 || minute > 59 || second > 59 {
+        return None;
+    }
+    Some(hour * 3_600_000 + minute * 60_000 + second * 1_000 + hundreds * 100 + rest)
+}
+
+/// The moment of a text as `2024-03-08T17:00:00.000Z`, in milliseconds since 1970-01-01T00:00Z, if
+/// a tap can have it. Every text of such a moment is read.
+pub(crate) fn read_moment(text: &[u8]) -> Option<u64>
+    ensures small { IfSome result (λ moment. moment < 4_102_444_800_000) }
+    ensures found { (moment : ℕ) → moment < 4_102_444_800_000 → IsMomentText moment text.now
+        → result ≡ Some moment }
+{
+    let moment = read_any_moment(text)?;
+    if moment < MOMENT_LIMIT {
+        Some(moment)
+    } else {
+        None
+    }
+}
+
+/// The same of any moment up to the year 9999.
+pub(crate) fn read_any_moment(text: &[u8]) -> Option<u64>
+    ensures found { (moment : ℕ) → moment < 253_402_207_200_000 → IsMomentText moment text.now
+        → result ≡ Some moment }
+{
+    let (date, clock) = text.split_first_chunk::<10>()?;
+    let clock = <&[u8; 14]>::try_from(clock).ok()?;
+    Some(read_day(date)? * DAY + read_clock(clock)?)
+}
