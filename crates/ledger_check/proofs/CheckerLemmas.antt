@@ -1,5 +1,5 @@
 -- What a check of a text in pieces finds, by what its parts found.
-use Rattle.std.proofs.Common.{◌≡◌, ◌≢◌, ℕ, ◌+◌, ◌<◌, ◌≤◌, Bool, true, false, cond, List, [], ◌∷◌, ◌++◌, length, Option, Some, None, codes, refl, sym, ap, subst, ◌∙◌, arith, append_assoc, append-nil, length-append, inl, inr, ⊎_elim}
+use Rattle.std.proofs.Common.{◌≡◌, ◌≢◌, ℕ, ◌+◌, ◌<◌, ◌≤◌, Bool, true, false, cond, List, [], ◌∷◌, ◌++◌, length, Option, Some, None, is_some, codes, refl, sym, ap, subst, ◌∙◌, arith, append_assoc, append-nil, length-append, inl, inr, ⊎_elim}
 use Rattle.std.proofs.lemmas.Bool.{cases_lt}
 use Rattle.fare_table.specs.Fares.{Fares}
 use Rattle.shard_book.specs.declared.entry.Entry.{Entry}
@@ -36,7 +36,7 @@ pub headed : (fares : Fares) (reading : Reading) (lines : List (List ℕ)) → r
 headed fares reading [] some taken = absurd (apart (sym some ∙ taken.0))
 headed fares reading (l ∷ lines) some taken = record { rest = lines; is = ap (λ (x : List ℕ). x ∷ lines) taken.1; read = taken.2 }
 
-pub first_wrong : (fares : Fares) (replay : Replay) (rest : List (List ℕ)) (line : List ℕ) (more : List (List ℕ)) (number : ℕ)
+abbrev pub first_wrong : (fares : Fares) (replay : Replay) (rest : List (List ℕ)) (line : List ℕ) (more : List (List ℕ)) (number : ℕ)
     → HasRead fares replay rest → number ≡ replay.lines + 2 → IsWrongAfter fares rest line
     → IsFirstWrong fares (head_text ∷ (rest ++ line ∷ more)) number
 first_wrong fares replay rest line more number read counted wrong = record {
@@ -204,15 +204,19 @@ pub fed_on : (fares : Fares) (after : Checker) (text consumed piece : List ℕ) 
     → IsFed fares after (text ++ (consumed ++ piece)) told
 fed_on fares after text consumed piece told fed = subst (λ (t : List ℕ). IsFed fares after t told) (append_assoc text consumed piece) fed
 
-pub told_early : (fares : Fares) (after : Checker) (text consumed line behind : List ℕ) (told : Option Verdict) (verdict : Verdict) → told ≡ Some verdict
+pub told_early : (fares : Fares) (after : Checker) (text consumed line behind : List ℕ) (told : Option Verdict) → is_some told ≡ true
     → IsFed fares after ((text ++ consumed) ++ line) told → IsFed fares after (text ++ (consumed ++ (line ++ behind))) told
-told_early fares after text consumed line behind told verdict some fed =
-    let whole : (more : List ℕ) → IsVerdict fares (((text ++ consumed) ++ line) ++ more) verdict = subst (IsFed fares after ((text ++ consumed) ++ line)) some fed in
-    subst (IsFed fares after (text ++ (consumed ++ (line ++ behind)))) (sym some)
-    (λ more. subst (λ (t : List ℕ). IsVerdict fares t verdict) (joined more) (whole (behind ++ more)))
+told_early fares after text consumed line behind None some fed = absurd (apart (sym some))
+told_early fares after text consumed line behind (Some verdict) some fed =
+    λ more. subst (λ (t : List ℕ). IsVerdict fares t verdict) (joined more) (fed (behind ++ more))
   where
     joined : (more : List ℕ) → ((text ++ consumed) ++ line) ++ (behind ++ more) ≡ (text ++ (consumed ++ (line ++ behind))) ++ more
     joined more = simp append_assoc
+
+pub fed_none : (fares : Fares) (after : Checker) (text : List ℕ) (told : Option Verdict) → is_some told ≡ false → IsFed fares after text told
+    → HasFed fares after text
+fed_none fares after text None none fed = fed
+fed_none fares after text (Some verdict) none fed = absurd (apart none)
 
 pub empty_list : (text : List ℕ) → length text ≤ 0 → text ≡ []
 empty_list [] none = refl

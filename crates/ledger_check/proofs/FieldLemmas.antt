@@ -1,5 +1,5 @@
 -- The fields with which a line begins: what they lack, and what they say.
-use Rattle.std.proofs.Common.{◌≡◌, ◌≢◌, ℕ, ◌+◌, ◌*◌, ◌/◌, ◌%◌, ◌^◌, ◌<◌, ◌≤◌, ℤ, pos, negsuc, ◌-ℤ◌, ◌<ℤ◌, ◌≤ℤ◌, Bool, true, false, List, [], ◌∷◌, ◌++◌, length, get_or, take, drop, append_assoc, refl, sym, ap, subst, ◌∙◌, arith, zero, suc, w64, Some, None, ⊎_elim}
+use Rattle.std.proofs.Common.{◌≡◌, ◌≢◌, ℕ, ◌+◌, ◌*◌, ◌/◌, ◌%◌, ◌^◌, ◌<◌, ◌≤◌, ℤ, pos, negsuc, ◌-ℤ◌, ◌<ℤ◌, ◌≤ℤ◌, Bool, true, false, List, [], ◌∷◌, ◌++◌, length, get_or, take, drop, length-drop, append_assoc, refl, sym, ap, subst, ◌∙◌, arith, zero, suc, w64, Some, None, ⊎_elim}
 use Rattle.std.proofs.lemmas.Bool.{cases_lt}
 use Rattle.std.proofs.lemmas.Bool.Decides.{nat_tests}
 use Rattle.std.proofs.lemmas.Int.{by_lt_z}
@@ -193,6 +193,12 @@ moment_parts moment text small is =
     let year = year_of civil_text.date (moment / 86_400_000) civil_text.day in
     let parts = parts_of text (clock_text (moment % 86_400_000)) civil_text.date year.0 year.1 civil_text.shown in
     record { date = civil_text.date; day = civil_text.day; date_is = parts.0; clock_is = parts.1 }
+
+pub clock_length : (moment : ℕ) (text : List ℕ) → MomentParts moment text → length (drop 10 text) ≡ 14
+clock_length moment text parts = ap (λ (t : List ℕ). length t) parts.clock_is
+
+pub moment_length : (moment : ℕ) (text : List ℕ) → MomentParts moment text → length text ≡ 24
+moment_length moment text parts = omega (arith, clock_length moment text parts, length-drop 10 text)
 
 -- the first fields of a line, and what stands behind them
 pub record FirstFields (token : Token) (number : ℕ) (entry : Entry) (line : List ℕ) : Type 0 where

@@ -147,7 +147,7 @@ impl Checker {
             return Ok(told);
         }
         self.part.extend_from_slice(line)?;
-        let told = self.reading.take(table, clock, &self.part)?;
+        let told = self.reading.take(table, clock, self.part.as_slice())?;
         self.part.clear();
         Ok(told)
     }

@@ -12,7 +12,7 @@ returns-then-not-self c = λ fares text fed.
     subst (IsVerdict fares text) (sym c.no_line.ensures)
     (elim c.then-not-self.branch [
       | then-not-self-via-then-not-self w ↦
-          let none : checker.reading.has_head ≡ false = first_of (w.if-not-self.true, not-true _ w.if-not-self.true) in
+          let none : checker.reading.has_head ≡ false = first_of (cc, search (rules, tests), grind (arith, nat_tests)) in
           ended_unheaded fares checker text fed none
       | then-not-self-via-else-not-self+then-not-is_empty w ↦
           let some : 0 < length checker.part.items = grind (arith, nat_tests, checker.part.ok.0) in
@@ -23,5 +23,5 @@ pub returns : goal.returns
 returns c = λ fares text fed.
     let checker = c.args.self.now in
     let none : length checker.part.items ≤ 0 = grind (arith, nat_tests, checker.part.ok.0) in
-    let some : checker.reading.has_head ≡ true = first_of (c.if-not-self.false, not-false _ c.if-not-self.false) in
+    let some : checker.reading.has_head ≡ true = first_of (cc, search (rules, tests), grind (arith, nat_tests)) in
     ended_whole fares checker text fed (empty_list checker.part.items none) some

@@ -13,6 +13,5 @@ returns-then-is_empty c = λ text fed.
 
 pub returns : goal.returns
 returns c = λ text fed.
-    let whole = c.extend_from_slice.new.self.items in
-    took_line c.args.table.now c.args.self.now _ text c.args.line.now whole _ fed c.requires.line
-    c.in_ok-extend_from_slice.ensures.items c.clear.ensures.items (c.in_ok-told-2.ensures fed.lines fed.taken)
+    took_line c.args.table.now c.args.self.now _ text c.args.line.now c.as_slice.result.now _ fed c.requires.line
+    (c.as_slice.ensures.value ∙ c.in_ok-extend_from_slice.ensures.items) c.clear.ensures.items (c.in_ok-told-2.ensures fed.lines fed.taken)
