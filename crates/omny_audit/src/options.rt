@@ -41,9 +41,9 @@ fn command<'a>(alloc: Global) -> Result<Command<'a>, AllocError> {
         .required(true)
         .action(ArgAction::Set)
         .help("The fare table, a TOML file");
-    let ledger = Arg::new(alloc, "LEDGER")
-        .action(ArgAction::Set)
-        .help("The ledger, a CSV file of any length [default: standard input, as -]");
+    let ledger = Arg::new(alloc, "LEDGER").action(ArgAction::Set).help(
+        "The ledger, a CSV file of any length [default: standard input, as -]",
+    );
     Command::new(alloc, "omny_audit")
         .version("1.0.0")
         .about(ABOUT)
