@@ -1,0 +1,231 @@
+-- What a check of a text in pieces finds, by what its parts found.
+use Rattle.std.proofs.Common.{◌≡◌, ◌≢◌, ℕ, ◌+◌, ◌<◌, ◌≤◌, Bool, true, false, cond, List, [], ◌∷◌, ◌++◌, length, Option, Some, None, is_some, codes, refl, sym, ap, subst, ◌∙◌, arith, append_assoc, append-nil, length-append, inl, inr, ⊎_elim}
+use Rattle.std.proofs.lemmas.Bool.{cases_lt}
+use Rattle.fare_table.specs.Fares.{Fares}
+use Rattle.shard_book.specs.declared.entry.Entry.{Entry}
+use Rattle.reason_texts.specs.Ledger.{head_text, line_head, entry_fields}
+use Rattle.ledger_check.specs.Ledger.{IsNext}
+use Rattle.ledger_check.specs.Lines.{IsLine, Lacks, lines_of}
+use Rattle.ledger_check.specs.Replays.{HasRead, IsStep, IsWanted, IsWrongAfter}
+use Rattle.ledger_check.specs.Verdicts.{HasFed, HasTaken, IsFed, IsFirstWrong, IsTaken, IsTrueOf, IsVerdict, number_after}
+use Rattle.ledger_check.specs.declared.checker.Checker.{Checker}
+use Rattle.ledger_check.specs.declared.checker.Reading.{Reading}
+use Rattle.ledger_check.specs.declared.checker.Verdict.{Verdict}
+use Rattle.ledger_check.specs.declared.checker.Verdict.TheVariants.{Legal, NoLine}
+use Rattle.ledger_check.specs.declared.replay.Replay.{Replay}
+use Rattle.ledger_check.proofs.LineLemmas.{Opens, lacks-append, lacks-end, lacks-last, lines-line, lines-open, lines-part}
+use Rattle.ledger_check.proofs.ReplayLemmas.{wrong, wrong_long}
+
+apart : true ≡ false → ⊥
+apart is = cc
+
+-- before the head line nothing was read
+pub no_head : (fares : Fares) (reading : Reading) (lines : List (List ℕ)) → reading.has_head ≡ false → HasTaken fares reading lines
+    → (lines ≡ []) × HasRead fares reading.replay []
+no_head fares reading [] none taken = (refl, taken.1)
+no_head fares reading (l ∷ lines) none taken = absurd (apart (sym taken.0 ∙ none))
+
+-- behind the head line stand the lines that were read
+pub record Headed (fares : Fares) (reading : Reading) (lines : List (List ℕ)) : Type 0 where
+  pub rest : List (List ℕ)
+  pub is : lines ≡ head_text ∷ rest
+  pub read : HasRead fares reading.replay rest
+
+pub headed : (fares : Fares) (reading : Reading) (lines : List (List ℕ)) → reading.has_head ≡ true → HasTaken fares reading lines
+    → Headed fares reading lines
+headed fares reading [] some taken = absurd (apart (sym some ∙ taken.0))
+headed fares reading (l ∷ lines) some taken = record { rest = lines; is = ap (λ (x : List ℕ). x ∷ lines) taken.1; read = taken.2 }
+
+abbrev pub first_wrong : (fares : Fares) (replay : Replay) (rest : List (List ℕ)) (line : List ℕ) (more : List (List ℕ)) (number : ℕ)
+    → HasRead fares replay rest → number ≡ replay.lines + 2 → IsWrongAfter fares rest line
+    → IsFirstWrong fares (head_text ∷ (rest ++ line ∷ more)) number
+first_wrong fares replay rest line more number read counted wrong = record {
+  before = rest;
+  line = line;
+  after = more;
+  cut = refl;
+  entries = read.entries;
+  are = read.are;
+  counted = counted ∙ ap (λ n. n + 2) read.counted;
+  wrong = wrong;
+}
+
+-- a line that is neither the head line nor can follow what was read
+pub no_line_true : (fares : Fares) (reading : Reading) (lines : List (List ℕ)) (line : List ℕ) (more : List (List ℕ)) → HasTaken fares reading lines
+    → line ≢ head_text → ((rest : List (List ℕ)) → HasRead fares reading.replay rest → IsWrongAfter fares rest line)
+    → IsTrueOf fares (lines ++ line ∷ more) (NoLine (number_after reading))
+no_line_true fares reading [] line more taken other wrong =
+    inl (ap (λ (b : Bool). cond b (reading.replay.lines + 2) 1) taken.0, λ others is. other (same_head line head_text more others is))
+  where
+    same_head : (a b : List ℕ) (xs ys : List (List ℕ)) → a ∷ xs ≡ b ∷ ys → a ≡ b
+    same_head a b xs ys is = cc
+no_line_true fares reading (l ∷ lines) line more taken other wrong =
+    inr (subst (λ (head : List ℕ). IsFirstWrong fares (head ∷ (lines ++ line ∷ more)) (number_after reading)) (sym taken.1)
+    (first_wrong fares reading.replay lines line more (number_after reading) taken.2
+    (ap (λ (b : Bool). cond b (reading.replay.lines + 2) 1) taken.0) (wrong lines taken.2)))
+
+-- the head line's length
+head_short : length head_text ≤ 255
+head_short = omega arith
+
+pub long_true : (fares : Fares) (reading : Reading) (lines : List (List ℕ)) (line : List ℕ) (more : List (List ℕ)) → HasTaken fares reading lines
+    → 255 < length line → IsTrueOf fares (lines ++ line ∷ more) (NoLine (number_after reading))
+long_true fares reading lines line more taken long =
+    no_line_true fares reading lines line more taken
+    (λ is. let same : length line ≤ 255 = subst (λ (l : List ℕ). length l ≤ 255) (sym is) head_short in absurd (omega arith))
+    (λ rest read. wrong_long fares reading.replay rest line read long)
+
+-- a ledger's line ends with a newline
+next_ends : (fares : Fares) (earlier : List Entry) (entry : Entry) (line : List ℕ) → IsNext fares earlier entry line → Lacks 10 line → ⊥
+next_ends fares earlier entry line is lacks =
+    let shown = is.shown in
+    let one = lacks-end 10 (line_head entry.token _) _ (subst (Lacks 10) shown.shown lacks) in
+    let two = lacks-end 10 shown.moment _ one in
+    let three = lacks-end 10 (entry_fields fares entry) _ two in
+    let four = lacks-end 10 shown.because (10 ∷ []) three in
+    four.0 refl
+
+head_ends : (line : List ℕ) → Lacks 10 line → line ≢ head_text
+head_ends line lacks is =
+    lacks-last 10 (codes "token,line,moment,validator,mode,answer,cents,window_start,window_end,ride,reason,points_at") line is lacks
+
+pub part_true : (fares : Fares) (reading : Reading) (lines : List (List ℕ)) (part : List ℕ) (more : List (List ℕ)) → HasTaken fares reading lines
+    → Lacks 10 part → IsTrueOf fares (lines ++ part ∷ more) (NoLine (number_after reading))
+part_true fares reading lines part more taken lacks =
+    no_line_true fares reading lines part more taken (head_ends part lacks)
+    (λ rest read. wrong fares reading.replay rest part read (λ entry is. next_ends fares read.entries entry part is lacks))
+
+-- a piece without a newline
+cut_more : (fares : Fares) (checker : Checker) (text piece : List ℕ) (fed : HasFed fares checker text) (more : List ℕ)
+    → lines_of ((text ++ piece) ++ more) ≡ fed.lines ++ lines_of ((checker.part.items ++ piece) ++ more)
+cut_more fares checker text piece fed more =
+    ap lines_of (append_assoc text piece more) ∙ fed.cut (piece ++ more)
+    ∙ ap (λ (t : List ℕ). fed.lines ++ lines_of t) (sym (append_assoc checker.part.items piece more))
+
+pub kept : (fares : Fares) (checker after : Checker) (text piece : List ℕ) → HasFed fares checker text → Lacks 10 piece
+    → after.reading ≡ checker.reading → after.part.items ≡ checker.part.items ++ piece → length after.part.items ≤ 255
+    → HasFed fares after (text ++ piece)
+kept fares checker after text piece fed lacks same part short = record {
+  lines = fed.lines;
+  taken = subst (λ (r : Reading). HasTaken fares r fed.lines) (sym same) fed.taken;
+  cut = λ more. cut_more fares checker text piece fed more ∙ ap (λ (p : List ℕ). fed.lines ++ lines_of (p ++ more)) (sym part);
+  lacks = subst (Lacks 10) (sym part) (lacks-append 10 checker.part.items piece fed.lacks lacks);
+  short = short;
+}
+
+pub too_long : (fares : Fares) (checker : Checker) (text piece whole : List ℕ) → HasFed fares checker text → Lacks 10 piece
+    → whole ≡ checker.part.items ++ piece → 255 < length whole
+    → (more : List ℕ) → IsVerdict fares ((text ++ piece) ++ more) (NoLine (number_after checker.reading))
+too_long fares checker text piece whole fed lacks part long more =
+    let joined = checker.part.items ++ piece in
+    let size : 255 < length joined = subst (λ (p : List ℕ). 255 < length p) part long in
+    let opens = lines-open joined more (lacks-append 10 checker.part.items piece fed.lacks lacks) (omega arith) in
+    let line = joined ++ opens.rest in
+    subst (λ (ls : List (List ℕ)). IsTrueOf fares ls (NoLine (number_after checker.reading)))
+    (sym (cut_more fares checker text piece fed more ∙ ap (λ (ls : List (List ℕ)). fed.lines ++ ls) opens.is))
+    (long_true fares checker.reading fed.lines line opens.after fed.taken (omega (arith, length-append joined opens.rest)))
+
+-- a piece that ends a line
+line_cut : (fares : Fares) (checker : Checker) (text line : List ℕ) (fed : HasFed fares checker text) → IsLine line → (more : List ℕ)
+    → lines_of ((text ++ line) ++ more) ≡ fed.lines ++ (checker.part.items ++ line) ∷ lines_of more
+line_cut fares checker text line fed is more =
+    let part = checker.part.items in
+    let whole : part ++ line ≡ (part ++ is.front) ++ 10 ∷ [] = ap (λ (l : List ℕ). part ++ l) is.shown ∙ sym (append_assoc part is.front (10 ∷ [])) in
+    let split : (part ++ line) ++ more ≡ (part ++ is.front) ++ 10 ∷ more = ap (λ (l : List ℕ). l ++ more) whole ∙ append_assoc (part ++ is.front) (10 ∷ []) more in
+    cut_more fares checker text line fed more
+    ∙ ap (λ (t : List ℕ). fed.lines ++ lines_of t) split
+    ∙ ap (λ (ls : List (List ℕ)). fed.lines ++ ls) (lines-line (part ++ is.front) more (lacks-append 10 part is.front fed.lacks is.lacks))
+    ∙ ap (λ (l : List ℕ). fed.lines ++ l ∷ lines_of more) (sym whole)
+
+pub took_line : (fares : Fares) (checker after : Checker) (text line whole : List ℕ) (told : Option Verdict) → (fed : HasFed fares checker text) → IsLine line
+    → whole ≡ checker.part.items ++ line → after.part.items ≡ [] → IsTaken fares after.reading fed.lines whole told
+    → IsFed fares after (text ++ line) told
+took_line fares checker after text line whole None fed is joined empty taken = record {
+  lines = fed.lines ++ whole ∷ [];
+  taken = taken;
+  cut = λ more.
+      line_cut fares checker text line fed is more
+      ∙ ap (λ (l : List ℕ). fed.lines ++ l ∷ lines_of more) (sym joined)
+      ∙ sym (append_assoc fed.lines (whole ∷ []) (lines_of more))
+      ∙ ap (λ (p : List ℕ). (fed.lines ++ whole ∷ []) ++ lines_of (p ++ more)) (sym empty);
+  lacks = subst (Lacks 10) (sym empty) tt;
+  short = subst (λ (p : List ℕ). length p ≤ 255) (sym empty) (omega arith);
+}
+took_line fares checker after text line whole (Some verdict) fed is joined empty taken = λ more.
+    subst (λ (ls : List (List ℕ)). IsTrueOf fares ls verdict)
+    (sym (line_cut fares checker text line fed is more ∙ ap (λ (l : List ℕ). fed.lines ++ l ∷ lines_of more) (sym joined)))
+    (taken (lines_of more))
+
+-- the text ends
+whole_cut : (fares : Fares) (checker : Checker) (text : List ℕ) (fed : HasFed fares checker text) → lines_of text ≡ fed.lines ++ lines_of checker.part.items
+whole_cut fares checker text fed =
+    ap lines_of (sym (append-nil text)) ∙ fed.cut [] ∙ ap (λ (p : List ℕ). fed.lines ++ lines_of p) (append-nil checker.part.items)
+
+pub ended_in_part : (fares : Fares) (checker : Checker) (text : List ℕ) → HasFed fares checker text → 0 < length checker.part.items
+    → IsVerdict fares text (NoLine (number_after checker.reading))
+ended_in_part fares checker text fed some =
+    let part = checker.part.items in
+    subst (λ (ls : List (List ℕ)). IsTrueOf fares ls (NoLine (number_after checker.reading)))
+    (sym (whole_cut fares checker text fed ∙ ap (λ (ls : List (List ℕ)). fed.lines ++ ls) (lines-part part fed.lacks some)))
+    (part_true fares checker.reading fed.lines part [] fed.taken fed.lacks)
+
+ended_at_line : (fares : Fares) (checker : Checker) (text : List ℕ) (fed : HasFed fares checker text) → checker.part.items ≡ [] → lines_of text ≡ fed.lines
+unfolding lines_of
+ended_at_line fares checker text fed empty =
+    whole_cut fares checker text fed ∙ ap (λ (p : List ℕ). fed.lines ++ lines_of p) empty ∙ append-nil fed.lines
+
+pub ended_headless : (fares : Fares) (checker : Checker) (text : List ℕ) → HasFed fares checker text → checker.part.items ≡ []
+    → checker.reading.has_head ≡ false → IsVerdict fares text (NoLine (number_after checker.reading))
+ended_headless fares checker text fed empty none =
+    let first = no_head fares checker.reading fed.lines none fed.taken in
+    inl (
+      ap (λ (b : Bool). cond b (checker.reading.replay.lines + 2) 1) none,
+      λ others is.
+          nothing others (sym (ended_at_line fares checker text fed empty ∙ first.0) ∙ is),
+    )
+  where
+    nothing : (others : List (List ℕ)) → [] ≡ head_text ∷ others → ⊥
+    nothing others is = cc
+
+pub ended_whole : (fares : Fares) (checker : Checker) (text : List ℕ) → HasFed fares checker text → checker.part.items ≡ []
+    → checker.reading.has_head ≡ true → IsVerdict fares text (Legal checker.reading.replay.lines)
+ended_whole fares checker text fed empty some =
+    let head = headed fares checker.reading fed.lines some fed.taken in
+    record {
+      others = head.rest;
+      cut = ended_at_line fares checker text fed empty ∙ head.is;
+      entries = head.read.entries;
+      are = head.read.are;
+      counted = head.read.counted;
+    }
+
+-- a piece after a piece
+pub fed_on : (fares : Fares) (after : Checker) (text consumed piece : List ℕ) (told : Option Verdict) → IsFed fares after ((text ++ consumed) ++ piece) told
+    → IsFed fares after (text ++ (consumed ++ piece)) told
+fed_on fares after text consumed piece told fed = subst (λ (t : List ℕ). IsFed fares after t told) (append_assoc text consumed piece) fed
+
+pub told_early : (fares : Fares) (after : Checker) (text consumed line behind : List ℕ) (told : Option Verdict) → is_some told ≡ true
+    → IsFed fares after ((text ++ consumed) ++ line) told → IsFed fares after (text ++ (consumed ++ (line ++ behind))) told
+told_early fares after text consumed line behind None some fed = absurd (apart (sym some))
+told_early fares after text consumed line behind (Some verdict) some fed =
+    λ more. subst (λ (t : List ℕ). IsVerdict fares t verdict) (joined more) (fed (behind ++ more))
+  where
+    joined : (more : List ℕ) → ((text ++ consumed) ++ line) ++ (behind ++ more) ≡ (text ++ (consumed ++ (line ++ behind))) ++ more
+    joined more = simp append_assoc
+
+pub fed_none : (fares : Fares) (after : Checker) (text : List ℕ) (told : Option Verdict) → is_some told ≡ false → IsFed fares after text told
+    → HasFed fares after text
+fed_none fares after text None none fed = fed
+fed_none fares after text (Some verdict) none fed = absurd (apart none)
+
+pub empty_list : (text : List ℕ) → length text ≤ 0 → text ≡ []
+empty_list [] none = refl
+empty_list (b ∷ text) none = absurd (omega arith)
+
+pub ended_unheaded : (fares : Fares) (checker : Checker) (text : List ℕ) → HasFed fares checker text
+    → checker.reading.has_head ≡ false → IsVerdict fares text (NoLine (number_after checker.reading))
+ended_unheaded fares checker text fed none =
+    ⊎_elim
+    (λ (some : 0 < length checker.part.items). ended_in_part fares checker text fed some)
+    (λ (empty : length checker.part.items ≤ 0). ended_headless fares checker text fed (empty_list checker.part.items empty) none)
+    (cases_lt 0 (length checker.part.items))

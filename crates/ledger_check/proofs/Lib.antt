@@ -1,0 +1,10 @@
+pub mod CheckerLemmas
+pub mod EntryLists
+pub mod FieldLemmas
+pub mod LineLemmas
+pub mod MomentLemmas
+pub mod ReplayLemmas
+pub mod SameLines
+pub mod TokenOrder
+pub mod TurnLemmas
+pub mod VerdictLemmas

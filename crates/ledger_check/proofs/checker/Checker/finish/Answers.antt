@@ -1,0 +1,27 @@
+use Rattle.std.proofs.Common.{◌≡◌, ◌<◌, ◌≤◌, true, false, length, sym, subst, arith, tests, rules}
+use Rattle.std.proofs.lemmas.Bool.{not-false, not-true}
+use Rattle.std.proofs.lemmas.Bool.Decides.{nat_tests}
+use Rattle.ledger_check.specs.Verdicts.{IsVerdict}
+use Rattle.ledger_check.proofs.CheckerLemmas.{empty_list, ended_in_part, ended_unheaded, ended_whole}
+use Rattle.ledger_check.proofs.checker.Checker.finish.Goals as goal
+use Rattle.ledger_check.proofs.checker.Checker.finish.Goals.{then-not-self-via-then-not-self, then-not-self-via-else-not-self+then-not-is_empty}
+
+pub returns-then-not-self : goal.returns-then-not-self
+returns-then-not-self c = λ fares text fed.
+    let checker = c.args.self.now in
+    subst (IsVerdict fares text) (sym c.no_line.ensures)
+    (elim c.then-not-self.branch [
+      | then-not-self-via-then-not-self w ↦
+          let none : checker.reading.has_head ≡ false = first_of (cc, search (rules, tests), grind (arith, nat_tests)) in
+          ended_unheaded fares checker text fed none
+      | then-not-self-via-else-not-self+then-not-is_empty w ↦
+          let some : 0 < length checker.part.items = grind (arith, nat_tests, checker.part.ok.0) in
+          ended_in_part fares checker text fed some
+    ])
+
+pub returns : goal.returns
+returns c = λ fares text fed.
+    let checker = c.args.self.now in
+    let none : length checker.part.items ≤ 0 = grind (arith, nat_tests, checker.part.ok.0) in
+    let some : checker.reading.has_head ≡ true = first_of (cc, search (rules, tests), grind (arith, nat_tests)) in
+    ended_whole fares checker text fed (empty_list checker.part.items none) some

@@ -1,0 +1,13 @@
+use Rattle.std.proofs.Common.{ℕ, List, [], ◌++◌, ◌≤◌, length, refl, sym, ap, subst, arith}
+use Rattle.ledger_check.specs.Lines.{Lacks, lines_of}
+use Rattle.ledger_check.proofs.checker.Checker.new.Goals as goal
+
+pub returns : goal.returns
+returns c = λ fares.
+    let empty = c.new-3.ensures.items in record {
+      lines = [];
+      taken = (refl, c.new.ensures fares);
+      cut = λ more. ap (λ (p : List ℕ). lines_of (p ++ more)) (sym empty);
+      lacks = subst (Lacks 10) (sym empty) tt;
+      short = subst (λ (p : List ℕ). length p ≤ 255) (sym empty) (omega arith);
+    }

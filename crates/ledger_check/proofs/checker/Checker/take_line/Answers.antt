@@ -1,0 +1,17 @@
+use Rattle.std.proofs.Common.{◌≡◌, ◌<◌, ◌≤◌, ◌++◌, List, ℕ, [], length, refl, sym, ap, ◌∙◌, arith}
+use Rattle.std.proofs.lemmas.Bool.Decides.{nat_tests}
+use Rattle.ledger_check.proofs.CheckerLemmas.{empty_list, took_line}
+use Rattle.ledger_check.proofs.checker.Checker.take_line.Goals as goal
+
+pub returns-then-is_empty : goal.returns-then-is_empty
+returns-then-is_empty c = λ text fed.
+    let checker = c.args.self.now in
+    let none : length checker.part.items ≤ 0 = grind (arith, nat_tests, checker.part.ok.0) in
+    let empty = empty_list checker.part.items none in
+    took_line c.args.table.now checker _ text c.args.line.now c.args.line.now _ fed c.requires.line
+    (ap (λ (p : List ℕ). p ++ c.args.line.now) (sym empty)) empty (c.in_ok-told.ensures fed.lines fed.taken)
+
+pub returns : goal.returns
+returns c = λ text fed.
+    took_line c.args.table.now c.args.self.now _ text c.args.line.now c.as_slice.result.now _ fed c.requires.line
+    (c.as_slice.ensures.value ∙ c.in_ok-extend_from_slice.ensures.items) c.clear.ensures.items (c.in_ok-told-2.ensures fed.lines fed.taken)

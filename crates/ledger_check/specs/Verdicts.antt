@@ -1,0 +1,90 @@
+-- What a check tells of a ledger's text.
+use Rattle.std.specs.Prelude.{◌≡◌, ◌↔◌, ℕ, ◌+◌, ◌≤◌, if◌then◌else◌, Bool, true, false, List, [], ◌∷◌, ◌++◌, length, Option, Some, None, IsTrue, string_bytes, ◌⊎◌}
+use Rattle.fare_table.specs.Fares.{Fares}
+use Rattle.shard_book.specs.declared.entry.Entry.{Entry}
+use Rattle.reason_texts.specs.Ledger.{head_text}
+use Rattle.ledger_check.specs.Ledger.{AreNext, IsLedger}
+use Rattle.ledger_check.specs.Lines.{Lacks, lines_of}
+use Rattle.ledger_check.specs.Replays.{HasRead, IsWanted, IsWrongAfter}
+use Rattle.ledger_check.specs.declared.checker.Checker.{Checker}
+use Rattle.ledger_check.specs.declared.checker.Reading.{Reading}
+use Rattle.ledger_check.specs.declared.checker.Verdict.{Verdict}
+use Rattle.ledger_check.specs.declared.checker.Verdict.TheVariants.{Legal, Wants, NoLine}
+
+-- the lines begin with those of a ledger's beginning, and the next one, which has this number, stands in no ledger there
+pub record IsFirstWrong (fares : Fares) (lines : List (List ℕ)) (number : ℕ) : Type 0 where
+  pub before : List (List ℕ)
+  pub line : List ℕ
+  pub after : List (List ℕ)
+  pub cut : lines ≡ head_text ∷ (before ++ line ∷ after)
+  pub entries : List Entry
+  pub are : AreNext fares [] entries before
+  pub counted : number ≡ length entries + 2
+  pub wrong : IsWrongAfter fares before line
+
+-- the first line is not the head line
+abbrev pub IsHeadless : List (List ℕ) → Type 0
+IsHeadless lines = (others : List (List ℕ)) → lines ≡ head_text ∷ others → ⊥
+
+-- the lines are a ledger's of so many entries
+pub record IsWhole (fares : Fares) (lines : List (List ℕ)) (number : ℕ) : Type 0 where
+  pub others : List (List ℕ)
+  pub cut : lines ≡ head_text ∷ others
+  pub entries : List Entry
+  pub are : AreNext fares [] entries others
+  pub counted : number ≡ length entries
+
+-- the first wrong line, and the line that a ledger can have in its place
+pub record IsFirstWanted (fares : Fares) (lines : List (List ℕ)) (number : ℕ) (wanted : List ℕ) : Type 0 where
+  pub first : IsFirstWrong fares lines number
+  pub is : IsWanted fares first.before wanted
+
+-- what is told is true of the lines
+abbrev pub IsTrueOf : Fares → List (List ℕ) → Verdict → Type 0
+IsTrueOf fares lines (Legal number) = IsWhole fares lines number
+IsTrueOf fares lines (Wants number wanted) = IsFirstWanted fares lines number (string_bytes wanted)
+IsTrueOf fares lines (NoLine number) = ((number ≡ 1) × IsHeadless lines) ⊎ IsFirstWrong fares lines number
+
+-- what is told is true of the text
+abbrev pub IsVerdict : Fares → List ℕ → Verdict → Type 0
+IsVerdict fares text verdict = IsTrueOf fares (lines_of text) verdict
+
+abbrev pub is_legal : Verdict → Bool
+is_legal (Legal number) = true
+is_legal (Wants number wanted) = false
+is_legal (NoLine number) = false
+
+-- a true verdict says `legal` exactly where the text is a ledger
+abbrev pub VerdictsDecide : Type 0
+VerdictsDecide =
+    (fares : Fares) (text : List ℕ) (verdict : Verdict) → IsVerdict fares text verdict
+    → IsTrue (is_legal verdict) ↔ IsLedger fares text
+
+-- these lines were read, the head line first
+abbrev pub HasTaken : Fares → Reading → List (List ℕ) → Type 0
+HasTaken fares reading [] = (reading.has_head ≡ false) × HasRead fares reading.replay []
+HasTaken fares reading (line ∷ lines) =
+    (reading.has_head ≡ true) × (line ≡ head_text) × HasRead fares reading.replay lines
+
+-- the number of the next line
+abbrev pub number_after : Reading → ℕ
+number_after reading = if reading.has_head then reading.replay.lines + 2 else 1
+
+-- one line more was read, or what is told is true of the lines, whatever follows
+abbrev pub IsTaken : Fares → Reading → List (List ℕ) → List ℕ → Option Verdict → Type 0
+IsTaken fares after lines line None = HasTaken fares after (lines ++ line ∷ [])
+IsTaken fares after lines line (Some verdict) =
+    (more : List (List ℕ)) → IsTrueOf fares (lines ++ line ∷ more) verdict
+
+-- the checker has read this text and found no wrong line: these whole lines, and a part of the next one
+pub record HasFed (fares : Fares) (checker : Checker) (text : List ℕ) : Type 0 where
+  pub lines : List (List ℕ)
+  pub taken : HasTaken fares checker.reading lines
+  pub cut : (more : List ℕ) → lines_of (text ++ more) ≡ lines ++ lines_of (checker.part.items ++ more)
+  pub lacks : Lacks 10 checker.part.items
+  pub short : length checker.part.items ≤ 255
+
+-- the text was read and no wrong line found, or what is told is true of the text, whatever follows
+abbrev pub IsFed : Fares → Checker → List ℕ → Option Verdict → Type 0
+IsFed fares after text None = HasFed fares after text
+IsFed fares after text (Some verdict) = (more : List ℕ) → IsVerdict fares (text ++ more) verdict

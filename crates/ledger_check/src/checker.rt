@@ -1,0 +1,180 @@
+//! The check of a text that comes in pieces.
+
+ghost use Rattle.std.specs.Prelude.{◌≡◌, ◌++◌, [], ℕ, List, IfOk};
+ghost use Rattle.fare_table.specs.Fares.{Fares};
+ghost use Rattle.ledger_check.specs.Lines.{IsLine, Lacks};
+ghost use Rattle.ledger_check.specs.Verdicts.{HasFed, HasTaken, IsFed, IsTaken, IsVerdict, number_after};
+ghost use Rattle.ledger_check.specs.declared.checker.Verdict.TheVariants.{NoLine};
+
+use crate::bytes::{same_bytes, split_line};
+use crate::replay::{LONGEST, Replay, Step};
+use fare_table::{Clock, FareTable, NoMemory};
+use reason_texts::head_line;
+use std::alloc::Global;
+
+/// What a check tells of a text. Lines count from 1, the head line.
+#[derive(Drop)]
+pub enum Verdict {
+    /// The text is the ledger of so many entries.
+    Legal(u64),
+    /// The line of this number is the first that no ledger has there. Its tap should have this line,
+    /// with the newline.
+    Wants(u64, String),
+    /// The line of this number is the first that no ledger has there.
+    NoLine(u64),
+}
+
+/// The lines read so far, the head line first.
+#[derive(Drop)]
+struct Reading {
+    has_head: bool,
+    replay: Replay,
+    /// The line that the last tap should have.
+    wanted: String,
+}
+
+impl Reading {
+    /// The next line is no ledger line.
+    fn no_line(&self) -> Verdict
+        requires { (fares : Fares) × (lines : List (List ℕ)) × HasTaken fares self.now lines }
+        ensures { result ≡ NoLine (number_after self.now) }
+    {
+        if self.has_head {
+            Verdict::NoLine(self.replay.lines + 2)
+        } else {
+            Verdict::NoLine(1)
+        }
+    }
+
+    /// Reads the next whole line.
+    fn take(
+        &mut self,
+        table: &FareTable,
+        clock: &Clock,
+        line: &[u8],
+    ) -> Result<Option<Verdict>, NoMemory>
+        requires clock { clock.now ≡ table.now.zone }
+        requires taken { (lines : List (List ℕ)) × HasTaken table.now self.old lines }
+        ensures { IfOk result (λ told. (lines : List (List ℕ)) → HasTaken table.now self.old lines
+            → IsTaken table.now self.new lines line.now told) }
+    {
+        if !self.has_head {
+            if !same_bytes(line, head_line().as_bytes()) {
+                return Ok(Some(Verdict::NoLine(1)));
+            }
+            self.has_head = true;
+            return Ok(None);
+        }
+        let number = self.replay.lines + 2;
+        match self.replay.next(table, clock, line, &mut self.wanted)? {
+            Step::Legal => Ok(None),
+            Step::Wants => Ok(Some(Verdict::Wants(number, self.wanted.clone()?))),
+            Step::NoLine => Ok(Some(Verdict::NoLine(number))),
+        }
+    }
+}
+
+/// A check under one fare table of a text that comes in pieces. It keeps no more of the text than
+/// the beginning of a line.
+#[derive(Drop)]
+pub struct Checker {
+    reading: Reading,
+    /// The beginning of the line whose end has not come yet.
+    part: Vec<u8>,
+}
+
+impl Checker {
+    /// Nothing was read.
+    pub fn new(alloc: Global) -> Checker
+        ensures { (fares : Fares) → HasFed fares result [] }
+    {
+        Checker {
+            reading: Reading {
+                has_head: false,
+                replay: Replay::new(),
+                wanted: String::new(alloc),
+            },
+            part: Vec::new(alloc),
+        }
+    }
+
+    /// Reads the next piece of the text. A verdict, if there is one, tells the first wrong line,
+    /// whatever follows the piece; the checker is of no use then, nor after an error. The clock is
+    /// the table's, and the table is the same in all calls.
+    pub fn feed(
+        &mut self,
+        table: &FareTable,
+        clock: &Clock,
+        piece: &[u8],
+    ) -> Result<Option<Verdict>, NoMemory>
+        requires clock { clock.now ≡ table.now.zone }
+        requires fed { (text : List ℕ) × HasFed table.now self.old text }
+
+        // After every text that was read so far.
+        ensures { IfOk result (λ told. (text : List ℕ) → HasFed table.now self.old text
+            → IsFed table.now self.new (text ++ piece.now) told) }
+    {
+        let mut rest = piece;
+        while !rest.is_empty() {
+            let Some((line, behind)) = split_line(rest) else {
+                let told = self.keep(rest)?;
+                return Ok(told);
+            };
+            let told = self.take_line(table, clock, line)?;
+            if told.is_some() {
+                return Ok(told);
+            }
+            rest = behind;
+        }
+        Ok(None)
+    }
+
+    /// Reads the rest of a line, with its newline.
+    fn take_line(
+        &mut self,
+        table: &FareTable,
+        clock: &Clock,
+        line: &[u8],
+    ) -> Result<Option<Verdict>, NoMemory>
+        requires clock { clock.now ≡ table.now.zone }
+        requires fed { (text : List ℕ) × HasFed table.now self.old text }
+        requires line { IsLine line.now }
+        ensures { IfOk result (λ told. (text : List ℕ) → HasFed table.now self.old text
+            → IsFed table.now self.new (text ++ line.now) told) }
+    {
+        if self.part.is_empty() {
+            let told = self.reading.take(table, clock, line)?;
+            return Ok(told);
+        }
+        self.part.extend_from_slice(line)?;
+        let told = self.reading.take(table, clock, self.part.as_slice())?;
+        self.part.clear();
+        Ok(told)
+    }
+
+    /// Keeps the beginning of a line, or tells that it is too long.
+    fn keep(&mut self, rest: &[u8]) -> Result<Option<Verdict>, NoMemory>
+        requires fed { (fares : Fares) × (text : List ℕ) × HasFed fares self.old text }
+        requires rest { Lacks 10 rest.now }
+        ensures { IfOk result (λ told. (fares : Fares) (text : List ℕ) → HasFed fares self.old text
+            → IsFed fares self.new (text ++ rest.now) told) }
+    {
+        self.part.extend_from_slice(rest)?;
+        if self.part.len() > LONGEST {
+            return Ok(Some(self.reading.no_line()));
+        }
+        Ok(None)
+    }
+
+    /// The verdict on the text that was read, which ends here.
+    pub fn finish(&self) -> Verdict
+        requires fed { (fares : Fares) × (text : List ℕ) × HasFed fares self.now text }
+        ensures { (fares : Fares) (text : List ℕ) → HasFed fares self.now text
+            → IsVerdict fares text result }
+    {
+        if !self.reading.has_head || !self.part.is_empty() {
+            return self.reading.no_line();
+        }
+        Verdict::Legal(self.reading.replay.lines)
+    }
+}

@@ -1,0 +1,99 @@
+//! Whether a line has the form of a ledger's line.
+//!
+//! This decides only how a line is called that no ledger has there: one that wants another line, or
+//! no ledger line at all. Nothing is promised of it.
+
+use crate::bytes::field;
+use crate::moment::{read_any_moment, read_moment};
+
+/// Twelve fields with the newline behind them, each a text of its kind within its range. What
+/// [`read_tap`](crate::tap::read_tap) reads of the first four is not looked at again.
+pub(crate) fn has_form(line: &[u8]) -> bool {
+    match line.split_last() {
+        Some((b'\n', fields)) => has_first_fields(fields).is_some(),
+        _ => false,
+    }
+}
+
+/// The token, the number, the moment and the validator.
+fn has_first_fields(fields: &[u8]) -> Option<()> {
+    let (token, rest) = field(fields)?;
+    let (number, rest) = field(rest)?;
+    let (_moment, rest) = field(rest)?;
+    let (validator, rest) = field(rest)?;
+    if is_token(token) && is_number(number) && is_small_number(validator) {
+        has_answer(rest)
+    } else {
+        None
+    }
+}
+
+/// The mode, the answer and the cents.
+fn has_answer(fields: &[u8]) -> Option<()> {
+    let (mode, rest) = field(fields)?;
+    let (answer, rest) = field(rest)?;
+    let (cents, rest) = field(rest)?;
+    if is_word(mode) && is_word(answer) && is_small_number(cents) {
+        has_reason(rest)
+    } else {
+        None
+    }
+}
+
+/// The window, the ride, the reason and the moment to which it points.
+fn has_reason(fields: &[u8]) -> Option<()> {
+    let (start, rest) = field(fields)?;
+    let (end, rest) = field(rest)?;
+    let (ride, rest) = field(rest)?;
+    let (reason, points_at) = field(rest)?;
+    let has_window = is_moment(start) && (end.is_empty() || read_any_moment(end).is_some());
+    let has_ride = (ride.is_empty() || is_small_number(ride)) && is_word(reason);
+    if has_window && has_ride && is_moment(points_at) {
+        Some(())
+    } else {
+        None
+    }
+}
+
+/// Whether the text is 32 hexadecimal digits of the lower case.
+fn is_token(text: &[u8]) -> bool {
+    text.len() == 32
+        && text
+            .iter()
+            .all(|byte| matches!(*byte, b'0'..=b'9' | b'a'..=b'f'))
+}
+
+/// Whether the text is a number as a ledger has it, of at most 64 bits.
+fn is_number(text: &[u8]) -> bool {
+    match std::str::from_utf8(text) {
+        Ok(digits) => is_written_so(text) && digits.parse::<u64>().is_ok(),
+        Err(_) => false,
+    }
+}
+
+/// Whether the text is a number as a ledger has it, of at most 32 bits.
+fn is_small_number(text: &[u8]) -> bool {
+    match std::str::from_utf8(text) {
+        Ok(digits) => is_written_so(text) && digits.parse::<u32>().is_ok(),
+        Err(_) => false,
+    }
+}
+
+/// Whether the text has no sign, and no zero before a number.
+fn is_written_so(text: &[u8]) -> bool {
+    match text.first() {
+        Some(b'0') => text.len() == 1,
+        Some(b'1'..=b'9') => true,
+        _ => false,
+    }
+}
+
+/// Whether the text is a word of at most 16 letters and hyphens, or nothing.
+fn is_word(text: &[u8]) -> bool {
+    text.len() <= 16 && text.iter().all(|byte| matches!(*byte, b'a'..=b'z' | b'-'))
+}
+
+/// Whether the text is the moment of a tap, or nothing.
+fn is_moment(text: &[u8]) -> bool {
+    text.is_empty() || read_moment(text).is_some()
+}

@@ -1,0 +1,18 @@
+//! A check of a ledger's text: whether it is, whole, the ledger of legal histories under a fare
+//! table, and else which line is the first that no such ledger has there.
+//!
+//! It trusts nobody who wrote the text. It reads each line's tap, steps the account of its token,
+//! prints the line that the tap should have, and compares the bytes. It keeps one account and at
+//! most 255 bytes of the text.
+#![tactic(auto)]
+
+mod bytes;
+mod checker;
+mod form;
+pub mod laws;
+mod moment;
+mod replay;
+mod tap;
+mod turn;
+
+pub use checker::{Checker, Verdict};

@@ -1,0 +1,111 @@
+//! A ledger's lines, checked one after another.
+
+ghost use Rattle.std.specs.Prelude.{◌≡◌, ◌<◌, ◌≤◌, ◌^◌, ◌+◌, ◌∷◌, ◌++◌, [], ℕ, List, All, IfNone, IfOk, IfSome, IsTrue, ◌↔◌, string_bytes};
+ghost use Rattle.fare_table.specs.Fares.{Fares};
+ghost use Rattle.shard_book.specs.Token.{Fits};
+ghost use Rattle.shard_book.specs.declared.entry.Entry.{Entry};
+ghost use Rattle.ledger_check.specs.Ledger.{number_of};
+ghost use Rattle.ledger_check.specs.Replays.{HasRead, IsStep, IsTurn, StandsAt};
+
+use crate::bytes::same_bytes;
+use crate::form::has_form;
+use crate::tap::read_tap;
+use crate::turn::Turn;
+use fare_table::{Clock, FareTable, NoMemory};
+use shard_book::Token;
+use std::cmp::Ordering;
+
+/// The most bytes of a ledger's line, its newline included.
+pub(crate) const LONGEST: usize = 255;
+
+/// The most entries of a ledger: 2 to the power of 62.
+const MOST: u64 = 4_611_686_018_427_387_904;
+
+/// What was found of a line.
+#[derive(Clone, Copy)]
+pub(crate) enum Step {
+    /// A ledger has it here.
+    Legal,
+    /// Its tap should have another line here, which was written.
+    Wants,
+    /// It is no ledger line, or its token is out of order.
+    NoLine,
+}
+
+/// The lines read so far: how many there are, and the turn of the last one's token.
+#[derive(Clone, Copy)]
+pub(crate) struct Replay {
+    /// How many lines were read.
+    pub(crate) lines: u64,
+    turn: Option<Turn>,
+}
+
+impl Replay {
+    /// No line was read.
+    pub(crate) fn new() -> Replay
+        ensures { (fares : Fares) → HasRead fares result [] }
+    {
+        Replay {
+            lines: 0,
+            turn: None,
+        }
+    }
+
+    /// The turn of the token, which goes on or begins here; `None` where the token is less than the
+    /// last one.
+    fn turn_of(&self, token: Token) -> Option<Turn>
+        requires { Fits token }
+        ensures token { IfSome result (λ turn. turn.token ≡ token) }
+        ensures stands { IfSome result (λ turn. (fares : Fares) (entries : List Entry)
+            → IsTurn fares self.now.turn entries → StandsAt fares turn entries) }
+        ensures less { IfNone result ((fares : Fares) (entries : List Entry)
+            → IsTurn fares self.now.turn entries
+            → All (λ entry. number_of entry.token ≤ number_of token) entries → ⊥) }
+    {
+        let Some(turn) = self.turn else {
+            return Some(Turn::first(token));
+        };
+        match turn.token.cmp(&token) {
+            Ordering::Less => Some(Turn::first(token)),
+            Ordering::Equal => Some(turn),
+            Ordering::Greater => None,
+        }
+    }
+
+    /// Checks the next line, and writes the line that its tap should have in place of `wanted`.
+    pub(crate) fn next(
+        &mut self,
+        table: &FareTable,
+        clock: &Clock,
+        line: &[u8],
+        wanted: &mut String,
+    ) -> Result<Step, NoMemory>
+        requires clock { clock.now ≡ table.now.zone }
+        requires read { (lines : List (List ℕ)) × HasRead table.now self.old lines }
+
+        // After all lines for which it stood.
+        ensures { IfOk result (λ step. (lines : List (List ℕ)) → HasRead table.now self.old lines
+            → IsStep table.now self.new lines line.now (string_bytes wanted.new) step) }
+    {
+        if line.len() > LONGEST || self.lines >= MOST {
+            return Ok(Step::NoLine);
+        }
+        let Some(tap) = read_tap(line) else {
+            return Ok(Step::NoLine);
+        };
+        let Some(mut turn) = self.turn_of(tap.token) else {
+            return Ok(Step::NoLine);
+        };
+        turn.write_next(table, clock, tap.validator, tap.moment, wanted)?;
+        if same_bytes(wanted.as_bytes(), line) {
+            self.lines += 1;
+            self.turn = Some(turn);
+            return Ok(Step::Legal);
+        }
+        if wanted.len() <= LONGEST && has_form(line) {
+            Ok(Step::Wants)
+        } else {
+            Ok(Step::NoLine)
+        }
+    }
+}

@@ -1,0 +1,76 @@
+//! The tap that a ledger's line tells.
+
+ghost use Rattle.std.specs.Prelude.{◌≡◌, ◌<◌, ◌^◌, ℕ, List, IfSome, IsSomeAnd, Some};
+ghost use Rattle.std.specs.Fmt.{decimal};
+ghost use Rattle.hex.specs.Hex.{encode_lower};
+ghost use Rattle.account_rule.specs.declared.reason.Reason.{Reason};
+ghost use Rattle.fare_table.specs.Fares.{Fares};
+ghost use Rattle.shard_book.specs.Token.{Fits, bytes_of};
+ghost use Rattle.shard_book.specs.declared.entry.Entry.{Entry};
+ghost use Rattle.shard_book.specs.declared.token.Token.{Token};
+ghost use Rattle.reason_texts.specs.Ledger.{IsLedgerLine};
+ghost use Rattle.ledger_check.specs.Ledger.{IsPostable};
+ghost use Rattle.ledger_check.specs.Taps.{IsOf};
+
+use crate::bytes::field;
+use crate::moment::read_moment;
+use shard_book::Token;
+
+/// What a line tells of a tap.
+#[derive(Clone, Copy)]
+pub(crate) struct Tap {
+    /// Whose account was tapped.
+    pub(crate) token: Token,
+    /// The number of the validator.
+    pub(crate) validator: u32,
+    /// When, in milliseconds since 1970-01-01T00:00Z.
+    pub(crate) moment: u64,
+}
+
+/// The token of 32 hexadecimal digits.
+fn read_token(digits: &[u8]) -> Option<Token>
+    ensures fits { IfSome result Fits }
+    ensures found { (token : Token) → Fits token → digits.now ≡ encode_lower (bytes_of token)
+        → result ≡ Some token }
+{
+    let mut bytes = [0u8; 16];
+    match hex::decode_to_slice(digits, &mut bytes) {
+        Ok(()) => Some(Token::of(&bytes)),
+        Err(_) => None,
+    }
+}
+
+/// A number of at most 32 bits.
+fn read_validator(digits: &[u8]) -> Option<u32>
+    ensures found { (number : ℕ) → number < 2 ^ 32 → digits.now ≡ decimal number
+        → result ≡ Some number }
+{
+    match std::str::from_utf8(digits) {
+        Ok(digits) => digits.parse::<u32>().ok(),
+        Err(_) => None,
+    }
+}
+
+/// The tap of the line, from its first fields; what follows the validator is not read. `None` where
+/// no entry has this line.
+pub(crate) fn read_tap(line: &[u8]) -> Option<Tap>
+    ensures fits { IfSome result (λ tap. Fits tap.token) }
+    ensures moment { IfSome result (λ tap. tap.moment < 4_102_444_800_000) }
+    ensures validator { IfSome result (λ tap. tap.validator < 2 ^ 32) }
+    ensures found { (fares : Fares) (number : ℕ) (entry : Entry) (why : Reason) → number < 2 ^ 64
+        → IsPostable entry → IsLedgerLine fares entry.token number entry why line.now
+        → IsSomeAnd result (λ tap. IsOf tap entry) }
+{
+    let (digits, rest) = field(line)?;
+    let token = read_token(digits)?;
+    let (_number, rest) = field(rest)?;
+    let (text, rest) = field(rest)?;
+    let moment = read_moment(text)?;
+    let (digits, _rest) = field(rest)?;
+    let validator = read_validator(digits)?;
+    Some(Tap {
+        token,
+        validator,
+        moment,
+    })
+}

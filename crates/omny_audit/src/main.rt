@@ -1,0 +1,39 @@
+//! The program for auditors: checks a ledger under a fare table, and tells whether it is, whole, the
+//! ledger of legal histories, or which of its lines is the first that no such ledger has there.
+//!
+//! | module | what it does |
+//! |---|---|
+//! | `audit` | the verdict on all that a reader gives |
+//! | `files` | the table and the ledger, from the system |
+//! | `options` | the words of the command line, as `clap` reads them |
+//! | `text` | the line that tells a verdict |
+//! | `fault` | why the program gives up, and the line that says so |
+//! | `program` | the whole |
+#![tactic(auto)]
+
+mod audit;
+mod fault;
+mod files;
+mod options;
+mod program;
+mod text;
+
+use program::{main_over, unread_words};
+use std::env::Env;
+use std::process::ExitCode;
+use std::{env, io};
+
+/// The words of the command line, the program's name first.
+fn words_of<R: Env + AllocGlobal>(rt: &R) -> io::Result<Vec<String>> {
+    let words = env::args(rt)?.collect(rt.alloc())?;
+    Ok(words)
+}
+
+fn main(rt: HostRuntime) -> ExitCode {
+    let mut err = rt.stderr();
+    let status = match words_of(&rt) {
+        Ok(words) => main_over(&rt, &words, &mut rt.stdout(), &mut err),
+        Err(error) => unread_words(&error, &mut err),
+    };
+    ExitCode::from(status)
+}
