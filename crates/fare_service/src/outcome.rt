@@ -47,6 +47,14 @@ impl Outcome {
         &self.books[shard as usize]
     }
 
+    /// The books of all shards, in the order of the shards.
+    pub fn books(&self) -> &[ShardBook]
+        ensures books { result.now ≡ self.now.books }
+        ensures some { 0 < length result.now }
+    {
+        self.books.as_slice()
+    }
+
     /// How many uploads there are.
     pub fn uploads(&self) -> u32
         ensures { result ≡ length self.now.ends }

@@ -1,6 +1,6 @@
 //! The lines of a token in the ledger.
 
-ghost use Rattle.std.specs.Prelude.{◌≡◌, ◌<◌, ◌++◌, All, IfOk, OnOk, List, ℕ, codes, length, string_bytes};
+ghost use Rattle.std.specs.Prelude.{◌≡◌, ◌<◌, ◌++◌, IfOk, OnOk, List, ℕ, codes, length, string_bytes};
 ghost use Rattle.std.specs.Option.{ForSome};
 ghost use Rattle.fare_table.specs.Until.{until};
 ghost use Rattle.shard_book.specs.Entry.{tap_of};
@@ -18,15 +18,21 @@ pub fn head_line() -> &'static str
     "token,line,moment,validator,mode,answer,cents,window_start,window_end,ride,reason,points_at\n"
 }
 
-/// The tap of an entry, as the account rule sees it.
-fn tap_of(table: &FareTable, clock: &Clock, entry: &Entry) -> Result<TapIn, NoMemory>
-    requires clock { clock.now ≡ table.now.zone }
-    requires moment { entry.now.moment < 4_102_444_800_000 }
+/// Where taps end, in milliseconds: 2100-01-01T00:00Z. No upload has one from there on.
+const MOMENT_LIMIT: u64 = 4_102_444_800_000;
+
+/// The tap of an entry, as the account rule sees it. It takes no memory, and refuses an entry alone
+/// that no upload has: one from 2100-01-01T00:00Z on.
+pub fn tap_of(table: &FareTable, clock: &Clock, entry: &Entry) -> Result<TapIn, NoMemory>
+    requires { clock.now ≡ table.now.zone }
     ensures tap { IfOk result (λ tap. tap ≡ tap_of table.now entry.now) }
     ensures mode { IfOk result (λ tap. ForSome tap.mode (λ mode.
         mode.place < length table.now.rules.modes)) }
     ensures until { IfOk result (λ tap. tap.until ≡ until table.now tap.moment) }
 {
+    if entry.moment >= MOMENT_LIMIT {
+        return Err(NoMemory);
+    }
     Ok(TapIn {
         moment: entry.moment,
         mode: table.mode_of(entry.validator),
@@ -43,8 +49,7 @@ pub fn write_token_lines(
     token: Token,
     entries: &[Entry],
 ) -> Result<(), NoMemory>
-    requires clock { clock.now ≡ table.now.zone }
-    requires moments { All (λ entry. entry.moment < 4_102_444_800_000) entries.now }
+    requires { clock.now ≡ table.now.zone }
     ensures { OnOk result ((written : List ℕ) × AreTokenLines table.now token entries.now written
         × (string_bytes text.new ≡ string_bytes text.old ++ written)) }
 {

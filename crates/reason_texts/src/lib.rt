@@ -7,6 +7,6 @@ mod ledger;
 mod line;
 mod why;
 
-pub use ledger::{head_line, write_token_lines};
+pub use ledger::{head_line, tap_of, write_token_lines};
 pub use line::write_line;
 pub use why::write_why;

@@ -206,4 +206,6 @@ tells given works outcome uploads ends later some named here cuts numbers tokens
             shown = s.shown;
           } in
           (λ a. there (over.0 a), λ b. over.1 (back b));
+      entries = books;
+      table = λ book there. (gathered.books 0 book there).its_table;
     }

@@ -1,0 +1,6 @@
+pub mod Rising
+pub mod Grouping
+pub mod Sorting
+pub mod Writing
+pub mod Whole
+pub mod Collecting

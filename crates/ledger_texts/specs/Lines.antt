@@ -1,0 +1,65 @@
+-- The lines of entries in order of token. Private functions alone cite this.
+use Rattle.std.specs.Prelude.{◌≡◌, ℕ, ◌+◌, false, List, [], ◌∷◌, ◌++◌, length, map}
+use Rattle.std.specs.Borrow.{Bor}
+use Rattle.std.specs.List.Sorted.{IsPermutation}
+use Rattle.std.specs.Ordering.{is_lt}
+use Rattle.fare_table.specs.Fares.{Fares}
+use Rattle.account_rule.specs.Rules.{rules_of}
+use Rattle.account_rule.specs.Stands.{Stands}
+use Rattle.shard_book.specs.Entry.{own, tap_of}
+use Rattle.shard_book.specs.Token.{bytes_of, token_cmp}
+use Rattle.shard_book.specs.declared.entry.Entry.{Entry}
+use Rattle.shard_book.specs.declared.token.Token.{Token}
+use Rattle.reason_texts.specs.Ledger.{IsLedgerLine, reason_after}
+use Rattle.ledger_texts.specs.declared.teller.Teller.{Teller}
+
+-- the entries behind references
+abbrev pub seen : List (Bor Entry) → List Entry
+seen list = map (λ entry. entry.now) list
+
+-- the first token is not above the second
+abbrev pub IsUpTo : Token → Token → Type 0
+IsUpTo token other = is_lt (token_cmp other token) ≡ false
+
+-- no entry's token is above this one
+abbrev pub AreUpTo : List Entry → Token → Type 0
+AreUpTo [] token = Unit {0}
+AreUpTo (entry ∷ entries) token = IsUpTo entry.token token × AreUpTo entries token
+
+-- the entries' tokens never fall, from this one on
+abbrev pub RiseFrom : Token → List Entry → Type 0
+RiseFrom token [] = Unit {0}
+RiseFrom token (entry ∷ entries) = IsUpTo token entry.token × RiseFrom entry.token entries
+
+-- the entries' tokens never fall
+abbrev pub Rise : List Entry → Type 0
+Rise [] = Unit {0}
+Rise (entry ∷ entries) = RiseFrom entry.token entries
+
+-- the list has these entries in order of token, and those of each token as they stood
+pub record IsByToken (entries list : List Entry) : Type 0 where
+  pub moved : IsPermutation entries list
+  pub rise : Rise list
+  pub kept : (token : Token) → own token list ≡ own token entries
+
+-- the line of an entry that stands after these: its number and its reason are those that it has
+-- among the entries of its token
+abbrev pub IsLineAfter : Fares → List Entry → Entry → List ℕ → Type 0
+IsLineAfter fares earlier entry line =
+    IsLedgerLine fares entry.token (length (own entry.token earlier) + 1) entry
+    (reason_after fares entry.token (own entry.token earlier) entry) line
+
+-- the lines of entries that stand after these
+abbrev pub AreLinesAlong : Fares → List Entry → List Entry → List ℕ → Type 0
+AreLinesAlong fares earlier [] text = text ≡ []
+AreLinesAlong fares earlier (entry ∷ entries) text =
+    (line : List ℕ) × (rest : List ℕ) × IsLineAfter fares earlier entry line
+    × AreLinesAlong fares (earlier ++ entry ∷ []) entries rest × (text ≡ line ++ rest)
+
+-- after these entries, the teller's account stands for the taps of its token, and its number counts
+-- them; no token of theirs is above it
+pub record HasCome (fares : Fares) (teller : Teller) (earlier : List Entry) : Type 0 where
+  pub stands : Stands (rules_of fares (bytes_of teller.token)) teller.account
+      (map (tap_of fares) (own teller.token earlier))
+  pub counted : teller.number ≡ length (own teller.token earlier)
+  pub up : AreUpTo earlier teller.token

@@ -1,0 +1,116 @@
+//! The ledger of books.
+
+ghost use Rattle.std.specs.Prelude.{◌≡◌, ◌<◌, ℕ, List, ◌++◌, IfErr, IfOk, OnOk, None, Some, length, slice_get, string_bytes};
+ghost use Rattle.std.specs.Io.KnownBytes.{Appends};
+ghost use Rattle.ledger_texts.specs.Fault.{KeepsUnlessWrite};
+ghost use Rattle.shard_book.specs.Book.{Book};
+ghost use Rattle.shard_book.specs.Groups.{all_entries};
+ghost use Rattle.reason_texts.specs.Ledger.{head_text};
+ghost use Rattle.ledger_texts.specs.Ledger.{IsLedgerOf};
+ghost use Rattle.ledger_texts.specs.Lines.{IsByToken, seen};
+
+use crate::entries::{by_token, own_of};
+use crate::fault::LedgerFault;
+use crate::lines::{PIECE, pass_on, write_lines};
+use fare_table::{FareTable, NoMemory};
+use reason_texts::{head_line, write_token_lines};
+use shard_book::{Entry, ShardBook, Token};
+use std::alloc::Global;
+use std::io::Write;
+
+/// More bytes than a line has.
+const LINE: usize = 1_024;
+
+/// The fare table of the first book, which is that of all books of a service.
+fn table_of(books: &[ShardBook]) -> &FareTable
+    requires { 0 < length books.now }
+    ensures { (first : Book) × (slice_get books.now 0 ≡ Some first) × (result.now ≡ first.table) }
+{
+    books[0].table()
+}
+
+/// The head line in a text with room for a piece and a line more, and the entries of all books in
+/// order of token.
+fn begun(alloc: Global, books: &[ShardBook]) -> Result<(String, Vec<&Entry>), NoMemory>
+    ensures head { IfOk result (λ begun. string_bytes begun.0 ≡ head_text) }
+    ensures entries { IfOk result (λ begun. IsByToken (all_entries books.now) (seen begun.1.items)) }
+{
+    let entries = by_token(alloc, books)?;
+    let mut text = String::new(alloc);
+    text.reserve(PIECE + LINE)?;
+    text.push_str(head_line())?;
+    Ok((text, entries))
+}
+
+/// Writes the ledger of all tokens.
+fn write_all<W: Write>(alloc: Global, books: &[ShardBook], out: &mut W) -> Result<(), LedgerFault>
+    requires { 0 < length books.now }
+    ensures ok { OnOk result ((text : List ℕ) × IsLedgerOf books.now None text
+        × Appends (W.contents out.old) (W.contents out.new) text) }
+    ensures fault { IfErr result (λ fault. KeepsUnlessWrite fault (out.new ≡ out.old)) }
+{
+    let table = table_of(books);
+    let Ok(clock) = table.clock(alloc) else {
+        return Err(LedgerFault::NoMemory);
+    };
+    let Ok((mut text, entries)) = begun(alloc, books) else {
+        return Err(LedgerFault::NoMemory);
+    };
+    write_lines(&mut text, table, &clock, entries.as_slice(), out)?;
+    Ok(())
+}
+
+/// The ledger of one token.
+fn own_text(alloc: Global, books: &[ShardBook], token: Token) -> Result<String, NoMemory>
+    requires { 0 < length books.now }
+    ensures { IfOk result (λ text. IsLedgerOf books.now (Some token) (string_bytes text)) }
+{
+    let table = table_of(books);
+    let clock = table.clock(alloc)?;
+    let entries = own_of(alloc, books, token)?;
+    let mut text = String::new(alloc);
+    text.push_str(head_line())?;
+    write_token_lines(&mut text, table, &clock, token, entries.as_slice())?;
+    Ok(text)
+}
+
+/// Writes the ledger of one token.
+fn write_own<W: Write>(
+    alloc: Global,
+    books: &[ShardBook],
+    token: Token,
+    out: &mut W,
+) -> Result<(), LedgerFault>
+    requires { 0 < length books.now }
+    ensures ok { OnOk result ((text : List ℕ) × IsLedgerOf books.now (Some token) text
+        × Appends (W.contents out.old) (W.contents out.new) text) }
+    ensures fault { IfErr result (λ fault. KeepsUnlessWrite fault (out.new ≡ out.old)) }
+{
+    let Ok(mut text) = own_text(alloc, books, token) else {
+        return Err(LedgerFault::NoMemory);
+    };
+    pass_on(&mut text, out)?;
+    Ok(())
+}
+
+/// Writes the ledger of all tokens, or of one: the head line, then the lines of each token, by
+/// rising tokens, in the order of its entries. A line has twelve fields, of which the reason is the
+/// account rule's for the token's earlier entries. Of all tokens it goes out in pieces, and takes
+/// sixteen bytes a line beside the books while it sorts, and eight while it writes. All memory is
+/// taken before the first byte is written: on a fault of memory nothing was.
+pub fn write_ledger<W: Write>(
+    alloc: Global,
+    books: &[ShardBook],
+    only: Option<Token>,
+    out: &mut W,
+) -> Result<(), LedgerFault>
+    requires { 0 < length books.now }
+    ensures ok { OnOk result ((text : List ℕ) × IsLedgerOf books.now only text
+        × Appends (W.contents out.old) (W.contents out.new) text) }
+    ensures fault { IfErr result (λ fault. KeepsUnlessWrite fault (out.new ≡ out.old)) }
+{
+    match only {
+        None => write_all(alloc, books, out),
+        Some(token) => write_own(alloc, books, token, out),
+    }
+}

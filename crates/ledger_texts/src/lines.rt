@@ -1,0 +1,119 @@
+//! The lines of entries that stand in order of token, written in pieces.
+
+ghost use Rattle.std.specs.Prelude.{◌≡◌, ℕ, List, [], ◌++◌, IfErr, OnOk, string_bytes};
+ghost use Rattle.std.specs.Io.KnownBytes.{Appends, Keeps, append_known};
+ghost use Rattle.ledger_texts.specs.declared.fault.LedgerFault.TheVariants.{Write as ForWrite};
+ghost use Rattle.ledger_texts.specs.Lines.{AreLinesAlong, Rise, RiseFrom, seen};
+
+use crate::fault::LedgerFault;
+use crate::teller::Teller;
+use fare_table::{Clock, FareTable};
+use shard_book::Entry;
+use std::io::Write;
+
+/// How many bytes wait at least before they are written out: so many that a write is little beside
+/// them.
+pub(crate) const PIECE: usize = 65_536;
+
+/// Writes the bytes.
+fn write_out<W: Write>(bytes: &[u8], out: &mut W) -> Result<(), LedgerFault>
+    ensures ok { OnOk result (Appends (W.contents out.old) (W.contents out.new) bytes.now) }
+    ensures fault { IfErr result (λ fault. fault ≡ ForWrite) }
+{
+    if out.write_all(bytes).is_err() {
+        return Err(LedgerFault::Write);
+    }
+    Ok(())
+}
+
+/// Writes out what waits in the text, whose room stays.
+pub(crate) fn pass_on<W: Write>(text: &mut String, out: &mut W) -> Result<(), LedgerFault>
+    ensures kept { OnOk result (Keeps (append_known (W.contents out.old) (string_bytes text.old))
+        (append_known (W.contents out.new) (string_bytes text.new))) }
+    ensures empty { OnOk result (string_bytes text.new ≡ []) }
+    ensures fault { IfErr result (λ fault. fault ≡ ForWrite) }
+{
+    write_out(text.as_bytes(), out)?;
+    text.clear();
+    Ok(())
+}
+
+/// Writes out what waits in the text, where it is a piece.
+fn pass_piece<W: Write>(text: &mut String, out: &mut W) -> Result<(), LedgerFault>
+    ensures kept { OnOk result (Keeps (append_known (W.contents out.old) (string_bytes text.old))
+        (append_known (W.contents out.new) (string_bytes text.new))) }
+    ensures fault { IfErr result (λ fault. fault ≡ ForWrite) }
+{
+    if text.len() < PIECE {
+        return Ok(());
+    }
+    pass_on(text, out)
+}
+
+/// Appends the lines of the entries to the text, of which what stands there may go out first.
+fn write_pieces<W: Write>(
+    text: &mut String,
+    table: &FareTable,
+    clock: &Clock,
+    first: &Entry,
+    entries: &[&Entry],
+    out: &mut W,
+) -> Result<(), LedgerFault>
+    requires clock { clock.now ≡ table.now.zone }
+    requires rise { RiseFrom first.now.token (seen entries.now) }
+    ensures lines { OnOk result ((lines : List ℕ) × AreLinesAlong table.now [] (seen entries.now) lines
+        × Appends (append_known (W.contents out.old) (string_bytes text.old))
+        (append_known (W.contents out.new) (string_bytes text.new)) lines) }
+    ensures fault { IfErr result (λ fault. fault ≡ ForWrite) }
+{
+    let mut teller = Teller::of(first.token);
+    for entry in entries {
+        teller.turn_to(entry.token);
+        // The text has room for a line, so that none is refused.
+        let Ok(()) = teller.write_next(text, table, clock, entry) else {
+            return Err(LedgerFault::Write);
+        };
+        pass_piece(text, out)?;
+    }
+    Ok(())
+}
+
+/// Appends the lines of the entries, of which there may be none, as `write_pieces` does.
+fn write_some<W: Write>(
+    text: &mut String,
+    table: &FareTable,
+    clock: &Clock,
+    entries: &[&Entry],
+    out: &mut W,
+) -> Result<(), LedgerFault>
+    requires clock { clock.now ≡ table.now.zone }
+    requires rise { Rise (seen entries.now) }
+    ensures lines { OnOk result ((lines : List ℕ) × AreLinesAlong table.now [] (seen entries.now) lines
+        × Appends (append_known (W.contents out.old) (string_bytes text.old))
+        (append_known (W.contents out.new) (string_bytes text.new)) lines) }
+    ensures fault { IfErr result (λ fault. fault ≡ ForWrite) }
+{
+    match entries.first() {
+        Some(first) => write_pieces(text, table, clock, *first, entries, out),
+        None => Ok(()),
+    }
+}
+
+/// Writes the text, and after it the lines of the entries.
+pub(crate) fn write_lines<W: Write>(
+    text: &mut String,
+    table: &FareTable,
+    clock: &Clock,
+    entries: &[&Entry],
+    out: &mut W,
+) -> Result<(), LedgerFault>
+    requires clock { clock.now ≡ table.now.zone }
+    requires rise { Rise (seen entries.now) }
+    ensures ok { OnOk result ((lines : List ℕ) × AreLinesAlong table.now [] (seen entries.now) lines
+        × Appends (W.contents out.old) (W.contents out.new) (string_bytes text.old ++ lines)) }
+    ensures fault { IfErr result (λ fault. fault ≡ ForWrite) }
+{
+    write_some(text, table, clock, entries, out)?;
+    pass_on(text, out)?;
+    Ok(())
+}
