@@ -1,0 +1,12 @@
+use Rattle.std.proofs.Common.{List, ℕ}
+use Rattle.std.specs.Io.KnownBytes.{Consumes}
+use Rattle.ledger_check.specs.Verdicts.{HasFed}
+use Rattle.omny_audit.proofs.audit.verdict_of.Given as goal
+
+-- the checker has read what the reader has lost
+abbrev pub invariant-loop-turn : goal.invariant-loop-turn
+invariant-loop-turn g l = record {
+  text : List ℕ;
+  fed : HasFed l.table l.checker text;
+  read : Consumes (g.R.Read.remaining l.fn.reader) (g.R.Read.remaining l.reader) text;
+}
