@@ -1,7 +1,8 @@
 //! Times the crates below, case by case, beside the same cases in Rust.
 //!
-//! `bench CASE FILE..` prints a line for each thing that it times: its name, how many operations, their nanoseconds by
-//! the clock and by the processor, and a checksum. Without words it prints the names of the cases and times nothing.
+//! `bench CASE FILE..` prints a line for each thing that it times: its name, how many operations,
+//! their nanoseconds by the clock and by the processor, and a checksum. Without words it prints the
+//! names of the cases and times nothing.
 #![tactic(auto)]
 
 mod book;

@@ -1,4 +1,5 @@
-//! Steps of one account: over taps that lie ready in memory, and over files with the look-ups of their taps.
+//! Steps of one account: over taps that lie ready in memory, and over files with the look-ups of
+//! their taps.
 
 ghost use Rattle.std.specs.Prelude.{◌≡◌, All, IfOk, OnOk};
 ghost use Rattle.account_rule.specs.Rules.{rules_of};

@@ -17,7 +17,8 @@ use std::thread::Threads;
 use std::{fs, thread};
 use tap_views::{Batch, Run, TapFields, encode};
 
-/// Visits of one thread alone, with no tap: what they cost is told with the same posts to a book that is not shared.
+/// Visits of one thread alone, with no tap: what they cost is told with the same posts to a book
+/// that is not shared.
 const ALONE: u64 = 10_000_000;
 
 /// Visits of all threads together, and the taps of each.

@@ -21,11 +21,12 @@ use Rattle.fare_service.specs.declared.upload_end.UploadEnd.{UploadEnd}
 use Rattle.fare_service.specs.declared.upload_end.UploadEnd.TheVariants.{Posted, Refused, Cut, Undrawn}
 use Rattle.fare_service.specs.Adding.{add_all, taps_told, AddUp}
 use Rattle.fare_service.specs.Headline.{Signed, end_of}
-use Rattle.fare_service.specs.Closing.{IsClosedWork}
-use Rattle.fare_service.specs.Halls.{Hall, IsHall}
-use Rattle.fare_service.specs.Holdings.{Holding}
-use Rattle.fare_service.specs.Joining.{told_all}
-use Rattle.fare_service.specs.Outcomes.{Gathered}
+use Rattle.fare_service.specs.inside.Closing.{IsClosedWork}
+use Rattle.fare_service.specs.ServiceView.{ServiceView}
+use Rattle.fare_service.specs.inside.ServiceView.{IsService}
+use Rattle.fare_service.specs.ShareView.{ShareView}
+use Rattle.fare_service.specs.inside.Joining.{told_all}
+use Rattle.fare_service.specs.Outcomes.{OutcomeView}
 use Rattle.fare_service.specs.Runs.{Visit, IsEntered, visits_to, entries_of, taps_posted}
 use Rattle.fare_service.specs.Shares.{Worked, all_visits, IsWorkOf, IsEndOf, IsShareOf, all_works, file_at}
 use Rattle.fare_service.proofs.GatherLemmas.{has_gathered, times_same, fewer_after, not_drawn, end_same, end_other}
@@ -147,7 +148,7 @@ all_within given (w ∷ done) all =
     (All-weaker (IsEntered given.shards) (λ v. v.shard < given.shards) (λ v e. e.within) w.visits (All-head (IsWorkOf given.shards given.uploads) w done all).entered) (all_within given done (All-tail (IsWorkOf given.shards given.uploads) w done all))
 
 -- f of all books' entries is f of all entries that the workers' visits made
-sum_of_books : (f : Entry → ℕ) (given : Given) (works : List (List Worked)) (outcome : Gathered) → IsGathered given works outcome
+sum_of_books : (f : Entry → ℕ) (given : Given) (works : List (List Worked)) (outcome : OutcomeView) → IsGathered given works outcome
     → sum_by f (all_entries outcome.books) ≡ sum_by f (flat_map (λ done. entries_of (all_visits done)) works)
 sum_of_books f given works outcome is =
     let ent : Visit → ℕ = λ v. sum_by f v.entries in
@@ -258,14 +259,14 @@ all_uploads given (done ∷ works) each =
     (all_uploads given works (All-tail (λ d. All (IsWorkOf given.shards given.uploads) d) done works each))
 
 -- the books and the workers have the same totals, whatever is told of them
-pub workers_add_up : (given : Given) (works : List (List Worked)) (outcome : Gathered) → IsGathered given works outcome → sums (all_entries outcome.books) ≡ add_all outcome.workers
+pub workers_add_up : (given : Given) (works : List (List Worked)) (outcome : OutcomeView) → IsGathered given works outcome → sums (all_entries outcome.books) ≡ add_all outcome.workers
 workers_add_up given works outcome is =
     let made : List Entry = flat_map (λ done. entries_of (all_visits done)) works in
     same_sums (all_entries outcome.books) made (λ f. sum_of_books f given works outcome is)
     ∙ (add_flat (λ done. entries_of (all_visits done)) works ∙ ap add_all (sym is.workers))
 
 -- what was gathered adds up
-pub gathered_sums : (given : Given) (works : List (List Worked)) (outcome : Gathered) → IsGathered given works outcome → outcome.totals ≡ sums (all_entries outcome.books) → AddUp works outcome
+pub gathered_sums : (given : Given) (works : List (List Worked)) (outcome : OutcomeView) → IsGathered given works outcome → outcome.totals ≡ sums (all_entries outcome.books) → AddUp works outcome
 gathered_sums given works outcome is totals =
     let made : List Entry = flat_map (λ done. entries_of (all_visits done)) works in
     let by_works : outcome.totals ≡ sums made = totals ∙ same_sums (all_entries outcome.books) made (λ f. sum_of_books f given works outcome is) in
@@ -306,12 +307,12 @@ from_nothing none s is =
     ∙ same_seven _ _ _ _ _ _ _ _ _ _ _ _ _ _ (zero_add s.taps) (zero_add s.paid) (zero_add s.transfers) (zero_add s.capped) (zero_add s.stale) (zero_add s.unknown) (zero_add s.cents)
 
 -- the totals of the shares are those of the books that were closed with them
-pub shares_add_up : (hall : Hall) → IsHall hall → (shares : List Holding) → All (IsShareOf hall) shares → (closed : List Book) → IsClosedWork hall.books shares closed
-    → (ends : List UploadEnd) → ends ≡ told_all (replicate (length hall.uploads) Undrawn) shares → length ends ≡ length hall.uploads
+pub shares_add_up : (service : ServiceView) → IsService service → (shares : List ShareView) → All (IsShareOf service) shares → (closed : List Book) → IsClosedWork service.books shares closed
+    → (ends : List UploadEnd) → ends ≡ told_all (replicate (length service.uploads) Undrawn) shares → length ends ≡ length service.uploads
     → (workers : List Sums) → workers ≡ map (λ share. share.totals) shares → sums (all_entries closed) ≡ add_all workers
-shares_add_up hall is shares all closed work ends are number workers sums_are =
-    let o = has_gathered hall is shares all closed work ends are number workers sums_are (sums (all_entries closed)) in
-    workers_add_up (given_of hall) o.0 (record { books = closed; ends = ends; workers = workers; totals = sums (all_entries closed) }) o.2
+shares_add_up service is shares all closed work ends are number workers sums_are =
+    let o = has_gathered service is shares all closed work ends are number workers sums_are (sums (all_entries closed)) in
+    workers_add_up (given_of service) o.0 (record { books = closed; ends = ends; workers = workers; totals = sums (all_entries closed) }) o.2
 
 -- few entries, few taps
 pub few_taps : (entries : List Entry) (workers : Sums) (most : ℕ) → sums entries ≡ workers → length entries ≤ most → workers.taps ≤ most

@@ -9,15 +9,16 @@ use Rattle.std.proofs.lemmas.List.Concat.{length-flat_map}
 use Rattle.std.proofs.lemmas.Option.{slice_get-map}
 use Rattle.shard_book.specs.Book.{Book}
 use Rattle.shared_books.specs.declared.turns.rule.Mark.{Mark}
-use Rattle.shared_books.specs.Drawing.{Drawing, Drawings, HasAll, IsCount, times}
+use Rattle.shared_books.specs.Drawing.{Drawing, DrawerView, HasAll, IsCount, times}
 use Rattle.shared_books.specs.Marks.{joined}
-use Rattle.shared_books.specs.Passes.{Opened, Knowledge}
+use Rattle.shared_books.specs.Passes.{SharedBookView, PassView}
 use Rattle.fare_service.specs.declared.faults.GatherFault.{GatherFault}
 use Rattle.fare_service.specs.declared.faults.GatherFault.TheVariants.{NoMemory, Missing, Drawn}
-use Rattle.fare_service.specs.Closing.{AreClosed, AreUnseen, IsClosedBy, IsUnseen, IsHistoryOf, IsClosedWork, IsWhole, IsFirst, IsFirstMissing, IsFirstUnseen}
+use Rattle.fare_service.specs.Closing.{IsHistoryOf, IsWhole, IsFirst}
+use Rattle.fare_service.specs.inside.Closing.{AreClosed, AreUnseen, IsClosedBy, IsUnseen, IsClosedWork, IsFirstMissing, IsFirstUnseen}
 use Rattle.fare_service.specs.Faults.{uploads_held}
-use Rattle.fare_service.specs.Holdings.{Holding}
-use Rattle.fare_service.specs.Joining.{AreSigns, IsJoinedOf, IsSign}
+use Rattle.fare_service.specs.ShareView.{ShareView}
+use Rattle.fare_service.specs.inside.Joining.{AreSigns, IsJoinedOf, IsSign}
 use Rattle.fare_service.specs.Shares.{books_of, marks_at}
 use Rattle.fare_service.proofs.RunVisits.{AllZip-length}
 use Rattle.fare_service.proofs.Signing.{all_signed, signs_visits}
@@ -28,7 +29,7 @@ split_first [] first rest some is left = absurd (omega (arith, some))
 split_first (x ∷ xs) first rest some is left = ap (λ y. y ∷ xs) (sym is) ∙ ap (λ ys. first ∷ ys) (sym left)
 
 -- the history of a book without a visit
-unseen_history : (opened : List Opened) (shard : ℕ) (book : Book) → IsUnseen opened shard book → IsHistoryOf opened [] shard book
+unseen_history : (opened : List SharedBookView) (shard : ℕ) (book : Book) → IsUnseen opened shard book → IsHistoryOf opened [] shard book
 unseen_history opened shard book u = record {
   visits = [];
   history = ap (λ b. b.entries) u.none;
@@ -45,9 +46,9 @@ unseen_history opened shard book u = record {
 }
 
 -- nothing was seen, where there is no share
-pub closed_none : (opened : List Opened) (shares : List Holding) (closed : List Book) → shares ≡ [] → length closed ≡ length opened → AreUnseen opened closed → IsClosedWork opened shares closed
+pub closed_none : (opened : List SharedBookView) (shares : List ShareView) (closed : List Book) → shares ≡ [] → length closed ≡ length opened → AreUnseen opened closed → IsClosedWork opened shares closed
 closed_none opened shares closed none number unseen =
-    let P : List Holding → Type 0 = λ ss. IsClosedWork opened ss closed in
+    let P : List ShareView → Type 0 = λ ss. IsClosedWork opened ss closed in
     subst P (sym none) (record {
       number = number;
       books = λ shard book at. unseen_history opened shard book (unseen shard book at);
@@ -56,23 +57,23 @@ closed_none opened shares closed none number unseen =
       last = λ upload h x above. omega arith;
     })
 
-marks_of : (shard : ℕ) (passes : List Knowledge) (pass : Knowledge) → slice_get passes shard ≡ Some pass → marks_at shard passes ≡ pass.marks
+marks_of : (shard : ℕ) (passes : List PassView) (pass : PassView) → slice_get passes shard ≡ Some pass → marks_at shard passes ≡ pass.marks
 marks_of shard [] pass at = absurd (cc)
 marks_of zero (p ∷ passes) pass at = let e : p ≡ pass = cc in ap (λ q. q.marks) e
 marks_of (suc shard) (p ∷ passes) pass at = marks_of shard passes pass at
 
-book_here : (shard : ℕ) (passes : List Knowledge) (pass : Knowledge) → slice_get passes shard ≡ Some pass → slice_get (books_of passes) shard ≡ Some pass.book
+book_here : (shard : ℕ) (passes : List PassView) (pass : PassView) → slice_get passes shard ≡ Some pass → slice_get (books_of passes) shard ≡ Some pass.book
 book_here shard passes pass at = slice_get-map (λ p. p.book) passes shard ∙ ap (option_map (λ p. p.book)) at
 
 -- the history of a shard's book
-history_of : (drawing : Drawing) (opened : List Opened) (shares : List Holding) (drawer : Drawings) (passes : List Knowledge) (shard : ℕ) (book : Book)
+history_of : (drawing : Drawing) (opened : List SharedBookView) (shares : List ShareView) (drawer : DrawerView) (passes : List PassView) (shard : ℕ) (book : Book)
     → IsJoinedOf drawing opened (length shares) shares drawer passes → IsClosedBy passes shard book → IsHistoryOf opened shares shard book
 history_of drawing opened shares drawer passes shard book all c =
     let s = all.signed shard in
     let marks = marks_of shard passes c.pass c.at in
     let M : List Mark → Type 0 = AreSigns (length shares) (length shares) s.signs in
     let signs = subst M marks s.of_marks in
-    let O : List Opened → Type 0 = λ os. slice_get os shard ≡ Some c.pass.book in
+    let O : List SharedBookView → Type 0 = λ os. slice_get os shard ≡ Some c.pass.book in
     let number : length s.signs ≡ length (marks_at shard passes) = AllZip-length (IsSign (length shares) (length shares)) s.signs (marks_at shard passes) s.of_marks in
     record {
       visits = s.signs;
@@ -90,7 +91,7 @@ history_of drawing opened shares drawer passes shard book all c =
     }
 
 -- all was closed with what the shares hold
-pub closed_all : (drawing : Drawing) (opened : List Opened) (shares : List Holding) (drawer : Drawings) (passes : List Knowledge) (closed : List Book) (count : ℕ)
+pub closed_all : (drawing : Drawing) (opened : List SharedBookView) (shares : List ShareView) (drawer : DrawerView) (passes : List PassView) (closed : List Book) (count : ℕ)
     → IsJoinedOf drawing opened (length shares) shares drawer passes → AreClosed passes closed → length closed ≡ length opened → HasAll count drawer.drawn → IsCount count drawer → IsClosedWork opened shares closed
 closed_all drawing opened shares drawer passes closed count all books number has is =
     let D : List ℕ → Type 0 = λ ds. (x : ℕ) → times x ds ≤ 1 in
@@ -123,17 +124,17 @@ there (x ∷ xs) zero within = (x, refl)
 there (x ∷ xs) (suc i) within = there xs i (omega (arith, within))
 
 -- of a shard whose book was closed the shares hold all visits
-whole_closed : (drawing : Drawing) (opened : List Opened) (shares : List Holding) (drawer : Drawings) (passes : List Knowledge) (closed : List Book) → IsJoinedOf drawing opened (length shares) shares drawer passes
+whole_closed : (drawing : Drawing) (opened : List SharedBookView) (shares : List ShareView) (drawer : DrawerView) (passes : List PassView) (closed : List Book) → IsJoinedOf drawing opened (length shares) shares drawer passes
     → AreClosed passes closed → (shard : ℕ) → shard < length closed → IsWhole opened shares shard
 whole_closed drawing opened shares drawer passes closed all books shard within =
     let b = there closed shard within in
     (b.0, history_of drawing opened shares drawer passes shard b.0 all (books shard b.0 b.1))
 
-whole_unseen : (opened : List Opened) (closed : List Book) → AreUnseen opened closed → (shard : ℕ) → shard < length closed → IsWhole opened [] shard
+whole_unseen : (opened : List SharedBookView) (closed : List Book) → AreUnseen opened closed → (shard : ℕ) → shard < length closed → IsWhole opened [] shard
 whole_unseen opened closed unseen shard within = let b = there closed shard within in (b.0, unseen_history opened shard b.0 (unseen shard b.0 b.1))
 
 -- the first shard that misses visits
-pub first_missing : (drawing : Drawing) (opened : List Opened) (uploads : ℕ) (shares : List Holding) (drawer : Drawings) (passes : List Knowledge) (closed : List Book) (fault : GatherFault)
+pub first_missing : (drawing : Drawing) (opened : List SharedBookView) (uploads : ℕ) (shares : List ShareView) (drawer : DrawerView) (passes : List PassView) (closed : List Book) (fault : GatherFault)
     → IsJoinedOf drawing opened (length shares) shares drawer passes → IsFirstMissing passes closed fault → IsFirst opened uploads shares fault
 first_missing drawing opened uploads shares drawer passes closed (Missing shard held kept) all m = (
   λ earlier h. whole_closed drawing opened shares drawer passes closed all m.1 earlier (omega (arith, h, m.0)),
@@ -142,15 +143,15 @@ first_missing drawing opened uploads shares drawer passes closed (Missing shard 
 first_missing drawing opened uploads shares drawer passes closed NoMemory all m = absurd m
 first_missing drawing opened uploads shares drawer passes closed (Drawn held drawn) all m = absurd m
 
-pub first_unseen : (opened : List Opened) (uploads : ℕ) (shares : List Holding) (closed : List Book) (fault : GatherFault) → shares ≡ [] → IsFirstUnseen opened closed fault → IsFirst opened uploads shares fault
+pub first_unseen : (opened : List SharedBookView) (uploads : ℕ) (shares : List ShareView) (closed : List Book) (fault : GatherFault) → shares ≡ [] → IsFirstUnseen opened closed fault → IsFirst opened uploads shares fault
 first_unseen opened uploads shares closed (Missing shard held kept) none m =
-    let P : List Holding → Type 0 = λ ss. IsFirst opened uploads ss (Missing shard held kept) in
+    let P : List ShareView → Type 0 = λ ss. IsFirst opened uploads ss (Missing shard held kept) in
     subst P (sym none) (λ earlier h. whole_unseen opened closed m.1 earlier (omega (arith, h, m.0)), All-nil (λ share. length (marks_at shard share.passes) ≤ kept))
 first_unseen opened uploads shares closed NoMemory none m = absurd m
 first_unseen opened uploads shares closed (Drawn held drawn) none m = absurd m
 
 -- missing uploads, where all books were closed
-pub first_drawn : (drawing : Drawing) (opened : List Opened) (shares : List Holding) (drawer : Drawings) (passes : List Knowledge) (closed : List Book) (held drawn : ℕ)
+pub first_drawn : (drawing : Drawing) (opened : List SharedBookView) (shares : List ShareView) (drawer : DrawerView) (passes : List PassView) (closed : List Book) (held drawn : ℕ)
     → IsJoinedOf drawing opened (length shares) shares drawer passes → AreClosed passes closed → length closed ≡ length opened → IsCount drawn drawer → IsFirst opened drawing.numbers shares (Drawn held drawn)
 first_drawn drawing opened shares drawer passes closed held drawn all books number is = (
   λ shard h. whole_closed drawing opened shares drawer passes closed all books shard (omega (arith, h, number)),
@@ -158,24 +159,24 @@ first_drawn drawing opened shares drawer passes closed held drawn all books numb
   omega (arith, is.within, ap (λ d. d.numbers) all.source),
 )
 
-pub first_undrawn : (opened : List Opened) (uploads : ℕ) (shares : List Holding) (closed : List Book) (held drawn : ℕ) → shares ≡ [] → AreUnseen opened closed → length closed ≡ length opened → drawn ≤ uploads
+pub first_undrawn : (opened : List SharedBookView) (uploads : ℕ) (shares : List ShareView) (closed : List Book) (held drawn : ℕ) → shares ≡ [] → AreUnseen opened closed → length closed ≡ length opened → drawn ≤ uploads
     → IsFirst opened uploads shares (Drawn held drawn)
 first_undrawn opened uploads shares closed held drawn none unseen number few =
-    let P : List Holding → Type 0 = λ ss. IsFirst opened uploads ss (Drawn held drawn) in
+    let P : List ShareView → Type 0 = λ ss. IsFirst opened uploads ss (Drawn held drawn) in
     subst P (sym none) (λ shard h. whole_unseen opened closed unseen shard (omega (arith, h, number)), All-nil (λ share. share.drawer.seen ≤ drawn), few)
 
 -- how many uploads the shares hold
-pub held_drawn : (drawing : Drawing) (opened : List Opened) (nobody : ℕ) (shares : List Holding) (drawer : Drawings) (passes : List Knowledge) → IsJoinedOf drawing opened nobody shares drawer passes
+pub held_drawn : (drawing : Drawing) (opened : List SharedBookView) (nobody : ℕ) (shares : List ShareView) (drawer : DrawerView) (passes : List PassView) → IsJoinedOf drawing opened nobody shares drawer passes
     → length drawer.drawn ≡ uploads_held shares
 held_drawn drawing opened nobody shares drawer passes all = ap length all.drawn ∙ length-flat_map (λ s. s.drawer.drawn) shares
 
 -- the first share and the others are all shares
-pub joined_whole : (drawing : Drawing) (opened : List Opened) (shares : List Holding) (first : Holding) (others : List Holding) (drawer : Drawings) (passes : List Knowledge)
+pub joined_whole : (drawing : Drawing) (opened : List SharedBookView) (shares : List ShareView) (first : ShareView) (others : List ShareView) (drawer : DrawerView) (passes : List PassView)
     → shares ≡ first ∷ others → IsJoinedOf drawing opened (length others + 1) (first ∷ others) drawer passes → IsJoinedOf drawing opened (length shares) shares drawer passes
 joined_whole drawing opened shares first others drawer passes is all =
     let number : length others + 1 ≡ length shares = omega (arith, ap length is) in
     let N : ℕ → Type 0 = λ n. IsJoinedOf drawing opened n (first ∷ others) drawer passes in
-    let S : List Holding → Type 0 = λ ss. IsJoinedOf drawing opened (length shares) ss drawer passes in
+    let S : List ShareView → Type 0 = λ ss. IsJoinedOf drawing opened (length shares) ss drawer passes in
     subst S (sym is) (subst N number all)
 
 -- what holds anyway holds where the result is right
@@ -183,7 +184,7 @@ pub any_ok : {T E : Type 0} (r : Result T E) (P : Type 0) → P → OnOk r P
 any_ok (Ok x) P p = p
 any_ok (Err e) P p = tt
 
-pub no_shares : (shares : List Holding) → length shares ≡ 0 → shares ≡ []
+pub no_shares : (shares : List ShareView) → length shares ≡ 0 → shares ≡ []
 no_shares [] none = refl
 no_shares (s ∷ shares) none = absurd (omega (arith, none))
 

@@ -7,45 +7,46 @@ use Rattle.std.proofs.lemmas.Bool.Decides.{eqb_tells}
 use Rattle.shard_book.specs.declared.entry.Entry.{Entry}
 use Rattle.shared_books.specs.declared.turns.rule.Mark.{Mark}
 use Rattle.shared_books.specs.Marks.{mark, others}
-use Rattle.shared_books.specs.Passes.{Knowledge, IsFull, IsLater, Visits, seen_by}
+use Rattle.shared_books.specs.Passes.{PassView, IsFull, IsLater, Visits, seen_by}
 use Rattle.fare_service.specs.declared.working.Stop.{Stop}
 use Rattle.fare_service.specs.declared.working.Stop.TheVariants.{Memory, Full}
 use Rattle.fare_service.specs.Shares.{own_visits, own_at}
-use Rattle.fare_service.specs.Stopping.{KnowsFull, SomeFull, TellsFull}
+use Rattle.fare_service.specs.Stopping.{KnowsFull, SomeFull}
+use Rattle.fare_service.specs.inside.Stopping.{TellsFull}
 use Rattle.fare_service.proofs.RunVisits.{marks_here}
 use Rattle.fare_service.proofs.VisitLemmas.{marks-set_same, own-visits}
 
 -- how many visits a pass has seen
-seen : (pass : Knowledge) → length (seen_by pass) ≡ length pass.marks
+seen : (pass : PassView) → length (seen_by pass) ≡ length pass.marks
 seen pass = length-map pass.marks (λ (m : Mark). m.visit)
 
 -- a pass has seen no less later
-pub knows_more : (old new : Knowledge) (more : List Mark) → new.book ≡ old.book → new.marks ≡ old.marks ++ more → KnowsFull old → KnowsFull new
+pub knows_more : (old new : PassView) (more : List Mark) → new.book ≡ old.book → new.marks ≡ old.marks ++ more → KnowsFull old → KnowsFull new
 knows_more old new more book marks full =
     omega (arith, full, ap (λ b. b.first) book, seen old, seen new, ap length marks, length-append old.marks more)
 
-pub later_full : (old new : Knowledge) → IsLater old new → KnowsFull old → KnowsFull new
+pub later_full : (old new : PassView) → IsLater old new → KnowsFull old → KnowsFull new
 later_full old new l = knows_more old new (others l.between) l.book l.marks
 
-pub visits_full : (old new : Knowledge) (number : ℕ) (visit : List Entry) → Visits old new number visit → KnowsFull old → KnowsFull new
+pub visits_full : (old new : PassView) (number : ℕ) (visit : List Entry) → Visits old new number visit → KnowsFull old → KnowsFull new
 visits_full old new number visit v full =
     omega (arith, full, ap (λ b. b.first) v.book, seen old, seen new, ap length v.marks, length-append (old.marks ++ others v.between) (mark true visit ∷ []), length-append old.marks (others v.between))
 
-pub is_full : (pass : Knowledge) → IsFull pass → KnowsFull pass
+pub is_full : (pass : PassView) → IsFull pass → KnowsFull pass
 is_full pass f = omega (arith, f.count)
 
 -- an element that is there is the same by any default
-same_default : (xs : List Knowledge) (i : ℕ) (d e : Knowledge) → i < length xs → get_or xs i d ≡ get_or xs i e
+same_default : (xs : List PassView) (i : ℕ) (d e : PassView) → i < length xs → get_or xs i d ≡ get_or xs i e
 same_default [] i d e h = absurd (omega arith)
 same_default (y ∷ ys) zero d e h = refl
 same_default (y ∷ ys) (suc i) d e h = same_default ys i d e (omega arith)
 
 -- the pass to a shard is another one now
-pub full_here : (passes : List Knowledge) (shard : ℕ) (new : Knowledge) → shard < length passes → KnowsFull new → SomeFull (set passes shard new)
+pub full_here : (passes : List PassView) (shard : ℕ) (new : PassView) → shard < length passes → KnowsFull new → SomeFull (set passes shard new)
 full_here passes shard new within full =
     (shard, new, (let l : length (set passes shard new) ≡ length passes = length-set passes shard new in omega (arith, l, within)), get_or-set_same passes shard new new within, full)
 
-pub full_stays : (passes : List Knowledge) (shard : ℕ) (old new : Knowledge) → shard < length passes → old ≡ get_or passes shard old → (KnowsFull old → KnowsFull new)
+pub full_stays : (passes : List PassView) (shard : ℕ) (old new : PassView) → shard < length passes → old ≡ get_or passes shard old → (KnowsFull old → KnowsFull new)
     → SomeFull passes → SomeFull (set passes shard new)
 full_stays passes shard old new within is more (k, x, below, at, full) = at_place (eqb_tells k shard)
   where
@@ -57,13 +58,12 @@ full_stays passes shard old new within is more (k, x, below, at, full) = at_plac
     at_place (inr (b, ne)) =
         (k, x, (let l : length (set passes shard new) ≡ length passes = length-set passes shard new in omega (arith, l, below)), get_or-set_other passes shard k new x ne ∙ at, full)
 
-
 -- what an answer tells
-pub tells_ok : {A : Type 0} (x : A) (old new : List Knowledge) → (SomeFull old → SomeFull new) → TellsFull (Ok x) old new
+pub tells_ok : {A : Type 0} (x : A) (old new : List PassView) → (SomeFull old → SomeFull new) → TellsFull (Ok x) old new
 tells_ok x old new more (inl some) = more some
 tells_ok x old new more (inr e) = absurd (cc)
 
-pub tells_refused : {A : Type 0} (r : Result A Stop) (old new : List Knowledge) → r ≡ Err Memory → (SomeFull old → SomeFull new) → TellsFull r old new
+pub tells_refused : {A : Type 0} (r : Result A Stop) (old new : List PassView) → r ≡ Err Memory → (SomeFull old → SomeFull new) → TellsFull r old new
 tells_refused r old new is more (inl some) = more some
 tells_refused r old new is more (inr e) = absurd (cc)
 
@@ -73,7 +73,7 @@ the_error (Ok x) stop h = absurd h
 the_error (Err e) stop h = ap Err h
 
 -- an answer that hands on the error of another
-pub handed_on : {A B : Type 0} (r : Result A Stop) (s : Result B Stop) (stop : Stop) (old between new : List Knowledge) → r ≡ Err stop → s ≡ Err stop
+pub handed_on : {A B : Type 0} (r : Result A Stop) (s : Result B Stop) (stop : Stop) (old between new : List PassView) → r ≡ Err stop → s ≡ Err stop
     → (SomeFull old → SomeFull between) → TellsFull r between new → TellsFull s old new
 handed_on r s stop old between new is also more tells (inl some) = tells (inl (more some))
 handed_on r s stop old between new is also more tells (inr e) =
@@ -81,7 +81,7 @@ handed_on r s stop old between new is also more tells (inr e) =
     tells (inr (is ∙ ap Err same))
 
 -- the visit that the pass to a shard made
-pub own_grows : (passes : List Knowledge) (shard : ℕ) (old new : Knowledge) (number : ℕ) (visit : List Entry) → shard < length passes → old ≡ get_or passes shard old
+pub own_grows : (passes : List PassView) (shard : ℕ) (old new : PassView) (number : ℕ) (visit : List Entry) → shard < length passes → old ≡ get_or passes shard old
     → Visits old new number visit → own_at shard (set passes shard new) ≡ own_at shard passes ++ visit ∷ []
 own_grows passes shard old new number visit within is v =
     ap own_visits (marks-set_same passes shard new within)

@@ -13,88 +13,91 @@ use Rattle.shard_book.specs.History.{IsLegal}
 use Rattle.fare_table.specs.Fares.{Fares}
 use Rattle.shard_book.specs.Sums.{Sums, sums}
 use Rattle.shared_books.specs.Drawing.{AllBelow, NoneTwice, times}
-use Rattle.fare_service.specs.Closing.{IsClosedWork, IsHistoryOf}
+use Rattle.fare_service.specs.Closing.{IsHistoryOf}
+use Rattle.fare_service.specs.inside.Closing.{IsClosedWork}
 use Rattle.fare_service.specs.declared.share.Done.{Done}
 use Rattle.fare_service.specs.declared.upload_end.UploadEnd.{UploadEnd}
 use Rattle.fare_service.specs.declared.upload_end.UploadEnd.TheVariants.{Posted, Refused, Cut, Undrawn}
 use Rattle.fare_service.specs.Headline.{end_of, HasOutcome, HasRun}
-use Rattle.fare_service.specs.Halls.{Hall, IsHall, IsBookOf, shards_of}
-use Rattle.fare_service.specs.Holdings.{Holding}
-use Rattle.fare_service.specs.Joining.{Belongs, told, told_all}
-use Rattle.fare_service.specs.Outcomes.{Gathered, IsOutcome}
+use Rattle.fare_service.specs.ServiceView.{ServiceView, shards_of}
+use Rattle.fare_service.specs.inside.ServiceView.{IsService, IsBookOf}
+use Rattle.fare_service.specs.ShareView.{ShareView}
+use Rattle.fare_service.specs.inside.Joining.{Belongs, told, told_all}
+use Rattle.fare_service.specs.Outcomes.{OutcomeView}
+use Rattle.fare_service.specs.inside.Outcomes.{IsOutcome}
 use Rattle.fare_service.specs.Runs.{entries_of}
 use Rattle.fare_service.specs.Shares.{Worked, all_visits, all_works, done_of, file_at, IsWorked, IsWorkOf, Keeps, IsShareOf, IsEndOf}
 use Rattle.fare_service.proofs.GatheredWork.{Given, given_of, IsBookOfWork, IsGathered}
 
 -- what each share keeps
-abbrev Kept : Hall → List Holding → List (List Worked) → Type 0
-Kept hall shares works = AllZip (Keeps hall) shares works
+abbrev Kept : ServiceView → List ShareView → List (List Worked) → Type 0
+Kept service shares works = AllZip (Keeps service) shares works
 
-pub keepings : (hall : Hall) (shares : List Holding) → All (IsShareOf hall) shares → (works : List (List Worked)) × Kept hall shares works
-keepings hall [] all = ([], tt)
-keepings hall (s ∷ shares) all =
-    let first = All-head (IsShareOf hall) s shares all in
-    let rest = keepings hall shares (All-tail (IsShareOf hall) s shares all) in
+pub keepings : (service : ServiceView) (shares : List ShareView) → All (IsShareOf service) shares → (works : List (List Worked)) × Kept service shares works
+keepings service [] all = ([], tt)
+keepings service (s ∷ shares) all =
+    let first = All-head (IsShareOf service) s shares all in
+    let rest = keepings service shares (All-tail (IsShareOf service) s shares all) in
     (first.works ∷ rest.0, (first.keeps, rest.1))
 
-pub belongs_all : (hall : Hall) (shares : List Holding) → All (IsShareOf hall) shares → All (Belongs hall.drawing hall.books) shares
-belongs_all hall shares all = All-weaker (IsShareOf hall) (Belongs hall.drawing hall.books) (λ s h. record { source = h.drawer; of_books = h.passes }) shares all
+pub belongs_all : (service : ServiceView) (shares : List ShareView) → All (IsShareOf service) shares → All (Belongs service.drawing service.books) shares
+belongs_all service shares all = All-weaker (IsShareOf service) (Belongs service.drawing service.books) (λ s h. record { source = h.drawer; of_books = h.passes }) shares all
 
-all_each : (hall : Hall) (shares : List Holding) (works : List (List Worked)) → Kept hall shares works → All (λ done. All (IsWorked hall) done) works
-all_each hall [] [] kept = All-nil (λ done. All (IsWorked hall) done)
-all_each hall [] (w ∷ works) kept = absurd kept
-all_each hall (s ∷ shares) [] kept = absurd kept
-all_each hall (s ∷ shares) (w ∷ works) kept = All-cons (λ done. All (IsWorked hall) done) w works kept.0.each (all_each hall shares works kept.1)
+all_each : (service : ServiceView) (shares : List ShareView) (works : List (List Worked)) → Kept service shares works → All (λ done. All (IsWorked service) done) works
+all_each service [] [] kept = All-nil (λ done. All (IsWorked service) done)
+all_each service [] (w ∷ works) kept = absurd kept
+all_each service (s ∷ shares) [] kept = absurd kept
+all_each service (s ∷ shares) (w ∷ works) kept = All-cons (λ done. All (IsWorked service) done) w works kept.0.each (all_each service shares works kept.1)
 
 pub each_work : (given : Given) (works : List (List Worked)) → All (λ done. All (IsWorkOf given.shards given.uploads) done) works → All (IsWorkOf given.shards given.uploads) (all_works works)
 each_work given [] all = All-nil (IsWorkOf given.shards given.uploads)
 each_work given (w ∷ works) all =
     All-append (IsWorkOf given.shards given.uploads) w (all_works works) (All-head (λ done. All (IsWorkOf given.shards given.uploads) done) w works all) (each_work given works (All-tail (λ done. All (IsWorkOf given.shards given.uploads) done) w works all))
 
-drawn_all : (hall : Hall) (shares : List Holding) (works : List (List Worked)) → Kept hall shares works → flat_map (λ share. share.drawer.drawn) shares ≡ map (λ w. w.upload) (all_works works)
-drawn_all hall [] [] kept = refl
-drawn_all hall [] (w ∷ works) kept = absurd kept
-drawn_all hall (s ∷ shares) [] kept = absurd kept
-drawn_all hall (s ∷ shares) (w ∷ works) kept =
-    ap (λ ds. ds ++ flat_map (λ (share : Holding). share.drawer.drawn) shares) kept.0.drawn ∙ ap (λ ds. map (λ (x : Worked). x.upload) w ++ ds) (drawn_all hall shares works kept.1)
+drawn_all : (service : ServiceView) (shares : List ShareView) (works : List (List Worked)) → Kept service shares works → flat_map (λ share. share.drawer.drawn) shares ≡ map (λ w. w.upload) (all_works works)
+drawn_all service [] [] kept = refl
+drawn_all service [] (w ∷ works) kept = absurd kept
+drawn_all service (s ∷ shares) [] kept = absurd kept
+drawn_all service (s ∷ shares) (w ∷ works) kept =
+    ap (λ ds. ds ++ flat_map (λ (share : ShareView). share.drawer.drawn) shares) kept.0.drawn ∙ ap (λ ds. map (λ (x : Worked). x.upload) w ++ ds) (drawn_all service shares works kept.1)
     ∙ sym (map-append (λ x. x.upload) w (all_works works))
 
-totals_all : (hall : Hall) (shares : List Holding) (works : List (List Worked)) → Kept hall shares works
+totals_all : (service : ServiceView) (shares : List ShareView) (works : List (List Worked)) → Kept service shares works
     → map (λ share. share.totals) shares ≡ map (λ done. sums (entries_of (all_visits done))) works
-totals_all hall [] [] kept = refl
-totals_all hall [] (w ∷ works) kept = absurd kept
-totals_all hall (s ∷ shares) [] kept = absurd kept
-totals_all hall (s ∷ shares) (w ∷ works) kept =
-    ap (λ t. t ∷ map (λ (share : Holding). share.totals) shares) kept.0.totals ∙ ap (λ ts. sums (entries_of (all_visits w)) ∷ ts) (totals_all hall shares works kept.1)
+totals_all service [] [] kept = refl
+totals_all service [] (w ∷ works) kept = absurd kept
+totals_all service (s ∷ shares) [] kept = absurd kept
+totals_all service (s ∷ shares) (w ∷ works) kept =
+    ap (λ t. t ∷ map (λ (share : ShareView). share.totals) shares) kept.0.totals ∙ ap (λ ts. sums (entries_of (all_visits w)) ∷ ts) (totals_all service shares works kept.1)
 
-pub kept_length : (hall : Hall) (shares : List Holding) (works : List (List Worked)) → Kept hall shares works → length shares ≡ length works
-kept_length hall [] [] kept = refl
-kept_length hall [] (w ∷ works) kept = absurd kept
-kept_length hall (s ∷ shares) [] kept = absurd kept
-kept_length hall (s ∷ shares) (w ∷ works) kept = ap suc (kept_length hall shares works kept.1)
+pub kept_length : (service : ServiceView) (shares : List ShareView) (works : List (List Worked)) → Kept service shares works → length shares ≡ length works
+kept_length service [] [] kept = refl
+kept_length service [] (w ∷ works) kept = absurd kept
+kept_length service (s ∷ shares) [] kept = absurd kept
+kept_length service (s ∷ shares) (w ∷ works) kept = ap suc (kept_length service shares works kept.1)
 
-kept_at : (hall : Hall) (shares : List Holding) (works : List (List Worked)) (worker : ℕ) (done : List Worked) → Kept hall shares works → slice_get works worker ≡ Some done
-    → (share : Holding) × (slice_get shares worker ≡ Some share) × Keeps hall share done
-kept_at hall [] [] worker done kept at = absurd (cc)
-kept_at hall [] (w ∷ works) worker done kept at = absurd kept
-kept_at hall (s ∷ shares) [] worker done kept at = absurd kept
-kept_at hall (s ∷ shares) (w ∷ works) zero done kept at =
+kept_at : (service : ServiceView) (shares : List ShareView) (works : List (List Worked)) (worker : ℕ) (done : List Worked) → Kept service shares works → slice_get works worker ≡ Some done
+    → (share : ShareView) × (slice_get shares worker ≡ Some share) × Keeps service share done
+kept_at service [] [] worker done kept at = absurd (cc)
+kept_at service [] (w ∷ works) worker done kept at = absurd kept
+kept_at service (s ∷ shares) [] worker done kept at = absurd kept
+kept_at service (s ∷ shares) (w ∷ works) zero done kept at =
     let same : w ≡ done = cc in
-    let K : List Worked → Type 0 = Keeps hall s in
+    let K : List Worked → Type 0 = Keeps service s in
     (s, refl, subst K same kept.0)
-kept_at hall (s ∷ shares) (w ∷ works) (suc worker) done kept at = kept_at hall shares works worker done kept.1 at
+kept_at service (s ∷ shares) (w ∷ works) (suc worker) done kept at = kept_at service shares works worker done kept.1 at
 
 -- the ends, of what all did
 told-append : (ends : List UploadEnd) (xs ys : List Done) → told ends (xs ++ ys) ≡ told (told ends xs) ys
 told-append ends [] ys = refl
 told-append ends (d ∷ xs) ys = told-append (slice_set ends d.upload d.end) xs ys
 
-told_works : (hall : Hall) (ends : List UploadEnd) (shares : List Holding) (works : List (List Worked)) → Kept hall shares works → told_all ends shares ≡ told ends (map done_of (all_works works))
-told_works hall ends [] [] kept = refl
-told_works hall ends [] (w ∷ works) kept = absurd kept
-told_works hall ends (s ∷ shares) [] kept = absurd kept
-told_works hall ends (s ∷ shares) (w ∷ works) kept =
-    ap (λ ds. told_all (told ends ds) shares) kept.0.done ∙ told_works hall (told ends (map done_of w)) shares works kept.1
+told_works : (service : ServiceView) (ends : List UploadEnd) (shares : List ShareView) (works : List (List Worked)) → Kept service shares works → told_all ends shares ≡ told ends (map done_of (all_works works))
+told_works service ends [] [] kept = refl
+told_works service ends [] (w ∷ works) kept = absurd kept
+told_works service ends (s ∷ shares) [] kept = absurd kept
+told_works service ends (s ∷ shares) (w ∷ works) kept =
+    ap (λ ds. told_all (told ends ds) shares) kept.0.done ∙ told_works service (told ends (map done_of w)) shares works kept.1
     ∙ sym (told-append ends (map done_of w) (map done_of (all_works works))) ∙ ap (told ends) (sym (map-append done_of w (all_works works)))
 
 set_same : (ends : List UploadEnd) (upload : ℕ) (new end : UploadEnd) → slice_get (slice_set ends upload new) upload ≡ Some end → end ≡ new
@@ -156,23 +159,23 @@ told_end ends (w ∷ works) upload end once at = by_test (eqb_tells w.upload upl
     by_test (inr (is, apart)) (inr (some, ended)) = inr (omega (arith, times_other w works upload is, some), ended ∙ sym (end_other w works upload is))
 
 -- an upload that was drawn ended
-never_undrawn : (hall : Hall) (w : Worked) → IsWorked hall w → w.end ≢ Undrawn
-never_undrawn hall w worked = by_end w.end worked.ended
+never_undrawn : (service : ServiceView) (w : Worked) → IsWorked service w → w.end ≢ Undrawn
+never_undrawn service w worked = by_end w.end worked.ended
   where
-    by_end : (end : UploadEnd) → IsEndOf (shards_of hall) (file_at hall.uploads w.upload) worked.batches worked.rest w.visits end → end ≢ Undrawn
+    by_end : (end : UploadEnd) → IsEndOf (shards_of service) (file_at service.uploads w.upload) worked.batches worked.rest w.visits end → end ≢ Undrawn
     by_end Undrawn e is = e
     by_end (Posted taps) e is = absurd (cc)
     by_end (Refused taps offset fault) e is = absurd (cc)
     by_end (Cut taps) e is = absurd (cc)
 
-drawn_ended : (hall : Hall) (works : List Worked) (upload : ℕ) → All (IsWorked hall) works → 0 < drawn_times upload works → end_of upload works ≢ Undrawn
-drawn_ended hall [] upload all some = absurd (omega (arith, some))
-drawn_ended hall (w ∷ works) upload all some =
-    by_test (eqb_tells w.upload upload) (drawn_ended hall works upload (All-tail (IsWorked hall) w works all))
+drawn_ended : (service : ServiceView) (works : List Worked) (upload : ℕ) → All (IsWorked service) works → 0 < drawn_times upload works → end_of upload works ≢ Undrawn
+drawn_ended service [] upload all some = absurd (omega (arith, some))
+drawn_ended service (w ∷ works) upload all some =
+    by_test (eqb_tells w.upload upload) (drawn_ended service works upload (All-tail (IsWorked service) w works all))
   where
     by_test : (((w.upload == upload) ≡ true) × (w.upload ≡ upload)) ⊎ (((w.upload == upload) ≡ false) × (w.upload ≢ upload)) → (0 < drawn_times upload works → end_of upload works ≢ Undrawn)
         → end_of upload (w ∷ works) ≢ Undrawn
-    by_test (inl (is, same)) rest e = never_undrawn hall w (All-head (IsWorked hall) w works all) (sym (end_same w works upload is) ∙ e)
+    by_test (inl (is, same)) rest e = never_undrawn service w (All-head (IsWorked service) w works all) (sym (end_same w works upload is) ∙ e)
     by_test (inr (is, apart)) rest e = rest (omega (arith, some, times_other w works upload is)) (sym (end_other w works upload is) ∙ e)
 
 pub not_drawn : (works : List Worked) (upload : ℕ) → drawn_times upload works ≡ 0 → end_of upload works ≡ Undrawn
@@ -185,73 +188,73 @@ not_drawn (w ∷ works) upload none = by_test (eqb_tells w.upload upload) (not_d
     by_test (inr (is, apart)) rest = end_other w works upload is ∙ rest (omega (arith, none, times_other w works upload is))
 
 -- the ends that the shares tell
-ends_told : (hall : Hall) (shares : List Holding) (works : List (List Worked)) → Kept hall shares works → NoneTwice (map (λ w. w.upload) (all_works works))
-    → (ends : List UploadEnd) → ends ≡ told_all (replicate (length hall.uploads) Undrawn) shares
-    → (upload : ℕ) (end : UploadEnd) → slice_get ends upload ≡ Some end → Told (replicate (length hall.uploads) Undrawn) (all_works works) upload end
-ends_told hall shares works kept once ends are upload end at =
+ends_told : (service : ServiceView) (shares : List ShareView) (works : List (List Worked)) → Kept service shares works → NoneTwice (map (λ w. w.upload) (all_works works))
+    → (ends : List UploadEnd) → ends ≡ told_all (replicate (length service.uploads) Undrawn) shares
+    → (upload : ℕ) (end : UploadEnd) → slice_get ends upload ≡ Some end → Told (replicate (length service.uploads) Undrawn) (all_works works) upload end
+ends_told service shares works kept once ends are upload end at =
     let G : List UploadEnd → Type 0 = λ es. slice_get es upload ≡ Some end in
-    told_end (replicate (length hall.uploads) Undrawn) (all_works works) upload end once (subst G (are ∙ told_works hall (replicate (length hall.uploads) Undrawn) shares works kept) at)
+    told_end (replicate (length service.uploads) Undrawn) (all_works works) upload end once (subst G (are ∙ told_works service (replicate (length service.uploads) Undrawn) shares works kept) at)
 
-book_of_work : (hall : Hall) → IsHall hall → (shares : List Holding) (works : List (List Worked)) → Kept hall shares works
-    → (shard : ℕ) (book : Book) → IsHistoryOf hall.books shares shard book → IsBookOfWork hall.table shard (shards_of hall) works book
-book_of_work hall is shares works kept shard book h =
-    let opened : IsBookOf hall.table shard (shards_of hall) h.shared = is.books shard h.shared h.at in
+book_of_work : (service : ServiceView) → IsService service → (shares : List ShareView) (works : List (List Worked)) → Kept service shares works
+    → (shard : ℕ) (book : Book) → IsHistoryOf service.books shares shard book → IsBookOfWork service.table shard (shards_of service) works book
+book_of_work service is shares works kept shard book h =
+    let opened : IsBookOf service.table shard (shards_of service) h.shared = is.books shard h.shared h.at in
     let L : Fares → Type 0 = λ t. IsLegal t book.entries in
     record {
       visits = h.visits;
       history = h.history;
-      signed = All-weaker (λ v. v.worker < length shares) (λ v. v.worker < length works) (λ v p. omega (arith, p, kept_length hall shares works kept)) h.visits h.signed;
-      order = λ worker done at. let k = kept_at hall shares works worker done kept at in h.order worker k.0 k.1 ∙ k.2.visits shard;
+      signed = All-weaker (λ v. v.worker < length shares) (λ v. v.worker < length works) (λ v p. omega (arith, p, kept_length service shares works kept)) h.visits h.signed;
+      order = λ worker done at. let k = kept_at service shares works worker done kept at in h.order worker k.0 k.1 ∙ k.2.visits shard;
       its_table = h.table ∙ opened.its_table;
       its_shard = h.its_shard ∙ opened.its_shard;
       of_shards = h.of_shards ∙ opened.of_shards;
       legal = subst L (h.table ∙ opened.its_table) h.legal;
     }
 
-gathered : List Book → List UploadEnd → List Sums → Sums → Gathered
+gathered : List Book → List UploadEnd → List Sums → Sums → OutcomeView
 gathered books ends workers totals = record { books = books; ends = ends; workers = workers; totals = totals }
 
 -- what was gathered of shares, by what each keeps
-abbrev pub HasGathered : Hall → List Holding → Gathered → Type 0
-HasGathered hall shares outcome = (works : List (List Worked)) × AllZip (Keeps hall) shares works × IsGathered (given_of hall) works outcome
+abbrev pub HasGathered : ServiceView → List ShareView → OutcomeView → Type 0
+HasGathered service shares outcome = (works : List (List Worked)) × AllZip (Keeps service) shares works × IsGathered (given_of service) works outcome
 
-pub has_gathered : (hall : Hall) → IsHall hall → (shares : List Holding) → All (IsShareOf hall) shares → (closed : List Book) → IsClosedWork hall.books shares closed
-    → (ends : List UploadEnd) → ends ≡ told_all (replicate (length hall.uploads) Undrawn) shares → length ends ≡ length hall.uploads
-    → (workers : List Sums) → workers ≡ map (λ share. share.totals) shares → (totals : Sums) → HasGathered hall shares (record { books = closed; ends = ends; workers = workers; totals = totals })
-has_gathered hall is shares all closed work ends are number workers sums_are totals =
-    let k = keepings hall shares all in
+pub has_gathered : (service : ServiceView) → IsService service → (shares : List ShareView) → All (IsShareOf service) shares → (closed : List Book) → IsClosedWork service.books shares closed
+    → (ends : List UploadEnd) → ends ≡ told_all (replicate (length service.uploads) Undrawn) shares → length ends ≡ length service.uploads
+    → (workers : List Sums) → workers ≡ map (λ share. share.totals) shares → (totals : Sums) → HasGathered service shares (record { books = closed; ends = ends; workers = workers; totals = totals })
+has_gathered service is shares all closed work ends are number workers sums_are totals =
+    let k = keepings service shares all in
     let D : List ℕ → Type 0 = NoneTwice in
-    let once = subst D (drawn_all hall shares k.0 k.1) work.once in
-    let each = all_each hall shares k.0 k.1 in (
+    let once = subst D (drawn_all service shares k.0 k.1) work.once in
+    let each = all_each service shares k.0 k.1 in (
       k.0,
       k.1,
       record {
         each = each;
         once = once;
         shards = work.number;
-        books = λ shard book at. book_of_work hall is shares k.0 k.1 shard book (work.books shard book at);
+        books = λ shard book at. book_of_work service is shares k.0 k.1 shard book (work.books shard book at);
         uploads = number;
-        ends = λ upload end at. by_told k.0 upload end (ends_told hall shares k.0 k.1 once ends are upload end at);
-        workers = sums_are ∙ totals_all hall shares k.0 k.1;
+        ends = λ upload end at. by_told k.0 upload end (ends_told service shares k.0 k.1 once ends are upload end at);
+        workers = sums_are ∙ totals_all service shares k.0 k.1;
       },
     )
   where
-    by_told : (works : List (List Worked)) (upload : ℕ) (end : UploadEnd) → Told (replicate (length hall.uploads) Undrawn) (all_works works) upload end → end ≡ end_of upload (all_works works)
-    by_told works upload end (inl (none, there)) = get_replicate (length hall.uploads) upload end there ∙ sym (not_drawn (all_works works) upload none)
+    by_told : (works : List (List Worked)) (upload : ℕ) (end : UploadEnd) → Told (replicate (length service.uploads) Undrawn) (all_works works) upload end → end ≡ end_of upload (all_works works)
+    by_told works upload end (inl (none, there)) = get_replicate (length service.uploads) upload end there ∙ sym (not_drawn (all_works works) upload none)
     by_told works upload end (inr (some, e)) = e
 
-pub told_undrawn : (hall : Hall) (shares : List Holding) → All (IsShareOf hall) shares → (closed : List Book) → IsClosedWork hall.books shares closed
-    → (ends : List UploadEnd) → ends ≡ told_all (replicate (length hall.uploads) Undrawn) shares → length ends ≡ length hall.uploads
+pub told_undrawn : (service : ServiceView) (shares : List ShareView) → All (IsShareOf service) shares → (closed : List Book) → IsClosedWork service.books shares closed
+    → (ends : List UploadEnd) → ends ≡ told_all (replicate (length service.uploads) Undrawn) shares → length ends ≡ length service.uploads
     → (upload : ℕ) → slice_get ends upload ≡ Some Undrawn → All (λ share. share.drawer.seen ≤ upload) shares
-told_undrawn hall shares all closed work ends are number upload at =
-    let k = keepings hall shares all in
+told_undrawn service shares all closed work ends are number upload at =
+    let k = keepings service shares all in
     let D : List ℕ → Type 0 = NoneTwice in
-    let once = subst D (drawn_all hall shares k.0 k.1) work.once in
-    by_told k.0 k.1 (ends_told hall shares k.0 k.1 once ends are upload Undrawn at)
+    let once = subst D (drawn_all service shares k.0 k.1) work.once in
+    by_told k.0 k.1 (ends_told service shares k.0 k.1 once ends are upload Undrawn at)
   where
-    by_told : (works : List (List Worked)) → Kept hall shares works → Told (replicate (length hall.uploads) Undrawn) (all_works works) upload Undrawn → All (λ share. share.drawer.seen ≤ upload) shares
-    by_told works kept (inl (none, there)) = work.undrawn upload (ap (times upload) (drawn_all hall shares works kept) ∙ none)
-    by_told works kept (inr (some, e)) = absurd (drawn_ended hall (all_works works) upload (each_work (given_of hall) works (all_each hall shares works kept)) some (sym e))
+    by_told : (works : List (List Worked)) → Kept service shares works → Told (replicate (length service.uploads) Undrawn) (all_works works) upload Undrawn → All (λ share. share.drawer.seen ≤ upload) shares
+    by_told works kept (inl (none, there)) = work.undrawn upload (ap (times upload) (drawn_all service shares works kept) ∙ none)
+    by_told works kept (inr (some, e)) = absurd (drawn_ended service (all_works works) upload (each_work (given_of service) works (all_each service shares works kept)) some (sym e))
 
 -- uploads below a number
 all_below : (works : List Worked) (n : ℕ) → AllBelow n (map (λ w. w.upload) works) → All (λ w. w.upload < n) works
@@ -266,21 +269,21 @@ all_below (w ∷ works) n below = All-cons (λ x. x.upload < n) w works (here (c
     rest x above = omega (arith, below x above, sum_by-cons (λ u. cond (u == x) 1 0) w.upload (map (λ (y : Worked). y.upload) works))
 
 -- the uploads that nobody drew are the last ones
-pub undrawn_last : (hall : Hall) (shares : List Holding) (works : List (List Worked)) → Kept hall shares works → (closed : List Book) → IsClosedWork hall.books shares closed
+pub undrawn_last : (service : ServiceView) (shares : List ShareView) (works : List (List Worked)) → Kept service shares works → (closed : List Book) → IsClosedWork service.books shares closed
     → (upload : ℕ) → end_of upload (all_works works) ≡ Undrawn → All (λ w. w.upload < upload) (all_works works)
-undrawn_last hall shares works kept closed work upload ended = by_times (cases_lt 0 (drawn_times upload (all_works works)))
+undrawn_last service shares works kept closed work upload ended = by_times (cases_lt 0 (drawn_times upload (all_works works)))
   where
     by_times : (0 < drawn_times upload (all_works works)) ⊎ (drawn_times upload (all_works works) ≤ 0) → All (λ w. w.upload < upload) (all_works works)
-    by_times (inl some) = absurd (drawn_ended hall (all_works works) upload (each_work (given_of hall) works (all_each hall shares works kept)) some ended)
+    by_times (inl some) = absurd (drawn_ended service (all_works works) upload (each_work (given_of service) works (all_each service shares works kept)) some ended)
     by_times (inr few) =
-        let none : times upload (flat_map (λ share. share.drawer.drawn) shares) ≡ 0 = ap (times upload) (drawn_all hall shares works kept) ∙ omega (arith, few) in
+        let none : times upload (flat_map (λ share. share.drawer.drawn) shares) ≡ 0 = ap (times upload) (drawn_all service shares works kept) ∙ omega (arith, few) in
         let B : List ℕ → Type 0 = AllBelow upload in
-        all_below (all_works works) upload (subst B (drawn_all hall shares works kept) (work.last upload none))
+        all_below (all_works works) upload (subst B (drawn_all service shares works kept) (work.last upload none))
 
 -- what always holds of an outcome holds
-pub is_outcome : (hall : Hall) → IsHall hall → (shares : List Holding) (closed : List Book) → IsClosedWork hall.books shares closed → (ends : List UploadEnd) → length ends ≡ length hall.uploads
+pub is_outcome : (service : ServiceView) → IsService service → (shares : List ShareView) (closed : List Book) → IsClosedWork service.books shares closed → (ends : List UploadEnd) → length ends ≡ length service.uploads
     → (workers : List Sums) (totals : Sums) → totals ≡ sums (all_entries closed) → IsOutcome (record { books = closed; ends = ends; workers = workers; totals = totals })
-is_outcome hall is shares closed work ends number workers totals of_books = record {
+is_outcome service is shares closed work ends number workers totals of_books = record {
   some_shard = omega (arith, work.number, is.some_shard);
   few_shards = omega (arith, work.number, is.few_shards);
   shards = λ shard book at. let h = work.books shard book at in h.of_shards ∙ (is.books shard h.shared h.at).of_shards ∙ sym work.number;
@@ -289,15 +292,15 @@ is_outcome hall is shares closed work ends number workers totals of_books = reco
 }
 
 -- each share's uploads are uploads of the service
-pub done_within : (hall : Hall) (uploads : ℕ) (shares : List Holding) → length hall.uploads ≡ uploads → All (IsShareOf hall) shares → All (λ share. All (λ d. d.upload < uploads) share.done) shares
-done_within hall uploads shares number all =
-    All-weaker (IsShareOf hall) (λ share. All (λ d. d.upload < uploads) share.done) (λ s h. of_share s h) shares all
+pub done_within : (service : ServiceView) (uploads : ℕ) (shares : List ShareView) → length service.uploads ≡ uploads → All (IsShareOf service) shares → All (λ share. All (λ d. d.upload < uploads) share.done) shares
+done_within service uploads shares number all =
+    All-weaker (IsShareOf service) (λ share. All (λ d. d.upload < uploads) share.done) (λ s h. of_share s h) shares all
   where
-    of_share : (s : Holding) → IsShareOf hall s → All (λ d. d.upload < uploads) s.done
+    of_share : (s : ShareView) → IsShareOf service s → All (λ d. d.upload < uploads) s.done
     of_share s h =
         let P : List Done → Type 0 = All (λ d. d.upload < uploads) in
-        subst P (sym h.keeps.done) (All-map (λ d. d.upload < uploads) done_of h.works (All-weaker (IsWorked hall) (λ w. w.upload < uploads) (λ w q. omega (arith, q.within, number)) h.works h.keeps.each))
+        subst P (sym h.keeps.done) (All-map (λ d. d.upload < uploads) done_of h.works (All-weaker (IsWorked service) (λ w. w.upload < uploads) (λ w q. omega (arith, q.within, number)) h.works h.keeps.each))
 
 -- a run of so many workers was gathered
-pub has_run : (hall : Hall) (shares : List Holding) (workers : ℕ) (outcome : Gathered) → length shares ≡ workers → HasOutcome hall shares outcome → HasRun hall.table (shards_of hall) hall.uploads workers outcome
-has_run hall shares workers outcome number (works, kept, headline) = (works, sym (kept_length hall shares works kept) ∙ number, headline)
+pub has_run : (service : ServiceView) (shares : List ShareView) (workers : ℕ) (outcome : OutcomeView) → length shares ≡ workers → HasOutcome service shares outcome → HasRun service.table (shards_of service) service.uploads workers outcome
+has_run service shares workers outcome number (works, kept, headline) = (works, sym (kept_length service shares works kept) ∙ number, headline)

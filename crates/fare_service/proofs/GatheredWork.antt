@@ -7,9 +7,9 @@ use Rattle.shard_book.specs.Sums.{sums}
 use Rattle.shared_books.specs.Drawing.{NoneTwice}
 use Rattle.shared_books.specs.Marks.{joined}
 use Rattle.fare_service.specs.declared.upload_end.UploadEnd.{UploadEnd}
-use Rattle.fare_service.specs.Halls.{Hall, shards_of}
+use Rattle.fare_service.specs.ServiceView.{ServiceView, shards_of}
 use Rattle.fare_service.specs.Headline.{Signed, by_worker, end_of}
-use Rattle.fare_service.specs.Outcomes.{Gathered}
+use Rattle.fare_service.specs.Outcomes.{OutcomeView}
 use Rattle.fare_service.specs.Runs.{entries_to, entries_of}
 use Rattle.fare_service.specs.Shares.{Worked, all_works, all_visits, IsWorkOf}
 
@@ -19,8 +19,8 @@ pub record Given : Type 0 where
   pub shards : ℕ
   pub uploads : List (List ℕ)
 
-abbrev pub given_of : Hall → Given
-given_of hall = record { table = hall.table; shards = shards_of hall; uploads = hall.uploads }
+abbrev pub given_of : ServiceView → Given
+given_of service = record { table = service.table; shards = shards_of service; uploads = service.uploads }
 
 -- the book of a shard, by the visits of the workers
 pub record IsBookOfWork (table : Fares) (shard shards : ℕ) (works : List (List Worked)) (book : Book) : Type 0 where
@@ -34,7 +34,7 @@ pub record IsBookOfWork (table : Fares) (shard shards : ℕ) (works : List (List
   pub legal : IsLegal table book.entries
 
 -- the books, ends and totals, by what the workers did
-pub record IsGathered (given : Given) (works : List (List Worked)) (outcome : Gathered) : Type 0 where
+pub record IsGathered (given : Given) (works : List (List Worked)) (outcome : OutcomeView) : Type 0 where
   pub each : All (λ done. All (IsWorkOf given.shards given.uploads) done) works
   pub once : NoneTwice (map (λ w. w.upload) (all_works works))
   pub shards : length outcome.books ≡ given.shards

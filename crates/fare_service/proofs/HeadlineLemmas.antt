@@ -18,7 +18,7 @@ use Rattle.shared_books.specs.Marks.{joined}
 use Rattle.fare_service.specs.declared.upload_end.UploadEnd.TheVariants.{Undrawn}
 use Rattle.fare_service.specs.Headline.{Signed, by_worker, end_of, IsOneThread, Headline}
 use Rattle.fare_service.specs.Limits.{KeepsLimits}
-use Rattle.fare_service.specs.Outcomes.{Gathered}
+use Rattle.fare_service.specs.Outcomes.{OutcomeView}
 use Rattle.fare_service.specs.Runs.{entries_to}
 use Rattle.fare_service.specs.Shares.{Worked, all_works, all_visits}
 use Rattle.fare_service.proofs.AddingLemmas.{gathered_sums}
@@ -59,7 +59,7 @@ all_signed workers (v ∷ visits) none = All-cons (λ x. x.worker < workers) v v
     rest worker past (inr (b, ne)) = sym (step_no worker v visits b) ∙ none worker past
 
 -- the headline holds of what was gathered
-pub headline_of : (given : Given) (works : List (List Worked)) (outcome : Gathered) → IsGathered given works outcome → outcome.totals ≡ sums (all_entries outcome.books)
+pub headline_of : (given : Given) (works : List (List Worked)) (outcome : OutcomeView) → IsGathered given works outcome → outcome.totals ≡ sums (all_entries outcome.books)
     → ((shard : ℕ) (book : Book) → slice_get outcome.books shard ≡ Some book → KeepsLimits book)
     → ((upload : ℕ) → end_of upload (all_works works) ≡ Undrawn → All (λ w. w.upload < upload) (all_works works)) → Headline given.table given.shards given.uploads works outcome
 headline_of given works outcome is totals limits undrawn = record {
@@ -78,7 +78,7 @@ headline_of given works outcome is totals limits undrawn = record {
 }
 
 -- what was gathered, of which the headline holds
-pub gathered_of : (given : Given) (works : List (List Worked)) (outcome : Gathered) → Headline given.table given.shards given.uploads works outcome → IsGathered given works outcome
+pub gathered_of : (given : Given) (works : List (List Worked)) (outcome : OutcomeView) → Headline given.table given.shards given.uploads works outcome → IsGathered given works outcome
 gathered_of given works outcome h = record {
   each = h.worked;
   once = h.drawn_once;

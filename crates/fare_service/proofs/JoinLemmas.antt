@@ -9,28 +9,28 @@ use Rattle.std.proofs.lemmas.Grind.{flat_map-append}
 use Rattle.std.proofs.lemmas.Bool.Decides.{eqb_tells}
 use Rattle.std.proofs.lemmas.Option.{slice_get_within}
 use Rattle.shared_books.specs.declared.turns.rule.Mark.{Mark}
-use Rattle.shared_books.specs.Drawing.{Drawing, Drawings, HasMet}
+use Rattle.shared_books.specs.Drawing.{Drawing, DrawerView, HasMet}
 use Rattle.shared_books.specs.Marks.{visits_of, merged}
-use Rattle.shared_books.specs.Passes.{Opened, Knowledge, IsJoined}
+use Rattle.shared_books.specs.Passes.{SharedBookView, PassView, IsJoined}
 use Rattle.fare_service.specs.Headline.{by_worker}
-use Rattle.fare_service.specs.Holdings.{Holding}
-use Rattle.fare_service.specs.Joining.{AreSigns, AreJoined, AreJoinedAt, AreSignedAt, Belongs, IsJoinedOf}
+use Rattle.fare_service.specs.ShareView.{ShareView}
+use Rattle.fare_service.specs.inside.Joining.{AreSigns, AreJoined, AreJoinedAt, AreSignedAt, Belongs, IsJoinedOf}
 use Rattle.fare_service.specs.Shares.{books_of, marks_at, own_at}
 use Rattle.fare_service.proofs.PlaceLemmas.{place_more}
 use Rattle.fare_service.proofs.Signing.{signed, signs_more, earlier_stay, new_own, merged-nil, made_own}
 use Rattle.fare_service.proofs.VisitLemmas.{marks-set_same, marks-set_other}
 use Rattle.fare_service.proofs.RunVisits.{marks_here}
 
-marks_beyond : (shard : ℕ) (passes : List Knowledge) → length passes ≤ shard → marks_at shard passes ≡ []
+marks_beyond : (shard : ℕ) (passes : List PassView) → length passes ≤ shard → marks_at shard passes ≡ []
 marks_beyond shard [] h = refl
 marks_beyond zero (p ∷ ps) h = absurd (omega (arith, h))
 marks_beyond (suc shard) (p ∷ ps) h = marks_beyond shard ps (omega arith)
 
-marks_last : (passes : List Knowledge) (pass : Knowledge) → marks_at (length passes) (passes ++ pass ∷ []) ≡ pass.marks
+marks_last : (passes : List PassView) (pass : PassView) → marks_at (length passes) (passes ++ pass ∷ []) ≡ pass.marks
 marks_last [] pass = refl
 marks_last (p ∷ ps) pass = marks_last ps pass
 
-marks_else : (shard : ℕ) (passes : List Knowledge) (pass : Knowledge) → shard ≢ length passes → marks_at shard (passes ++ pass ∷ []) ≡ marks_at shard passes
+marks_else : (shard : ℕ) (passes : List PassView) (pass : PassView) → shard ≢ length passes → marks_at shard (passes ++ pass ∷ []) ≡ marks_at shard passes
 marks_else zero [] pass ne = absurd (ne refl)
 marks_else (suc shard) [] pass ne = refl
 marks_else zero (p ∷ ps) pass ne = refl
@@ -41,7 +41,7 @@ same_joined x x' y y' z z' a b c j =
     subst (λ k. AreJoined k y' z') a (subst (λ k. AreJoined x k z') b (subst (λ k. AreJoined x y k) c j))
 
 -- what two passes that were joined have
-of_joined : (old other new : Knowledge) → IsJoined old other new → AreJoined old.marks other.marks new.marks
+of_joined : (old other new : PassView) → IsJoined old other new → AreJoined old.marks other.marks new.marks
 of_joined old other new j = record {
   marks = j.marks;
   apart = j.apart;
@@ -50,7 +50,7 @@ of_joined old other new j = record {
 }
 
 -- the passes of one shard more
-pub join_step : (fn yielded into : List Knowledge) (place : ℕ) (old pass new : Knowledge) (shard : ℕ) → AreJoinedAt shard fn yielded into → place ≡ length yielded → place < length into
+pub join_step : (fn yielded into : List PassView) (place : ℕ) (old pass new : PassView) (shard : ℕ) → AreJoinedAt shard fn yielded into → place ≡ length yielded → place < length into
     → old ≡ get_or into place old → IsJoined old pass new → AreJoinedAt shard fn (yielded ++ pass ∷ []) (set into place new)
 join_step fn yielded into place old pass new shard before at within is joined = by_place (eqb_tells shard place)
   where
@@ -67,7 +67,7 @@ join_step fn yielded into place old pass new shard before at within is joined = 
         refl (sym (marks_else shard yielded pass (λ e. ne (e ∙ sym at)))) (sym (marks-set_other into place shard new ne)) before
 
 -- the signs of one share more
-pub signed_more : (nobody shard : ℕ) (shares : List Holding) (share : Holding) (passes passes' : List Knowledge) → length shares < nobody → AreSignedAt nobody shard shares passes
+pub signed_more : (nobody shard : ℕ) (shares : List ShareView) (share : ShareView) (passes passes' : List PassView) → length shares < nobody → AreSignedAt nobody shard shares passes
     → AreJoinedAt shard passes share.passes passes' → AreSignedAt nobody shard (shares ++ share ∷ []) passes'
 signed_more nobody shard shares share passes passes' below s j =
     let i = length shares in
@@ -90,7 +90,7 @@ merged_longer (x ∷ xs) [] = (omega arith, omega arith)
 merged_longer (x ∷ xs) (y ∷ ys) = let rest = merged_longer xs ys in (omega (arith, rest.0), omega (arith, rest.1))
 
 -- one share more was joined
-pub joined_more : (drawing : Drawing) (books : List Opened) (nobody : ℕ) (shares : List Holding) (share : Holding) (drawer drawer' : Drawings) (passes passes' : List Knowledge) → length shares < nobody
+pub joined_more : (drawing : Drawing) (books : List SharedBookView) (nobody : ℕ) (shares : List ShareView) (share : ShareView) (drawer drawer' : DrawerView) (passes passes' : List PassView) → length shares < nobody
     → IsJoinedOf drawing books nobody shares drawer passes → HasMet drawer share.drawer drawer' → books_of passes' ≡ books → ((shard : ℕ) → AreJoinedAt shard passes share.passes passes')
     → IsJoinedOf drawing books nobody (shares ++ share ∷ []) drawer' passes'
 joined_more drawing books nobody shares share drawer drawer' passes passes' below all met of_books joined = record {
@@ -99,7 +99,7 @@ joined_more drawing books nobody shares share drawer drawer' passes passes' belo
   seen = All-push (λ s. s.drawer.seen ≤ drawer'.seen) shares share (All-weaker (λ s. s.drawer.seen ≤ drawer.seen) (λ s. s.drawer.seen ≤ drawer'.seen) (λ s h. omega (arith, h, met.later)) shares all.seen) met.later_too;
   of_books = of_books;
   signed = λ shard. signed_more nobody shard shares share passes passes' below (all.signed shard) (joined shard);
-  held = λ shard. omega (arith, (joined shard).held, all.held shard, sum_by-append (λ (s : Holding). length (own_at shard s.passes)) shares (share ∷ []), sum_by-cons (λ (s : Holding). length (own_at shard s.passes)) share []);
+  held = λ shard. omega (arith, (joined shard).held, all.held shard, sum_by-append (λ (s : ShareView). length (own_at shard s.passes)) shares (share ∷ []), sum_by-cons (λ (s : ShareView). length (own_at shard s.passes)) share []);
   longest = λ shard. let long = merged_longer (marks_at shard passes) (marks_at shard share.passes) in let new : length (marks_at shard passes') ≡ length (merged (marks_at shard passes) (marks_at shard share.passes)) = ap length (joined shard).marks in
       All-push (λ s. length (marks_at shard s.passes) ≤ length (marks_at shard passes')) shares share
       (All-weaker (λ s. length (marks_at shard s.passes) ≤ length (marks_at shard passes)) (λ s. length (marks_at shard s.passes) ≤ length (marks_at shard passes')) (λ s h. omega (arith, h, long.0, new)) shares (all.longest shard))
@@ -107,7 +107,7 @@ joined_more drawing books nobody shares share drawer drawer' passes passes' belo
 }
 
 -- the first share
-pub joined_first : (drawing : Drawing) (books : List Opened) (nobody : ℕ) (share : Holding) → 0 < nobody → Belongs drawing books share → IsJoinedOf drawing books nobody (share ∷ []) share.drawer share.passes
+pub joined_first : (drawing : Drawing) (books : List SharedBookView) (nobody : ℕ) (share : ShareView) → 0 < nobody → Belongs drawing books share → IsJoinedOf drawing books nobody (share ∷ []) share.drawer share.passes
 joined_first drawing books nobody share some is = record {
   source = is.source;
   drawn = sym (append-nil share.drawer.drawn);
@@ -119,7 +119,7 @@ joined_first drawing books nobody share some is = record {
     own = place_more (λ w h. by_worker w (signed 0 nobody [] (marks_at shard share.passes)) ≡ own_at shard h.passes) [] share (λ w h at. absurd (cc))
         (new_own 0 nobody [] [] (marks_at shard share.passes) some tt (inl (visits_of (marks_at shard share.passes), refl)));
   };
-  held = λ shard. omega (arith, sum_by-cons (λ (s : Holding). length (own_at shard s.passes)) share []);
+  held = λ shard. omega (arith, sum_by-cons (λ (s : ShareView). length (own_at shard s.passes)) share []);
   longest = λ shard. All-cons (λ s. length (marks_at shard s.passes) ≤ length (marks_at shard share.passes)) share [] (omega arith) (All-nil (λ s. length (marks_at shard s.passes) ≤ length (marks_at shard share.passes)));
 }
 
@@ -128,16 +128,16 @@ heads [] a b more rest e = cc
 heads (x ∷ xs) a b more rest e = heads xs a b more rest (cc)
 
 -- a pass that comes next belongs to the book that comes next
-pub next_book : (done rest : List Knowledge) (pass : Knowledge) (passes : List Knowledge) (yielded left : List Opened) (book : Opened) (books : List Opened) → done ++ pass ∷ rest ≡ passes → books_of passes ≡ books
+pub next_book : (done rest : List PassView) (pass : PassView) (passes : List PassView) (yielded left : List SharedBookView) (book : SharedBookView) (books : List SharedBookView) → done ++ pass ∷ rest ≡ passes → books_of passes ≡ books
     → books_of done ≡ yielded → yielded ++ book ∷ left ≡ books → pass.book ≡ book
 next_book done rest pass passes yielded left book books all of same is =
     heads yielded pass.book book (books_of rest) left
-    (ap (λ ys. ys ++ pass.book ∷ books_of rest) (sym same) ∙ sym (map-append (λ (p : Knowledge). p.book) done (pass ∷ rest)) ∙ (ap books_of all ∙ of) ∙ sym is)
+    (ap (λ ys. ys ++ pass.book ∷ books_of rest) (sym same) ∙ sym (map-append (λ (p : PassView). p.book) done (pass ∷ rest)) ∙ (ap books_of all ∙ of) ∙ sym is)
 
 pub at_end : {A : Type 0} (xs : List A) (a : A) (more : List A) → slice_get (xs ++ a ∷ more) (length xs) ≡ Some a
 at_end [] a more = refl
 at_end (x ∷ xs) a more = at_end xs a more
 
-pub marks_mid : (done : List Knowledge) (pass : Knowledge) (rest : List Knowledge) → marks_at (length done) (done ++ pass ∷ rest) ≡ pass.marks
+pub marks_mid : (done : List PassView) (pass : PassView) (rest : List PassView) → marks_at (length done) (done ++ pass ∷ rest) ≡ pass.marks
 marks_mid [] pass rest = refl
 marks_mid (p ∷ done) pass rest = marks_mid done pass rest

@@ -15,7 +15,7 @@ use Rattle.shared_books.specs.Drawing.{NoneTwice, times}
 use Rattle.shared_books.specs.Marks.{joined}
 use Rattle.fare_service.specs.declared.upload_end.UploadEnd.{UploadEnd}
 use Rattle.fare_service.specs.Headline.{Signed, by_worker}
-use Rattle.fare_service.specs.Outcomes.{Gathered}
+use Rattle.fare_service.specs.Outcomes.{OutcomeView}
 use Rattle.fare_service.specs.Placing.{Origin, of_upload, posted_of, StandOnce, WerePostedOf}
 use Rattle.fare_service.specs.Runs.{PlacedTap, taps_of, of_shard, Visit, IsEntered, visits_to, entries_to}
 use Rattle.fare_service.specs.Shares.{Worked, all_visits, IsWorkOf, all_works, file_at}
@@ -410,7 +410,7 @@ by_worker_at given shard works book is w = by_place (cases_lt w (length works))
         ∙ sym (ap (λ done. map entries_made (to_shard shard done)) (get_or_past works w [] past))
 
 -- each posted tap of a shard has one entry in its book
-pub stands_once : (given : Given) (works : List (List Worked)) (outcome : Gathered) → IsGathered given works outcome → (shard : ℕ) (book : Book) → slice_get outcome.books shard ≡ Some book
+pub stands_once : (given : Given) (works : List (List Worked)) (outcome : OutcomeView) → IsGathered given works outcome → (shard : ℕ) (book : Book) → slice_get outcome.books shard ≡ Some book
     → StandOnce shard given.shards (all_works works) book.entries
 stands_once given works outcome is shard book at =
     let work = is.books shard book at in
@@ -424,7 +424,7 @@ stands_once given works outcome is shard book at =
     }
 
 -- what each upload's end tells was posted of it
-pub posted_told : (given : Given) (works : List (List Worked)) (outcome : Gathered) → IsGathered given works outcome → (upload : ℕ) (end : UploadEnd) → slice_get outcome.ends upload ≡ Some end
+pub posted_told : (given : Given) (works : List (List Worked)) (outcome : OutcomeView) → IsGathered given works outcome → (upload : ℕ) (end : UploadEnd) → slice_get outcome.ends upload ≡ Some end
     → WerePostedOf given.shards (file_at given.uploads upload) end (posted_of upload (all_works works))
 posted_told given works outcome is upload end e =
     let E : UploadEnd → Type 0 = λ x. WerePostedOf given.shards (file_at given.uploads upload) x (posted_of upload (all_works works)) in

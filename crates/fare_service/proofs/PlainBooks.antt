@@ -20,7 +20,7 @@ use Rattle.shared_books.specs.Marks.{joined}
 use Rattle.fare_service.specs.declared.upload_end.UploadEnd.{UploadEnd}
 use Rattle.fare_service.specs.declared.upload_end.UploadEnd.TheVariants.{Posted, Refused, Cut, Undrawn}
 use Rattle.fare_service.specs.Headline.{Signed, by_worker, end_of}
-use Rattle.fare_service.specs.Outcomes.{Gathered}
+use Rattle.fare_service.specs.Outcomes.{OutcomeView}
 use Rattle.fare_service.specs.Plain.{AreTapsOf, AreTapsOfEach, AreApart, HasOneCut, IsNamed, WasWhole, unanswered, token_of, plain}
 use Rattle.fare_service.specs.Runs.{Visit, ArePosted, runs_of, entries_to}
 use Rattle.fare_service.specs.Shares.{Worked, all_visits, IsWorkOf, IsEndOf, all_works, file_at}
@@ -174,7 +174,7 @@ end_told (w ∷ works) once =
 
 -- ---- all that was gathered
 -- what the laws of a gathering stand on: no upload was cut or left undrawn, and each token of the books is the name of its bytes
-pub record Stands (given : Given) (works : List (List Worked)) (outcome : Gathered) (taps : List (List Tap)) : Type 0 where
+pub record Stands (given : Given) (works : List (List Worked)) (outcome : OutcomeView) (taps : List (List Tap)) : Type 0 where
   pub gathered : IsGathered given works outcome
   pub some_shard : 0 < given.shards
   pub named : (shard : ℕ) (book : Book) → slice_get outcome.books shard ≡ Some book → All IsNamed book.entries
@@ -182,7 +182,7 @@ pub record Stands (given : Given) (works : List (List Worked)) (outcome : Gather
   pub cuts : All HasOneCut given.uploads
   pub each : AreTapsOfEach given.uploads taps
 
-module _ (given : Given) (works : List (List Worked)) (outcome : Gathered) (taps : List (List Tap)) (all : Stands given works outcome taps) where
+module _ (given : Given) (works : List (List Worked)) (outcome : OutcomeView) (taps : List (List Tap)) (all : Stands given works outcome taps) where
   pub each_work : All (IsWorkOf given.shards given.uploads) (all_works works)
   each_work = All-flat (IsWorkOf given.shards given.uploads) works all.gathered.each
 
@@ -296,7 +296,7 @@ a_tap token (tap ∷ taps) first rest names is = by_test (is_of token (unanswere
         let (x, there, token_is) = more left in
         (x, (suc there.0, omega (arith, there.1), there.2), token_is)
 
-module _ (given : Given) (works : List (List Worked)) (outcome : Gathered) (taps : List (List Tap)) (all : Stands given works outcome taps) (apart : AreApart taps) (token : Token) where
+module _ (given : Given) (works : List (List Worked)) (outcome : OutcomeView) (taps : List (List Tap)) (all : Stands given works outcome taps) (apart : AreApart taps) (token : Token) where
   -- no other upload than one has taps of the token
   only_one : (one other : ℕ) (first : Entry) (rest : List Entry) → mine_of token taps one ≡ first ∷ rest → other ≢ one → mine_of token taps other ≡ []
   only_one one other first rest is ne = by_list (mine_of token taps other) refl

@@ -8,7 +8,7 @@ use Rattle.tap_views.specs.Layout.{Tap}
 use Rattle.fare_service.specs.declared.upload_end.UploadEnd.{UploadEnd}
 use Rattle.fare_service.specs.declared.upload_end.UploadEnd.TheVariants.{Posted, Refused, Cut, Undrawn}
 use Rattle.fare_service.specs.Headline.{end_of}
-use Rattle.fare_service.specs.Outcomes.{Gathered}
+use Rattle.fare_service.specs.Outcomes.{OutcomeView}
 use Rattle.fare_service.specs.Plain.{WasWhole, IsPlainEnd, ArePlainEnds}
 use Rattle.fare_service.specs.Runs.{Visit, IsEntered, ArePosted, runs_of, taps_posted}
 use Rattle.fare_service.specs.Shares.{Worked, IsWorkOf, IsEndOf, all_works, file_at}
@@ -61,7 +61,7 @@ plain_end given w some worked whole = by_end w.end worked.ended whole
     by_end Undrawn is posted = absurd posted
 
 -- the ends of what was gathered
-pub plain_ends : (given : Given) (works : List (List Worked)) (outcome : Gathered) → 0 < length outcome.books → IsGathered given works outcome → All WasWhole outcome.ends → ArePlainEnds given.uploads outcome.ends
+pub plain_ends : (given : Given) (works : List (List Worked)) (outcome : OutcomeView) → 0 < length outcome.books → IsGathered given works outcome → All WasWhole outcome.ends → ArePlainEnds given.uploads outcome.ends
 plain_ends given works outcome some gathered whole = zip_at IsPlainEnd given.uploads outcome.ends (sym gathered.uploads) of_one
   where
     Known : Worked → Type 0

@@ -14,10 +14,12 @@ use Rattle.shard_book.specs.declared.run_end.RunEnd.TheVariants.{Whole, Cut}
 use Rattle.shard_book.specs.Entry.{IsEntryOf}
 use Rattle.shard_book.specs.Sums.{Sums, sums, add_sums}
 use Rattle.shard_book.specs.Visits.{AreEntriesOf, IsVisit}
-use Rattle.shared_books.specs.Passes.{Knowledge, Opened, IsLater, Visits}
+use Rattle.shared_books.specs.Passes.{PassView, SharedBookView, IsLater, Visits}
 use Rattle.fare_service.specs.declared.working.Stop.{Stop}
-use Rattle.fare_service.specs.Halls.{Hall, IsHall, IsBookOf, shards_of}
-use Rattle.fare_service.specs.Runs.{PlacedTap, placed_from, of_shard, Run, if_any, Visit, IsEntered, ArePosted, AreCut, WerePosted, entries_to}
+use Rattle.fare_service.specs.ServiceView.{ServiceView, shards_of}
+use Rattle.fare_service.specs.inside.ServiceView.{IsService, IsBookOf}
+use Rattle.fare_service.specs.Runs.{PlacedTap, placed_from, of_shard, Run, if_any, Visit, IsEntered, ArePosted, AreCut, entries_to}
+use Rattle.fare_service.specs.inside.Runs.{WerePosted}
 use Rattle.fare_service.specs.Shares.{own_visits, marks_at, own_at, Made}
 use Rattle.fare_service.proofs.RunLemmas.{taps-of_shard, length-of_shard, no_run, cut_none, cut_some, whole_run}
 use Rattle.fare_service.proofs.VisitLemmas.{made_none, made_by_pass, own-visits, own-later, add_none}
@@ -84,12 +86,12 @@ get_or-map f (x ∷ xs) zero d e h = refl
 get_or-map f (x ∷ xs) (suc i) d e h = get_or-map f xs i d e (omega arith)
 
 -- the marks of the pass at a shard
-pub marks_here : (passes : List Knowledge) (shard : ℕ) (old : Knowledge) → shard < length passes → old ≡ get_or passes shard old → marks_at shard passes ≡ old.marks
+pub marks_here : (passes : List PassView) (shard : ℕ) (old : PassView) → shard < length passes → old ≡ get_or passes shard old → marks_at shard passes ≡ old.marks
 marks_here passes shard old within is =
     get_or-map (λ p. p.marks) passes shard old [] within ∙ ap (λ p. p.marks) (sym is)
 
 -- a pass that made a visit of a run
-pub made_visit : (shards shard : ℕ) (passes : List Knowledge) (old new : Knowledge) (number : ℕ) (visit : Visit) (totals totals' : Sums) → shard < length passes
+pub made_visit : (shards shard : ℕ) (passes : List PassView) (old new : PassView) (number : ℕ) (visit : Visit) (totals totals' : Sums) → shard < length passes
     → old ≡ get_or passes shard old → visit.shard ≡ shard → Visits old new number visit.entries → totals' ≡ add_sums totals (sums visit.entries) → IsEntered shards visit
     → Made shards passes (set passes shard new) totals totals' (visit ∷ [])
 made_visit shards shard passes old new number visit totals totals' within is at v counted entered =
@@ -112,28 +114,28 @@ made_visit shards shard passes old new number visit totals totals' within is at 
     elsewhere other (inr (b, e)) ne = ap (λ b. map (λ v. v.entries) (cond b (visit ∷ []) [])) b
 
 -- a pass that has only seen more
-pub made_look : (shards shard : ℕ) (passes : List Knowledge) (old new : Knowledge) (totals : Sums) → shard < length passes
+pub made_look : (shards shard : ℕ) (passes : List PassView) (old new : PassView) (totals : Sums) → shard < length passes
     → old ≡ get_or passes shard old → IsLater old new → Made shards passes (set passes shard new) totals totals []
 made_look shards shard passes old new totals within is later =
     made_by_pass shards passes shard old new totals totals [] within (later.book ∙ ap (λ p. p.book) is) (own-later old new later ∙ ap (λ ms. own_visits ms ++ []) (sym (marks_here passes shard old within is)))
     (λ other ne. refl) (sym (add_none totals)) (All-nil (IsEntered shards))
 
 -- the book of a shard
-pub book_at : (hall : Hall) (shard : ℕ) (book : Opened) → IsHall hall → shard < shards_of hall → book ≡ get_or hall.books shard book → IsBookOf hall.table shard (shards_of hall) book
-book_at hall shard book is within e = is.books shard book (slice_get-get_or hall.books shard book within ∙ ap Some (sym e))
+pub book_at : (service : ServiceView) (shard : ℕ) (book : SharedBookView) → IsService service → shard < shards_of service → book ≡ get_or service.books shard book → IsBookOf service.table shard (shards_of service) book
+book_at service shard book is within e = is.books shard book (slice_get-get_or service.books shard book within ∙ ap Some (sym e))
 
 -- the taps of a batch's run
 pub same_run : (r : ShardRun) (batch : List Tap) (shard n shards : ℕ) → r ≡ record { batch = batch; shard = shard; shards = n } → n ≡ shards → run_taps r ≡ run_of shard shards batch
 same_run r batch shard n shards is same = ap run_taps is ∙ ap (λ k. run_of shard k batch) same
 
 -- a run without taps
-pub run_empty : (shards shard place : ℕ) (batch : List Tap) (passes : List Knowledge) (totals : Sums) → length (run_of shard shards batch) ≡ 0
+pub run_empty : (shards shard place : ℕ) (batch : List Tap) (passes : List PassView) (totals : Sums) → length (run_of shard shards batch) ≡ 0
     → (more : List Visit) × Made shards passes passes totals totals more × ArePosted (if_any shard (of_shard shard shards (placed_from place batch))) more
 run_empty shards shard place batch passes totals none =
     ([], made_none shards passes totals, sym (no_run shard (of_shard shard shards (placed_from place batch)) (length-of_shard shard shards place batch ∙ none)))
 
 -- a run of which nothing was posted, since memory was refused before its turn
-pub run_refused : (shards shard place : ℕ) (batch : List Tap) (passes : List Knowledge) (totals : Sums) (r : Result (Unit {0}) Stop) → 0 < length (run_of shard shards batch) → IsErr r
+pub run_refused : (shards shard place : ℕ) (batch : List Tap) (passes : List PassView) (totals : Sums) (r : Result (Unit {0}) Stop) → 0 < length (run_of shard shards batch) → IsErr r
     → (more : List Visit) × Made shards passes passes totals totals more × WerePosted (if_any shard (of_shard shard shards (placed_from place batch))) (is_ok r) more
 run_refused shards shard place batch passes totals r some err =
     let placed = of_shard shard shards (placed_from place batch) in
@@ -141,7 +143,7 @@ run_refused shards shard place batch passes totals r some err =
     ([], made_none shards passes totals, was_cut r (if_any shard placed) [] err (cut_none shard placed there))
 
 -- a run of which nothing was posted, since its book takes no more visits
-pub run_full : (shards shard place : ℕ) (batch : List Tap) (passes : List Knowledge) (old new : Knowledge) (totals : Sums) (r : Result (Unit {0}) Stop) → 0 < length (run_of shard shards batch) → IsErr r
+pub run_full : (shards shard place : ℕ) (batch : List Tap) (passes : List PassView) (old new : PassView) (totals : Sums) (r : Result (Unit {0}) Stop) → 0 < length (run_of shard shards batch) → IsErr r
     → shard < length passes → old ≡ get_or passes shard old → IsLater old new
     → (more : List Visit) × Made shards passes (set passes shard new) totals totals more × WerePosted (if_any shard (of_shard shard shards (placed_from place batch))) (is_ok r) more
 run_full shards shard place batch passes old new totals r some err within is later =
@@ -150,7 +152,7 @@ run_full shards shard place batch passes old new totals r some err within is lat
     ([], made_look shards shard passes old new totals within is later, was_cut r (if_any shard placed) [] err (cut_none shard placed there))
 
 -- a run that was visited
-pub run_visited : (shards shard place : ℕ) (batch : List Tap) (passes : List Knowledge) (old new : Knowledge) (number : ℕ) (how : RunEnd) (entries : List Entry) (totals totals' : Sums)
+pub run_visited : (shards shard place : ℕ) (batch : List Tap) (passes : List PassView) (old new : PassView) (number : ℕ) (how : RunEnd) (entries : List Entry) (totals totals' : Sums)
     → 0 < length (run_of shard shards batch) → shard < shards → shard < length passes → old ≡ get_or passes shard old
     → Visits old new number entries → IsVisit (run_of shard shards batch) how entries → totals' ≡ add_sums totals (sums entries)
     → (more : List Visit) × Made shards passes (set passes shard new) totals totals' more × WerePosted (if_any shard (of_shard shard shards (placed_from place batch))) (is_whole how) more

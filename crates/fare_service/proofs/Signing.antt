@@ -9,7 +9,7 @@ use Rattle.shard_book.specs.declared.entry.Entry.{Entry}
 use Rattle.shared_books.specs.declared.turns.rule.Mark.{Mark}
 use Rattle.shared_books.specs.Marks.{mark, visits_of, merged, Apart, Begins, made_at, made_from, numbered}
 use Rattle.fare_service.specs.Headline.{Signed, by_worker}
-use Rattle.fare_service.specs.Joining.{IsSign, AreSigns, AreJoined}
+use Rattle.fare_service.specs.inside.Joining.{IsSign, AreSigns, AreJoined}
 use Rattle.fare_service.specs.Shares.{own_visits}
 
 abbrev pub sign : ℕ → List Entry → Signed

@@ -4,84 +4,87 @@ use Rattle.std.proofs.Common.{refl, inl, inr, arith}
 use Rattle.std.proofs.lemmas.List.Elements.{All-nil, All-cons, All-append, All-weaker}
 use Rattle.std.specs.Option.{option_to_list}
 use Rattle.shard_book.specs.Sums.{Sums}
-use Rattle.shared_books.specs.Drawing.{Drawings}
-use Rattle.shared_books.specs.Passes.{Knowledge}
+use Rattle.shared_books.specs.Drawing.{DrawerView}
+use Rattle.shared_books.specs.Passes.{PassView}
 use Rattle.fare_service.specs.declared.share.Done.{Done}
-use Rattle.fare_service.specs.Halls.{Hall, shards_of}
-use Rattle.fare_service.specs.Holdings.{Holding}
+use Rattle.fare_service.specs.ServiceView.{ServiceView, shards_of}
+use Rattle.fare_service.specs.ShareView.{ShareView}
 use Rattle.fare_service.specs.Plain.{WasWhole}
 use Rattle.fare_service.specs.Runs.{Visit}
-use Rattle.fare_service.specs.Shares.{Worked, HasWorked, IsShareOf, IsWorked, Made, WentOn, worked}
+use Rattle.fare_service.specs.Shares.{Worked, HasWorked, IsShareOf, IsWorked, Made, WentOn}
+use Rattle.fare_service.specs.inside.Shares.{worked}
 use Rattle.fare_service.specs.Stopping.{SomeFull, MayGoOn, StoppedWell, WasCut}
 use Rattle.fare_service.proofs.ShareLemmas.{holding, next_done, share_more, worked_none, worked_more}
 
 -- the worker worked on these uploads, and went on after each
-abbrev pub Going : Hall → Holding → Holding → Type 0
-Going hall old new = (more : List Worked) × HasWorked hall old new more × All (MayGoOn new.passes) more
+abbrev pub Going : ServiceView → ShareView → ShareView → Type 0
+Going service old new = (more : List Worked) × HasWorked service old new more × All (MayGoOn new.passes) more
 
 -- who knew of a full shard knows of one still
-still : (p q : List Knowledge) → (SomeFull p → SomeFull q) → (works : List Worked) → All (MayGoOn p) works → All (MayGoOn q) works
+still : (p q : List PassView) → (SomeFull p → SomeFull q) → (works : List Worked) → All (MayGoOn p) works → All (MayGoOn q) works
 still p q more works all = All-weaker (MayGoOn p) (MayGoOn q) (λ w h. one w h) works all
   where
     one : (w : Worked) → MayGoOn p w → MayGoOn q w
     one w (inl whole) = inl whole
     one w (inr some) = inr (more some)
 
-pub going_more : (hall : Hall) (old a b : Holding) (w : Worked) → Going hall old a → HasWorked hall a b (w ∷ []) → (SomeFull a.passes → SomeFull b.passes) → MayGoOn b.passes w
-    → Going hall old b
-going_more hall old a b w (more, worked, all) one full goes =
-    (more ++ w ∷ [], worked_more hall old a b more (w ∷ []) worked one,
-    All-append (MayGoOn b.passes) more (w ∷ []) (still a.passes b.passes full more all) (All-cons (MayGoOn b.passes) w [] goes (All-nil (MayGoOn b.passes))))
+pub going_more : (service : ServiceView) (old a b : ShareView) (w : Worked) → Going service old a → HasWorked service a b (w ∷ []) → (SomeFull a.passes → SomeFull b.passes) → MayGoOn b.passes w
+    → Going service old b
+going_more service old a b w (more, worked, all) one full goes = (
+  more ++ w ∷ [],
+  worked_more service old a b more (w ∷ []) worked one,
+  All-append (MayGoOn b.passes) more (w ∷ []) (still a.passes b.passes full more all) (All-cons (MayGoOn b.passes) w [] goes (All-nil (MayGoOn b.passes))),
+)
 
 -- no upload was left
-pub stopped_none : (hall : Hall) (old a b : Holding) → Going hall old a → HasWorked hall a b [] → (SomeFull a.passes → SomeFull b.passes) → b.drawer.seen ≡ length hall.uploads
-    → StoppedWell hall old b
-stopped_none hall old a b (more, worked, all) none full seen = record {
+pub stopped_none : (service : ServiceView) (old a b : ShareView) → Going service old a → HasWorked service a b [] → (SomeFull a.passes → SomeFull b.passes) → b.drawer.seen ≡ length service.uploads
+    → StoppedWell service old b
+stopped_none service old a b (more, worked, all) none full seen = record {
   before = more;
   last = None;
-  worked = worked_more hall old a b more [] worked none;
+  worked = worked_more service old a b more [] worked none;
   went_on = still a.passes b.passes full more all;
   stopped = seen;
 }
 
 -- the last upload was cut
-pub stopped_cut : (hall : Hall) (old a b : Holding) (w : Worked) → Going hall old a → HasWorked hall a b (w ∷ []) → (SomeFull a.passes → SomeFull b.passes) → WasCut w.end
-    → StoppedWell hall old b
-stopped_cut hall old a b w (more, worked, all) one full cut = record {
+pub stopped_cut : (service : ServiceView) (old a b : ShareView) (w : Worked) → Going service old a → HasWorked service a b (w ∷ []) → (SomeFull a.passes → SomeFull b.passes) → WasCut w.end
+    → StoppedWell service old b
+stopped_cut service old a b w (more, worked, all) one full cut = record {
   before = more;
   last = Some w;
-  worked = worked_more hall old a b more (w ∷ []) worked one;
+  worked = worked_more service old a b more (w ∷ []) worked one;
   went_on = still a.passes b.passes full more all;
   stopped = cut;
 }
 
-pub stopped_went_on : (hall : Hall) (old new : Holding) → StoppedWell hall old new → WentOn hall old new
-stopped_went_on hall old new s = (s.before ++ option_to_list s.last, s.worked)
+pub stopped_went_on : (service : ServiceView) (old new : ShareView) → StoppedWell service old new → WentOn service old new
+stopped_went_on service old new s = (s.before ++ option_to_list s.last, s.worked)
 
-pub going_start : (hall : Hall) (share : Holding) → Going hall share share
-going_start hall share = ([], worked_none hall share share refl refl refl refl, All-nil (MayGoOn share.passes))
+pub going_start : (service : ServiceView) (share : ShareView) → Going service share share
+going_start service share = ([], worked_none service share share refl refl refl refl, All-nil (MayGoOn share.passes))
 
 -- an upload that was drawn and posted
-module _ (hall : Hall) (old : Holding) (drawer drawer' : Drawings) (passes passes' : List Knowledge) (totals totals' : Sums) (done done' : List Done) (next : Done)
-    (going : Going hall old (holding drawer passes totals done)) (drawn : drawer'.drawn ≡ drawer.drawn ++ next.upload ∷ []) (more : done' ≡ done ++ next ∷ [])
-    (did : (visits : List Visit) × Made (shards_of hall) passes passes' totals totals' visits × IsWorked hall (worked next.upload next.end visits))
+module _ (service : ServiceView) (old : ShareView) (drawer drawer' : DrawerView) (passes passes' : List PassView) (totals totals' : Sums) (done done' : List Done) (next : Done)
+    (going : Going service old (holding drawer passes totals done)) (drawn : drawer'.drawn ≡ drawer.drawn ++ next.upload ∷ []) (more : done' ≡ done ++ next ∷ [])
+    (did : (visits : List Visit) × Made (shards_of service) passes passes' totals totals' visits × IsWorked service (worked next.upload next.end visits))
     (full : SomeFull passes → SomeFull passes') where
-  one : HasWorked hall (holding drawer passes totals done) (holding drawer' passes' totals' done') (worked next.upload next.end did.0 ∷ [])
-  one = next_done hall drawer drawer' passes passes' totals totals' done done' next.upload next.end did.0 drawn more did.1 did.2
+  one : HasWorked service (holding drawer passes totals done) (holding drawer' passes' totals' done') (worked next.upload next.end did.0 ∷ [])
+  one = next_done service drawer drawer' passes passes' totals totals' done done' next.upload next.end did.0 drawn more did.1 did.2
 
-  pub going_next : WasWhole next.end ⊎ SomeFull passes' → Going hall old (holding drawer' passes' totals' done')
-  going_next goes = going_more hall old (holding drawer passes totals done) (holding drawer' passes' totals' done') (worked next.upload next.end did.0) going one full goes
+  pub going_next : WasWhole next.end ⊎ SomeFull passes' → Going service old (holding drawer' passes' totals' done')
+  going_next goes = going_more service old (holding drawer passes totals done) (holding drawer' passes' totals' done') (worked next.upload next.end did.0) going one full goes
 
-  pub cut_next : WasCut next.end → StoppedWell hall old (holding drawer' passes' totals' done')
-  cut_next cut = stopped_cut hall old (holding drawer passes totals done) (holding drawer' passes' totals' done') (worked next.upload next.end did.0) going one full cut
+  pub cut_next : WasCut next.end → StoppedWell service old (holding drawer' passes' totals' done')
+  cut_next cut = stopped_cut service old (holding drawer passes totals done) (holding drawer' passes' totals' done') (worked next.upload next.end did.0) going one full cut
 
 -- no upload was left to draw
-module _ (hall : Hall) (drawer drawer' : Drawings) (passes : List Knowledge) (totals : Sums) (done : List Done) (same : drawer'.drawn ≡ drawer.drawn) where
-  stays : HasWorked hall (holding drawer passes totals done) (holding drawer' passes totals done) []
-  stays = worked_none hall (holding drawer passes totals done) (holding drawer' passes totals done) same refl refl refl
+module _ (service : ServiceView) (drawer drawer' : DrawerView) (passes : List PassView) (totals : Sums) (done : List Done) (same : drawer'.drawn ≡ drawer.drawn) where
+  stays : HasWorked service (holding drawer passes totals done) (holding drawer' passes totals done) []
+  stays = worked_none service (holding drawer passes totals done) (holding drawer' passes totals done) same refl refl refl
 
-  pub share_stays : IsShareOf hall (holding drawer passes totals done) → drawer'.source ≡ drawer.source → IsShareOf hall (holding drawer' passes totals done)
-  share_stays share source = share_more hall (holding drawer passes totals done) (holding drawer' passes totals done) [] share stays source (omega arith)
+  pub share_stays : IsShareOf service (holding drawer passes totals done) → drawer'.source ≡ drawer.source → IsShareOf service (holding drawer' passes totals done)
+  share_stays share source = share_more service (holding drawer passes totals done) (holding drawer' passes totals done) [] share stays source (omega arith)
 
-  pub none_next : (old : Holding) → Going hall old (holding drawer passes totals done) → drawer'.seen ≡ length hall.uploads → StoppedWell hall old (holding drawer' passes totals done)
-  none_next old going seen = stopped_none hall old (holding drawer passes totals done) (holding drawer' passes totals done) going stays (λ h. h) seen
+  pub none_next : (old : ShareView) → Going service old (holding drawer passes totals done) → drawer'.seen ≡ length service.uploads → StoppedWell service old (holding drawer' passes totals done)
+  none_next old going seen = stopped_none service old (holding drawer passes totals done) (holding drawer' passes totals done) going stays (λ h. h) seen

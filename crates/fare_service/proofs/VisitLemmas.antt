@@ -16,7 +16,7 @@ use Rattle.shard_book.specs.Entry.{reply_of}
 use Rattle.shard_book.specs.Sums.{Sums, sums, sums_of_replies, add_sums, is_paid, is_transfer, is_capped, is_stale, is_unknown}
 use Rattle.shared_books.specs.declared.turns.rule.Mark.{Mark}
 use Rattle.shared_books.specs.Marks.{mark, others}
-use Rattle.shared_books.specs.Passes.{Knowledge, IsLater, Visits}
+use Rattle.shared_books.specs.Passes.{PassView, IsLater, Visits}
 use Rattle.fare_service.specs.Runs.{Visit, IsEntered, visits_to, entries_to, entries_of}
 use Rattle.fare_service.specs.Shares.{own_visits, marks_at, own_at, Made}
 
@@ -62,30 +62,30 @@ own-others [] = refl
 own-others (visit ∷ visits) = own-others visits
 
 -- a pass that made a visit
-pub own-visits : (old new : Knowledge) (number : ℕ) (visit : List Entry) → Visits old new number visit → own_visits new.marks ≡ own_visits old.marks ++ visit ∷ []
+pub own-visits : (old new : PassView) (number : ℕ) (visit : List Entry) → Visits old new number visit → own_visits new.marks ≡ own_visits old.marks ++ visit ∷ []
 own-visits old new number visit v =
     ap own_visits v.marks
     ∙ own-append (old.marks ++ others v.between) (mark true visit ∷ [])
     ∙ ap (λ vs. vs ++ visit ∷ []) (own-append old.marks (others v.between) ∙ ap (λ vs. own_visits old.marks ++ vs) (own-others v.between) ∙ append-nil (own_visits old.marks))
 
 -- a pass that has only seen more
-pub own-later : (old new : Knowledge) → IsLater old new → own_visits new.marks ≡ own_visits old.marks ++ []
+pub own-later : (old new : PassView) → IsLater old new → own_visits new.marks ≡ own_visits old.marks ++ []
 own-later old new l =
     ap own_visits l.marks ∙ own-append old.marks (others l.between) ∙ ap (λ vs. own_visits old.marks ++ vs) (own-others l.between)
 
 -- the passes with another one at a shard
-pub marks-set_same : (passes : List Knowledge) (shard : ℕ) (new : Knowledge) → shard < length passes → marks_at shard (set passes shard new) ≡ new.marks
+pub marks-set_same : (passes : List PassView) (shard : ℕ) (new : PassView) → shard < length passes → marks_at shard (set passes shard new) ≡ new.marks
 marks-set_same passes shard new within =
     ap (λ ms. get_or ms shard []) (map-set (λ p. p.marks) passes shard new)
-    ∙ get_or-set_same (map (λ p. p.marks) passes) shard new.marks [] (omega (arith, length-map passes (λ (p : Knowledge). p.marks)))
+    ∙ get_or-set_same (map (λ p. p.marks) passes) shard new.marks [] (omega (arith, length-map passes (λ (p : PassView). p.marks)))
 
-pub marks-set_other : (passes : List Knowledge) (shard other : ℕ) (new : Knowledge) → other ≢ shard → marks_at other (set passes shard new) ≡ marks_at other passes
+pub marks-set_other : (passes : List PassView) (shard other : ℕ) (new : PassView) → other ≢ shard → marks_at other (set passes shard new) ≡ marks_at other passes
 marks-set_other passes shard other new ne =
     ap (λ ms. get_or ms other []) (map-set (λ p. p.marks) passes shard new)
     ∙ get_or-set_other (map (λ p. p.marks) passes) shard other new.marks [] ne
 
 -- what one visit changed, or a look
-pub made_by_pass : (shards : ℕ) (passes : List Knowledge) (shard : ℕ) (old new : Knowledge) (totals totals' : Sums) (more : List Visit) → shard < length passes
+pub made_by_pass : (shards : ℕ) (passes : List PassView) (shard : ℕ) (old new : PassView) (totals totals' : Sums) (more : List Visit) → shard < length passes
     → new.book ≡ (get_or passes shard old).book → own_visits new.marks ≡ own_at shard passes ++ entries_to shard more
     → ((other : ℕ) → other ≢ shard → entries_to other more ≡ [])
     → totals' ≡ add_sums totals (sums (entries_of more)) → All (IsEntered shards) more
@@ -105,7 +105,7 @@ made_by_pass shards passes shard old new totals totals' more within book own oth
         ap own_visits (marks-set_other passes shard s new ne) ∙ sym (ap (λ vs. own_at s passes ++ vs) (others_none s ne) ∙ append-nil (own_at s passes))
 
 -- nothing was made
-pub made_none : (shards : ℕ) (passes : List Knowledge) (totals : Sums) → Made shards passes passes totals totals []
+pub made_none : (shards : ℕ) (passes : List PassView) (totals : Sums) → Made shards passes passes totals totals []
 made_none shards passes totals = record {
   books = refl;
   visits = λ s. sym (append-nil (own_at s passes));
@@ -118,7 +118,7 @@ pub entries_to-append : (shard : ℕ) (xs ys : List Visit) → entries_to shard 
 entries_to-append shard xs ys =
     ap (map (λ v. v.entries)) (filter-append (λ v. v.shard == shard) xs ys) ∙ map-append (λ v. v.entries) (visits_to shard xs) (visits_to shard ys)
 
-pub made_more : (shards : ℕ) (p q r : List Knowledge) (s t u : Sums) (xs ys : List Visit) → Made shards p q s t xs → Made shards q r t u ys → Made shards p r s u (xs ++ ys)
+pub made_more : (shards : ℕ) (p q r : List PassView) (s t u : Sums) (xs ys : List Visit) → Made shards p q s t xs → Made shards q r t u ys → Made shards p r s u (xs ++ ys)
 made_more shards p q r s t u xs ys a b = record {
   books = b.books ∙ a.books;
   visits = λ n. b.visits n ∙ (ap (λ vs. vs ++ entries_to n ys) (a.visits n) ∙ append_assoc (own_at n p) (entries_to n xs) (entries_to n ys)

@@ -2,8 +2,9 @@
 use Rattle.std.specs.Prelude.{◌≡◌, ℕ, List, [], ◌∷◌, map, sum_by}
 use Rattle.shard_book.specs.Sums.{Sums, sums, add_sums}
 use Rattle.fare_service.specs.declared.upload_end.UploadEnd.{UploadEnd}
-use Rattle.fare_service.specs.declared.upload_end.UploadEnd.TheVariants.{Posted, Refused, Cut, Undrawn}
-use Rattle.fare_service.specs.Outcomes.{Gathered}
+use Rattle.fare_service.specs.declared.upload_end.UploadEnd.TheVariants.{Posted, Refused, Cut}
+use Rattle.fare_service.specs.declared.upload_end.UploadEnd.TheVariants.{Undrawn}
+use Rattle.fare_service.specs.Outcomes.{OutcomeView}
 use Rattle.fare_service.specs.Runs.{entries_of}
 use Rattle.fare_service.specs.Shares.{Worked, all_visits}
 
@@ -19,9 +20,9 @@ taps_told (Refused taps offset fault) = taps
 taps_told (Cut taps) = taps
 taps_told Undrawn = 0
 
--- Each worker's totals are those of its replies. The totals are the sum of the workers', and of the books', and their taps are those that
--- the uploads' ends tell.
-pub record AddUp (works : List (List Worked)) (outcome : Gathered) : Type 0 where
+-- Each worker's totals are those of its replies. The totals are the sum of the workers', and of the
+-- books', and their taps are those that the uploads' ends tell.
+pub record AddUp (works : List (List Worked)) (outcome : OutcomeView) : Type 0 where
   pub each : outcome.workers ≡ map (λ done. sums (entries_of (all_visits done))) works
   pub workers : outcome.totals ≡ add_all outcome.workers
   pub books : outcome.totals ≡ add_all (map (λ book. sums book.entries) outcome.books)

@@ -3,10 +3,12 @@ use Rattle.std.specs.Prelude.{◌≡◌, ◌⊎◌, ℕ, ◌<◌, ◌≤◌, Lis
 use Rattle.fare_service.specs.declared.faults.OpenFault.{OpenFault}
 use Rattle.fare_service.specs.declared.faults.OpenFault.TheVariants.{Shards, Uploads, NoMemory}
 use Rattle.fare_service.specs.declared.faults.GatherFault.{GatherFault}
-use Rattle.fare_service.specs.declared.faults.GatherFault.TheVariants.{NoMemory as NoRoom, Missing, Drawn}
+use Rattle.fare_service.specs.declared.faults.GatherFault.TheVariants.{NoMemory as NoRoom, Missing}
+use Rattle.fare_service.specs.declared.faults.GatherFault.TheVariants.{Drawn}
 use Rattle.fare_service.specs.declared.faults.RunFault.{RunFault}
-use Rattle.fare_service.specs.declared.faults.RunFault.TheVariants.{Workers, NoMemory as NoThread, Gather}
-use Rattle.fare_service.specs.Holdings.{Holding}
+use Rattle.fare_service.specs.declared.faults.RunFault.TheVariants.{Workers, NoMemory as NoThread}
+use Rattle.fare_service.specs.declared.faults.RunFault.TheVariants.{Gather}
+use Rattle.fare_service.specs.ShareView.{ShareView}
 use Rattle.fare_service.specs.Shares.{own_at}
 
 -- the number of shards is refused first, and then the number of uploads; memory is asked for last
@@ -16,16 +18,18 @@ IsOpenFault shards uploads Uploads = (0 < shards) × (shards ≤ 64) × (65535 <
 IsOpenFault shards uploads NoMemory = (0 < shards) × (shards ≤ 64) × (uploads ≤ 65535)
 
 -- how many visits to a shard the shares hold, and how many uploads
-abbrev pub visits_held : ℕ → List Holding → ℕ
+abbrev pub visits_held : ℕ → List ShareView → ℕ
 visits_held shard shares = sum_by (λ share. length (own_at shard share.passes)) shares
 
-abbrev pub uploads_held : List Holding → ℕ
+abbrev pub uploads_held : List ShareView → ℕ
 uploads_held shares = sum_by (λ share. length share.drawer.drawn) shares
 
--- visits are missing where the shares hold fewer of a shard than were made, and then uploads where they hold fewer than were drawn
-abbrev pub IsGatherFault : ℕ → List Holding → GatherFault → Type 0
+-- visits are missing where the shares hold fewer of a shard than were made, and then uploads where
+-- they hold fewer than were drawn
+abbrev pub IsGatherFault : ℕ → List ShareView → GatherFault → Type 0
 IsGatherFault shards shares NoRoom = Unit {0}
-IsGatherFault shards shares (Missing shard held kept) = (shard < shards) × (held ≡ visits_held shard shares) × (held < kept)
+IsGatherFault shards shares (Missing shard held kept) =
+    (shard < shards) × (held ≡ visits_held shard shares) × (held < kept)
 IsGatherFault shards shares (Drawn held drawn) = (held ≡ uploads_held shares) × (held < drawn)
 
 -- the number of workers is refused first

@@ -1,5 +1,6 @@
 -- THE HEADLINE: what the books, the ends and the totals of an outcome are, by what each worker did.
-use Rattle.std.specs.Prelude.{◌≡◌, ℕ, ◌<◌, ◌≤◌, ◌==◌, if◌then◌else◌, List, [], ◌∷◌, length, map, filter, All, slice_get, slice_index_or, Some}
+use Rattle.std.specs.Prelude.{◌≡◌, ℕ, ◌<◌, ◌≤◌, ◌==◌, if◌then◌else◌, List, [], ◌∷◌, length, map}
+use Rattle.std.specs.Prelude.{filter, All, slice_get, slice_index_or, Some}
 use Rattle.std.specs.List.{flat_map, AllZip}
 use Rattle.fare_table.specs.Fares.{Fares}
 use Rattle.shard_book.specs.declared.entry.Entry.{Entry}
@@ -11,9 +12,9 @@ use Rattle.shared_books.specs.Drawing.{NoneTwice}
 use Rattle.fare_service.specs.declared.upload_end.UploadEnd.{UploadEnd}
 use Rattle.fare_service.specs.declared.upload_end.UploadEnd.TheVariants.{Undrawn}
 use Rattle.fare_service.specs.Adding.{AddUp}
-use Rattle.fare_service.specs.Halls.{Hall, shards_of}
-use Rattle.fare_service.specs.Holdings.{Holding}
-use Rattle.fare_service.specs.Outcomes.{Gathered}
+use Rattle.fare_service.specs.ServiceView.{ServiceView, shards_of}
+use Rattle.fare_service.specs.ShareView.{ShareView}
+use Rattle.fare_service.specs.Outcomes.{OutcomeView}
 use Rattle.fare_service.specs.Placing.{StandOnce}
 use Rattle.fare_service.specs.Runs.{entries_to}
 use Rattle.fare_service.specs.Shares.{Worked, all_works, all_visits, IsWorkOf, Keeps}
@@ -27,12 +28,14 @@ pub record Signed : Type 0 where
 abbrev pub by_worker : ℕ → List Signed → List (List Entry)
 by_worker worker visits = map (λ v. v.entries) (filter (λ v. v.worker == worker) visits)
 
--- The entries of a shard are one thread's: visits, one after another. Those that a worker made are exactly its visits to the shard, each
--- once, in its own order.
-pub record IsOneThread (shard : ℕ) (works : List (List Worked)) (entries : List Entry) : Type 0 where
+-- The entries of a shard are one thread's: visits, one after another. Those that a worker made are
+-- exactly its visits to the shard, each once, in its own order.
+pub record IsOneThread (shard : ℕ) (works : List (List Worked)) (entries : List Entry)
+    : Type 0 where
   pub visits : List Signed
   pub history : entries ≡ flat_map (λ v. v.entries) visits
-  pub order : (worker : ℕ) → by_worker worker visits ≡ entries_to shard (all_visits (slice_index_or works worker []))
+  pub order : (worker : ℕ) → by_worker worker visits
+      ≡ entries_to shard (all_visits (slice_index_or works worker []))
 
 -- how an upload ended: as the worker that drew it tells
 abbrev pub end_of : ℕ → List Worked → UploadEnd
@@ -43,38 +46,52 @@ end_of upload (w ∷ works) = if w.upload == upload then w.end else end_of uploa
 abbrev pub EachBook : (ℕ → Book → Type 0) → List Book → Type 0
 EachBook P books = (shard : ℕ) (book : Book) → slice_get books shard ≡ Some book → P shard book
 
--- What an outcome of these files is, under a table and with so many shards, by what each worker did.
-pub record Headline (fares : Fares) (shards : ℕ) (files : List (List ℕ)) (works : List (List Worked)) (outcome : Gathered) : Type 0 where
-  -- Each worker posted of the uploads that it drew what their bytes call for, and no upload was drawn twice.
+-- What an outcome of these files is, under a table and with so many shards, by what each worker
+-- did.
+pub record Headline (fares : Fares) (shards : ℕ) (files : List (List ℕ))
+    (works : List (List Worked)) (outcome : OutcomeView) : Type 0 where
+  -- Each worker posted of the uploads that it drew what their bytes call for, and no upload was
+  -- drawn twice.
   pub worked : All (λ done. All (IsWorkOf shards files) done) works
   pub drawn_once : NoneTwice (map (λ w. w.upload) (all_works works))
   -- Each upload ended as the worker that drew it tells. Those that nobody drew are the last ones.
   pub uploads : length outcome.ends ≡ length files
-  pub ended : (upload : ℕ) (end : UploadEnd) → slice_get outcome.ends upload ≡ Some end → end ≡ end_of upload (all_works works)
-  pub undrawn : (upload : ℕ) → slice_get outcome.ends upload ≡ Some Undrawn → All (λ w. w.upload < upload) (all_works works)
+  pub ended : (upload : ℕ) (end : UploadEnd) → slice_get outcome.ends upload ≡ Some end
+      → end ≡ end_of upload (all_works works)
+  pub undrawn : (upload : ℕ) → slice_get outcome.ends upload ≡ Some Undrawn
+      → All (λ w. w.upload < upload) (all_works works)
   -- Each shard has a book under the table,
   pub shards_are : length outcome.books ≡ shards
-  pub books : EachBook (λ shard book. (book.table ≡ fares) × (book.shard ≡ shard) × (book.shards ≡ shards)) outcome.books
+  pub books : EachBook (λ shard book. (book.table ≡ fares) × (book.shard ≡ shard)
+      × (book.shards ≡ shards)) outcome.books
   -- whose history is one thread's, each worker's visits in its own order:
   pub one_thread : EachBook (λ shard book. IsOneThread shard works book.entries) outcome.books
   -- every posted tap stands in it once,
-  pub stand_once : EachBook (λ shard book. StandOnce shard shards (all_works works) book.entries) outcome.books
+  pub stand_once : EachBook
+      (λ shard book. StandOnce shard shards (all_works works) book.entries) outcome.books
   -- and each answer and charge is the account rule's for the earlier taps of the token.
   pub legal : EachBook (λ shard book. IsLegal fares book.entries) outcome.books
   -- The totals equal the workers' sums, and the books' and the uploads'.
   pub totals : AddUp works outcome
   -- No window of any token exceeds its limits.
-  pub limits : EachBook (λ shard book. (token : Token) → WindowsKeepLimits fares book.entries token) outcome.books
+  pub limits : EachBook (λ shard book. (token : Token)
+      → WindowsKeepLimits fares book.entries token) outcome.books
 
 -- the headline, for what so many workers did
-abbrev pub HasRun : Fares → ℕ → List (List ℕ) → ℕ → Gathered → Type 0
-HasRun fares shards files workers outcome = (works : List (List Worked)) × (length works ≡ workers) × Headline fares shards files works outcome
+abbrev pub HasRun : Fares → ℕ → List (List ℕ) → ℕ → OutcomeView → Type 0
+HasRun fares shards files workers outcome =
+    (works : List (List Worked)) × (length works ≡ workers)
+    × Headline fares shards files works outcome
 
 -- the headline, for what the workers of these shares of a service did
-abbrev pub HasOutcome : Hall → List Holding → Gathered → Type 0
-HasOutcome hall shares outcome = (works : List (List Worked)) × AllZip (Keeps hall) shares works × Headline hall.table (shards_of hall) hall.uploads works outcome
+abbrev pub HasOutcome : ServiceView → List ShareView → OutcomeView → Type 0
+HasOutcome service shares outcome =
+    (works : List (List Worked)) × AllZip (Keeps service) shares works
+    × Headline service.table (shards_of service) service.uploads works outcome
 
--- an upload that nobody drew: no share has seen it drawn. Uploads are drawn in their order, so these are the last ones
-abbrev pub ToldUndrawn : List Holding → Gathered → Type 0
+-- an upload that nobody drew: no share has seen it drawn. Uploads are drawn in their order, so
+-- these are the last ones
+abbrev pub ToldUndrawn : List ShareView → OutcomeView → Type 0
 ToldUndrawn shares outcome =
-    (upload : ℕ) → slice_get outcome.ends upload ≡ Some Undrawn → All (λ share. share.drawer.seen ≤ upload) shares
+    (upload : ℕ) → slice_get outcome.ends upload ≡ Some Undrawn
+    → All (λ share. share.drawer.seen ≤ upload) shares

@@ -1,4 +1,5 @@
--- Where the posted taps stand: each in one entry of its shard's book, and the books have no other entries.
+-- Where the posted taps stand: each in one entry of its shard's book, and the books have no other
+-- entries.
 use Rattle.std.specs.Prelude.{◌≡◌, ℕ, ◌<◌, ◌==◌, List, [], length, map, filter, take, All, count_by}
 use Rattle.std.specs.List.{flat_map, AllZip}
 use Rattle.tap_views.specs.Layout.{Tap}
@@ -7,24 +8,29 @@ use Rattle.tap_views.specs.Shards.{shard_of_token}
 use Rattle.shard_book.specs.declared.entry.Entry.{Entry}
 use Rattle.shard_book.specs.Entry.{IsEntryOf}
 use Rattle.fare_service.specs.declared.upload_end.UploadEnd.{UploadEnd}
-use Rattle.fare_service.specs.declared.upload_end.UploadEnd.TheVariants.{Posted, Refused, Cut, Undrawn}
+use Rattle.fare_service.specs.declared.upload_end.UploadEnd.TheVariants.{Posted, Refused, Cut}
+use Rattle.fare_service.specs.declared.upload_end.UploadEnd.TheVariants.{Undrawn}
 use Rattle.fare_service.specs.Runs.{PlacedTap, placed_from, of_shard, runs_of}
 use Rattle.fare_service.specs.Shares.{Worked, all_visits, IsRefusal}
 
--- the taps of an upload's batches in the order in which they are posted: batch by batch, and each batch by rising shard
+-- the taps of an upload's batches in the order in which they are posted: batch by batch, and each
+-- batch by rising shard
 abbrev pub in_posting_order : ℕ → List (List Tap) → List PlacedTap
 in_posting_order shards batches = flat_map (λ run. run.taps) (runs_of shards 0 batches)
 
--- What was posted of an upload that ended so: all taps before its first fault, or, where it was cut, the first of them in posting order, as
--- many as the end tells.
+-- What was posted of an upload that ended so: all taps before its first fault, or, where it was
+-- cut, the first of them in posting order, as many as the end tells.
 abbrev pub WerePostedOf : ℕ → List ℕ → UploadEnd → List PlacedTap → Type 0
 WerePostedOf shards file (Posted taps) posted =
-    (batches : List (List Tap)) × IsFile file batches [] × (posted ≡ in_posting_order shards batches) × (taps ≡ length posted)
+    (batches : List (List Tap)) × IsFile file batches []
+    × (posted ≡ in_posting_order shards batches) × (taps ≡ length posted)
 WerePostedOf shards file (Refused taps offset fault) posted =
-    (batches : List (List Tap)) × (rest : List ℕ) × IsFile file batches rest × IsRefusal file rest offset fault
+    (batches : List (List Tap)) × (rest : List ℕ) × IsFile file batches rest
+    × IsRefusal file rest offset fault
     × (posted ≡ in_posting_order shards batches) × (taps ≡ length posted)
 WerePostedOf shards file (Cut taps) posted =
-    (batches : List (List Tap)) × (rest : List ℕ) × IsFile file batches rest × (taps < length (in_posting_order shards batches))
+    (batches : List (List Tap)) × (rest : List ℕ) × IsFile file batches rest
+    × (taps < length (in_posting_order shards batches))
     × (posted ≡ take taps (in_posting_order shards batches))
 WerePostedOf shards file Undrawn posted = posted ≡ []
 
@@ -39,18 +45,23 @@ of_upload upload origins = map (λ o. o.placed) (filter (λ o. o.upload == uploa
 
 -- the taps that were posted of an upload, in posting order
 abbrev pub posted_of : ℕ → List Worked → List PlacedTap
-posted_of upload works = flat_map (λ v. v.taps) (all_visits (filter (λ w. w.upload == upload) works))
+posted_of upload works =
+    flat_map (λ v. v.taps) (all_visits (filter (λ w. w.upload == upload) works))
 
--- Each entry of a shard's book stands for a tap of an upload, and has the fields of its bytes. Of each upload these are exactly its
--- posted taps of the shard, each once, in the order of the upload.
+-- Each entry of a shard's book stands for a tap of an upload, and has the fields of its bytes. Of
+-- each upload these are exactly its posted taps of the shard, each once, in the order of the
+-- upload.
 pub record StandOnce (shard shards : ℕ) (works : List Worked) (entries : List Entry) : Type 0 where
   pub origins : List Origin
   pub fields : AllZip (λ origin entry. IsEntryOf origin.placed.tap entry) origins entries
-  pub exactly : (upload : ℕ) → of_upload upload origins ≡ of_shard shard shards (posted_of upload works)
+  pub exactly : (upload : ℕ)
+      → of_upload upload origins ≡ of_shard shard shards (posted_of upload works)
 
--- The same taps in another order: those of each shard stand in the same order, and each place that is there stands there once.
+-- The same taps in another order: those of each shard stand in the same order, and each place that
+-- is there stands there once.
 pub record IsReordered (shards : ℕ) (taps ordered : List PlacedTap) : Type 0 where
-  pub same : (shard : ℕ) → shard < shards → of_shard shard shards ordered ≡ of_shard shard shards taps
+  pub same : (shard : ℕ) → shard < shards
+      → of_shard shard shards ordered ≡ of_shard shard shards taps
   pub within : All (λ p. shard_of_token p.tap.token shards < shards) taps
   pub number : length ordered ≡ length taps
   pub once : (place : ℕ) → place < length taps → count_by (λ p. p.place == place) ordered ≡ 1

@@ -1,8 +1,9 @@
--- The plain history of uploads: the taps of all batches before each upload's first fault, uploads in order, each with the account rule's
--- reply. It has no shards, no visits and no workers.
+-- The plain history of uploads: the taps of all batches before each upload's first fault, uploads
+-- in order, each with the account rule's reply. It has no shards, no visits and no workers.
 use Rattle.std.specs.Int.{from_be_bytes, w64}
 use Rattle.std.specs.List.{flat_map, AllZip}
-use Rattle.std.specs.Prelude.{◌≡◌, ℕ, List, [], ◌∷◌, ◌++◌, length, take, drop, slice_get, Option, Some, All, Contains}
+use Rattle.std.specs.Prelude.{◌≡◌, ℕ, List, [], ◌∷◌, ◌++◌, length, take, drop, slice_get, Option}
+use Rattle.std.specs.Prelude.{Some, All, Contains}
 use Rattle.tap_views.specs.Files.{IsFile}
 use Rattle.tap_views.specs.Layout.{Tap, num}
 use Rattle.tap_views.specs.declared.fault.LayoutFault.{LayoutFault}
@@ -21,11 +22,12 @@ use Rattle.shard_book.specs.declared.statement.Statement.{Statement}
 use Rattle.shard_book.specs.declared.token.Token.{Token}
 use Rattle.fare_service.specs.Ends.{end_by}
 use Rattle.fare_service.specs.Headline.{Headline}
-use Rattle.fare_service.specs.Outcomes.{Gathered}
+use Rattle.fare_service.specs.Outcomes.{OutcomeView}
 use Rattle.fare_service.specs.Shares.{Worked, IsFaultOf}
 use Rattle.fare_texts.specs.StatementText.{IsStatementText}
 use Rattle.fare_service.specs.Text.{report}
-use Rattle.fare_service.specs.declared.upload_end.UploadEnd.TheVariants.{Posted, Refused, Cut, Undrawn}
+use Rattle.fare_service.specs.declared.upload_end.UploadEnd.TheVariants.{Posted, Refused, Cut}
+use Rattle.fare_service.specs.declared.upload_end.UploadEnd.TheVariants.{Undrawn}
 use Rattle.fare_service.specs.declared.upload_end.UploadEnd.{UploadEnd}
 
 -- the taps of an upload: those of all its batches before its first fault, in order
@@ -41,26 +43,42 @@ AreTapsOfEach uploads taps = AllZip AreTapsOf uploads taps
 
 -- the token that 16 bytes name: its numbers are those of the first eight bytes and of the others
 abbrev pub token_of : List ℕ → Token
-token_of bytes = record { high = from_be_bytes w64 (take 8 bytes); low = from_be_bytes w64 (drop 8 bytes) }
+token_of bytes =
+    record { high = from_be_bytes w64 (take 8 bytes); low = from_be_bytes w64 (drop 8 bytes) }
 
 -- the fields of a tap, in an entry that has no reply yet
 abbrev pub unanswered : Tap → Entry
-unanswered tap = record { token = token_of tap.token; validator = num tap.validator; moment = num tap.moment; answer = Unknown; cents = 0 }
+unanswered tap =
+    record {
+      token = token_of tap.token;
+      validator = num tap.validator;
+      moment = num tap.moment;
+      answer = Unknown;
+      cents = 0;
+    }
 
 abbrev pub with_reply : Entry → Reply → Entry
 with_reply entry replied =
-    record { token = entry.token; validator = entry.validator; moment = entry.moment; answer = replied.answer; cents = replied.cents }
+    record {
+      token = entry.token;
+      validator = entry.validator;
+      moment = entry.moment;
+      answer = replied.answer;
+      cents = replied.cents;
+    }
 
 -- the entry with the reply of the account rule after the earlier taps of its token
 unfoldable pub answered : Fares → List Entry → Entry → Entry
 answered fares earlier entry =
-    with_reply entry (reply (rules_of fares (bytes_of entry.token)) (taps_of fares entry.token earlier) (tap_of fares entry))
+    with_reply entry (reply (rules_of fares (bytes_of entry.token))
+    (taps_of fares entry.token earlier) (tap_of fares entry))
 
 -- the entries of taps that follow earlier ones
 unfoldable pub plain_after : Fares → List Entry → List Tap → List Entry
 plain_after fares earlier [] = []
 plain_after fares earlier (tap ∷ taps) =
-    answered fares earlier (unanswered tap) ∷ plain_after fares (earlier ++ answered fares earlier (unanswered tap) ∷ []) taps
+    answered fares earlier (unanswered tap)
+    ∷ plain_after fares (earlier ++ answered fares earlier (unanswered tap) ∷ []) taps
 
 -- the history of taps that are posted one after the other
 abbrev pub plain : Fares → List Tap → List Entry
@@ -75,7 +93,8 @@ pub record IsPlain (fares : Fares) (uploads : List (List ℕ)) (history : List E
 -- no token has taps in two uploads
 abbrev pub AreApart : List (List Tap) → Type 0
 AreApart taps =
-    (first second : ℕ) (ones others : List Tap) (tap other : Tap) → slice_get taps first ≡ Some ones → slice_get taps second ≡ Some others
+    (first second : ℕ) (ones others : List Tap) (tap other : Tap) → slice_get taps first ≡ Some ones
+    → slice_get taps second ≡ Some others
     → Contains ones tap → Contains others other → tap.token ≡ other.token → first ≡ second
 
 -- the entry's token is the one that its bytes name
@@ -92,18 +111,21 @@ WasWhole Undrawn = ⊥
 -- a file has one cut into batches at most
 abbrev pub HasOneCut : List ℕ → Type 0
 HasOneCut file =
-    (batches others : List (List Tap)) (rest left : List ℕ) → IsFile file batches rest → IsFile file others left → (batches ≡ others) × (rest ≡ left)
+    (batches others : List (List Tap)) (rest left : List ℕ) → IsFile file batches rest
+    → IsFile file others left → (batches ≡ others) × (rest ≡ left)
 
--- The headline holds, no upload was cut or left undrawn, and no token has taps in two uploads. The history is the plain one of the uploads.
-pub record IsWholeGathering (fares : Fares) (shards : ℕ) (uploads : List (List ℕ)) (outcome : Gathered) (history : List Entry) : Type 0 where
+-- The headline holds, no upload was cut or left undrawn, and no token has taps in two uploads. The
+-- history is the plain one of the uploads.
+pub record IsWholeGathering (fares : Fares) (shards : ℕ) (uploads : List (List ℕ))
+    (outcome : OutcomeView) (history : List Entry) : Type 0 where
   pub works : List (List Worked)
   pub headline : Headline fares shards uploads works outcome
   pub whole : All WasWhole outcome.ends
   pub plain_is : IsPlain fares uploads history
   pub apart : AreApart plain_is.taps
 
--- How an upload of these bytes ends where all batches before its first fault are posted: with the number of their taps, and the fault, if
--- there is one.
+-- How an upload of these bytes ends where all batches before its first fault are posted: with the
+-- number of their taps, and the fault, if there is one.
 pub record IsPlainEnd (file : List ℕ) (end : UploadEnd) : Type 0 where
   pub batches : List (List Tap)
   pub rest : List ℕ
@@ -116,13 +138,15 @@ abbrev pub ArePlainEnds : List (List ℕ) → List UploadEnd → Type 0
 ArePlainEnds uploads ends = AllZip IsPlainEnd uploads ends
 
 -- the text of a token's statement over a history
-pub record IsStatementOver (fares : Fares) (history : List Entry) (token : Token) (text : List ℕ) : Type 0 where
+pub record IsStatementOver (fares : Fares) (history : List Entry) (token : Token) (text : List ℕ)
+    : Type 0 where
   pub statement : Statement
   pub of_history : IsStatement fares history token statement
   pub shown : IsStatementText fares statement text
 
 -- the text of a report over a history of uploads
-pub record IsReportOver (uploads : List (List ℕ)) (history : List Entry) (text : List ℕ) : Type 0 where
+pub record IsReportOver (uploads : List (List ℕ)) (history : List Entry) (text : List ℕ)
+    : Type 0 where
   pub ends : List UploadEnd
   pub of_uploads : ArePlainEnds uploads ends
   pub shown : text ≡ report ends (sums history) (sums_by_validator history) (sums_by_token history)

@@ -11,20 +11,23 @@ use Rattle.shard_book.specs.Token.{bytes_of}
 use Rattle.fare_service.specs.declared.print_fault.PrintFault.{PrintFault}
 use Rattle.fare_service.specs.declared.print_fault.PrintFault.TheVariants.{Write, NoMemory}
 use Rattle.fare_service.specs.declared.upload_end.UploadEnd.{UploadEnd}
-use Rattle.fare_service.specs.Outcomes.{Gathered}
+use Rattle.fare_service.specs.Outcomes.{OutcomeView}
 use Rattle.fare_texts.specs.StatementText.{IsStatementText}
 use Rattle.fare_service.specs.Text.{report}
 
--- the report of an outcome with these ends of uploads: the ends, and the sums of all entries of its books
-abbrev pub report_with : List UploadEnd → Gathered → List ℕ
-report_with ends o = report ends (sums (all_entries o.books)) (sums_by_validator (all_entries o.books)) (sums_by_token (all_entries o.books))
+-- the report of an outcome with these ends of uploads: the ends, and the sums of all entries of its
+-- books
+abbrev pub report_with : List UploadEnd → OutcomeView → List ℕ
+report_with ends o =
+    report ends (sums (all_entries o.books)) (sums_by_validator (all_entries o.books))
+    (sums_by_token (all_entries o.books))
 
 -- the report of an outcome: the end of each upload, and the sums of all entries of its books
-abbrev pub report_of : Gathered → List ℕ
+abbrev pub report_of : OutcomeView → List ℕ
 report_of o = report_with o.ends o
 
 -- the text of a token's statement, which the book of its shard gives
-pub record IsStatementOf (o : Gathered) (token : Token) (text : List ℕ) : Type 0 where
+pub record IsStatementOf (o : OutcomeView) (token : Token) (text : List ℕ) : Type 0 where
   pub book : Book
   pub at : slice_get o.books (shard_of_token (bytes_of token) (length o.books)) ≡ Some book
   pub statement : Statement

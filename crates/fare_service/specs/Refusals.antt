@@ -4,14 +4,15 @@ use Rattle.fare_service.specs.declared.faults.RunFault.{RunFault}
 use Rattle.fare_service.specs.declared.faults.RunFault.TheVariants.{Workers, NoMemory, Gather}
 use Rattle.fare_service.specs.Closing.{IsFirst}
 use Rattle.fare_service.specs.Faults.{IsGatherFault}
-use Rattle.fare_service.specs.Halls.{Hall, shards_of}
-use Rattle.fare_service.specs.Holdings.{Holding}
+use Rattle.fare_service.specs.ServiceView.{ServiceView, shards_of}
+use Rattle.fare_service.specs.ShareView.{ShareView}
 use Rattle.fare_service.specs.Shares.{IsShareOf}
 
 -- there were as many shares of the service as workers, and gathering them was refused for this
-abbrev pub WasNotGathered : Hall → ℕ → RunFault → Type 0
-WasNotGathered hall workers Workers = Unit {0}
-WasNotGathered hall workers NoMemory = Unit {0}
-WasNotGathered hall workers (Gather fault) =
-    (shares : List Holding) × (length shares ≡ workers) × All (IsShareOf hall) shares
-    × IsGatherFault (shards_of hall) shares fault × IsFirst hall.books (length hall.uploads) shares fault
+abbrev pub WasNotGathered : ServiceView → ℕ → RunFault → Type 0
+WasNotGathered service workers Workers = Unit {0}
+WasNotGathered service workers NoMemory = Unit {0}
+WasNotGathered service workers (Gather fault) =
+    (shares : List ShareView) × (length shares ≡ workers) × All (IsShareOf service) shares
+    × IsGatherFault (shards_of service) shares fault
+    × IsFirst service.books (length service.uploads) shares fault

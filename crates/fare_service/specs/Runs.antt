@@ -1,5 +1,7 @@
--- What is posted of an upload: its batches cut into runs, one for each shard that has a tap, in an order that is fixed.
-use Rattle.std.specs.Prelude.{◌≡◌, ◌⊎◌, ℕ, zero, suc, ◌+◌, ◌<◌, ◌==◌, Bool, MatchBool, List, [], ◌∷◌, ◌++◌, length, map, filter, take}
+-- What is posted of an upload: its batches cut into runs, one for each shard that has a tap, in an
+-- order that is fixed.
+use Rattle.std.specs.Prelude.{◌≡◌, ◌⊎◌, ℕ, zero, suc, ◌+◌, ◌<◌, ◌==◌, List, [], ◌∷◌, ◌++◌, length}
+use Rattle.std.specs.Prelude.{map, filter, take}
 use Rattle.std.specs.List.{flat_map}
 use Rattle.tap_views.specs.Layout.{Tap}
 use Rattle.tap_views.specs.Shards.{shard_of_token}
@@ -39,14 +41,18 @@ if_any shard (tap ∷ taps) = run shard (tap ∷ taps) ∷ []
 -- the runs of a batch for the first shards, by rising shard
 abbrev pub runs_below : ℕ → ℕ → List PlacedTap → List Run
 runs_below shards zero taps = []
-runs_below shards (suc shard) taps = runs_below shards shard taps ++ if_any shard (of_shard shard shards taps)
+runs_below shards (suc shard) taps =
+    runs_below shards shard taps ++ if_any shard (of_shard shard shards taps)
 
 -- the runs of some batches, batch by batch; the first tap has the place
 abbrev pub runs_of : ℕ → ℕ → List (List Tap) → List Run
 runs_of shards place [] = []
-runs_of shards place (batch ∷ batches) = runs_below shards shards (placed_from place batch) ++ runs_of shards (place + length batch) batches
+runs_of shards place (batch ∷ batches) =
+    runs_below shards shards (placed_from place batch)
+    ++ runs_of shards (place + length batch) batches
 
--- a visit that a worker made to a shard: the taps that it posted, and the entries that stand for them
+-- a visit that a worker made to a shard: the taps that it posted, and the entries that stand for
+-- them
 pub record Visit : Type 0 where
   pub shard : ℕ
   pub taps : List PlacedTap
@@ -64,7 +70,8 @@ run_of_visit visit = run visit.shard visit.taps
 abbrev pub ArePosted : List Run → List Visit → Type 0
 ArePosted runs visits = map run_of_visit visits ≡ runs
 
--- the runs were posted up to one that was cut: nothing of it was posted, or its first taps and not all of them
+-- the runs were posted up to one that was cut: nothing of it was posted, or its first taps and not
+-- all of them
 pub record AreCut (runs : List Run) (visits : List Visit) : Type 0 where
   pub before : List Run
   pub cut : Run
@@ -72,11 +79,8 @@ pub record AreCut (runs : List Run) (visits : List Visit) : Type 0 where
   pub all : runs ≡ before ++ cut ∷ after
   pub some_tap : 0 < length cut.taps
   pub made : (map run_of_visit visits ≡ before)
-      ⊎ ((posted : ℕ) × (posted < length cut.taps) × (map run_of_visit visits ≡ before ++ run cut.shard (take posted cut.taps) ∷ []))
-
--- the runs were posted whole, or up to a cut
-abbrev pub WerePosted : List Run → Bool → List Visit → Type 0
-WerePosted runs whole visits = MatchBool whole (ArePosted runs visits) (AreCut runs visits)
+      ⊎ ((posted : ℕ) × (posted < length cut.taps)
+      × (map run_of_visit visits ≡ before ++ run cut.shard (take posted cut.taps) ∷ []))
 
 -- the entries of the visits to a shard, visit by visit
 abbrev pub visits_to : ℕ → List Visit → List Visit

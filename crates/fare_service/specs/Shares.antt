@@ -1,5 +1,7 @@
--- What a share keeps: the uploads that it drew, each with its end, the visits that it made for them, and the totals of the replies.
-use Rattle.std.specs.Prelude.{◌≡◌, ℕ, ◌+◌, ◌*◌, ◌^◌, ◌<◌, ◌≤◌, List, [], ◌++◌, length, map, filter, All, slice_index_or, Option, Some, None}
+-- What a share keeps: the uploads that it drew, each with its end, the visits that it made for
+-- them, and the totals of the replies.
+use Rattle.std.specs.Prelude.{◌≡◌, ℕ, ◌+◌, ◌*◌, ◌^◌, ◌<◌, ◌≤◌, List, [], ◌++◌, length, map, filter}
+use Rattle.std.specs.Prelude.{All, slice_index_or, Option, Some, None}
 use Rattle.std.specs.List.{flat_map}
 use Rattle.tap_views.specs.Layout.{Tap}
 use Rattle.tap_views.specs.Files.{IsFile}
@@ -8,16 +10,18 @@ use Rattle.tap_views.specs.declared.fault.LayoutFault.{LayoutFault}
 use Rattle.shard_book.specs.declared.entry.Entry.{Entry}
 use Rattle.shard_book.specs.Sums.{Sums, sums, add_sums}
 use Rattle.shared_books.specs.declared.turns.rule.Mark.{Mark}
-use Rattle.shared_books.specs.Passes.{Opened, Knowledge}
+use Rattle.shared_books.specs.Passes.{SharedBookView, PassView}
 use Rattle.fare_service.specs.declared.upload_end.UploadEnd.{UploadEnd}
-use Rattle.fare_service.specs.declared.upload_end.UploadEnd.TheVariants.{Posted, Refused, Cut, Undrawn}
+use Rattle.fare_service.specs.declared.upload_end.UploadEnd.TheVariants.{Posted, Refused, Cut}
+use Rattle.fare_service.specs.declared.upload_end.UploadEnd.TheVariants.{Undrawn}
 use Rattle.fare_service.specs.declared.share.Done.{Done}
-use Rattle.fare_service.specs.Halls.{Hall, shards_of}
-use Rattle.fare_service.specs.Holdings.{Holding}
-use Rattle.fare_service.specs.Runs.{Visit, IsEntered, ArePosted, AreCut, runs_of, entries_to, entries_of, taps_posted}
+use Rattle.fare_service.specs.ServiceView.{ServiceView, shards_of}
+use Rattle.fare_service.specs.ShareView.{ShareView}
+use Rattle.fare_service.specs.Runs.{Visit, IsEntered, ArePosted, AreCut, runs_of, entries_to}
+use Rattle.fare_service.specs.Runs.{entries_of, taps_posted}
 
 -- the books that the passes belong to
-abbrev pub books_of : List Knowledge → List Opened
+abbrev pub books_of : List PassView → List SharedBookView
 books_of passes = map (λ pass. pass.book) passes
 
 -- the visits that a pass made, in the order of their numbers
@@ -25,11 +29,11 @@ abbrev pub own_visits : List Mark → List (List Entry)
 own_visits marks = map (λ m. m.visit) (filter (λ m. m.mine) marks)
 
 -- what the pass to a shard knows; nothing where there is no such shard
-abbrev pub marks_at : ℕ → List Knowledge → List Mark
+abbrev pub marks_at : ℕ → List PassView → List Mark
 marks_at shard passes = slice_index_or (map (λ pass. pass.marks) passes) shard []
 
 -- the visits that the pass to a shard made
-abbrev pub own_at : ℕ → List Knowledge → List (List Entry)
+abbrev pub own_at : ℕ → List PassView → List (List Entry)
 own_at shard passes = own_visits (marks_at shard passes)
 
 -- an upload that a share drew: how it ended, and the visits that were made for it
@@ -37,9 +41,6 @@ pub record Worked : Type 0 where
   pub upload : ℕ
   pub end : UploadEnd
   pub visits : List Visit
-
-abbrev pub worked : ℕ → UploadEnd → List Visit → Worked
-worked upload end visits = record { upload = upload; end = end; visits = visits }
 
 abbrev pub all_visits : List Worked → List Visit
 all_visits works = flat_map (λ w. w.visits) works
@@ -67,7 +68,8 @@ abbrev pub IsEndOf : ℕ → List ℕ → List (List Tap) → List ℕ → List 
 IsEndOf shards file batches rest visits (Posted taps) =
     (rest ≡ []) × ArePosted (runs_of shards 0 batches) visits × (taps ≡ taps_posted visits)
 IsEndOf shards file batches rest visits (Refused taps offset fault) =
-    IsRefusal file rest offset fault × ArePosted (runs_of shards 0 batches) visits × (taps ≡ taps_posted visits)
+    IsRefusal file rest offset fault × ArePosted (runs_of shards 0 batches) visits
+    × (taps ≡ taps_posted visits)
 IsEndOf shards file batches rest visits (Cut taps) =
     AreCut (runs_of shards 0 batches) visits × (taps ≡ taps_posted visits)
 IsEndOf shards file batches rest visits Undrawn = ⊥
@@ -86,46 +88,48 @@ pub record IsWorkOf (shards : ℕ) (files : List (List ℕ)) (w : Worked) : Type
   pub entered : All (IsEntered shards) w.visits
 
 -- the same, of an upload of a service
-abbrev pub IsWorked : Hall → Worked → Type 0
-IsWorked hall = IsWorkOf (shards_of hall) hall.uploads
+abbrev pub IsWorked : ServiceView → Worked → Type 0
+IsWorked service = IsWorkOf (shards_of service) service.uploads
 
 -- the share keeps what was done for these uploads, in the order in which it drew them
-pub record Keeps (hall : Hall) (share : Holding) (works : List Worked) : Type 0 where
-  pub each : All (IsWorked hall) works
+pub record Keeps (service : ServiceView) (share : ShareView) (works : List Worked) : Type 0 where
+  pub each : All (IsWorked service) works
   pub drawn : share.drawer.drawn ≡ map (λ w. w.upload) works
   pub done : share.done ≡ map done_of works
   pub visits : (shard : ℕ) → own_at shard share.passes ≡ entries_to shard (all_visits works)
   pub totals : share.totals ≡ sums (entries_of (all_visits works))
 
 -- the share belongs to the service, and keeps what was done for some uploads
-pub record IsShareOf (hall : Hall) (share : Holding) : Type 0 where
-  pub drawer : share.drawer.source ≡ hall.drawing
-  pub passes : books_of share.passes ≡ hall.books
+pub record IsShareOf (service : ServiceView) (share : ShareView) : Type 0 where
+  pub drawer : share.drawer.source ≡ service.drawing
+  pub passes : books_of share.passes ≡ service.books
   pub works : List Worked
-  pub keeps : Keeps hall share works
+  pub keeps : Keeps service share works
   pub room : share.totals.taps ≤ 2 ^ 60 * length works
 
 -- nothing was done with the share yet
-pub record IsFresh (share : Holding) : Type 0 where
+pub record IsFresh (share : ShareView) : Type 0 where
   pub drawn : share.drawer.drawn ≡ []
   pub done : share.done ≡ []
   pub visits : (shard : ℕ) → own_at shard share.passes ≡ []
   pub totals : share.totals ≡ sums []
 
 -- what a worker's visits changed: the passes have made them, and the totals count their replies
-pub record Made (shards : ℕ) (passes passes' : List Knowledge) (totals totals' : Sums) (more : List Visit) : Type 0 where
+pub record Made (shards : ℕ) (passes passes' : List PassView) (totals totals' : Sums)
+    (more : List Visit) : Type 0 where
   pub books : books_of passes' ≡ books_of passes
   pub visits : (shard : ℕ) → own_at shard passes' ≡ own_at shard passes ++ entries_to shard more
   pub counted : totals' ≡ add_sums totals (sums (entries_of more))
   pub entered : All (IsEntered shards) more
 
 -- the share drew these uploads more, and did this for them
-pub record HasWorked (hall : Hall) (old new : Holding) (more : List Worked) : Type 0 where
-  pub each : All (IsWorked hall) more
+pub record HasWorked (service : ServiceView) (old new : ShareView) (more : List Worked)
+    : Type 0 where
+  pub each : All (IsWorked service) more
   pub drawn : new.drawer.drawn ≡ old.drawer.drawn ++ map (λ w. w.upload) more
   pub done : new.done ≡ old.done ++ map done_of more
-  pub made : Made (shards_of hall) old.passes new.passes old.totals new.totals (all_visits more)
+  pub made : Made (shards_of service) old.passes new.passes old.totals new.totals (all_visits more)
 
 -- the share went on with some uploads
-abbrev pub WentOn : Hall → Holding → Holding → Type 0
-WentOn hall old new = (more : List Worked) × HasWorked hall old new more
+abbrev pub WentOn : ServiceView → ShareView → ShareView → Type 0
+WentOn service old new = (more : List Worked) × HasWorked service old new more

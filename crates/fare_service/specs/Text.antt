@@ -5,13 +5,15 @@ use Rattle.std.specs.Fmt.{decimal}
 use Rattle.std.specs.List.{flat_map}
 use Rattle.hex.specs.Hex.{encode_lower}
 use Rattle.tap_views.specs.declared.fault.LayoutFault.{LayoutFault}
-use Rattle.tap_views.specs.declared.fault.LayoutFault.TheVariants.{Short, Magic, Flags, TooMany, Length, Moment}
+use Rattle.tap_views.specs.declared.fault.LayoutFault.TheVariants.{Short, Magic, Flags, TooMany}
+use Rattle.tap_views.specs.declared.fault.LayoutFault.TheVariants.{Length, Moment}
 use Rattle.shard_book.specs.Token.{bytes_of}
 use Rattle.shard_book.specs.Sums.{Sums}
 use Rattle.shard_book.specs.declared.token.Token.{Token}
 use Rattle.fare_texts.specs.Counts.{counts, totals_line}
 use Rattle.fare_service.specs.declared.upload_end.UploadEnd.{UploadEnd}
-use Rattle.fare_service.specs.declared.upload_end.UploadEnd.TheVariants.{Posted, Refused, Cut, Undrawn}
+use Rattle.fare_service.specs.declared.upload_end.UploadEnd.TheVariants.{Posted, Refused, Cut}
+use Rattle.fare_service.specs.declared.upload_end.UploadEnd.TheVariants.{Undrawn}
 
 -- the layout faults by their names
 abbrev pub fault_name : LayoutFault → List ℕ
@@ -26,7 +28,8 @@ fault_name (Moment index) = codes "L6"
 abbrev pub end_text : UploadEnd → List ℕ
 end_text (Posted taps) = codes "posted " ++ decimal taps
 end_text (Refused taps offset fault) =
-    codes "refused " ++ (decimal taps ++ (codes " at " ++ (decimal offset ++ (codes " " ++ fault_name fault))))
+    codes "refused " ++ (decimal taps
+    ++ (codes " at " ++ (decimal offset ++ (codes " " ++ fault_name fault))))
 end_text (Cut taps) = codes "cut " ++ decimal taps
 end_text Undrawn = codes "undrawn"
 
@@ -72,7 +75,8 @@ validators_part sums = validators_head (length sums) ++ flat_map validator_line 
 abbrev pub tokens_part : List (Token × Sums) → List ℕ
 tokens_part sums = tokens_head (length sums) ++ flat_map token_line sums
 
--- the report: the end of each upload, the totals, the sums of each validator and those of each token
+-- the report: the end of each upload, the totals, the sums of each validator and those of each
+-- token
 abbrev pub report : List UploadEnd → Sums → List (ℕ × Sums) → List (Token × Sums) → List ℕ
 report ends totals validators tokens =
     uploads_part ends ++ (totals_line totals ++ (validators_part validators ++ tokens_part tokens))

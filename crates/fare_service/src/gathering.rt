@@ -1,11 +1,16 @@
 //! Gathering shares: what each worker did is joined, and the books are closed.
 
-ghost use Rattle.std.specs.Prelude.{◌≡◌, ℕ, ◌+◌, ◌<◌, ◌≤◌, List, All, IfOk, IfErr, OnOk, length, map, slice_get, Some, [], ◌∷◌, replicate, vec_capacity};
+ghost use Rattle.std.specs.Prelude.{◌≡◌, ℕ, ◌+◌, ◌<◌, ◌≤◌, List, All, IfOk, IfErr, OnOk, length};
+ghost use Rattle.std.specs.Prelude.{map, slice_get, Some, [], ◌∷◌, replicate, vec_capacity};
 ghost use Rattle.std.specs.List.{flat_map};
 ghost use Rattle.shard_book.specs.Sums.{sums_of};
-ghost use Rattle.shared_books.specs.Passes.{Knowledge};
-ghost use Rattle.fare_service.specs.Closing.{AreClosed, AreUnseen, IsClosedWork, IsFirst, IsFirstMissing, IsFirstUnseen, IsMissing, NoneMissing};
-ghost use Rattle.fare_service.specs.Joining.{AreJoinedAt, Belongs, IsJoinedOf, told, told_all};
+ghost use Rattle.shared_books.specs.Passes.{PassView};
+ghost use Rattle.fare_service.specs.Closing.{IsFirst};
+ghost use Rattle.fare_service.specs.inside.Closing.{AreClosed, AreUnseen, IsClosedWork};
+ghost use Rattle.fare_service.specs.inside.Closing.{IsFirstMissing, IsFirstUnseen, IsMissing};
+ghost use Rattle.fare_service.specs.inside.Closing.{NoneMissing};
+ghost use Rattle.fare_service.specs.inside.Joining.{AreJoinedAt, Belongs, IsJoinedOf, told};
+ghost use Rattle.fare_service.specs.inside.Joining.{told_all};
 ghost use Rattle.fare_service.specs.Faults.{IsGatherFault};
 ghost use Rattle.fare_service.specs.Shares.{books_of, own_at};
 
@@ -34,7 +39,8 @@ fn mark_ends(ends: &mut Vec<UploadEnd>, done: &[Done])
 /// How each upload ended, as the shares tell.
 fn ends_of(alloc: Global, uploads: usize, shares: &[Share]) -> Result<Vec<UploadEnd>, NoMemory>
     requires { All (λ share. All (λ d. d.upload < uploads) share.done) shares.now }
-    ensures ends { IfOk result (λ r. r.items ≡ told_all (replicate uploads UploadEnd.Undrawn) shares.now) }
+    ensures ends { IfOk result
+        (λ r. r.items ≡ told_all (replicate uploads UploadEnd.Undrawn) shares.now) }
     ensures number { IfOk result (λ r. length r.items ≡ uploads) }
 {
     let mut ends = vec![in alloc; UploadEnd::Undrawn; uploads]?;
@@ -78,7 +84,8 @@ fn join_shares(
 ) -> (Drawer, Vec<Pass>)
     requires first { Belongs draw.now books.now first }
     requires others { All (Belongs draw.now books.now) others.items }
-    ensures { IsJoinedOf draw.now books.now (length others.items + 1) (first ∷ others.items) result.0 result.1.items }
+    ensures { IsJoinedOf draw.now books.now (length others.items + 1)
+        (first ∷ others.items) result.0 result.1.items }
 {
     let Share {
         mut drawer,
@@ -214,19 +221,21 @@ fn close_with(
 }
 
 impl<'a> Service<'a> {
-    ghost use Rattle.fare_service.specs.Halls.{shards_of};
+    ghost use Rattle.fare_service.specs.ServiceView.{shards_of};
     ghost use Rattle.fare_service.specs.Headline.{HasOutcome, ToldUndrawn};
     ghost use Rattle.fare_service.specs.Shares.{IsShareOf};
 
-    /// Gathers shares: joins what their workers did, closes the shards' books, and gives these with the end of each upload and the
-    /// totals of each share, in the order of the shares. All memory is taken first; then missing visits are told, of the first shard that
-    /// misses some, and then missing uploads. On a fault service and shares are dropped.
+    /// Gathers shares: joins what their workers did, closes the shards' books, and gives these with
+    /// the end of each upload and the totals of each share, in the order of the shares. All memory
+    /// is taken first; then missing visits are told, of the first shard that misses some, and then
+    /// missing uploads. On a fault service and shares are dropped.
     pub fn gather(self, alloc: Global, shares: Vec<Share>) -> Result<Outcome, GatherFault>
         requires { All (IsShareOf self) shares.items }
         ensures headline { IfOk result (HasOutcome self.entry shares.items) }
         ensures undrawn { IfOk result (ToldUndrawn shares.items) }
         ensures fault { IfErr result (IsGatherFault (shards_of self.entry) shares.items) }
-        ensures first { IfErr result (IsFirst self.entry.books (length self.entry.uploads) shares.items) }
+        ensures first { IfErr result
+            (IsFirst self.entry.books (length self.entry.uploads) shares.items) }
     {
         let mut closed = Vec::with_capacity(alloc, self.books.len())?;
         let ends = ends_of(alloc, self.uploads.len(), shares.as_slice())?;
@@ -238,7 +247,8 @@ impl<'a> Service<'a> {
             uploads: _,
         } = self;
         close_with(draw, books, shares, &mut closed)?;
-        // the books have few entries, so that the sums of the workers' totals fit; they are those of the books
+        // the books have few entries, so that the sums of the workers' totals fit; they are those
+        // of the books
         let _entries = entries_in(closed.as_slice());
         let totals = added(workers.as_slice());
         Ok(Outcome {

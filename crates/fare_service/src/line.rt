@@ -10,8 +10,8 @@ use std::marker::Model;
 /// More bytes than the longest line has: seven numbers of at most 40 digits, a token and the words.
 const ROOM: usize = 384;
 
-/// The end of a line, as far as it is made: what is put there comes before what stands there, so that digits are written where they
-/// stay, the last one first. Contracts see the bytes.
+/// The end of a line, as far as it is made: what is put there comes before what stands there, so
+/// that digits are written where they stay, the last one first. Contracts see the bytes.
 #[derive(Drop)]
 pub(crate) struct Line {
     bytes: [u8; ROOM],

@@ -16,13 +16,24 @@ pub struct Outcome {
 impl Model for Outcome {
     ghost use Rattle.std.specs.Prelude.{map};
     ghost use Rattle.shard_book.specs.Sums.{sums_of};
-    ghost use Rattle.fare_service.specs.Outcomes.{Gathered, IsOutcome};
+    ghost use Rattle.fare_service.specs.Outcomes.{OutcomeView};
+    ghost use Rattle.fare_service.specs.inside.Outcomes.{IsOutcome};
 
-    ghost Value = { Gathered };
+    ghost Value = { OutcomeView };
 
-    ghost view = { λ o. record { books = o.books.items; ends = o.ends.items; workers = map sums_of o.workers.items; totals = sums_of o.totals } };
+    ghost view = { λ o. record {
+      books = o.books.items;
+      ends = o.ends.items;
+      workers = map sums_of o.workers.items;
+      totals = sums_of o.totals;
+    } };
 
-    ghost invariant = { λ o. IsOutcome (record { books = o.books.items; ends = o.ends.items; workers = map sums_of o.workers.items; totals = sums_of o.totals }) };
+    ghost invariant = { λ o. IsOutcome (record {
+      books = o.books.items;
+      ends = o.ends.items;
+      workers = map sums_of o.workers.items;
+      totals = sums_of o.totals;
+    }) };
 }
 
 impl Outcome {

@@ -1,4 +1,5 @@
-//! The text of the report but for the lines of the tokens: a function for each line, for each list and for each part.
+//! The text of the report but for the lines of the tokens: a function for each line, for each list
+//! and for each part.
 
 ghost use Rattle.std.specs.Prelude.{◌≡◌, ◌++◌, IfOk, OnOk, length, map, string_bytes, codes};
 ghost use Rattle.std.specs.Fmt.{decimal};
@@ -6,7 +7,9 @@ ghost use Rattle.shard_book.specs.Shown.{validator_sum};
 ghost use Rattle.shard_book.specs.Sums.{sums_of};
 ghost use Rattle.std.specs.List.{flat_map};
 ghost use Rattle.fare_texts.specs.Counts.{counts, totals_line};
-ghost use Rattle.fare_service.specs.Text.{report, uploads_part, validators_part, uploads_head, upload_line, upload_lines, validators_head, validator_line, tokens_head, token_line};
+ghost use Rattle.fare_service.specs.Text.{report, uploads_part, validators_part, uploads_head};
+ghost use Rattle.fare_service.specs.Text.{upload_line, upload_lines, validators_head};
+ghost use Rattle.fare_service.specs.Text.{validator_line, tokens_head, token_line};
 
 use crate::upload_end::UploadEnd;
 use fare_texts::{write_counts, write_totals};
@@ -21,7 +24,9 @@ pub(crate) fn report_front(
     validators: &[ValidatorSum],
     tokens: &TokenSums,
 ) -> Result<Vec<u8>, AllocError>
-    ensures { IfOk result (λ text. text.items ++ flat_map token_line tokens.now ≡ report ends.now (sums_of totals.now) (map validator_sum validators.now) tokens.now) }
+    ensures { IfOk result (λ text.
+        text.items ++ flat_map token_line tokens.now
+        ≡ report ends.now (sums_of totals.now) (map validator_sum validators.now) tokens.now) }
 {
     let mut text = String::new(alloc);
     write_uploads(&mut text, ends)?;
@@ -49,7 +54,8 @@ fn write_uploads_head(text: &mut String, count: usize) -> Result<(), AllocError>
 
 #[tactic(auto, using(crate::proofs::Parts::lines_more))]
 fn write_upload_lines(text: &mut String, ends: &[UploadEnd]) -> Result<(), AllocError>
-    ensures { OnOk result (string_bytes text.new ≡ string_bytes text.old ++ upload_lines 0 ends.now) }
+    ensures { OnOk result (string_bytes text.new ≡ string_bytes text.old
+        ++ upload_lines 0 ends.now) }
 {
     for (upload, end) in ends.iter().enumerate() {
         write_upload(text, upload, end)?;
@@ -59,7 +65,8 @@ fn write_upload_lines(text: &mut String, ends: &[UploadEnd]) -> Result<(), Alloc
 
 #[tactic(auto, unfolding(crate::specs::Text::upload_line))]
 fn write_upload(text: &mut String, upload: usize, end: &UploadEnd) -> Result<(), AllocError>
-    ensures { OnOk result (string_bytes text.new ≡ string_bytes text.old ++ upload_line upload end.now) }
+    ensures { OnOk result (string_bytes text.new ≡ string_bytes text.old
+        ++ upload_line upload end.now) }
 {
     writeln!(text, "upload {upload} {end}")
 }
@@ -67,7 +74,8 @@ fn write_upload(text: &mut String, upload: usize, end: &UploadEnd) -> Result<(),
 /// The sums of each validator.
 #[tactic(auto, using(crate::proofs::Parts::in_parts))]
 fn write_validators(text: &mut String, sums: &[ValidatorSum]) -> Result<(), AllocError>
-    ensures { OnOk result (string_bytes text.new ≡ string_bytes text.old ++ validators_part (map validator_sum sums.now)) }
+    ensures { OnOk result (string_bytes text.new ≡ string_bytes text.old
+        ++ validators_part (map validator_sum sums.now)) }
 {
     write_validators_head(text, sums.len())?;
     write_validator_lines(text, sums)
@@ -82,7 +90,8 @@ fn write_validators_head(text: &mut String, count: usize) -> Result<(), AllocErr
 
 #[tactic(auto, using(std::proofs::lemmas::List::flat_map_more))]
 fn write_validator_lines(text: &mut String, sums: &[ValidatorSum]) -> Result<(), AllocError>
-    ensures { OnOk result (string_bytes text.new ≡ string_bytes text.old ++ flat_map validator_line (map validator_sum sums.now)) }
+    ensures { OnOk result (string_bytes text.new ≡ string_bytes text.old
+        ++ flat_map validator_line (map validator_sum sums.now)) }
 {
     for sum in sums {
         write_validator(text, sum)?;
@@ -92,14 +101,16 @@ fn write_validator_lines(text: &mut String, sums: &[ValidatorSum]) -> Result<(),
 
 #[tactic(auto, using(crate::proofs::Parts::in_parts))]
 fn write_validator(text: &mut String, sum: &ValidatorSum) -> Result<(), AllocError>
-    ensures { OnOk result (string_bytes text.new ≡ string_bytes text.old ++ validator_line (validator_sum sum.now)) }
+    ensures { OnOk result (string_bytes text.new ≡ string_bytes text.old
+        ++ validator_line (validator_sum sum.now)) }
 {
     write_validator_name(text, sum.validator)?;
     write_counts(text, &sum.totals)
 }
 
 fn write_validator_name(text: &mut String, validator: u32) -> Result<(), AllocError>
-    ensures { OnOk result (string_bytes text.new ≡ string_bytes text.old ++ (codes "validator " ++ (decimal validator ++ codes " "))) }
+    ensures { OnOk result (string_bytes text.new ≡ string_bytes text.old
+        ++ (codes "validator " ++ (decimal validator ++ codes " "))) }
 {
     write!(text, "validator {validator} ")
 }

@@ -2,7 +2,7 @@
 
 ghost use Rattle.std.specs.Prelude.{◌≡◌, ◌<◌, All, IfOk, IfErr, length};
 ghost use Rattle.fare_service.specs.Faults.{IsRunFault};
-ghost use Rattle.fare_service.specs.Halls.{shards_of};
+ghost use Rattle.fare_service.specs.ServiceView.{shards_of};
 ghost use Rattle.fare_service.specs.Headline.{HasRun};
 ghost use Rattle.fare_service.specs.Refusals.{WasNotGathered};
 ghost use Rattle.fare_service.specs.Shares.{IsShareOf};
@@ -48,7 +48,8 @@ impl<'a> Service<'a> {
         Ok(shares)
     }
 
-    /// Starts a thread for each share, and joins them. Where one is refused, those that were started end with the scope.
+    /// Starts a thread for each share, and joins them. Where one is refused, those that were
+    /// started end with the scope.
     fn work_in<'s, E, R: Threads + Wait + Sync, G: Gate + Sync>(
         &'s self,
         scope: &Scope<'s, E>,
@@ -105,8 +106,8 @@ impl<'a> Service<'a> {
         Ok(worked)
     }
 
-    /// Runs the service with so many workers, 1 to 16, each in a thread of its own, and gathers their shares. The given share is the
-    /// first worker's.
+    /// Runs the service with so many workers, 1 to 16, each in a thread of its own, and gathers
+    /// their shares. The given share is the first worker's.
     pub fn run<R: Threads + Wait + Sync, G: Gate + Sync>(
         self,
         rt: &R,
@@ -116,7 +117,8 @@ impl<'a> Service<'a> {
         gate: &G,
     ) -> Result<Outcome, RunFault>
         requires { IsShareOf self share }
-        ensures headline { IfOk result (HasRun self.entry.table (shards_of self.entry) self.entry.uploads workers) }
+        ensures headline { IfOk result
+            (HasRun self.entry.table (shards_of self.entry) self.entry.uploads workers) }
         ensures fault { IfErr result (IsRunFault workers) }
         ensures gathered { IfErr result (WasNotGathered self.entry workers) }
     {

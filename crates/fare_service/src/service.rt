@@ -16,7 +16,8 @@ const MOST_SHARDS: u32 = 64;
 /// The most uploads of a service.
 const MOST_UPLOADS: usize = 65_535;
 
-/// The uploads, a shared book for each shard, and the fare table. Many threads may work at it at once.
+/// The uploads, a shared book for each shard, and the fare table. Many threads may work at it at
+/// once.
 #[derive(Drop)]
 pub struct Service<'a> {
     pub(crate) table: FareTable,
@@ -27,23 +28,35 @@ pub struct Service<'a> {
 
 impl<'a> Model for Service<'a> {
     ghost use Rattle.std.specs.Prelude.{map};
-    ghost use Rattle.fare_service.specs.Halls.{Hall, IsHall};
+    ghost use Rattle.fare_service.specs.ServiceView.{ServiceView};
+    ghost use Rattle.fare_service.specs.inside.ServiceView.{IsService};
 
-    ghost Value = { Hall };
+    ghost Value = { ServiceView };
 
-    ghost view = { λ s. record { table = s.table; drawing = s.draw; books = s.books.items; uploads = map (λ upload. upload.items) s.uploads.now } };
+    ghost view = { λ s. record {
+      table = s.table;
+      drawing = s.draw;
+      books = s.books.items;
+      uploads = map (λ upload. upload.items) s.uploads.now;
+    } };
 
-    ghost invariant = { λ s. IsHall (record { table = s.table; drawing = s.draw; books = s.books.items; uploads = map (λ upload. upload.items) s.uploads.now }) };
+    ghost invariant = { λ s. IsService (record {
+      table = s.table;
+      drawing = s.draw;
+      books = s.books.items;
+      uploads = map (λ upload. upload.items) s.uploads.now;
+    }) };
 }
 
 impl<'a> Service<'a> {
     ghost use Rattle.std.specs.Prelude.{◌≡◌, ◌<◌, ◌≤◌, IfOk, IfErr, length, map};
-    ghost use Rattle.fare_service.specs.Halls.{shards_of};
+    ghost use Rattle.fare_service.specs.ServiceView.{shards_of};
     ghost use Rattle.fare_service.specs.Faults.{IsOpenFault};
     ghost use Rattle.fare_service.specs.Shares.{IsFresh, IsShareOf};
 
-    /// Opens a service of so many shards, 1 to 64, over at most 65,535 uploads, none of them drawn, and gives its first share. Every
-    /// shard's visits are numbered from 0. On a fault what was handed in is dropped.
+    /// Opens a service of so many shards, 1 to 64, over at most 65,535 uploads, none of them drawn,
+    /// and gives its first share. Every shard's visits are numbered from 0. On a fault what was
+    /// handed in is dropped.
     pub fn open<R: RandomSource>(
         rt: &R,
         alloc: Global,
@@ -53,7 +66,8 @@ impl<'a> Service<'a> {
     ) -> Result<(Service<'a>, Share), OpenFault>
         ensures table { IfOk result (λ r. r.0.table ≡ table) }
         ensures shards { IfOk result (λ r. shards_of r.0 ≡ shards) }
-        ensures uploads { IfOk result (λ r. r.0.uploads ≡ map (λ upload. upload.items) uploads.now) }
+        ensures uploads { IfOk result
+            (λ r. r.0.uploads ≡ map (λ upload. upload.items) uploads.now) }
         ensures share { IfOk result (λ r. IsShareOf r.0 r.1) }
         ensures fresh { IfOk result (λ r. IsFresh r.1) }
         ensures fault { IfErr result (IsOpenFault shards (length uploads.now)) }

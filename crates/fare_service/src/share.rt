@@ -21,8 +21,8 @@ pub(crate) struct Posting {
     pub(crate) totals: Totals,
 }
 
-/// A worker's share of a service: the uploads that it drew, each with its end, the visits that it made for them, and the totals of
-/// the replies that it got. It keeps no entries.
+/// A worker's share of a service: the uploads that it drew, each with its end, the visits that it
+/// made for them, and the totals of the replies that it got. It keeps no entries.
 #[derive(Drop)]
 pub struct Share {
     pub(crate) drawer: Drawer,
@@ -31,13 +31,18 @@ pub struct Share {
 }
 
 impl Model for Share {
-    ghost use Rattle.fare_service.specs.Holdings.{Holding};
+    ghost use Rattle.fare_service.specs.ShareView.{ShareView};
 
-    ghost Value = { Holding };
+    ghost Value = { ShareView };
 
     ghost use Rattle.shard_book.specs.Sums.{sums_of};
 
-    ghost view = { λ s. record { drawer = s.drawer; passes = s.posting.passes.items; totals = sums_of s.posting.totals; done = s.done.items } };
+    ghost view = { λ s. record {
+      drawer = s.drawer;
+      passes = s.posting.passes.items;
+      totals = sums_of s.posting.totals;
+      done = s.done.items;
+    } };
 }
 
 impl Share {

@@ -1,6 +1,7 @@
 //! The part of the report that has a line for each token: of many tokens, it is most of the text.
 
-ghost use Rattle.std.specs.Prelude.{◌≡◌, ◌+◌, ◌≤◌, [], ◌++◌, OnOk, IfErr, length, codes, vec_len, vec_capacity};
+ghost use Rattle.std.specs.Prelude.{◌≡◌, ◌+◌, ◌≤◌, [], ◌++◌, OnOk, IfErr, length, codes, vec_len};
+ghost use Rattle.std.specs.Prelude.{vec_capacity};
 ghost use Rattle.std.specs.Io.KnownBytes.{Appends, Keeps, append_known};
 ghost use Rattle.std.specs.List.{flat_map};
 ghost use Rattle.hex.specs.Hex.{encode_lower};
@@ -20,7 +21,9 @@ use std::io::Write;
 /// Writes out what waits in the text where it leaves too little room.
 fn make_room<W: Write>(text: &mut Vec<u8>, needed: usize, out: &mut W) -> Result<(), PrintFault>
     requires { needed ≤ vec_capacity text.old }
-    ensures kept { OnOk result (Keeps (append_known (W.contents out.old) text.old.items) (append_known (W.contents out.new) text.new.items)) }
+    ensures kept { OnOk result
+        (Keeps (append_known (W.contents out.old) text.old.items)
+        (append_known (W.contents out.new) text.new.items)) }
     ensures room { OnOk result (vec_len text.new + needed ≤ vec_capacity text.new) }
     ensures capacity { vec_capacity text.new ≡ vec_capacity text.old }
     ensures fault { IfErr result (λ fault. fault ≡ ForWrite) }
@@ -36,7 +39,8 @@ fn make_room<W: Write>(text: &mut Vec<u8>, needed: usize, out: &mut W) -> Result
 /// Appends a line to the text, of which what stood there may go out first. No memory is taken.
 fn push_line<W: Write>(text: &mut Vec<u8>, line: &Line, out: &mut W) -> Result<(), PrintFault>
     requires { 384 ≤ vec_capacity text.old }
-    ensures ok { OnOk result (Appends (append_known (W.contents out.old) text.old.items) (append_known (W.contents out.new) text.new.items) line.now) }
+    ensures ok { OnOk result (Appends (append_known (W.contents out.old) text.old.items)
+        (append_known (W.contents out.new) text.new.items) line.now) }
     ensures capacity { vec_capacity text.old ≤ vec_capacity text.new }
     ensures fault { IfErr result (λ fault. fault ≡ ForWrite) }
 {
@@ -48,14 +52,16 @@ fn push_line<W: Write>(text: &mut Vec<u8>, line: &Line, out: &mut W) -> Result<(
     Ok(())
 }
 
-/// Writes the text and a line for each token, in pieces as large as the text's room. No memory is taken.
+/// Writes the text and a line for each token, in pieces as large as the text's room. No memory is
+/// taken.
 pub(crate) fn write_lines<W: Write>(
     text: &mut Vec<u8>,
     sums: &TokenSums,
     out: &mut W,
 ) -> Result<(), PrintFault>
     requires { 384 ≤ vec_capacity text.old }
-    ensures ok { OnOk result (Appends (W.contents out.old) (W.contents out.new) (text.old.items ++ flat_map token_line sums.now)) }
+    ensures ok { OnOk result (Appends (W.contents out.old) (W.contents out.new)
+        (text.old.items ++ flat_map token_line sums.now)) }
     ensures fault { IfErr result (λ fault. fault ≡ ForWrite) }
 {
     let mut line = Line::new();
@@ -107,7 +113,8 @@ fn put_live_counts(line: &mut Line, totals: &Totals)
 #[inline(always)]
 fn put_name(line: &mut Line, token: Token)
     requires { length line.old ≤ 334 }
-    ensures { line.new ≡ (codes "token " ++ (encode_lower (bytes_of token) ++ codes " ")) ++ line.old }
+    ensures { line.new ≡ (codes "token " ++ (encode_lower (bytes_of token) ++ codes " "))
+        ++ line.old }
 {
     line.put(b" ");
     line.put_digits(&token.bytes());

@@ -9,15 +9,15 @@ pub enum UploadEnd {
     Posted {
         taps: u64,
     },
-    /// All batches before the upload's first layout fault were posted whole. The fault's batch begins
-    /// `offset` bytes into the upload.
+    /// All batches before the upload's first layout fault were posted whole. The fault's batch
+    /// begins `offset` bytes into the upload.
     Refused {
         taps: u64,
         offset: u64,
         fault: LayoutFault,
     },
-    /// Want of memory, or a shard that takes no more visits, ended it: a beginning of the taps before
-    /// its first layout fault was posted, and not all of them.
+    /// Want of memory, or a shard that takes no more visits, ended it: a beginning of the taps
+    /// before its first layout fault was posted, and not all of them.
     Cut {
         taps: u64,
     },

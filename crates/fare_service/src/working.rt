@@ -1,6 +1,8 @@
 //! The work of one thread: it draws uploads and posts their batches, run by run.
 
-ghost use Rattle.std.specs.Prelude.{◌≡◌, ◌⊎◌, ℕ, ◌+◌, ◌*◌, ◌^◌, ◌<◌, ◌≤◌, List, length, OnOk, IfOk, IfNone, IfSome, is_ok, is_some, map, true, false, ◌++◌, ◌∷◌, []};
+ghost use Rattle.std.specs.Prelude.{◌≡◌, ◌⊎◌, ℕ, ◌+◌, ◌*◌, ◌^◌, ◌<◌, ◌≤◌, List, length, OnOk, IfOk};
+ghost use Rattle.std.specs.Prelude.{IfNone, IfSome, is_ok, is_some, map, true, false, ◌++◌, ◌∷◌};
+ghost use Rattle.std.specs.Prelude.{[]};
 ghost use Rattle.shard_book.specs.Sums.{sums_of, sums_of_replies, add_sums};
 ghost use Rattle.fare_service.specs.Ends.{end_by};
 
@@ -18,8 +20,8 @@ use tap_views::{Batch, Cut, LayoutFault, batches};
 pub trait Gate {
     ghost use Rattle.std.specs.Prelude.{ℕ, ◌≡◌};
 
-    /// What shows that an upload was begun. A worker cannot post the upload without it, nor let it go:
-    /// only `before` gives it, and only `after` takes it.
+    /// What shows that an upload was begun. A worker cannot post the upload without it, nor let it
+    /// go: only `before` gives it, and only `after` takes it.
     type Begun;
 
     // The upload that was begun.
@@ -82,7 +84,8 @@ impl From<Full> for Stop {
 /// Counts the replies.
 fn count(totals: &mut Totals, replies: &Replies)
     requires { totals.old.taps + length replies.now.items ≤ 2 ^ 95 }
-    ensures { sums_of totals.new ≡ add_sums (sums_of totals.old) (sums_of_replies replies.now.items) }
+    ensures { sums_of totals.new
+        ≡ add_sums (sums_of totals.old) (sums_of_replies replies.now.items) }
 {
     let mut tally = Tally::new();
     for place in 0..replies.len() {
@@ -113,16 +116,22 @@ fn bytes_in(file: &[u8]) -> usize
 }
 
 impl<'a> Service<'a> {
-    ghost use Rattle.fare_service.specs.Halls.{shards_of};
+    ghost use Rattle.fare_service.specs.ServiceView.{shards_of};
     ghost use Rattle.tap_views.specs.Cut.{IsCut};
     ghost use Rattle.tap_views.specs.Layout.{Tap};
     ghost use Rattle.tap_views.specs.Files.{IsFile};
-    ghost use Rattle.fare_service.specs.Runs.{Visit, WerePosted, if_any, of_shard, placed_from, runs_below, runs_of};
-    ghost use Rattle.fare_service.specs.Shares.{Made, books_of, IsFaultOf, IsShareOf, IsWorked, WentOn, worked};
+    ghost use Rattle.fare_service.specs.Runs.{Visit, if_any, of_shard, placed_from, runs_below};
+    ghost use Rattle.fare_service.specs.Runs.{runs_of};
+    ghost use Rattle.fare_service.specs.inside.Runs.{WerePosted};
+    ghost use Rattle.fare_service.specs.Shares.{Made, books_of, IsFaultOf, IsShareOf, IsWorked};
+    ghost use Rattle.fare_service.specs.Shares.{WentOn};
+    ghost use Rattle.fare_service.specs.inside.Shares.{worked};
     ghost use Rattle.fare_service.specs.Plain.{WasWhole};
-    ghost use Rattle.fare_service.specs.Stopping.{SomeFull, StoppedWell, TellsFull, TellsMemory, WasCut};
+    ghost use Rattle.fare_service.specs.Stopping.{SomeFull, StoppedWell, WasCut};
+    ghost use Rattle.fare_service.specs.inside.Stopping.{TellsFull, TellsMemory};
 
-    /// Posts a run of the batch that was cut, if it has a tap. Memory is taken, and the limits of windows are made, before the turn.
+    /// Posts a run of the batch that was cut, if it has a tap. Memory is taken, and the limits of
+    /// windows are made, before the turn.
     fn post_run<'b, R: Wait>(
         &self,
         rt: &R,
@@ -138,8 +147,12 @@ impl<'a> Service<'a> {
         requires passes { books_of posting.old.passes.items ≡ self.now.books }
         requires clock { buffers.old.clock ≡ self.now.table.zone }
         requires room { posting.old.totals.taps + 4096 ≤ 2 ^ 95 }
-        ensures made { (place : ℕ) → (more : List Visit) × Made (shards_of self.now) posting.old.passes.items posting.new.passes.items (sums_of posting.old.totals) (sums_of posting.new.totals) more
-            × WerePosted (if_any shard (of_shard shard (shards_of self.now) (placed_from place batch.now))) (is_ok result) more }
+        ensures made { (place : ℕ) → (more : List Visit)
+            × Made (shards_of self.now) posting.old.passes.items posting.new.passes.items
+            (sums_of posting.old.totals) (sums_of posting.new.totals) more
+            × WerePosted (if_any shard
+            (of_shard shard (shards_of self.now) (placed_from place batch.now)))
+            (is_ok result) more }
         ensures clock { buffers.new.clock ≡ buffers.old.clock }
         ensures few { posting.new.totals.taps ≤ posting.old.totals.taps + 4096 }
         ensures full { TellsFull result posting.old.passes.items posting.new.passes.items }
@@ -179,8 +192,11 @@ impl<'a> Service<'a> {
         requires clock { buffers.old.run.clock ≡ self.now.table.zone }
         requires cut { length buffers.old.cut ≡ shards_of self.now }
         requires room { posting.old.totals.taps + 2 ^ 18 ≤ 2 ^ 95 }
-        ensures made { (place : ℕ) → (more : List Visit) × Made (shards_of self.now) posting.old.passes.items posting.new.passes.items (sums_of posting.old.totals) (sums_of posting.new.totals) more
-            × WerePosted (runs_below (shards_of self.now) (shards_of self.now) (placed_from place batch.now)) (is_ok result) more }
+        ensures made { (place : ℕ) → (more : List Visit)
+            × Made (shards_of self.now) posting.old.passes.items posting.new.passes.items
+            (sums_of posting.old.totals) (sums_of posting.new.totals) more
+            × WerePosted (runs_below (shards_of self.now) (shards_of self.now)
+            (placed_from place batch.now)) (is_ok result) more }
         ensures clock { buffers.new.run.clock ≡ buffers.old.run.clock }
         ensures cut { length buffers.new.cut ≡ length buffers.old.cut }
         ensures full { TellsFull result posting.old.passes.items posting.new.passes.items }
@@ -192,7 +208,8 @@ impl<'a> Service<'a> {
         Ok(())
     }
 
-    /// Posts the batches of an upload before its first layout fault, and answers that fault with the offset of its batch.
+    /// Posts the batches of an upload before its first layout fault, and answers that fault with
+    /// the offset of its batch.
     fn post_batches<R: Wait>(
         &self,
         rt: &R,
@@ -205,7 +222,9 @@ impl<'a> Service<'a> {
         requires cut { length buffers.old.cut ≡ shards_of self.now }
         requires room { posting.old.totals.taps + 2 ^ 60 ≤ 2 ^ 94 }
         ensures made { (batches : List (List Tap)) × (rest : List ℕ) × IsFile file.now batches rest
-            × ((more : List Visit) × Made (shards_of self.now) posting.old.passes.items posting.new.passes.items (sums_of posting.old.totals) (sums_of posting.new.totals) more
+            × ((more : List Visit) × Made
+            (shards_of self.now) posting.old.passes.items posting.new.passes.items
+            (sums_of posting.old.totals) (sums_of posting.new.totals) more
             × WerePosted (runs_of (shards_of self.now) 0 batches) (is_ok result) more)
             × IfOk result (IsFaultOf file.now rest) }
         ensures clock { buffers.new.run.clock ≡ buffers.old.run.clock }
@@ -224,7 +243,8 @@ impl<'a> Service<'a> {
         Ok(None)
     }
 
-    /// Posts an upload that was begun at the gate. Tells how it ended, and whether the worker may go on.
+    /// Posts an upload that was begun at the gate. Tells how it ended, and whether the worker may
+    /// go on.
     fn post_upload<R: Wait, G: Gate>(
         &self,
         rt: &R,
@@ -239,7 +259,9 @@ impl<'a> Service<'a> {
         requires clock { buffers.old.run.clock ≡ self.now.table.zone }
         requires cut { length buffers.old.cut ≡ shards_of self.now }
         requires room { posting.old.totals.taps + 2 ^ 60 ≤ 2 ^ 94 }
-        ensures worked { (visits : List Visit) × Made (shards_of self.now) posting.old.passes.items posting.new.passes.items (sums_of posting.old.totals) (sums_of posting.new.totals) visits
+        ensures worked { (visits : List Visit)
+            × Made (shards_of self.now) posting.old.passes.items posting.new.passes.items
+            (sums_of posting.old.totals) (sums_of posting.new.totals) visits
             × IsWorked self.now (worked upload result.0 visits) }
         ensures clock { buffers.new.run.clock ≡ buffers.old.run.clock }
         ensures cut { length buffers.new.cut ≡ length buffers.old.cut }
@@ -258,7 +280,8 @@ impl<'a> Service<'a> {
         }
     }
 
-    /// Draws an upload and posts it, where one is left. Tells how it ended, and whether the worker may go on.
+    /// Draws an upload and posts it, where one is left. Tells how it ended, and whether the worker
+    /// may go on.
     fn next_upload<R: Wait, G: Gate>(
         &self,
         rt: &R,
@@ -272,12 +295,18 @@ impl<'a> Service<'a> {
         requires clock { buffers.old.run.clock ≡ self.now.table.zone }
         requires cut { length buffers.old.cut ≡ shards_of self.now }
         requires room { posting.old.totals.taps + 2 ^ 60 ≤ 2 ^ 94 }
-        ensures none { IfNone result ((drawer.new ≡ record drawer.old { seen = length self.now.uploads })
+        ensures none { IfNone result
+            ((drawer.new ≡ record drawer.old { seen = length self.now.uploads })
             × (posting.new ≡ posting.old)) }
         ensures drawn { IfSome result (λ next. (drawer.old.seen ≤ next.0.upload)
             × (next.0.upload < length self.now.uploads)
-            × (drawer.new ≡ record drawer.old { seen = next.0.upload + 1; drawn = drawer.old.drawn ++ next.0.upload ∷ [] })) }
-        ensures worked { IfSome result (λ next. (visits : List Visit) × Made (shards_of self.now) posting.old.passes.items posting.new.passes.items (sums_of posting.old.totals) (sums_of posting.new.totals) visits
+            × (drawer.new ≡ record drawer.old {
+              seen = next.0.upload + 1;
+              drawn = drawer.old.drawn ++ next.0.upload ∷ [];
+            })) }
+        ensures worked { IfSome result (λ next. (visits : List Visit)
+            × Made (shards_of self.now) posting.old.passes.items posting.new.passes.items
+            (sums_of posting.old.totals) (sums_of posting.new.totals) visits
             × IsWorked self.now (worked next.0.upload next.0.end visits)) }
         ensures few { posting.new.totals.taps ≤ posting.old.totals.taps + 2 ^ 60 }
         ensures full { SomeFull posting.old.passes.items → SomeFull posting.new.passes.items }
@@ -296,12 +325,13 @@ impl<'a> Service<'a> {
         Some((Done { upload, end }, goes_on))
     }
 
-    /// Draws uploads and posts their batches, until all are drawn or memory is refused. A refusal after the draw ends that upload as
-    /// cut. Where a shard takes no more visits the upload ends as cut, and the work goes on. Memory for the results of all
-    /// uploads is taken first: where it is refused, the share is given back as it was.
+    /// Draws uploads and posts their batches, until all are drawn or memory is refused. A refusal
+    /// after the draw ends that upload as cut. Where a shard takes no more visits the upload ends
+    /// as cut, and the work goes on. Memory for the results of all uploads is taken first: where it
+    /// is refused, the share is given back as it was.
     ///
-    /// Gives the share back with the uploads that it drew, the visits that it made and the totals of their replies. It waits for
-    /// turns at the shards' books.
+    /// Gives the share back with the uploads that it drew, the visits that it made and the totals
+    /// of their replies. It waits for turns at the shards' books.
     pub fn work<R: Wait, G: Gate>(&self, rt: &R, alloc: Global, share: Share, gate: &G) -> Share
         requires { IsShareOf self.now share }
         ensures share { IsShareOf self.now result }
@@ -335,9 +365,13 @@ impl<'a> Service<'a> {
         for _ in rt.forever() {
             // proof: it holds fewer than 2^32 uploads, so that the totals have room
             let _held = drawer.held();
-            let Some((next, goes_on)) =
-                self.next_upload(rt, &mut drawer, &mut posting, &mut buffers, gate)
-            else {
+            let Some((next, goes_on)) = self.next_upload(
+                rt,
+                &mut drawer,
+                &mut posting,
+                &mut buffers,
+                gate,
+            ) else {
                 return Share {
                     drawer,
                     posting,

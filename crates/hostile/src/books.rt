@@ -99,8 +99,9 @@ fn post_rest(alloc: Global, book: &mut ShardBook, rest: &[TapFields], out: &mut 
     has_rides(book, 40)
 }
 
-/// `post_run` of forty taps: a cut run posted exactly its first taps, and the others can be posted afterwards. Would catch a book
-/// that keeps a mark of a refusal, which no contract sees, and takes nothing more.
+/// `post_run` of forty taps: a cut run posted exactly its first taps, and the others can be posted
+/// afterwards. Would catch a book that keeps a mark of a refusal, which no contract sees, and takes
+/// nothing more.
 pub fn cut_run<R: RandomSource>(rt: &R, alloc: Global) -> Case {
     let taps = forty_taps(alloc)?;
     let mut book = book(rt, alloc)?;
@@ -134,8 +135,8 @@ fn post_tap(alloc: Global, book: &mut ShardBook, tap: &TapFields) -> Case {
     )
 }
 
-/// Posts the tap to a book of so many rides. Where it is refused the book stays as it was, and the tap can be posted again. Tells
-/// whether it was refused.
+/// Posts the tap to a book of so many rides. Where it is refused the book stays as it was, and the
+/// tap can be posted again. Tells whether it was refused.
 fn post_twice(
     alloc: Global,
     book: &mut ShardBook,
@@ -155,8 +156,9 @@ fn post_twice(
     Ok(true)
 }
 
-/// `post` of forty taps, one at a time. Would catch one that gives up where memory is there, as a book whose first growth is
-/// forgotten and which never takes a tap, and one that gives up for good after a refusal.
+/// `post` of forty taps, one at a time. Would catch one that gives up where memory is there, as a
+/// book whose first growth is forgotten and which never takes a tap, and one that gives up for good
+/// after a refusal.
 pub fn posts<R: RandomSource>(rt: &R, alloc: Global) -> Case {
     let taps = forty_taps(alloc)?;
     let mut book = book(rt, alloc)?;
@@ -177,7 +179,8 @@ fn has_ends(alloc: Global, clock: &Clock, run: &Run) -> Case {
     Ok(())
 }
 
-/// `Ends::of` and `fill`. Would catch a list of ends that cannot be filled again after it was refused.
+/// `Ends::of` and `fill`. Would catch a list of ends that cannot be filled again after it was
+/// refused.
 pub fn window_ends(alloc: Global) -> Case {
     let bytes = encode(alloc, &[tap(0xa1, SUBWAY, 0), tap(0xa1, BUS, 7_200_000)])?;
     let (batch, _) = Batch::first(&bytes)?;
@@ -220,7 +223,8 @@ fn lists_tokens(alloc: Global, book: &ShardBook) -> Case {
     Ok(())
 }
 
-/// `tokens`. Would catch one that always gives up, or does so for good after a refusal, also where the book stayed the same.
+/// `tokens`. Would catch one that always gives up, or does so for good after a refusal, also where
+/// the book stayed the same.
 pub fn tokens<R: RandomSource>(rt: &R, alloc: Global) -> Case {
     let book = full_book(rt, alloc)?;
     match lists_tokens(alloc, &book) {
@@ -253,7 +257,8 @@ fn adds_up(alloc: Global, book: &ShardBook) -> Case {
     Ok(())
 }
 
-/// `by_validator` and `by_token`. Would catch one that always gives up, or does so for good after a refusal.
+/// `by_validator` and `by_token`. Would catch one that always gives up, or does so for good after a
+/// refusal.
 pub fn sums<R: RandomSource>(rt: &R, alloc: Global) -> Case {
     let book = full_book(rt, alloc)?;
     match adds_up(alloc, &book) {

@@ -89,7 +89,8 @@ pub fn table(alloc: Global) -> Result<FareTable, Stop> {
     Ok(FareTable::read(alloc, TABLE.as_bytes())?)
 }
 
-/// Two uploads: subway, bus, bus, subway of one token; of another a tap that no validator of the table made, and an earlier one.
+/// Two uploads: subway, bus, bus, subway of one token; of another a tap that no validator of the
+/// table made, and an earlier one.
 pub fn uploads(alloc: Global) -> Result<Vec<Vec<u8>>, Stop> {
     let mut uploads = Vec::new(alloc);
     let rides = [

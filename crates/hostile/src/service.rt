@@ -26,7 +26,8 @@ impl Gate for Open {
     fn after(&self, _: u32) {}
 }
 
-/// A gate that prints which uploads have ended, so that whoever refuses memory knows what was refused before and what after.
+/// A gate that prints which uploads have ended, so that whoever refuses memory knows what was
+/// refused before and what after.
 #[derive(Drop)]
 struct Telling<'a, R> {
     rt: &'a R,
@@ -71,7 +72,8 @@ fn opens<R: RandomSource>(rt: &R, alloc: Global, uploads: &[Vec<u8>]) -> Case {
     )
 }
 
-/// `open` and `gather`. Would catch one that always gives up, and one that does so for good after a refusal.
+/// `open` and `gather`. Would catch one that always gives up, and one that does so for good after a
+/// refusal.
 pub fn opening<R: RandomSource>(rt: &R, alloc: Global) -> Case {
     let uploads = uploads(alloc)?;
     match opens(rt, alloc, uploads.as_slice()) {
@@ -119,11 +121,13 @@ fn runs<R: Threads + Wait + RandomSource + Sync + Print, G: Gate + Sync>(
     if whole { Ok(()) } else { Err(Stop::Less) }
 }
 
-/// `run` with one worker. After a refusal another service posts the same uploads. Would catch a worker that stops though no memory
-/// was refused, and an upload told as cut of which all was posted: each is told truly, and the promises hold.
+/// `run` with one worker. After a refusal another service posts the same uploads. Would catch a
+/// worker that stops though no memory was refused, and an upload told as cut of which all was
+/// posted: each is told truly, and the promises hold.
 ///
-/// It prints when the run begins and which uploads have ended, and `hostile/refuse` holds it to this: memory that is refused in
-/// between leaves an upload cut or undrawn, or no outcome; and where it is refused after the last upload's end, none is.
+/// It prints when the run begins and which uploads have ended, and `hostile/refuse` holds it to
+/// this: memory that is refused in between leaves an upload cut or undrawn, or no outcome; and
+/// where it is refused after the last upload's end, none is.
 pub fn run<R: Threads + Wait + RandomSource + Sync + Print>(rt: &R, alloc: Global) -> Case {
     let uploads = uploads(alloc)?;
     let first = runs(rt, alloc, uploads.as_slice(), &Telling { rt });
@@ -160,8 +164,9 @@ fn is_written(answer: Result<(), PrintFault>, written: &[u8], text: &str) -> Cas
     }
 }
 
-/// `write_report`. Would catch one that always gives up, or does so for good after a refusal; also a part of the text that is
-/// written before a refusal, to a writer of which contracts know nothing.
+/// `write_report`. Would catch one that always gives up, or does so for good after a refusal; also
+/// a part of the text that is written before a refusal, to a writer of which contracts know
+/// nothing.
 pub fn prints_report<R: Threads + Wait + RandomSource + Sync>(rt: &R, alloc: Global) -> Case {
     let outcome = whole_outcome(rt, alloc)?;
     let mut written = Vec::with_capacity(alloc, 2000)?;

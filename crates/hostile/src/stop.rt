@@ -33,7 +33,8 @@ pub fn ended(refused: bool) -> Case {
     if refused { Err(Stop::Refused) } else { Ok(()) }
 }
 
-/// How a case ends in which a refused call was made again: one allocation of a run is refused, so the second call must be answered.
+/// How a case ends in which a refused call was made again: one allocation of a run is refused, so
+/// the second call must be answered.
 pub fn again(second: Case) -> Case {
     match second {
         Ok(()) => Err(Stop::Refused),

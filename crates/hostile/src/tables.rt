@@ -38,8 +38,8 @@ fn encoded(alloc: Global, taps: &[TapFields; 2]) -> Case {
     )
 }
 
-/// `encode` and `encode_tap2`. Would catch one that gives up where memory is there, or that keeps a mark of a refusal and
-/// gives up from then on.
+/// `encode` and `encode_tap2`. Would catch one that gives up where memory is there, or that keeps a
+/// mark of a refusal and gives up from then on.
 pub fn encodes(alloc: Global) -> Case {
     let taps = [tap(0xa1, SUBWAY, 0), tap(0xa1, BUS, 7_200_000)];
     match encoded(alloc, &taps) {
@@ -80,8 +80,8 @@ fn was_read(alloc: Global) -> Case {
     is_sample(&table(alloc)?)
 }
 
-/// `FareTable::read`. Would catch one that gives up where memory is there. A refusal inside `toml` must not be told as a fault of the
-/// text, which a contract says too.
+/// `FareTable::read`. Would catch one that gives up where memory is there. A refusal inside `toml`
+/// must not be told as a fault of the text, which a contract says too.
 pub fn read(alloc: Global) -> Case {
     match was_read(alloc) {
         Err(Stop::Refused) => again(was_read(alloc)),
@@ -109,7 +109,8 @@ pub fn clone(alloc: Global) -> Case {
     }
 }
 
-/// A clock of the sample table tells where windows end: in March, before its first second, and when clocks are turned back.
+/// A clock of the sample table tells where windows end: in March, before its first second, and when
+/// clocks are turned back.
 fn tells_ends(alloc: Global, table: &FareTable) -> Case {
     let clock = table.clock(alloc)?;
     let ends = [
@@ -123,8 +124,8 @@ fn tells_ends(alloc: Global, table: &FareTable) -> Case {
     )
 }
 
-/// `clock` and `until`. Would catch a rule text that means other dates than New York's, since the contract leaves to `jiff` what a
-/// text means.
+/// `clock` and `until`. Would catch a rule text that means other dates than New York's, since the
+/// contract leaves to `jiff` what a text means.
 pub fn clock(alloc: Global) -> Case {
     let table = table(alloc)?;
     match tells_ends(alloc, &table) {

@@ -5,9 +5,12 @@ use Rattle.fare_table.specs.Fares.{Fares}
 use Rattle.shard_book.specs.declared.entry.Entry.{Entry}
 use Rattle.reason_texts.specs.Ledger.{head_text, line_head, entry_fields}
 use Rattle.ledger_check.specs.Ledger.{IsNext}
-use Rattle.ledger_check.specs.Lines.{IsLine, Lacks, lines_of}
-use Rattle.ledger_check.specs.Replays.{HasRead, IsStep, IsWanted, IsWrongAfter}
-use Rattle.ledger_check.specs.Verdicts.{HasFed, HasTaken, IsFed, IsFirstWrong, IsTaken, IsTrueOf, IsVerdict, number_after}
+use Rattle.ledger_check.specs.Lines.{Lacks, lines_of}
+use Rattle.ledger_check.specs.inside.Lines.{IsLine}
+use Rattle.ledger_check.specs.Replays.{HasRead, IsWanted, IsWrongAfter}
+use Rattle.ledger_check.specs.inside.Replays.{IsStep}
+use Rattle.ledger_check.specs.Verdicts.{HasFed, HasTaken, IsFed, IsFirstWrong, IsTrueOf, IsVerdict}
+use Rattle.ledger_check.specs.inside.Verdicts.{IsTaken, number_after}
 use Rattle.ledger_check.specs.declared.checker.Checker.{Checker}
 use Rattle.ledger_check.specs.declared.checker.Reading.{Reading}
 use Rattle.ledger_check.specs.declared.checker.Verdict.{Verdict}

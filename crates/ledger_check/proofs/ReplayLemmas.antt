@@ -8,8 +8,9 @@ use Rattle.shard_book.specs.declared.entry.Entry.{Entry}
 use Rattle.shard_book.specs.declared.token.Token.{Token}
 use Rattle.reason_texts.specs.Ledger.{IsLedgerLine}
 use Rattle.ledger_check.specs.Ledger.{AreNext, IsNext, IsPostable, number_of}
-use Rattle.ledger_check.specs.Replays.{GoesOn, HasRead, IsTurn, IsWanted, IsWrongAfter, StandsAt}
-use Rattle.ledger_check.specs.Taps.{IsOf}
+use Rattle.ledger_check.specs.Replays.{HasRead, IsTurn, IsWanted, IsWrongAfter, StandsAt}
+use Rattle.ledger_check.specs.inside.Replays.{GoesOn}
+use Rattle.ledger_check.specs.inside.Taps.{IsOf}
 use Rattle.ledger_check.specs.declared.replay.Replay.{Replay}
 use Rattle.ledger_check.specs.declared.tap.Tap.{Tap}
 use Rattle.ledger_check.specs.declared.turn.Turn.{Turn}

@@ -21,7 +21,7 @@ use Rattle.shard_book.specs.declared.token.Token.{Token}
 use Rattle.fare_texts.specs.Moments.{IsCivilText, IsMomentText, clock_text}
 use Rattle.reason_texts.specs.Ledger.{IsBecause, IsLedgerLine, IsPointing, IsRideFields, entry_fields, line_head, ride_rest}
 use Rattle.ledger_check.specs.Ledger.{IsLineAfter, IsNext}
-use Rattle.ledger_check.specs.Taps.{IsOf}
+use Rattle.ledger_check.specs.inside.Taps.{IsOf}
 use Rattle.ledger_check.specs.declared.tap.Tap.{Tap}
 
 abbrev date_by : ℤ → ℕ → ℕ → List ℕ

@@ -17,7 +17,8 @@ use Rattle.shard_book.specs.declared.entry.Entry.{Entry}
 use Rattle.shard_book.specs.declared.token.Token.{Token}
 use Rattle.reason_texts.specs.Ledger.{IsLedgerLine, reason_after}
 use Rattle.ledger_check.specs.Ledger.{number_of}
-use Rattle.ledger_check.specs.Replays.{GoesOn, StandsAt}
+use Rattle.ledger_check.specs.Replays.{StandsAt}
+use Rattle.ledger_check.specs.inside.Replays.{GoesOn}
 use Rattle.ledger_check.specs.declared.turn.Turn.{Turn}
 use Rattle.ledger_check.proofs.TokenOrder.{own-above, own-more}
 

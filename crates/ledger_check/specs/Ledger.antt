@@ -19,13 +19,16 @@ pub record IsPostable (entry : Entry) : Type 0 where
   pub validator : entry.validator < 2 ^ 32
   pub moment : entry.moment < 4_102_444_800_000
 
--- the line of an entry of the token, after its earlier entries: its number, and why it is answered so
+-- the line of an entry of the token, after its earlier entries: its number, and why it is answered
+-- so
 abbrev pub IsLineAfter : Fares → List Entry → Entry → List ℕ → Type 0
 IsLineAfter fares earlier entry line =
-    IsLedgerLine fares entry.token (length earlier + 1) entry (reason_after fares entry.token earlier entry) line
+    IsLedgerLine fares entry.token (length earlier + 1) entry
+    (reason_after fares entry.token earlier entry) line
 
 -- after the lines of the earlier entries, the ledger can go on with this entry and its line
-pub record IsNext (fares : Fares) (earlier : List Entry) (entry : Entry) (line : List ℕ) : Type 0 where
+pub record IsNext (fares : Fares) (earlier : List Entry) (entry : Entry) (line : List ℕ)
+    : Type 0 where
   pub postable : IsPostable entry
   -- tokens rise
   pub rises : All (λ before. number_of before.token ≤ number_of entry.token) earlier

@@ -1,5 +1,5 @@
 pub mod Ledger
 pub mod Lines
 pub mod Replays
-pub mod Taps
 pub mod Verdicts
+pub mod inside

@@ -1,5 +1,5 @@
 -- A text cut into lines.
-use Rattle.std.specs.Prelude.{◌≡◌, ◌≢◌, ℕ, ◌==◌, if◌then◌else◌, List, [], ◌∷◌, ◌++◌}
+use Rattle.std.specs.Prelude.{◌≢◌, ℕ, ◌==◌, if◌then◌else◌, List, [], ◌∷◌}
 
 -- the byte stands nowhere in the text
 abbrev pub Lacks : ℕ → List ℕ → Type 0
@@ -14,10 +14,5 @@ begun_with byte (line ∷ lines) = (byte ∷ line) ∷ lines
 -- the lines of a text: each but the last ends with the newline, which stands nowhere else in it
 unfoldable pub lines_of : List ℕ → List (List ℕ)
 lines_of [] = []
-lines_of (byte ∷ text) = if byte == 10 then (byte ∷ []) ∷ lines_of text else begun_with byte (lines_of text)
-
--- the text ends with its one newline
-pub record IsLine (text : List ℕ) : Type 0 where
-  pub front : List ℕ
-  pub lacks : Lacks 10 front
-  pub shown : text ≡ front ++ 10 ∷ []
+lines_of (byte ∷ text) =
+    if byte == 10 then (byte ∷ []) ∷ lines_of text else begun_with byte (lines_of text)

@@ -1,5 +1,6 @@
 -- What a check tells of a ledger's text.
-use Rattle.std.specs.Prelude.{◌≡◌, ◌↔◌, ℕ, ◌+◌, ◌≤◌, if◌then◌else◌, Bool, true, false, List, [], ◌∷◌, ◌++◌, length, Option, Some, None, IsTrue, string_bytes, ◌⊎◌}
+use Rattle.std.specs.Prelude.{◌≡◌, ◌↔◌, ℕ, ◌+◌, ◌≤◌, Bool, true, false, List, [], ◌∷◌, ◌++◌, length}
+use Rattle.std.specs.Prelude.{Option, Some, None, IsTrue, string_bytes, ◌⊎◌}
 use Rattle.fare_table.specs.Fares.{Fares}
 use Rattle.shard_book.specs.declared.entry.Entry.{Entry}
 use Rattle.reason_texts.specs.Ledger.{head_text}
@@ -11,7 +12,8 @@ use Rattle.ledger_check.specs.declared.checker.Reading.{Reading}
 use Rattle.ledger_check.specs.declared.checker.Verdict.{Verdict}
 use Rattle.ledger_check.specs.declared.checker.Verdict.TheVariants.{Legal, Wants, NoLine}
 
--- the lines begin with those of a ledger's beginning, and the next one, which has this number, stands in no ledger there
+-- the lines begin with those of a ledger's beginning, and the next one, which has this number,
+-- stands in no ledger there
 pub record IsFirstWrong (fares : Fares) (lines : List (List ℕ)) (number : ℕ) : Type 0 where
   pub before : List (List ℕ)
   pub line : List ℕ
@@ -35,7 +37,8 @@ pub record IsWhole (fares : Fares) (lines : List (List ℕ)) (number : ℕ) : Ty
   pub counted : number ≡ length entries
 
 -- the first wrong line, and the line that a ledger can have in its place
-pub record IsFirstWanted (fares : Fares) (lines : List (List ℕ)) (number : ℕ) (wanted : List ℕ) : Type 0 where
+pub record IsFirstWanted (fares : Fares) (lines : List (List ℕ)) (number : ℕ) (wanted : List ℕ)
+    : Type 0 where
   pub first : IsFirstWrong fares lines number
   pub is : IsWanted fares first.before wanted
 
@@ -43,7 +46,8 @@ pub record IsFirstWanted (fares : Fares) (lines : List (List ℕ)) (number : ℕ
 abbrev pub IsTrueOf : Fares → List (List ℕ) → Verdict → Type 0
 IsTrueOf fares lines (Legal number) = IsWhole fares lines number
 IsTrueOf fares lines (Wants number wanted) = IsFirstWanted fares lines number (string_bytes wanted)
-IsTrueOf fares lines (NoLine number) = ((number ≡ 1) × IsHeadless lines) ⊎ IsFirstWrong fares lines number
+IsTrueOf fares lines (NoLine number) =
+    ((number ≡ 1) × IsHeadless lines) ⊎ IsFirstWrong fares lines number
 
 -- what is told is true of the text
 abbrev pub IsVerdict : Fares → List ℕ → Verdict → Type 0
@@ -66,21 +70,13 @@ HasTaken fares reading [] = (reading.has_head ≡ false) × HasRead fares readin
 HasTaken fares reading (line ∷ lines) =
     (reading.has_head ≡ true) × (line ≡ head_text) × HasRead fares reading.replay lines
 
--- the number of the next line
-abbrev pub number_after : Reading → ℕ
-number_after reading = if reading.has_head then reading.replay.lines + 2 else 1
-
--- one line more was read, or what is told is true of the lines, whatever follows
-abbrev pub IsTaken : Fares → Reading → List (List ℕ) → List ℕ → Option Verdict → Type 0
-IsTaken fares after lines line None = HasTaken fares after (lines ++ line ∷ [])
-IsTaken fares after lines line (Some verdict) =
-    (more : List (List ℕ)) → IsTrueOf fares (lines ++ line ∷ more) verdict
-
--- the checker has read this text and found no wrong line: these whole lines, and a part of the next one
+-- the checker has read this text and found no wrong line: these whole lines, and a part of the next
+-- one
 pub record HasFed (fares : Fares) (checker : Checker) (text : List ℕ) : Type 0 where
   pub lines : List (List ℕ)
   pub taken : HasTaken fares checker.reading lines
-  pub cut : (more : List ℕ) → lines_of (text ++ more) ≡ lines ++ lines_of (checker.part.items ++ more)
+  pub cut : (more : List ℕ)
+      → lines_of (text ++ more) ≡ lines ++ lines_of (checker.part.items ++ more)
   pub lacks : Lacks 10 checker.part.items
   pub short : length checker.part.items ≤ 255
 

@@ -1,7 +1,9 @@
 //! Texts split at a byte.
 
-ghost use Rattle.std.specs.Prelude.{◌≡◌, ◌∷◌, ◌++◌, [], ℕ, List, IfNone, IfSome, IsSomeAnd, IsTrue, ◌↔◌};
-ghost use Rattle.ledger_check.specs.Lines.{IsLine, Lacks};
+ghost use Rattle.std.specs.Prelude.{◌≡◌, ◌∷◌, ◌++◌, [], ℕ, List, IfNone, IfSome, IsSomeAnd, IsTrue};
+ghost use Rattle.std.specs.Prelude.{◌↔◌};
+ghost use Rattle.ledger_check.specs.Lines.{Lacks};
+ghost use Rattle.ledger_check.specs.inside.Lines.{IsLine};
 
 use memchr::memchr;
 

@@ -2,8 +2,10 @@
 
 ghost use Rattle.std.specs.Prelude.{◌≡◌, ◌++◌, [], ℕ, List, IfOk};
 ghost use Rattle.fare_table.specs.Fares.{Fares};
-ghost use Rattle.ledger_check.specs.Lines.{IsLine, Lacks};
-ghost use Rattle.ledger_check.specs.Verdicts.{HasFed, HasTaken, IsFed, IsTaken, IsVerdict, number_after};
+ghost use Rattle.ledger_check.specs.Lines.{Lacks};
+ghost use Rattle.ledger_check.specs.inside.Lines.{IsLine};
+ghost use Rattle.ledger_check.specs.Verdicts.{HasFed, HasTaken, IsFed, IsVerdict};
+ghost use Rattle.ledger_check.specs.inside.Verdicts.{IsTaken, number_after};
 ghost use Rattle.ledger_check.specs.declared.checker.Verdict.TheVariants.{NoLine};
 
 use crate::bytes::{same_bytes, split_line};
@@ -17,8 +19,8 @@ use std::alloc::Global;
 pub enum Verdict {
     /// The text is the ledger of so many entries.
     Legal(u64),
-    /// The line of this number is the first that no ledger has there. Its tap should have this line,
-    /// with the newline.
+    /// The line of this number is the first that no ledger has there. Its tap should have this
+    /// line, with the newline.
     Wants(u64, String),
     /// The line of this number is the first that no ledger has there.
     NoLine(u64),

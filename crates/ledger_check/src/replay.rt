@@ -1,11 +1,13 @@
 //! A ledger's lines, checked one after another.
 
-ghost use Rattle.std.specs.Prelude.{◌≡◌, ◌<◌, ◌≤◌, ◌^◌, ◌+◌, ◌∷◌, ◌++◌, [], ℕ, List, All, IfNone, IfOk, IfSome, IsTrue, ◌↔◌, string_bytes};
+ghost use Rattle.std.specs.Prelude.{◌≡◌, ◌<◌, ◌≤◌, ◌^◌, ◌+◌, ◌∷◌, ◌++◌, [], ℕ, List, All, IfNone};
+ghost use Rattle.std.specs.Prelude.{IfOk, IfSome, IsTrue, ◌↔◌, string_bytes};
 ghost use Rattle.fare_table.specs.Fares.{Fares};
 ghost use Rattle.shard_book.specs.Token.{Fits};
 ghost use Rattle.shard_book.specs.declared.entry.Entry.{Entry};
 ghost use Rattle.ledger_check.specs.Ledger.{number_of};
-ghost use Rattle.ledger_check.specs.Replays.{HasRead, IsStep, IsTurn, StandsAt};
+ghost use Rattle.ledger_check.specs.Replays.{HasRead, IsTurn, StandsAt};
+ghost use Rattle.ledger_check.specs.inside.Replays.{IsStep};
 
 use crate::bytes::same_bytes;
 use crate::form::has_form;

@@ -10,7 +10,7 @@ ghost use Rattle.shard_book.specs.declared.entry.Entry.{Entry};
 ghost use Rattle.shard_book.specs.declared.token.Token.{Token};
 ghost use Rattle.reason_texts.specs.Ledger.{IsLedgerLine};
 ghost use Rattle.ledger_check.specs.Ledger.{IsPostable};
-ghost use Rattle.ledger_check.specs.Taps.{IsOf};
+ghost use Rattle.ledger_check.specs.inside.Taps.{IsOf};
 
 use crate::bytes::field;
 use crate::moment::read_moment;

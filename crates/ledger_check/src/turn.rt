@@ -4,7 +4,8 @@ ghost use Rattle.std.specs.Prelude.{◌≡◌, ◌<◌, ◌^◌, [], List, OnOk,
 ghost use Rattle.account_rule.specs.Rules.{Rules};
 ghost use Rattle.account_rule.specs.Stands.{Stands};
 ghost use Rattle.shard_book.specs.declared.entry.Entry.{Entry};
-ghost use Rattle.ledger_check.specs.Replays.{GoesOn, StandsAt};
+ghost use Rattle.ledger_check.specs.Replays.{StandsAt};
+ghost use Rattle.ledger_check.specs.inside.Replays.{GoesOn};
 
 use account_rule::{Account, TapIn};
 use fare_table::{Clock, FareTable, NoMemory};
@@ -36,7 +37,8 @@ impl Turn {
         }
     }
 
-    /// Takes one more tap of the token, and writes the line that it should have in place of the text.
+    /// Takes one more tap of the token, and writes the line that it should have in place of the
+    /// text.
     pub(crate) fn write_next(
         &mut self,
         table: &FareTable,
@@ -52,7 +54,8 @@ impl Turn {
 
         // Of all entries for which the turn stood.
         ensures { OnOk result ((entries : List Entry) → StandsAt table.now self.old entries
-            → GoesOn table.now self.old entries validator moment (string_bytes wanted.new) self.new) }
+            → GoesOn table.now self.old entries validator moment
+            (string_bytes wanted.new) self.new) }
     {
         let bytes = self.token.bytes();
         let tap = TapIn {

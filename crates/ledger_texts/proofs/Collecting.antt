@@ -9,7 +9,7 @@ use Rattle.shard_book.specs.Entry.{own}
 use Rattle.shard_book.specs.Groups.{all_entries}
 use Rattle.shard_book.specs.declared.entry.Entry.{Entry}
 use Rattle.shard_book.specs.declared.token.Token.{Token}
-use Rattle.ledger_texts.specs.Lines.{seen}
+use Rattle.ledger_texts.specs.inside.Lines.{seen}
 use Rattle.ledger_texts.proofs.Rising.{own_both, own_none}
 
 -- the entries before a place, and the one there

@@ -19,7 +19,7 @@ use Rattle.shard_book.proofs.RisingLemmas.{rising-only}
 use Rattle.shard_book.proofs.TokenLemmas.{token_cmp-total, token_cmp-ties}
 use Rattle.reason_texts.specs.Ledger.{AreLinesAfter, AreTokenLines, IsLedgerLine, reason_after}
 use Rattle.ledger_texts.specs.Ledger.{AreLinesOfEach}
-use Rattle.ledger_texts.specs.Lines.{AreLinesAlong, AreUpTo, IsByToken, IsLineAfter, IsUpTo, Rise, RiseFrom}
+use Rattle.ledger_texts.specs.inside.Lines.{AreLinesAlong, AreUpTo, IsByToken, IsLineAfter, IsUpTo, Rise, RiseFrom}
 use Rattle.ledger_texts.proofs.Rising.{none_above, none_below, own_both, own_here, own_none, own_not, own_push, up_apart, up_itself, up_push, up_weaker}
 
 -- whether a token is among those of a list

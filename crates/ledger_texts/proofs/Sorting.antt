@@ -11,7 +11,7 @@ use Rattle.shard_book.specs.Entry.{is_of, own}
 use Rattle.shard_book.specs.Token.{token_cmp, token_eq}
 use Rattle.shard_book.specs.declared.entry.Entry.{Entry}
 use Rattle.shard_book.specs.declared.token.Token.{Token}
-use Rattle.ledger_texts.specs.Lines.{IsByToken, Rise, RiseFrom, seen}
+use Rattle.ledger_texts.specs.inside.Lines.{IsByToken, Rise, RiseFrom, seen}
 
 abbrev pub key : Bor Entry → Token
 key entry = entry.now.token
@@ -21,8 +21,8 @@ rise_from first [] sorted = tt
 rise_from first (next ∷ list) sorted = (
   sorted 0 first (omega arith) (omega arith),
   rise_from next list (λ k d low within.
-  let step : suc k + 1 ≡ suc (k + 1) = omega arith in
-  subst (λ n. is_lt (token_cmp (key (get_or (first ∷ next ∷ list) n d)) (key (get_or (next ∷ list) k d))) ≡ false) step (sorted (suc k) d (omega arith) (omega (arith, within)))),
+      let step : suc k + 1 ≡ suc (k + 1) = omega arith in
+      subst (λ n. is_lt (token_cmp (key (get_or (first ∷ next ∷ list) n d)) (key (get_or (next ∷ list) k d))) ≡ false) step (sorted (suc k) d (omega arith) (omega (arith, within)))),
 )
 
 rise : (list : List (Bor Entry)) → IsSortedByKey key token_cmp list → Rise (seen list)

@@ -9,7 +9,7 @@ use Rattle.shard_book.specs.declared.entry.Entry.{Entry}
 use Rattle.shard_book.specs.declared.token.Token.{Token}
 use Rattle.reason_texts.specs.Ledger.{AreTokenLines, head_text}
 use Rattle.ledger_texts.specs.Ledger.{AreLinesOfEach, IsLedgerOf}
-use Rattle.ledger_texts.specs.Lines.{AreLinesAlong, IsByToken}
+use Rattle.ledger_texts.specs.inside.Lines.{AreLinesAlong, IsByToken}
 use Rattle.ledger_texts.proofs.Grouping.{grouped}
 
 pub ledger_of_all : (books : List Book) (first : Book) (fares : Fares) (list : List Entry) (head lines : List ℕ) → slice_get books 0 ≡ Some first → fares ≡ first.table

@@ -16,7 +16,7 @@ use Rattle.shard_book.specs.declared.entry.Entry.{Entry}
 use Rattle.shard_book.specs.declared.token.Token.{Token}
 use Rattle.shard_book.proofs.Histories.{token_eq-refl}
 use Rattle.reason_texts.specs.Ledger.{IsLedgerLine, reason_after}
-use Rattle.ledger_texts.specs.Lines.{AreLinesAlong, AreUpTo, HasCome, IsLineAfter, IsUpTo, Rise, RiseFrom, seen}
+use Rattle.ledger_texts.specs.inside.Lines.{AreLinesAlong, AreUpTo, HasCome, IsLineAfter, IsUpTo, Rise, RiseFrom, seen}
 use Rattle.ledger_texts.specs.declared.teller.Teller.{Teller}
 use Rattle.ledger_texts.proofs.Rising.{none_below, own_none, own_push, up_itself, up_push, up_weaker}
 

@@ -28,7 +28,8 @@ pub record IsLedgerOver (fares : Fares) (history : List Entry) (only : Option To
   pub of_each : AreLinesOfEach fares history (tokens_told only history) lines
   pub whole : text ≡ head_text ++ lines
 
--- the ledger of books: that of the entries of all of them, book by book, under the table of the first
+-- the ledger of books: that of the entries of all of them, book by book, under the table of the
+-- first
 pub record IsLedgerOf (books : List Book) (only : Option Token) (text : List ℕ) : Type 0 where
   pub first : Book
   pub stands_first : slice_get books 0 ≡ Some first

@@ -1,3 +1,3 @@
 pub mod Fault
 pub mod Ledger
-pub mod Lines
+pub mod inside

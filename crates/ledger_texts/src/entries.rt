@@ -3,7 +3,7 @@
 ghost use Rattle.std.specs.Prelude.{◌≡◌, ◌∷◌, [], ◌++◌, IfOk, OnOk};
 ghost use Rattle.shard_book.specs.Entry.{own};
 ghost use Rattle.shard_book.specs.Groups.{all_entries};
-ghost use Rattle.ledger_texts.specs.Lines.{IsByToken, seen};
+ghost use Rattle.ledger_texts.specs.inside.Lines.{IsByToken, seen};
 
 use fare_table::NoMemory;
 use shard_book::{Entry, ShardBook, Token};

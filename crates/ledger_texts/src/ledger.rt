@@ -1,13 +1,14 @@
 //! The ledger of books.
 
-ghost use Rattle.std.specs.Prelude.{◌≡◌, ◌<◌, ℕ, List, ◌++◌, IfErr, IfOk, OnOk, None, Some, length, slice_get, string_bytes};
+ghost use Rattle.std.specs.Prelude.{◌≡◌, ◌<◌, ℕ, List, ◌++◌, IfErr, IfOk, OnOk, None, Some, length};
+ghost use Rattle.std.specs.Prelude.{slice_get, string_bytes};
 ghost use Rattle.std.specs.Io.KnownBytes.{Appends};
 ghost use Rattle.ledger_texts.specs.Fault.{KeepsUnlessWrite};
 ghost use Rattle.shard_book.specs.Book.{Book};
 ghost use Rattle.shard_book.specs.Groups.{all_entries};
 ghost use Rattle.reason_texts.specs.Ledger.{head_text};
 ghost use Rattle.ledger_texts.specs.Ledger.{IsLedgerOf};
-ghost use Rattle.ledger_texts.specs.Lines.{IsByToken, seen};
+ghost use Rattle.ledger_texts.specs.inside.Lines.{IsByToken, seen};
 
 use crate::entries::{by_token, own_of};
 use crate::fault::LedgerFault;
@@ -33,7 +34,8 @@ fn table_of(books: &[ShardBook]) -> &FareTable
 /// order of token.
 fn begun(alloc: Global, books: &[ShardBook]) -> Result<(String, Vec<&Entry>), NoMemory>
     ensures head { IfOk result (λ begun. string_bytes begun.0 ≡ head_text) }
-    ensures entries { IfOk result (λ begun. IsByToken (all_entries books.now) (seen begun.1.items)) }
+    ensures entries { IfOk result
+        (λ begun. IsByToken (all_entries books.now) (seen begun.1.items)) }
 {
     let entries = by_token(alloc, books)?;
     let mut text = String::new(alloc);

@@ -3,7 +3,7 @@
 ghost use Rattle.std.specs.Prelude.{◌≡◌, ℕ, List, [], ◌++◌, IfErr, OnOk, string_bytes};
 ghost use Rattle.std.specs.Io.KnownBytes.{Appends, Keeps, append_known};
 ghost use Rattle.ledger_texts.specs.declared.fault.LedgerFault.TheVariants.{Write as ForWrite};
-ghost use Rattle.ledger_texts.specs.Lines.{AreLinesAlong, Rise, RiseFrom, seen};
+ghost use Rattle.ledger_texts.specs.inside.Lines.{AreLinesAlong, Rise, RiseFrom, seen};
 
 use crate::fault::LedgerFault;
 use crate::teller::Teller;
@@ -61,7 +61,8 @@ fn write_pieces<W: Write>(
 ) -> Result<(), LedgerFault>
     requires clock { clock.now ≡ table.now.zone }
     requires rise { RiseFrom first.now.token (seen entries.now) }
-    ensures lines { OnOk result ((lines : List ℕ) × AreLinesAlong table.now [] (seen entries.now) lines
+    ensures lines { OnOk result ((lines : List ℕ)
+        × AreLinesAlong table.now [] (seen entries.now) lines
         × Appends (append_known (W.contents out.old) (string_bytes text.old))
         (append_known (W.contents out.new) (string_bytes text.new)) lines) }
     ensures fault { IfErr result (λ fault. fault ≡ ForWrite) }
@@ -88,7 +89,8 @@ fn write_some<W: Write>(
 ) -> Result<(), LedgerFault>
     requires clock { clock.now ≡ table.now.zone }
     requires rise { Rise (seen entries.now) }
-    ensures lines { OnOk result ((lines : List ℕ) × AreLinesAlong table.now [] (seen entries.now) lines
+    ensures lines { OnOk result ((lines : List ℕ)
+        × AreLinesAlong table.now [] (seen entries.now) lines
         × Appends (append_known (W.contents out.old) (string_bytes text.old))
         (append_known (W.contents out.new) (string_bytes text.new)) lines) }
     ensures fault { IfErr result (λ fault. fault ≡ ForWrite) }

@@ -1,9 +1,10 @@
 //! What is kept of the token whose lines are being written.
 
-ghost use Rattle.std.specs.Prelude.{◌≡◌, ◌+◌, ◌^◌, ◌<◌, ◌≤◌, ◌++◌, ◌∷◌, [], List, ℕ, OnOk, string_bytes};
+ghost use Rattle.std.specs.Prelude.{◌≡◌, ◌+◌, ◌^◌, ◌<◌, ◌≤◌, ◌++◌, ◌∷◌, [], List, ℕ, OnOk};
+ghost use Rattle.std.specs.Prelude.{string_bytes};
 ghost use Rattle.fare_table.specs.Fares.{Fares};
 ghost use Rattle.shard_book.specs.declared.entry.Entry.{Entry};
-ghost use Rattle.ledger_texts.specs.Lines.{HasCome, IsLineAfter, IsUpTo};
+ghost use Rattle.ledger_texts.specs.inside.Lines.{HasCome, IsLineAfter, IsUpTo};
 
 use account_rule::Account;
 use fare_table::{Clock, FareTable, NoMemory};

@@ -1,5 +1,5 @@
-//! The program for auditors: checks a ledger under a fare table, and tells whether it is, whole, the
-//! ledger of legal histories, or which of its lines is the first that no such ledger has there.
+//! The program for auditors: checks a ledger under a fare table, and tells whether it is, whole,
+//! the ledger of legal histories, or which of its lines is the first that no such ledger has there.
 //!
 //! | module | what it does |
 //! |---|---|

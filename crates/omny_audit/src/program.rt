@@ -61,8 +61,8 @@ fn tell<E: Write>(err: &mut E, fault: &Fault) -> u8
     1
 }
 
-/// Shows what clap answers when there is nothing to run: help and version on `out`, else the mistake
-/// on `err`.
+/// Shows what clap answers when there is nothing to run: help and version on `out`, else the
+/// mistake on `err`.
 fn show<W: Write, E: Write>(error: &Error, out: &mut W, err: &mut E) -> u8
     ensures { result ≤ 2 }
 {
@@ -88,8 +88,8 @@ fn show_text<'a, W: Write>(error: &Error, out: &mut W) -> Result<(), Fault<'a>> 
 }
 
 /// The whole program: reads the words, of which the first is the program's name, checks the ledger
-/// that they name, and writes the verdict to `out`, mistakes and faults to `err`. Gives the status: 0
-/// where the ledger is legal, 1 where it is not or something failed, 2 where the words are wrong.
+/// that they name, and writes the verdict to `out`, mistakes and faults to `err`. Gives the status:
+/// 0 where the ledger is legal, 1 where it is not or something failed, 2 where the words are wrong.
 pub fn main_over<W: Write, E: Write>(
     rt: &HostRuntime,
     words: &[String],
@@ -109,8 +109,8 @@ pub fn main_over<W: Write, E: Write>(
     }
 }
 
-/// Says why the words could not be had, and gives the status: 1 for want of memory, and 2 for a word
-/// that is not UTF-8.
+/// Says why the words could not be had, and gives the status: 1 for want of memory, and 2 for a
+/// word that is not UTF-8.
 pub fn unread_words<E: Write>(error: &io::Error, err: &mut E) -> u8
     ensures { result ≤ 2 }
 {

@@ -31,8 +31,8 @@ fn encode_table<'a, R: BufRead, S: BufRead, W: Write + Drop>(
     }
 }
 
-/// Writes the upload of the table of this name: a plain file is read twice, anything else is held in
-/// memory.
+/// Writes the upload of the table of this name: a plain file is read twice, anything else is held
+/// in memory.
 pub(crate) fn encode<'a, W: Write + Drop>(
     rt: &HostRuntime,
     name: Name<'a>,
@@ -63,9 +63,9 @@ fn decode_one<'a, W: Write + Drop>(
     }
 }
 
-/// Writes a table of the taps of these uploads, in their order. Of an upload with a layout fault the
-/// taps before it are written, the fault is told on `err`, and the next upload follows. Says whether
-/// there was none.
+/// Writes a table of the taps of these uploads, in their order. Of an upload with a layout fault
+/// the taps before it are written, the fault is told on `err`, and the next upload follows. Says
+/// whether there was none.
 pub(crate) fn decode<'a, W: Write + Drop, E: Write>(
     rt: &HostRuntime,
     names: &[Name<'a>],

@@ -13,7 +13,11 @@ const MOST_UPLOAD_BYTES: u64 = 67_108_864;
 const READ_BYTES: usize = 65_536;
 
 /// All bytes that the reader has left.
-fn read_whole<'a, R: Read>(alloc: Global, name: Name<'a>, from: &mut R) -> Result<Vec<u8>, Fault<'a>> {
+fn read_whole<'a, R: Read>(
+    alloc: Global,
+    name: Name<'a>,
+    from: &mut R,
+) -> Result<Vec<u8>, Fault<'a>> {
     let mut bytes = Vec::new(alloc);
     match from.read_to_end(&mut bytes) {
         Ok(_) => Ok(bytes),
@@ -23,7 +27,11 @@ fn read_whole<'a, R: Read>(alloc: Global, name: Name<'a>, from: &mut R) -> Resul
 }
 
 /// All bytes of an upload. One that is longer than an upload may be is not read to its end.
-fn read_upload<'a, R: Read + Drop>(alloc: Global, name: Name<'a>, from: R) -> Result<Vec<u8>, Fault<'a>> {
+fn read_upload<'a, R: Read + Drop>(
+    alloc: Global,
+    name: Name<'a>,
+    from: R,
+) -> Result<Vec<u8>, Fault<'a>> {
     let bytes = read_whole(alloc, name, &mut from.take(MOST_UPLOAD_BYTES + 1))?;
     if bytes.len() as u64 > MOST_UPLOAD_BYTES {
         return Err(Fault::TooLong(name));
@@ -40,7 +48,10 @@ pub(crate) fn open<'a>(rt: &HostRuntime, name: Name<'a>) -> Result<fs::File, Fau
 }
 
 /// A file, read in pieces.
-pub(crate) fn open_in_pieces<'a>(rt: &HostRuntime, name: Name<'a>) -> Result<BufReader<fs::File>, Fault<'a>> {
+pub(crate) fn open_in_pieces<'a>(
+    rt: &HostRuntime,
+    name: Name<'a>,
+) -> Result<BufReader<fs::File>, Fault<'a>> {
     match BufReader::with_capacity(rt.alloc(), READ_BYTES, open(rt, name)?) {
         Ok(reader) => Ok(reader),
         Err(_) => Err(Fault::NoMemory),

@@ -41,8 +41,8 @@ impl fmt::Display for Remedy {
     }
 }
 
-/// The number of the tap that a layout fault names, counted from 0 in its batch, as ` tap N`; nothing
-/// where it names none.
+/// The number of the tap that a layout fault names, counted from 0 in its batch, as ` tap N`;
+/// nothing where it names none.
 #[derive(Clone, Copy)]
 pub(crate) struct AtTap(pub(crate) LayoutFault);
 

@@ -5,8 +5,8 @@ use std::fmt;
 /// The word that stands for standard input.
 const STANDARD_INPUT: &str = "-";
 
-/// The name of a file as the command line has it; `-` stands for standard input. Its `Display` is the
-/// name with its control characters escaped, so that it stays within its line.
+/// The name of a file as the command line has it; `-` stands for standard input. Its `Display` is
+/// the name with its control characters escaped, so that it stays within its line.
 #[derive(Clone, Copy, Debug)]
 pub(crate) struct Name<'a>(pub(crate) &'a str);
 

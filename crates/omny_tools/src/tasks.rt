@@ -85,8 +85,8 @@ pub(crate) fn run<E: Write>(rt: &HostRuntime, words: &[String], err: &mut E) -> 
     }
 }
 
-/// Says why the words could not be had, and gives the status: 1 for want of memory, and 2 for a word
-/// that is not UTF-8.
+/// Says why the words could not be had, and gives the status: 1 for want of memory, and 2 for a
+/// word that is not UTF-8.
 pub(crate) fn unread_words<E: Write>(error: &io::Error, err: &mut E) -> u8 {
     if error.kind() == ReadKind::OutOfMemory {
         say(err, &Fault::NoMemory);

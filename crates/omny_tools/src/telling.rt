@@ -37,7 +37,10 @@ fn lines_of(
         let at_tap = AtTap(fault);
         let cause = Cause(fault);
         let remedy = Remedy(fault);
-        write!(text, "fault {number} batch {batches}{at_tap} at {offset} {cause}; {remedy}\n")?;
+        write!(
+            text,
+            "fault {number} batch {batches}{at_tap} at {offset} {cause}; {remedy}\n"
+        )?;
     }
     Ok(text)
 }

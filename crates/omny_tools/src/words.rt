@@ -34,7 +34,8 @@ before it are written, and the fault is told.";
 const DECODE_HELP: &str =
     "Uploads of at most 67108864 bytes; - stands for standard input [default: standard input]";
 
-const UPLOADS_ABOUT: &str = "Tells what uploads have: batches, taps, first and last moment, and the layout fault, if any, with
+const UPLOADS_ABOUT: &str =
+    "Tells what uploads have: batches, taps, first and last moment, and the layout fault, if any, with
 its batch, its tap (both from 0), the offset of its batch in bytes, and what to do.
 
 An upload with a layout fault is told up to it, and the status is 1.";
@@ -159,7 +160,9 @@ pub(crate) fn task_of<'a>(alloc: Global, words: &'a [String]) -> Result<Task<'a>
         return Ok(Task::Nothing);
     };
     if name == "encode" {
-        let file = matches.get_str("FILE").map_or(Name::input(), |word| Name(word));
+        let file = matches
+            .get_str("FILE")
+            .map_or(Name::input(), |word| Name(word));
         return Ok(Task::Encode(file));
     }
     if name == "decode" {

@@ -1,12 +1,14 @@
 -- The ledger: a head line, and a line of twelve fields for each entry of a token.
-use Rattle.std.specs.Prelude.{◌≡◌, ℕ, ◌+◌, List, [], ◌∷◌, ◌++◌, length, map, Option, Some, None, codes, slice_index_or}
+use Rattle.std.specs.Prelude.{◌≡◌, ℕ, ◌+◌, List, [], ◌∷◌, ◌++◌, length, map, Option, Some, None}
+use Rattle.std.specs.Prelude.{codes, slice_index_or}
 use Rattle.std.specs.Fmt.{decimal}
 use Rattle.hex.specs.Hex.{encode_lower}
 use Rattle.fare_table.specs.Fares.{Fares, mode_at}
 use Rattle.account_rule.specs.Reasons.{reason}
 use Rattle.account_rule.specs.Rules.{rules_of}
 use Rattle.account_rule.specs.declared.reason.Charge.{Charge}
-use Rattle.account_rule.specs.declared.reason.Charge.TheVariants.{Full, CeilingCut, CeilingReached, RideLimitReached}
+use Rattle.account_rule.specs.declared.reason.Charge.TheVariants.{Full, CeilingCut, CeilingReached}
+use Rattle.account_rule.specs.declared.reason.Charge.TheVariants.{RideLimitReached}
 use Rattle.account_rule.specs.declared.reason.Reason.{Reason}
 use Rattle.account_rule.specs.declared.reason.Reason.TheVariants.{Unknown, Stale, Transfer, Ride}
 use Rattle.shard_book.specs.Entry.{tap_of}
@@ -18,7 +20,8 @@ use Rattle.fare_texts.specs.StatementText.{answer_text}
 
 -- the head line
 abbrev pub head_text : List ℕ
-head_text = codes "token,line,moment,validator,mode,answer,cents,window_start,window_end,ride,reason,points_at\n"
+head_text =
+    codes "token,line,moment,validator,mode,answer,cents,window_start,window_end,ride,reason,points_at\n"
 
 -- the name of a mode by its place, or nothing for none
 abbrev pub name_or_empty : List (List ℕ) → Option ℕ → List ℕ
@@ -31,13 +34,15 @@ mode_field fares validator = name_or_empty fares.rules.modes (mode_at fares vali
 
 -- `000000000000000000000000000000a1,1,`
 unfoldable pub line_head : Token → ℕ → List ℕ
-line_head token number = encode_lower (bytes_of token) ++ (codes "," ++ (decimal number ++ codes ","))
+line_head token number =
+    encode_lower (bytes_of token) ++ (codes "," ++ (decimal number ++ codes ","))
 
 -- `,1000,subway,paid,300,`
 unfoldable pub entry_fields : Fares → Entry → List ℕ
 entry_fields fares entry =
     codes "," ++ (decimal entry.validator ++ (codes "," ++ (mode_field fares entry.validator
-    ++ (codes "," ++ (answer_text entry.answer ++ (codes "," ++ (decimal entry.cents ++ codes ",")))))))
+    ++ (codes "," ++ (answer_text entry.answer
+    ++ (codes "," ++ (decimal entry.cents ++ codes ",")))))))
 
 -- `,1,full,`, where the ride's place in its window counts from 1
 unfoldable pub placed : ℕ → List ℕ → List ℕ
@@ -72,12 +77,14 @@ IsBecause (Transfer moment mode) text = IsPointing (codes ",,,transfer,") moment
 IsBecause (Ride start until charge) text = IsRideFields start until charge text
 
 -- the line of a token's entry with this number and this reason
-pub record IsLedgerLine (fares : Fares) (token : Token) (number : ℕ) (entry : Entry) (why : Reason) (line : List ℕ) : Type 0 where
+pub record IsLedgerLine (fares : Fares) (token : Token) (number : ℕ) (entry : Entry) (why : Reason)
+    (line : List ℕ) : Type 0 where
   pub moment : List ℕ
   pub is : IsMomentText entry.moment moment
   pub because : List ℕ
   pub told : IsBecause why because
-  pub shown : line ≡ line_head token number ++ (moment ++ (entry_fields fares entry ++ (because ++ codes "\n")))
+  pub shown : line ≡ line_head token number
+      ++ (moment ++ (entry_fields fares entry ++ (because ++ codes "\n")))
 
 -- why the token's entry is answered as it is, after its earlier entries
 abbrev pub reason_after : Fares → Token → List Entry → Entry → Reason
@@ -89,7 +96,8 @@ abbrev pub AreLinesAfter : Fares → Token → List Entry → List Entry → Lis
 AreLinesAfter fares token earlier [] text = text ≡ []
 AreLinesAfter fares token earlier (entry ∷ entries) text =
     (line : List ℕ) × (rest : List ℕ)
-    × IsLedgerLine fares token (length earlier + 1) entry (reason_after fares token earlier entry) line
+    × IsLedgerLine fares token (length earlier + 1) entry
+    (reason_after fares token earlier entry) line
     × AreLinesAfter fares token (earlier ++ entry ∷ []) entries rest
     × (text ≡ line ++ rest)
 

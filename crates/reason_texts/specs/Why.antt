@@ -3,7 +3,8 @@ use Rattle.std.specs.Prelude.{◌≡◌, ℕ, ◌+◌, ◌<◌, List, [], ◌++�
 use Rattle.std.specs.Fmt.{decimal}
 use Rattle.fare_table.specs.Fares.{Fares}
 use Rattle.account_rule.specs.declared.reason.Charge.{Charge}
-use Rattle.account_rule.specs.declared.reason.Charge.TheVariants.{Full, CeilingCut, CeilingReached, RideLimitReached}
+use Rattle.account_rule.specs.declared.reason.Charge.TheVariants.{Full, CeilingCut, CeilingReached}
+use Rattle.account_rule.specs.declared.reason.Charge.TheVariants.{RideLimitReached}
 use Rattle.account_rule.specs.declared.reason.Reason.{Reason}
 use Rattle.account_rule.specs.declared.reason.Reason.TheVariants.{Unknown, Stale, Transfer, Ride}
 use Rattle.fare_texts.specs.Moments.{IsMomentText}
@@ -64,5 +65,6 @@ pub record IsRideText (start until : ℕ) (charge : Charge) (text : List ℕ) : 
 abbrev pub IsWhy : Fares → Reason → List ℕ → Type 0
 IsWhy fares Unknown text = text ≡ codes " because the table has no such validator"
 IsWhy fares (Stale latest) text = IsStaleText latest text
-IsWhy fares (Transfer moment mode) text = IsTransferText (slice_index_or fares.rules.modes mode.place []) moment text
+IsWhy fares (Transfer moment mode) text =
+    IsTransferText (slice_index_or fares.rules.modes mode.place []) moment text
 IsWhy fares (Ride start until charge) text = IsRideText start until charge text

@@ -1,6 +1,7 @@
 //! The lines of a token in the ledger.
 
-ghost use Rattle.std.specs.Prelude.{◌≡◌, ◌<◌, ◌++◌, IfOk, OnOk, List, ℕ, codes, length, string_bytes};
+ghost use Rattle.std.specs.Prelude.{◌≡◌, ◌<◌, ◌++◌, IfOk, OnOk, List, ℕ, codes, length};
+ghost use Rattle.std.specs.Prelude.{string_bytes};
 ghost use Rattle.std.specs.Option.{ForSome};
 ghost use Rattle.fare_table.specs.Until.{until};
 ghost use Rattle.shard_book.specs.Entry.{tap_of};

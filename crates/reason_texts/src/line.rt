@@ -1,6 +1,7 @@
 //! One line of a ledger.
 
-ghost use Rattle.std.specs.Prelude.{◌≡◌, ◌<◌, ◌++◌, length, List, ℕ, OnOk, Some, slice_get, string_bytes};
+ghost use Rattle.std.specs.Prelude.{◌≡◌, ◌<◌, ◌++◌, length, List, ℕ, OnOk, Some, slice_get};
+ghost use Rattle.std.specs.Prelude.{string_bytes};
 ghost use Rattle.reason_texts.specs.Ledger.{IsLedgerLine, entry_fields, line_head, mode_field};
 
 use crate::because::write_because;
@@ -34,7 +35,8 @@ pub fn write_line(
 /// Appends the token and the number.
 #[tactic(auto, unfolding(crate::specs::Ledger::line_head))]
 fn write_head(text: &mut String, token: Token, number: u64) -> Result<(), AllocError>
-    ensures { OnOk result (string_bytes text.new ≡ string_bytes text.old ++ line_head token number) }
+    ensures { OnOk result (string_bytes text.new ≡ string_bytes text.old
+        ++ line_head token number) }
 {
     let digits = Digits(token);
     write!(text, "{digits},{number},")
@@ -43,7 +45,8 @@ fn write_head(text: &mut String, token: Token, number: u64) -> Result<(), AllocE
 /// Appends the entry's fields behind its moment.
 #[tactic(auto, unfolding(crate::specs::Ledger::entry_fields))]
 fn write_fields(text: &mut String, table: &FareTable, entry: &Entry) -> Result<(), AllocError>
-    ensures { OnOk result (string_bytes text.new ≡ string_bytes text.old ++ entry_fields table.now entry.now) }
+    ensures { OnOk result (string_bytes text.new ≡ string_bytes text.old
+        ++ entry_fields table.now entry.now) }
 {
     let validator = entry.validator;
     let mode = mode_field(table, validator);

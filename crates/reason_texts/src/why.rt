@@ -1,17 +1,21 @@
 //! The words that end an reason_texts line.
 
 ghost use Rattle.std.specs.Prelude.{◌≡◌, ◌<◌, ◌+◌, ◌++◌, length, List, ℕ, OnOk, string_bytes};
-ghost use Rattle.reason_texts.specs.Why.{IsRideText, IsTransferText, IsWhy, IsWindowText, charge_end, charge_start, giver_start, place_start, HasModeOf};
+ghost use Rattle.reason_texts.specs.Why.{IsRideText, IsTransferText, IsWhy, IsWindowText};
+ghost use Rattle.reason_texts.specs.Why.{charge_end, charge_start, giver_start, place_start};
+ghost use Rattle.reason_texts.specs.Why.{HasModeOf};
 
 use account_rule::{Charge, Reason};
 use fare_table::FareTable;
 use fare_texts::write_moment;
 use std::alloc::AllocError;
 
-/// Appends why a tap is answered as it is, as ` because the subway ride of 2024-03-08T17:00:00.000Z gives it`.
+/// Appends why a tap is answered as it is, as ` because the subway ride of 2024-03-08T17:00:00.000Z
+/// gives it`.
 pub fn write_why(text: &mut String, table: &FareTable, reason: &Reason) -> Result<(), AllocError>
     requires { HasModeOf table.now reason.now }
-    ensures { OnOk result ((written : List ℕ) × IsWhy table.now reason.now written × (string_bytes text.new ≡ string_bytes text.old ++ written)) }
+    ensures { OnOk result ((written : List ℕ) × IsWhy table.now reason.now written
+        × (string_bytes text.new ≡ string_bytes text.old ++ written)) }
 {
     match *reason {
         Reason::Unknown => text.push_str(" because the table has no such validator"),
@@ -30,7 +34,8 @@ pub fn write_why(text: &mut String, table: &FareTable, reason: &Reason) -> Resul
 }
 
 fn write_transfer(text: &mut String, mode: &str, moment: u64) -> Result<(), AllocError>
-    ensures { OnOk result ((written : List ℕ) × IsTransferText mode.now moment written × (string_bytes text.new ≡ string_bytes text.old ++ written)) }
+    ensures { OnOk result ((written : List ℕ) × IsTransferText mode.now moment written
+        × (string_bytes text.new ≡ string_bytes text.old ++ written)) }
 {
     write_giver(text, mode)?;
     write_moment(text, moment)?;
@@ -46,7 +51,8 @@ fn write_giver(text: &mut String, mode: &str) -> Result<(), AllocError>
 }
 
 fn write_ride(text: &mut String, start: u64, until: u64, charge: Charge) -> Result<(), AllocError>
-    ensures { OnOk result ((written : List ℕ) × IsRideText start until charge written × (string_bytes text.new ≡ string_bytes text.old ++ written)) }
+    ensures { OnOk result ((written : List ℕ) × IsRideText start until charge written
+        × (string_bytes text.new ≡ string_bytes text.old ++ written)) }
 {
     write_start(text, charge)?;
     write_window(text, start, until)?;
@@ -75,7 +81,8 @@ fn write_place(text: &mut String, place: u32) -> Result<(), AllocError>
 }
 
 fn write_window(text: &mut String, start: u64, until: u64) -> Result<(), AllocError>
-    ensures { OnOk result ((written : List ℕ) × IsWindowText start until written × (string_bytes text.new ≡ string_bytes text.old ++ written)) }
+    ensures { OnOk result ((written : List ℕ) × IsWindowText start until written
+        × (string_bytes text.new ≡ string_bytes text.old ++ written)) }
 {
     text.push_str(" from ")?;
     write_moment(text, start)?;

@@ -48,7 +48,8 @@ impl Gate for Open {
     fn after(&self, _: u32) {}
 }
 
-// Runs a service of these uploads, and knows of the outcome that its report is that of their plain history.
+// Runs a service of these uploads, and knows of the outcome that its report is that of their plain
+// history.
 fn run<R: Threads + Wait + Sync, G: Gate + Sync>(
     service: Service,
     uploads: &[Vec<u8>],
@@ -61,8 +62,10 @@ fn run<R: Threads + Wait + Sync, G: Gate + Sync>(
     requires share { IsShareOf service share }
     requires uploads { service.uploads ≡ map (λ upload. upload.items) uploads.now }
     ensures { IfOk result (λ outcome. All WasWhole outcome.ends
-        → (history : List Entry) (plain : IsPlain service.entry.table (map (λ upload. upload.items) uploads.now) history)
-        → AreApart plain.taps → IsReportOver (map (λ upload. upload.items) uploads.now) history (report_of outcome)) }
+        → (history : List Entry)
+        (plain : IsPlain service.entry.table (map (λ upload. upload.items) uploads.now) history)
+        → AreApart plain.taps → IsReportOver (map (λ upload. upload.items) uploads.now) history
+        (report_of outcome)) }
 {
     let outcome = service.run(rt, alloc, share, workers, gate)?;
     laws::report(uploads, &outcome);

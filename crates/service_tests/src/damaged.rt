@@ -11,7 +11,8 @@ fn two_taps(alloc: Global) -> Result<Vec<u8>, Fail> {
     Ok(encode(alloc, &[tap(0xa1, SUBWAY, 0), tap(0xa1, BUS, 7_200_000)])?)
 }
 
-/// How a file ends whose first batch has two taps and whose second has one, of which so many bytes are there.
+/// How a file ends whose first batch has two taps and whose second has one, of which so many bytes
+/// are there.
 fn end_of_a_cut_file(bytes: usize) -> UploadEnd {
     let have = bytes as u64;
     let (taps, offset, fault) = match bytes {
@@ -37,7 +38,8 @@ fn end_of_a_cut_file(bytes: usize) -> UploadEnd {
     }
 }
 
-// Would catch an offset or a count that is one batch or one byte off in the service, which hands the views' fault on.
+// Would catch an offset or a count that is one batch or one byte off in the service, which hands
+// the views' fault on.
 #[test]
 fn a_file_cut_at_every_length(rt: HostRuntime) -> Result<(), Fail> {
     let alloc = rt.alloc();

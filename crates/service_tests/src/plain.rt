@@ -1,6 +1,8 @@
-//! The plain account: it keeps all taps of a token, and works the rule out anew from the whole list at each.
+//! The plain account: it keeps all taps of a token, and works the rule out anew from the whole list
+//! at each.
 //!
-//! It asks no table: its modes, transfers and terms are its own, and its windows end after seven days.
+//! It asks no table: its modes, transfers and terms are its own, and its windows end after seven
+//! days.
 
 use account_rule::{Answer, Reply, WindowView};
 use std::alloc::{AllocError, Global};
@@ -93,7 +95,8 @@ impl PlainAccount {
         Ok(live)
     }
 
-    /// The moments of the rides: in each chain of linked live taps every second one, from the first on.
+    /// The moments of the rides: in each chain of linked live taps every second one, from the first
+    /// on.
     fn rides(&self) -> Result<Vec<u64>, AllocError> {
         let mut rides = Vec::new(self.alloc);
         let mut before: Option<Known> = None;
@@ -114,7 +117,8 @@ fn free(answer: Answer) -> Reply {
     Reply { answer, cents: 0 }
 }
 
-/// Whether two live taps are within two hours, the limit included, and one of them at least is on a bus.
+/// Whether two live taps are within two hours, the limit included, and one of them at least is on a
+/// bus.
 fn is_linked(earlier: Known, tap: Known) -> bool {
     tap.moment.saturating_sub(earlier.moment) <= TWO_HOURS && (earlier.on_bus || tap.on_bus)
 }

@@ -238,7 +238,8 @@ fn the_second_of_two_equal_uploads_is_stale(rt: HostRuntime) -> Result<(), Fail>
 // The most turns that a gate waits.
 const TURNS: u64 = 1_000_000_000;
 
-// The first upload waits for the end of the second, which waits for the start of the first: so two workers draw one each.
+// The first upload waits for the end of the second, which waits for the start of the first: so two
+// workers draw one each.
 #[derive(Drop)]
 struct Both {
     started: AtomicBool,

@@ -71,7 +71,8 @@ pub fn tap(last: u8, validator: u32, after: u64) -> TapFields {
     }
 }
 
-/// Appends an upload. One way out a line: each way out drops all that its function owns, and is proved.
+/// Appends an upload. One way out a line: each way out drops all that its function owns, and is
+/// proved.
 pub fn add(uploads: &mut Vec<Vec<u8>>, upload: Result<Vec<u8>, Fail>) -> Result<(), Fail> {
     Ok(uploads.push(upload?)?)
 }

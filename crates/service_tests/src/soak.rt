@@ -42,7 +42,8 @@ impl Numbers {
     }
 }
 
-/// A tap of one of sixteen tokens within two hours after `from`, on the subway, a bus or at a validator that nobody knows.
+/// A tap of one of sixteen tokens within two hours after `from`, on the subway, a bus or at a
+/// validator that nobody knows.
 fn some_tap(numbers: &mut Numbers, from: u32) -> TapFields {
     let validator = match numbers.below(5) {
         0 | 1 => 1000,
@@ -75,7 +76,8 @@ fn some_upload(alloc: Global, numbers: &mut Numbers) -> Result<Vec<u8>, Fail> {
     Ok(file)
 }
 
-/// Every line, the totals and the window of a statement are those of the plain account over the order that it shows.
+/// Every line, the totals and the window of a statement are those of the plain account over the
+/// order that it shows.
 fn is_explained<R: Abort>(rt: &R, alloc: Global, statement: &Statement) -> Result<(), Fail> {
     let mut account = PlainAccount::new(alloc);
     let mut cents = 0u128;
@@ -137,8 +139,9 @@ fn taps_of_workers(outcome: &Outcome) -> u128 {
     taps
 }
 
-// Would catch what only many threads meet: a turn that two have at once, a wake that is lost (the test would not end), a worker
-// that leaves uploads undrawn; also that an order which the service shows is not one that the account rule explains.
+// Would catch what only many threads meet: a turn that two have at once, a wake that is lost (the
+// test would not end), a worker that leaves uploads undrawn; also that an order which the service
+// shows is not one that the account rule explains.
 #[test]
 fn sixteen_workers_share_tokens(rt: HostRuntime) -> Result<(), Fail> {
     let alloc = rt.alloc();

@@ -3,7 +3,7 @@ use Rattle.std.proofs.Common.{◌≡◌, ℕ, zero, suc, ◌+◌, List, [], ◌�
 use Rattle.std.specs.Prelude.{slice_get, ◌⊎◌}
 use Rattle.std.proofs.lemmas.List.{map-append}
 use Rattle.tap_views.specs.declared.encoder.TapFields.{TapFields}
-use Rattle.settlement.specs.Dealt.{ArePartFiles, in_part}
+use Rattle.settlement.specs.inside.Dealt.{ArePartFiles, in_part}
 use Rattle.settlement.specs.Settled.{IsPartFile}
 
 abbrev pub bytes_in : Vec ℕ Global → List ℕ

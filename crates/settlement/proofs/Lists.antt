@@ -10,7 +10,7 @@ use Rattle.tap_parts.specs.Parts.{part_of_token, of_part}
 use Rattle.fare_service.specs.Plain.{AreTapsOf, IsPlainEnd}
 use Rattle.fare_service.specs.declared.upload_end.UploadEnd.{UploadEnd}
 use Rattle.fare_service.proofs.PlainRuns.{AllZip-append}
-use Rattle.settlement.specs.Dealt.{AreDealt, in_part}
+use Rattle.settlement.specs.inside.Dealt.{AreDealt, in_part}
 use Rattle.settlement.specs.Settled.{joined}
 
 -- the taps of a part in two runs of uploads

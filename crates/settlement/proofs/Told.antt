@@ -20,7 +20,7 @@ use Rattle.shard_book.specs.declared.entry.Entry.{Entry}
 use Rattle.shard_book.specs.declared.token.Token.{Token}
 use Rattle.tap_parts.specs.Parts.{part_of_token, of_part}
 use Rattle.fare_service.specs.Headline.{Headline}
-use Rattle.fare_service.specs.Outcomes.{Gathered}
+use Rattle.fare_service.specs.Outcomes.{OutcomeView}
 use Rattle.fare_service.specs.Plain.{AreTapsOfEach, HasOneCut, IsPlain, IsStatementOver, IsWholeGathering, WasWhole, plain, unanswered}
 use Rattle.fare_service.specs.Shares.{Worked}
 use Rattle.fare_service.specs.Text.{report}
@@ -160,7 +160,7 @@ same_plain fares token xs ys same =
     (own_bare token (plain fares xs) ∙ ap (own token) (plain_bare fares [] xs) ∙ same ∙ sym (ap (own token) (plain_bare fares [] ys)) ∙ sym (own_bare token (plain fares ys)))
 
 -- ---- the law
-pub tells : (given : Given) (works : List (List Worked)) (outcome : Gathered) (uploads : List (List ℕ)) (ends : List UploadEnd) (later : List Entry)
+pub tells : (given : Given) (works : List (List Worked)) (outcome : OutcomeView) (uploads : List (List ℕ)) (ends : List UploadEnd) (later : List Entry)
     → 0 < length outcome.books → AllNamed outcome → AllHere outcome → All HasOneCut given.uploads → RisingNumbers → RisingTokens
     → (is : IsPlain given.table given.uploads later) → AreEntriesOf (joined is.taps) later
     → IsSettled uploads ends given.uploads → Headline given.table given.shards given.uploads works outcome → All WasWhole outcome.ends → TellsSettled given.table uploads ends outcome

@@ -6,7 +6,7 @@ use Rattle.shard_book.specs.Entry.{own}
 use Rattle.shard_book.specs.Groups.{all_entries}
 use Rattle.shard_book.specs.declared.entry.Entry.{Entry}
 use Rattle.shard_book.specs.declared.token.Token.{Token}
-use Rattle.fare_service.specs.Outcomes.{Gathered}
+use Rattle.fare_service.specs.Outcomes.{OutcomeView}
 use Rattle.fare_service.specs.Plain.{IsReportOver, IsStatementOver}
 use Rattle.fare_service.specs.Printed.{IsStatementOf, report_with}
 use Rattle.fare_service.specs.declared.upload_end.UploadEnd.{UploadEnd}
@@ -15,7 +15,7 @@ use Rattle.settlement.specs.Settled.{IsSettledHistory}
 -- Of the settled history of the uploads, the outcome has the report, where it is printed with these
 -- ends, and the statement of each token; the entries of each token, in their order; and the table.
 pub record TellsSettled (fares : Fares) (uploads : List (List ℕ)) (ends : List UploadEnd)
-    (outcome : Gathered) : Type 0 where
+    (outcome : OutcomeView) : Type 0 where
   pub history : List Entry
   pub settled : IsSettledHistory fares uploads history
   pub reported : IsReportOver uploads history (report_with ends outcome)

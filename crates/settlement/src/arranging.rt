@@ -1,7 +1,7 @@
 //! The files of the parts, made by four threads.
 
 ghost use Rattle.std.specs.Prelude.{◌<◌, ◌≤◌, All, length, IfOk, map};
-ghost use Rattle.settlement.specs.Dealt.{AreEarlyBelow, ArePartFiles};
+ghost use Rattle.settlement.specs.inside.Dealt.{AreEarlyBelow, ArePartFiles};
 
 use crate::file::files_of;
 use std::alloc::{AllocError, Global};

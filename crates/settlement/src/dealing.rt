@@ -1,7 +1,7 @@
 //! The taps of uploads, dealt to parts by four threads.
 
 ghost use Rattle.std.specs.Prelude.{◌≡◌, ◌≤◌, ◌++◌, length, IfOk, map};
-ghost use Rattle.settlement.specs.Dealt.{AreAllAdded, AreDealt, IsAdded};
+ghost use Rattle.settlement.specs.inside.Dealt.{AreAllAdded, AreDealt, IsAdded};
 
 use fare_service::UploadEnd;
 use std::alloc::{AllocError, Global};
@@ -93,8 +93,8 @@ fn add_all(
     Ok(ends)
 }
 
-/// Deals the taps of the uploads to so many parts. Each part has room for half as many taps again as
-/// its share, if tokens were even.
+/// Deals the taps of the uploads to so many parts. Each part has room for half as many taps again
+/// as its share, if tokens were even.
 fn deal(alloc: Global, uploads: Vec<Vec<u8>>, parts: u32) -> Result<Dealt, AllocError>
     requires least { 1 ≤ parts }
     requires most { parts ≤ 65535 }
@@ -134,8 +134,8 @@ fn middle_of(uploads: &[Vec<u8>]) -> usize
     uploads.len()
 }
 
-/// Deals the taps of the uploads to so many parts, half of them by a thread of its own. Where one is
-/// refused, both halves are dealt one after the other.
+/// Deals the taps of the uploads to so many parts, half of them by a thread of its own. Where one
+/// is refused, both halves are dealt one after the other.
 fn deal_by_two<R: Threads + Sync>(
     rt: &R,
     alloc: Global,

@@ -2,9 +2,9 @@
 
 ghost use Rattle.std.specs.Prelude.{◌<◌, ◌≤◌, All, length, IfOk, OnOk, map};
 ghost use Rattle.tap_views.specs.Encoding.{AreEarly};
-ghost use Rattle.settlement.specs.Dealt.{AreEarlyBelow, ArePartFiles, in_part};
+ghost use Rattle.settlement.specs.inside.Dealt.{AreEarlyBelow, ArePartFiles, in_part};
 ghost use Rattle.settlement.specs.Settled.{IsPartFile};
-ghost use Rattle.settlement.specs.Spread.{AreEmpty, AreSpread};
+ghost use Rattle.settlement.specs.inside.Spread.{AreEmpty, AreSpread};
 
 use crate::buckets::{Bucket, arrange, empty_buckets, spread};
 use std::alloc::{AllocError, Global};

@@ -11,8 +11,8 @@ use std::alloc::Global;
 use std::marker::Sync;
 use std::thread::Threads;
 
-/// How many bytes of uploads go to one part: some 10,000 taps, so that the sort of a part stays in a
-/// processor's near cache.
+/// How many bytes of uploads go to one part: some 10,000 taps, so that the sort of a part stays in
+/// a processor's near cache.
 const BYTES_OF_PART: usize = 280_000;
 
 /// The most parts, since a service takes no more uploads.

@@ -5,7 +5,8 @@ ghost use Rattle.tap_parts.specs.Parts.{part_of_token};
 
 use byteorder::{BigEndian, ByteOrder};
 
-/// The part of a token of 16 bytes: the number in its last four bytes, divided by 64, modulo the number of parts.
+/// The part of a token of 16 bytes: the number in its last four bytes, divided by 64, modulo the
+/// number of parts.
 ///
 /// 64 numbers in a row fall to one part, so a part has tokens of all shards, 1 to 64 of them.
 pub fn part_of(token: &[u8], parts: u32) -> u32

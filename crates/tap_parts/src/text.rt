@@ -26,7 +26,8 @@ fn room_for(taps: usize) -> usize {
 
 /// Writes a tap of a `TAP1` batch behind the text.
 fn put_tap(text: &mut Vec<u8>, tap: &TapFields) -> Result<(), AllocError>
-    ensures bytes { OnOk result (text.new.items ≡ text.old.items ++ spelling Tap1 (written tap.now)) }
+    ensures bytes { OnOk result
+        (text.new.items ≡ text.old.items ++ spelling Tap1 (written tap.now)) }
     ensures fields { OnOk result (IsFields tap.now) }
 {
     text.extend_from_slice(&tap.token)?;

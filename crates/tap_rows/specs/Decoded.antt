@@ -11,7 +11,8 @@ use Rattle.tap_rows.specs.Rows.{rows_text}
 abbrev pub fields_in : List (List Tap) → List TapFields
 fields_in batches = map fields_of (taps_of batches)
 
--- the text is the rows of the upload's taps before its first layout fault, and this is the fault with its offset, if there is one
+-- the text is the rows of the upload's taps before its first layout fault, and this is the fault
+-- with its offset, if there is one
 pub record IsDecoded (upload text : List ℕ) (fault : Option (ℕ × LayoutFault)) : Type 0 where
   pub batches : List (List Tap)
   pub read : IsReadAs upload batches fault

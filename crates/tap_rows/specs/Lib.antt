@@ -1,3 +1,4 @@
+pub mod Decoded
 pub mod Rows
 pub mod Tables
-pub mod Decoded
+pub mod inside

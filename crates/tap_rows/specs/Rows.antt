@@ -82,7 +82,8 @@ IsNoRow line Moment = HasNoMoment line
 
 -- the row of a tap as it is written, with its line feed
 abbrev pub row_text : TapFields → List ℕ
-row_text tap = encode_lower tap.token ++ 44 ∷ (decimal tap.validator ++ 44 ∷ (decimal tap.moment ++ 10 ∷ []))
+row_text tap =
+    encode_lower tap.token ++ 44 ∷ (decimal tap.validator ++ 44 ∷ (decimal tap.moment ++ 10 ∷ []))
 
 -- the rows of taps, in their order
 abbrev pub rows_text : List TapFields → List ℕ

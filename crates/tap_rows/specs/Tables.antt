@@ -1,5 +1,6 @@
--- A table of taps as CSV: a head line, and then a line for each tap. A line ends with a line feed, or with carriage return and line feed; the last may lack its end.
-use Rattle.std.specs.Prelude.{◌≡◌, ℕ, ◌+◌, List, [], ◌∷◌, ◌++◌, length, codes, Some, None, Ok, Err, Result, Option}
+-- A table of taps as CSV: a head line, and then a line for each tap. A line ends with a line feed,
+-- or with carriage return and line feed; the last may lack its end.
+use Rattle.std.specs.Prelude.{◌≡◌, ℕ, ◌+◌, List, [], ◌∷◌, ◌++◌, length, codes, Option}
 use Rattle.std.specs.Io.BufRead.{first_line, drop_through}
 use Rattle.std.specs.Io.KnownBytes.{Appends}
 use Rattle.tap_views.specs.declared.encoder.TapFields.{TapFields}
@@ -7,7 +8,8 @@ use Rattle.tap_parts.specs.Parts.{IsFileOf}
 use Rattle.tap_rows.specs.Rows.{IsRow, IsNoRow, rows_text}
 use Rattle.tap_rows.specs.declared.column.Column.{Column}
 use Rattle.tap_rows.specs.declared.fault.RowsFault.{RowsFault}
-use Rattle.tap_rows.specs.declared.fault.RowsFault.TheVariants.{Head, Row, Unread, Changed, Write, NoMemory}
+use Rattle.tap_rows.specs.declared.fault.RowsFault.TheVariants.{Head, Row, Unread, Changed, Write}
+use Rattle.tap_rows.specs.declared.fault.RowsFault.TheVariants.{NoMemory}
 
 -- the head line
 abbrev pub head : List ℕ
@@ -16,7 +18,8 @@ head = codes "token,validator,moment"
 -- the text begins with the rows of these taps, a line each in their order, and the rest follows
 abbrev pub BeginsWithRows : List ℕ → List TapFields → List ℕ → Type 0
 BeginsWithRows text [] rest = text ≡ rest
-BeginsWithRows text (tap ∷ taps) rest = IsRow (first_line text) tap × BeginsWithRows (drop_through 10 text) taps rest
+BeginsWithRows text (tap ∷ taps) rest =
+    IsRow (first_line text) tap × BeginsWithRows (drop_through 10 text) taps rest
 
 -- the text is the table of these taps: the head, then their rows, and nothing else
 pub record IsTable (text : List ℕ) (taps : List TapFields) : Type 0 where
@@ -33,7 +36,8 @@ pub record IsBadRow (text : List ℕ) (number : ℕ) (column : Column) : Type 0 
   pub place : number ≡ length before + 2
   pub wrong : IsNoRow (first_line rest) column
 
--- what a fault says of the table; that a read, a write or a growth of memory failed says nothing of it
+-- what a fault says of the table; that a read, a write or a growth of memory failed says nothing of
+-- it
 abbrev pub IsRefused : List ℕ → RowsFault → Type 0
 IsRefused text Head = ¬ (first_line text ≡ head)
 IsRefused text (Row number column) = IsBadRow text number column
@@ -57,7 +61,8 @@ pub record IsTableOf (text : List ℕ) (count : ℕ) : Type 0 where
   pub table : IsTable text taps
   pub number : length taps ≡ count
 
--- what was written behind the old bytes is an upload with no fault, of exactly the taps of the table, in their order
+-- what was written behind the old bytes is an upload with no fault, of exactly the taps of the
+-- table, in their order
 pub record IsEncoded (text : List ℕ) (old new : Option (List ℕ)) (count : ℕ) : Type 0 where
   pub taps : List TapFields
   pub table : IsTable text taps
@@ -69,37 +74,3 @@ pub record IsEncoded (text : List ℕ) (old new : Option (List ℕ)) (count : �
 -- the table that is written for these taps
 abbrev pub table_text : List TapFields → List ℕ
 table_text taps = head ++ 10 ∷ rows_text taps
-
--- ---- what the private functions tell each other
--- the next row of what is left of a table, which has this number, and what is left then
-abbrev pub IsNextRow : List ℕ → ℕ → Option (List ℕ) → Result (Option TapFields) RowsFault → Type 0
-IsNextRow left number new (Ok None) = left ≡ []
-IsNextRow left number new (Ok (Some tap)) = ¬ (left ≡ []) × IsRow (first_line left) tap × (new ≡ Some (drop_through 10 left))
-IsNextRow left number new (Err Head) = ⊥
-IsNextRow left number new (Err (Row at column)) = (at ≡ number) × ¬ (left ≡ []) × IsNoRow (first_line left) column
-IsNextRow left number new (Err Changed) = ⊥
-IsNextRow left number new (Err Unread) = Unit {0}
-IsNextRow left number new (Err Write) = Unit {0}
-IsNextRow left number new (Err NoMemory) = Unit {0}
-
--- why the head was not read
-abbrev pub IsHeadFault : List ℕ → RowsFault → Type 0
-IsHeadFault text Head = ¬ (first_line text ≡ head)
-IsHeadFault text (Row number column) = ⊥
-IsHeadFault text Changed = ⊥
-IsHeadFault text Unread = Unit {0}
-IsHeadFault text Write = ⊥
-IsHeadFault text NoMemory = Unit {0}
-
--- what was written behind the old bytes is an upload with no fault, of exactly these taps
-abbrev pub IsEncodedAs : List TapFields → Option (List ℕ) → Option (List ℕ) → Type 0
-IsEncodedAs taps old new = (file : List ℕ) × IsFileOf file taps × Appends old new file
-
--- why a batch was not written
-abbrev pub IsBatchFault : RowsFault → Type 0
-IsBatchFault Head = ⊥
-IsBatchFault (Row number column) = ⊥
-IsBatchFault Changed = ⊥
-IsBatchFault Unread = ⊥
-IsBatchFault Write = Unit {0}
-IsBatchFault NoMemory = Unit {0}

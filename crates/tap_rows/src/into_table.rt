@@ -54,7 +54,8 @@ fn fill(text: &mut Vec<u8>, batch: &Batch) -> Result<(), RowsFault>
 
 /// Writes the head line of a table.
 pub fn write_head<W: Write>(out: &mut W) -> Result<(), RowsFault>
-    ensures head { OnOk result (Appends (W.contents out.old) (W.contents out.new) (head ++ 10 ∷ [])) }
+    ensures head { OnOk result
+        (Appends (W.contents out.old) (W.contents out.new) (head ++ 10 ∷ [])) }
     ensures fault { IfErr result (λ fault. fault ≡ RowsFault.Write) }
 {
     put(out, b"token,validator,moment\n")
@@ -67,7 +68,8 @@ pub fn decode<W: Write>(
     file: &[u8],
     out: &mut W,
 ) -> Result<Option<(u64, LayoutFault)>, RowsFault>
-    ensures rows { IfOk result (λ fault. (text : List ℕ) × IsDecoded file.now text fault × Appends (W.contents out.old) (W.contents out.new) text) }
+    ensures rows { IfOk result (λ fault. (text : List ℕ) × IsDecoded file.now text fault
+        × Appends (W.contents out.old) (W.contents out.new) text) }
 {
     let mut text = Vec::new(alloc);
     for item in batches(file) {

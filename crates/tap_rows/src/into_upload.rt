@@ -1,9 +1,11 @@
 //! Tables of taps, written as uploads.
 
-ghost use Rattle.std.specs.Prelude.{◌≡◌, ◌<◌, ◌≤◌, ℕ, List, [], All, IfErr, IfOk, IfSome, IsSome, IsErrOf, OnOk, length};
+ghost use Rattle.std.specs.Prelude.{◌≡◌, ◌<◌, ◌≤◌, ℕ, List, [], All, IfErr, IfOk, IfSome, IsSome};
+ghost use Rattle.std.specs.Prelude.{IsErrOf, OnOk, length};
 ghost use Rattle.std.specs.Io.KnownBytes.{Appends};
 ghost use Rattle.tap_parts.specs.Parts.{IsFileOf};
-ghost use Rattle.tap_rows.specs.Tables.{IsBatchFault, IsEncoded, IsEncodedAs, IsOfTable, IsRefused};
+ghost use Rattle.tap_rows.specs.Tables.{IsEncoded, IsOfTable, IsRefused};
+ghost use Rattle.tap_rows.specs.inside.Tables.{IsBatchFault, IsEncodedAs};
 ghost use Rattle.tap_views.specs.Encoding.{AreEncodable};
 
 use crate::fault::RowsFault;
@@ -50,8 +52,11 @@ fn write_taps<R: BufRead, W: Write>(
     table: &mut R,
     out: &mut W,
 ) -> Result<u64, RowsFault>
-    ensures upload { IfOk result (λ count. IfSome (R.remaining table.old) (λ text. IsEncoded text (W.contents out.old) (W.contents out.new) count)) }
-    ensures refused { IfErr result (λ fault. IfSome (R.remaining table.old) (λ text. IsRefused text fault)) }
+    ensures upload { IfOk result
+        (λ count. IfSome (R.remaining table.old)
+        (λ text. IsEncoded text (W.contents out.old) (W.contents out.new) count)) }
+    ensures refused { IfErr result
+        (λ fault. IfSome (R.remaining table.old) (λ text. IsRefused text fault)) }
 {
     let mut line = Vec::new(alloc);
     let mut taps = Vec::with_capacity(alloc, BATCH_TAPS)?;
@@ -94,14 +99,22 @@ pub fn encode<R: BufRead, S: BufRead, W: Write>(
     again: &mut S,
     out: &mut W,
 ) -> Result<u64, RowsFault>
-    ensures upload { IfOk result (λ count. IfSome (S.remaining again.old) (λ text. IsEncoded text (W.contents out.old) (W.contents out.new) count)) }
-    ensures refused { IfErr result (λ fault. IsOfTable fault → IfSome (R.remaining table.old) (λ text. IsRefused text fault)) }
+    ensures upload { IfOk result
+        (λ count. IfSome (S.remaining again.old)
+        (λ text. IsEncoded text (W.contents out.old) (W.contents out.new) count)) }
+    ensures refused { IfErr result (λ fault. IsOfTable fault
+        → IfSome (R.remaining table.old) (λ text. IsRefused text fault)) }
     ensures nothing { IfErr result (λ fault. IsOfTable fault → out.new ≡ out.old) }
-    ensures same { IsErrOf result RowsFault.Changed → IsSome (R.remaining table.old) → R.remaining table.old ≡ S.remaining again.old → ⊥ }
+    ensures same { IsErrOf result RowsFault.Changed → IsSome (R.remaining table.old)
+        → R.remaining table.old ≡ S.remaining again.old → ⊥ }
 {
     let count = check(alloc, table)?;
     match write_taps(alloc, again, out) {
-        Ok(written) => if written == count { Ok(count) } else { Err(RowsFault::Changed) },
+        Ok(written) => if written == count {
+            Ok(count)
+        } else {
+            Err(RowsFault::Changed)
+        },
         Err(fault) => Err(when_read_again(fault)),
     }
 }

@@ -15,26 +15,32 @@ ghost use Rattle.upload_facts.specs.Facts.{IsReadAs};
 
 /// A line is the row of at most one tap, and then it is no bad row.
 pub fn one_row()
-    ensures tap { (line : List ℕ) (tap other : TapFields) → IsRow line tap → IsRow line other → tap ≡ other }
-    ensures good { (line : List ℕ) (tap : TapFields) (column : Column) → IsRow line tap → ¬ (IsNoRow line column) }
+    ensures tap { (line : List ℕ) (tap other : TapFields) → IsRow line tap → IsRow line other
+        → tap ≡ other }
+    ensures good { (line : List ℕ) (tap : TapFields) (column : Column) → IsRow line tap
+        → ¬ (IsNoRow line column) }
 {}
 
 /// A text is the table of at most one list of taps, and then it has no bad row.
 pub fn one_table()
-    ensures taps { (text : List ℕ) (taps others : List TapFields) → IsTable text taps → IsTable text others → taps ≡ others }
-    ensures good { (text : List ℕ) (taps : List TapFields) (number : ℕ) (column : Column) → IsTable text taps → ¬ (IsBadRow text number column) }
+    ensures taps { (text : List ℕ) (taps others : List TapFields) → IsTable text taps
+        → IsTable text others → taps ≡ others }
+    ensures good { (text : List ℕ) (taps : List TapFields) (number : ℕ) (column : Column)
+        → IsTable text taps → ¬ (IsBadRow text number column) }
 {}
 
 /// The table that is written of some taps is their table: encoded, it gives the same taps again.
 pub fn reads_back()
-    ensures { (taps : List TapFields) → AllByRecursion IsTapFields taps → IsTable (table_text taps) taps }
+    ensures { (taps : List TapFields) → AllByRecursion IsTapFields taps
+        → IsTable (table_text taps) taps }
 {}
 
 /// What an upload of some taps is read as, when it is decoded: these taps, in their order, and no
 /// layout fault.
 pub fn decodes_back(upload: &[u8])
-    ensures { (taps : List TapFields) (batches : List (List Tap)) (fault : Option (ℕ × LayoutFault)) → IsFileOf upload.now taps → IsReadAs upload.now batches fault
-        → (fields_in batches ≡ taps) × (fault ≡ None) }
+    ensures { (taps : List TapFields) (batches : List (List Tap)) (fault : Option (ℕ × LayoutFault))
+        → IsFileOf upload.now taps → IsReadAs upload.now batches fault → (fields_in batches ≡ taps)
+        × (fault ≡ None) }
 {
     tap_views::laws::one_cut(upload)
 }

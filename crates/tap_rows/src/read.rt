@@ -1,8 +1,11 @@
 //! The rows of a table, one after the other.
 
-ghost use Rattle.std.specs.Prelude.{◌≡◌, ◌⊎◌, ◌<◌, [], Some, IfErr, IfOk, IfSome, OnOk, if◌then◌else◌, length, true, false};
-ghost use Rattle.std.specs.Io.BufRead.{drop_through, ends_with_byte, first_line, strip_last, take_through};
-ghost use Rattle.tap_rows.specs.Tables.{head, IsHeadFault, IsNextRow, IsRefused, IsTableOf};
+ghost use Rattle.std.specs.Prelude.{◌≡◌, ◌⊎◌, ◌<◌, [], Some, IfErr, IfOk, IfSome, OnOk};
+ghost use Rattle.std.specs.Prelude.{if◌then◌else◌, length, true, false};
+ghost use Rattle.std.specs.Io.BufRead.{drop_through, ends_with_byte, first_line, strip_last};
+ghost use Rattle.std.specs.Io.BufRead.{take_through};
+ghost use Rattle.tap_rows.specs.Tables.{head, IsRefused, IsTableOf};
+ghost use Rattle.tap_rows.specs.inside.Tables.{IsHeadFault, IsNextRow};
 ghost use Rattle.tap_views.specs.Layout.{moment_limit};
 
 use crate::fault::RowsFault;
@@ -27,7 +30,8 @@ fn without_last(line: &[u8], byte: u8) -> &[u8]
 
 /// A line without its line feed, and without a carriage return before that.
 fn without_end(line: &[u8]) -> &[u8]
-    ensures { result.now ≡ (if ends_with_byte 10 line.now then strip_last 13 (strip_last 10 line.now) else strip_last 10 line.now) }
+    ensures { result.now ≡ (if ends_with_byte 10 line.now
+        then strip_last 13 (strip_last 10 line.now) else strip_last 10 line.now) }
 {
     if line.ends_with(b"\n") {
         without_last(without_last(line, b'\n'), b'\r')
@@ -36,12 +40,17 @@ fn without_end(line: &[u8]) -> &[u8]
     }
 }
 
-/// Reads the next line, with its line feed, in place of what `line` holds. False where there is none.
+/// Reads the next line, with its line feed, in place of what `line` holds. False where there is
+/// none.
 fn read_line<R: BufRead>(text: &mut R, line: &mut Vec<u8>) -> Result<bool, RowsFault>
-    ensures line { OnOk result (IfSome (R.remaining text.old) (λ left. (line.new.items ≡ take_through 10 left) × (R.remaining text.new ≡ Some (drop_through 10 left)))) }
-    ensures none { IfOk result (λ some. some ≡ false → IfSome (R.remaining text.old) (λ left. left ≡ [])) }
+    ensures line { OnOk result
+        (IfSome (R.remaining text.old) (λ left. (line.new.items ≡ take_through 10 left)
+        × (R.remaining text.new ≡ Some (drop_through 10 left)))) }
+    ensures none { IfOk result (λ some. some ≡ false
+        → IfSome (R.remaining text.old) (λ left. left ≡ [])) }
     ensures some { IfOk result (λ some. some ≡ true → 0 < length line.new.items) }
-    ensures fault { IfErr result (λ fault. (fault ≡ RowsFault.Unread) ⊎ (fault ≡ RowsFault.NoMemory)) }
+    ensures fault { IfErr result (λ fault. (fault ≡ RowsFault.Unread)
+        ⊎ (fault ≡ RowsFault.NoMemory)) }
 {
     line.clear();
     match text.read_until(b'\n', line) {
@@ -53,8 +62,11 @@ fn read_line<R: BufRead>(text: &mut R, line: &mut Vec<u8>) -> Result<bool, RowsF
 
 /// Reads the head line.
 pub(crate) fn read_head<R: BufRead>(text: &mut R, line: &mut Vec<u8>) -> Result<(), RowsFault>
-    ensures head { OnOk result (IfSome (R.remaining text.old) (λ left. (first_line left ≡ head) × (R.remaining text.new ≡ Some (drop_through 10 left)))) }
-    ensures fault { IfErr result (λ fault. IfSome (R.remaining text.old) (λ left. IsHeadFault left fault)) }
+    ensures head { OnOk result
+        (IfSome (R.remaining text.old) (λ left. (first_line left ≡ head)
+        × (R.remaining text.new ≡ Some (drop_through 10 left)))) }
+    ensures fault { IfErr result
+        (λ fault. IfSome (R.remaining text.old) (λ left. IsHeadFault left fault)) }
 {
     read_line(text, line)?;
     if without_end(line) == HEAD {
@@ -70,7 +82,8 @@ pub(crate) fn next_row<R: BufRead>(
     line: &mut Vec<u8>,
     number: u64,
 ) -> Result<Option<TapFields>, RowsFault>
-    ensures row { IfSome (R.remaining text.old) (λ left. IsNextRow left number (R.remaining text.new) result) }
+    ensures row { IfSome (R.remaining text.old)
+        (λ left. IsNextRow left number (R.remaining text.new) result) }
     ensures early { IfOk result (λ row. IfSome row (λ tap. tap.moment < moment_limit)) }
 {
     if !read_line(text, line)? {
@@ -84,8 +97,10 @@ pub(crate) fn next_row<R: BufRead>(
 
 /// The number of taps of a table.
 pub fn check<R: BufRead>(alloc: Global, table: &mut R) -> Result<u64, RowsFault>
-    ensures table { IfOk result (λ count. IfSome (R.remaining table.old) (λ text. IsTableOf text count)) }
-    ensures refused { IfErr result (λ fault. IfSome (R.remaining table.old) (λ text. IsRefused text fault)) }
+    ensures table { IfOk result
+        (λ count. IfSome (R.remaining table.old) (λ text. IsTableOf text count)) }
+    ensures refused { IfErr result
+        (λ fault. IfSome (R.remaining table.old) (λ text. IsRefused text fault)) }
 {
     let mut line = Vec::new(alloc);
     read_head(table, &mut line)?;

@@ -2,7 +2,8 @@
 
 ghost use Rattle.std.specs.Prelude.{◌≡◌, ◌<◌, ◌^◌, ◌++◌, ◌∷◌, ℕ, List, IfErr, IfOk, MatchOption};
 ghost use Rattle.std.specs.Str.Parse.{IsNumeral, digits_value};
-ghost use Rattle.tap_rows.specs.Rows.{HasNoComma, IsDecimal, IsMoment, IsNoRow, IsRow, IsToken, IsValidator};
+ghost use Rattle.tap_rows.specs.Rows.{HasNoComma, IsDecimal, IsMoment, IsNoRow, IsRow, IsToken};
+ghost use Rattle.tap_rows.specs.Rows.{IsValidator};
 
 use crate::column::Column;
 use tap_views::TapFields;
@@ -21,7 +22,8 @@ fn cut(line: &[u8]) -> Option<(&[u8], &[u8])>
 
 /// The 16 bytes that 32 hexadecimal digits spell.
 fn token_of(field: &[u8]) -> Option<[u8; 16]>
-    ensures { MatchOption result ((token : List ℕ) → ¬ (IsToken field.now token)) (λ token. IsToken field.now token) }
+    ensures { MatchOption result ((token : List ℕ)
+        → ¬ (IsToken field.now token)) (λ token. IsToken field.now token) }
 {
     let mut token = [0; 16];
     match hex::decode_to_slice(field, &mut token) {
@@ -32,7 +34,8 @@ fn token_of(field: &[u8]) -> Option<[u8; 16]>
 
 /// The number that decimal digits write, where it has 64 bits at most.
 fn number_of(field: &[u8]) -> Option<u64>
-    ensures { MatchOption result ((number : ℕ) → number < 2 ^ 64 → ¬ (IsDecimal field.now number)) (λ number. IsDecimal field.now number) }
+    ensures { MatchOption result ((number : ℕ) → number < 2 ^ 64
+        → ¬ (IsDecimal field.now number)) (λ number. IsDecimal field.now number) }
 {
     if field.starts_with(b"+") {
         return None;
@@ -45,7 +48,8 @@ fn number_of(field: &[u8]) -> Option<u64>
 
 /// The validator's number that a field writes.
 fn validator_of(field: &[u8]) -> Option<u32>
-    ensures { MatchOption result ((number : ℕ) → ¬ (IsValidator field.now number)) (λ number. IsValidator field.now number) }
+    ensures { MatchOption result ((number : ℕ)
+        → ¬ (IsValidator field.now number)) (λ number. IsValidator field.now number) }
 {
     let number = number_of(field)?;
     u32::try_from(number).ok()
@@ -53,7 +57,8 @@ fn validator_of(field: &[u8]) -> Option<u32>
 
 /// The moment that a field tells, in milliseconds since 1970-01-01T00:00Z.
 fn moment_of(field: &[u8]) -> Option<u64>
-    ensures { MatchOption result ((number : ℕ) → ¬ (IsMoment field.now number)) (λ number. IsMoment field.now number) }
+    ensures { MatchOption result ((number : ℕ)
+        → ¬ (IsMoment field.now number)) (λ number. IsMoment field.now number) }
 {
     let number = number_of(field)?;
     if number < MOMENT_LIMIT {

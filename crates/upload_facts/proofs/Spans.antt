@@ -26,6 +26,7 @@ least_of moments a x has = by_cases (min_cases a x)
   where
     min_cases : (a x : ℕ) → (min a x ≡ a) ⊎ (min a x ≡ x)
     min_cases a x = grind arith
+
     by_cases : (min a x ≡ a) ⊎ (min a x ≡ x) → Contains (moments ++ x ∷ []) (min a x)
     by_cases (inl e) = subst (λ y. Contains (moments ++ x ∷ []) y) (sym e) (Contains-append_left moments (x ∷ []) a has)
     by_cases (inr e) = subst (λ y. Contains (moments ++ x ∷ []) y) (sym e) (Contains-append_right moments (x ∷ []) x (last_one x))
@@ -35,6 +36,7 @@ greatest_of moments a x has = by_cases (max_cases a x)
   where
     max_cases : (a x : ℕ) → (max a x ≡ a) ⊎ (max a x ≡ x)
     max_cases a x = grind arith
+
     by_cases : (max a x ≡ a) ⊎ (max a x ≡ x) → Contains (moments ++ x ∷ []) (max a x)
     by_cases (inl e) = subst (λ y. Contains (moments ++ x ∷ []) y) (sym e) (Contains-append_left moments (x ∷ []) a has)
     by_cases (inr e) = subst (λ y. Contains (moments ++ x ∷ []) y) (sym e) (Contains-append_right moments (x ∷ []) x (last_one x))

@@ -1,5 +1,6 @@
 -- What an upload is read as, and what is told of it.
-use Rattle.std.specs.Prelude.{◌≡◌, ℕ, ◌+◌, ◌≤◌, List, [], ◌++◌, length, map, flat_map, Contains, Option, None, Some}
+use Rattle.std.specs.Prelude.{◌≡◌, ℕ, ◌+◌, ◌≤◌, List, [], ◌++◌, length, map, flat_map, Contains}
+use Rattle.std.specs.Prelude.{Option, None, Some}
 use Rattle.std.specs.List.{AllByRecursion}
 use Rattle.tap_views.specs.Layout.{Tap, num}
 use Rattle.tap_views.specs.Faults.{IsFault}
@@ -20,7 +21,8 @@ IsEnd upload rest None = rest ≡ []
 IsEnd upload rest (Some (offset, fault)) = IsFaultAt upload rest offset fault
 
 -- the upload is these batches, one after the other, and then ends so
-pub record IsReadAs (upload : List ℕ) (batches : List (List Tap)) (fault : Option (ℕ × LayoutFault)) : Type 0 where
+pub record IsReadAs (upload : List ℕ) (batches : List (List Tap)) (fault : Option (ℕ × LayoutFault))
+    : Type 0 where
   pub rest : List ℕ
   pub is_file : IsFile upload batches rest
   pub is_end : IsEnd upload rest fault
@@ -37,10 +39,13 @@ moment_of tap = num tap.moment
 abbrev pub IsWithin : Span → ℕ → Type 0
 IsWithin span moment = (span.first ≤ moment) × (moment ≤ span.last)
 
--- the span of these moments: from one of them to one of them, and all lie within; none of no moments
+-- the span of these moments: from one of them to one of them, and all lie within; none of no
+-- moments
 abbrev pub IsSpan : List ℕ → Option Span → Type 0
 IsSpan moments None = moments ≡ []
-IsSpan moments (Some span) = Contains moments span.first × Contains moments span.last × AllByRecursion (IsWithin span) moments
+IsSpan moments (Some span) =
+    Contains moments span.first × Contains moments span.last
+    × AllByRecursion (IsWithin span) moments
 
 -- the facts are those of the upload
 pub record AreFacts (upload : List ℕ) (facts : Facts) : Type 0 where
@@ -50,7 +55,8 @@ pub record AreFacts (upload : List ℕ) (facts : Facts) : Type 0 where
   pub tap_number : facts.taps ≡ length (taps_of read_batches)
   pub moments : IsSpan (map moment_of (taps_of read_batches)) facts.span
 
--- the upload begins with these bytes, which are its batches without a fault, and what follows begins with no batch
+-- the upload begins with these bytes, which are its batches without a fault, and what follows
+-- begins with no batch
 pub record IsGoodPart (upload front : List ℕ) : Type 0 where
   pub batches : List (List Tap)
   pub rest : List ℕ

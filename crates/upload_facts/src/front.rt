@@ -4,8 +4,8 @@ ghost use Rattle.upload_facts.specs.Facts.{IsGoodPart};
 
 use tap_views::batches;
 
-/// The bytes before the upload's first layout fault: an upload without a fault. All bytes where there
-/// is none.
+/// The bytes before the upload's first layout fault: an upload without a fault. All bytes where
+/// there is none.
 pub fn good_part(upload: &[u8]) -> &[u8]
     ensures { IsGoodPart upload.now result.now }
 {

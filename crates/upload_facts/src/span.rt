@@ -32,7 +32,8 @@ pub(crate) fn widened(span: Option<Span>, moment: u64) -> Option<Span>
 
 /// The span of the moments of a batch more.
 pub(crate) fn over_batch(span: Option<Span>, batch: &Batch) -> Option<Span>
-    ensures { (moments : List ℕ) → IsSpan moments span → IsSpan (moments ++ map moment_of batch.now) result }
+    ensures { (moments : List ℕ) → IsSpan moments span
+        → IsSpan (moments ++ map moment_of batch.now) result }
 {
     let mut wide = span;
     for tap in batch.taps() {

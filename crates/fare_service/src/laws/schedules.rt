@@ -1,6 +1,7 @@
 //! Schedule independence: what was gathered against the plain history of the uploads.
 
-ghost use Rattle.std.specs.Prelude.{◌≡◌, ◌↔◌, ℕ, ◌<◌, List, All, Decides, Some, flat_map, map, length, slice_get};
+ghost use Rattle.std.specs.Prelude.{◌≡◌, ◌↔◌, ℕ, ◌<◌, List, All, Decides, Some, flat_map, map};
+ghost use Rattle.std.specs.Prelude.{length, slice_get};
 ghost use Rattle.fare_table.specs.Fares.{Fares};
 ghost use Rattle.tap_views.specs.Layout.{Tap};
 ghost use Rattle.tap_views.specs.Shards.{shard_of_token};
@@ -12,7 +13,9 @@ ghost use Rattle.shard_book.specs.History.{IsLegal};
 ghost use Rattle.shard_book.specs.Token.{bytes_of};
 ghost use Rattle.shard_book.specs.Visits.{AreEntriesOf};
 ghost use Rattle.fare_service.specs.Headline.{Headline};
-ghost use Rattle.fare_service.specs.Plain.{ArePlainEnds, AreTapsOf, HasOneCut, IsNamed, IsPlain, IsReportOver, IsStatementOver, IsWholeGathering, WasWhole};
+ghost use Rattle.fare_service.specs.Plain.{ArePlainEnds, AreTapsOf, HasOneCut, IsNamed, IsPlain};
+ghost use Rattle.fare_service.specs.Plain.{IsReportOver, IsStatementOver, IsWholeGathering};
+ghost use Rattle.fare_service.specs.Plain.{WasWhole};
 ghost use Rattle.fare_service.specs.Printed.{IsStatementOf, report_of};
 ghost use Rattle.fare_service.specs.Shares.{Worked};
 
@@ -21,10 +24,13 @@ use crate::upload_end::UploadEnd;
 use shard_book::laws::rising;
 use tap_views::laws::one_cut;
 
-/// The tokens of an outcome's books are those that their bytes name, and are of their book's shard. Reads no entry.
+/// The tokens of an outcome's books are those that their bytes name, and are of their book's shard.
+/// Reads no entry.
 pub fn names(outcome: &Outcome)
-    ensures named { (shard : ℕ) (book : Book) → slice_get outcome.now.books shard ≡ Some book → All IsNamed book.entries }
-    ensures here { (shard : ℕ) (book : Book) → slice_get outcome.now.books shard ≡ Some book → AreOfShard book.shard book.shards book.entries }
+    ensures named { (shard : ℕ) (book : Book) → slice_get outcome.now.books shard ≡ Some book
+        → All IsNamed book.entries }
+    ensures here { (shard : ℕ) (book : Book) → slice_get outcome.now.books shard ≡ Some book
+        → AreOfShard book.shard book.shards book.entries }
 {
     for shard in 0..outcome.shards() {
         // proof: the length of a book says what holds of its entries' tokens
@@ -48,13 +54,18 @@ fn taps_of(file: &[u8])
     let _ = tap_views::batches(file);
 }
 
-/// Uploads have exactly one plain history under a table. It is legal, and its entries have the fields of the uploads' taps, in their order.
+/// Uploads have exactly one plain history under a table. It is legal, and its entries have the
+/// fields of the uploads' taps, in their order.
 pub fn plain_history(uploads: &[Vec<u8>])
-    ensures some { (fares : Fares) → (history : List Entry) × IsPlain fares (map (λ upload. upload.items) uploads.now) history }
-    ensures one { (fares : Fares) (history other : List Entry) → IsPlain fares (map (λ upload. upload.items) uploads.now) history
+    ensures some { (fares : Fares) → (history : List Entry)
+        × IsPlain fares (map (λ upload. upload.items) uploads.now) history }
+    ensures one { (fares : Fares) (history other : List Entry)
+        → IsPlain fares (map (λ upload. upload.items) uploads.now) history
         → IsPlain fares (map (λ upload. upload.items) uploads.now) other → history ≡ other }
-    ensures legal { (fares : Fares) (history : List Entry) → IsPlain fares (map (λ upload. upload.items) uploads.now) history → IsLegal fares history }
-    ensures fields { (fares : Fares) (history : List Entry) (plain : IsPlain fares (map (λ upload. upload.items) uploads.now) history)
+    ensures legal { (fares : Fares) (history : List Entry)
+        → IsPlain fares (map (λ upload. upload.items) uploads.now) history → IsLegal fares history }
+    ensures fields { (fares : Fares) (history : List Entry)
+        (plain : IsPlain fares (map (λ upload. upload.items) uploads.now) history)
         → AreEntriesOf (flat_map (λ upload. upload) plain.taps) history }
 {
     for upload in uploads {
@@ -63,14 +74,21 @@ pub fn plain_history(uploads: &[Vec<u8>])
     cuts(uploads);
 }
 
-/// Where no upload was cut or left undrawn and no token has taps in two uploads, the entries of each token are those of the plain history
-/// of the uploads, and so is the text of its statement: for every schedule, number of workers and number of shards.
+/// Where no upload was cut or left undrawn and no token has taps in two uploads, the entries of
+/// each token are those of the plain history of the uploads, and so is the text of its statement:
+/// for every schedule, number of workers and number of shards.
 pub fn statements(uploads: &[Vec<u8>], outcome: &Outcome)
-    ensures entries { (fares : Fares) (shards : ℕ) (history : List Entry) → IsWholeGathering fares shards (map (λ upload. upload.items) uploads.now) outcome.now history
-        → (token : Token) (book : Book) → slice_get outcome.now.books (shard_of_token (bytes_of token) (length outcome.now.books)) ≡ Some book
-        → own token book.entries ≡ own token history }
-    ensures texts { (fares : Fares) (shards : ℕ) (history : List Entry) → IsWholeGathering fares shards (map (λ upload. upload.items) uploads.now) outcome.now history
-        → (token : Token) (text : List ℕ) → IsStatementOf outcome.now token text ↔ IsStatementOver fares history token text }
+    ensures entries { (fares : Fares) (shards : ℕ) (history : List Entry)
+        → IsWholeGathering fares shards
+        (map (λ upload. upload.items) uploads.now) outcome.now history
+        → (token : Token) (book : Book)
+        → slice_get outcome.now.books (shard_of_token (bytes_of token) (length outcome.now.books))
+        ≡ Some book → own token book.entries ≡ own token history }
+    ensures texts { (fares : Fares) (shards : ℕ) (history : List Entry)
+        → IsWholeGathering fares shards
+        (map (λ upload. upload.items) uploads.now) outcome.now history
+        → (token : Token) (text : List ℕ) → IsStatementOf outcome.now token text
+        ↔ IsStatementOver fares history token text }
 {
     let _ = outcome.shards();
     names(outcome);
@@ -79,16 +97,20 @@ pub fn statements(uploads: &[Vec<u8>], outcome: &Outcome)
 
 /// Where no upload was cut or left undrawn, each ends as its bytes call for.
 pub fn ends(outcome: &Outcome)
-    ensures { (fares : Fares) (shards : ℕ) (uploads : List (List ℕ)) (works : List (List Worked)) → Headline fares shards uploads works outcome.now
-        → All WasWhole outcome.now.ends → ArePlainEnds uploads outcome.now.ends }
+    ensures { (fares : Fares) (shards : ℕ) (uploads : List (List ℕ)) (works : List (List Worked))
+        → Headline fares shards uploads works outcome.now → All WasWhole outcome.now.ends
+        → ArePlainEnds uploads outcome.now.ends }
 {
     let _ = outcome.shards();
 }
 
-/// Where no upload was cut or left undrawn and no token has taps in two uploads, the report is that of the plain history of the uploads,
-/// each upload posted or refused as its bytes call for: for every schedule, number of workers and number of shards.
+/// Where no upload was cut or left undrawn and no token has taps in two uploads, the report is that
+/// of the plain history of the uploads, each upload posted or refused as its bytes call for: for
+/// every schedule, number of workers and number of shards.
 pub fn report(uploads: &[Vec<u8>], outcome: &Outcome)
-    ensures { (fares : Fares) (shards : ℕ) (history : List Entry) → IsWholeGathering fares shards (map (λ upload. upload.items) uploads.now) outcome.now history
+    ensures { (fares : Fares) (shards : ℕ) (history : List Entry)
+        → IsWholeGathering fares shards
+        (map (λ upload. upload.items) uploads.now) outcome.now history
         → IsReportOver (map (λ upload. upload.items) uploads.now) history (report_of outcome.now) }
 {
     let _ = outcome.shards();
@@ -97,16 +119,19 @@ pub fn report(uploads: &[Vec<u8>], outcome: &Outcome)
     rising();
 }
 
-/// Two outcomes over the same uploads and under one table have the same report and the same text of each statement, where no upload was cut
-/// or left undrawn and no token has taps in two uploads: whatever their schedules, workers and shards were.
+/// Two outcomes over the same uploads and under one table have the same report and the same text of
+/// each statement, where no upload was cut or left undrawn and no token has taps in two uploads:
+/// whatever their schedules, workers and shards were.
 pub fn same_texts(uploads: &[Vec<u8>], one: &Outcome, other: &Outcome)
     ensures report { (fares : Fares) (shards others : ℕ) (history again : List Entry)
         → IsWholeGathering fares shards (map (λ upload. upload.items) uploads.now) one.now history
-        → IsWholeGathering fares others (map (λ upload. upload.items) uploads.now) other.now again → report_of one.now ≡ report_of other.now }
+        → IsWholeGathering fares others (map (λ upload. upload.items) uploads.now) other.now again
+        → report_of one.now ≡ report_of other.now }
     ensures statements { (fares : Fares) (shards others : ℕ) (history again : List Entry)
         → IsWholeGathering fares shards (map (λ upload. upload.items) uploads.now) one.now history
         → IsWholeGathering fares others (map (λ upload. upload.items) uploads.now) other.now again
-        → (token : Token) (text : List ℕ) → IsStatementOf one.now token text ↔ IsStatementOf other.now token text }
+        → (token : Token) (text : List ℕ) → IsStatementOf one.now token text
+        ↔ IsStatementOf other.now token text }
 {
     plain_history(uploads);
     cuts(uploads);

@@ -4,8 +4,8 @@ use Rattle.std.proofs.lemmas.List.{length-map, map-append}
 use Rattle.std.specs.Vec.Iter.{into_iter_items}
 use Rattle.shard_book.specs.Book.{Book}
 use Rattle.shared_books.specs.declared.turns.rule.Mark.{Mark}
-use Rattle.shared_books.specs.Passes.{Knowledge}
-use Rattle.fare_service.specs.Closing.{AreClosed, IsClosedBy}
+use Rattle.shared_books.specs.Passes.{PassView}
+use Rattle.fare_service.specs.inside.Closing.{AreClosed, IsClosedBy}
 use Rattle.fare_service.specs.Shares.{marks_at, own_visits}
 use Rattle.fare_service.proofs.PlaceLemmas.{place_more}
 use Rattle.fare_service.proofs.Signing.{made_own}
@@ -18,7 +18,7 @@ returns-in-Err-clause-missing c =
     let p = c.loop-book.invariant.passes in
     let rest = into_iter_items c.next-in-loop-book.new.self in
     let all : p.0 ++ c.in-Some-next.pass ∷ rest ≡ c.args.passes.items = ap (λ ps. p.0 ++ ps) (sym c.in-Some-next.ensures.items) ∙ p.1 in
-    let place : length p.0 ≡ c.loop-book.shard = omega (arith, ap length p.2, length-map p.0 (λ (k : Knowledge). k.book), c.loop-book.invariant.shard) in
+    let place : length p.0 ≡ c.loop-book.shard = omega (arith, ap length p.2, length-map p.0 (λ (k : PassView). k.book), c.loop-book.invariant.shard) in
     let marks : marks_at c.loop-book.shard c.args.passes.items ≡ c.in-Some-next.pass.marks =
     ap (λ s. marks_at s c.args.passes.items) (sym place) ∙ ap (marks_at (length p.0)) (sym all) ∙ marks_mid p.0 c.in-Some-next.pass rest in
     let missing = c.in-Err.ensures.err in (
@@ -32,7 +32,7 @@ returns-in-Err-clause-first c =
     let p = c.loop-book.invariant.passes in
     let rest = into_iter_items c.next-in-loop-book.new.self in
     let all : p.0 ++ c.in-Some-next.pass ∷ rest ≡ c.args.passes.items = ap (λ ps. p.0 ++ ps) (sym c.in-Some-next.ensures.items) ∙ p.1 in
-    let place : length p.0 ≡ c.loop-book.shard = omega (arith, ap length p.2, length-map p.0 (λ (k : Knowledge). k.book), c.loop-book.invariant.shard) in
+    let place : length p.0 ≡ c.loop-book.shard = omega (arith, ap length p.2, length-map p.0 (λ (k : PassView). k.book), c.loop-book.invariant.shard) in
     let marks : marks_at c.loop-book.shard c.args.passes.items ≡ c.in-Some-next.pass.marks =
     ap (λ s. marks_at s c.args.passes.items) (sym place) ∙ ap (marks_at (length p.0)) (sym all) ∙ marks_mid p.0 c.in-Some-next.pass rest in
     let missing = c.in-Err.ensures.err in (
@@ -49,8 +49,8 @@ loop-book-preserved c =
     let all : p.0 ++ c.in-Some-next.pass ∷ rest ≡ c.args.passes.items = ap (λ ps. p.0 ++ ps) (sym c.in-Some-next.ensures.items) ∙ p.1 in
     let books : c.loop-book.yielded ++ c.in-Some.book ∷ into_iter_items c.next.new.self ≡ c.args.books.items = ap (λ bs. c.loop-book.yielded ++ bs) (sym steps.0) ∙ c.loop-book.invariant.left in
     let own = next_book p.0 rest c.in-Some-next.pass c.args.passes.items c.loop-book.yielded (into_iter_items c.next.new.self) c.in-Some.book c.args.books.items all c.requires.own p.2 books in
-    let place : length p.0 ≡ length c.loop-book.closed.items = omega (arith, ap length p.2, length-map p.0 (λ (k : Knowledge). k.book), c.loop-book.invariant.number) in
-    let A : List Knowledge → Type 0 = λ ps. slice_get ps (length c.loop-book.closed.items) ≡ Some c.in-Some-next.pass in
+    let place : length p.0 ≡ length c.loop-book.closed.items = omega (arith, ap length p.2, length-map p.0 (λ (k : PassView). k.book), c.loop-book.invariant.number) in
+    let A : List PassView → Type 0 = λ ps. slice_get ps (length c.loop-book.closed.items) ≡ Some c.in-Some-next.pass in
     let N : ℕ → Type 0 = λ n. slice_get (p.0 ++ c.in-Some-next.pass ∷ rest) n ≡ Some c.in-Some-next.pass in
     let here : IsClosedBy c.args.passes.items (length c.loop-book.closed.items) c.in-Ok.book =
     record { pass = c.in-Some-next.pass; at = subst A all (subst N place (at_end p.0 c.in-Some-next.pass rest)); all = c.in-Ok.ensures.ok; legal = c.len-entries.ensures.legal; limits = record { windows = c.windows.ensures } } in
@@ -63,7 +63,7 @@ loop-book-preserved c =
       passes = (
         p.0 ++ c.in-Some-next.pass ∷ [],
         append_assoc p.0 (c.in-Some-next.pass ∷ []) rest ∙ all,
-        map-append (λ (k : Knowledge). k.book) p.0 (c.in-Some-next.pass ∷ []) ∙ (ap (λ ys. ys ++ c.in-Some-next.pass.book ∷ []) p.2 ∙ ap (λ b. c.loop-book.yielded ++ b ∷ []) own),
+        map-append (λ (k : PassView). k.book) p.0 (c.in-Some-next.pass ∷ []) ∙ (ap (λ ys. ys ++ c.in-Some-next.pass.book ∷ []) p.2 ∙ ap (λ b. c.loop-book.yielded ++ b ∷ []) own),
       );
       passes_len = omega (arith, c.in-Some-next.ensures.len, c.loop-book.invariant.passes_len, ap length c.in-Some-next.ensures.items);
       shard = omega (arith, c.loop-book.invariant.shard, length-append c.loop-book.yielded (c.in-Some.book ∷ []));

@@ -1,6 +1,6 @@
 use Rattle.std.proofs.Common.{◌≡◌, ◌≤◌, ◌++◌, length, vec_capacity}
 use Rattle.std.specs.Vec.Iter.{into_iter_items, into_iter_len}
-use Rattle.fare_service.specs.Closing.{AreUnseen}
+use Rattle.fare_service.specs.inside.Closing.{AreUnseen}
 use Rattle.fare_service.proofs.gathering.close_unseen.Given as goal
 
 abbrev pub invariant-loop-book : goal.invariant-loop-book

@@ -1,10 +1,11 @@
 use Rattle.std.proofs.Common.{◌+◌, List, ◌∷◌, length, sym, ◌∙◌, subst, arith}
 use Rattle.std.specs.Prelude.{Result, IfErr}
 use Rattle.std.specs.Vec.{vec_len}
-use Rattle.shared_books.specs.Passes.{Opened}
+use Rattle.shared_books.specs.Passes.{SharedBookView}
 use Rattle.fare_service.specs.declared.faults.GatherFault.{GatherFault}
-use Rattle.fare_service.specs.Closing.{IsClosedWork, IsFirst}
-use Rattle.fare_service.specs.Joining.{IsJoinedOf}
+use Rattle.fare_service.specs.Closing.{IsFirst}
+use Rattle.fare_service.specs.inside.Closing.{IsClosedWork}
+use Rattle.fare_service.specs.inside.Joining.{IsJoinedOf}
 use Rattle.fare_service.proofs.CloseLemmas.{split_first, closed_none, closed_all, held_drawn, joined_whole, any_ok, no_shares, some_shares, none_there, first_missing, first_unseen, first_drawn, first_undrawn}
 use Rattle.fare_service.proofs.gathering.close_with.Goals as goal
 use Rattle.fare_service.proofs.gathering.close_with.Goals.{in-Ok, in-Err-finish_unseen}
@@ -20,7 +21,7 @@ returns-in-Ok-finish-clause-ok c =
     let ok = c.in_default-close_all.ensures in
     let done = (c.in-Ok-finish.ensures).ok in
     let split = split_first c.args.shares.items c.remove-first.result c.remove-first.new.self.items (omega (arith, c.args.shares.ok.0, some_shares c.is_empty.result (vec_len c.args.shares) c.is_empty.ensures c.if-is_empty.false)) c.remove-first.ensures.value c.remove-first.ensures.items in
-    let B : List Opened → Type 0 = λ bs. IsJoinedOf c.args.draw bs (length c.remove-first.new.self.items + 1) (c.remove-first.result ∷ c.remove-first.new.self.items) c.join_shares-drawer.result.0 c.join_shares-drawer.result.1.items in
+    let B : List SharedBookView → Type 0 = λ bs. IsJoinedOf c.args.draw bs (length c.remove-first.new.self.items + 1) (c.remove-first.result ∷ c.remove-first.new.self.items) c.join_shares-drawer.result.0 c.join_shares-drawer.result.1.items in
     let all = joined_whole c.args.draw c.args.books.items c.args.shares.items c.remove-first.result c.remove-first.new.self.items c.join_shares-drawer.result.0 c.join_shares-drawer.result.1.items split (subst B c.as_slice.ensures.value c.join_shares-drawer.ensures) in
     closed_all c.args.draw c.args.books.items c.args.shares.items c.join_shares-drawer.result.0 c.join_shares-drawer.result.1.items c.close_all.new.closed.items c.in-Ok-finish.field-0
     all ok.ok ok.number done.0 done.2
@@ -29,7 +30,7 @@ pub returns-in-Err-finish-clause-fault : goal.returns-in-Err-finish-clause-fault
 returns-in-Err-finish-clause-fault c =
     let missing = (c.in-Err-finish.ensures).err in
     let split = split_first c.args.shares.items c.remove-first.result c.remove-first.new.self.items (omega (arith, c.args.shares.ok.0, some_shares c.is_empty.result (vec_len c.args.shares) c.is_empty.ensures c.if-is_empty.false)) c.remove-first.ensures.value c.remove-first.ensures.items in
-    let B : List Opened → Type 0 = λ bs. IsJoinedOf c.args.draw bs (length c.remove-first.new.self.items + 1) (c.remove-first.result ∷ c.remove-first.new.self.items) c.join_shares-drawer.result.0 c.join_shares-drawer.result.1.items in
+    let B : List SharedBookView → Type 0 = λ bs. IsJoinedOf c.args.draw bs (length c.remove-first.new.self.items + 1) (c.remove-first.result ∷ c.remove-first.new.self.items) c.join_shares-drawer.result.0 c.join_shares-drawer.result.1.items in
     let all = joined_whole c.args.draw c.args.books.items c.args.shares.items c.remove-first.result c.remove-first.new.self.items c.join_shares-drawer.result.0 c.join_shares-drawer.result.1.items split (subst B c.as_slice.ensures.value c.join_shares-drawer.ensures) in
     (missing.0 ∙ held_drawn c.args.draw c.args.books.items (length c.args.shares.items) c.args.shares.items c.join_shares-drawer.result.0 c.join_shares-drawer.result.1.items all, missing.1)
 
@@ -53,7 +54,7 @@ returns-then-is_empty-clause-first c =
 pub returns-in-Err-close_all-clause-first : goal.returns-in-Err-close_all-clause-first
 returns-in-Err-close_all-clause-first c =
     let split = split_first c.args.shares.items c.remove-first.result c.remove-first.new.self.items (omega (arith, c.args.shares.ok.0, some_shares c.is_empty.result (vec_len c.args.shares) c.is_empty.ensures c.if-is_empty.false)) c.remove-first.ensures.value c.remove-first.ensures.items in
-    let B : List Opened → Type 0 = λ bs. IsJoinedOf c.args.draw bs (length c.remove-first.new.self.items + 1) (c.remove-first.result ∷ c.remove-first.new.self.items) c.join_shares-drawer.result.0 c.join_shares-drawer.result.1.items in
+    let B : List SharedBookView → Type 0 = λ bs. IsJoinedOf c.args.draw bs (length c.remove-first.new.self.items + 1) (c.remove-first.result ∷ c.remove-first.new.self.items) c.join_shares-drawer.result.0 c.join_shares-drawer.result.1.items in
     let all = joined_whole c.args.draw c.args.books.items c.args.shares.items c.remove-first.result c.remove-first.new.self.items c.join_shares-drawer.result.0 c.join_shares-drawer.result.1.items split (subst B c.as_slice.ensures.value c.join_shares-drawer.ensures) in
     first_missing c.args.draw c.args.books.items c.args.draw.numbers c.args.shares.items c.join_shares-drawer.result.0 c.join_shares-drawer.result.1.items c.close_all.new.closed.items c.in-Err-close_all.fault
     all c.in-Err-close_all.ensures.first
@@ -63,7 +64,7 @@ returns-in-Err-finish-clause-first c =
     let missing = (c.in-Err-finish.ensures).err in
     let ok = c.in_default-close_all.ensures in
     let split = split_first c.args.shares.items c.remove-first.result c.remove-first.new.self.items (omega (arith, c.args.shares.ok.0, some_shares c.is_empty.result (vec_len c.args.shares) c.is_empty.ensures c.if-is_empty.false)) c.remove-first.ensures.value c.remove-first.ensures.items in
-    let B : List Opened → Type 0 = λ bs. IsJoinedOf c.args.draw bs (length c.remove-first.new.self.items + 1) (c.remove-first.result ∷ c.remove-first.new.self.items) c.join_shares-drawer.result.0 c.join_shares-drawer.result.1.items in
+    let B : List SharedBookView → Type 0 = λ bs. IsJoinedOf c.args.draw bs (length c.remove-first.new.self.items + 1) (c.remove-first.result ∷ c.remove-first.new.self.items) c.join_shares-drawer.result.0 c.join_shares-drawer.result.1.items in
     let all = joined_whole c.args.draw c.args.books.items c.args.shares.items c.remove-first.result c.remove-first.new.self.items c.join_shares-drawer.result.0 c.join_shares-drawer.result.1.items split (subst B c.as_slice.ensures.value c.join_shares-drawer.ensures) in
     first_drawn c.args.draw c.args.books.items c.args.shares.items c.join_shares-drawer.result.0 c.join_shares-drawer.result.1.items c.close_all.new.closed.items c.in-Err-finish.missing.held c.in-Err-finish.missing.drawn
     all ok.ok ok.number missing.2

@@ -1,6 +1,6 @@
 use Rattle.std.proofs.Common.{◌≡◌, length, drop, replicate}
 use Rattle.fare_service.specs.declared.upload_end.UploadEnd.TheVariants.{Undrawn}
-use Rattle.fare_service.specs.Joining.{told_all}
+use Rattle.fare_service.specs.inside.Joining.{told_all}
 use Rattle.fare_service.proofs.gathering.ends_of.Given as goal
 
 abbrev pub invariant-loop-share : goal.invariant-loop-share

@@ -2,7 +2,7 @@ use Rattle.std.proofs.Common.{◌<◌, ◌∷◌, [], ◌++◌, length, refl, sy
 use Rattle.std.proofs.lemmas.List.{length-map}
 use Rattle.std.proofs.Math.Seq.{map-set_same}
 use Rattle.std.specs.Vec.Iter.{into_iter_items}
-use Rattle.shared_books.specs.Passes.{Knowledge}
+use Rattle.shared_books.specs.Passes.{PassView}
 use Rattle.fare_service.specs.Shares.{marks_at}
 use Rattle.fare_service.proofs.Signing.{joined_none}
 use Rattle.fare_service.proofs.JoinLemmas.{join_step}
@@ -32,9 +32,9 @@ loop-pass-preserved c =
       length-append c.loop-pass.yielded (into_iter_items c.loop-pass.pass-iterator),
       ap length steps.0,
       ap length c.loop-pass.invariant.books,
-      length-map c.loop-pass.into.items (λ (p : Knowledge). p.book),
+      length-map c.loop-pass.into.items (λ (p : PassView). p.book),
       ap length c.requires.other,
-      length-map c.args.other.items (λ (p : Knowledge). p.book),
+      length-map c.args.other.items (λ (p : PassView). p.book),
     ) in
     record {
       may = tt;

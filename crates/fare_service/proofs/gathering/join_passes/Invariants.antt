@@ -1,6 +1,6 @@
 use Rattle.std.proofs.Common.{◌≡◌, ◌++◌, ℕ, length}
 use Rattle.std.specs.Vec.Iter.{into_iter_items, into_iter_len}
-use Rattle.fare_service.specs.Joining.{AreJoinedAt}
+use Rattle.fare_service.specs.inside.Joining.{AreJoinedAt}
 use Rattle.fare_service.specs.Shares.{books_of}
 use Rattle.fare_service.proofs.gathering.join_passes.Given as goal
 

@@ -1,6 +1,6 @@
 use Rattle.std.proofs.Common.{◌≡◌, ◌+◌, ◌++◌, ◌∷◌, length}
 use Rattle.std.specs.Vec.Iter.{into_iter_items, into_iter_len}
-use Rattle.fare_service.specs.Joining.{IsJoinedOf}
+use Rattle.fare_service.specs.inside.Joining.{IsJoinedOf}
 use Rattle.fare_service.proofs.gathering.join_shares.Given as goal
 
 abbrev pub invariant-loop-share : goal.invariant-loop-share

@@ -1,5 +1,5 @@
 use Rattle.std.proofs.Common.{◌≡◌, length, drop}
-use Rattle.fare_service.specs.Joining.{told}
+use Rattle.fare_service.specs.inside.Joining.{told}
 use Rattle.fare_service.proofs.gathering.mark_ends.Given as goal
 
 abbrev pub invariant-loop-one : goal.invariant-loop-one

@@ -1,7 +1,7 @@
 use Rattle.std.proofs.Common.{List, [], ◌∷◌, ◌++◌, length, map, sym, ◌∙◌, ap, subst, arith, length-append}
 use Rattle.std.proofs.lemmas.List.{map-append}
-use Rattle.shared_books.specs.Passes.{Opened, new_pass}
-use Rattle.fare_service.specs.Halls.{IsBookOf, AreOpened}
+use Rattle.shared_books.specs.Passes.{SharedBookView, new_pass}
+use Rattle.fare_service.specs.inside.ServiceView.{IsBookOf, AreOpened}
 use Rattle.fare_service.proofs.PlaceLemmas.{place_more}
 use Rattle.fare_service.proofs.opening.open_books.Goals as goal
 
@@ -15,7 +15,7 @@ loop-shard-preserved c =
     let shard = opened.shard ∙ (ap (λ b. b.shard) handed ∙ sym c.loop-shard.invariant.number) in
     let here : IsBookOf c.args.table.now (length c.loop-shard.books.items) c.args.shards c.in_ok-shared.shared =
     record { from_zero = opened.first_is; its_table = table; its_shard = shard; of_shards = opened.shards ∙ ap (λ b. b.shards) handed } in
-    let P : List Opened → Type 0 = AreOpened c.args.table.now c.args.shards in
+    let P : List SharedBookView → Type 0 = AreOpened c.args.table.now c.args.shards in
     record {
       books = subst P (sym books) (place_more (λ i b. IsBookOf c.args.table.now i c.args.shards b) c.loop-shard.books.items c.in_ok-shared.shared c.loop-shard.invariant.books here);
       number = omega (arith, ap length books, length-append c.loop-shard.books.items (c.in_ok-shared.shared ∷ []), c.loop-shard.invariant.number);

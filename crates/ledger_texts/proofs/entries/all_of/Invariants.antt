@@ -1,6 +1,6 @@
 use Rattle.std.proofs.Common.{◌≡◌, take}
 use Rattle.shard_book.specs.Groups.{all_entries}
-use Rattle.ledger_texts.specs.Lines.{seen}
+use Rattle.ledger_texts.specs.inside.Lines.{seen}
 use Rattle.ledger_texts.proofs.entries.all_of.Given as goal
 
 abbrev pub invariant-loop-book : goal.invariant-loop-book

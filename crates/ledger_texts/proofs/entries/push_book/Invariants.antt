@@ -1,5 +1,5 @@
 use Rattle.std.proofs.Common.{◌≡◌, ◌++◌, take}
-use Rattle.ledger_texts.specs.Lines.{seen}
+use Rattle.ledger_texts.specs.inside.Lines.{seen}
 use Rattle.ledger_texts.proofs.entries.push_book.Given as goal
 
 abbrev pub invariant-loop-place : goal.invariant-loop-place

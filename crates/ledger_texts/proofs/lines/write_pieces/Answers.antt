@@ -3,7 +3,7 @@ use Rattle.std.specs.Io.KnownBytes.{append_known}
 use Rattle.std.proofs.KnownBytes.{Appends-kept, Appends-nil}
 use Rattle.shard_book.specs.declared.entry.Entry.{Entry}
 use Rattle.shard_book.specs.declared.token.Token.{Token}
-use Rattle.ledger_texts.specs.Lines.{AreLinesAlong, HasCome, RiseFrom, seen}
+use Rattle.ledger_texts.specs.inside.Lines.{AreLinesAlong, HasCome, RiseFrom, seen}
 use Rattle.ledger_texts.proofs.Writing.{along_push, grown, rise_here, rise_on, seen_taken}
 use Rattle.ledger_texts.proofs.lines.write_pieces.Goals as goal
 
@@ -21,9 +21,11 @@ loop-entry-init g c = record {
 pub write_next-requires-clause-come : goal.write_next-requires-clause-come
 write_next-requires-clause-come g c =
     let list = c.args.entries.now in
-    let i = c.loop-entry.entry-index in
-    (take i (seen list), c.turn_to.ensures.come c.args.table.now (take i (seen list)) c.loop-entry.invariant.come
-    (rise_here list i _ c.loop-entry.teller.token c.loop-entry-test.true c.loop-entry.invariant.rise))
+    let i = c.loop-entry.entry-index in (
+      take i (seen list),
+      c.turn_to.ensures.come c.args.table.now (take i (seen list)) c.loop-entry.invariant.come
+          (rise_here list i _ c.loop-entry.teller.token c.loop-entry-test.true c.loop-entry.invariant.rise),
+    )
 
 pub loop-entry-preserved : goal.loop-entry-preserved
 loop-entry-preserved g c =

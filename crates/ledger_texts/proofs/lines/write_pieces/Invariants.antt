@@ -1,6 +1,6 @@
 use Rattle.std.proofs.Common.{ℕ, List, [], ◌≤◌, drop, take, string_bytes}
 use Rattle.std.specs.Io.KnownBytes.{Appends, append_known}
-use Rattle.ledger_texts.specs.Lines.{AreLinesAlong, HasCome, RiseFrom, seen}
+use Rattle.ledger_texts.specs.inside.Lines.{AreLinesAlong, HasCome, RiseFrom, seen}
 use Rattle.ledger_texts.proofs.lines.write_pieces.Given as goal
 
 -- the teller has come past the entries so far, whose lines were written, and the others rise

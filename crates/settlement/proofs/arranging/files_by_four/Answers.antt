@@ -1,5 +1,5 @@
 use Rattle.std.proofs.Common.{◌+◌, ◌-◌, ◌/◌, IfOk, map, subst}
-use Rattle.settlement.specs.Dealt.{ArePartFiles}
+use Rattle.settlement.specs.inside.Dealt.{ArePartFiles}
 use Rattle.settlement.proofs.Halves.{both_files, bytes_in}
 use Rattle.settlement.proofs.arranging.files_by_four.Goals as goal
 

@@ -6,7 +6,7 @@ use Rattle.fare_service.specs.Plain.{AreTapsOfEach, IsPlainEnd, ArePlainEnds}
 use Rattle.fare_service.proofs.PlainUploads.{each_more}
 use Rattle.fare_service.proofs.PlainRuns.{AllZip-append}
 use Rattle.tap_parts.proofs.Adding.{none_added, batch_added}
-use Rattle.settlement.specs.Dealt.{IsAdded}
+use Rattle.settlement.specs.inside.Dealt.{IsAdded}
 use Rattle.settlement.proofs.dealing.add_all.Goals as goal
 
 abbrev bytes_in : Vec ℕ Global → List ℕ

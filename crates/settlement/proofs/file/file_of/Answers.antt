@@ -4,7 +4,7 @@ use Rattle.tap_views.specs.Encoding.{AreEarly}
 use Rattle.tap_views.specs.Layout.{moment_limit}
 use Rattle.tap_views.specs.declared.encoder.TapFields.{TapFields}
 use Rattle.tap_parts.specs.Parts.{IsFileOf}
-use Rattle.settlement.specs.Dealt.{in_part}
+use Rattle.settlement.specs.inside.Dealt.{in_part}
 use Rattle.settlement.proofs.Bytes.{canonical}
 use Rattle.settlement.proofs.file.file_of.Goals as goal
 

@@ -1,6 +1,6 @@
 use Rattle.std.proofs.Common.{◌≡◌, length, take}
-use Rattle.settlement.specs.Dealt.{in_part}
-use Rattle.settlement.specs.Spread.{AreSpread}
+use Rattle.settlement.specs.inside.Dealt.{in_part}
+use Rattle.settlement.specs.inside.Spread.{AreSpread}
 use Rattle.settlement.proofs.file.gather.Given as goal
 
 abbrev pub invariant-loop-list : goal.invariant-loop-list

@@ -2,7 +2,7 @@ use Rattle.std.proofs.Common.{◌≡◌, ℕ, ◌+◌, ◌<◌, List, Vec, Globa
 use Rattle.tap_views.specs.Encoding.{fields_of, AreEarly}
 use Rattle.tap_views.specs.declared.encoder.TapFields.{TapFields}
 use Rattle.tap_parts.specs.Parts.{of_part}
-use Rattle.settlement.specs.Dealt.{ArePartFiles, in_part}
+use Rattle.settlement.specs.inside.Dealt.{ArePartFiles, in_part}
 use Rattle.settlement.specs.Settled.{IsPartFile, joined}
 use Rattle.settlement.proofs.Early.{part_early}
 use Rattle.settlement.proofs.Files.{there_below}

@@ -3,7 +3,7 @@ use Rattle.std.specs.Prelude.{IfSome, All}
 use Rattle.std.proofs.lemmas.Result.{err_from_is_err_and}
 use Rattle.std.proofs.lemmas.Bool.Decides.{nat_tests}
 use Rattle.tap_views.specs.declared.encoder.TapFields.{TapFields}
-use Rattle.tap_rows.specs.Tables.{IsNextRow, IsEncodedAs}
+use Rattle.tap_rows.specs.inside.Tables.{IsNextRow, IsEncodedAs}
 use Rattle.tap_rows.proofs.TableLemmas.{Writing, Ready, weaker, next_of, reached_fault, writing_first, writing_row, writing_end, ready_written, ready_same, ready_early}
 use Rattle.tap_rows.proofs.into_upload.write_taps.Goals as goal
 use Rattle.tap_rows.proofs.into_upload.write_taps.Goals.{then-len-eq-BATCH_TAPS+in_ok-write_batch-in-Some, else-len-eq-BATCH_TAPS}
@@ -55,17 +55,17 @@ loop-count-preserved g c =
     let early : tap.moment < 4102444800000 = subst (λ row. IfSome row (λ tap. tap.moment < 4102444800000)) c.in-Some.is c.in_ok-tap.ensures.early in
     let ready : Ready old now out0 out count pending = elim c.if-len-eq-BATCH_TAPS.branch [
       | then-len-eq-BATCH_TAPS+in_ok-write_batch-in-Some w ↦
-        let there = g.W.Write.contents w.write_batch.new.out in
-        let P : List TapFields → Type 0 = λ taps. IsEncodedAs taps here there in
-        ready_written old now out0 here there out count c.loop-count.taps.items pending (ap vec_items w.taps-is ∙ w.clear.ensures.items) (ap g.W.Write.contents w.out-is)
-        c.loop-count.invariant.writing (subst P w.deref.ensures.value w.in_ok-write_batch-in-Some.ensures.upload)
+          let there = g.W.Write.contents w.write_batch.new.out in
+          let P : List TapFields → Type 0 = λ taps. IsEncodedAs taps here there in
+          ready_written old now out0 here there out count c.loop-count.taps.items pending (ap vec_items w.taps-is ∙ w.clear.ensures.items) (ap g.W.Write.contents w.out-is)
+          c.loop-count.invariant.writing (subst P w.deref.ensures.value w.in_ok-write_batch-in-Some.ensures.upload)
       | else-len-eq-BATCH_TAPS w ↦
-        let test = w.if-len-eq-BATCH_TAPS.false in
-        let is = c.len.ensures in
-        let most = c.loop-count.invariant.most in
-        let size = c.loop-count.taps.ok.0 in
-        ready_same old now out0 here out count c.loop-count.taps.items pending (ap vec_items w.taps-is) (ap g.W.Write.contents w.out-is)
-        (grind (arith, nat_tests, test, is, most, size)) c.loop-count.invariant.early c.loop-count.invariant.writing
+          let test = w.if-len-eq-BATCH_TAPS.false in
+          let is = c.len.ensures in
+          let most = c.loop-count.invariant.most in
+          let size = c.loop-count.taps.ok.0 in
+          ready_same old now out0 here out count c.loop-count.taps.items pending (ap vec_items w.taps-is) (ap g.W.Write.contents w.out-is)
+          (grind (arith, nat_tests, test, is, most, size)) c.loop-count.invariant.early c.loop-count.invariant.writing
     ] in
     let more : c.push.new.self.items ≡ pending ++ tap ∷ [] = c.in_ok-push-in-Some.ensures.items in
     record {

@@ -2,7 +2,8 @@ use Rattle.std.proofs.Common.{◌≡◌, ◌∙◌, ◌+◌, ℕ, List, [], ◌+
 use Rattle.std.specs.Prelude.{IfSome}
 use Rattle.std.proofs.lemmas.Result.{err_from_is_err_and}
 use Rattle.tap_views.specs.declared.encoder.TapFields.{TapFields}
-use Rattle.tap_rows.specs.Tables.{IsNextRow, IsTableOf, IsRefused}
+use Rattle.tap_rows.specs.Tables.{IsTableOf, IsRefused}
+use Rattle.tap_rows.specs.inside.Tables.{IsNextRow}
 use Rattle.tap_rows.proofs.TableLemmas.{Reached, weaker, next_of, reached_more, reached_end, reached_fault}
 use Rattle.tap_rows.proofs.read.check.Goals as goal
 

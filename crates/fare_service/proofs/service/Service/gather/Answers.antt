@@ -6,9 +6,9 @@ use Rattle.shard_book.specs.Groups.{all_entries}
 use Rattle.fare_service.specs.declared.upload_end.UploadEnd.TheVariants.{Undrawn}
 use Rattle.fare_service.specs.declared.faults.GatherFault.{GatherFault}
 use Rattle.fare_service.specs.Closing.{IsFirst}
-use Rattle.fare_service.specs.Joining.{told_all}
-use Rattle.fare_service.specs.Halls.{Hall}
-use Rattle.fare_service.specs.Holdings.{Holding}
+use Rattle.fare_service.specs.inside.Joining.{told_all}
+use Rattle.fare_service.specs.ServiceView.{ServiceView}
+use Rattle.fare_service.specs.ShareView.{ShareView}
 use Rattle.fare_service.specs.Shares.{IsShareOf}
 use Rattle.fare_service.specs.Headline.{HasOutcome}
 use Rattle.fare_service.specs.Adding.{add_all}
@@ -20,25 +20,25 @@ use Rattle.fare_service.proofs.service.Service.gather.Goals as goal
 
 pub ends_of-requires : goal.ends_of-requires
 ends_of-requires c =
-    let hall : Hall = record { table = c.self.inside.table; drawing = c.self.inside.draw; books = c.self.inside.books.items; uploads = map (λ upload. upload.items) c.self.inside.uploads.now } in
-    let S : Hall → Type 0 = λ h. All (IsShareOf h) c.args.shares.items in
-    let all : All (IsShareOf hall) c.args.shares.items = subst S (sym c.self.view_is) c.requires in
-    let P : List Holding → Type 0 = λ ss. All (λ share. All (λ d. d.upload < length c.self.inside.uploads.now) share.done) ss in
-    subst P (sym c.as_slice.ensures.value) (done_within hall (length c.self.inside.uploads.now) c.args.shares.items (length-map c.self.inside.uploads.now (λ upload. upload.items)) all)
+    let service : ServiceView = record { table = c.self.inside.table; drawing = c.self.inside.draw; books = c.self.inside.books.items; uploads = map (λ upload. upload.items) c.self.inside.uploads.now } in
+    let S : ServiceView → Type 0 = λ h. All (IsShareOf h) c.args.shares.items in
+    let all : All (IsShareOf service) c.args.shares.items = subst S (sym c.self.view_is) c.requires in
+    let P : List ShareView → Type 0 = λ ss. All (λ share. All (λ d. d.upload < length c.self.inside.uploads.now) share.done) ss in
+    subst P (sym c.as_slice.ensures.value) (done_within service (length c.self.inside.uploads.now) c.args.shares.items (length-map c.self.inside.uploads.now (λ upload. upload.items)) all)
 
 pub added-totals-requires : goal.added-totals-requires
 added-totals-requires c =
-    let hall : Hall = record { table = c.self.inside.table; drawing = c.self.inside.draw; books = c.self.inside.books.items; uploads = map (λ upload. upload.items) c.self.inside.uploads.now } in
-    let S : Hall → Type 0 = λ h. All (IsShareOf h) c.args.shares.items in
-    let all : All (IsShareOf hall) c.args.shares.items = subst S (sym c.self.view_is) c.requires in
-    let number : length hall.uploads ≡ length c.self.inside.uploads.now = length-map c.self.inside.uploads.now (λ upload. upload.items) in
-    let told : c.in_ok-ends.ends.items ≡ told_all (replicate (length hall.uploads) Undrawn) c.args.shares.items =
+    let service : ServiceView = record { table = c.self.inside.table; drawing = c.self.inside.draw; books = c.self.inside.books.items; uploads = map (λ upload. upload.items) c.self.inside.uploads.now } in
+    let S : ServiceView → Type 0 = λ h. All (IsShareOf h) c.args.shares.items in
+    let all : All (IsShareOf service) c.args.shares.items = subst S (sym c.self.view_is) c.requires in
+    let number : length service.uploads ≡ length c.self.inside.uploads.now = length-map c.self.inside.uploads.now (λ upload. upload.items) in
+    let told : c.in_ok-ends.ends.items ≡ told_all (replicate (length service.uploads) Undrawn) c.args.shares.items =
     c.in_ok-ends.ensures.ends ∙ ap (told_all (replicate (length c.self.inside.uploads.now) Undrawn)) c.as_slice.ensures.value
     ∙ ap (λ n. told_all (replicate n Undrawn) c.args.shares.items) (sym number) in
     let workers : map sums_of c.in_ok-workers.workers.items ≡ map (λ share. share.totals) c.args.shares.items =
-    c.in_ok-workers.ensures ∙ ap (λ ss. map (λ (share : Holding). share.totals) ss) c.as_slice-2.ensures.value in
+    c.in_ok-workers.ensures ∙ ap (λ ss. map (λ (share : ShareView). share.totals) ss) c.as_slice-2.ensures.value in
     let same : sums (all_entries c.close_with.new.closed.items) ≡ add_all (map sums_of c.in_ok-workers.workers.items) =
-    shares_add_up hall c.self.invariant c.args.shares.items all c.close_with.new.closed.items c.in_ok-close_with.ensures.ok c.in_ok-ends.ends.items told
+    shares_add_up service c.self.invariant c.args.shares.items all c.close_with.new.closed.items c.in_ok-close_with.ensures.ok c.in_ok-ends.ends.items told
     (c.in_ok-ends.ensures.number ∙ sym number) (map sums_of c.in_ok-workers.workers.items) workers in
     let few : length (all_entries c.close_with.new.closed.items) ≤ 2 ^ 70 =
     omega (arith, c.entries_in-entries.ensures.number, c.entries_in-entries.ensures.few, ap (λ bs. length (all_entries bs)) c.as_slice-3.ensures.value) in
@@ -48,55 +48,58 @@ added-totals-requires c =
 
 pub invariant_of-result : goal.invariant_of-result
 invariant_of-result c =
-    let hall : Hall = record { table = c.self.inside.table; drawing = c.self.inside.draw; books = c.self.inside.books.items; uploads = map (λ upload. upload.items) c.self.inside.uploads.now } in
-    let S : Hall → Type 0 = λ h. All (IsShareOf h) c.args.shares.items in
-    let all : All (IsShareOf hall) c.args.shares.items = subst S (sym c.self.view_is) c.requires in
-    let number : length hall.uploads ≡ length c.self.inside.uploads.now = length-map c.self.inside.uploads.now (λ upload. upload.items) in
-    let told : c.in_ok-ends.ends.items ≡ told_all (replicate (length hall.uploads) Undrawn) c.args.shares.items =
+    let service : ServiceView = record { table = c.self.inside.table; drawing = c.self.inside.draw; books = c.self.inside.books.items; uploads = map (λ upload. upload.items) c.self.inside.uploads.now } in
+    let S : ServiceView → Type 0 = λ h. All (IsShareOf h) c.args.shares.items in
+    let all : All (IsShareOf service) c.args.shares.items = subst S (sym c.self.view_is) c.requires in
+    let number : length service.uploads ≡ length c.self.inside.uploads.now = length-map c.self.inside.uploads.now (λ upload. upload.items) in
+    let told : c.in_ok-ends.ends.items ≡ told_all (replicate (length service.uploads) Undrawn) c.args.shares.items =
     c.in_ok-ends.ensures.ends ∙ ap (told_all (replicate (length c.self.inside.uploads.now) Undrawn)) c.as_slice.ensures.value
     ∙ ap (λ n. told_all (replicate n Undrawn) c.args.shares.items) (sym number) in
     let workers : map sums_of c.in_ok-workers.workers.items ≡ map (λ share. share.totals) c.args.shares.items =
-    c.in_ok-workers.ensures ∙ ap (λ ss. map (λ (share : Holding). share.totals) ss) c.as_slice-2.ensures.value in
+    c.in_ok-workers.ensures ∙ ap (λ ss. map (λ (share : ShareView). share.totals) ss) c.as_slice-2.ensures.value in
     let same : sums (all_entries c.close_with.new.closed.items) ≡ add_all (map sums_of c.in_ok-workers.workers.items) =
-    shares_add_up hall c.self.invariant c.args.shares.items all c.close_with.new.closed.items c.in_ok-close_with.ensures.ok c.in_ok-ends.ends.items told
+    shares_add_up service c.self.invariant c.args.shares.items all c.close_with.new.closed.items c.in_ok-close_with.ensures.ok c.in_ok-ends.ends.items told
     (c.in_ok-ends.ensures.number ∙ sym number) (map sums_of c.in_ok-workers.workers.items) workers in
-    is_outcome hall c.self.invariant c.args.shares.items c.close_with.new.closed.items c.in_ok-close_with.ensures.ok c.in_ok-ends.ends.items
+    is_outcome service c.self.invariant c.args.shares.items c.close_with.new.closed.items c.in_ok-close_with.ensures.ok c.in_ok-ends.ends.items
     (c.in_ok-ends.ensures.number ∙ sym number) (map sums_of c.in_ok-workers.workers.items) (sums_of c.added-totals.result)
     (c.added-totals.ensures ∙ ap (λ ts. add_all (map sums_of ts)) c.as_slice-4.ensures.value ∙ sym same)
 
 pub returns-clause-headline : goal.returns-clause-headline
 returns-clause-headline c =
-    let hall : Hall = record { table = c.self.inside.table; drawing = c.self.inside.draw; books = c.self.inside.books.items; uploads = map (λ upload. upload.items) c.self.inside.uploads.now } in
-    let S : Hall → Type 0 = λ h. All (IsShareOf h) c.args.shares.items in
-    let all : All (IsShareOf hall) c.args.shares.items = subst S (sym c.self.view_is) c.requires in
-    let number : length hall.uploads ≡ length c.self.inside.uploads.now = length-map c.self.inside.uploads.now (λ upload. upload.items) in
-    let told : c.in_ok-ends.ends.items ≡ told_all (replicate (length hall.uploads) Undrawn) c.args.shares.items =
+    let service : ServiceView = record { table = c.self.inside.table; drawing = c.self.inside.draw; books = c.self.inside.books.items; uploads = map (λ upload. upload.items) c.self.inside.uploads.now } in
+    let S : ServiceView → Type 0 = λ h. All (IsShareOf h) c.args.shares.items in
+    let all : All (IsShareOf service) c.args.shares.items = subst S (sym c.self.view_is) c.requires in
+    let number : length service.uploads ≡ length c.self.inside.uploads.now = length-map c.self.inside.uploads.now (λ upload. upload.items) in
+    let told : c.in_ok-ends.ends.items ≡ told_all (replicate (length service.uploads) Undrawn) c.args.shares.items =
     c.in_ok-ends.ensures.ends ∙ ap (told_all (replicate (length c.self.inside.uploads.now) Undrawn)) c.as_slice.ensures.value
     ∙ ap (λ n. told_all (replicate n Undrawn) c.args.shares.items) (sym number) in
     let workers : map sums_of c.in_ok-workers.workers.items ≡ map (λ share. share.totals) c.args.shares.items =
-    c.in_ok-workers.ensures ∙ ap (λ ss. map (λ (share : Holding). share.totals) ss) c.as_slice-2.ensures.value in
+    c.in_ok-workers.ensures ∙ ap (λ ss. map (λ (share : ShareView). share.totals) ss) c.as_slice-2.ensures.value in
     let closed = c.close_with.new.closed.items in
     let work = c.in_ok-close_with.ensures.ok in
     let same : sums (all_entries closed) ≡ add_all (map sums_of c.in_ok-workers.workers.items) =
-    shares_add_up hall c.self.invariant c.args.shares.items all closed work c.in_ok-ends.ends.items told
+    shares_add_up service c.self.invariant c.args.shares.items all closed work c.in_ok-ends.ends.items told
     (c.in_ok-ends.ensures.number ∙ sym number) (map sums_of c.in_ok-workers.workers.items) workers in
-    let H : Hall → Type 0 = λ h. HasOutcome h c.args.shares.items (record { books = closed; ends = c.in_ok-ends.ends.items; workers = map sums_of c.in_ok-workers.workers.items; totals = sums_of c.added-totals.result }) in
-    let o = has_gathered hall c.self.invariant c.args.shares.items all closed work c.in_ok-ends.ends.items told
+    let H : ServiceView → Type 0 = λ h. HasOutcome h c.args.shares.items (record { books = closed; ends = c.in_ok-ends.ends.items; workers = map sums_of c.in_ok-workers.workers.items; totals = sums_of c.added-totals.result }) in
+    let o = has_gathered service c.self.invariant c.args.shares.items all closed work c.in_ok-ends.ends.items told
     (c.in_ok-ends.ensures.number ∙ sym number) (map sums_of c.in_ok-workers.workers.items) workers (sums_of c.added-totals.result) in
-    subst H c.self.view_is
-    (o.0, o.1, headline_of (given_of hall) o.0 _ o.2 (c.added-totals.ensures ∙ ap (λ ts. add_all (map sums_of ts)) c.as_slice-4.ensures.value ∙ sym same)
-    (λ shard book at. (work.books shard book at).limits) (undrawn_last hall c.args.shares.items o.0 o.1 closed work))
+    subst H c.self.view_is (
+      o.0,
+      o.1,
+      headline_of (given_of service) o.0 _ o.2 (c.added-totals.ensures ∙ ap (λ ts. add_all (map sums_of ts)) c.as_slice-4.ensures.value ∙ sym same)
+          (λ shard book at. (work.books shard book at).limits) (undrawn_last service c.args.shares.items o.0 o.1 closed work),
+    )
 
 pub returns-clause-undrawn : goal.returns-clause-undrawn
 returns-clause-undrawn c =
-    let hall : Hall = record { table = c.self.inside.table; drawing = c.self.inside.draw; books = c.self.inside.books.items; uploads = map (λ upload. upload.items) c.self.inside.uploads.now } in
-    let S : Hall → Type 0 = λ h. All (IsShareOf h) c.args.shares.items in
-    let all : All (IsShareOf hall) c.args.shares.items = subst S (sym c.self.view_is) c.requires in
-    let number : length hall.uploads ≡ length c.self.inside.uploads.now = length-map c.self.inside.uploads.now (λ upload. upload.items) in
-    let told : c.in_ok-ends.ends.items ≡ told_all (replicate (length hall.uploads) Undrawn) c.args.shares.items =
+    let service : ServiceView = record { table = c.self.inside.table; drawing = c.self.inside.draw; books = c.self.inside.books.items; uploads = map (λ upload. upload.items) c.self.inside.uploads.now } in
+    let S : ServiceView → Type 0 = λ h. All (IsShareOf h) c.args.shares.items in
+    let all : All (IsShareOf service) c.args.shares.items = subst S (sym c.self.view_is) c.requires in
+    let number : length service.uploads ≡ length c.self.inside.uploads.now = length-map c.self.inside.uploads.now (λ upload. upload.items) in
+    let told : c.in_ok-ends.ends.items ≡ told_all (replicate (length service.uploads) Undrawn) c.args.shares.items =
     c.in_ok-ends.ensures.ends ∙ ap (told_all (replicate (length c.self.inside.uploads.now) Undrawn)) c.as_slice.ensures.value
     ∙ ap (λ n. told_all (replicate n Undrawn) c.args.shares.items) (sym number) in
-    told_undrawn hall c.args.shares.items all c.close_with.new.closed.items c.in_ok-close_with.ensures.ok c.in_ok-ends.ends.items told (c.in_ok-ends.ensures.number ∙ sym number)
+    told_undrawn service c.args.shares.items all c.close_with.new.closed.items c.in_ok-close_with.ensures.ok c.in_ok-ends.ends.items told (c.in_ok-ends.ensures.number ∙ sym number)
 
 -- an error that was handed on
 handed_on : {T E : Type 0} (r : Result T E) (fault : E) (P : E → Type 0) → IsErrAnd r (λ e. e ≡ fault) → P fault → IfErr r P
@@ -107,6 +110,6 @@ pub returns-in_err-close_with-clause-first : goal.returns-in_err-close_with-clau
 returns-in_err-close_with-clause-first c =
     let fault : GatherFault = c.in_err-close_with.field-0.0 in
     let F : ℕ → Type 0 = λ n. IsFirst c.self.inside.books.items n c.args.shares.items fault in
-    let H : Hall → Type 0 = λ h. IsFirst h.books (length h.uploads) c.args.shares.items fault in
+    let H : ServiceView → Type 0 = λ h. IsFirst h.books (length h.uploads) c.args.shares.items fault in
     handed_on c.from_residual-in_err-close_with.result fault (IsFirst c.args.self.books (length c.args.self.uploads) c.args.shares.items) c.from_residual-in_err-close_with.ensures.1
     (subst H c.self.view_is (subst F c.self.invariant.numbers c.in_err-close_with.ensures.first))

@@ -1,6 +1,6 @@
 use Rattle.std.proofs.Common.{ℕ, ◌≡◌, [], ◌∙◌, inl, subst, refl, arith}
 use Rattle.shard_book.specs.Sums.{sums_of}
-use Rattle.fare_service.specs.Halls.{shards_of}
+use Rattle.fare_service.specs.ServiceView.{shards_of}
 use Rattle.fare_service.specs.Runs.{placed_from, runs_below}
 use Rattle.fare_service.proofs.VisitLemmas.{made_none}
 use Rattle.fare_service.proofs.BatchLemmas.{Posts, batch_more, batch_cut, cuts_told}

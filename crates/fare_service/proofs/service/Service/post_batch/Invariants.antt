@@ -1,7 +1,7 @@
 use Rattle.std.proofs.Common.{◌≡◌, ℕ, ◌+◌, ◌*◌, ◌≤◌, List, length}
 use Rattle.tap_views.specs.Cut.{IsCut}
 use Rattle.shard_book.specs.Sums.{sums_of}
-use Rattle.fare_service.specs.Halls.{shards_of}
+use Rattle.fare_service.specs.ServiceView.{shards_of}
 use Rattle.fare_service.specs.Runs.{Visit, ArePosted, placed_from, runs_below}
 use Rattle.fare_service.specs.Shares.{Made, books_of}
 use Rattle.fare_service.specs.Stopping.{SomeFull}

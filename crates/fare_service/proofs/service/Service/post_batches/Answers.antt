@@ -3,7 +3,7 @@ use Rattle.std.proofs.lemmas.List.{map-append}
 use Rattle.tap_views.specs.Layout.{Tap}
 use Rattle.tap_views.specs.Files.{Item, IsReading, IsFile}
 use Rattle.shard_book.specs.Sums.{sums_of}
-use Rattle.fare_service.specs.Halls.{shards_of}
+use Rattle.fare_service.specs.ServiceView.{shards_of}
 use Rattle.fare_service.proofs.VisitLemmas.{made_none}
 use Rattle.fare_service.proofs.TapCounts.{batches_taps}
 use Rattle.fare_service.proofs.ReadingLemmas.{same_items, read_all, read_fault, read_batch, done_room, posted_few, batches_more, batches_cut, cut_upload}

@@ -2,7 +2,7 @@ use Rattle.std.proofs.Common.{◌≡◌, List, ◌++◌, length, map, Ok}
 use Rattle.tap_views.specs.Layout.{Tap}
 use Rattle.tap_views.specs.Files.{IsReading}
 use Rattle.shard_book.specs.Sums.{sums_of}
-use Rattle.fare_service.specs.Halls.{shards_of}
+use Rattle.fare_service.specs.ServiceView.{shards_of}
 use Rattle.fare_service.specs.Runs.{runs_of}
 use Rattle.fare_service.specs.Shares.{books_of}
 use Rattle.fare_service.specs.Stopping.{SomeFull}

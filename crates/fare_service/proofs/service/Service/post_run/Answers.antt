@@ -8,9 +8,9 @@ use Rattle.shard_book.specs.declared.run_end.RunEnd.TheVariants.{Whole, Cut}
 use Rattle.shard_book.specs.Entry.{reply_of}
 use Rattle.shard_book.specs.Sums.{sums_of, sums_of_replies, add_sums}
 use Rattle.shard_book.specs.Visits.{IsVisit, limits_by}
-use Rattle.shared_books.specs.Passes.{Knowledge}
+use Rattle.shared_books.specs.Passes.{PassView}
 use Rattle.fare_service.specs.declared.working.Stop.TheVariants.{Memory}
-use Rattle.fare_service.specs.Halls.{shards_of}
+use Rattle.fare_service.specs.ServiceView.{shards_of}
 use Rattle.fare_service.proofs.RunVisits.{same_run, run_empty, run_refused, run_full, run_visited, visit_length, book_at}
 use Rattle.fare_service.proofs.VisitLemmas.{taps_after}
 use Rattle.fare_service.proofs.FullLemmas.{full_here, full_stays, is_full, own_grows, the_error, tells_ok, tells_refused, visits_full}
@@ -61,7 +61,7 @@ returns-in_err-visit-clause-made g c =
     let same = same_run c.run-run.result c.args.batch.now c.args.shard (length c.args.cut.now) (shards_of c.args.self.now) c.run-run.ensures c.requires.shards in
     let some : 0 < length (run_of c.args.shard (shards_of c.args.self.now) c.args.batch.now) = omega (arith, ap length same, c.len-len.ensures.number) in
     let within : c.args.shard < length c.args.posting.now.passes.items =
-    omega (arith, c.requires.shard, ap length c.requires.passes, length-map c.args.posting.now.passes.items (λ (p : Knowledge). p.book)) in
+    omega (arith, c.requires.shard, ap length c.requires.passes, length-map c.args.posting.now.passes.items (λ (p : PassView). p.book)) in
     λ place. run_full (shards_of c.args.self.now) c.args.shard place c.args.batch.now c.args.posting.now.passes.items c.index_mut.result.now c.visit.new.pass (sums_of c.args.posting.now.totals)
     c.from_residual-in_err-visit.result some c.from_residual-in_err-visit.ensures.0 within c.index_mut.ensures.value c.in_err-visit.ensures.full.0
 
@@ -77,7 +77,7 @@ returns-in-Whole-clause-made g c =
     let same = same_run c.run-run.result c.args.batch.now c.args.shard (length c.args.cut.now) (shards_of c.args.self.now) c.run-run.ensures c.requires.shards in
     let some : 0 < length (run_of c.args.shard (shards_of c.args.self.now) c.args.batch.now) = omega (arith, ap length same, c.len-len.ensures.number) in
     let within : c.args.shard < length c.args.posting.now.passes.items =
-    omega (arith, c.requires.shard, ap length c.requires.passes, length-map c.args.posting.now.passes.items (λ (p : Knowledge). p.book)) in
+    omega (arith, c.requires.shard, ap length c.requires.passes, length-map c.args.posting.now.passes.items (λ (p : PassView). p.book)) in
     let made = c.in_ok-visit.ensures.visit in
     let items : c.visit.new.out.items ≡ map reply_of made.visit = made.items ∙ ap (λ xs. xs ++ map reply_of made.visit) (c.in_ok-reserve.ensures.items ∙ c.clear.ensures.items) in
     let P : List Tap → RunEnd → Type 0 = λ taps how. IsVisit taps how made.visit in
@@ -100,7 +100,7 @@ returns-in-Cut-clause-made g c =
     let same = same_run c.run-run.result c.args.batch.now c.args.shard (length c.args.cut.now) (shards_of c.args.self.now) c.run-run.ensures c.requires.shards in
     let some : 0 < length (run_of c.args.shard (shards_of c.args.self.now) c.args.batch.now) = omega (arith, ap length same, c.len-len.ensures.number) in
     let within : c.args.shard < length c.args.posting.now.passes.items =
-    omega (arith, c.requires.shard, ap length c.requires.passes, length-map c.args.posting.now.passes.items (λ (p : Knowledge). p.book)) in
+    omega (arith, c.requires.shard, ap length c.requires.passes, length-map c.args.posting.now.passes.items (λ (p : PassView). p.book)) in
     let made = c.in_ok-visit.ensures.visit in
     let items : c.visit.new.out.items ≡ map reply_of made.visit = made.items ∙ ap (λ xs. xs ++ map reply_of made.visit) (c.in_ok-reserve.ensures.items ∙ c.clear.ensures.items) in
     let P : List Tap → RunEnd → Type 0 = λ taps how. IsVisit taps how made.visit in
@@ -130,26 +130,28 @@ returns-in_err-fill-clause-full g c = tells_refused c.from_residual-in_err-fill.
 pub returns-in_err-visit-clause-full : goal.returns-in_err-visit-clause-full
 returns-in_err-visit-clause-full g c =
     let within : c.args.shard < length c.args.posting.now.passes.items =
-    omega (arith, c.requires.shard, ap length c.requires.passes, length-map c.args.posting.now.passes.items (λ (p : Knowledge). p.book)) in
+    omega (arith, c.requires.shard, ap length c.requires.passes, length-map c.args.posting.now.passes.items (λ (p : PassView). p.book)) in
     λ h. full_here c.args.posting.now.passes.items c.args.shard c.visit.new.pass within (is_full c.visit.new.pass c.in_err-visit.ensures.full.1)
 
 pub returns-in-Whole-clause-full : goal.returns-in-Whole-clause-full
 returns-in-Whole-clause-full g c =
     let within : c.args.shard < length c.args.posting.now.passes.items =
-    omega (arith, c.requires.shard, ap length c.requires.passes, length-map c.args.posting.now.passes.items (λ (p : Knowledge). p.book)) in
+    omega (arith, c.requires.shard, ap length c.requires.passes, length-map c.args.posting.now.passes.items (λ (p : PassView). p.book)) in
     tells_ok tt _ _ (full_stays c.args.posting.now.passes.items c.args.shard c.index_mut.result.now c.visit.new.pass within c.index_mut.ensures.value
     (visits_full c.index_mut.result.now c.visit.new.pass _ _ c.in_ok-visit.ensures.visit.stands))
 
 pub returns-in-Cut-clause-full : goal.returns-in-Cut-clause-full
 returns-in-Cut-clause-full g c =
     let within : c.args.shard < length c.args.posting.now.passes.items =
-    omega (arith, c.requires.shard, ap length c.requires.passes, length-map c.args.posting.now.passes.items (λ (p : Knowledge). p.book)) in
+    omega (arith, c.requires.shard, ap length c.requires.passes, length-map c.args.posting.now.passes.items (λ (p : PassView). p.book)) in
     tells_refused _ _ _ refl (full_stays c.args.posting.now.passes.items c.args.shard c.index_mut.result.now c.visit.new.pass within c.index_mut.ensures.value
     (visits_full c.index_mut.result.now c.visit.new.pass _ _ c.in_ok-visit.ensures.visit.stands))
 
 pub returns-in-Cut-clause-memory : goal.returns-in-Cut-clause-memory
 returns-in-Cut-clause-memory g c =
     let within : c.args.shard < length c.args.posting.now.passes.items =
-    omega (arith, c.requires.shard, ap length c.requires.passes, length-map c.args.posting.now.passes.items (λ (p : Knowledge). p.book)) in
-    λ is. inr (c.in_ok-visit.ensures.visit.visit,
-    own_grows c.args.posting.now.passes.items c.args.shard c.index_mut.result.now c.visit.new.pass _ _ within c.index_mut.ensures.value c.in_ok-visit.ensures.visit.stands)
+    omega (arith, c.requires.shard, ap length c.requires.passes, length-map c.args.posting.now.passes.items (λ (p : PassView). p.book)) in
+    λ is. inr (
+      c.in_ok-visit.ensures.visit.visit,
+      own_grows c.args.posting.now.passes.items c.args.shard c.index_mut.result.now c.visit.new.pass _ _ within c.index_mut.ensures.value c.in_ok-visit.ensures.visit.stands,
+    )

@@ -4,7 +4,7 @@ use Rattle.std.specs.Result.{is_err}
 use Rattle.std.proofs.lemmas.List.{length-map}
 use Rattle.shard_book.specs.Sums.{sums_of}
 use Rattle.fare_service.specs.declared.share.Posting.{Posting}
-use Rattle.fare_service.specs.Holdings.{Holding}
+use Rattle.fare_service.specs.ShareView.{ShareView}
 use Rattle.fare_service.specs.Shares.{IsShareOf, WentOn}
 use Rattle.fare_service.specs.Stopping.{StoppedWell}
 use Rattle.fare_service.proofs.ShareLemmas.{holding, next_share, worked_none}
@@ -17,31 +17,31 @@ ok_holds (Err e) good holds = absurd (cc)
 
 pub returns-in_default-clause-went_on : goal.returns-in_default-clause-went_on
 returns-in_default-clause-went_on g c =
-    let W : Holding → Type 0 = WentOn c.args.self.now c.args.share in
+    let W : ShareView → Type 0 = WentOn c.args.self.now c.args.share in
     subst W (sym c.share.view_is) ([], worked_none c.args.self.now c.args.share c.args.share refl refl refl refl)
 
 pub returns-in_default-new-clause-went_on : goal.returns-in_default-new-clause-went_on
 returns-in_default-new-clause-went_on g c =
-    let W : Holding → Type 0 = WentOn c.args.self.now c.args.share in
+    let W : ShareView → Type 0 = WentOn c.args.self.now c.args.share in
     subst W (sym c.share.view_is) ([], worked_none c.args.self.now c.args.share c.args.share refl refl refl refl)
 
 pub returns-then-is_err-clause-went_on : goal.returns-then-is_err-clause-went_on
 returns-then-is_err-clause-went_on g c =
     let start = ap (holding c.share.inside.drawer c.share.inside.posting.passes.items (sums_of c.share.inside.posting.totals)) c.reserve.ensures.items ∙ c.share.view_is in
-    let W : Holding → Type 0 = WentOn c.args.self.now c.args.share in
+    let W : ShareView → Type 0 = WentOn c.args.self.now c.args.share in
     subst W (sym start) ([], worked_none c.args.self.now c.args.share c.args.share refl refl refl refl)
 
 -- room for the results of all uploads was taken
 pub loop-init : goal.loop-init
 loop-init g c =
-    let hall = c.args.self.now in
+    let service = c.args.self.now in
     let start = ap (holding c.share.inside.drawer c.share.inside.posting.passes.items (sums_of c.share.inside.posting.totals)) c.reserve.ensures.items ∙ c.share.view_is in
-    let S : Holding → Type 0 = IsShareOf hall in
-    let G : Holding → Type 0 = Going hall c.args.share in
+    let S : ShareView → Type 0 = IsShareOf service in
+    let G : ShareView → Type 0 = Going service c.args.share in
     let room = ok_holds c.reserve.result (sym c.if-is_err.ensures.value) c.reserve.ensures.ok in
     record {
       share = subst S (sym start) c.requires;
-      going = subst G (sym start) (going_start hall c.args.share);
+      going = subst G (sym start) (going_start service c.args.share);
       clock = c.in-Ok.ensures.zone ∙ ap (λ h. h.table.zone) c.self.view_is;
       cut = c.in-Ok-new.ensures ∙ c.shards.ensures.number;
       room = omega (arith, room, ap (λ h. length h.uploads) c.self.view_is, length-map c.self.inside.uploads.now (λ u. u.items));

@@ -1,6 +1,6 @@
 use Rattle.std.proofs.Common.{◌≡◌, ◌+◌, ◌-◌, ◌≤◌, length, vec_len, vec_capacity}
 use Rattle.shard_book.specs.Sums.{sums_of}
-use Rattle.fare_service.specs.Halls.{shards_of}
+use Rattle.fare_service.specs.ServiceView.{shards_of}
 use Rattle.fare_service.specs.Shares.{IsShareOf}
 use Rattle.fare_service.proofs.ShareLemmas.{holding}
 use Rattle.fare_service.proofs.StoppingLemmas.{Going}

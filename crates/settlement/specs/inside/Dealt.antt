@@ -1,5 +1,6 @@
 -- What is known of uploads whose taps were dealt to parts. Private functions alone cite this.
-use Rattle.std.specs.Prelude.{◌≡◌, ◌<◌, ◌+◌, ℕ, List, [], All, length, map, flat_map, slice_get, slice_index_or, Some}
+use Rattle.std.specs.Prelude.{◌≡◌, ◌<◌, ◌+◌, ℕ, List, [], All, length, map, flat_map, slice_get}
+use Rattle.std.specs.Prelude.{slice_index_or, Some}
 use Rattle.tap_views.specs.Encoding.{fields_of, AreEarly}
 use Rattle.tap_views.specs.Layout.{Tap}
 use Rattle.tap_views.specs.declared.encoder.TapFields.{TapFields}
@@ -18,7 +19,8 @@ AreEarlyBelow end lists =
     (part : ℕ) → part < end → AreEarly (λ (tap : TapFields). tap.moment) (in_part part lists)
 
 -- the parts from the first up to the end, and not the end itself, have these files in their order
-pub record ArePartFiles (lists : List (List (List TapFields))) (first end : ℕ) (files : List (List ℕ))
+pub record ArePartFiles (lists : List (List (List TapFields))) (first end : ℕ)
+    (files : List (List ℕ))
     : Type 0 where
   pub number : first + length files ≡ end
   pub each : (place : ℕ) (file : List ℕ) → slice_get files place ≡ Some file

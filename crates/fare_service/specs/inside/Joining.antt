@@ -1,15 +1,16 @@
 -- Shares that are joined into one.
-use Rattle.std.specs.Prelude.{◌≡◌, ◌⊎◌, ℕ, ◌+◌, ◌≤◌, nat_lt, false, List, [], ◌∷◌, length, All, slice_get, Some, slice_set}
+use Rattle.std.specs.Prelude.{◌≡◌, ◌⊎◌, ℕ, ◌+◌, ◌≤◌, nat_lt, false, List, [], ◌∷◌, length, All}
+use Rattle.std.specs.Prelude.{slice_get, Some, slice_set}
 use Rattle.std.specs.List.{flat_map}
 use Rattle.shared_books.specs.declared.turns.rule.Mark.{Mark}
-use Rattle.shared_books.specs.Drawing.{Drawing, Drawings}
+use Rattle.shared_books.specs.Drawing.{Drawing, DrawerView}
 use Rattle.shared_books.specs.Marks.{visits_of, merged, Apart, Begins}
-use Rattle.shared_books.specs.Passes.{Opened, Knowledge}
+use Rattle.shared_books.specs.Passes.{SharedBookView, PassView}
 use Rattle.fare_service.specs.declared.share.Done.{Done}
 use Rattle.fare_service.specs.declared.upload_end.UploadEnd.{UploadEnd}
 use Rattle.fare_service.specs.Faults.{visits_held}
 use Rattle.fare_service.specs.Headline.{Signed, by_worker}
-use Rattle.fare_service.specs.Holdings.{Holding}
+use Rattle.fare_service.specs.ShareView.{ShareView}
 use Rattle.fare_service.specs.Shares.{books_of, own_visits, marks_at, own_at}
 use Rattle.std.specs.List.{AllZip}
 
@@ -18,7 +19,7 @@ abbrev pub told : List UploadEnd → List Done → List UploadEnd
 told ends [] = ends
 told ends (d ∷ done) = told (slice_set ends d.upload d.end) done
 
-abbrev pub told_all : List UploadEnd → List Holding → List UploadEnd
+abbrev pub told_all : List UploadEnd → List ShareView → List UploadEnd
 told_all ends [] = ends
 told_all ends (share ∷ shares) = told_all (told ends share.done) shares
 
@@ -39,26 +40,32 @@ pub record AreJoined (old other new : List Mark) : Type 0 where
   pub held : length (own_visits new) ≡ length (own_visits old) + length (own_visits other)
 
 -- the passes to a shard were joined
-abbrev pub AreJoinedAt : ℕ → List Knowledge → List Knowledge → List Knowledge → Type 0
-AreJoinedAt shard old other new = AreJoined (marks_at shard old) (marks_at shard other) (marks_at shard new)
+abbrev pub AreJoinedAt : ℕ → List PassView → List PassView → List PassView → Type 0
+AreJoinedAt shard old other new =
+    AreJoined (marks_at shard old) (marks_at shard other) (marks_at shard new)
 
 -- who made which visit to a shard
-pub record AreSignedAt (nobody shard : ℕ) (shares : List Holding) (passes : List Knowledge) : Type 0 where
+pub record AreSignedAt (nobody shard : ℕ) (shares : List ShareView) (passes : List PassView)
+    : Type 0 where
   pub signs : List Signed
   pub of_marks : AreSigns (length shares) nobody signs (marks_at shard passes)
-  pub own : (worker : ℕ) (share : Holding) → slice_get shares worker ≡ Some share → by_worker worker signs ≡ own_at shard share.passes
+  pub own : (worker : ℕ) (share : ShareView) → slice_get shares worker ≡ Some share
+      → by_worker worker signs ≡ own_at shard share.passes
 
 -- the share belongs to the drawing and to the books
-pub record Belongs (drawing : Drawing) (books : List Opened) (share : Holding) : Type 0 where
+pub record Belongs (drawing : Drawing) (books : List SharedBookView) (share : ShareView)
+    : Type 0 where
   pub source : share.drawer.source ≡ drawing
   pub of_books : books_of share.passes ≡ books
 
 -- a drawer and passes that have what these shares had
-pub record IsJoinedOf (drawing : Drawing) (books : List Opened) (nobody : ℕ) (shares : List Holding) (drawer : Drawings) (passes : List Knowledge) : Type 0 where
+pub record IsJoinedOf (drawing : Drawing) (books : List SharedBookView) (nobody : ℕ)
+    (shares : List ShareView) (drawer : DrawerView) (passes : List PassView) : Type 0 where
   pub source : drawer.source ≡ drawing
   pub drawn : drawer.drawn ≡ flat_map (λ share. share.drawer.drawn) shares
   pub seen : All (λ share. share.drawer.seen ≤ drawer.seen) shares
   pub of_books : books_of passes ≡ books
   pub signed : (shard : ℕ) → AreSignedAt nobody shard shares passes
   pub held : (shard : ℕ) → length (own_at shard passes) ≡ visits_held shard shares
-  pub longest : (shard : ℕ) → All (λ share. length (marks_at shard share.passes) ≤ length (marks_at shard passes)) shares
+  pub longest : (shard : ℕ)
+      → All (λ share. length (marks_at shard share.passes) ≤ length (marks_at shard passes)) shares

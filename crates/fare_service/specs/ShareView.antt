@@ -1,0 +1,14 @@
+-- What contracts see of a share.
+use Rattle.std.specs.Prelude.{List}
+use Rattle.shard_book.specs.Sums.{Sums}
+use Rattle.shared_books.specs.Drawing.{DrawerView}
+use Rattle.shared_books.specs.Passes.{PassView}
+use Rattle.fare_service.specs.declared.share.Done.{Done}
+
+-- a share: its drawer, its pass to each shard's book, the totals of its replies, and the uploads
+-- that it drew with their ends
+pub record ShareView : Type 0 where
+  pub drawer : DrawerView
+  pub passes : List PassView
+  pub totals : Sums
+  pub done : List Done

@@ -1,0 +1,77 @@
+-- Closing: what private functions alone cite.
+use Rattle.std.specs.Prelude.{◌≡◌, ℕ, ◌<◌, ◌≤◌, List, [], length, All, slice_get, Some}
+use Rattle.std.specs.List.{flat_map}
+use Rattle.shard_book.specs.Book.{Book}
+use Rattle.shard_book.specs.History.{IsLegal}
+use Rattle.shared_books.specs.Passes.{SharedBookView, PassView, HasMadeAll, book_of}
+use Rattle.fare_service.specs.declared.faults.GatherFault.{GatherFault}
+use Rattle.fare_service.specs.declared.faults.GatherFault.TheVariants.{NoMemory, Missing, Drawn}
+use Rattle.shared_books.specs.Drawing.{AllBelow, NoneTwice, times}
+use Rattle.fare_service.specs.Limits.{KeepsLimits}
+use Rattle.fare_service.specs.ShareView.{ShareView}
+use Rattle.fare_service.specs.Shares.{marks_at, own_at}
+use Rattle.fare_service.specs.Closing.{IsHistoryOf}
+
+-- the book of a shard was closed by its pass, which had made all visits
+pub record IsClosedBy (passes : List PassView) (shard : ℕ) (book : Book) : Type 0 where
+  pub pass : PassView
+  pub at : slice_get passes shard ≡ Some pass
+  pub all : HasMadeAll pass book
+  pub legal : IsLegal book.table book.entries
+  pub limits : KeepsLimits book
+
+abbrev pub AreClosed : List PassView → List Book → Type 0
+AreClosed passes books =
+    (shard : ℕ) (book : Book) → slice_get books shard ≡ Some book → IsClosedBy passes shard book
+
+-- the book of a shard was closed, and it had no visit
+pub record IsUnseen (opened : List SharedBookView) (shard : ℕ) (book : Book) : Type 0 where
+  pub shared : SharedBookView
+  pub at : slice_get opened shard ≡ Some shared
+  pub none : book ≡ book_of shared []
+  pub legal : IsLegal book.table book.entries
+  pub limits : KeepsLimits book
+
+abbrev pub AreUnseen : List SharedBookView → List Book → Type 0
+AreUnseen opened books =
+    (shard : ℕ) (book : Book) → slice_get books shard ≡ Some book → IsUnseen opened shard book
+
+-- visits to a shard are missing
+abbrev pub IsMissing : ℕ → List PassView → GatherFault → Type 0
+IsMissing shards passes (Missing shard held kept) =
+    (shard < shards) × (held ≡ length (own_at shard passes)) × (held < kept)
+IsMissing shards passes NoMemory = ⊥
+IsMissing shards passes (Drawn held drawn) = ⊥
+
+-- visits to a shard are missing, of which none are held
+abbrev pub NoneMissing : ℕ → GatherFault → Type 0
+NoneMissing shards (Missing shard held kept) = (shard < shards) × (held ≡ 0) × (held < kept)
+NoneMissing shards NoMemory = ⊥
+NoneMissing shards (Drawn held drawn) = ⊥
+
+-- the shards before the one that misses visits were closed, and no visit that the pass has seen is
+-- left out of the count
+abbrev pub IsFirstMissing : List PassView → List Book → GatherFault → Type 0
+IsFirstMissing passes closed (Missing shard held kept) =
+    (shard ≡ length closed) × AreClosed passes closed × (length (marks_at shard passes) ≤ kept)
+IsFirstMissing passes closed NoMemory = ⊥
+IsFirstMissing passes closed (Drawn held drawn) = ⊥
+
+-- the shards before the one that misses visits were closed, and they had none
+abbrev pub IsFirstUnseen : List SharedBookView → List Book → GatherFault → Type 0
+IsFirstUnseen opened closed (Missing shard held kept) =
+    (shard ≡ length closed) × AreUnseen opened closed
+IsFirstUnseen opened closed NoMemory = ⊥
+IsFirstUnseen opened closed (Drawn held drawn) = ⊥
+
+-- all books and the drawing were closed with what the shares hold
+pub record IsClosedWork (opened : List SharedBookView) (shares : List ShareView)
+    (closed : List Book) : Type 0 where
+  pub number : length closed ≡ length opened
+  pub books : (shard : ℕ) (book : Book) → slice_get closed shard ≡ Some book
+      → IsHistoryOf opened shares shard book
+  pub once : NoneTwice (flat_map (λ share. share.drawer.drawn) shares)
+  pub undrawn : (upload : ℕ) → times upload (flat_map (λ share. share.drawer.drawn) shares) ≡ 0
+      → All (λ share. share.drawer.seen ≤ upload) shares
+  pub last : (upload : ℕ) → times upload (flat_map (λ share. share.drawer.drawn) shares) ≡ 0
+      → AllBelow upload (flat_map (λ share. share.drawer.drawn) shares)

@@ -1,0 +1,8 @@
+-- Shares: what private functions alone cite.
+use Rattle.std.specs.Prelude.{ℕ, List}
+use Rattle.fare_service.specs.declared.upload_end.UploadEnd.{UploadEnd}
+use Rattle.fare_service.specs.Runs.{Visit}
+use Rattle.fare_service.specs.Shares.{Worked}
+
+abbrev pub worked : ℕ → UploadEnd → List Visit → Worked
+worked upload end visits = record { upload = upload; end = end; visits = visits }

@@ -1,0 +1,20 @@
+-- Stopping: what private functions alone cite.
+use Rattle.std.specs.Prelude.{◌≡◌, ◌⊎◌, ℕ, ◌+◌, List, ◌++◌, ◌∷◌, [], Result, IsErrOf}
+use Rattle.shard_book.specs.declared.entry.Entry.{Entry}
+use Rattle.shared_books.specs.Passes.{PassView}
+use Rattle.fare_service.specs.Shares.{own_at}
+use Rattle.fare_service.specs.declared.working.Stop.{Stop}
+use Rattle.fare_service.specs.declared.working.Stop.TheVariants.{Memory, Full}
+use Rattle.fare_service.specs.Stopping.{SomeFull}
+
+-- What was known of a full shard is still known. Where a full shard stopped the work, it is known
+-- now.
+abbrev pub TellsFull : {A : Type 0} → Result A Stop → List PassView → List PassView → Type 0
+TellsFull answer old new = SomeFull old ⊎ IsErrOf answer Full → SomeFull new
+
+-- where want of memory stopped a run, no full shard did: the passes are as they were, or a visit to
+-- the shard was made
+abbrev pub TellsMemory : ℕ → Result (Unit {0}) Stop → List PassView → List PassView → Type 0
+TellsMemory shard answer old new =
+    IsErrOf answer Memory → (new ≡ old)
+    ⊎ ((visit : List Entry) × (own_at shard new ≡ own_at shard old ++ visit ∷ []))

@@ -1,0 +1,31 @@
+-- Replays: what private functions alone cite.
+use Rattle.std.specs.Prelude.{◌≡◌, ℕ, ◌+◌, ◌<◌, List, [], ◌∷◌, ◌++◌}
+use Rattle.fare_table.specs.Fares.{Fares}
+use Rattle.shard_book.specs.Entry.{own}
+use Rattle.shard_book.specs.declared.entry.Entry.{Entry}
+use Rattle.shard_book.specs.History.{IsReplied}
+use Rattle.ledger_check.specs.Ledger.{IsLineAfter}
+use Rattle.ledger_check.specs.declared.turn.Turn.{Turn}
+use Rattle.ledger_check.specs.declared.replay.Replay.{Replay}
+use Rattle.ledger_check.specs.declared.replay.Step.{Step}
+use Rattle.ledger_check.specs.declared.replay.Step.TheVariants.{Legal, Wants, NoLine}
+use Rattle.ledger_check.specs.Replays.{HasRead, IsWanted, IsWrongAfter, StandsAt}
+
+-- the token's next tap was taken: this is its line, and the turn after it
+pub record GoesOn (fares : Fares) (turn : Turn) (entries : List Entry) (validator moment : ℕ)
+    (line : List ℕ) (after : Turn) : Type 0 where
+  pub entry : Entry
+  pub token : entry.token ≡ turn.token
+  pub of_validator : entry.validator ≡ validator
+  pub of_moment : entry.moment ≡ moment
+  pub replied : IsReplied fares entries entry
+  pub shown : IsLineAfter fares (own entry.token entries) entry line
+  pub stands : StandsAt fares after (entries ++ entry ∷ [])
+  pub some : 0 < after.number
+
+-- what a step found of the next line
+abbrev pub IsStep : Fares → Replay → List (List ℕ) → List ℕ → List ℕ → Step → Type 0
+IsStep fares after lines line wanted Legal = HasRead fares after (lines ++ line ∷ [])
+IsStep fares after lines line wanted Wants =
+    IsWrongAfter fares lines line × IsWanted fares lines wanted
+IsStep fares after lines line wanted NoLine = IsWrongAfter fares lines line

@@ -1,0 +1,47 @@
+-- Tables: what private functions alone cite.
+use Rattle.std.specs.Prelude.{◌≡◌, ℕ, List, [], Some, None, Ok, Err, Result, Option}
+use Rattle.std.specs.Io.BufRead.{first_line, drop_through}
+use Rattle.std.specs.Io.KnownBytes.{Appends}
+use Rattle.tap_views.specs.declared.encoder.TapFields.{TapFields}
+use Rattle.tap_parts.specs.Parts.{IsFileOf}
+use Rattle.tap_rows.specs.Rows.{IsRow, IsNoRow}
+use Rattle.tap_rows.specs.declared.fault.RowsFault.{RowsFault}
+use Rattle.tap_rows.specs.declared.fault.RowsFault.TheVariants.{Head, Row, Unread, Changed, Write}
+use Rattle.tap_rows.specs.declared.fault.RowsFault.TheVariants.{NoMemory}
+use Rattle.tap_rows.specs.Tables.{head}
+
+-- ---- what the private functions tell each other
+-- the next row of what is left of a table, which has this number, and what is left then
+abbrev pub IsNextRow : List ℕ → ℕ → Option (List ℕ) → Result (Option TapFields) RowsFault → Type 0
+IsNextRow left number new (Ok None) = left ≡ []
+IsNextRow left number new (Ok (Some tap)) =
+    ¬ (left ≡ []) × IsRow (first_line left) tap × (new ≡ Some (drop_through 10 left))
+IsNextRow left number new (Err Head) = ⊥
+IsNextRow left number new (Err (Row at column)) =
+    (at ≡ number) × ¬ (left ≡ []) × IsNoRow (first_line left) column
+IsNextRow left number new (Err Changed) = ⊥
+IsNextRow left number new (Err Unread) = Unit {0}
+IsNextRow left number new (Err Write) = Unit {0}
+IsNextRow left number new (Err NoMemory) = Unit {0}
+
+-- why the head was not read
+abbrev pub IsHeadFault : List ℕ → RowsFault → Type 0
+IsHeadFault text Head = ¬ (first_line text ≡ head)
+IsHeadFault text (Row number column) = ⊥
+IsHeadFault text Changed = ⊥
+IsHeadFault text Unread = Unit {0}
+IsHeadFault text Write = ⊥
+IsHeadFault text NoMemory = Unit {0}
+
+-- what was written behind the old bytes is an upload with no fault, of exactly these taps
+abbrev pub IsEncodedAs : List TapFields → Option (List ℕ) → Option (List ℕ) → Type 0
+IsEncodedAs taps old new = (file : List ℕ) × IsFileOf file taps × Appends old new file
+
+-- why a batch was not written
+abbrev pub IsBatchFault : RowsFault → Type 0
+IsBatchFault Head = ⊥
+IsBatchFault (Row number column) = ⊥
+IsBatchFault Changed = ⊥
+IsBatchFault Unread = ⊥
+IsBatchFault Write = Unit {0}
+IsBatchFault NoMemory = Unit {0}
