@@ -207,5 +207,5 @@ tells given works outcome uploads ends later some named here cuts numbers tokens
           } in
           (λ a. there (over.0 a), λ b. over.1 (back b));
       entries = books;
-      table = λ book there. (gathered.books 0 book there).its_table;
+      table = λ book there. (headline.books 0 book there).0;
     }
