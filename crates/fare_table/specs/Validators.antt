@@ -7,7 +7,7 @@ use Rattle.std.specs.Ordering.{nat_cmp}
 use Rattle.toml.specs.Data.{Data, Items, no_items, item, Members, as_table}
 use Rattle.fare_table.specs.Members.{array_at, number_at, of_kind, text_at, are_tables}
 use Rattle.fare_table.specs.Modes.{mode_named}
-use Rattle.fare_table.specs.Outcome.{Outcome}
+use Rattle.fare_table.specs.Outcome.{Outcome, ◌>>=◌}
 use Rattle.fare_table.specs.declared.fault.Key.TheVariants as the_key
 use Rattle.fare_table.specs.declared.fault.TableFault.TheVariants.{Kind, Overlap}
 use Rattle.fare_table.specs.declared.validators.Span.{Span}
