@@ -7,9 +7,6 @@ _omny_cli() {
         # >>> --ledger
         --ledger
         # <<< --ledger
-        # >>> --explain
-        --explain
-        # <<< --explain
     )
     # bash splits a word at `=`, so that `--table=F` is the words `--table`, `=` and `F`
     if [[ $word == = ]]; then

@@ -17,8 +17,5 @@ complete -c omny_cli -l token -x -d 'Print the statement of this token'
 # >>> --ledger
 complete -c omny_cli -l ledger -d 'Print the ledger: every entry, as CSV'
 # <<< --ledger
-# >>> --explain
-complete -c omny_cli -l explain -d 'Give the reason of each line of the statement'
-# <<< --explain
 complete -c omny_cli -s h -l help -d 'Print help'
 complete -c omny_cli -k -a '(__omny_cli_files .tap)'
