@@ -1,13 +1,9 @@
 //! The command line.
-ghost use Rattle.std.specs.Prelude.{◌≡◌, ◌≤◌, ◌^◌, ◌<◌, ℕ, IfOk, [], codes, false, map};
-ghost use Rattle.std.specs.Prelude.{string_bytes, unwrap_or};
+ghost use Rattle.std.specs.Prelude.{◌≡◌, ◌≤◌, ◌^◌, ◌<◌, ℕ, IfOk, [], codes, false, map, string_bytes, unwrap_or};
 ghost use Rattle.clap.specs.Words.{FailsBy, all_of, app_of, fault_of, found_of, matches_of};
 ghost use Rattle.clap.specs.Words.{rows_of, rule_of};
-ghost use Rattle.omny_cli.specs.Options.{asked_by, asked_of, file_rule, is_given, list_rule};
-ghost use Rattle.omny_cli.specs.Options.{number_of, program};
-ghost use Rattle.omny_cli.specs.inside.Options.{HasNumber};
-ghost use Rattle.omny_cli.specs.Options.{settle_rule, shards_rule, table_rule, token_rule};
-ghost use Rattle.omny_cli.specs.Options.{workers_rule};
+ghost use Rattle.omny_cli.specs.Options.{HasNumber, asked_by, asked_of, file_rule, is_given, list_rule, number_of, program};
+ghost use Rattle.omny_cli.specs.Options.{ledger_rule, settle_rule, shards_rule, table_rule, token_rule, workers_rule};
 
 use crate::asked::Options;
 use clap::{Arg, ArgAction, ArgMatches, Command, Error, value_parser};
@@ -16,12 +12,14 @@ use std::alloc::{AllocError, Global};
 const ABOUT: &str = "Charges the taps of upload files by a fare table, and reports what they cost.
 
 With --table the uploads are posted to accounts, by worker threads, and the report is printed, or
-with --token the statement of one token. Without --table, or with --list, the taps are only listed,
+with --token the statement of one token, or with --ledger the ledger. Without --table, or with --list, the taps are only listed,
 each as live, stale or unknown.";
 
 const NOTES: &str = "What is printed:
   report     how each upload ended, then the sums of all taps, of each validator, of each token
   statement  each tap of the token, what it was and cost, the token's sums, its last window
+  ledger     CSV, a head line and a line for each tap of each token, with its window and the reason
+             of what it cost; with --token those of one token
   listing    each tap: number of its file, its number there (both from 0), token, validator,
              moment in milliseconds since 1970-01-01T00:00Z, and live (later than every known tap
              of its token before it), stale (not so) or unknown (the table lacks its validator)
@@ -54,6 +52,9 @@ const TOKEN_HELP: &str =
 
 const SETTLE_HELP: &str =
     "Post the taps of all uploads in order of token, moment and validator; needs --table";
+
+const LEDGER_HELP: &str =
+    "Print the ledger, of all tokens or of that of --token, not the report; needs --table";
 
 const FILE_HELP: &str =
     "Uploads, files of TAP1 and TAP2 batches of at most 67108864 bytes [default: standard input]";
@@ -126,6 +127,16 @@ fn settle_arg<'a>(alloc: Global) -> Arg<'a>
         .help(SETTLE_HELP)
 }
 
+fn ledger_arg<'a>(alloc: Global) -> Arg<'a>
+    ensures rule { rule_of result ≡ ledger_rule }
+    ensures local { result.global ≡ false }
+{
+    Arg::new(alloc, "ledger")
+        .long("ledger")
+        .action(ArgAction::SetTrue)
+        .help(LEDGER_HELP)
+}
+
 fn file_arg<'a>(alloc: Global) -> Arg<'a>
     ensures rule { rule_of result ≡ file_rule }
     ensures local { result.global ≡ false }
@@ -145,6 +156,7 @@ fn command<'a>(alloc: Global) -> Result<Command<'a>, AllocError>
     let shards = shards_arg(alloc);
     let token = token_arg(alloc);
     let settle = settle_arg(alloc);
+    let ledger = ledger_arg(alloc);
     let file = file_arg(alloc);
     Command::new(alloc, "omny_cli")
         .about(ABOUT)
@@ -155,6 +167,7 @@ fn command<'a>(alloc: Global) -> Result<Command<'a>, AllocError>
         .arg(shards)?
         .arg(token)?
         .arg(settle)?
+        .arg(ledger)?
         .arg(file)
 }
 
@@ -162,10 +175,8 @@ fn command<'a>(alloc: Global) -> Result<Command<'a>, AllocError>
 fn matched<'a>(alloc: Global, words: &'a [String]) -> Result<ArgMatches<'a>, Error>
     ensures rows { IfOk result (λ matches. rows_of (found_of matches)
         ≡ matches_of program (map string_bytes words.entry.now)) }
-    ensures workers { IfOk result
-        (λ matches. HasNumber 16 (codes "workers") (rows_of (found_of matches))) }
-    ensures shards { IfOk result
-        (λ matches. HasNumber 64 (codes "shards") (rows_of (found_of matches))) }
+    ensures workers { IfOk result (λ matches. HasNumber 16 (codes "workers") (rows_of (found_of matches))) }
+    ensures shards { IfOk result (λ matches. HasNumber 64 (codes "shards") (rows_of (found_of matches))) }
     ensures kinds { FailsBy (fault_of program (map string_bytes words.entry.now)) result }
 {
     command(alloc)?.try_get_matches_from(words)
@@ -193,9 +204,8 @@ fn flag_in<'a>(matches: &ArgMatches<'a>, name: &str) -> bool
 fn number_in<'a>(matches: &ArgMatches<'a>, name: &str) -> u32
     requires { HasNumber 64 name.now (rows_of (found_of matches.now)) }
     ensures number { result ≡ number_of name.now (rows_of (found_of matches.now)) }
-    ensures range { (most : ℕ) → most < 2 ^ 32
-        → HasNumber most name.now (rows_of (found_of matches.now)) → (1 ≤ result)
-        × (result ≤ most) }
+    ensures range { (most : ℕ) → most < 2 ^ 32 → HasNumber most name.now (rows_of (found_of matches.now))
+        → (1 ≤ result) × (result ≤ most) }
 {
     match matches.get_one(name) {
         Some(number) => number,
@@ -206,8 +216,7 @@ fn number_in<'a>(matches: &ArgMatches<'a>, name: &str) -> u32
 impl<'a> Options<'a> {
     /// What the words ask for; else clap's error, which may be a call for help.
     pub fn read(alloc: Global, words: &'a [String]) -> Result<Options<'a>, Error>
-        ensures asked { IfOk result
-            (λ options. asked_of options ≡ asked_by (map string_bytes words.entry.now)) }
+        ensures asked { IfOk result (λ options. asked_of options ≡ asked_by (map string_bytes words.entry.now)) }
         ensures kinds { FailsBy (fault_of program (map string_bytes words.entry.now)) result }
     {
         let matches = matched(alloc, words)?;
@@ -218,6 +227,7 @@ impl<'a> Options<'a> {
             shards: number_in(&matches, "shards"),
             token: matches.get_str("token"),
             settle: flag_in(&matches, "settle"),
+            ledger: flag_in(&matches, "ledger"),
             files: files_in(alloc, &matches)?,
         })
     }

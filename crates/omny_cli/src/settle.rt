@@ -4,8 +4,7 @@ ghost use Rattle.std.specs.Io.KnownBytes.{Appends, Keeps};
 ghost use Rattle.fare_service.specs.Plain.{WasWhole};
 ghost use Rattle.omny_cli.specs.Fault.{status_of};
 ghost use Rattle.omny_cli.specs.Program.{IsRun};
-ghost use Rattle.omny_cli.specs.Settling.{Settles};
-ghost use Rattle.omny_cli.specs.inside.Settling.{IsOutcomeOf};
+ghost use Rattle.omny_cli.specs.Settling.{IsOutcomeOf, Settles};
 
 use crate::asked::Options;
 use crate::fault::Fault;
@@ -22,8 +21,7 @@ use std::random::RandomSource;
 use std::sync::Wait;
 use std::thread::Threads;
 
-/// Runs the service over these uploads. There is no outcome of a part of them: where memory cut
-/// one, it is want of memory.
+/// Runs the service over these uploads. There is no outcome of a part of them: where memory cut one, it is want of memory.
 fn whole_outcome_of<'a, R: Threads + Wait + RandomSource + Sync>(
     rt: &R,
     alloc: Global,
@@ -44,15 +42,14 @@ fn whole_outcome_of<'a, R: Threads + Wait + RandomSource + Sync>(
 }
 
 /// What the service comes to over the settled taps of the files, and how the files ended.
-fn settled_outcome<'a, R: Threads + Wait + RandomSource + Sync>(
+pub fn settled_outcome<'a, R: Threads + Wait + RandomSource + Sync>(
     rt: &R,
     alloc: Global,
     table: FareTable,
     options: &Options<'a>,
     files: Vec<Vec<u8>>,
 ) -> Result<(Outcome, Vec<UploadEnd>), Fault<'a>>
-    ensures settled { IfOk result
-        (λ settled. IsOutcomeOf table (map (λ f. f.items) files.items) settled.1.items settled.0) }
+    ensures settled { IfOk result (λ settled. IsOutcomeOf table (map (λ f. f.items) files.items) settled.1.items settled.0) }
     ensures status { IfErr result (λ fault. status_of fault ≡ 1) }
 {
     let Settled { ends, files } = settle(rt, alloc, files)?;
@@ -63,8 +60,8 @@ fn settled_outcome<'a, R: Threads + Wait + RandomSource + Sync>(
     Ok((outcome, ends))
 }
 
-/// Posts the taps of the files in canonical order, and writes the report with the files' ends, or
-/// the statement of the token where one is asked for. Says whether each file was posted whole.
+/// Posts the taps of the files in canonical order, and writes the report with the files' ends, or the statement of the token where one is
+/// asked for. Says whether each file was posted whole.
 pub fn charge_settled<'a, R: Threads + Wait + RandomSource + Sync, W: Write>(
     rt: &R,
     alloc: Global,
@@ -74,11 +71,9 @@ pub fn charge_settled<'a, R: Threads + Wait + RandomSource + Sync, W: Write>(
     files: Vec<Vec<u8>>,
     out: &mut W,
 ) -> Result<bool, Fault<'a>>
-    ensures ok { IfOk result (λ well. (text : List ℕ)
-        × Settles table (map (λ f. f.items) files.items) token text well
+    ensures ok { IfOk result (λ well. (text : List ℕ) × Settles table (map (λ f. f.items) files.items) token text well
         × Appends (W.contents out.old) (W.contents out.new) text) }
-    ensures fault { IfErr result (λ fault. fault ≢ Fault.Write
-        → Keeps (W.contents out.old) (W.contents out.new)) }
+    ensures fault { IfErr result (λ fault. fault ≢ Fault.Write → Keeps (W.contents out.old) (W.contents out.new)) }
     ensures status { IfErr result (λ fault. status_of fault ≡ 1) }
 {
     let (outcome, ends) = settled_outcome(rt, alloc, table, options, files)?;
