@@ -7,7 +7,8 @@ use Rattle.std.proofs.lemmas.List.Folds.{list_all-append}
 use Rattle.fare_table.specs.Fares.{Fares}
 use Rattle.tap_views.specs.Files.{IsReading, Item}
 use Rattle.omny_cli.specs.Listing.{Kept, Listed, StandsFor}
-use Rattle.omny_cli.specs.Uploads.{AreReadings, ListsUpload, ListsUploads, lines_from, taps_in, upload_lines}
+use Rattle.omny_cli.specs.Uploads.{AreReadings, lines_from, taps_in, upload_lines}
+use Rattle.omny_cli.specs.inside.Uploads.{ListsUpload, ListsUploads}
 
 readings_push : (files : List (List ℕ)) (readings : List (List Item)) (file : List ℕ) (items : List Item) → AreReadings files readings → IsReading file items
     → AreReadings (files ++ file ∷ []) (readings ++ items ∷ [])

@@ -28,7 +28,7 @@ use Rattle.clap.specs.declared.parser.matches.MatchedArg.{MatchedArg}
 use Rattle.clap.proofs.CallerLemmas.{default_present, entry_by_id, same_rules_by_id}
 use Rattle.clap.proofs.SimpleLemmas.{ready_simple, simple_groups}
 use Rattle.clap.proofs.WalkLemmas.{both, one_text-rows}
-use Rattle.omny_cli.specs.Options.{HasNumber}
+use Rattle.omny_cli.specs.inside.Options.{HasNumber}
 
 abbrev pub arg_at : Command → ℕ → Arg → Arg
 arg_at c k d = slice_index_or (args_of c) k d

@@ -9,7 +9,8 @@ use Rattle.fare_table.specs.Fares.{Fares}
 use Rattle.tap_views.specs.Layout.{Tap}
 use Rattle.tap_views.specs.Files.{IsReading, Item}
 use Rattle.tap_views.specs.declared.fault.LayoutFault.{LayoutFault}
-use Rattle.omny_cli.specs.Uploads.{Lists, ListsUpload, listed, tap_lines, taps_in, upload_lines}
+use Rattle.omny_cli.specs.Uploads.{listed, tap_lines, taps_in, upload_lines}
+use Rattle.omny_cli.specs.inside.Uploads.{Lists, ListsUpload}
 use Rattle.omny_cli.proofs.Sizes.{taps_within}
 
 -- with the taps that are left, the listing comes to this text and these taps

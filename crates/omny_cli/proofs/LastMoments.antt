@@ -15,7 +15,8 @@ use Rattle.tap_views.specs.Layout.{Tap, num}
 use Rattle.omny_cli.specs.declared.listing.Word.{Word}
 use Rattle.omny_cli.specs.declared.listing.Word.TheVariants.{Live, Stale, Unknown}
 use Rattle.omny_cli.specs.declared.listing.ListCounts.{ListCounts}
-use Rattle.omny_cli.specs.Listing.{Listed, StandsFor, are_before, count_of, counted, counts_of, is_later, is_word, known_of, last_after, last_of, moment_of, word_by, word_of, words_after}
+use Rattle.omny_cli.specs.Listing.{Listed, StandsFor, are_before, count_of, counts_of, is_later, is_word, known_of, last_of, moment_of, word_of, words_after}
+use Rattle.omny_cli.specs.inside.Listing.{counted, last_after, word_by}
 
 -- the map's own look-up
 pub last_of-get : (last : List (List ℕ × ℕ)) (token : List ℕ) → last_of last token ≡ lookup (λ k. is_eq (slice_cmp nat_cmp token k)) last

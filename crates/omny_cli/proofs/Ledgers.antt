@@ -13,7 +13,7 @@ use Rattle.shard_book.specs.declared.entry.Entry.{Entry}
 use Rattle.shard_book.specs.declared.token.Token.{Token}
 use Rattle.shard_book.proofs.RisingLemmas.{rising-is, rising-only}
 use Rattle.shard_book.proofs.TokenLemmas.{token_cmp-total, token_cmp-ties}
-use Rattle.fare_service.specs.Outcomes.{Gathered}
+use Rattle.fare_service.specs.Outcomes.{OutcomeView}
 use Rattle.fare_service.specs.declared.upload_end.UploadEnd.{UploadEnd}
 use Rattle.fare_service.proofs.PlainSums.{same_entries}
 use Rattle.ledger_texts.specs.Ledger.{AreLinesOfEach, IsLedgerOf, IsLedgerOver, tokens_told}
@@ -36,7 +36,7 @@ same_told : (entries others : List Entry) → ((token : Token) → own token ent
 same_told entries others same None = same_tokens entries others same
 same_told entries others same (Some token) = refl
 
-ledger_same : (fares : Fares) (outcome : Gathered) (history : List Entry) (only : Option Token) (text : List ℕ)
+ledger_same : (fares : Fares) (outcome : OutcomeView) (history : List Entry) (only : Option Token) (text : List ℕ)
     → ((token : Token) → own token (all_entries outcome.books) ≡ own token history)
     → ((book : Book) → slice_get outcome.books 0 ≡ Some book → book.table ≡ fares)
     → IsLedgerOf outcome.books only text → IsLedgerOver fares history only text
@@ -51,7 +51,7 @@ ledger_same fares outcome history only text same table is =
       whole = over.whole;
     }
 
-pub settles_ledger : (fares : Fares) (files : List (List ℕ)) (ends : List UploadEnd) (outcome : Gathered) (token : Option Token) (text : List ℕ) (well : Bool)
+pub settles_ledger : (fares : Fares) (files : List (List ℕ)) (ends : List UploadEnd) (outcome : OutcomeView) (token : Option Token) (text : List ℕ) (well : Bool)
     → IsOutcomeOf fares files ends outcome → IsLedgerOf outcome.books token text → well ≡ are_posted ends → SettlesLedger fares files token text well
 settles_ledger fares files ends outcome token text well is shown is_well = record {
   history = is.tells.history;

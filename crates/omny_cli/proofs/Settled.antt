@@ -2,7 +2,7 @@
 use Rattle.std.proofs.Common.{◌≡◌, ℕ, List, Bool, Option, None, Some, sym, subst}
 use Rattle.fare_table.specs.Fares.{Fares}
 use Rattle.shard_book.specs.declared.token.Token.{Token}
-use Rattle.fare_service.specs.Outcomes.{Gathered}
+use Rattle.fare_service.specs.Outcomes.{OutcomeView}
 use Rattle.fare_service.specs.Plain.{IsReportOver}
 use Rattle.fare_service.specs.declared.upload_end.UploadEnd.{UploadEnd}
 use Rattle.omny_cli.specs.Posted.{are_posted}
@@ -10,7 +10,7 @@ use Rattle.omny_cli.specs.Program.{ShowsWith}
 use Rattle.omny_cli.specs.Settling.{IsOutcomeOf, Settles, ShowsOver}
 
 -- what is shown of such an outcome is shown over the history
-pub settles : (fares : Fares) (files : List (List ℕ)) (ends : List UploadEnd) (outcome : Gathered)
+pub settles : (fares : Fares) (files : List (List ℕ)) (ends : List UploadEnd) (outcome : OutcomeView)
     (token : Option Token) (text : List ℕ) (well : Bool) → IsOutcomeOf fares files ends outcome
     → ShowsWith token ends outcome text → well ≡ are_posted ends
     → Settles fares files token text well

@@ -4,4 +4,6 @@ use Rattle.omny_cli.specs.declared.ahead.Early.{Early}
 
 -- the next file, which stands last in the list, has another name, or there is none
 abbrev pub IsNotNext : List ℕ → List Early → Type 0
-IsNotNext name early = (before : List Early) (next : Early) → early ≡ before ++ next ∷ [] → string_bytes next.name ≢ name
+IsNotNext name early =
+    (before : List Early) (next : Early) → early ≡ before ++ next ∷ []
+    → string_bytes next.name ≢ name

@@ -1,5 +1,6 @@
 -- The fault lines, without their line feeds, and their statuses.
-use Rattle.std.specs.Prelude.{◌≡◌, ◌<◌, ℕ, List, ◌++◌, Bool, true, false, Option, Some, None, codes, if◌then◌else◌, is_ok, is_some}
+use Rattle.std.specs.Prelude.{◌<◌, ℕ, List, ◌++◌, Bool, true, false, Option, Some, None, codes}
+use Rattle.std.specs.Prelude.{if◌then◌else◌, is_ok, is_some}
 use Rattle.hex.specs.Hex.{decode_sized}
 use Rattle.fare_table.specs.Key.{key_name}
 use Rattle.fare_table.specs.declared.fault.TableFault.{TableFault}
@@ -14,7 +15,10 @@ use Rattle.omny_cli.specs.Options.{Asked}
 use Rattle.omny_cli.specs.declared.load.LoadFault.{LoadFault}
 use Rattle.omny_cli.specs.declared.load.LoadFault.TheVariants as load
 use Rattle.omny_cli.specs.declared.fault.Fault.{Fault}
-use Rattle.omny_cli.specs.declared.fault.Fault.TheVariants.{Digits, NoTable, SettleNoTable, SettleList, LedgerNoTable, LedgerList, Unread, TooLong, Table, Uploads, Gather, Write, NoMemory}
+use Rattle.omny_cli.specs.declared.fault.Fault.TheVariants.{Digits, NoTable, SettleNoTable}
+use Rattle.omny_cli.specs.declared.fault.Fault.TheVariants.{SettleList, LedgerNoTable, LedgerList}
+use Rattle.omny_cli.specs.declared.fault.Fault.TheVariants.{Unread, TooLong, Table, Uploads, Gather}
+use Rattle.omny_cli.specs.declared.fault.Fault.TheVariants.{Write, NoMemory}
 
 -- a fault of a table by its number, and the key where it has one
 abbrev pub table_text : TableFault → List ℕ
@@ -75,24 +79,19 @@ load_text name load.Unread = codes "fault: cannot read " ++ name
 load_text name load.TooLong = codes "fault: " ++ (name ++ codes " is too long")
 load_text name load.NoMemory = codes "fault: out of memory"
 
--- the line tells of a load under this name
-abbrev pub IsLoadLine : List ℕ → List ℕ → Type 0
-IsLoadLine name line = (fault : LoadFault) × (line ≡ load_text name fault)
-
--- the line tells of a table's text
-abbrev pub IsTableLine : List ℕ → Type 0
-IsTableLine line = (fault : TableFault) × (line ≡ table_text fault)
-
--- What is wrong with the token that is asked for, if anything: first its digits, and then that there is no table.
+-- What is wrong with the token that is asked for, if anything: first its digits, and then that
+-- there is no table.
 abbrev pub token_fault_of : Option (List ℕ) → Option (List ℕ) → Option Fault
 token_fault_of None table = None
 token_fault_of (Some digits) table =
-    if is_ok (decode_sized digits 16) then (if is_some table then None else Some NoTable) else Some Digits
+    if is_ok (decode_sized digits 16) then (if is_some table then None else Some NoTable)
+    else Some Digits
 
 abbrev pub token_fault : Asked → Option Fault
 token_fault asked = token_fault_of asked.token asked.table
 
--- What is wrong with settling where it is asked for: first that there is no table, and then that the taps are to be listed.
+-- What is wrong with settling where it is asked for: first that there is no table, and then that
+-- the taps are to be listed.
 abbrev pub settle_fault_of : Bool → Bool → Option (List ℕ) → Option Fault
 settle_fault_of false list table = None
 settle_fault_of true list None = Some SettleNoTable
@@ -102,7 +101,8 @@ settle_fault_of true true (Some name) = Some SettleList
 abbrev pub settle_fault : Asked → Option Fault
 settle_fault asked = settle_fault_of asked.settle asked.list asked.table
 
--- What is wrong with the ledger where it is asked for: first that there is no table, and then that the taps are to be listed.
+-- What is wrong with the ledger where it is asked for: first that there is no table, and then that
+-- the taps are to be listed.
 abbrev pub ledger_fault_of : Bool → Bool → Option (List ℕ) → Option Fault
 ledger_fault_of false list table = None
 ledger_fault_of true list None = Some LedgerNoTable
@@ -117,11 +117,14 @@ abbrev pub first_fault : Option Fault → Option Fault → Option Fault
 first_fault None other = other
 first_fault (Some fault) other = Some fault
 
--- what is wrong with what is asked for, if anything: the token is looked at first, then settling, then the ledger
+-- what is wrong with what is asked for, if anything: the token is looked at first, then settling,
+-- then the ledger
 abbrev pub mistake : Asked → Option Fault
-mistake asked = first_fault (token_fault asked) (first_fault (settle_fault asked) (ledger_fault asked))
+mistake asked =
+    first_fault (token_fault asked) (first_fault (settle_fault asked) (ledger_fault asked))
 
--- why a run over so many uploads came to nothing: there were too many of them, or memory or the gathering failed
+-- why a run over so many uploads came to nothing: there were too many of them, or memory or the
+-- gathering failed
 abbrev pub IsRunFailure : ℕ → Fault → Type 0
 IsRunFailure uploads Uploads = 65535 < uploads
 IsRunFailure uploads NoMemory = Unit {0}

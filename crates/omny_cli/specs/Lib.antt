@@ -1,10 +1,11 @@
 pub mod Ahead
 pub mod Fault
-pub mod Listing
 pub mod Lines
+pub mod Listing
 pub mod Options
 pub mod Posted
 pub mod Program
 pub mod Settling
 pub mod Source
 pub mod Uploads
+pub mod inside

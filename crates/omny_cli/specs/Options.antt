@@ -1,10 +1,12 @@
 -- The command line, and what its words ask for.
-use Rattle.std.specs.Prelude.{◌≡◌, ℕ, Bool, false, ◌||◌, not, List, [], ◌∷◌, Option, Some, codes, is_some, map, option_map, pos, unwrap_or}
+use Rattle.std.specs.Prelude.{◌≡◌, ℕ, Bool, false, ◌||◌, not, List, [], ◌∷◌, Option, Some, codes}
+use Rattle.std.specs.Prelude.{is_some, map, option_map, pos, unwrap_or}
 use Rattle.std.specs.Option.{option_map_or}
 use Rattle.std.specs.Str.{bytes_eq}
 use Rattle.std.specs.Str.Parse.{digits_value, without_leading_plus}
-use Rattle.clap.specs.Words.{App, IsAmong, Row, Rule, Text, all_of, fault_of, first_of, matches_of, new_app}
-use Rattle.clap.specs.Words.{IsSignedIn, new_rule, one_of, with_rule, without_minus}
+use Rattle.clap.specs.Words.{App, IsAmong, Row, Rule, Text, all_of, fault_of, first_of, matches_of}
+use Rattle.clap.specs.Words.{new_app}
+use Rattle.clap.specs.Words.{new_rule, one_of, with_rule}
 use Rattle.clap.specs.declared.builder.action.ArgAction.TheVariants.{Set, SetTrue, Append}
 use Rattle.clap.specs.declared.builder.value_parser.ValueParser.TheVariants.{Signed}
 use Rattle.clap.specs.declared.error.kind.ErrorKind.TheVariants.{DisplayHelp}
@@ -52,11 +54,13 @@ token_rule = record (new_rule (codes "token")) {
 
 -- `--settle`
 abbrev pub settle_rule : Rule
-settle_rule = record (new_rule (codes "settle")) { long = Some (codes "settle"); action = Some SetTrue }
+settle_rule =
+    record (new_rule (codes "settle")) { long = Some (codes "settle"); action = Some SetTrue }
 
 -- `--ledger`
 abbrev pub ledger_rule : Rule
-ledger_rule = record (new_rule (codes "ledger")) { long = Some (codes "ledger"); action = Some SetTrue }
+ledger_rule =
+    record (new_rule (codes "ledger")) { long = Some (codes "ledger"); action = Some SetTrue }
 
 -- `FILE`, as often as wanted
 abbrev pub file_rule : Rule
@@ -64,7 +68,8 @@ file_rule = record (new_rule (codes "FILE")) { action = Some Append }
 
 abbrev pub app_of_options : App
 app_of_options =
-    with_rule (with_rule (with_rule (with_rule (with_rule (with_rule (with_rule (new_app (codes "omny_cli"))
+    with_rule (with_rule (with_rule
+    (with_rule (with_rule (with_rule (with_rule (new_app (codes "omny_cli"))
     table_rule) list_rule) workers_rule) shards_rule) token_rule) settle_rule) ledger_rule
 
 unfoldable pub program : App
@@ -101,12 +106,6 @@ number_in text = digits_value 10 (without_leading_plus text)
 -- the number of the option of this name
 abbrev pub number_of : Text → List Row → ℕ
 number_of name rows = option_map_or number_in (one_of name rows) 0
-
--- under the name stands a number of 1 to `most`, where a minus before it has been left out
-pub record HasNumber (most : ℕ) (name : Text) (rows : List Row) : Type 0 where
-  pub text : Text
-  pub read : one_of name rows ≡ Some (without_minus text)
-  pub within : IsSignedIn (pos 1) (pos most) text
 
 -- what a command line asks for
 pub record Asked : Type 0 where

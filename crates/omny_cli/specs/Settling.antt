@@ -3,7 +3,7 @@ use Rattle.std.specs.Prelude.{◌≡◌, ℕ, Bool, List, Option, None, Some}
 use Rattle.fare_table.specs.Fares.{Fares}
 use Rattle.shard_book.specs.declared.entry.Entry.{Entry}
 use Rattle.shard_book.specs.declared.token.Token.{Token}
-use Rattle.fare_service.specs.Outcomes.{Gathered}
+use Rattle.fare_service.specs.Outcomes.{OutcomeView}
 use Rattle.fare_service.specs.Plain.{ArePlainEnds, IsReportOver, IsStatementOver}
 use Rattle.fare_service.specs.declared.upload_end.UploadEnd.{UploadEnd}
 use Rattle.ledger_texts.specs.Ledger.{IsLedgerOver}
@@ -18,7 +18,7 @@ ShowsOver (Some token) fares files history text = IsStatementOver fares history 
 
 -- The files ended so, and the outcome tells their settled history.
 pub record IsOutcomeOf (fares : Fares) (files : List (List ℕ)) (ends : List UploadEnd)
-    (outcome : Gathered) : Type 0 where
+    (outcome : OutcomeView) : Type 0 where
   pub ended : ArePlainEnds files ends
   pub tells : TellsSettled fares files ends outcome
 
@@ -32,8 +32,10 @@ pub record Settles (fares : Fares) (files : List (List ℕ)) (token : Option Tok
   pub ended : ArePlainEnds files ends
   pub is_well : well ≡ are_posted ends
 
--- The text is the ledger over the settled history of the files, or that of this token. It is well where each file ends posted whole.
-pub record SettlesLedger (fares : Fares) (files : List (List ℕ)) (token : Option Token) (text : List ℕ)
+-- The text is the ledger over the settled history of the files, or that of this token. It is well
+-- where each file ends posted whole.
+pub record SettlesLedger (fares : Fares) (files : List (List ℕ)) (token : Option Token)
+    (text : List ℕ)
     (well : Bool) : Type 0 where
   pub history : List Entry
   pub is_settled : IsSettledHistory fares files history

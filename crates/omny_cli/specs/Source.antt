@@ -14,5 +14,6 @@ Tells (Some before) None loads = ⊥
 Tells (Some before) (Some after) loads = after ≡ before ++ loads
 
 -- one load under this name
-abbrev pub TellsOne : Option (List Loaded) → Option (List Loaded) → Option (List ℕ) → List ℕ → Type 0
+abbrev pub TellsOne : Option (List Loaded) → Option (List Loaded) → Option (List ℕ) → List ℕ
+    → Type 0
 TellsOne before after name bytes = Tells before after (record { name = name; bytes = bytes } ∷ [])

@@ -1,11 +1,12 @@
 -- The text of a listing of whole files.
-use Rattle.std.specs.Prelude.{◌≡◌, ◌+◌, ℕ, Bool, true, List, [], ◌∷◌, ◌++◌, length, map, flat_map, Option, None, Some, is_some, is_ok, Ok, Err}
+use Rattle.std.specs.Prelude.{◌≡◌, ◌+◌, ℕ, Bool, true, List, [], ◌∷◌, ◌++◌, length, map, flat_map}
+use Rattle.std.specs.Prelude.{Option, None, Some, is_some, is_ok, Ok, Err}
 use Rattle.std.specs.List.{list_all}
 use Rattle.tap_views.specs.Layout.{Tap, num}
 use Rattle.tap_views.specs.Files.{IsReading, Item}
 use Rattle.fare_table.specs.Fares.{Fares, mode_at}
 use Rattle.omny_cli.specs.Lines.{counts_line, refused_line, tap_line}
-use Rattle.omny_cli.specs.Listing.{Kept, Listed, StandsFor, counts_of, listed_of, word_of}
+use Rattle.omny_cli.specs.Listing.{Listed, counts_of, listed_of, word_of}
 
 -- Without a table every validator is known; with one, those that have a mode.
 abbrev pub is_known : Option Fares → Tap → Bool
@@ -55,31 +56,10 @@ AreReadings _ _ = ⊥
 
 -- The text lists the files: the lines of each in their order, of all their batches up to the first
 -- layout fault, and then the counts. It is clean where no file has a layout fault.
-pub record IsListing (fares : Option Fares) (files : List (List ℕ)) (text : List ℕ) (clean : Bool) : Type 0 where
+pub record IsListing (fares : Option Fares) (files : List (List ℕ)) (text : List ℕ) (clean : Bool)
+    : Type 0 where
   pub readings : List (List Item)
   pub read : AreReadings files readings
-  pub lines : text ≡ lines_from fares 0 [] readings ++ counts_line (counts_of (flat_map (taps_in fares) readings))
-  pub is_clean : clean ≡ are_whole readings
-
--- A listing went on with these taps: whatever list it stood for, their lines were appended, and it
--- now stands for that list followed by them.
-abbrev pub Lists : Kept → Kept → List ℕ → List ℕ → ℕ → ℕ → List Listed → Type 0
-Lists kept kept' text text' upload number taps = (before : List Listed) → StandsFor kept before
-    → (text' ≡ text ++ tap_lines upload number before taps) × StandsFor kept' (before ++ taps)
-
--- A listing went on with an upload, by a reading of its file.
-pub record ListsUpload (fares : Option Fares) (kept kept' : Kept) (text text' : List ℕ) (upload : ℕ) (file : List ℕ) (whole : Bool) : Type 0 where
-  pub items : List Item
-  pub reading : IsReading file items
-  pub lines : (before : List Listed) → StandsFor kept before
-      → (text' ≡ text ++ upload_lines fares upload 0 before items)
-      × StandsFor kept' (before ++ taps_in fares items)
-  pub is_whole : whole ≡ list_all is_ok items
-
--- A new listing went over these files.
-pub record ListsUploads (fares : Option Fares) (kept : Kept) (text text' : List ℕ) (files : List (List ℕ)) (clean : Bool) : Type 0 where
-  pub readings : List (List Item)
-  pub read : AreReadings files readings
-  pub lines : text' ≡ text ++ lines_from fares 0 [] readings
-  pub stands : StandsFor kept (flat_map (taps_in fares) readings)
+  pub lines : text ≡ lines_from fares 0 [] readings
+      ++ counts_line (counts_of (flat_map (taps_in fares) readings))
   pub is_clean : clean ≡ are_whole readings

@@ -1,5 +1,6 @@
 //! Files that are read before their turns, several at once.
-ghost use Rattle.std.specs.Prelude.{◌≡◌, ◌<◌, ◌≤◌, ◌++◌, ◌∷◌, [], IfNone, IfSome, length, string_bytes};
+ghost use Rattle.std.specs.Prelude.{◌≡◌, ◌<◌, ◌≤◌, ◌++◌, ◌∷◌, [], IfNone, IfSome, length};
+ghost use Rattle.std.specs.Prelude.{string_bytes};
 ghost use Rattle.omny_cli.specs.Ahead.{IsNotNext};
 
 use crate::load::LoadFault;
@@ -28,9 +29,11 @@ pub struct Early {
 
 /// Takes the next file of the list, which stands last there, where it has this name.
 pub fn take_next(early: &mut Vec<Early>, name: &str) -> Option<Result<Vec<u8>, LoadFault>>
-    ensures taken { IfSome result (λ loaded. (next : Early) × (early.old.items ≡ early.new.items ++ next ∷ [])
-        × (string_bytes next.name ≡ name.now) × (next.loaded ≡ loaded)) }
-    ensures kept { IfNone result ((early.new.items ≡ early.old.items) × IsNotNext name.now early.old.items) }
+    ensures taken { IfSome result (λ loaded. (next : Early)
+        × (early.old.items ≡ early.new.items ++ next ∷ []) × (string_bytes next.name ≡ name.now)
+        × (next.loaded ≡ loaded)) }
+    ensures kept { IfNone result ((early.new.items ≡ early.old.items)
+        × IsNotNext name.now early.old.items) }
 {
     if early.last()?.name.as_str() != name {
         return None;
@@ -39,7 +42,8 @@ pub fn take_next(early: &mut Vec<Early>, name: &str) -> Option<Result<Vec<u8>, L
     Some(next.loaded)
 }
 
-// How many files may be read before their turns. The first that may not keeps all behind it waiting: they may be made while it is read.
+// How many files may be read before their turns. The first that may not keeps all behind it
+// waiting: they may be made while it is read.
 fn count_early<D: Disk>(disk: &D, names: &[&str]) -> usize
     ensures { result ≤ length names.now }
 {
@@ -51,8 +55,9 @@ fn count_early<D: Disk>(disk: &D, names: &[&str]) -> usize
     names.len()
 }
 
-// Keeps what came of a file, and says whether the next one is to be read too: a fault ends all loading when its turn comes. Where
-// memory was refused, nothing is kept, so that the file is read when its turn comes.
+// Keeps what came of a file, and says whether the next one is to be read too: a fault ends all
+// loading when its turn comes. Where memory was refused, nothing is kept, so that the file is read
+// when its turn comes.
 fn keep(
     part: &mut Vec<Early>,
     name: String,
@@ -114,8 +119,9 @@ fn read_parts<R: Threads + Sync, D: Disk + Sync>(
     Ok(early)
 }
 
-/// Reads files before their turns, by so many threads at most, and gives what came of them, the first one last. One thread reads
-/// none: it would gain nothing. Where memory is refused, fewer are read or none; where a thread is, another reads its part.
+/// Reads files before their turns, by so many threads at most, and gives what came of them, the
+/// first one last. One thread reads none: it would gain nothing. Where memory is refused, fewer are
+/// read or none; where a thread is, another reads its part.
 pub fn read_early<R: Threads + Sync, D: Disk + Sync>(
     rt: &R,
     alloc: Global,

@@ -70,7 +70,8 @@ impl<'a> Fault<'a> {
     pub fn of_run(fault: RunFault) -> Fault<'a>
         requires { fault ≢ RunFault.Workers }
         ensures memory { fault ≡ RunFault.NoMemory → result ≡ Fault.NoMemory }
-        ensures gather { (why : GatherFault) → fault ≡ RunFault.Gather why → result ≡ Fault.Gather why }
+        ensures gather { (why : GatherFault) → fault ≡ RunFault.Gather why
+            → result ≡ Fault.Gather why }
     {
         match fault {
             RunFault::Workers => unreachable!(),

@@ -32,7 +32,8 @@ fn show<'a, W: Write>(
     ensures ok { OnOk result ((text : List ℕ) × IsLedgerOf outcome.now.books token text
         × Appends (W.contents out.old) (W.contents out.new) text) }
     ensures status { IfErr result (λ fault. status_of fault ≡ 1) }
-    ensures fault { IfErr result (λ fault. fault ≢ Fault.Write → Keeps (W.contents out.old) (W.contents out.new)) }
+    ensures fault { IfErr result (λ fault. fault ≢ Fault.Write
+        → Keeps (W.contents out.old) (W.contents out.new)) }
 {
     write_ledger(alloc, outcome.books(), token, out)?;
     flush(out)
@@ -49,9 +50,11 @@ fn charge_live<'a, R: Threads + Wait + RandomSource + Sync, W: Write>(
     out: &mut W,
 ) -> Result<bool, Fault<'a>>
     ensures ok { IfOk result (λ well. (text : List ℕ)
-        × ShowsLedger table options.now.shards options.now.workers (map (λ f. f.items) files.items) token text well
+        × ShowsLedger table options.now.shards options.now.workers
+        (map (λ f. f.items) files.items) token text well
         × Appends (W.contents out.old) (W.contents out.new) text) }
-    ensures fault { IfErr result (λ fault. fault ≢ Fault.Write → Keeps (W.contents out.old) (W.contents out.new)) }
+    ensures fault { IfErr result (λ fault. fault ≢ Fault.Write
+        → Keeps (W.contents out.old) (W.contents out.new)) }
     ensures status { IfErr result (λ fault. status_of fault ≡ 1) }
 {
     let outcome = outcome_of(rt, alloc, table, options, &files)?;
@@ -60,8 +63,8 @@ fn charge_live<'a, R: Threads + Wait + RandomSource + Sync, W: Write>(
     Ok(are_posted(outcome.ends()))
 }
 
-/// Posts the taps of the files in canonical order, and writes the ledger. Says whether each file was
-/// posted whole.
+/// Posts the taps of the files in canonical order, and writes the ledger. Says whether each file
+/// was posted whole.
 fn charge_in_order<'a, R: Threads + Wait + RandomSource + Sync, W: Write>(
     rt: &R,
     alloc: Global,
@@ -74,7 +77,8 @@ fn charge_in_order<'a, R: Threads + Wait + RandomSource + Sync, W: Write>(
     ensures ok { IfOk result (λ well. (text : List ℕ)
         × SettlesLedger table (map (λ f. f.items) files.items) token text well
         × Appends (W.contents out.old) (W.contents out.new) text) }
-    ensures fault { IfErr result (λ fault. fault ≢ Fault.Write → Keeps (W.contents out.old) (W.contents out.new)) }
+    ensures fault { IfErr result (λ fault. fault ≢ Fault.Write
+        → Keeps (W.contents out.old) (W.contents out.new)) }
     ensures status { IfErr result (λ fault. status_of fault ≡ 1) }
 {
     let (outcome, ends) = settled_outcome(rt, alloc, table, options, files)?;
@@ -98,7 +102,8 @@ pub fn charge_ledger<'a, R: Threads + Wait + RandomSource + Sync, W: Write>(
         × TellsLedger options.now.settle table options.now.shards options.now.workers
         (map (λ f. f.items) files.items) token text well
         × Appends (W.contents out.old) (W.contents out.new) text) }
-    ensures fault { IfErr result (λ fault. fault ≢ Fault.Write → Keeps (W.contents out.old) (W.contents out.new)) }
+    ensures fault { IfErr result (λ fault. fault ≢ Fault.Write
+        → Keeps (W.contents out.old) (W.contents out.new)) }
     ensures status { IfErr result (λ fault. status_of fault ≡ 1) }
 {
     if options.settle {

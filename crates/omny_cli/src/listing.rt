@@ -3,8 +3,10 @@ ghost use Rattle.std.specs.Prelude.{◌≡◌, ◌+◌, ◌^◌, ◌<◌, ℕ, L
 ghost use Rattle.std.specs.Prelude.{◌&&◌, if◌then◌else◌};
 ghost use Rattle.std.specs.Str.{bytes_eq};
 ghost use Rattle.tap_views.specs.Layout.{num};
-ghost use Rattle.omny_cli.specs.Listing.{Listed, StandsFor, Sums, counted, counts_of, is_later};
-ghost use Rattle.omny_cli.specs.Listing.{last_after, last_of, listed_of, word_by, word_of};
+ghost use Rattle.omny_cli.specs.Listing.{Listed, StandsFor, counts_of, is_later};
+ghost use Rattle.omny_cli.specs.inside.Listing.{Sums, counted};
+ghost use Rattle.omny_cli.specs.Listing.{last_of, listed_of, word_of};
+ghost use Rattle.omny_cli.specs.inside.Listing.{last_after, word_by};
 
 use fare_table::NoMemory;
 use std::alloc::Global;
@@ -118,7 +120,8 @@ pub struct Listing {
 }
 
 impl Model for Listing {
-    ghost use Rattle.omny_cli.specs.Listing.{Kept, Sums};
+    ghost use Rattle.omny_cli.specs.Listing.{Kept};
+    ghost use Rattle.omny_cli.specs.inside.Listing.{Sums};
 
     ghost Value = { Kept };
 

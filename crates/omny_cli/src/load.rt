@@ -10,7 +10,8 @@ use thiserror::Error;
 /// The most bytes of a file that is loaded: 64 MiB.
 pub const LONGEST: usize = 67_108_864;
 
-// How many bytes one read asks for: so many that the calls of the system cost little beside the bytes.
+// How many bytes one read asks for: so many that the calls of the system cost little beside the
+// bytes.
 const STEP: usize = 65_536;
 
 /// Why a file or standard input was not loaded.
@@ -45,23 +46,25 @@ pub trait Source {
     // What was loaded so far, in order, by a source that keeps it.
     ghost loaded: { Self → Option (List Loaded) } = { λ _. None };
 
-    /// Takes what was read of the next files before their turns, the first one last. None is loaded by it: each is given, or its
-    /// fault told, when it is loaded by its name.
+    /// Takes what was read of the next files before their turns, the first one last. None is loaded
+    /// by it: each is given, or its fault told, when it is loaded by its name.
     fn keep_early(&mut self, early: Vec<Early>)
         ensures { loaded self.new ≡ loaded self.old };
 
     /// All bytes of the file of this name. What a fault leaves loaded is not told.
     fn load(&mut self, name: &str) -> Result<Vec<u8>, LoadFault>
-        ensures { IfOk result (λ bytes. TellsOne (loaded self.old) (loaded self.new) (Some name.now) bytes.items) };
+        ensures { IfOk result (λ bytes.
+            TellsOne (loaded self.old) (loaded self.new) (Some name.now) bytes.items) };
 
     /// All bytes of standard input. What a fault leaves loaded is not told.
     fn input(&mut self) -> Result<Vec<u8>, LoadFault>
-        ensures { IfOk result (λ bytes. TellsOne (loaded self.old) (loaded self.new) None bytes.items) };
+        ensures { IfOk result (λ bytes.
+            TellsOne (loaded self.old) (loaded self.new) None bytes.items) };
 }
 
-/// All bytes that the reader has left, to its end. Reading stops at the first read that fails and at
-/// the first byte past the limit, so that a reader without end takes no more memory than the limit.
-/// How much was read is not told of a fault.
+/// All bytes that the reader has left, to its end. Reading stops at the first read that fails and
+/// at the first byte past the limit, so that a reader without end takes no more memory than the
+/// limit. How much was read is not told of a fault.
 pub fn load_from<R: Read>(alloc: Global, r: &mut R) -> Result<Vec<u8>, LoadFault>
     ensures whole { IfOk result (λ bytes. IfSome (R.remaining r.old) (λ left. bytes.items ≡ left)) }
     ensures short { IfOk result (λ bytes. length bytes.items ≤ LONGEST) }
@@ -70,7 +73,8 @@ pub fn load_from<R: Read>(alloc: Global, r: &mut R) -> Result<Vec<u8>, LoadFault
 {
     let mut bytes = Vec::new(alloc);
     let mut step = [0u8; STEP];
-    // Each turn reads at least one byte, so that the last one reads past the limit or finds the end.
+    // Each turn reads at least one byte, so that the last one reads past the limit or finds the
+    // end.
     for _turn in 0..=LONGEST {
         let Ok(count) = r.read(&mut step) else {
             return Err(LoadFault::Unread);

@@ -1,5 +1,5 @@
-//! The program: charges the taps of upload files by a fare table and prints what they cost, or lists
-//! them, each as live, stale or unknown.
+//! The program: charges the taps of upload files by a fare table and prints what they cost, or
+//! lists them, each as live, stale or unknown.
 //!
 //! | module | what it does |
 //! |---|---|

@@ -1,9 +1,13 @@
 //! The command line.
-ghost use Rattle.std.specs.Prelude.{◌≡◌, ◌≤◌, ◌^◌, ◌<◌, ℕ, IfOk, [], codes, false, map, string_bytes, unwrap_or};
+ghost use Rattle.std.specs.Prelude.{◌≡◌, ◌≤◌, ◌^◌, ◌<◌, ℕ, IfOk, [], codes, false, map};
+ghost use Rattle.std.specs.Prelude.{string_bytes, unwrap_or};
 ghost use Rattle.clap.specs.Words.{FailsBy, all_of, app_of, fault_of, found_of, matches_of};
 ghost use Rattle.clap.specs.Words.{rows_of, rule_of};
-ghost use Rattle.omny_cli.specs.Options.{HasNumber, asked_by, asked_of, file_rule, is_given, list_rule, number_of, program};
-ghost use Rattle.omny_cli.specs.Options.{ledger_rule, settle_rule, shards_rule, table_rule, token_rule, workers_rule};
+ghost use Rattle.omny_cli.specs.Options.{asked_by, asked_of, file_rule, is_given, list_rule};
+ghost use Rattle.omny_cli.specs.Options.{number_of, program};
+ghost use Rattle.omny_cli.specs.inside.Options.{HasNumber};
+ghost use Rattle.omny_cli.specs.Options.{ledger_rule, settle_rule, shards_rule, table_rule};
+ghost use Rattle.omny_cli.specs.Options.{token_rule, workers_rule};
 
 use crate::asked::Options;
 use clap::{Arg, ArgAction, ArgMatches, Command, Error, value_parser};
@@ -175,8 +179,10 @@ fn command<'a>(alloc: Global) -> Result<Command<'a>, AllocError>
 fn matched<'a>(alloc: Global, words: &'a [String]) -> Result<ArgMatches<'a>, Error>
     ensures rows { IfOk result (λ matches. rows_of (found_of matches)
         ≡ matches_of program (map string_bytes words.entry.now)) }
-    ensures workers { IfOk result (λ matches. HasNumber 16 (codes "workers") (rows_of (found_of matches))) }
-    ensures shards { IfOk result (λ matches. HasNumber 64 (codes "shards") (rows_of (found_of matches))) }
+    ensures workers { IfOk result
+        (λ matches. HasNumber 16 (codes "workers") (rows_of (found_of matches))) }
+    ensures shards { IfOk result
+        (λ matches. HasNumber 64 (codes "shards") (rows_of (found_of matches))) }
     ensures kinds { FailsBy (fault_of program (map string_bytes words.entry.now)) result }
 {
     command(alloc)?.try_get_matches_from(words)
@@ -204,8 +210,9 @@ fn flag_in<'a>(matches: &ArgMatches<'a>, name: &str) -> bool
 fn number_in<'a>(matches: &ArgMatches<'a>, name: &str) -> u32
     requires { HasNumber 64 name.now (rows_of (found_of matches.now)) }
     ensures number { result ≡ number_of name.now (rows_of (found_of matches.now)) }
-    ensures range { (most : ℕ) → most < 2 ^ 32 → HasNumber most name.now (rows_of (found_of matches.now))
-        → (1 ≤ result) × (result ≤ most) }
+    ensures range { (most : ℕ) → most < 2 ^ 32
+        → HasNumber most name.now (rows_of (found_of matches.now)) → (1 ≤ result)
+        × (result ≤ most) }
 {
     match matches.get_one(name) {
         Some(number) => number,
@@ -216,7 +223,8 @@ fn number_in<'a>(matches: &ArgMatches<'a>, name: &str) -> u32
 impl<'a> Options<'a> {
     /// What the words ask for; else clap's error, which may be a call for help.
     pub fn read(alloc: Global, words: &'a [String]) -> Result<Options<'a>, Error>
-        ensures asked { IfOk result (λ options. asked_of options ≡ asked_by (map string_bytes words.entry.now)) }
+        ensures asked { IfOk result
+            (λ options. asked_of options ≡ asked_by (map string_bytes words.entry.now)) }
         ensures kinds { FailsBy (fault_of program (map string_bytes words.entry.now)) result }
     {
         let matches = matched(alloc, words)?;

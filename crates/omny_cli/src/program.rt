@@ -1,13 +1,18 @@
 //! The whole program, over any source of bytes and any two writers.
-ghost use Rattle.std.specs.Prelude.{MatchBool, MatchOption, codes, ◌≡◌, ◌≢◌, ◌≤◌, ◌⊎◌, ◌++◌, ◌∷◌, [], ℕ, List, true, false, None, Some, IfErr, IfOk, OnOk, is_some, map, option_map, string_bytes};
+ghost use Rattle.std.specs.Prelude.{MatchBool, MatchOption, codes, ◌≡◌, ◌≢◌, ◌≤◌, ◌⊎◌, ◌++◌, ◌∷◌};
+ghost use Rattle.std.specs.Prelude.{[], ℕ, List, true, false, None, Some, IfErr, IfOk, OnOk};
+ghost use Rattle.std.specs.Prelude.{is_some, map, option_map, string_bytes};
 ghost use Rattle.clap.specs.Words.{kind_of};
 ghost use Rattle.std.specs.Io.KnownBytes.{Appends, Keeps};
 ghost use Rattle.std.specs.IoError.{error_kind};
-ghost use Rattle.fare_service.specs.Outcomes.{Gathered};
-ghost use Rattle.omny_cli.specs.Fault.{IsLoadLine, IsTableLine, fault_text, ledger_fault, mistake, settle_fault, status_of, token_fault};
+ghost use Rattle.fare_service.specs.Outcomes.{OutcomeView};
+ghost use Rattle.omny_cli.specs.Fault.{fault_text, ledger_fault, mistake, settle_fault, status_of};
+ghost use Rattle.omny_cli.specs.Fault.{token_fault};
+ghost use Rattle.omny_cli.specs.inside.Fault.{IsLoadLine, IsTableLine};
 ghost use Rattle.omny_cli.specs.Options.{AsksForHelp, Parses, asked_by, asked_of};
 ghost use Rattle.omny_cli.specs.Posted.{are_posted};
-ghost use Rattle.omny_cli.specs.Program.{Does, IsRun, IsTokenIn, Loads, LoadsFiles, LoadsTable, Shows, ShowsPlain, TellsLedger, wanted};
+ghost use Rattle.omny_cli.specs.Program.{Does, IsRun, IsTokenIn, Loads, LoadsFiles, LoadsTable};
+ghost use Rattle.omny_cli.specs.Program.{Shows, ShowsPlain, TellsLedger, wanted};
 ghost use Rattle.omny_cli.specs.Settling.{Settles};
 ghost use Rattle.omny_cli.specs.Source.{TellsOne};
 ghost use Rattle.omny_cli.specs.Uploads.{IsListing};
@@ -37,7 +42,8 @@ use std::thread::Threads;
 /// What standard input is called in a fault line.
 const STANDARD_INPUT: &str = "standard input";
 
-/// How many threads read files at once, or as many as there are workers where these are more. What is loaded does not depend on it.
+/// How many threads read files at once, or as many as there are workers where these are more. What
+/// is loaded does not depend on it.
 const READERS: u32 = 4;
 
 // All bytes of the file of this name.
@@ -86,7 +92,8 @@ fn load_table<'a, S: Source>(
     Ok(Some(table))
 }
 
-// The files of these names, in their order, or standard input where there is none. Several files may be read at once.
+// The files of these names, in their order, or standard input where there is none. Several files
+// may be read at once.
 fn load_files<'a, R: Threads + Sync, D: Disk + Sync, S: Source>(
     rt: &R,
     alloc: Global,
@@ -129,7 +136,8 @@ fn load<'a, R: Threads + Sync, D: Disk + Sync, S: Source>(
     options: &Options<'a>,
     source: &mut S,
 ) -> Result<(Option<FareTable>, Vec<Vec<u8>>), Fault<'a>>
-    ensures loads { IfOk result (λ loaded. Loads (asked_of options.now).table (asked_of options.now).files
+    ensures loads { IfOk result
+        (λ loaded. Loads (asked_of options.now).table (asked_of options.now).files
         (S.loaded source.old) (S.loaded source.new) loaded.0 (map (λ f. f.items) loaded.1.items)) }
     ensures status { IfErr result (λ fault. status_of fault ≡ 1) }
 {
@@ -156,7 +164,8 @@ fn token_of<'a>(options: &Options<'a>) -> Result<Option<Token>, Fault<'a>>
     Ok(Some(Token::of(&token)))
 }
 
-// Looks whether the taps may be settled, where that is asked for: there is a table to charge by, and they are not to be listed.
+// Looks whether the taps may be settled, where that is asked for: there is a table to charge by,
+// and they are not to be listed.
 fn check_settling<'a>(options: &Options<'a>) -> Result<(), Fault<'a>>
     ensures right { OnOk result (settle_fault (asked_of options.now) ≡ None) }
     ensures fault { IfErr result (λ fault. settle_fault (asked_of options.now) ≡ Some fault) }
@@ -173,7 +182,8 @@ fn check_settling<'a>(options: &Options<'a>) -> Result<(), Fault<'a>>
     Ok(())
 }
 
-// Looks whether the ledger may be printed, where that is asked for: there is a table to charge by, and the taps are not to be listed.
+// Looks whether the ledger may be printed, where that is asked for: there is a table to charge by,
+// and the taps are not to be listed.
 fn check_ledger<'a>(options: &Options<'a>) -> Result<(), Fault<'a>>
     ensures right { OnOk result (ledger_fault (asked_of options.now) ≡ None) }
     ensures fault { IfErr result (λ fault. ledger_fault (asked_of options.now) ≡ Some fault) }
@@ -211,9 +221,11 @@ fn list<'a, W: Write>(
     files: &[Vec<u8>],
     out: &mut W,
 ) -> Result<bool, Fault<'a>>
-    ensures ok { IfOk result (λ clean. (text : List ℕ) × IsListing table (map (λ f. f.items) files.now) text clean
+    ensures ok { IfOk result (λ clean. (text : List ℕ)
+        × IsListing table (map (λ f. f.items) files.now) text clean
         × Appends (W.contents out.old) (W.contents out.new) text) }
-    ensures fault { IfErr result (λ fault. fault ≢ Fault.Write → Keeps (W.contents out.old) (W.contents out.new)) }
+    ensures fault { IfErr result (λ fault. fault ≢ Fault.Write
+        → Keeps (W.contents out.old) (W.contents out.new)) }
     ensures status { IfErr result (λ fault. status_of fault ≡ 1) }
 {
     let (text, clean) = listing_text(alloc, table.as_ref(), files)?;
@@ -221,8 +233,8 @@ fn list<'a, W: Write>(
     Ok(clean)
 }
 
-// Runs the service over the files, which are given back before the text is made, and writes the text that
-// is asked for. Says whether each upload was posted whole.
+// Runs the service over the files, which are given back before the text is made, and writes the
+// text that is asked for. Says whether each upload was posted whole.
 fn charge<'a, R: Threads + Wait + RandomSource + Sync, W: Write>(
     rt: &R,
     alloc: Global,
@@ -232,12 +244,13 @@ fn charge<'a, R: Threads + Wait + RandomSource + Sync, W: Write>(
     files: Vec<Vec<u8>>,
     out: &mut W,
 ) -> Result<bool, Fault<'a>>
-    ensures ok { IfOk result (λ well. (outcome : Gathered) × (text : List ℕ)
-        × IsRun table options.now.shards options.now.workers (map (λ f. f.items) files.items) outcome
-        × Shows token outcome text × Appends (W.contents out.old) (W.contents out.new) text
-        × (well ≡ are_posted outcome.ends)
+    ensures ok { IfOk result (λ well. (outcome : OutcomeView) × (text : List ℕ)
+        × IsRun table options.now.shards options.now.workers
+        (map (λ f. f.items) files.items) outcome × Shows token outcome text
+        × Appends (W.contents out.old) (W.contents out.new) text × (well ≡ are_posted outcome.ends)
         × (well ≡ true → ShowsPlain table (map (λ f. f.items) files.items) token text)) }
-    ensures fault { IfErr result (λ fault. fault ≢ Fault.Write → Keeps (W.contents out.old) (W.contents out.new)) }
+    ensures fault { IfErr result (λ fault. fault ≢ Fault.Write
+        → Keeps (W.contents out.old) (W.contents out.new)) }
     ensures status { IfErr result (λ fault. status_of fault ≡ 1) }
 {
     let uploads = files.as_slice();
@@ -260,15 +273,16 @@ fn post<'a, R: Threads + Wait + RandomSource + Sync, W: Write>(
     files: Vec<Vec<u8>>,
     out: &mut W,
 ) -> Result<bool, Fault<'a>>
-    ensures ok { IfOk result (λ well. MatchBool options.now.settle
-        ((text : List ℕ) × Settles table (map (λ f. f.items) files.items) token text well
-        × Appends (W.contents out.old) (W.contents out.new) text)
-        ((outcome : Gathered) × (text : List ℕ)
-        × IsRun table options.now.shards options.now.workers (map (λ f. f.items) files.items) outcome
-        × Shows token outcome text × Appends (W.contents out.old) (W.contents out.new) text
-        × (well ≡ are_posted outcome.ends)
+    ensures ok { IfOk result (λ well.
+        MatchBool options.now.settle ((text : List ℕ)
+        × Settles table (map (λ f. f.items) files.items) token text well
+        × Appends (W.contents out.old) (W.contents out.new) text) ((outcome : OutcomeView)
+        × (text : List ℕ) × IsRun table options.now.shards options.now.workers
+        (map (λ f. f.items) files.items) outcome × Shows token outcome text
+        × Appends (W.contents out.old) (W.contents out.new) text × (well ≡ are_posted outcome.ends)
         × (well ≡ true → ShowsPlain table (map (λ f. f.items) files.items) token text))) }
-    ensures fault { IfErr result (λ fault. fault ≢ Fault.Write → Keeps (W.contents out.old) (W.contents out.new)) }
+    ensures fault { IfErr result (λ fault. fault ≢ Fault.Write
+        → Keeps (W.contents out.old) (W.contents out.new)) }
     ensures status { IfErr result (λ fault. status_of fault ≡ 1) }
 {
     if options.settle {
@@ -278,7 +292,8 @@ fn post<'a, R: Threads + Wait + RandomSource + Sync, W: Write>(
     }
 }
 
-// Posts the files, settled where that is asked for, and writes the ledger, or else the report or the statement.
+// Posts the files, settled where that is asked for, and writes the ledger, or else the report or
+// the statement.
 fn post_for<'a, R: Threads + Wait + RandomSource + Sync, W: Write>(
     rt: &R,
     alloc: Global,
@@ -288,19 +303,20 @@ fn post_for<'a, R: Threads + Wait + RandomSource + Sync, W: Write>(
     files: Vec<Vec<u8>>,
     out: &mut W,
 ) -> Result<bool, Fault<'a>>
-    ensures ok { IfOk result (λ well. MatchBool options.now.ledger
-        ((text : List ℕ) × TellsLedger options.now.settle table options.now.shards options.now.workers
+    ensures ok { IfOk result (λ well.
+        MatchBool options.now.ledger ((text : List ℕ)
+        × TellsLedger options.now.settle table options.now.shards options.now.workers
         (map (λ f. f.items) files.items) token text well
         × Appends (W.contents out.old) (W.contents out.new) text)
-        (MatchBool options.now.settle
-        ((text : List ℕ) × Settles table (map (λ f. f.items) files.items) token text well
-        × Appends (W.contents out.old) (W.contents out.new) text)
-        ((outcome : Gathered) × (text : List ℕ)
-        × IsRun table options.now.shards options.now.workers (map (λ f. f.items) files.items) outcome
-        × Shows token outcome text × Appends (W.contents out.old) (W.contents out.new) text
-        × (well ≡ are_posted outcome.ends)
+        (MatchBool options.now.settle ((text : List ℕ)
+        × Settles table (map (λ f. f.items) files.items) token text well
+        × Appends (W.contents out.old) (W.contents out.new) text) ((outcome : OutcomeView)
+        × (text : List ℕ) × IsRun table options.now.shards options.now.workers
+        (map (λ f. f.items) files.items) outcome × Shows token outcome text
+        × Appends (W.contents out.old) (W.contents out.new) text × (well ≡ are_posted outcome.ends)
         × (well ≡ true → ShowsPlain table (map (λ f. f.items) files.items) token text)))) }
-    ensures fault { IfErr result (λ fault. fault ≢ Fault.Write → Keeps (W.contents out.old) (W.contents out.new)) }
+    ensures fault { IfErr result (λ fault. fault ≢ Fault.Write
+        → Keeps (W.contents out.old) (W.contents out.new)) }
     ensures status { IfErr result (λ fault. status_of fault ≡ 1) }
 {
     if options.ledger {
@@ -311,8 +327,8 @@ fn post_for<'a, R: Threads + Wait + RandomSource + Sync, W: Write>(
 }
 
 // Does what is asked for, and says whether each upload was listed without a layout fault, or posted
-// whole. The token is looked at first, then settling, then the table is loaded, then the files, and all memory is
-// taken before the first byte is written.
+// whole. The token is looked at first, then settling, then the table is loaded, then the files, and
+// all memory is taken before the first byte is written.
 fn work<'a, R: Threads + Wait + RandomSource + Sync, D: Disk + Sync, S: Source, W: Write>(
     rt: &R,
     alloc: Global,
@@ -321,16 +337,21 @@ fn work<'a, R: Threads + Wait + RandomSource + Sync, D: Disk + Sync, S: Source, 
     source: &mut S,
     out: &mut W,
 ) -> Result<bool, Fault<'a>>
-    ensures ok { IfOk result (λ well. Does (asked_of options.now) (S.loaded source.old) (S.loaded source.new)
-        (W.contents out.old) (W.contents out.new) well) }
+    ensures ok { IfOk result (λ well.
+        Does (asked_of options.now) (S.loaded source.old) (S.loaded source.new) (W.contents out.old)
+        (W.contents out.new) well) }
     ensures right { OnOk result (mistake (asked_of options.now) ≡ None) }
 
     // Only a write that fails leaves something of a text behind.
-    ensures fault { IfErr result (λ fault. fault ≢ Fault.Write → Keeps (W.contents out.old) (W.contents out.new)) }
+    ensures fault { IfErr result (λ fault. fault ≢ Fault.Write
+        → Keeps (W.contents out.old) (W.contents out.new)) }
 
-    // Only a mistake in the token or with settling has the status of a wrong command line, and then nothing was loaded.
-    ensures mistake { IfErr result (λ fault. status_of fault ≡ 2 → mistake (asked_of options.now) ≡ Some fault) }
-    ensures unloaded { IfErr result (λ fault. status_of fault ≡ 2 → S.loaded source.new ≡ S.loaded source.old) }
+    // Only a mistake in the token or with settling has the status of a wrong command line, and then
+    // nothing was loaded.
+    ensures mistake { IfErr result (λ fault. status_of fault ≡ 2
+        → mistake (asked_of options.now) ≡ Some fault) }
+    ensures unloaded { IfErr result (λ fault. status_of fault ≡ 2
+        → S.loaded source.new ≡ S.loaded source.old) }
 {
     let token = checked(options)?;
     let (table, files) = load(rt, alloc, disk, options, source)?;
@@ -362,7 +383,8 @@ fn show_help<'a, W: Write>(error: &Error, out: &mut W) -> Result<(), Fault<'a>>
 fn show<W: Write, E: Write>(error: &Error, out: &mut W, err: &mut E) -> u8
     ensures help { result ≡ 0 → kind_of error.now ≡ ErrorKind.DisplayHelp }
     ensures memory { kind_of error.now ≡ ErrorKind.OutOfMemory → result ≡ 1 }
-    ensures words { kind_of error.now ≢ ErrorKind.DisplayHelp → kind_of error.now ≢ ErrorKind.OutOfMemory → result ≡ 2 }
+    ensures words { kind_of error.now ≢ ErrorKind.DisplayHelp
+        → kind_of error.now ≢ ErrorKind.OutOfMemory → result ≡ 2 }
     ensures mistake { result ≡ 2 → Keeps (W.contents out.old) (W.contents out.new) }
     ensures quiet { result ≡ 0 → err.new ≡ err.old }
     ensures status { result ≤ 2 }
@@ -380,11 +402,11 @@ fn show<W: Write, E: Write>(error: &Error, out: &mut W, err: &mut E) -> u8
     }
 }
 
-/// The whole program: reads the words, of which the first is the program's name, loads what they name
-/// from the source, where several workers may read files from the disk before their turns, does what
-/// they ask for, and writes its text to `out`, and mistakes and faults to
-/// `err`. Gives the status: 0 where all is well, 1 after a fault, or a text that tells of one, 2 where
-/// the words are no command line.
+/// The whole program: reads the words, of which the first is the program's name, loads what they
+/// name from the source, where several workers may read files from the disk before their turns,
+/// does what they ask for, and writes its text to `out`, and mistakes and faults to `err`. Gives
+/// the status: 0 where all is well, 1 after a fault, or a text that tells of one, 2 where the words
+/// are no command line.
 pub fn main_over<
     R: Threads + Wait + RandomSource + Sync,
     D: Disk + Sync,
@@ -398,9 +420,11 @@ pub fn main_over<
         (W.contents out.old) (W.contents out.new) true }
 
     // Words that are no command line end well only where they ask for help.
-    ensures helped { ¬ Parses (map string_bytes words.now) → result ≡ 0 → AsksForHelp (map string_bytes words.now) }
+    ensures helped { ¬ Parses (map string_bytes words.now) → result ≡ 0
+        → AsksForHelp (map string_bytes words.now) }
 
-    // A mistake in the token, or settling without a table or beside a listing, is one of the command line.
+    // A mistake in the token, or settling without a table or beside a listing, is one of the
+    // command line.
     ensures mistaken { result ≡ 2 → (¬ Parses (map string_bytes words.now))
         ⊎ (is_some (mistake (asked_by (map string_bytes words.now))) ≡ true) }
     ensures right { Parses (map string_bytes words.now)
@@ -425,8 +449,8 @@ pub fn main_over<
     }
 }
 
-/// Says why the words could not be had, and gives the status: 1 for want of memory, and 2 for a word
-/// that is not UTF-8.
+/// Says why the words could not be had, and gives the status: 1 for want of memory, and 2 for a
+/// word that is not UTF-8.
 pub fn unread_words<E: Write>(error: &io::Error, err: &mut E) -> u8
     ensures memory { error_kind error.now ≡ ReadKind.OutOfMemory → result ≡ 1 }
     ensures word { error_kind error.now ≢ ReadKind.OutOfMemory → result ≡ 2 }

@@ -1,5 +1,6 @@
 //! A run of the service over loaded uploads, and the text of its outcome.
-ghost use Rattle.std.specs.Prelude.{◌≡◌, ◌≢◌, ℕ, true, List, Option, IfErr, IfOk, OnOk, length, map};
+ghost use Rattle.std.specs.Prelude.{◌≡◌, ◌≢◌, ℕ, true, List, Option, IfErr, IfOk, OnOk, length};
+ghost use Rattle.std.specs.Prelude.{map};
 ghost use Rattle.std.specs.Io.KnownBytes.{Appends, Keeps};
 ghost use Rattle.fare_service.specs.Printed.{KeepsUnlessWrite};
 ghost use Rattle.fare_table.specs.Fares.{Fares};
@@ -10,8 +11,7 @@ ghost use Rattle.omny_cli.specs.Program.{IsRun, Shows, ShowsPlain, ShowsWith};
 use crate::asked::Options;
 use crate::fault::Fault;
 use crate::output::flush;
-use fare_service::laws;
-use fare_service::{Gate, Outcome, PrintFault, Service, UploadEnd};
+use fare_service::{Gate, Outcome, PrintFault, Service, UploadEnd, laws};
 use fare_table::FareTable;
 use shard_book::Token;
 use std::alloc::Global;
@@ -59,7 +59,8 @@ pub fn outcome_of<'a, R: Threads + Wait + RandomSource + Sync>(
     }
 }
 
-// Prints the report with these ends of uploads, or the statement of the token where one is asked for.
+// Prints the report with these ends of uploads, or the statement of the token where one is asked
+// for.
 fn print<R: Threads + Sync, W: Write>(
     rt: &R,
     alloc: Global,
@@ -78,8 +79,8 @@ fn print<R: Threads + Sync, W: Write>(
     }
 }
 
-/// Writes the report with these ends of uploads, or the statement of the token where one is asked for,
-/// through to where the writer brings it.
+/// Writes the report with these ends of uploads, or the statement of the token where one is asked
+/// for, through to where the writer brings it.
 pub fn write_outcome<'a, R: Threads + Sync, W: Write>(
     rt: &R,
     alloc: Global,
@@ -91,18 +92,20 @@ pub fn write_outcome<'a, R: Threads + Sync, W: Write>(
     ensures ok { OnOk result ((text : List ℕ) × ShowsWith token ends.now outcome.now text
         × Appends (W.contents out.old) (W.contents out.new) text) }
     ensures status { IfErr result (λ fault. status_of fault ≡ 1) }
-    ensures fault { IfErr result (λ fault. fault ≢ Fault.Write → Keeps (W.contents out.old) (W.contents out.new)) }
+    ensures fault { IfErr result (λ fault. fault ≢ Fault.Write
+        → Keeps (W.contents out.old) (W.contents out.new)) }
 {
     print(rt, alloc, outcome, ends, token, out)?;
     flush(out)
 }
 
-/// The law that where no token has taps in two files, what is shown of an outcome is shown over the plain history of the files. Reads no tap
-/// and no entry.
+/// The law that where no token has taps in two files, what is shown of an outcome is shown over the
+/// plain history of the files. Reads no tap and no entry.
 pub fn shows_plain(files: &[Vec<u8>], outcome: &Outcome)
     ensures { (fares : Fares) (shards workers : ℕ) (token : Option Token) (text : List ℕ)
-        → IsRun fares shards workers (map (λ f. f.items) files.now) outcome.now → are_posted outcome.now.ends ≡ true
-        → Shows token outcome.now text → ShowsPlain fares (map (λ f. f.items) files.now) token text }
+        → IsRun fares shards workers (map (λ f. f.items) files.now) outcome.now
+        → are_posted outcome.now.ends ≡ true → Shows token outcome.now text
+        → ShowsPlain fares (map (λ f. f.items) files.now) token text }
 {
     laws::report(files, outcome);
     laws::statements(files, outcome);

@@ -21,7 +21,8 @@ use std::random::RandomSource;
 use std::sync::Wait;
 use std::thread::Threads;
 
-/// Runs the service over these uploads. There is no outcome of a part of them: where memory cut one, it is want of memory.
+/// Runs the service over these uploads. There is no outcome of a part of them: where memory cut
+/// one, it is want of memory.
 fn whole_outcome_of<'a, R: Threads + Wait + RandomSource + Sync>(
     rt: &R,
     alloc: Global,
@@ -49,7 +50,8 @@ pub fn settled_outcome<'a, R: Threads + Wait + RandomSource + Sync>(
     options: &Options<'a>,
     files: Vec<Vec<u8>>,
 ) -> Result<(Outcome, Vec<UploadEnd>), Fault<'a>>
-    ensures settled { IfOk result (λ settled. IsOutcomeOf table (map (λ f. f.items) files.items) settled.1.items settled.0) }
+    ensures settled { IfOk result
+        (λ settled. IsOutcomeOf table (map (λ f. f.items) files.items) settled.1.items settled.0) }
     ensures status { IfErr result (λ fault. status_of fault ≡ 1) }
 {
     let Settled { ends, files } = settle(rt, alloc, files)?;
@@ -60,8 +62,8 @@ pub fn settled_outcome<'a, R: Threads + Wait + RandomSource + Sync>(
     Ok((outcome, ends))
 }
 
-/// Posts the taps of the files in canonical order, and writes the report with the files' ends, or the statement of the token where one is
-/// asked for. Says whether each file was posted whole.
+/// Posts the taps of the files in canonical order, and writes the report with the files' ends, or
+/// the statement of the token where one is asked for. Says whether each file was posted whole.
 pub fn charge_settled<'a, R: Threads + Wait + RandomSource + Sync, W: Write>(
     rt: &R,
     alloc: Global,
@@ -71,9 +73,11 @@ pub fn charge_settled<'a, R: Threads + Wait + RandomSource + Sync, W: Write>(
     files: Vec<Vec<u8>>,
     out: &mut W,
 ) -> Result<bool, Fault<'a>>
-    ensures ok { IfOk result (λ well. (text : List ℕ) × Settles table (map (λ f. f.items) files.items) token text well
+    ensures ok { IfOk result (λ well. (text : List ℕ)
+        × Settles table (map (λ f. f.items) files.items) token text well
         × Appends (W.contents out.old) (W.contents out.new) text) }
-    ensures fault { IfErr result (λ fault. fault ≢ Fault.Write → Keeps (W.contents out.old) (W.contents out.new)) }
+    ensures fault { IfErr result (λ fault. fault ≢ Fault.Write
+        → Keeps (W.contents out.old) (W.contents out.new)) }
     ensures status { IfErr result (λ fault. status_of fault ≡ 1) }
 {
     let (outcome, ends) = settled_outcome(rt, alloc, table, options, files)?;

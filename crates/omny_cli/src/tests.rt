@@ -1,6 +1,7 @@
 //! What neither a clause nor a command line shows: readers and writers that fail, files that are
 //! read early. The command lines are in `cases/`, run over the built program.
-ghost use Rattle.std.specs.Prelude.{◌≡◌, ◌++◌, ◌∷◌, [], IfOk, OnOk, Some, map, option_map, string_bytes};
+ghost use Rattle.std.specs.Prelude.{◌≡◌, ◌++◌, ◌∷◌, [], IfOk, OnOk, Some, map, option_map};
+ghost use Rattle.std.specs.Prelude.{string_bytes};
 
 use crate::ahead::{Disk, Early};
 use crate::listing::{ListCounts, Listing, Word};
@@ -100,7 +101,10 @@ impl<'a> Shelf<'a> {
 }
 
 impl Source for Shelf<'_> {
-    ghost loaded = { λ s. Some (map (λ g. record { name = option_map string_bytes g.name; bytes = g.bytes.items }) s.given.items) };
+    ghost loaded = { λ s. Some (map (λ g. record {
+      name = option_map string_bytes g.name;
+      bytes = g.bytes.items;
+    }) s.given.items) };
 
     fn keep_early(&mut self, _: Vec<Early>) {}
 
@@ -135,7 +139,8 @@ fn copies(alloc: Global, content: Content<'_>) -> Result<(Vec<u8>, Vec<u8>), Loa
 }
 
 fn keep(given: &mut Vec<Given>, name: Option<String>, bytes: Vec<u8>) -> Result<(), AllocError>
-    ensures { OnOk result (given.new.items ≡ given.old.items ++ record { name = name; bytes = bytes } ∷ []) }
+    ensures { OnOk result (given.new.items ≡ given.old.items
+        ++ record { name = name; bytes = bytes } ∷ []) }
 {
     given.push(Given { name, bytes })?;
     Ok(())

@@ -1,8 +1,10 @@
 //! The text of a listing of whole files.
-ghost use Rattle.std.specs.Prelude.{◌≡◌, ◌+◌, ◌^◌, ◌<◌, ◌≤◌, ◌∷◌, [], IfOk, OnOk, length, map, string_bytes};
+ghost use Rattle.std.specs.Prelude.{◌≡◌, ◌+◌, ◌^◌, ◌<◌, ◌≤◌, ◌∷◌, [], IfOk, OnOk, length, map};
+ghost use Rattle.std.specs.Prelude.{string_bytes};
 ghost use Rattle.std.specs.Option.{option_copied};
 ghost use Rattle.omny_cli.specs.Listing.{StandsFor};
-ghost use Rattle.omny_cli.specs.Uploads.{IsListing, Lists, ListsUpload, ListsUploads, is_known, listed};
+ghost use Rattle.omny_cli.specs.Uploads.{IsListing, is_known, listed};
+ghost use Rattle.omny_cli.specs.inside.Uploads.{Lists, ListsUpload, ListsUploads};
 
 use crate::lines::{write_counts, write_refused, write_tap};
 use crate::listing::Listing;
@@ -30,8 +32,9 @@ fn list_tap(
     tap: &TapView,
 ) -> Result<(), NoMemory>
     requires { listing.old.counts.taps < 2 ^ 127 }
-    ensures lines { OnOk result (Lists listing.old listing.new (string_bytes text.old) (string_bytes text.new)
-        upload number (listed (option_copied table.entry) tap.now ∷ [])) }
+    ensures lines { OnOk result
+        (Lists listing.old listing.new (string_bytes text.old) (string_bytes text.new) upload number
+        (listed (option_copied table.entry) tap.now ∷ [])) }
     ensures taps { OnOk result (listing.new.counts.taps ≡ listing.old.counts.taps + 1) }
 {
     let word = listing.add(tap, is_known(table, tap))?;
@@ -49,10 +52,12 @@ fn list_batch(
 ) -> Result<u64, NoMemory>
     requires numbers { number + length batch.now < 2 ^ 64 }
     requires taps { listing.old.counts.taps + length batch.now < 2 ^ 127 }
-    ensures lines { OnOk result (Lists listing.old listing.new (string_bytes text.old) (string_bytes text.new)
-        upload number (map (listed (option_copied table.entry)) batch.now)) }
+    ensures lines { OnOk result
+        (Lists listing.old listing.new (string_bytes text.old) (string_bytes text.new) upload number
+        (map (listed (option_copied table.entry)) batch.now)) }
     ensures next { IfOk result (λ next. next ≡ number + length batch.now) }
-    ensures taps { OnOk result (listing.new.counts.taps ≡ listing.old.counts.taps + length batch.now) }
+    ensures taps { OnOk result
+        (listing.new.counts.taps ≡ listing.old.counts.taps + length batch.now) }
 {
     for tap in batch.taps() {
         list_tap(text, listing, table, upload, number, &tap)?;
@@ -61,8 +66,8 @@ fn list_batch(
     Ok(number)
 }
 
-// Lists an upload, of which the file is given: the taps of its batches up to the first layout fault,
-// and that fault. Says whether there is none.
+// Lists an upload, of which the file is given: the taps of its batches up to the first layout
+// fault, and that fault. Says whether there is none.
 fn list_upload(
     text: &mut String,
     listing: &mut Listing,
@@ -71,9 +76,11 @@ fn list_upload(
     file: &[u8],
 ) -> Result<bool, NoMemory>
     requires { listing.old.counts.taps + length file.now < 2 ^ 127 }
-    ensures lines { IfOk result (λ whole. ListsUpload (option_copied table.entry) listing.old listing.new
+    ensures lines { IfOk result
+        (λ whole. ListsUpload (option_copied table.entry) listing.old listing.new
         (string_bytes text.old) (string_bytes text.new) upload file.now whole) }
-    ensures taps { OnOk result (listing.new.counts.taps ≤ listing.old.counts.taps + length file.now) }
+    ensures taps { OnOk result
+        (listing.new.counts.taps ≤ listing.old.counts.taps + length file.now) }
 {
     let mut number = 0;
     let mut whole = true;
@@ -109,8 +116,8 @@ fn list_uploads(
     Ok(clean)
 }
 
-/// The text of a listing of these files, and whether none of them has a layout fault. Validators are
-/// known by the table, where there is one, and else all of them are.
+/// The text of a listing of these files, and whether none of them has a layout fault. Validators
+/// are known by the table, where there is one, and else all of them are.
 pub fn listing_text(
     alloc: Global,
     table: Option<&FareTable>,

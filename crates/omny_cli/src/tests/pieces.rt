@@ -12,7 +12,8 @@ use std::test::Fail;
 use std::thread::Threads;
 use tap_views::{TapFields, encode};
 
-// The numbers of the 1,400 tokens that tap once each. Their lines are longer than two pieces of 64 KiB.
+// The numbers of the 1,400 tokens that tap once each. Their lines are longer than two pieces of 64
+// KiB.
 const FIRST: u16 = 1_000;
 
 const END: u16 = 2_400;

@@ -7,7 +7,8 @@ use Rattle.clap.specs.Walk.{is_empty}
 use Rattle.clap.specs.declared.builder.command.Command.{Command}
 use Rattle.clap.specs.declared.parser.matches.ArgMatches.{ArgMatches}
 use Rattle.clap.proofs.OnLiterals.{clap_on_literals}
-use Rattle.omny_cli.specs.Options.{HasNumber, program, shards_rule, workers_rule}
+use Rattle.omny_cli.specs.Options.{program, shards_rule, workers_rule}
+use Rattle.omny_cli.specs.inside.Options.{HasNumber}
 use Rattle.omny_cli.proofs.Defaults.{number_given}
 use Rattle.omny_cli.proofs.options.matched.Goals as goal
 

@@ -7,7 +7,8 @@ use Rattle.clap.specs.Words.{found_of, one_text, rows_of, without_minus}
 use Rattle.clap.specs.declared.parser.matches.Found.{Found}
 use Rattle.clap.proofs.CallerReads.{signed_reads}
 use Rattle.clap.proofs.WalkLemmas.{one_text-rows}
-use Rattle.omny_cli.specs.Options.{HasNumber, number_in, number_of}
+use Rattle.omny_cli.specs.Options.{number_in, number_of}
+use Rattle.omny_cli.specs.inside.Options.{HasNumber}
 use Rattle.omny_cli.proofs.options.number_in.Goals as goal
 
 -- the number in its bounds is read

@@ -3,7 +3,7 @@ use Rattle.std.specs.Prelude.{MatchBool, is_some, ◌||◌}
 use Rattle.std.specs.Io.KnownBytes.{Appends}
 use Rattle.std.proofs.lemmas.Result.{IfOk-weaker}
 use Rattle.fare_table.specs.Fares.{Fares}
-use Rattle.fare_service.specs.Outcomes.{Gathered}
+use Rattle.fare_service.specs.Outcomes.{OutcomeView}
 use Rattle.shard_book.specs.declared.token.Token.{Token}
 use Rattle.omny_cli.specs.Options.{Asked}
 use Rattle.omny_cli.specs.Program.{Does, IsRun, IsTokenIn, Loads, LoadsTable, RunsLedger, RunsListing, RunsService, RunsSettled, Shows, ShowsPlain, TellsLedger}
@@ -24,7 +24,7 @@ module _ (asked : Asked) (told told' : Option (List Loaded)) (out out' : Option 
     (files given : List (List ℕ)) (token : Option Token) (loads : Loads asked.table asked.files told told' fares files) (is : fares ≡ Some f)
     (same : given ≡ files) (is_token : IsTokenIn asked.token token) where
   abbrev Charged : Type 0
-  Charged = (outcome : Gathered) × (text : List ℕ) × IsRun f asked.shards asked.workers given outcome × Shows token outcome text × Appends out out' text
+  Charged = (outcome : OutcomeView) × (text : List ℕ) × IsRun f asked.shards asked.workers given outcome × Shows token outcome text × Appends out out' text
       × (well ≡ are_posted outcome.ends) × (well ≡ true → ShowsPlain f given token text)
 
   abbrev SettledRun : Type 0

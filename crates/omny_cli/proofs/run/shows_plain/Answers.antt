@@ -3,7 +3,7 @@ use Rattle.std.proofs.lemmas.List.Elements.{All-nil, All-cons}
 use Rattle.fare_table.specs.Fares.{Fares}
 use Rattle.shard_book.specs.declared.entry.Entry.{Entry}
 use Rattle.shard_book.specs.declared.token.Token.{Token}
-use Rattle.fare_service.specs.Outcomes.{Gathered}
+use Rattle.fare_service.specs.Outcomes.{OutcomeView}
 use Rattle.fare_service.specs.Plain.{IsReportOver, IsStatementOver, IsWholeGathering, WasWhole}
 use Rattle.fare_service.specs.Printed.{IsStatementOf, report_of}
 use Rattle.fare_service.specs.declared.upload_end.UploadEnd.{UploadEnd}
@@ -22,7 +22,7 @@ all_whole (Cut taps ∷ ends) posted = absurd (cc)
 all_whole (Undrawn ∷ ends) posted = absurd (cc)
 
 -- what is shown, as report or as statement
-shown : (files : List (List ℕ)) (outcome : Gathered) (fares : Fares) (history : List Entry) (token : Option Token) (text : List ℕ) → IsReportOver files history (report_of outcome)
+shown : (files : List (List ℕ)) (outcome : OutcomeView) (fares : Fares) (history : List Entry) (token : Option Token) (text : List ℕ) → IsReportOver files history (report_of outcome)
     → ((t : Token) → IsStatementOf outcome t text → IsStatementOver fares history t text) → Shows token outcome text → ShowsOver token fares files history text
 shown files outcome fares history None text report statement shows = let R : List ℕ → Type 0 = λ t. IsReportOver files history t in subst R (sym shows) report
 shown files outcome fares history (Some token) text report statement shows = statement token shows

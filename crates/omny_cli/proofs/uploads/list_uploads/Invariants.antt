@@ -1,6 +1,6 @@
 use Rattle.std.proofs.Common.{◌≤◌, ◌*◌, ◌^◌, map, string_bytes, take}
 use Rattle.std.specs.Option.{option_copied}
-use Rattle.omny_cli.specs.Uploads.{ListsUploads}
+use Rattle.omny_cli.specs.inside.Uploads.{ListsUploads}
 use Rattle.omny_cli.proofs.uploads.list_uploads.Given as goal
 
 abbrev pub invariant-loop-upload : goal.invariant-loop-upload
