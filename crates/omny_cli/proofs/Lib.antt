@@ -5,3 +5,4 @@ pub mod LastMoments
 pub mod Loads
 pub mod Settled
 pub mod Sizes
+pub mod Ledgers

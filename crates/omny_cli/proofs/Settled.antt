@@ -7,8 +7,7 @@ use Rattle.fare_service.specs.Plain.{IsReportOver}
 use Rattle.fare_service.specs.declared.upload_end.UploadEnd.{UploadEnd}
 use Rattle.omny_cli.specs.Posted.{are_posted}
 use Rattle.omny_cli.specs.Program.{ShowsWith}
-use Rattle.omny_cli.specs.Settling.{Settles, ShowsOver}
-use Rattle.omny_cli.specs.inside.Settling.{IsOutcomeOf}
+use Rattle.omny_cli.specs.Settling.{IsOutcomeOf, Settles, ShowsOver}
 
 -- what is shown of such an outcome is shown over the history
 pub settles : (fares : Fares) (files : List (List ℕ)) (ends : List UploadEnd) (outcome : OutcomeView)

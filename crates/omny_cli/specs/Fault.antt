@@ -9,13 +9,16 @@ use Rattle.fare_service.specs.declared.faults.GatherFault.{GatherFault}
 use Rattle.fare_service.specs.declared.faults.GatherFault.TheVariants as gather
 use Rattle.fare_service.specs.declared.print_fault.PrintFault.{PrintFault}
 use Rattle.fare_service.specs.declared.print_fault.PrintFault.TheVariants as print
+use Rattle.ledger_texts.specs.declared.fault.LedgerFault.{LedgerFault}
+use Rattle.ledger_texts.specs.declared.fault.LedgerFault.TheVariants as ledger
 use Rattle.omny_cli.specs.Options.{Asked}
 use Rattle.omny_cli.specs.declared.load.LoadFault.{LoadFault}
 use Rattle.omny_cli.specs.declared.load.LoadFault.TheVariants as load
 use Rattle.omny_cli.specs.declared.fault.Fault.{Fault}
 use Rattle.omny_cli.specs.declared.fault.Fault.TheVariants.{Digits, NoTable, SettleNoTable}
-use Rattle.omny_cli.specs.declared.fault.Fault.TheVariants.{SettleList, Unread, TooLong, Table}
-use Rattle.omny_cli.specs.declared.fault.Fault.TheVariants.{Uploads, Gather, Write, NoMemory}
+use Rattle.omny_cli.specs.declared.fault.Fault.TheVariants.{SettleList, LedgerNoTable, LedgerList}
+use Rattle.omny_cli.specs.declared.fault.Fault.TheVariants.{Unread, TooLong, Table, Uploads, Gather}
+use Rattle.omny_cli.specs.declared.fault.Fault.TheVariants.{Write, NoMemory}
 
 -- a fault of a table by its number, and the key where it has one
 abbrev pub table_text : TableFault → List ℕ
@@ -40,6 +43,8 @@ fault_text Digits = codes "fault: --token needs 32 hexadecimal digits"
 fault_text NoTable = codes "fault: --token needs --table"
 fault_text SettleNoTable = codes "fault: --settle needs --table"
 fault_text SettleList = codes "fault: --settle cannot be used with --list"
+fault_text LedgerNoTable = codes "fault: --ledger needs --table"
+fault_text LedgerList = codes "fault: --ledger cannot be used with --list"
 fault_text (Unread name) = codes "fault: cannot read " ++ name.now
 fault_text (TooLong name) = codes "fault: " ++ (name.now ++ codes " is too long")
 fault_text (Table fault) = table_text fault
@@ -54,12 +59,19 @@ status_of Digits = 2
 status_of NoTable = 2
 status_of SettleNoTable = 2
 status_of SettleList = 2
+status_of LedgerNoTable = 2
+status_of LedgerList = 2
 status_of _ = 1
 
 -- why a report or a statement was not printed
 abbrev pub printed_as : PrintFault → Fault
 printed_as print.Write = Write
 printed_as print.NoMemory = NoMemory
+
+-- why a ledger was not printed
+abbrev pub told_as : LedgerFault → Fault
+told_as ledger.Write = Write
+told_as ledger.NoMemory = NoMemory
 
 -- the line of a file of this name that was not loaded
 abbrev pub load_text : List ℕ → LoadFault → List ℕ
@@ -89,15 +101,27 @@ settle_fault_of true true (Some name) = Some SettleList
 abbrev pub settle_fault : Asked → Option Fault
 settle_fault asked = settle_fault_of asked.settle asked.list asked.table
 
+-- What is wrong with the ledger where it is asked for: first that there is no table, and then that
+-- the taps are to be listed.
+abbrev pub ledger_fault_of : Bool → Bool → Option (List ℕ) → Option Fault
+ledger_fault_of false list table = None
+ledger_fault_of true list None = Some LedgerNoTable
+ledger_fault_of true false (Some name) = None
+ledger_fault_of true true (Some name) = Some LedgerList
+
+abbrev pub ledger_fault : Asked → Option Fault
+ledger_fault asked = ledger_fault_of asked.ledger asked.list asked.table
+
 -- the first of two faults, if there is one
 abbrev pub first_fault : Option Fault → Option Fault → Option Fault
 first_fault None other = other
 first_fault (Some fault) other = Some fault
 
--- what is wrong with what is asked for, if anything: the token is looked at first, and then
--- settling
+-- what is wrong with what is asked for, if anything: the token is looked at first, then settling,
+-- then the ledger
 abbrev pub mistake : Asked → Option Fault
-mistake asked = first_fault (token_fault asked) (settle_fault asked)
+mistake asked =
+    first_fault (token_fault asked) (first_fault (settle_fault asked) (ledger_fault asked))
 
 -- why a run over so many uploads came to nothing: there were too many of them, or memory or the
 -- gathering failed

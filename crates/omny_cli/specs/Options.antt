@@ -57,14 +57,20 @@ abbrev pub settle_rule : Rule
 settle_rule =
     record (new_rule (codes "settle")) { long = Some (codes "settle"); action = Some SetTrue }
 
+-- `--ledger`
+abbrev pub ledger_rule : Rule
+ledger_rule =
+    record (new_rule (codes "ledger")) { long = Some (codes "ledger"); action = Some SetTrue }
+
 -- `FILE`, as often as wanted
 abbrev pub file_rule : Rule
 file_rule = record (new_rule (codes "FILE")) { action = Some Append }
 
 abbrev pub app_of_options : App
 app_of_options =
-    with_rule (with_rule (with_rule (with_rule (with_rule (with_rule (new_app (codes "omny_cli"))
-    table_rule) list_rule) workers_rule) shards_rule) token_rule) settle_rule
+    with_rule (with_rule (with_rule
+    (with_rule (with_rule (with_rule (with_rule (new_app (codes "omny_cli"))
+    table_rule) list_rule) workers_rule) shards_rule) token_rule) settle_rule) ledger_rule
 
 unfoldable pub program : App
 program = with_rule app_of_options file_rule
@@ -109,6 +115,7 @@ pub record Asked : Type 0 where
   pub shards : ℕ
   pub token : Option Text
   pub settle : Bool
+  pub ledger : Bool
   pub files : List Text
 
 abbrev pub asked_by : List Text → Asked
@@ -119,6 +126,7 @@ asked_by words = record {
   shards = number_of (codes "shards") (matches_of program words);
   token = token_named words;
   settle = is_given (codes "settle") (matches_of program words);
+  ledger = is_given (codes "ledger") (matches_of program words);
   files = files_named words;
 }
 
@@ -131,6 +139,7 @@ asked_of options = record {
   shards = options.shards;
   token = option_map (λ t. t.now) options.token;
   settle = options.settle;
+  ledger = options.ledger;
   files = map (λ f. f.now) options.files.items;
 }
 

@@ -16,7 +16,8 @@ use Rattle.fare_service.specs.Plain.{AreApart, IsPlain}
 use Rattle.fare_service.specs.Printed.{IsStatementOf, report_with}
 use Rattle.omny_cli.specs.Options.{Asked, lists}
 use Rattle.omny_cli.specs.Posted.{are_posted}
-use Rattle.omny_cli.specs.Settling.{Settles, ShowsOver}
+use Rattle.omny_cli.specs.Settling.{Settles, SettlesLedger, ShowsOver}
+use Rattle.ledger_texts.specs.Ledger.{IsLedgerOf}
 use Rattle.omny_cli.specs.Source.{Loaded, Tells, TellsOne}
 use Rattle.omny_cli.specs.Uploads.{IsListing}
 
@@ -123,10 +124,40 @@ pub record RunsSettled (asked : Asked) (told told' : Option (List Loaded))
   pub settles : Settles fares files token text well
   pub written : Appends out out' text
 
+-- A service was run over the files; the text is the ledger of its outcome, or that of this token.
+-- It is well where each upload was posted whole.
+pub record ShowsLedger (fares : Fares) (shards workers : ℕ) (files : List (List ℕ))
+    (token : Option Token) (text : List ℕ) (well : Bool) : Type 0 where
+  pub outcome : OutcomeView
+  pub run : IsRun fares shards workers files outcome
+  pub shows : IsLedgerOf outcome.books token text
+  pub is_well : well ≡ are_posted outcome.ends
+
+-- the ledger of the files, settled or not
+abbrev pub TellsLedger : Bool → Fares → ℕ → ℕ → List (List ℕ) → Option Token → List ℕ → Bool
+    → Type 0
+TellsLedger settle fares shards workers files token text well =
+    MatchBool settle (SettlesLedger fares files token text well)
+    (ShowsLedger fares shards workers files token text well)
+
+-- Table and files were loaded; what was appended to the writer is the ledger of the files, or that
+-- of the token that is asked for. The uploads' ends are not in it.
+pub record RunsLedger (asked : Asked) (told told' : Option (List Loaded))
+    (out out' : Option (List ℕ)) (well : Bool) : Type 0 where
+  pub fares : Fares
+  pub files : List (List ℕ)
+  pub loads : Loads asked.table asked.files told told' (Some fares) files
+  pub token : Option Token
+  pub is_token : IsTokenIn asked.token token
+  pub text : List ℕ
+  pub tells : TellsLedger asked.settle fares asked.shards asked.workers files token text well
+  pub written : Appends out out' text
+
 -- what is asked for was done
 abbrev pub Does : Asked → Option (List Loaded) → Option (List Loaded) → Option (List ℕ)
     → Option (List ℕ) → Bool → Type 0
 Does asked told told' out out' well = MatchBool (lists asked)
     (RunsListing asked.table asked.files told told' out out' well)
+    (MatchBool asked.ledger (RunsLedger asked told told' out out' well)
     (MatchBool asked.settle (RunsSettled asked told told' out out' well)
-    (RunsService asked told told' out out' well))
+    (RunsService asked told told' out out' well)))

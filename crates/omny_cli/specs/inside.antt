@@ -2,5 +2,4 @@
 pub mod Fault
 pub mod Listing
 pub mod Options
-pub mod Settling
 pub mod Uploads

@@ -16,6 +16,8 @@ pub struct Options<'a> {
     pub token: Option<&'a str>,
     /// Whether the taps are settled: put into their one order before they are posted.
     pub settle: bool,
+    /// Whether the ledger is wanted: of all tokens, or of the one that is asked for.
+    pub ledger: bool,
     /// The uploads, in order; none stands for standard input.
     pub files: Vec<&'a str>,
     ghost some_worker: { 1 ≤ workers },

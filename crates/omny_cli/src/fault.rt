@@ -6,6 +6,7 @@ ghost use Rattle.omny_cli.specs.Fault.{fault_text, gather_text, load_text, statu
 use crate::load::LoadFault;
 use fare_service::{GatherFault, OpenFault, PrintFault, RunFault};
 use fare_table::{NoMemory, TableFault};
+use ledger_texts::LedgerFault;
 use std::fmt;
 
 /// Why the program gives up. Its `Display` is the fault line without its line feed.
@@ -19,6 +20,10 @@ pub enum Fault<'a> {
     SettleNoTable,
     /// The taps are to be settled, and to be listed.
     SettleList,
+    /// The ledger is asked for without a fare table.
+    LedgerNoTable,
+    /// The ledger is asked for, and a listing.
+    LedgerList,
     /// The file of this name could not be read.
     Unread(&'a str),
     /// The file of this name is longer than the limit.
@@ -80,7 +85,9 @@ impl<'a> Fault<'a> {
         ensures { result ≡ status_of self.now }
     {
         match self {
-            Fault::Digits | Fault::NoTable | Fault::SettleNoTable | Fault::SettleList => 2,
+            Fault::Digits | Fault::NoTable => 2,
+            Fault::SettleNoTable | Fault::SettleList => 2,
+            Fault::LedgerNoTable | Fault::LedgerList => 2,
             _ => 1,
         }
     }
@@ -113,6 +120,19 @@ impl From<PrintFault> for Fault<'_> {
         match fault {
             PrintFault::Write => Fault::Write,
             PrintFault::NoMemory => Fault::NoMemory,
+        }
+    }
+}
+
+impl From<LedgerFault> for Fault<'_> {
+    ghost use Rattle.omny_cli.specs.Fault.{told_as};
+
+    ghost from_gives = { λ refused fault. fault ≡ told_as refused };
+
+    fn from(fault: LedgerFault) -> Self {
+        match fault {
+            LedgerFault::Write => Fault::Write,
+            LedgerFault::NoMemory => Fault::NoMemory,
         }
     }
 }
@@ -164,6 +184,8 @@ impl fmt::Display for Fault<'_> {
             Fault::NoTable => f.write_str("fault: --token needs --table"),
             Fault::SettleNoTable => f.write_str("fault: --settle needs --table"),
             Fault::SettleList => f.write_str("fault: --settle cannot be used with --list"),
+            Fault::LedgerNoTable => f.write_str("fault: --ledger needs --table"),
+            Fault::LedgerList => f.write_str("fault: --ledger cannot be used with --list"),
             Fault::Unread(name) => write!(f, "fault: cannot read {name}"),
             Fault::TooLong(name) => write!(f, "fault: {name} is too long"),
             Fault::Table(fault) => TableLine(*fault).fmt(f),

@@ -8,6 +8,7 @@
 //! | `listing` | the word of each tap, from those before it |
 //! | `lines`, `uploads` | the text of a listing |
 //! | `run` | a run of the service, and the text of its outcome |
+//! | `ledger` | the ledger of a run, settled or not |
 //! | `settle` | taps that are put into their one order before they are posted |
 //! | `output` | texts written out whole |
 //! | `fault` | why the program gives up, and the line that says so |
@@ -18,6 +19,7 @@ mod ahead;
 mod asked;
 mod fault;
 mod host;
+mod ledger;
 mod lines;
 mod listing;
 mod load;

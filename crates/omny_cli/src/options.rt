@@ -6,8 +6,8 @@ ghost use Rattle.clap.specs.Words.{rows_of, rule_of};
 ghost use Rattle.omny_cli.specs.Options.{asked_by, asked_of, file_rule, is_given, list_rule};
 ghost use Rattle.omny_cli.specs.Options.{number_of, program};
 ghost use Rattle.omny_cli.specs.inside.Options.{HasNumber};
-ghost use Rattle.omny_cli.specs.Options.{settle_rule, shards_rule, table_rule, token_rule};
-ghost use Rattle.omny_cli.specs.Options.{workers_rule};
+ghost use Rattle.omny_cli.specs.Options.{ledger_rule, settle_rule, shards_rule, table_rule};
+ghost use Rattle.omny_cli.specs.Options.{token_rule, workers_rule};
 
 use crate::asked::Options;
 use clap::{Arg, ArgAction, ArgMatches, Command, Error, value_parser};
@@ -16,12 +16,14 @@ use std::alloc::{AllocError, Global};
 const ABOUT: &str = "Charges the taps of upload files by a fare table, and reports what they cost.
 
 With --table the uploads are posted to accounts, by worker threads, and the report is printed, or
-with --token the statement of one token. Without --table, or with --list, the taps are only listed,
+with --token the statement of one token, or with --ledger the ledger. Without --table, or with --list, the taps are only listed,
 each as live, stale or unknown.";
 
 const NOTES: &str = "What is printed:
   report     how each upload ended, then the sums of all taps, of each validator, of each token
   statement  each tap of the token, what it was and cost, the token's sums, its last window
+  ledger     CSV, a head line and a line for each tap of each token, with its window and the reason
+             of what it cost; with --token those of one token
   listing    each tap: number of its file, its number there (both from 0), token, validator,
              moment in milliseconds since 1970-01-01T00:00Z, and live (later than every known tap
              of its token before it), stale (not so) or unknown (the table lacks its validator)
@@ -54,6 +56,9 @@ const TOKEN_HELP: &str =
 
 const SETTLE_HELP: &str =
     "Post the taps of all uploads in order of token, moment and validator; needs --table";
+
+const LEDGER_HELP: &str =
+    "Print the ledger, of all tokens or of that of --token, not the report; needs --table";
 
 const FILE_HELP: &str =
     "Uploads, files of TAP1 and TAP2 batches of at most 67108864 bytes [default: standard input]";
@@ -126,6 +131,16 @@ fn settle_arg<'a>(alloc: Global) -> Arg<'a>
         .help(SETTLE_HELP)
 }
 
+fn ledger_arg<'a>(alloc: Global) -> Arg<'a>
+    ensures rule { rule_of result ≡ ledger_rule }
+    ensures local { result.global ≡ false }
+{
+    Arg::new(alloc, "ledger")
+        .long("ledger")
+        .action(ArgAction::SetTrue)
+        .help(LEDGER_HELP)
+}
+
 fn file_arg<'a>(alloc: Global) -> Arg<'a>
     ensures rule { rule_of result ≡ file_rule }
     ensures local { result.global ≡ false }
@@ -145,6 +160,7 @@ fn command<'a>(alloc: Global) -> Result<Command<'a>, AllocError>
     let shards = shards_arg(alloc);
     let token = token_arg(alloc);
     let settle = settle_arg(alloc);
+    let ledger = ledger_arg(alloc);
     let file = file_arg(alloc);
     Command::new(alloc, "omny_cli")
         .about(ABOUT)
@@ -155,6 +171,7 @@ fn command<'a>(alloc: Global) -> Result<Command<'a>, AllocError>
         .arg(shards)?
         .arg(token)?
         .arg(settle)?
+        .arg(ledger)?
         .arg(file)
 }
 
@@ -218,6 +235,7 @@ impl<'a> Options<'a> {
             shards: number_in(&matches, "shards"),
             token: matches.get_str("token"),
             settle: flag_in(&matches, "settle"),
+            ledger: flag_in(&matches, "ledger"),
             files: files_in(alloc, &matches)?,
         })
     }

@@ -6,12 +6,13 @@ ghost use Rattle.clap.specs.Words.{kind_of};
 ghost use Rattle.std.specs.Io.KnownBytes.{Appends, Keeps};
 ghost use Rattle.std.specs.IoError.{error_kind};
 ghost use Rattle.fare_service.specs.Outcomes.{OutcomeView};
-ghost use Rattle.omny_cli.specs.Fault.{fault_text, mistake, settle_fault, status_of, token_fault};
+ghost use Rattle.omny_cli.specs.Fault.{fault_text, ledger_fault, mistake, settle_fault, status_of};
+ghost use Rattle.omny_cli.specs.Fault.{token_fault};
 ghost use Rattle.omny_cli.specs.inside.Fault.{IsLoadLine, IsTableLine};
 ghost use Rattle.omny_cli.specs.Options.{AsksForHelp, Parses, asked_by, asked_of};
 ghost use Rattle.omny_cli.specs.Posted.{are_posted};
 ghost use Rattle.omny_cli.specs.Program.{Does, IsRun, IsTokenIn, Loads, LoadsFiles, LoadsTable};
-ghost use Rattle.omny_cli.specs.Program.{Shows, ShowsPlain, wanted};
+ghost use Rattle.omny_cli.specs.Program.{Shows, ShowsPlain, TellsLedger, wanted};
 ghost use Rattle.omny_cli.specs.Settling.{Settles};
 ghost use Rattle.omny_cli.specs.Source.{TellsOne};
 ghost use Rattle.omny_cli.specs.Uploads.{IsListing};
@@ -19,6 +20,7 @@ ghost use Rattle.omny_cli.specs.Uploads.{IsListing};
 use crate::ahead::{Disk, read_early};
 use crate::asked::Options;
 use crate::fault::Fault;
+use crate::ledger::charge_ledger;
 use crate::load::Source;
 use crate::output::{flush, write_text};
 use crate::run::{are_posted, outcome_of, shows_plain, write_outcome};
@@ -180,6 +182,25 @@ fn check_settling<'a>(options: &Options<'a>) -> Result<(), Fault<'a>>
     Ok(())
 }
 
+// Looks whether the ledger may be printed, where that is asked for: there is a table to charge by,
+// and the taps are not to be listed.
+fn check_ledger<'a>(options: &Options<'a>) -> Result<(), Fault<'a>>
+    ensures right { OnOk result (ledger_fault (asked_of options.now) ≡ None) }
+    ensures fault { IfErr result (λ fault. ledger_fault (asked_of options.now) ≡ Some fault) }
+    ensures status { IfErr result (λ fault. status_of fault ≡ 2) }
+{
+    if !options.ledger {
+        return Ok(());
+    }
+    if options.table.is_none() {
+        return Err(Fault::LedgerNoTable);
+    }
+    if options.list {
+        return Err(Fault::LedgerList);
+    }
+    Ok(())
+}
+
 // Looks for a mistake in what is asked for, and gives the token whose statement is, if any.
 fn checked<'a>(options: &Options<'a>) -> Result<Option<Token>, Fault<'a>>
     ensures token { IfOk result (IsTokenIn (asked_of options.now).token) }
@@ -188,6 +209,7 @@ fn checked<'a>(options: &Options<'a>) -> Result<Option<Token>, Fault<'a>>
 {
     let token = token_of(options)?;
     check_settling(options)?;
+    check_ledger(options)?;
     Ok(token)
 }
 
@@ -270,6 +292,40 @@ fn post<'a, R: Threads + Wait + RandomSource + Sync, W: Write>(
     }
 }
 
+// Posts the files, settled where that is asked for, and writes the ledger, or else the report or
+// the statement.
+fn post_for<'a, R: Threads + Wait + RandomSource + Sync, W: Write>(
+    rt: &R,
+    alloc: Global,
+    options: &Options<'a>,
+    table: FareTable,
+    token: Option<Token>,
+    files: Vec<Vec<u8>>,
+    out: &mut W,
+) -> Result<bool, Fault<'a>>
+    ensures ok { IfOk result (λ well.
+        MatchBool options.now.ledger ((text : List ℕ)
+        × TellsLedger options.now.settle table options.now.shards options.now.workers
+        (map (λ f. f.items) files.items) token text well
+        × Appends (W.contents out.old) (W.contents out.new) text)
+        (MatchBool options.now.settle ((text : List ℕ)
+        × Settles table (map (λ f. f.items) files.items) token text well
+        × Appends (W.contents out.old) (W.contents out.new) text) ((outcome : OutcomeView)
+        × (text : List ℕ) × IsRun table options.now.shards options.now.workers
+        (map (λ f. f.items) files.items) outcome × Shows token outcome text
+        × Appends (W.contents out.old) (W.contents out.new) text × (well ≡ are_posted outcome.ends)
+        × (well ≡ true → ShowsPlain table (map (λ f. f.items) files.items) token text)))) }
+    ensures fault { IfErr result (λ fault. fault ≢ Fault.Write
+        → Keeps (W.contents out.old) (W.contents out.new)) }
+    ensures status { IfErr result (λ fault. status_of fault ≡ 1) }
+{
+    if options.ledger {
+        charge_ledger(rt, alloc, options, table, token, files, out)
+    } else {
+        post(rt, alloc, options, table, token, files, out)
+    }
+}
+
 // Does what is asked for, and says whether each upload was listed without a layout fault, or posted
 // whole. The token is looked at first, then settling, then the table is loaded, then the files, and
 // all memory is taken before the first byte is written.
@@ -300,7 +356,7 @@ fn work<'a, R: Threads + Wait + RandomSource + Sync, D: Disk + Sync, S: Source, 
     let token = checked(options)?;
     let (table, files) = load(rt, alloc, disk, options, source)?;
     match table {
-        Some(table) if !options.list => post(rt, alloc, options, table, token, files, out),
+        Some(table) if !options.list => post_for(rt, alloc, options, table, token, files, out),
         table => list(alloc, table, &files, out),
     }
 }

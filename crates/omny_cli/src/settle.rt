@@ -4,8 +4,7 @@ ghost use Rattle.std.specs.Io.KnownBytes.{Appends, Keeps};
 ghost use Rattle.fare_service.specs.Plain.{WasWhole};
 ghost use Rattle.omny_cli.specs.Fault.{status_of};
 ghost use Rattle.omny_cli.specs.Program.{IsRun};
-ghost use Rattle.omny_cli.specs.Settling.{Settles};
-ghost use Rattle.omny_cli.specs.inside.Settling.{IsOutcomeOf};
+ghost use Rattle.omny_cli.specs.Settling.{IsOutcomeOf, Settles};
 
 use crate::asked::Options;
 use crate::fault::Fault;
@@ -44,7 +43,7 @@ fn whole_outcome_of<'a, R: Threads + Wait + RandomSource + Sync>(
 }
 
 /// What the service comes to over the settled taps of the files, and how the files ended.
-fn settled_outcome<'a, R: Threads + Wait + RandomSource + Sync>(
+pub fn settled_outcome<'a, R: Threads + Wait + RandomSource + Sync>(
     rt: &R,
     alloc: Global,
     table: FareTable,

@@ -4,6 +4,7 @@ use Rattle.fare_table.specs.declared.fault.TableFault.{TableFault}
 use Rattle.fare_table.specs.declared.fault.TableFault.TheVariants as table
 use Rattle.fare_service.specs.declared.faults.GatherFault.TheVariants as gather
 use Rattle.fare_service.specs.declared.print_fault.PrintFault.TheVariants as print
+use Rattle.ledger_texts.specs.declared.fault.LedgerFault.TheVariants as ledger
 use Rattle.omny_cli.specs.declared.load.LoadFault.{LoadFault}
 use Rattle.omny_cli.specs.declared.load.LoadFault.TheVariants as load
 use Rattle.omny_cli.specs.Fault.{load_text, table_text}

@@ -15,4 +15,5 @@ returns c =
     let four = c.in_ok-arg-4.ensures.shape c.shards_arg-shards.ensures.local ∙ ap₂ with_rule three c.shards_arg-shards.ensures.rule in
     let five = c.in_ok-arg-5.ensures.shape c.token_arg-token.ensures.local ∙ ap₂ with_rule four c.token_arg-token.ensures.rule in
     let six = c.in_ok-arg-6.ensures.shape c.settle_arg-settle.ensures.local ∙ ap₂ with_rule five c.settle_arg-settle.ensures.rule in
-    IfOk-weaker c.arg-7.result _ _ (λ command adds. adds.shape c.file_arg-file.ensures.local ∙ ap₂ with_rule six c.file_arg-file.ensures.rule) c.arg-7.ensures
+    let seven = c.in_ok-arg-7.ensures.shape c.ledger_arg-ledger.ensures.local ∙ ap₂ with_rule six c.ledger_arg-ledger.ensures.rule in
+    IfOk-weaker c.arg-8.result _ _ (λ command adds. adds.shape c.file_arg-file.ensures.local ∙ ap₂ with_rule seven c.file_arg-file.ensures.rule) c.arg-8.ensures

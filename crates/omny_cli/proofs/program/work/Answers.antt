@@ -6,7 +6,7 @@ use Rattle.fare_table.specs.Fares.{Fares}
 use Rattle.fare_service.specs.Outcomes.{OutcomeView}
 use Rattle.shard_book.specs.declared.token.Token.{Token}
 use Rattle.omny_cli.specs.Options.{Asked}
-use Rattle.omny_cli.specs.Program.{Does, IsRun, IsTokenIn, Loads, LoadsTable, RunsListing, RunsService, RunsSettled, Shows, ShowsPlain}
+use Rattle.omny_cli.specs.Program.{Does, IsRun, IsTokenIn, Loads, LoadsTable, RunsLedger, RunsListing, RunsService, RunsSettled, Shows, ShowsPlain, TellsLedger}
 use Rattle.omny_cli.specs.Posted.{are_posted}
 use Rattle.omny_cli.specs.Settling.{Settles}
 use Rattle.omny_cli.specs.Source.{Loaded}
@@ -29,6 +29,9 @@ module _ (asked : Asked) (told told' : Option (List Loaded)) (out out' : Option 
 
   abbrev SettledRun : Type 0
   SettledRun = (text : List ℕ) × Settles f given token text well × Appends out out' text
+
+  abbrev LedgerRun : Type 0
+  LedgerRun = (text : List ℕ) × TellsLedger asked.settle f asked.shards asked.workers given token text well × Appends out out' text
 
   loaded : Loads asked.table asked.files told told' (Some f) files
   loaded = let L : Option Fares → Type 0 = λ o. Loads asked.table asked.files told told' o files in subst L is loads
@@ -61,21 +64,40 @@ module _ (asked : Asked) (told told' : Option (List Loaded)) (out out' : Option 
     written = done.2;
   }
 
+  runs_ledger : LedgerRun → RunsLedger asked told told' out out' well
+  runs_ledger done = record {
+    fares = f;
+    files = files;
+    loads = loaded;
+    token = token;
+    is_token = is_token;
+    text = done.0;
+    tells = let T : List (List ℕ) → Type 0 = λ fs. TellsLedger asked.settle f asked.shards asked.workers fs token done.0 well in subst T same done.1;
+    written = done.2;
+  }
+
   either : (settle : Bool) → MatchBool settle SettledRun Charged
       → MatchBool settle (RunsSettled asked told told' out out' well) (RunsService asked told told' out out' well)
   either true done = runs_settled done
   either false done = runs done
 
-  pub does_post : asked.list ≡ false → MatchBool asked.settle SettledRun Charged → Does asked told told' out out' well
+  of_three : (ledger : Bool) → MatchBool ledger LedgerRun (MatchBool asked.settle SettledRun Charged)
+      → MatchBool ledger (RunsLedger asked told told' out out' well)
+      (MatchBool asked.settle (RunsSettled asked told told' out out' well) (RunsService asked told told' out out' well))
+  of_three true done = runs_ledger done
+  of_three false done = either asked.settle done
+
+  pub does_post : asked.list ≡ false → MatchBool asked.ledger LedgerRun (MatchBool asked.settle SettledRun Charged) → Does asked told told' out out' well
   does_post flag done =
       let P : Bool → Type 0 = λ b. MatchBool b (RunsListing asked.table asked.files told told' out out' well)
-      (MatchBool asked.settle (RunsSettled asked told told' out out' well) (RunsService asked told told' out out' well)) in
-      subst P (sym (serves asked.list asked.table told loads.between fares f flag loads.loads_table is)) (either asked.settle done)
+      (MatchBool asked.ledger (RunsLedger asked told told' out out' well)
+      (MatchBool asked.settle (RunsSettled asked told told' out out' well) (RunsService asked told told' out out' well))) in
+      subst P (sym (serves asked.list asked.table told loads.between fares f flag loads.loads_table is)) (of_three asked.ledger done)
 
 -- the service was run by the fares that were loaded, over the files that were loaded
 pub returns-in-Some-clause-ok : goal.returns-in-Some-clause-ok
 returns-in-Some-clause-ok g c =
     let flag : c.args.options.now.list ≡ false = assumption in
-    IfOk-weaker c.post.result _ _
+    IfOk-weaker c.post_for.result _ _
     (λ well done. does_post _ _ _ _ _ well _ _ _ _ _ c.in_ok-table.ensures.loads c.in-Some.is refl c.in_ok-token.ensures.token flag done)
-    c.post.ensures.ok
+    c.post_for.ensures.ok

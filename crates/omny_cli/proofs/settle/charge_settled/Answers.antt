@@ -1,6 +1,6 @@
 use Rattle.std.proofs.Common.{List, map, subst, sym}
 use Rattle.fare_service.specs.declared.upload_end.UploadEnd.{UploadEnd}
-use Rattle.omny_cli.specs.inside.Settling.{IsOutcomeOf}
+use Rattle.omny_cli.specs.Settling.{IsOutcomeOf}
 use Rattle.omny_cli.proofs.Settled.{settles}
 use Rattle.omny_cli.proofs.settle.charge_settled.Goals as goal
 
