@@ -13,12 +13,15 @@
 # make audit    the checkers of ledgers over the example, a generated week and 20 spoilt ledgers
 # make sql      the example's ledger in SQLite and in PostgreSQL, and an auditor's questions
 # make viewer   the page that shows a ledger, in headless Chromium
+# make cluster  3 million taps over 8 parts: on this machine, on Slurm and on Dask, with a machine
+#               lost in the middle; then what may go wrong. docs/CLUSTER.md says more
 #
 # run, build, test and wrong need the toolchain (rt, which needs Python 3), make and bash.
 # hostile also needs a C compiler, bench also rustc. audit needs Python 3.11. sql needs sqlite3 and
-# viewer needs chromium: where these are not there, they say so in a line and are skipped.
+# viewer needs chromium; cluster needs Slurm and Dask, and root for Slurm: where these are not there,
+# they say so in a line and are skipped.
 
-.PHONY: run build install test wrong hostile bench audit sql viewer
+.PHONY: run build install test wrong hostile bench audit sql viewer cluster
 
 PREFIX ?= /usr/local
 
@@ -35,8 +38,10 @@ install:
 # take. The last line of the output is the verdict of rt ci: the cases are silent where all is well.
 test:
 	scripts/must_not_compile
+	@scripts/version
 	@n=$$(nproc) && RT_JOBS=$${RT_JOBS:-$$((n < 4 ? n : 4))} rt ci
 	@scripts/program_cases
+	@scripts/tool_manners
 	@scripts/settled_week
 
 wrong:
@@ -56,3 +61,6 @@ sql:
 
 viewer:
 	@viewer/test
+
+cluster:
+	@cluster/try

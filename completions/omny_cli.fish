@@ -14,6 +14,7 @@ complete -c omny_cli -l workers -x -d 'How many threads post the uploads' -a '(s
 complete -c omny_cli -l shards -x -d 'Over how many shards the accounts are spread' \
     -a '1 2 4 8 16 32 64'
 complete -c omny_cli -l token -x -d 'Print the statement of this token'
+complete -c omny_cli -l explain -d 'Print the statement of --token with the reason of each line'
 complete -c omny_cli -l ledger -d 'Print the ledger: every entry, as CSV'
 complete -c omny_cli -s h -l help -d 'Print help'
 complete -c omny_cli -k -a '(__omny_cli_files .tap)'

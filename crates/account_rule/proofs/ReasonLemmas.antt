@@ -124,7 +124,7 @@ unfolding cut last_block
 last-cut joins [] = refl
 last-cut joins (x ∷ xs) = last-cut_from joins (x ∷ []) xs
 
-giver-live : (rules : Rules) (taps : List TapIn) (giver : LiveTap) → giver_of (last_block (chains rules taps)) ≡ Some giver → last_or None (live taps) ≡ Some giver
+pub giver-live : (rules : Rules) (taps : List TapIn) (giver : LiveTap) → giver_of (last_block (chains rules taps)) ≡ Some giver → last_or None (live taps) ≡ Some giver
 unfolding chains
 giver-live rules taps giver some = sym (last-cut (continues rules.permits) (live taps)) ∙ giver-last _ giver None some
 

@@ -16,6 +16,10 @@ use Rattle.fare_table.specs.Fares.{Fares}
 abbrev pub moment_nanos : ℕ → ℤ
 moment_nanos moment = pos (moment * 1_000_000)
 
+-- how many seconds the zone's clocks are ahead of UTC at the moment
+abbrev pub seconds_ahead : PosixRule → ℕ → ℤ
+seconds_ahead zone moment = offset_at (Posix zone) (moment_nanos moment)
+
 -- The limit is 00:00 of the seventh civil date after the date that clocks of the zone show at the
 -- start. Where that midnight is skipped it takes the offset before the gap, where it comes twice it
 -- is the earlier one.

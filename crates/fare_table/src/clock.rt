@@ -6,7 +6,7 @@ ghost use Rattle.fare_table.specs.Until.{IsCivilLimit, IsLimit, limit_in, moment
 
 use crate::fault::NoMemory;
 use jiff::civil::{Date, DateTime};
-use jiff::tz::TimeZone;
+use jiff::tz::{Offset, TimeZone};
 use jiff::{Timestamp, ToSpan};
 use std::marker::Model;
 
@@ -33,9 +33,9 @@ impl Model for Clock {
 }
 
 impl Clock {
-    ghost use Rattle.std.specs.Prelude.{◌≡◌, ◌<◌, IfOk, IsOk};
+    ghost use Rattle.std.specs.Prelude.{◌≡◌, ◌<◌, IfOk, IsOk, option_map};
     ghost use Rattle.fare_table.specs.inside.PosixRule.{HasRule, rule_of};
-    ghost use Rattle.fare_table.specs.Until.{IsLimit, limit_in};
+    ghost use Rattle.fare_table.specs.Until.{IsLimit, limit_in, seconds_ahead};
 
     pub(crate) fn new(zone: Option<TimeZone<'static>>) -> Clock
         requires { HasRule zone }
@@ -63,6 +63,20 @@ impl Clock {
             None => Ok(moment + SEVEN_DAYS),
         }
     }
+
+    /// How far the zone's clocks are ahead of UTC at the moment, in milliseconds since
+    /// 1970-01-01T00:00Z; the moment lies before 9999-12-30T22:00Z. `None` where the table names no
+    /// zone.
+    pub fn offset_at(&self, moment: u64) -> Option<Offset>
+        requires { moment < 253_402_207_200_000 }
+        ensures { option_map (λ offset. offset.seconds) result
+            ≡ option_map (λ zone. seconds_ahead zone moment) self.now }
+    {
+        match &self.zone {
+            Some(zone) => Some(zone.to_offset(instant(moment))),
+            None => None,
+        }
+    }
 }
 
 // Kept out of `until`, so that the few instructions of a table without a zone stand where it is
@@ -81,7 +95,7 @@ fn civil_limit(zone: &TimeZone<'static>, moment: u64) -> u64
 }
 
 fn instant(moment: u64) -> Timestamp
-    requires { moment < 4_102_444_800_000 }
+    requires { moment < 253_402_207_200_000 }
     ensures { result.nanosecond ≡ moment_nanos moment }
 {
     Timestamp::from_millisecond(moment as i64).unwrap()

@@ -1,3 +1,4 @@
 pub mod MomentLemmas
 pub mod Parts
 pub mod StatementLines
+pub mod LocalLemmas

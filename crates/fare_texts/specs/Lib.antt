@@ -1,3 +1,4 @@
 pub mod Counts
+pub mod Local
 pub mod Moments
 pub mod StatementText

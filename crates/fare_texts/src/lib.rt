@@ -3,12 +3,14 @@
 
 mod counts;
 mod digits;
+mod local;
 mod moment;
 mod names;
 mod statement;
 
 pub use counts::{write_counts, write_totals};
 pub use digits::Digits;
+pub use local::write_local;
 pub use moment::write_moment;
 pub use names::{answer_name, mode_name};
 pub use statement::statement_text;

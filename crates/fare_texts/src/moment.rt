@@ -9,7 +9,7 @@ use jiff::fmt::temporal::DateTimePrinter;
 use std::alloc::AllocError;
 
 /// The moment at which the calendar of dates ends, in milliseconds: 9999-12-30T22:00Z.
-const CALENDAR_END: u64 = 253_402_207_200_000;
+pub(crate) const CALENDAR_END: u64 = 253_402_207_200_000;
 
 /// Appends the moment, in milliseconds since 1970-01-01T00:00Z, as `2024-03-08T17:00:00.000Z`.
 pub fn write_moment(text: &mut String, moment: u64) -> Result<(), AllocError>

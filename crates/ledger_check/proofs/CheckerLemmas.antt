@@ -99,13 +99,13 @@ part_true fares reading lines part more taken lacks =
     (λ rest read. wrong fares reading.replay rest part read (λ entry is. next_ends fares read.entries entry part is lacks))
 
 -- a piece without a newline
-cut_more : (fares : Fares) (checker : Checker) (text piece : List ℕ) (fed : HasFed fares checker text) (more : List ℕ)
+pub cut_more : (fares : Fares) (checker : Checker) (text piece : List ℕ) (fed : HasFed fares checker text) (more : List ℕ)
     → lines_of ((text ++ piece) ++ more) ≡ fed.lines ++ lines_of ((checker.part.items ++ piece) ++ more)
 cut_more fares checker text piece fed more =
     ap lines_of (append_assoc text piece more) ∙ fed.cut (piece ++ more)
     ∙ ap (λ (t : List ℕ). fed.lines ++ lines_of t) (sym (append_assoc checker.part.items piece more))
 
-pub kept : (fares : Fares) (checker after : Checker) (text piece : List ℕ) → HasFed fares checker text → Lacks 10 piece
+abbrev pub kept : (fares : Fares) (checker after : Checker) (text piece : List ℕ) → HasFed fares checker text → Lacks 10 piece
     → after.reading ≡ checker.reading → after.part.items ≡ checker.part.items ++ piece → length after.part.items ≤ 255
     → HasFed fares after (text ++ piece)
 kept fares checker after text piece fed lacks same part short = record {
@@ -140,20 +140,36 @@ line_cut fares checker text line fed is more =
     ∙ ap (λ (ls : List (List ℕ)). fed.lines ++ ls) (lines-line (part ++ is.front) more (lacks-append 10 part is.front fed.lacks is.lacks))
     ∙ ap (λ (l : List ℕ). fed.lines ++ l ∷ lines_of more) (sym whole)
 
+pub took_cut : (fares : Fares) (checker after : Checker) (text line whole : List ℕ) → (fed : HasFed fares checker text) → IsLine line
+    → whole ≡ checker.part.items ++ line → after.part.items ≡ [] → (more : List ℕ)
+    → lines_of ((text ++ line) ++ more) ≡ (fed.lines ++ whole ∷ []) ++ lines_of (after.part.items ++ more)
+took_cut fares checker after text line whole fed is joined empty more =
+    line_cut fares checker text line fed is more
+    ∙ ap (λ (l : List ℕ). fed.lines ++ l ∷ lines_of more) (sym joined)
+    ∙ sym (append_assoc fed.lines (whole ∷ []) (lines_of more))
+    ∙ ap (λ (p : List ℕ). (fed.lines ++ whole ∷ []) ++ lines_of (p ++ more)) (sym empty)
+
+pub none_short : (part : List ℕ) → part ≡ [] → length part ≤ 255
+none_short part empty = subst (λ (p : List ℕ). length p ≤ 255) (sym empty) (omega arith)
+
+pub none_lacks : (part : List ℕ) → part ≡ [] → Lacks 10 part
+none_lacks part empty = subst (Lacks 10) (sym empty) tt
+
+abbrev pub took_whole : (fares : Fares) (checker after : Checker) (text line whole : List ℕ) → (fed : HasFed fares checker text) → IsLine line
+    → whole ≡ checker.part.items ++ line → after.part.items ≡ [] → HasTaken fares after.reading (fed.lines ++ whole ∷ [])
+    → HasFed fares after (text ++ line)
+took_whole fares checker after text line whole fed is joined empty taken = record {
+  lines = fed.lines ++ whole ∷ [];
+  taken = taken;
+  cut = took_cut fares checker after text line whole fed is joined empty;
+  lacks = none_lacks after.part.items empty;
+  short = none_short after.part.items empty;
+}
+
 pub took_line : (fares : Fares) (checker after : Checker) (text line whole : List ℕ) (told : Option Verdict) → (fed : HasFed fares checker text) → IsLine line
     → whole ≡ checker.part.items ++ line → after.part.items ≡ [] → IsTaken fares after.reading fed.lines whole told
     → IsFed fares after (text ++ line) told
-took_line fares checker after text line whole None fed is joined empty taken = record {
-  lines = fed.lines ++ whole ∷ [];
-  taken = taken;
-  cut = λ more.
-      line_cut fares checker text line fed is more
-      ∙ ap (λ (l : List ℕ). fed.lines ++ l ∷ lines_of more) (sym joined)
-      ∙ sym (append_assoc fed.lines (whole ∷ []) (lines_of more))
-      ∙ ap (λ (p : List ℕ). (fed.lines ++ whole ∷ []) ++ lines_of (p ++ more)) (sym empty);
-  lacks = subst (Lacks 10) (sym empty) tt;
-  short = subst (λ (p : List ℕ). length p ≤ 255) (sym empty) (omega arith);
-}
+took_line fares checker after text line whole None fed is joined empty taken = took_whole fares checker after text line whole fed is joined empty taken
 took_line fares checker after text line whole (Some verdict) fed is joined empty taken = λ more.
     subst (λ (ls : List (List ℕ)). IsTrueOf fares ls verdict)
     (sym (line_cut fares checker text line fed is more ∙ ap (λ (l : List ℕ). fed.lines ++ l ∷ lines_of more) (sym joined)))
@@ -172,7 +188,7 @@ ended_in_part fares checker text fed some =
     (sym (whole_cut fares checker text fed ∙ ap (λ (ls : List (List ℕ)). fed.lines ++ ls) (lines-part part fed.lacks some)))
     (part_true fares checker.reading fed.lines part [] fed.taken fed.lacks)
 
-ended_at_line : (fares : Fares) (checker : Checker) (text : List ℕ) (fed : HasFed fares checker text) → checker.part.items ≡ [] → lines_of text ≡ fed.lines
+pub ended_at_line : (fares : Fares) (checker : Checker) (text : List ℕ) (fed : HasFed fares checker text) → checker.part.items ≡ [] → lines_of text ≡ fed.lines
 unfolding lines_of
 ended_at_line fares checker text fed empty =
     whole_cut fares checker text fed ∙ ap (λ (p : List ℕ). fed.lines ++ lines_of p) empty ∙ append-nil fed.lines

@@ -5,6 +5,7 @@ pub mod LineLemmas
 pub mod MomentLemmas
 pub mod ReplayLemmas
 pub mod SameLines
+pub mod StruckLemmas
 pub mod TokenOrder
 pub mod TurnLemmas
 pub mod VerdictLemmas

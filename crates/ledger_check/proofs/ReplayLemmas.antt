@@ -10,7 +10,7 @@ use Rattle.reason_texts.specs.Ledger.{IsLedgerLine}
 use Rattle.ledger_check.specs.Ledger.{AreNext, IsNext, IsPostable, number_of}
 use Rattle.ledger_check.specs.Replays.{HasRead, IsTurn, IsWanted, IsWrongAfter, StandsAt}
 use Rattle.ledger_check.specs.inside.Replays.{GoesOn}
-use Rattle.ledger_check.specs.inside.Taps.{IsOf}
+use Rattle.ledger_check.specs.inside.Taps.{IsOf, TellsTap}
 use Rattle.ledger_check.specs.declared.replay.Replay.{Replay}
 use Rattle.ledger_check.specs.declared.tap.Tap.{Tap}
 use Rattle.ledger_check.specs.declared.turn.Turn.{Turn}
@@ -51,11 +51,6 @@ pub wrong_full : (fares : Fares) (replay : Replay) (lines : List (List ℕ)) (li
 wrong_full fares replay lines line read full =
     wrong fares replay lines line read (λ entry is. let few : length read.entries < 2 ^ 62 = is.few in absurd (omega (arith, read.counted)))
 
--- whatever entry has the line, it is of this tap
-abbrev pub TellsTap : Fares → List ℕ → Tap → Type 0
-TellsTap fares line tap = (number : ℕ) (entry : Entry) (why : Reason) → number < 2 ^ 64 → IsPostable entry
-    → IsLedgerLine fares entry.token number entry why line → IsOf tap entry
-
 -- no entry has the line
 abbrev pub TellsNone : Fares → List ℕ → Type 0
 TellsNone fares line = (number : ℕ) (entry : Entry) (why : Reason) → number < 2 ^ 64 → IsPostable entry
@@ -72,7 +67,7 @@ pub wrong_unread : (fares : Fares) (replay : Replay) (lines : List (List ℕ)) (
 wrong_unread fares replay lines line read none =
     wrong fares replay lines line read (λ entry is. none _ entry _ (small_number fares read.entries entry line is) is.postable is.shown)
 
-tap_of_next : (fares : Fares) (earlier : List Entry) (entry : Entry) (line : List ℕ) (tap : Tap) → TellsTap fares line tap
+pub tap_of_next : (fares : Fares) (earlier : List Entry) (entry : Entry) (line : List ℕ) (tap : Tap) → TellsTap fares line tap
     → IsNext fares earlier entry line → IsOf tap entry
 tap_of_next fares earlier entry line tap tells is = tells _ entry _ (small_number fares earlier entry line is) is.postable is.shown
 

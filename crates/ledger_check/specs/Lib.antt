@@ -1,5 +1,6 @@
 pub mod Ledger
 pub mod Lines
 pub mod Replays
+pub mod Struck
 pub mod Verdicts
 pub mod inside

@@ -1,10 +1,16 @@
-//! The check of a text that comes in pieces.
+//! The check of a text that comes in pieces, and the taps of its lines.
 
-ghost use Rattle.std.specs.Prelude.{◌≡◌, ◌++◌, [], ℕ, List, IfOk};
+ghost use Rattle.std.specs.Prelude.{◌≡◌, ◌++◌, ◌∷◌, [], ℕ, List, IfOk, IsTrue, map};
 ghost use Rattle.fare_table.specs.Fares.{Fares};
+ghost use Rattle.shard_book.specs.declared.entry.Entry.{Entry};
+ghost use Rattle.tap_balance.specs.Balances.{IsBalance};
+ghost use Rattle.tap_balance.specs.declared.balance.Balance.{Balance};
+ghost use Rattle.tap_views.specs.declared.encoder.TapFields.{TapFields};
+ghost use Rattle.ledger_check.specs.Ledger.{IsLedgerOf};
 ghost use Rattle.ledger_check.specs.Lines.{Lacks};
 ghost use Rattle.ledger_check.specs.inside.Lines.{IsLine};
-ghost use Rattle.ledger_check.specs.Verdicts.{HasFed, HasTaken, IsFed, IsVerdict};
+ghost use Rattle.ledger_check.specs.Struck.{AreStruck, HasStruck, IfUntold, posted_tap};
+ghost use Rattle.ledger_check.specs.Verdicts.{HasFed, HasTaken, IsFed, IsVerdict, is_legal};
 ghost use Rattle.ledger_check.specs.inside.Verdicts.{IsTaken, number_after};
 ghost use Rattle.ledger_check.specs.declared.checker.Verdict.TheVariants.{NoLine};
 
@@ -13,6 +19,7 @@ use crate::replay::{LONGEST, Replay, Step};
 use fare_table::{Clock, FareTable, NoMemory};
 use reason_texts::head_line;
 use std::alloc::Global;
+use tap_balance::Balance;
 
 /// What a check tells of a text. Lines count from 1, the head line.
 #[derive(Drop)]
@@ -48,17 +55,22 @@ impl Reading {
         }
     }
 
-    /// Reads the next whole line.
+    /// Reads the next whole line, and strikes its tap out.
     fn take(
         &mut self,
         table: &FareTable,
         clock: &Clock,
         line: &[u8],
+        balance: &mut Balance,
     ) -> Result<Option<Verdict>, NoMemory>
         requires clock { clock.now ≡ table.now.zone }
         requires taken { (lines : List (List ℕ)) × HasTaken table.now self.old lines }
-        ensures { IfOk result (λ told. (lines : List (List ℕ)) → HasTaken table.now self.old lines
+        ensures taken { IfOk result (λ told. (lines : List (List ℕ))
+            → HasTaken table.now self.old lines
             → IsTaken table.now self.new lines line.now told) }
+        ensures struck { IfOk result (λ told. (lines : List (List ℕ)) (posted : List TapFields)
+            → HasTaken table.now self.old lines → AreStruck table.now lines balance.old posted
+            → IfUntold told (AreStruck table.now (lines ++ line.now ∷ []) balance.new posted)) }
     {
         if !self.has_head {
             if !same_bytes(line, head_line().as_bytes()) {
@@ -69,7 +81,10 @@ impl Reading {
         }
         let number = self.replay.lines + 2;
         match self.replay.next(table, clock, line, &mut self.wanted)? {
-            Step::Legal => Ok(None),
+            Step::Legal(tap) => {
+                balance.strike(&tap.fields());
+                Ok(None)
+            }
             Step::Wants => Ok(Some(Verdict::Wants(number, self.wanted.clone()?))),
             Step::NoLine => Ok(Some(Verdict::NoLine(number))),
         }
@@ -88,7 +103,9 @@ pub struct Checker {
 impl Checker {
     /// Nothing was read.
     pub fn new(alloc: Global) -> Checker
-        ensures { (fares : Fares) → HasFed fares result [] }
+        ensures fed { (fares : Fares) → HasFed fares result [] }
+        ensures struck { (fares : Fares) (balance : Balance) (posted : List TapFields)
+            → IsBalance balance posted [] → HasStruck fares result balance [] posted }
     {
         Checker {
             reading: Reading {
@@ -100,21 +117,26 @@ impl Checker {
         }
     }
 
-    /// Reads the next piece of the text. A verdict, if there is one, tells the first wrong line,
-    /// whatever follows the piece; the checker is of no use then, nor after an error. The clock is
-    /// the table's, and the table is the same in all calls.
+    /// Reads the next piece of the text, and strikes the taps of its lines out. A verdict, if there
+    /// is one, tells the first wrong line, whatever follows the piece; the checker and the balance
+    /// are of no use then, nor after an error. The clock is the table's, and the table and the
+    /// balance are the same in all calls.
     pub fn feed(
         &mut self,
         table: &FareTable,
         clock: &Clock,
         piece: &[u8],
+        balance: &mut Balance,
     ) -> Result<Option<Verdict>, NoMemory>
         requires clock { clock.now ≡ table.now.zone }
         requires fed { (text : List ℕ) × HasFed table.now self.old text }
 
         // After every text that was read so far.
-        ensures { IfOk result (λ told. (text : List ℕ) → HasFed table.now self.old text
+        ensures fed { IfOk result (λ told. (text : List ℕ) → HasFed table.now self.old text
             → IsFed table.now self.new (text ++ piece.now) told) }
+        ensures struck { IfOk result (λ told. (text : List ℕ) (posted : List TapFields)
+            → HasStruck table.now self.old balance.old text posted
+            → IfUntold told (HasStruck table.now self.new balance.new (text ++ piece.now) posted)) }
     {
         let mut rest = piece;
         while !rest.is_empty() {
@@ -122,7 +144,7 @@ impl Checker {
                 let told = self.keep(rest)?;
                 return Ok(told);
             };
-            let told = self.take_line(table, clock, line)?;
+            let told = self.take_line(table, clock, line, balance)?;
             if told.is_some() {
                 return Ok(told);
             }
@@ -137,19 +159,25 @@ impl Checker {
         table: &FareTable,
         clock: &Clock,
         line: &[u8],
+        balance: &mut Balance,
     ) -> Result<Option<Verdict>, NoMemory>
         requires clock { clock.now ≡ table.now.zone }
         requires fed { (text : List ℕ) × HasFed table.now self.old text }
         requires line { IsLine line.now }
-        ensures { IfOk result (λ told. (text : List ℕ) → HasFed table.now self.old text
+        ensures fed { IfOk result (λ told. (text : List ℕ) → HasFed table.now self.old text
             → IsFed table.now self.new (text ++ line.now) told) }
+        ensures struck { IfOk result (λ told. (text : List ℕ) (posted : List TapFields)
+            → HasStruck table.now self.old balance.old text posted
+            → IfUntold told (HasStruck table.now self.new balance.new (text ++ line.now) posted)) }
     {
         if self.part.is_empty() {
-            let told = self.reading.take(table, clock, line)?;
+            let told = self.reading.take(table, clock, line, balance)?;
             return Ok(told);
         }
         self.part.extend_from_slice(line)?;
-        let told = self.reading.take(table, clock, self.part.as_slice())?;
+        let told = self
+            .reading
+            .take(table, clock, self.part.as_slice(), balance)?;
         self.part.clear();
         Ok(told)
     }
@@ -158,8 +186,11 @@ impl Checker {
     fn keep(&mut self, rest: &[u8]) -> Result<Option<Verdict>, NoMemory>
         requires fed { (fares : Fares) × (text : List ℕ) × HasFed fares self.old text }
         requires rest { Lacks 10 rest.now }
-        ensures { IfOk result (λ told. (fares : Fares) (text : List ℕ) → HasFed fares self.old text
-            → IsFed fares self.new (text ++ rest.now) told) }
+        ensures fed { IfOk result (λ told. (fares : Fares) (text : List ℕ)
+            → HasFed fares self.old text → IsFed fares self.new (text ++ rest.now) told) }
+        ensures struck { IfOk result (λ told. (fares : Fares) (text : List ℕ) (balance : Balance)
+            (posted : List TapFields) → HasStruck fares self.old balance text posted
+            → IfUntold told (HasStruck fares self.new balance (text ++ rest.now) posted)) }
     {
         self.part.extend_from_slice(rest)?;
         if self.part.len() > LONGEST {
@@ -171,8 +202,14 @@ impl Checker {
     /// The verdict on the text that was read, which ends here.
     pub fn finish(&self) -> Verdict
         requires fed { (fares : Fares) × (text : List ℕ) × HasFed fares self.now text }
-        ensures { (fares : Fares) (text : List ℕ) → HasFed fares self.now text
+        ensures verdict { (fares : Fares) (text : List ℕ) → HasFed fares self.now text
             → IsVerdict fares text result }
+
+        // What is left is the balance of the taps of the ledger, where the text is one.
+        ensures struck { (fares : Fares) (text : List ℕ) (balance : Balance)
+            (posted : List TapFields) → HasStruck fares self.now balance text posted
+            → IsTrue (is_legal result) → (entries : List Entry) → IsLedgerOf fares entries text
+            → IsBalance balance posted (map posted_tap entries) }
     {
         if !self.reading.has_head || !self.part.is_empty() {
             return self.reading.no_line();

@@ -11,7 +11,7 @@ ghost use Rattle.ledger_check.specs.inside.Replays.{IsStep};
 
 use crate::bytes::same_bytes;
 use crate::form::has_form;
-use crate::tap::read_tap;
+use crate::tap::{Tap, read_tap};
 use crate::turn::Turn;
 use fare_table::{Clock, FareTable, NoMemory};
 use shard_book::Token;
@@ -26,8 +26,8 @@ const MOST: u64 = 4_611_686_018_427_387_904;
 /// What was found of a line.
 #[derive(Clone, Copy)]
 pub(crate) enum Step {
-    /// A ledger has it here.
-    Legal,
+    /// A ledger has it here, for this tap.
+    Legal(Tap),
     /// Its tap should have another line here, which was written.
     Wants,
     /// It is no ledger line, or its token is out of order.
@@ -102,7 +102,7 @@ impl Replay {
         if same_bytes(wanted.as_bytes(), line) {
             self.lines += 1;
             self.turn = Some(turn);
-            return Ok(Step::Legal);
+            return Ok(Step::Legal(tap));
         }
         if wanted.len() <= LONGEST && has_form(line) {
             Ok(Step::Wants)

@@ -10,11 +10,12 @@ ghost use Rattle.shard_book.specs.declared.entry.Entry.{Entry};
 ghost use Rattle.shard_book.specs.declared.token.Token.{Token};
 ghost use Rattle.reason_texts.specs.Ledger.{IsLedgerLine};
 ghost use Rattle.ledger_check.specs.Ledger.{IsPostable};
-ghost use Rattle.ledger_check.specs.inside.Taps.{IsOf};
+ghost use Rattle.ledger_check.specs.inside.Taps.{IsOf, fields_in};
 
 use crate::bytes::field;
 use crate::moment::read_moment;
 use shard_book::Token;
+use tap_views::TapFields;
 
 /// What a line tells of a tap.
 #[derive(Clone, Copy)]
@@ -25,6 +26,19 @@ pub(crate) struct Tap {
     pub(crate) validator: u32,
     /// When, in milliseconds since 1970-01-01T00:00Z.
     pub(crate) moment: u64,
+}
+
+impl Tap {
+    /// The tap, with the bytes of its token.
+    pub(crate) fn fields(self) -> TapFields
+        ensures { result ≡ fields_in self }
+    {
+        TapFields {
+            token: self.token.bytes(),
+            validator: self.validator,
+            moment: self.moment,
+        }
+    }
 }
 
 /// The token of 32 hexadecimal digits.

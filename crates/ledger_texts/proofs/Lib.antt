@@ -4,3 +4,6 @@ pub mod Sorting
 pub mod Writing
 pub mod Whole
 pub mod Collecting
+pub mod Closing
+pub mod ExplainedLines
+pub mod Modes

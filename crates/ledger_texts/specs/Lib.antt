@@ -1,3 +1,4 @@
+pub mod Explained
 pub mod Fault
 pub mod Ledger
 pub mod inside

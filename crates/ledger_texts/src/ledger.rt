@@ -23,7 +23,7 @@ use std::io::Write;
 const LINE: usize = 1_024;
 
 /// The fare table of the first book, which is that of all books of a service.
-fn table_of(books: &[ShardBook]) -> &FareTable
+pub(crate) fn table_of(books: &[ShardBook]) -> &FareTable
     requires { 0 < length books.now }
     ensures { (first : Book) × (slice_get books.now 0 ≡ Some first) × (result.now ≡ first.table) }
 {

@@ -1,11 +1,14 @@
-//! The ledger of books: a line for each entry of each token, with its reason.
+//! The ledger of books: a line for each entry of each token, with its reason; and the explained
+//! statement of one token.
 #![tactic(auto)]
 
 mod entries;
+mod explained;
 mod fault;
 mod ledger;
 mod lines;
 mod teller;
 
+pub use explained::write_explained;
 pub use fault::LedgerFault;
 pub use ledger::write_ledger;

@@ -1,6 +1,11 @@
--- The line that tells a verdict.
-use Rattle.std.specs.Prelude.{ℕ, List, ◌++◌, codes, string_bytes}
+-- The lines that tell a verdict, and how the ledger's taps differ from those of the uploads.
+use Rattle.std.specs.Prelude.{◌≡◌, ℕ, List, ◌++◌, codes, string_bytes, Option, None, Some}
 use Rattle.std.specs.Fmt.{decimal}
+use Rattle.hex.specs.Hex.{encode_lower}
+use Rattle.fare_texts.specs.Moments.{IsMomentText}
+use Rattle.tap_balance.specs.declared.balance.Difference.{Difference}
+use Rattle.tap_balance.specs.declared.balance.Difference.TheVariants.{Missing, Surplus}
+use Rattle.tap_views.specs.declared.encoder.TapFields.{TapFields}
 use Rattle.ledger_check.specs.declared.checker.Verdict.{Verdict}
 use Rattle.ledger_check.specs.declared.checker.Verdict.TheVariants.{Legal, Wants, NoLine}
 
@@ -11,3 +16,28 @@ verdict_text (Legal entries) = codes "legal " ++ (decimal entries ++ codes " lin
 verdict_text (Wants line wanted) =
     codes "line " ++ (decimal line ++ (codes " wants " ++ string_bytes wanted))
 verdict_text (NoLine line) = codes "line " ++ (decimal line ++ codes " is no ledger line\n")
+
+-- the token, and the space behind it
+unfoldable pub token_part : TapFields → List ℕ
+token_part tap = encode_lower tap.token ++ codes " "
+
+-- the space before the validator, the validator and the newline
+unfoldable pub validator_part : TapFields → List ℕ
+validator_part tap = codes " " ++ (decimal tap.validator ++ codes "\n")
+
+-- `000000000000000000000000000000a1 2024-03-08T17:00:00.000Z 1000`, with its newline
+pub record IsTapText (tap : TapFields) (text : List ℕ) : Type 0 where
+  pub moment : List ℕ
+  pub is : IsMomentText tap.moment moment
+  pub shown : text ≡ token_part tap ++ (moment ++ validator_part tap)
+
+-- these words, and then the tap
+abbrev pub IsLineOf : List ℕ → TapFields → List ℕ → Type 0
+IsLineOf words tap text = (rest : List ℕ) × IsTapText tap rest × (text ≡ words ++ rest)
+
+-- `all taps of the uploads`; `missing tap ..`, where the uploads have it more often than the
+-- ledger, `surplus tap ..`, where the ledger has it more often
+abbrev pub IsDifferenceText : Option Difference → List ℕ → Type 0
+IsDifferenceText None text = text ≡ codes "all taps of the uploads\n"
+IsDifferenceText (Some (Missing tap)) text = IsLineOf (codes "missing tap ") tap text
+IsDifferenceText (Some (Surplus tap)) text = IsLineOf (codes "surplus tap ") tap text

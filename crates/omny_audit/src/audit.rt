@@ -1,28 +1,45 @@
-//! The verdict on all that a reader gives.
+//! The answer on all that a reader gives.
 
-ghost use Rattle.std.specs.Prelude.{◌≡◌, IfOk, IfSome};
-ghost use Rattle.ledger_check.specs.Verdicts.{IsVerdict};
+ghost use Rattle.std.specs.Prelude.{◌≡◌, ℕ, List, [], IfOk, IfSome, IsTrue, None, Some, map};
+ghost use Rattle.std.specs.Prelude.{if◌then◌else◌, string_bytes};
+ghost use Rattle.std.specs.Io.KnownBytes.{Appends};
+ghost use Rattle.fare_table.specs.Fares.{Fares};
+ghost use Rattle.shard_book.specs.declared.entry.Entry.{Entry};
+ghost use Rattle.tap_balance.specs.Balances.{IsBalance};
+ghost use Rattle.tap_views.specs.declared.encoder.TapFields.{TapFields};
+ghost use Rattle.ledger_check.specs.Ledger.{IsLedgerOf};
+ghost use Rattle.ledger_check.specs.Struck.{posted_tap};
+ghost use Rattle.ledger_check.specs.Verdicts.{IsVerdict, is_legal};
+ghost use Rattle.omny_audit.specs.Answers.{IsAnswer, agrees};
 
 use crate::fault::Fault;
+use crate::output::write_text;
+use crate::text::{verdict_line, write_difference};
 use fare_table::{Clock, FareTable};
 use ledger_check::{Checker, Verdict};
-use std::alloc::Global;
-use std::io::Read;
+use std::alloc::{AllocError, Global};
+use std::io::{Read, Write};
+use tap_balance::{Balance, Difference};
 
 /// How many bytes one read asks for.
 const STEP: usize = 65_536;
 
-/// The verdict on all that the reader has left. It keeps no more of it than one read gives, and
-/// reads no further than to the first wrong line.
+/// The verdict on all that the reader has left, whose taps are struck out. It keeps no more of it
+/// than one read gives, and reads no further than to the first wrong line.
 pub fn verdict_of<R: Read>(
     alloc: Global,
     table: &FareTable,
     clock: &Clock,
     reader: &mut R,
+    balance: &mut Balance,
 ) -> Result<Verdict, Fault<'static>>
     requires clock { clock.now ≡ table.now.zone }
-    ensures { IfOk result (λ verdict. IfSome (R.remaining reader.old) (λ text.
+    ensures verdict { IfOk result (λ verdict. IfSome (R.remaining reader.old) (λ text.
         IsVerdict table.now text verdict)) }
+    ensures struck { IfOk result (λ verdict. IfSome (R.remaining reader.old) (λ text.
+        (posted : List TapFields) → IsBalance balance.old posted [] → IsTrue (is_legal verdict)
+        → (entries : List Entry) → IsLedgerOf table.now entries text
+        → IsBalance balance.new posted (map posted_tap entries))) }
 {
     let mut checker = Checker::new(alloc);
     let mut step = [0u8; STEP];
@@ -33,9 +50,79 @@ pub fn verdict_of<R: Read>(
         if count == 0 {
             return Ok(checker.finish());
         }
-        if let Some(verdict) = checker.feed(table, clock, &step[..count])? {
+        if let Some(verdict) = checker.feed(table, clock, &step[..count], balance)? {
             return Ok(verdict);
         }
     }
     Err(Fault::Ledger)
+}
+
+/// Whether the verdict is `legal`.
+fn tells_legal(verdict: &Verdict) -> bool
+    ensures { result ≡ is_legal verdict.now }
+{
+    match verdict {
+        Verdict::Legal(_) => true,
+        Verdict::Wants(_, _) | Verdict::NoLine(_) => false,
+    }
+}
+
+/// Whether there is no difference.
+fn is_even(difference: &Option<Difference>) -> bool
+    ensures { result ≡ agrees difference.now }
+{
+    match difference {
+        None => true,
+        Some(_) => false,
+    }
+}
+
+/// What is told of the verdict and, where it is legal and there are uploads, of their taps; and
+/// whether all is well.
+fn answer_text(
+    alloc: Global,
+    verdict: &Verdict,
+    balance: &Balance,
+    has_uploads: bool,
+) -> Result<(String, bool), AllocError>
+    ensures { IfOk result (λ told. (fares : Fares) (text : List ℕ) (posted : List TapFields)
+        → IsVerdict fares text verdict.now
+        → (IsTrue (is_legal verdict.now) → (entries : List Entry) → IsLedgerOf fares entries text
+        → IsBalance balance.now posted (map posted_tap entries))
+        → IsAnswer fares text (if has_uploads then Some posted else None)
+        (string_bytes told.0) told.1) }
+{
+    let mut text = verdict_line(alloc, verdict)?;
+    if !tells_legal(verdict) {
+        return Ok((text, false));
+    }
+    if !has_uploads {
+        return Ok((text, true));
+    }
+    let told = balance.difference();
+    write_difference(&mut text, &told)?;
+    Ok((text, is_even(&told)))
+}
+
+/// Checks the ledger that the reader has left, beside the taps of uploads that the balance has, and
+/// writes the answer. Says whether all is well.
+pub fn audit_over<R: Read, W: Write>(
+    alloc: Global,
+    table: &FareTable,
+    clock: &Clock,
+    reader: &mut R,
+    mut balance: Balance,
+    has_uploads: bool,
+    out: &mut W,
+) -> Result<bool, Fault<'static>>
+    requires clock { clock.now ≡ table.now.zone }
+    ensures { IfOk result (λ well. IfSome (R.remaining reader.old) (λ text.
+        (posted : List TapFields) → IsBalance balance posted [] → (told : List ℕ)
+        × IsAnswer table.now text (if has_uploads then Some posted else None) told well
+        × Appends (W.contents out.old) (W.contents out.new) told)) }
+{
+    let verdict = verdict_of(alloc, table, clock, reader, &mut balance)?;
+    let told = answer_text(alloc, &verdict, &balance, has_uploads)?;
+    write_text(out, told.0.as_str())?;
+    Ok(told.1)
 }

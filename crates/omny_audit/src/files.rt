@@ -1,16 +1,16 @@
-//! The table and the ledger, from the system's files or standard input.
+//! The table, the uploads and the ledger, from the system's files or standard input.
 
 ghost use Rattle.std.specs.Prelude.{◌≡◌};
 
-use crate::audit::verdict_of;
+use crate::audit::audit_over;
 use crate::fault::Fault;
 use fare_table::{Clock, FareTable};
-use ledger_check::Verdict;
 use std::alloc::Global;
-use std::io::{ErrorKind, Read};
+use std::io::{ErrorKind, Read, Write};
 use std::{fs, io};
+use tap_balance::Balance;
 
-/// The most bytes of a table's file: 64 MiB.
+/// The most bytes of a file that is held in memory, a table's or an upload's: 64 MiB.
 const LONGEST: usize = 67_108_864;
 
 /// How many bytes one read asks for.
@@ -60,20 +60,44 @@ pub fn load_table<'a>(rt: &HostRuntime, name: &'a str) -> Result<FareTable, Faul
     }
 }
 
-/// The verdict on the file of this name, or on standard input where none is named.
-pub fn audit_named<'a>(
+/// All bytes of the upload of this name.
+fn load_upload<'a>(rt: &HostRuntime, name: &'a str) -> Result<Vec<u8>, Fault<'a>> {
+    match fs::open(rt, name) {
+        Ok(mut file) => load_from(rt.alloc(), name, &mut file),
+        Err(error) => Err(unopened(name, &error)),
+    }
+}
+
+/// The posted taps of the uploads of these names. It holds one upload at a time.
+pub fn load_balance<'a>(rt: &HostRuntime, names: &[&'a str]) -> Result<Balance, Fault<'a>> {
+    let mut balance = Balance::new(rt.alloc());
+    for name in names {
+        let upload = load_upload(rt, name)?;
+        balance.add_upload(&upload)?;
+    }
+    Ok(balance)
+}
+
+/// Checks the file of this name, or standard input where none is named, and writes the answer. Says
+/// whether all is well.
+pub fn audit_named<'a, W: Write>(
     rt: &HostRuntime,
     table: &FareTable,
     clock: &Clock,
     name: Option<&'a str>,
-) -> Result<Verdict, Fault<'a>>
+    balance: Balance,
+    has_uploads: bool,
+    out: &mut W,
+) -> Result<bool, Fault<'a>>
     requires { clock.now ≡ table.now.zone }
 {
+    let alloc = rt.alloc();
     let Some(name) = name else {
-        return verdict_of(rt.alloc(), table, clock, &mut rt.reader());
+        let mut input = rt.reader();
+        return audit_over(alloc, table, clock, &mut input, balance, has_uploads, out);
     };
     match fs::open(rt, name) {
-        Ok(mut file) => verdict_of(rt.alloc(), table, clock, &mut file),
+        Ok(mut file) => audit_over(alloc, table, clock, &mut file, balance, has_uploads, out),
         Err(error) => Err(unopened(name, &error)),
     }
 }

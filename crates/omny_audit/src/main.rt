@@ -1,12 +1,15 @@
 //! The program for auditors: checks a ledger under a fare table, and tells whether it is, whole,
-//! the ledger of legal histories, or which of its lines is the first that no such ledger has there.
+//! the ledger of legal histories, or which of its lines is the first that no such ledger has there;
+//! and whether its taps are those of some uploads.
 //!
 //! | module | what it does |
 //! |---|---|
-//! | `audit` | the verdict on all that a reader gives |
-//! | `files` | the table and the ledger, from the system |
+//! | `audit` | the answer on all that a reader gives |
+//! | `laws` | what follows of an answer |
+//! | `files` | the table, the uploads and the ledger, from the system |
 //! | `options` | the words of the command line, as `clap` reads them |
-//! | `text` | the line that tells a verdict |
+//! | `text` | the lines of an answer |
+//! | `output` | texts, written out |
 //! | `fault` | why the program gives up, and the line that says so |
 //! | `program` | the whole |
 #![tactic(auto)]
@@ -14,7 +17,9 @@
 mod audit;
 mod fault;
 mod files;
+mod laws;
 mod options;
+mod output;
 mod program;
 mod text;
 

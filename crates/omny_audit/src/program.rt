@@ -3,41 +3,15 @@
 ghost use Rattle.std.specs.Prelude.{◌≤◌};
 
 use crate::fault::Fault;
-use crate::files::{audit_named, load_table};
+use crate::files::{audit_named, load_balance, load_table};
 use crate::options::Options;
-use crate::text::verdict_line;
+use crate::output::{flush, unwritten};
 use clap::Error;
 use clap::error::ErrorKind;
-use ledger_check::Verdict;
 use std::io;
 use std::io::{ErrorKind as WriteKind, Write};
 
-/// Writes the whole text, through to where the writer brings it.
-fn write_text<'a, W: Write>(out: &mut W, text: &str) -> Result<(), Fault<'a>> {
-    match out.write_all(text.as_bytes()) {
-        Ok(()) => flush(out),
-        Err(error) => Err(unwritten(&error)),
-    }
-}
-
-/// Brings what was written through to where the writer brings it.
-fn flush<'a, W: Write>(out: &mut W) -> Result<(), Fault<'a>> {
-    match out.flush() {
-        Ok(()) => Ok(()),
-        Err(error) => Err(unwritten(&error)),
-    }
-}
-
-/// Why a write failed.
-fn unwritten<'a>(error: &io::Error) -> Fault<'a> {
-    if error.kind() == WriteKind::BrokenPipe {
-        Fault::Closed
-    } else {
-        Fault::Write
-    }
-}
-
-/// Checks the ledger and writes the verdict. Says whether the ledger is legal.
+/// Checks the ledger and writes the answer. Says whether all is well.
 fn audit<'a, W: Write>(
     rt: &HostRuntime,
     options: &Options<'a>,
@@ -45,10 +19,17 @@ fn audit<'a, W: Write>(
 ) -> Result<bool, Fault<'a>> {
     let table = load_table(rt, options.table)?;
     let clock = table.clock(rt.alloc())?;
-    let verdict = audit_named(rt, &table, &clock, options.ledger)?;
-    let text = verdict_line(rt.alloc(), &verdict)?;
-    write_text(out, text.as_str())?;
-    Ok(matches!(verdict, Verdict::Legal(_)))
+    let balance = load_balance(rt, &options.uploads)?;
+    let has_uploads = !options.uploads.is_empty();
+    audit_named(
+        rt,
+        &table,
+        &clock,
+        options.ledger,
+        balance,
+        has_uploads,
+        out,
+    )
 }
 
 /// Says why the program gives up, but where the reader has gone, and gives the status.
@@ -88,8 +69,8 @@ fn show_text<'a, W: Write>(error: &Error, out: &mut W) -> Result<(), Fault<'a>> 
 }
 
 /// The whole program: reads the words, of which the first is the program's name, checks the ledger
-/// that they name, and writes the verdict to `out`, mistakes and faults to `err`. Gives the status:
-/// 0 where the ledger is legal, 1 where it is not or something failed, 2 where the words are wrong.
+/// that they name, and writes the answer to `out`, mistakes and faults to `err`. Gives the status: 0 where
+/// all is well, 1 where it is not or something failed, 2 where the words are wrong.
 pub fn main_over<W: Write, E: Write>(
     rt: &HostRuntime,
     words: &[String],

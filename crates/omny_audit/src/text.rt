@@ -1,10 +1,15 @@
-//! The line that tells a verdict.
+//! The lines of an answer.
 
-ghost use Rattle.std.specs.Prelude.{◌≡◌, IfOk, string_bytes};
+ghost use Rattle.std.specs.Prelude.{◌≡◌, ◌++◌, ℕ, List, IfOk, OnOk, string_bytes};
+ghost use Rattle.omny_audit.specs.Text.{IsDifferenceText, IsTapText, token_part, validator_part};
 ghost use Rattle.omny_audit.specs.Text.{verdict_text};
 
+use fare_texts::{Digits, write_moment};
 use ledger_check::Verdict;
+use shard_book::Token;
 use std::alloc::{AllocError, Global};
+use tap_balance::Difference;
+use tap_views::TapFields;
 
 /// The line of the verdict, with its line feed.
 #[tactic(auto, unfolding(crate::specs::Text::verdict_text))]
@@ -15,5 +20,56 @@ pub fn verdict_line(alloc: Global, verdict: &Verdict) -> Result<String, AllocErr
         Verdict::Legal(entries) => format!(in alloc; "legal {entries} lines\n"),
         Verdict::Wants(line, wanted) => format!(in alloc; "line {line} wants {wanted}"),
         Verdict::NoLine(line) => format!(in alloc; "line {line} is no ledger line\n"),
+    }
+}
+
+/// Appends the tap's token, and the space behind it.
+#[tactic(auto, unfolding(crate::specs::Text::token_part))]
+fn write_token(text: &mut String, tap: &TapFields) -> Result<(), AllocError>
+    ensures { OnOk result (string_bytes text.new ≡ string_bytes text.old ++ token_part tap.now) }
+{
+    let digits = Digits(Token::of(&tap.token));
+    write!(text, "{digits} ")
+}
+
+/// Appends a space, the tap's validator, and the line feed.
+#[tactic(auto, unfolding(crate::specs::Text::validator_part))]
+fn write_validator(text: &mut String, tap: &TapFields) -> Result<(), AllocError>
+    ensures { OnOk result
+        (string_bytes text.new ≡ string_bytes text.old ++ validator_part tap.now) }
+{
+    let validator = tap.validator;
+    write!(text, " {validator}\n")
+}
+
+/// Appends the tap, with a line feed.
+fn write_tap(text: &mut String, tap: &TapFields) -> Result<(), AllocError>
+    ensures { OnOk result ((written : List ℕ) × IsTapText tap.now written
+        × (string_bytes text.new ≡ string_bytes text.old ++ written)) }
+{
+    write_token(text, tap)?;
+    write_moment(text, tap.moment)?;
+    write_validator(text, tap)?;
+    Ok(())
+}
+
+/// Appends the line of the difference, with its line feed.
+pub fn write_difference(
+    text: &mut String,
+    difference: &Option<Difference>,
+) -> Result<(), AllocError>
+    ensures { OnOk result ((written : List ℕ) × IsDifferenceText difference.now written
+        × (string_bytes text.new ≡ string_bytes text.old ++ written)) }
+{
+    match difference {
+        None => text.push_str("all taps of the uploads\n"),
+        Some(Difference::Missing(tap)) => {
+            text.push_str("missing tap ")?;
+            write_tap(text, tap)
+        }
+        Some(Difference::Surplus(tap)) => {
+            text.push_str("surplus tap ")?;
+            write_tap(text, tap)
+        }
     }
 }

@@ -4,6 +4,7 @@ use crate::fault::{Fault, say};
 use crate::input::{is_plain_file, load, load_upload, open_in_pieces};
 use crate::names::Name;
 use crate::output::Output;
+use crate::progress::Progress;
 use std::alloc::Global;
 use std::io::{BufRead, Write};
 use tap_rows::RowsFault;
@@ -75,11 +76,14 @@ pub(crate) fn decode<'a, W: Write + Drop, E: Write>(
     if tap_rows::write_head(out).is_err() {
         return Err(out.failed());
     }
+    let mut progress = Progress::beside_text(rt);
     let mut is_well = true;
-    for name in names {
+    for (number, name) in names.iter().enumerate() {
+        progress.tell(number, names.len());
         match decode_one(rt, *name, out) {
             Ok(()) => {}
             Err(fault) => {
+                progress.end();
                 if !fault.is_of_layout() {
                     return Err(fault);
                 }
@@ -88,5 +92,6 @@ pub(crate) fn decode<'a, W: Write + Drop, E: Write>(
             }
         }
     }
+    progress.end();
     Ok(is_well)
 }

@@ -2,10 +2,13 @@
 
 use crate::layout::{Cause, Remedy};
 use crate::names::Name;
+use fare_table::TableFault;
+use part_reports::Wrong;
 use std::fmt;
 use std::io::Write;
 use tap_rows::{Column, RowsFault};
 use tap_views::LayoutFault;
+use toml::de::Error as TomlError;
 
 /// Why a task is given up. Its `Display` is the line on the standard error without its line feed.
 #[derive(Clone, Copy, Debug)]
@@ -18,10 +21,22 @@ pub(crate) enum Fault<'a> {
     Table(Name<'a>, RowsFault),
     /// The upload has this layout fault, in the batch at this offset.
     Layout(Name<'a>, u64, LayoutFault),
+    /// The text of a fare table is not UTF-8.
+    NotUtf8(Name<'a>),
+    /// The text of a fare table is not TOML, at this line and column, for this reason.
+    NotToml(Name<'a>, usize, usize, TomlError),
+    /// The text is no fare table, and no value was found to be wrong.
+    Fares(Name<'a>, TableFault),
     /// The file that was to be made is there already.
     Exists(Name<'a>),
     /// The file could not be made.
     Unmade(Name<'a>),
+    /// The line of this number, in this text of a part, is wrong.
+    Line(Name<'a>, u64, Wrong),
+    /// The reports of the parts have other taps than the uploads.
+    Taps(u128, u128),
+    /// The file of this part, in this folder, could not be made.
+    UnmadePart(Name<'a>, u32),
     /// A write failed.
     Write,
     /// The reader of standard output is gone: nothing is said of it.
@@ -46,15 +61,31 @@ pub(crate) fn say<E: Write>(err: &mut E, fault: &Fault<'_>) {
 
 /// What is wrong with a row.
 #[derive(Clone, Copy)]
-struct Wrong(Column);
+struct WrongRow(Column);
 
-impl fmt::Display for Wrong {
+impl fmt::Display for WrongRow {
     fn fmt<W: fmt::Write>(&self, f: &mut fmt::Formatter<W>) -> fmt::Result {
         f.write_str(match self.0 {
             Column::Fields => "there are not three fields",
             Column::Token => "the token is not 32 hexadecimal digits",
             Column::Validator => "the validator is no number from 0 to 4294967295",
             Column::Moment => "the moment is no number of milliseconds below 4102444800000",
+        })
+    }
+}
+
+/// What is wrong with a line of a part's text.
+#[derive(Clone, Copy)]
+struct WrongLine(Wrong);
+
+impl fmt::Display for WrongLine {
+    fn fmt<W: fmt::Write>(&self, f: &mut fmt::Formatter<W>) -> fmt::Result {
+        f.write_str(match self.0 {
+            Wrong::Form => "no such line stands there",
+            Wrong::NotPosted => "the upload of a part was not posted",
+            Wrong::Order => "it does not come after the line before it",
+            Wrong::Twice => "its token is in two parts",
+            Wrong::Sums => "the sums are too large",
         })
     }
 }
@@ -69,7 +100,7 @@ impl fmt::Display for Fault<'_> {
                     write!(f, "fault: {name} line 1: it is not token,validator,moment")
                 }
                 RowsFault::Row { number, column } => {
-                    let wrong = Wrong(*column);
+                    let wrong = WrongRow(*column);
                     write!(f, "fault: {name} line {number}: {wrong}")
                 }
                 RowsFault::Unread => write!(f, "fault: cannot read {name}"),
@@ -82,8 +113,27 @@ impl fmt::Display for Fault<'_> {
                 let remedy = Remedy(*fault);
                 write!(f, "fault: {name} at {offset}: {cause}; {remedy}")
             }
+            Fault::NotUtf8(name) => write!(f, "fault: {name} is not UTF-8"),
+            Fault::NotToml(name, line, column, error) => {
+                let why = error.message();
+                write!(f, "fault: {name} line {line} column {column}: {why}")
+            }
+            Fault::Fares(name, fault) => write!(f, "fault: {name}: {fault}"),
             Fault::Exists(name) => write!(f, "fault: {name} is there already"),
             Fault::Unmade(name) => write!(f, "fault: cannot make {name}"),
+            Fault::Line(name, number, wrong) => {
+                let wrong = WrongLine(*wrong);
+                write!(f, "fault: {name} line {number}: {wrong}")
+            }
+            Fault::Taps(reports, uploads) => {
+                write!(
+                    f,
+                    "fault: the reports have {reports} taps, the uploads {uploads}"
+                )
+            }
+            Fault::UnmadePart(folder, part) => {
+                write!(f, "fault: cannot make {folder}/{part}.tap")
+            }
             Fault::Write => f.write_str("fault: cannot write"),
             Fault::Closed => Ok(()),
             Fault::NoMemory => f.write_str("fault: out of memory"),

@@ -1,14 +1,20 @@
-//! The program: turns tables of taps into uploads and back, and tells what uploads have.
+//! The program: turns tables of taps into uploads and back, and tells what uploads and fare tables
+//! have.
 //!
 //! | module | what it does |
 //! |---|---|
 //! | `words` | the command line, as `clap` reads it |
 //! | `names` | the names of files, as they are shown and opened |
 //! | `input`, `output` | files and standard input; standard output |
+//! | `progress` | how far a long run is, on a terminal |
 //! | `fault` | why a task is given up, and the line that says so |
 //! | `layout` | what a layout fault means, and what to do |
 //! | `coding` | `encode` and `decode` |
-//! | `telling` | `uploads` |
+//! | `telling`, `sharing` | `uploads` |
+//! | `splitting` | `split` |
+//! | `merging` | `merge` and `merge-ledgers` |
+//! | `part_words` | the command lines of `split`, `merge` and `merge-ledgers` |
+//! | `table` | `table` |
 //! | `tasks` | the whole, from the words to the status |
 #![tactic(auto)]
 
@@ -16,8 +22,14 @@ mod coding;
 mod fault;
 mod input;
 mod layout;
+mod merging;
 mod names;
 mod output;
+mod part_words;
+mod progress;
+mod sharing;
+mod splitting;
+mod table;
 mod tasks;
 mod telling;
 mod words;

@@ -16,6 +16,11 @@ impl<'a> Name<'a> {
         Name(STANDARD_INPUT)
     }
 
+    /// The folder that the program runs in.
+    pub(crate) fn here() -> Name<'a> {
+        Name(".")
+    }
+
     /// Whether this is standard input.
     pub(crate) fn is_input(&self) -> bool {
         self.0 == STANDARD_INPUT
@@ -27,6 +32,17 @@ impl fmt::Display for Name<'_> {
         if self.is_input() {
             return f.write_str("standard input");
         }
+        let escaped = Escaped(self.0);
+        write!(f, "{escaped}")
+    }
+}
+
+/// A text with its control characters escaped, so that it stays within its line.
+#[derive(Clone, Copy, Debug)]
+pub(crate) struct Escaped<'a>(pub(crate) &'a str);
+
+impl fmt::Display for Escaped<'_> {
+    fn fmt<W: fmt::Write>(&self, f: &mut fmt::Formatter<W>) -> fmt::Result {
         for letter in self.0.chars() {
             if letter.is_control() {
                 write!(f, "\\x{:02x}", letter as u32)?;

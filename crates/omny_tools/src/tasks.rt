@@ -4,7 +4,11 @@ ghost use Rattle.std.specs.Prelude.{◌≡◌};
 
 use crate::coding::{decode, encode};
 use crate::fault::{Fault, say};
+use crate::merging::{merge, merge_ledgers};
+use crate::names::Escaped;
 use crate::output::Output;
+use crate::splitting::split;
+use crate::table::tell_table;
 use crate::telling::{tell, tell_and_keep};
 use crate::words::{Task, task_of};
 use clap::Error;
@@ -20,6 +24,19 @@ fn mistake<E: Write>(err: &mut E, line: &str) -> u8
     2
 }
 
+/// Writes a text of several lines to `err`, with its other control characters escaped, since it may
+/// have words of the command line.
+fn write_safely<E: Write>(err: &mut E, text: &str) {
+    for line in text.split_inclusive("\n") {
+        let (line, end) = match line.strip_suffix("\n") {
+            Some(line) => (line, "\n"),
+            None => (line, ""),
+        };
+        let line = Escaped(line);
+        let _ = write!(err, "{line}{end}");
+    }
+}
+
 /// Shows what clap answers when there is nothing to do: help and the version on standard output, a
 /// mistake on `err`.
 fn show<E: Write>(rt: &HostRuntime, error: &Error, err: &mut E) -> u8 {
@@ -27,15 +44,30 @@ fn show<E: Write>(rt: &HostRuntime, error: &Error, err: &mut E) -> u8 {
         say(err, &Fault::NoMemory);
         return 1;
     }
+    let Ok(text) = format!(in rt.alloc(); "{error}") else {
+        say(err, &Fault::NoMemory);
+        return 1;
+    };
     if error.use_stderr() {
-        let _ = write!(err, "{error}");
+        write_safely(err, &text);
         return 2;
     }
-    if rt.print(error).is_err() {
-        say(err, &Fault::Write);
-        return 1;
+    match print(rt, &text) {
+        Ok(()) => 0,
+        Err(fault) => {
+            say(err, &fault);
+            1
+        }
     }
-    0
+}
+
+/// Writes a text to standard output.
+fn print<'a>(rt: &HostRuntime, text: &str) -> Result<(), Fault<'a>> {
+    let mut out = Output::new(rt.alloc(), io::writer(rt))?;
+    if out.write_all(text.as_bytes()).is_err() {
+        return Err(out.failed());
+    }
+    out.finish()
 }
 
 /// Does what is asked for. Says whether all is well.
@@ -51,9 +83,19 @@ fn perform<'a, W: Write + Drop, E: Write>(
             Ok(true)
         }
         Task::Decode(names) => decode(rt, names, out, err),
-        Task::Uploads(names) => tell(rt, names, out),
+        Task::Uploads(names, has_tokens) => tell(rt, names, *has_tokens, out),
         Task::GoodPart(name, good) => tell_and_keep(rt, *name, *good, out),
-        Task::NotOneUpload | Task::Nothing => Ok(false),
+        Task::Table(question) => tell_table(rt, question, out, err),
+        Task::Split(words) => {
+            split(rt, words, out)?;
+            Ok(true)
+        }
+        Task::Merge(words) => merge(rt, words, out),
+        Task::MergeLedgers(names) => {
+            merge_ledgers(rt, names, out)?;
+            Ok(true)
+        }
+        Task::NotOneUpload | Task::NoMoment | Task::Nothing => Ok(false),
     }
 }
 
@@ -71,13 +113,24 @@ fn finish<'a, E: Write>(rt: &HostRuntime, task: &Task<'a>, err: &mut E) -> Resul
 pub(crate) fn run<E: Write>(rt: &HostRuntime, words: &[String], err: &mut E) -> u8 {
     let task = match task_of(rt.alloc(), words) {
         Ok(Task::NotOneUpload) => return mistake(err, "--good-part needs one FILE"),
-        Ok(Task::Nothing) => return mistake(err, "a subcommand is needed: encode, decode, uploads"),
+        Ok(Task::NoMoment) => {
+            return mistake(err, "--from needs a moment, as 2026-03-01T00:00:00Z");
+        }
+        Ok(Task::Nothing) => {
+            return mistake(
+                err,
+                "a subcommand is needed: encode, decode, uploads, table, split, merge, ..",
+            );
+        }
         Ok(task) => task,
         Err(error) => return show(rt, &error, err),
     };
     match finish(rt, &task, err) {
         Ok(true) => 0,
-        Ok(false) => 1,
+        Ok(false) => match task {
+            Task::Merge(_) => 3,
+            _ => 1,
+        },
         Err(fault) => {
             say(err, &fault);
             1

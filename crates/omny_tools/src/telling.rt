@@ -5,6 +5,8 @@ use crate::input::load_upload;
 use crate::layout::{AtTap, Cause, Remedy};
 use crate::names::Name;
 use crate::output::Output;
+use crate::progress::Progress;
+use crate::sharing::Sharing;
 use fare_texts::write_moment;
 use std::alloc::{AllocError, Global};
 use std::fs;
@@ -63,16 +65,63 @@ fn tell_one<'a, W: Write + Drop>(
     Ok((upload, facts.fault.is_none()))
 }
 
+/// The lines of how many tokens each upload has, and how many of these stand in another one, too.
+fn token_lines(alloc: Global, sharing: &Sharing) -> Result<String, AllocError> {
+    let mut text = String::new(alloc);
+    for (number, counts) in sharing.counts().iter().enumerate() {
+        let all = counts.all;
+        let shared = counts.shared;
+        write!(text, "tokens {number} all {all} shared {shared}\n")?;
+    }
+    Ok(text)
+}
+
 /// Writes what these uploads have, in their order. Says whether none has a layout fault.
-pub(crate) fn tell<'a, W: Write + Drop>(
+fn tell_each<'a, W: Write + Drop>(
     rt: &HostRuntime,
     names: &[Name<'a>],
+    sharing: &mut Option<Sharing>,
+    progress: &mut Progress<'_>,
     out: &mut Output<W>,
 ) -> Result<bool, Fault<'a>> {
     let mut is_well = true;
     for (number, name) in names.iter().enumerate() {
-        let (_, is_whole) = tell_one(rt, number, *name, out)?;
+        progress.tell(number, names.len());
+        let (upload, is_whole) = tell_one(rt, number, *name, out)?;
         is_well &= is_whole;
+        if let Some(sharing) = sharing {
+            if sharing.add(&upload).is_err() {
+                return Err(Fault::NoMemory);
+            }
+        }
+    }
+    Ok(is_well)
+}
+
+/// Writes what these uploads have, in their order, and then, where that is asked for, how many
+/// tokens they share. Says whether none has a layout fault.
+pub(crate) fn tell<'a, W: Write + Drop>(
+    rt: &HostRuntime,
+    names: &[Name<'a>],
+    has_tokens: bool,
+    out: &mut Output<W>,
+) -> Result<bool, Fault<'a>> {
+    let mut progress = Progress::new(rt);
+    let mut sharing = if has_tokens {
+        Some(Sharing::new(rt.alloc()))
+    } else {
+        None
+    };
+    let told = tell_each(rt, names, &mut sharing, &mut progress, out);
+    progress.end();
+    let is_well = told?;
+    if let Some(sharing) = &sharing {
+        let Ok(text) = token_lines(rt.alloc(), sharing) else {
+            return Err(Fault::NoMemory);
+        };
+        if out.write_all(text.as_bytes()).is_err() {
+            return Err(out.failed());
+        }
     }
     Ok(is_well)
 }

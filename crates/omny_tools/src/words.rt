@@ -1,12 +1,23 @@
 //! The command line.
 
+use crate::merging::MergeWords;
 use crate::names::Name;
+use crate::part_words::{
+    merge_command, merge_ledgers_command, merge_ledgers_words, merge_words, split_command,
+    split_words,
+};
+use crate::splitting::SplitWords;
+use crate::table::Question;
 use clap::{Arg, ArgAction, ArgMatches, Command, Error};
+use jiff::Timestamp;
 use std::alloc::{AllocError, Global};
 
-const VERSION: &str = "0.1.0";
+/// The version of the repository, and the toolchain's as `rt version` prints it: that of which the
+/// proofs were checked last. `scripts/version` refuses another one.
+const VERSION: &str = "0.1.0 (rattle-kit-13f logic dac8208d650f15bf)";
 
-const ABOUT: &str = "Turns tables of taps into uploads and back, and tells what uploads have.";
+const ABOUT: &str =
+    "Turns tables of taps into uploads and back, and tells what uploads and fare tables have.";
 
 const STATUS: &str = "Exit status:
   0  all is done
@@ -40,10 +51,36 @@ its batch, its tap (both from 0), the offset of its batch in bytes, and what to 
 
 An upload with a layout fault is told up to it, and the status is 1.";
 
+const TOKENS_HELP: &str =
+    "Tell how many tokens each upload has, and how many of these stand in another FILE, too";
+
 const UPLOADS_HELP: &str = "Uploads of at most 67108864 bytes; - stands for standard input";
 
 const GOOD_PART_HELP: &str =
     "Make the file OUT of the batches before the layout fault; it must not be there; needs one FILE";
+
+const TABLE_ABOUT: &str =
+    "Tells a fare table as it is understood: the zone with its next changes of clocks, the modes, the
+transfers, the classes with the price of each ride of a window, the ranges of validators with the
+gaps between them, and how many riders each class has.
+
+Warnings tell what the rules of the table pass over: keys that have no meaning and, where uploads
+are given, ranges that no validator of theirs is in, and validators of theirs that are in no range.
+Faults tell each wrong value: its whole path, its line and column, and what is wanted. Both are told
+on the standard error, and of a table with a fault nothing else.";
+
+const TABLE_HELP: &str =
+    "The fare table, a TOML file of at most 67108864 bytes; - stands for standard input";
+
+const TABLE_UPLOADS_HELP: &str =
+    "Uploads of at most 67108864 bytes, whose validators are held against the ranges";
+
+const STRICT_HELP: &str = "Let the status be 1 also where there is a warning";
+
+const RIDERS_HELP: &str = "Tell each rider with its class";
+
+const FROM_HELP: &str =
+    "Tell the changes of clocks after this moment, as 2026-03-01T00:00:00Z [default: now]";
 
 /// What the words ask for.
 #[derive(Drop)]
@@ -52,12 +89,22 @@ pub(crate) enum Task<'a> {
     Encode(Name<'a>),
     /// Write the table of uploads.
     Decode(Vec<Name<'a>>),
-    /// Tell what uploads have.
-    Uploads(Vec<Name<'a>>),
+    /// Tell what uploads have, and how many tokens they share, where that is asked for.
+    Uploads(Vec<Name<'a>>, bool),
     /// Tell what one upload has, and make a file of its good part.
     GoodPart(Name<'a>, Name<'a>),
+    /// Tell what a fare table has.
+    Table(Question<'a>),
+    /// Split uploads into parts.
+    Split(SplitWords<'a>),
+    /// Merge the reports of parts.
+    Merge(MergeWords<'a>),
+    /// Merge the ledgers of parts.
+    MergeLedgers(Vec<Name<'a>>),
     /// A good part is asked for, and not one upload.
     NotOneUpload,
+    /// What is to be a moment is none.
+    NoMoment,
     /// No subcommand.
     Nothing,
 }
@@ -84,13 +131,17 @@ fn decode_command<'a>(alloc: Global) -> Result<Command<'a>, AllocError> {
         .arg(file)
 }
 
-/// `uploads [--good-part OUT] FILE...`
+/// `uploads [--good-part OUT] [--tokens] FILE...`
 fn uploads_command<'a>(alloc: Global) -> Result<Command<'a>, AllocError> {
     let good = Arg::new(alloc, "good-part")
         .long("good-part")
         .value_name("OUT")
         .action(ArgAction::Set)
         .help(GOOD_PART_HELP);
+    let tokens = Arg::new(alloc, "tokens")
+        .long("tokens")
+        .action(ArgAction::SetTrue)
+        .help(TOKENS_HELP);
     let file = Arg::new(alloc, "FILE")
         .action(ArgAction::Append)
         .required(true)
@@ -99,7 +150,40 @@ fn uploads_command<'a>(alloc: Global) -> Result<Command<'a>, AllocError> {
         .about(UPLOADS_ABOUT)
         .after_help(STATUS)
         .arg(good)?
+        .arg(tokens)?
         .arg(file)
+}
+
+/// `table [--strict] [--riders] [--from MOMENT] F [UPLOAD]...`
+fn table_command<'a>(alloc: Global) -> Result<Command<'a>, AllocError> {
+    let strict = Arg::new(alloc, "strict")
+        .long("strict")
+        .action(ArgAction::SetTrue)
+        .help(STRICT_HELP);
+    let riders = Arg::new(alloc, "riders")
+        .long("riders")
+        .action(ArgAction::SetTrue)
+        .help(RIDERS_HELP);
+    let from = Arg::new(alloc, "from")
+        .long("from")
+        .value_name("MOMENT")
+        .action(ArgAction::Set)
+        .help(FROM_HELP);
+    let table = Arg::new(alloc, "F")
+        .action(ArgAction::Set)
+        .required(true)
+        .help(TABLE_HELP);
+    let uploads = Arg::new(alloc, "UPLOAD")
+        .action(ArgAction::Append)
+        .help(TABLE_UPLOADS_HELP);
+    Command::new(alloc, "table")
+        .about(TABLE_ABOUT)
+        .after_help(STATUS)
+        .arg(strict)?
+        .arg(riders)?
+        .arg(from)?
+        .arg(table)?
+        .arg(uploads)
 }
 
 /// The command line, as clap reads it.
@@ -107,6 +191,10 @@ fn command<'a>(alloc: Global) -> Result<Command<'a>, AllocError> {
     let encode = encode_command(alloc)?;
     let decode = decode_command(alloc)?;
     let uploads = uploads_command(alloc)?;
+    let table = table_command(alloc)?;
+    let split = split_command(alloc)?;
+    let merge = merge_command(alloc)?;
+    let merge_ledgers = merge_ledgers_command(alloc)?;
     Command::new(alloc, "omny_tools")
         .version(VERSION)
         .about(ABOUT)
@@ -115,18 +203,31 @@ fn command<'a>(alloc: Global) -> Result<Command<'a>, AllocError> {
         .arg_required_else_help(true)
         .subcommand(encode)?
         .subcommand(decode)?
-        .subcommand(uploads)
+        .subcommand(uploads)?
+        .subcommand(table)?
+        .subcommand(split)?
+        .subcommand(merge)?
+        .subcommand(merge_ledgers)
 }
 
-/// The names of FILE.
-fn names_in<'a>(alloc: Global, matches: &ArgMatches<'a>) -> Result<Vec<Name<'a>>, AllocError> {
+/// The names at an argument.
+fn names_at<'a>(
+    alloc: Global,
+    matches: &ArgMatches<'a>,
+    argument: &str,
+) -> Result<Vec<Name<'a>>, AllocError> {
     let mut names = Vec::new(alloc);
-    if let Some(words) = matches.get_strs("FILE") {
+    if let Some(words) = matches.get_strs(argument) {
         for word in words {
             names.push(Name(word))?;
         }
     }
     Ok(names)
+}
+
+/// The names of FILE.
+fn names_in<'a>(alloc: Global, matches: &ArgMatches<'a>) -> Result<Vec<Name<'a>>, AllocError> {
+    names_at(alloc, matches, "FILE")
 }
 
 /// The names of FILE, or standard input where there is none.
@@ -145,12 +246,32 @@ fn names_or_input<'a>(
 fn uploads_task<'a>(alloc: Global, matches: &ArgMatches<'a>) -> Result<Task<'a>, AllocError> {
     let names = names_in(alloc, matches)?;
     let Some(good) = matches.get_str("good-part") else {
-        return Ok(Task::Uploads(names));
+        return Ok(Task::Uploads(names, matches.get_flag("tokens")));
     };
     match names.as_slice() {
         [name] => Ok(Task::GoodPart(*name, Name(good))),
         _ => Ok(Task::NotOneUpload),
     }
+}
+
+/// What `table` is asked for.
+fn table_task<'a>(alloc: Global, matches: &ArgMatches<'a>) -> Result<Task<'a>, AllocError> {
+    let from = match matches.get_str("from") {
+        Some(text) => match text.parse::<Timestamp>() {
+            Ok(moment) => Some(moment),
+            Err(_) => return Ok(Task::NoMoment),
+        },
+        None => None,
+    };
+    Ok(Task::Table(Question {
+        table: matches
+            .get_str("F")
+            .map_or(Name::input(), |word| Name(word)),
+        uploads: names_at(alloc, matches, "UPLOAD")?,
+        is_strict: matches.get_flag("strict"),
+        has_riders: matches.get_flag("riders"),
+        from,
+    }))
 }
 
 /// What the words ask for; else clap's error, which may be a call for help.
@@ -167,6 +288,18 @@ pub(crate) fn task_of<'a>(alloc: Global, words: &'a [String]) -> Result<Task<'a>
     }
     if name == "decode" {
         return Ok(Task::Decode(names_or_input(alloc, matches)?));
+    }
+    if name == "table" {
+        return Ok(table_task(alloc, matches)?);
+    }
+    if name == "split" {
+        return Ok(Task::Split(split_words(alloc, matches)?));
+    }
+    if name == "merge" {
+        return Ok(Task::Merge(merge_words(alloc, matches)?));
+    }
+    if name == "merge-ledgers" {
+        return Ok(Task::MergeLedgers(merge_ledgers_words(alloc, matches)?));
     }
     Ok(uploads_task(alloc, matches)?)
 }

@@ -24,13 +24,13 @@ unfoldable pub charge_start : Charge → List ℕ
 charge_start (Full place cents) = place_start place
 charge_start (CeilingCut place cents) = place_start place
 charge_start (CeilingReached place) = place_start place
-charge_start RideLimitReached = codes " because the window"
+charge_start RideLimitReached = codes " because the ride limit of the window"
 
 abbrev pub charge_end : Charge → List ℕ
 charge_end (Full place cents) = codes " at full fare"
 charge_end (CeilingCut place cents) = codes " cut by the ceiling"
 charge_end (CeilingReached place) = codes " past the ceiling"
-charge_end RideLimitReached = codes " with its ride limit reached"
+charge_end RideLimitReached = codes " is reached"
 
 -- ` from 2024-03-08T17:00:00.000Z until 2024-03-15T17:00:00.000Z`
 pub record IsWindowText (start until : ℕ) (text : List ℕ) : Type 0 where

@@ -1,4 +1,4 @@
-//! The words that end an reason_texts line.
+//! The words that end an explained line.
 
 ghost use Rattle.std.specs.Prelude.{◌≡◌, ◌<◌, ◌+◌, ◌++◌, length, List, ℕ, OnOk, string_bytes};
 ghost use Rattle.reason_texts.specs.Why.{IsRideText, IsTransferText, IsWhy, IsWindowText};
@@ -68,7 +68,7 @@ fn write_start(text: &mut String, charge: Charge) -> Result<(), AllocError>
         Charge::Full { place, cents: _ } => write_place(text, place),
         Charge::CeilingCut { place, cents: _ } => write_place(text, place),
         Charge::CeilingReached { place } => write_place(text, place),
-        Charge::RideLimitReached => text.push_str(" because the window"),
+        Charge::RideLimitReached => text.push_str(" because the ride limit of the window"),
     }
 }
 
@@ -97,6 +97,6 @@ fn charge_end(charge: Charge) -> &'static str
         Charge::Full { .. } => " at full fare",
         Charge::CeilingCut { .. } => " cut by the ceiling",
         Charge::CeilingReached { .. } => " past the ceiling",
-        Charge::RideLimitReached => " with its ride limit reached",
+        Charge::RideLimitReached => " is reached",
     }
 }

@@ -5,6 +5,7 @@ ghost use Rattle.settlement.specs.Settled.{IsSettled};
 
 use crate::arranging::files_by_four;
 use crate::dealing::{Dealt, bytes_of, deal_by_four};
+use crate::pieces::pieces_of;
 use fare_service::UploadEnd;
 use fare_table::NoMemory;
 use std::alloc::Global;
@@ -37,7 +38,8 @@ fn parts_for(uploads: &[Vec<u8>]) -> u32
 
 /// Settles uploads. Four threads deal the taps, and four put the parts' taps into order; where one
 /// is refused, another does its work. Its one error is want of memory. The bytes of an upload are
-/// given back as soon as its taps are dealt to parts.
+/// given back as soon as its taps are dealt to parts, and the taps of a part as soon as its upload
+/// is made.
 pub fn settle<R: Threads + Sync>(
     rt: &R,
     alloc: Global,
@@ -48,6 +50,7 @@ pub fn settle<R: Threads + Sync>(
 {
     let parts = parts_for(&uploads);
     let Dealt { lists, ends } = deal_by_four(rt, alloc, uploads, parts)?;
-    let files = files_by_four(rt, alloc, &lists, 0, parts)?;
+    let pieces = pieces_of(alloc, lists, parts)?;
+    let files = files_by_four(rt, alloc, pieces)?;
     Ok(Settled { ends, files })
 }

@@ -10,6 +10,7 @@ use Rattle.ledger_check.specs.declared.replay.Replay.{Replay}
 use Rattle.ledger_check.specs.declared.replay.Step.{Step}
 use Rattle.ledger_check.specs.declared.replay.Step.TheVariants.{Legal, Wants, NoLine}
 use Rattle.ledger_check.specs.Replays.{HasRead, IsWanted, IsWrongAfter, StandsAt}
+use Rattle.ledger_check.specs.inside.Taps.{TellsTap}
 
 -- the token's next tap was taken: this is its line, and the turn after it
 pub record GoesOn (fares : Fares) (turn : Turn) (entries : List Entry) (validator moment : ℕ)
@@ -25,7 +26,8 @@ pub record GoesOn (fares : Fares) (turn : Turn) (entries : List Entry) (validato
 
 -- what a step found of the next line
 abbrev pub IsStep : Fares → Replay → List (List ℕ) → List ℕ → List ℕ → Step → Type 0
-IsStep fares after lines line wanted Legal = HasRead fares after (lines ++ line ∷ [])
+IsStep fares after lines line wanted (Legal tap) =
+    HasRead fares after (lines ++ line ∷ []) × TellsTap fares line tap
 IsStep fares after lines line wanted Wants =
     IsWrongAfter fares lines line × IsWanted fares lines wanted
 IsStep fares after lines line wanted NoLine = IsWrongAfter fares lines line

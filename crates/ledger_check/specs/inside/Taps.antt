@@ -1,6 +1,12 @@
 -- The tap of an entry, as a line tells it.
-use Rattle.std.specs.Prelude.{◌≡◌, ℕ}
+use Rattle.std.specs.Prelude.{◌≡◌, ℕ, ◌^◌, ◌<◌, List}
+use Rattle.account_rule.specs.declared.reason.Reason.{Reason}
+use Rattle.fare_table.specs.Fares.{Fares}
+use Rattle.reason_texts.specs.Ledger.{IsLedgerLine}
+use Rattle.shard_book.specs.Token.{bytes_of}
 use Rattle.shard_book.specs.declared.entry.Entry.{Entry}
+use Rattle.tap_views.specs.declared.encoder.TapFields.{TapFields}
+use Rattle.ledger_check.specs.Ledger.{IsPostable}
 use Rattle.ledger_check.specs.declared.tap.Tap.{Tap}
 
 -- the entry is one of this tap
@@ -8,3 +14,14 @@ pub record IsOf (tap : Tap) (entry : Entry) : Type 0 where
   pub token : entry.token ≡ tap.token
   pub validator : entry.validator ≡ tap.validator
   pub moment : entry.moment ≡ tap.moment
+
+-- whatever entry has the line, it is one of this tap
+abbrev pub TellsTap : Fares → List ℕ → Tap → Type 0
+TellsTap fares line tap =
+    (number : ℕ) (entry : Entry) (why : Reason) → number < 2 ^ 64 → IsPostable entry
+    → IsLedgerLine fares entry.token number entry why line → IsOf tap entry
+
+-- the tap, with the bytes of its token
+abbrev pub fields_in : Tap → TapFields
+fields_in tap =
+    record { token = bytes_of tap.token; validator = tap.validator; moment = tap.moment }

@@ -1,4 +1,4 @@
-use Rattle.std.proofs.Common.{ℕ, List, [], ◌++◌, Bor, subst, string_bytes}
+use Rattle.std.proofs.Common.{List, [], ◌++◌, Bor, subst, string_bytes}
 use Rattle.shard_book.specs.declared.entry.Entry.{Entry}
 use Rattle.ledger_texts.specs.inside.Lines.{AreLinesAlong, seen}
 use Rattle.ledger_texts.proofs.Whole.{ledger_of_all}

@@ -1,5 +1,8 @@
-use Rattle.std.proofs.Common.{List, ℕ}
+use Rattle.std.proofs.Common.{List, ℕ, []}
 use Rattle.std.specs.Io.KnownBytes.{Consumes}
+use Rattle.tap_balance.specs.Balances.{IsBalance}
+use Rattle.tap_views.specs.declared.encoder.TapFields.{TapFields}
+use Rattle.ledger_check.specs.Struck.{HasStruck}
 use Rattle.ledger_check.specs.Verdicts.{HasFed}
 use Rattle.omny_audit.proofs.audit.verdict_of.Given as goal
 
@@ -8,5 +11,6 @@ abbrev pub invariant-loop-turn : goal.invariant-loop-turn
 invariant-loop-turn g l = record {
   text : List ℕ;
   fed : HasFed l.table l.checker text;
+  struck : (posted : List TapFields) → IsBalance l.fn.balance posted [] → HasStruck l.table l.checker l.balance text posted;
   read : Consumes (g.R.Read.remaining l.fn.reader) (g.R.Read.remaining l.reader) text;
 }

@@ -3,7 +3,7 @@ use Rattle.std.proofs.lemmas.List.{map-append}
 use Rattle.tap_views.specs.declared.encoder.TapFields.{TapFields}
 use Rattle.fare_service.specs.declared.upload_end.UploadEnd.{UploadEnd}
 use Rattle.settlement.specs.inside.Dealt.{AreDealt}
-use Rattle.settlement.proofs.Halves.{bytes_in}
+use Rattle.settlement.proofs.Files.{bytes_in}
 use Rattle.settlement.proofs.Lists.{both_dealt}
 use Rattle.settlement.proofs.dealing.deal_by_four.Goals as goal
 

@@ -1,10 +1,9 @@
-use Rattle.std.proofs.Common.{◌≡◌, length, take}
-use Rattle.settlement.specs.inside.Dealt.{in_part}
+use Rattle.std.proofs.Common.{◌≡◌, length, take, flat_map}
 use Rattle.settlement.specs.inside.Spread.{AreSpread}
 use Rattle.settlement.proofs.file.gather.Given as goal
 
-abbrev pub invariant-loop-list : goal.invariant-loop-list
-invariant-loop-list l = record {
+abbrev pub invariant-loop-piece : goal.invariant-loop-piece
+invariant-loop-piece l = record {
   number : length l.buckets ≡ 256;
-  spread : AreSpread (in_part l.part (take l.list-index l.lists)) l.fn.buckets l.buckets;
+  spread : AreSpread (flat_map (λ piece. piece) (take l.piece-index l.pieces)) l.fn.buckets l.buckets;
 }

@@ -1,7 +1,10 @@
 -- Each turn reads one line more of the piece.
-use Rattle.std.proofs.Common.{◌≡◌, ◌++◌, ℕ, List, sym, ap, subst, ◌∙◌, append_assoc}
+use Rattle.std.proofs.Common.{◌≡◌, ◌++◌, [], ℕ, List, sym, ap, subst, ◌∙◌, append_assoc, append-nil, arith, rules, tests}
+use Rattle.std.proofs.lemmas.Bool.Decides.{nat_tests}
+use Rattle.ledger_check.specs.Struck.{HasStruck, IfUntold}
 use Rattle.ledger_check.specs.Verdicts.{HasFed, IsFed}
-use Rattle.ledger_check.proofs.CheckerLemmas.{fed_none, fed_on, told_early}
+use Rattle.ledger_check.proofs.CheckerLemmas.{empty_list, fed_none, fed_on, told_early}
+use Rattle.ledger_check.proofs.StruckLemmas.{none_told, some_told}
 use Rattle.ledger_check.proofs.checker.Checker.feed.Goals as goal
 
 pub keep-requires-clause-fed : goal.keep-requires-clause-fed
@@ -12,20 +15,20 @@ pub take_line-requires-clause-fed : goal.take_line-requires-clause-fed
 take_line-requires-clause-fed c =
     (c.requires.fed.0 ++ c.loop-rest.invariant.consumed, c.loop-rest.invariant.fed c.requires.fed.0 c.requires.fed.1)
 
-pub returns-in_default : goal.returns-in_default
-returns-in_default c = λ text fed.
+pub returns-in_default-clause-fed : goal.returns-in_default-clause-fed
+returns-in_default-clause-fed c = λ text fed.
     let fares = c.args.table.now in
     let before = c.loop-rest.invariant in
-    let got = c.in_ok-told.ensures fares (text ++ before.consumed) (before.fed text fed) in
+    let got = c.in_ok-told.ensures.fed fares (text ++ before.consumed) (before.fed text fed) in
     subst (λ (p : List ℕ). IsFed fares c.keep.new.self (text ++ p) c.in_ok-told.told) (sym before.whole)
     (fed_on fares c.keep.new.self text before.consumed c.loop-rest.rest.now c.in_ok-told.told got)
 
-pub returns-then-is_some : goal.returns-then-is_some
-returns-then-is_some c = λ text fed.
+pub returns-then-is_some-clause-fed : goal.returns-then-is_some-clause-fed
+returns-then-is_some-clause-fed c = λ text fed.
     let fares = c.args.table.now in
     let before = c.loop-rest.invariant in
     let whole = before.whole ∙ ap (λ (r : List ℕ). before.consumed ++ r) c.in-Some.ensures.some.1 in
-    let got = c.in_ok-told-2.ensures (text ++ before.consumed) (before.fed text fed) in
+    let got = c.in_ok-told-2.ensures.fed (text ++ before.consumed) (before.fed text fed) in
     subst (λ (p : List ℕ). IsFed fares c.take_line.new.self (text ++ p) c.in_ok-told-2.told) (sym whole)
     (told_early fares c.take_line.new.self text before.consumed c.in-Some.line.now c.in-Some.behind.now c.in_ok-told-2.told
     (sym c.is_some.ensures ∙ c.if-is_some.true) got)
@@ -42,5 +45,31 @@ loop-rest-preserved c =
       fed = λ text fed.
           subst (λ (t : List ℕ). HasFed fares c.take_line.new.self t) (append_assoc text before.consumed line)
           (fed_none fares c.take_line.new.self ((text ++ before.consumed) ++ line) c.in_ok-told-2.told (sym c.is_some.ensures ∙ c.if-is_some.false)
-          (c.in_ok-told-2.ensures (text ++ before.consumed) (before.fed text fed)));
+          (c.in_ok-told-2.ensures.fed (text ++ before.consumed) (before.fed text fed)));
+      struck = λ text posted struck.
+          subst (λ (t : List ℕ). HasStruck fares c.take_line.new.self c.take_line.new.balance t posted) (append_assoc text before.consumed line)
+          (none_told c.in_ok-told-2.told _ (sym c.is_some.ensures ∙ c.if-is_some.false)
+          (c.in_ok-told-2.ensures.struck (text ++ before.consumed) posted (before.struck text posted struck)));
     }
+
+pub returns-in_default-clause-struck : goal.returns-in_default-clause-struck
+returns-in_default-clause-struck c = λ text posted struck.
+    let fares = c.args.table.now in
+    let before = c.loop-rest.invariant in
+    let joined : (text ++ before.consumed) ++ c.loop-rest.rest.now ≡ text ++ c.args.piece.now =
+    append_assoc text before.consumed c.loop-rest.rest.now ∙ ap (λ (p : List ℕ). text ++ p) (sym before.whole) in
+    subst (λ (t : List ℕ). IfUntold c.in_ok-told.told (HasStruck fares c.keep.new.self c.loop-rest.balance t posted)) joined
+    (c.in_ok-told.ensures.struck fares (text ++ before.consumed) c.loop-rest.balance posted (before.struck text posted struck))
+
+pub returns-then-is_some-clause-struck : goal.returns-then-is_some-clause-struck
+returns-then-is_some-clause-struck c = λ text posted struck.
+    let before = c.loop-rest.invariant in
+    some_told c.in_ok-told-2.told _ _ (sym c.is_some.ensures ∙ c.if-is_some.true)
+    (c.in_ok-told-2.ensures.struck (text ++ before.consumed) posted (before.struck text posted struck))
+
+pub returns-clause-struck : goal.returns-clause-struck
+returns-clause-struck c = λ text posted struck.
+    let before = c.loop-rest.invariant in
+    let none : c.loop-rest.rest.now ≡ [] = empty_list c.loop-rest.rest.now (first_of (omega arith, grind (arith, nat_tests), search (rules, tests))) in
+    let all : before.consumed ≡ c.args.piece.now = sym (append-nil before.consumed) ∙ sym (before.whole ∙ ap (λ (r : List ℕ). before.consumed ++ r) none) in
+    subst (λ (p : List ℕ). HasStruck c.args.table.now c.loop-rest.self c.loop-rest.balance (text ++ p) posted) all (before.struck text posted struck)

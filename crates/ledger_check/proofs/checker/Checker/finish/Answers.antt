@@ -1,13 +1,16 @@
 use Rattle.std.proofs.Common.{◌≡◌, ◌<◌, ◌≤◌, true, false, length, sym, subst, arith, tests, rules}
 use Rattle.std.proofs.lemmas.Bool.{not-false, not-true}
 use Rattle.std.proofs.lemmas.Bool.Decides.{nat_tests}
-use Rattle.ledger_check.specs.Verdicts.{IsVerdict}
+use Rattle.std.specs.Prelude.{IsTrue}
+use Rattle.ledger_check.specs.Verdicts.{IsVerdict, is_legal}
+use Rattle.ledger_check.specs.declared.checker.Verdict.{Verdict}
+use Rattle.ledger_check.proofs.StruckLemmas.{all_struck}
 use Rattle.ledger_check.proofs.CheckerLemmas.{empty_list, ended_in_part, ended_unheaded, ended_whole}
 use Rattle.ledger_check.proofs.checker.Checker.finish.Goals as goal
 use Rattle.ledger_check.proofs.checker.Checker.finish.Goals.{then-not-self-via-then-not-self, then-not-self-via-else-not-self+then-not-is_empty}
 
-pub returns-then-not-self : goal.returns-then-not-self
-returns-then-not-self c = λ fares text fed.
+pub returns-then-not-self-clause-verdict : goal.returns-then-not-self-clause-verdict
+returns-then-not-self-clause-verdict c = λ fares text fed.
     let checker = c.args.self.now in
     subst (IsVerdict fares text) (sym c.no_line.ensures)
     (elim c.then-not-self.branch [
@@ -19,9 +22,22 @@ returns-then-not-self c = λ fares text fed.
           ended_in_part fares checker text fed some
     ])
 
-pub returns : goal.returns
-returns c = λ fares text fed.
+pub returns-clause-verdict : goal.returns-clause-verdict
+returns-clause-verdict c = λ fares text fed.
     let checker = c.args.self.now in
     let none : length checker.part.items ≤ 0 = grind (arith, nat_tests, checker.part.ok.0) in
     let some : checker.reading.has_head ≡ true = first_of (cc, search (rules, tests), grind (arith, nat_tests)) in
     ended_whole fares checker text fed (empty_list checker.part.items none) some
+
+false_true : false ≡ true → ⊥
+false_true h = cc
+
+pub returns-then-not-self-clause-struck : goal.returns-then-not-self-clause-struck
+returns-then-not-self-clause-struck c = λ fares text balance posted struck legal.
+    absurd (false_true (subst (λ (v : Verdict). IsTrue (is_legal v)) c.no_line.ensures legal))
+
+pub returns-clause-struck : goal.returns-clause-struck
+returns-clause-struck c = λ fares text balance posted struck legal entries is.
+    let checker = c.args.self.now in
+    let none : length checker.part.items ≤ 0 = grind (arith, nat_tests, checker.part.ok.0) in
+    all_struck fares checker balance text posted struck (empty_list checker.part.items none) entries is

@@ -2,12 +2,25 @@ use Rattle.std.proofs.Common.{ℕ, List, [], ◌++◌, ◌≤◌, length, refl, 
 use Rattle.ledger_check.specs.Lines.{Lacks, lines_of}
 use Rattle.ledger_check.proofs.checker.Checker.new.Goals as goal
 
-pub returns : goal.returns
-returns c = λ fares.
+pub returns-clause-fed : goal.returns-clause-fed
+returns-clause-fed c = λ fares.
     let empty = c.new-3.ensures.items in record {
       lines = [];
       taken = (refl, c.new.ensures fares);
       cut = λ more. ap (λ (p : List ℕ). lines_of (p ++ more)) (sym empty);
       lacks = subst (Lacks 10) (sym empty) tt;
       short = subst (λ (p : List ℕ). length p ≤ 255) (sym empty) (omega arith);
+    }
+
+pub returns-clause-struck : goal.returns-clause-struck
+returns-clause-struck c = λ fares balance posted is.
+    let empty = c.new-3.ensures.items in record {
+      fed = record {
+        lines = [];
+        taken = (refl, c.new.ensures fares);
+        cut = λ more. ap (λ (p : List ℕ). lines_of (p ++ more)) (sym empty);
+        lacks = subst (Lacks 10) (sym empty) tt;
+        short = subst (λ (p : List ℕ). length p ≤ 255) (sym empty) (omega arith);
+      };
+      struck = record { taps = []; told = refl; is = is };
     }

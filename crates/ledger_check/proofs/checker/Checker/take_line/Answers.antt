@@ -1,17 +1,34 @@
 use Rattle.std.proofs.Common.{◌≡◌, ◌<◌, ◌≤◌, ◌++◌, List, ℕ, [], length, refl, sym, ap, ◌∙◌, arith}
 use Rattle.std.proofs.lemmas.Bool.Decides.{nat_tests}
 use Rattle.ledger_check.proofs.CheckerLemmas.{empty_list, took_line}
+use Rattle.ledger_check.proofs.StruckLemmas.{took_struck}
 use Rattle.ledger_check.proofs.checker.Checker.take_line.Goals as goal
 
-pub returns-then-is_empty : goal.returns-then-is_empty
-returns-then-is_empty c = λ text fed.
+pub returns-then-is_empty-clause-fed : goal.returns-then-is_empty-clause-fed
+returns-then-is_empty-clause-fed c = λ text fed.
     let checker = c.args.self.now in
     let none : length checker.part.items ≤ 0 = grind (arith, nat_tests, checker.part.ok.0) in
     let empty = empty_list checker.part.items none in
     took_line c.args.table.now checker _ text c.args.line.now c.args.line.now _ fed c.requires.line
-    (ap (λ (p : List ℕ). p ++ c.args.line.now) (sym empty)) empty (c.in_ok-told.ensures fed.lines fed.taken)
+    (ap (λ (p : List ℕ). p ++ c.args.line.now) (sym empty)) empty (c.in_ok-told.ensures.taken fed.lines fed.taken)
 
-pub returns : goal.returns
-returns c = λ text fed.
+pub returns-clause-fed : goal.returns-clause-fed
+returns-clause-fed c = λ text fed.
     took_line c.args.table.now c.args.self.now _ text c.args.line.now c.as_slice.result.now _ fed c.requires.line
-    (c.as_slice.ensures.value ∙ c.in_ok-extend_from_slice.ensures.items) c.clear.ensures.items (c.in_ok-told-2.ensures fed.lines fed.taken)
+    (c.as_slice.ensures.value ∙ c.in_ok-extend_from_slice.ensures.items) c.clear.ensures.items (c.in_ok-told-2.ensures.taken fed.lines fed.taken)
+
+pub returns-then-is_empty-clause-struck : goal.returns-then-is_empty-clause-struck
+returns-then-is_empty-clause-struck c = λ text posted struck.
+    let checker = c.args.self.now in
+    let none : length checker.part.items ≤ 0 = grind (arith, nat_tests, checker.part.ok.0) in
+    let empty = empty_list checker.part.items none in
+    took_struck c.args.table.now checker _ c.args.balance.now _ text c.args.line.now c.args.line.now posted _ struck c.requires.line
+    (ap (λ (p : List ℕ). p ++ c.args.line.now) (sym empty)) empty (c.in_ok-told.ensures.taken struck.fed.lines struck.fed.taken)
+    (c.in_ok-told.ensures.struck struck.fed.lines posted struck.fed.taken struck.struck)
+
+pub returns-clause-struck : goal.returns-clause-struck
+returns-clause-struck c = λ text posted struck.
+    took_struck c.args.table.now c.args.self.now _ c.args.balance.now _ text c.args.line.now c.as_slice.result.now posted _ struck c.requires.line
+    (c.as_slice.ensures.value ∙ c.in_ok-extend_from_slice.ensures.items) c.clear.ensures.items
+    (c.in_ok-told-2.ensures.taken struck.fed.lines struck.fed.taken)
+    (c.in_ok-told-2.ensures.struck struck.fed.lines posted struck.fed.taken struck.struck)

@@ -1,18 +1,23 @@
-use Rattle.std.proofs.Common.{◌≡◌, ◌+◌, ◌++◌, ◌∷◌, true, ℕ, List, refl, sym, subst, inr, string_bytes, arith, rules, tests}
+use Rattle.std.proofs.Common.{[], false, ◌≡◌, ◌+◌, ◌++◌, ◌∷◌, true, ℕ, List, refl, sym, subst, inr, string_bytes, arith, rules, tests}
 use Rattle.std.proofs.lemmas.Bool.Decides.{nat_tests}
 use Rattle.ledger_check.specs.Replays.{IsWanted}
-use Rattle.ledger_check.specs.Verdicts.{IsFirstWanted, IsFirstWrong}
-use Rattle.ledger_check.proofs.CheckerLemmas.{first_wrong, headed}
+use Rattle.ledger_check.specs.Verdicts.{HasTaken, IsFirstWanted, IsFirstWrong}
+use Rattle.ledger_check.proofs.CheckerLemmas.{first_wrong, headed, no_head}
+use Rattle.ledger_check.specs.declared.checker.Reading.{Reading}
+use Rattle.ledger_check.proofs.StruckLemmas.{struck_head, struck_more}
+use Rattle.reason_texts.specs.Ledger.{head_text}
+use Rattle.tap_balance.specs.Balances.{IsBalance}
+use Rattle.tap_views.specs.declared.encoder.TapFields.{TapFields}
 use Rattle.ledger_check.proofs.checker.Reading.take.Goals as goal
 
-pub returns-in_ok-clone-in-Wants : goal.returns-in_ok-clone-in-Wants
-returns-in_ok-clone-in-Wants c = λ lines taken more.
+pub returns-in_ok-clone-in-Wants-clause-taken : goal.returns-in_ok-clone-in-Wants-clause-taken
+returns-in_ok-clone-in-Wants-clause-taken c = λ lines taken more.
     let fares = c.args.table.now in
     let reading = c.args.self.now in
     let line = c.args.line.now in
     let some : reading.has_head ≡ true = first_of (cc, search (rules, tests), grind (arith, nat_tests)) in
     let head = headed fares reading lines some taken in
-    let step = rw c.in-Wants.is at (c.in_ok-next.ensures head.rest head.read) in
+    let step = rw c.in-Wants.is at (c.in_ok-tap.ensures head.rest head.read) in
     let wanted = c.in_ok-clone-in-Wants.field-0 in
     let same : string_bytes wanted ≡ string_bytes c.next.new.wanted = first_of (cc, search rules) in
     subst (λ (ls : List (List ℕ)). IsFirstWanted fares (ls ++ line ∷ more) (reading.replay.lines + 2) (string_bytes wanted)) (sym head.is)
@@ -21,13 +26,45 @@ returns-in_ok-clone-in-Wants c = λ lines taken more.
       is = subst (IsWanted fares head.rest) (sym same) step.1;
     })
 
-pub returns-in-NoLine : goal.returns-in-NoLine
-returns-in-NoLine c = λ lines taken more.
+pub returns-in-NoLine-clause-taken : goal.returns-in-NoLine-clause-taken
+returns-in-NoLine-clause-taken c = λ lines taken more.
     let fares = c.args.table.now in
     let reading = c.args.self.now in
     let line = c.args.line.now in
     let some : reading.has_head ≡ true = first_of (cc, search (rules, tests), grind (arith, nat_tests)) in
     let head = headed fares reading lines some taken in
-    let step = rw c.in-NoLine.is at (c.in_ok-next.ensures head.rest head.read) in
+    let step = rw c.in-NoLine.is at (c.in_ok-tap.ensures head.rest head.read) in
     inr (subst (λ (ls : List (List ℕ)). IsFirstWrong fares (ls ++ line ∷ more) (reading.replay.lines + 2)) (sym head.is)
     (first_wrong fares reading.replay head.rest line more (reading.replay.lines + 2) head.read refl step))
+
+pub returns-in-Legal-clause-taken : goal.returns-in-Legal-clause-taken
+returns-in-Legal-clause-taken c = λ lines taken.
+    let fares = c.args.table.now in
+    let reading = c.args.self.now in
+    let line = c.args.line.now in
+    let some : reading.has_head ≡ true = first_of (cc, search (rules, tests), grind (arith, nat_tests)) in
+    let head = headed fares reading lines some taken in
+    let step = rw c.in-Legal.is at (c.in_ok-tap.ensures head.rest head.read) in
+    let after : Reading = record { has_head = reading.has_head; replay = c.next.new.self; wanted = c.next.new.wanted } in
+    subst (λ (ls : List (List ℕ)). HasTaken fares after (ls ++ line ∷ [])) (sym head.is) (some, refl, step.0)
+
+pub returns-in-Legal-clause-struck : goal.returns-in-Legal-clause-struck
+returns-in-Legal-clause-struck c = λ lines posted taken struck.
+    let fares = c.args.table.now in
+    let reading = c.args.self.now in
+    let some : reading.has_head ≡ true = first_of (cc, search (rules, tests), grind (arith, nat_tests)) in
+    let head = headed fares reading lines some taken in
+    let step = rw c.in-Legal.is at (c.in_ok-tap.ensures head.rest head.read) in
+    struck_more fares lines head.rest c.args.line.now c.in-Legal.tap c.fields.result c.args.balance.now _ posted head.is step.1 c.fields.ensures
+    c.strike.ensures struck
+
+pub returns-then-not-self-clause-struck : goal.returns-then-not-self-clause-struck
+returns-then-not-self-clause-struck c = λ lines posted taken struck.
+    let none : c.args.self.now.has_head ≡ false = first_of (cc, search (rules, tests), grind (arith, nat_tests)) in
+    struck_head c.args.table.now lines c.args.line.now c.args.balance.now posted (no_head c.args.table.now c.args.self.now lines none taken).0 struck
+
+pub returns-in_ok-clone-in-Wants-clause-struck : goal.returns-in_ok-clone-in-Wants-clause-struck
+returns-in_ok-clone-in-Wants-clause-struck c = λ lines posted taken struck. refl
+
+pub returns-in-NoLine-clause-struck : goal.returns-in-NoLine-clause-struck
+returns-in-NoLine-clause-struck c = λ lines posted taken struck. refl

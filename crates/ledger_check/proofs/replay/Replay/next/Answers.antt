@@ -42,10 +42,12 @@ returns-then-same_bytes c = λ lines read.
     let tap = c.in-Some.tap in
     let stands = c.in-Some-turn_of.ensures.stands fares read.entries read.turn in
     let goes = c.in_ok-write_next.ensures read.entries stands in
-    let tells = λ (number : ℕ) (entry : Entry) (why : Reason) (small : number < 2 ^ 64) (postable : IsPostable entry) (is : IsLedgerLine fares entry.token number entry why c.args.line.now). c.in-Some.ensures.found fares number entry why small postable is in
-    read_more fares c.args.self.now _ lines c.args.line.now wanted turn c.write_next.new.self tap read goes stands
-    (c.in-Some.ensures.validator, c.in-Some.ensures.moment) c.in-Some-turn_of.ensures.token tells
-    (sym c.as_bytes.ensures.value ∙ c.same_bytes.ensures.0 c.if-same_bytes.true) (omega arith) (omega arith) refl refl
+    let tells = λ (number : ℕ) (entry : Entry) (why : Reason) (small : number < 2 ^ 64) (postable : IsPostable entry) (is : IsLedgerLine fares entry.token number entry why c.args.line.now). c.in-Some.ensures.found fares number entry why small postable is in (
+      read_more fares c.args.self.now _ lines c.args.line.now wanted turn c.write_next.new.self tap read goes stands
+          (c.in-Some.ensures.validator, c.in-Some.ensures.moment) c.in-Some-turn_of.ensures.token tells
+          (sym c.as_bytes.ensures.value ∙ c.same_bytes.ensures.0 c.if-same_bytes.true) (omega arith) (omega arith) refl refl,
+      tells,
+    )
 
 pub returns-then-has_form : goal.returns-then-has_form
 returns-then-has_form c = λ lines read.

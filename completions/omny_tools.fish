@@ -1,0 +1,43 @@
+# fish completion of omny_tools. The options are those of its `--help`.
+
+# The subcommand that is not yet there.
+function __omny_tools_no_task
+    not __fish_seen_subcommand_from encode decode uploads table split merge merge-ledgers
+end
+
+# Files with this ending, then folders and other files.
+function __omny_tools_files --argument-names ending
+    __fish_complete_suffix (commandline -ct) $ending | string match -r ".+"
+end
+
+set -l no_task __omny_tools_no_task
+complete -c omny_tools -f
+complete -c omny_tools -n $no_task -a encode -d 'Write the upload of a table of taps'
+complete -c omny_tools -n $no_task -a decode -d 'Write the taps of uploads as a table'
+complete -c omny_tools -n $no_task -a uploads -d 'Tell what uploads have'
+complete -c omny_tools -n $no_task -a table -d 'Tell a fare table as it is understood'
+complete -c omny_tools -n $no_task -a split -d 'Split uploads by token into parts'
+complete -c omny_tools -n $no_task -a merge -d 'Merge the reports of parts'
+complete -c omny_tools -n $no_task -a merge-ledgers -d 'Merge the ledgers of parts'
+complete -c omny_tools -n $no_task -s V -l version -d 'Print the version'
+complete -c omny_tools -s h -l help -d 'Print help'
+set -l uploads '__fish_seen_subcommand_from uploads'
+complete -c omny_tools -n $uploads -l good-part -r -d 'Make a file of what stands before the fault'
+complete -c omny_tools -n $uploads -l tokens -d 'Tell how many tokens the uploads share'
+set -l table '__fish_seen_subcommand_from table'
+complete -c omny_tools -n $table -l strict -d 'Let the status be 1 where there is a warning'
+complete -c omny_tools -n $table -l riders -d 'Tell each rider with its class'
+complete -c omny_tools -n $table -l from -x -d 'Tell the changes of clocks after this moment'
+complete -c omny_tools -n $table -k -a '(__omny_tools_files .toml)'
+set -l split '__fish_seen_subcommand_from split'
+complete -c omny_tools -n $split -l parts -x -d 'How many parts'
+complete -c omny_tools -n $split -l part-files -x -a '(__fish_complete_directories)' \
+    -d 'The folder of the files of parts'
+complete -c omny_tools -n $split -l first -x -d 'The number of the first upload'
+set -l merge '__fish_seen_subcommand_from merge'
+complete -c omny_tools -n $merge -l ends -r -d 'How the uploads ended'
+complete -c omny_tools -n $merge -l reports -r -d 'The reports of the parts'
+complete -c omny_tools -n '__fish_seen_subcommand_from merge merge-ledgers' -F
+complete -c omny_tools -n '__fish_seen_subcommand_from encode' -k -a '(__omny_tools_files .csv)'
+complete -c omny_tools -n '__fish_seen_subcommand_from decode uploads table split' -k \
+    -a '(__omny_tools_files .tap)'

@@ -1,0 +1,19 @@
+-- The explained statement over books is that over a history with the same entries of the token.
+use Rattle.std.proofs.Common.{◌≡◌, ℕ, List, Some, subst}
+use Rattle.std.specs.Prelude.{slice_get}
+use Rattle.fare_table.specs.Fares.{Fares}
+use Rattle.shard_book.specs.Book.{Book}
+use Rattle.shard_book.specs.Entry.{own}
+use Rattle.shard_book.specs.Groups.{all_entries}
+use Rattle.shard_book.specs.declared.entry.Entry.{Entry}
+use Rattle.shard_book.specs.declared.token.Token.{Token}
+use Rattle.fare_service.specs.Outcomes.{OutcomeView}
+use Rattle.ledger_texts.specs.Explained.{IsExplained, IsExplainedOf, IsExplainedOver}
+
+pub explained_same : (fares : Fares) (outcome : OutcomeView) (history : List Entry) (token : Token) (text : List ℕ)
+    → own token (all_entries outcome.books) ≡ own token history
+    → ((book : Book) → slice_get outcome.books 0 ≡ Some book → book.table ≡ fares)
+    → IsExplainedOf outcome.books token text → IsExplainedOver fares history token text
+explained_same fares outcome history token text same table is =
+    subst (λ (es : List Entry). IsExplained fares token es text) same
+    (subst (λ (f : Fares). IsExplained f token (own token (all_entries outcome.books)) text) (table is.first is.stands_first) is.over)

@@ -1,0 +1,49 @@
+-- The ledger of books is that of a history with the same entries of each token.
+use Rattle.std.proofs.Common.{◌≡◌, ℕ, List, ◌∷◌, Bool, Option, Some, None, map, refl, sym, ap, subst, ◌∙◌}
+use Rattle.std.specs.Prelude.{slice_get}
+use Rattle.std.specs.Ordering.{eq_by_cmp}
+use Rattle.std.proofs.lemmas.List.Sorted.{IsPermutation-map, list_any-IsPermutation}
+use Rattle.fare_table.specs.Fares.{Fares}
+use Rattle.shard_book.specs.Book.{Book}
+use Rattle.shard_book.specs.Entry.{own}
+use Rattle.shard_book.specs.Groups.{all_entries, token_of, tokens}
+use Rattle.shard_book.specs.Rising.{rising}
+use Rattle.shard_book.specs.Token.{token_cmp}
+use Rattle.shard_book.specs.declared.entry.Entry.{Entry}
+use Rattle.shard_book.specs.declared.token.Token.{Token}
+use Rattle.shard_book.proofs.RisingLemmas.{rising-is, rising-only}
+use Rattle.shard_book.proofs.TokenLemmas.{token_cmp-total, token_cmp-ties}
+use Rattle.fare_service.specs.Outcomes.{OutcomeView}
+use Rattle.fare_service.proofs.PlainSums.{same_entries}
+use Rattle.ledger_texts.specs.Ledger.{AreLinesOfEach, IsLedgerOf, IsLedgerOver, tokens_told}
+use Rattle.ledger_texts.proofs.Grouping.{each_same}
+
+same_tokens : (entries others : List Entry) → ((token : Token) → own token entries ≡ own token others) → tokens entries ≡ tokens others
+unfolding tokens
+same_tokens entries others same =
+    let is = rising-is token_cmp-total token_cmp-ties (map token_of entries) in
+    let moved = IsPermutation-map token_of entries others (same_entries entries others same) in
+    rising-only token_cmp-total token_cmp-ties (map token_of others) (rising token_cmp (map token_of entries)) (record {
+      rises = is.rises;
+      same = λ key. is.same key ∙ list_any-IsPermutation (eq_by_cmp token_cmp key) (map token_of entries) (map token_of others) moved;
+    })
+
+same_told : (entries others : List Entry) → ((token : Token) → own token entries ≡ own token others) → (only : Option Token)
+    → tokens_told only entries ≡ tokens_told only others
+same_told entries others same None = same_tokens entries others same
+same_told entries others same (Some token) = refl
+
+pub ledger_same : (fares : Fares) (outcome : OutcomeView) (history : List Entry) (only : Option Token) (text : List ℕ)
+    → ((token : Token) → own token (all_entries outcome.books) ≡ own token history)
+    → ((book : Book) → slice_get outcome.books 0 ≡ Some book → book.table ≡ fares)
+    → IsLedgerOf outcome.books only text → IsLedgerOver fares history only text
+ledger_same fares outcome history only text same table is =
+    let all = all_entries outcome.books in
+    let over : IsLedgerOver fares all only text =
+    subst (λ (f : Fares). IsLedgerOver f all only text) (table is.first is.stands_first) is.over in
+    record {
+      lines = over.lines;
+      of_each = subst (λ (ts : List Token). AreLinesOfEach fares history ts over.lines) (same_told all history same only)
+          (each_same fares all history (tokens_told only all) over.lines same over.of_each);
+      whole = over.whole;
+    }

@@ -1,0 +1,10 @@
+pub mod Appends
+pub mod Defaults
+pub mod Going
+pub mod LastMoments
+pub mod Loads
+pub mod PostedTexts
+pub mod Settled
+pub mod Sizes
+pub mod Ledgers
+pub mod Explains

@@ -1,0 +1,41 @@
+-- What is shown of posted files is what is asked for of them.
+use Rattle.std.proofs.Common.{◌≡◌, ◌∙◌, ℕ, List, Bool, true, false, Option, ap, sym, subst}
+use Rattle.std.specs.Prelude.{MatchBool}
+use Rattle.fare_table.specs.Fares.{Fares}
+use Rattle.shard_book.specs.declared.token.Token.{Token}
+use Rattle.fare_service.specs.Outcomes.{OutcomeView}
+use Rattle.fare_service.specs.declared.upload_end.UploadEnd.{UploadEnd}
+use Rattle.ledger_texts.specs.Ledger.{IsLedgerOf}
+use Rattle.fare_program.specs.Options.{Asked}
+use Rattle.fare_program.specs.Posted.{are_posted}
+use Rattle.fare_program.specs.Program.{Shows, ShowsAsked, ShowsLive, ShowsOf}
+use Rattle.fare_program.specs.Settling.{IsOutcomeOf, ShowsSettled}
+use Rattle.fare_program.specs.inside.PostedFiles.{IsLive, IsPosted}
+use Rattle.fare_program.proofs.Settled.{shows_settled}
+
+module _ (asked : Asked) (fares : Fares) (files : List (List ℕ)) (ends : List UploadEnd) (outcome : OutcomeView) (token : Option Token) (text : List ℕ) (well : Bool)
+    (shown : ShowsOf asked token ends outcome text) (is_well : well ≡ are_posted ends) where
+  reported : (ledger : Bool) → ledger ≡ false → MatchBool ledger (IsLedgerOf outcome.books token text) (Shows asked.explain token outcome text) → Shows asked.explain token outcome text
+  reported true is shows = cc
+  reported false is shows = shows
+
+  shows_live : IsLive fares asked.shards asked.workers files ends outcome → ShowsLive asked fares files token text well
+  shows_live is =
+      let S : List UploadEnd → Type 0 = λ es. ShowsOf asked token es outcome text in
+      let shows = subst S is.ended shown in
+      let told : well ≡ are_posted outcome.ends = is_well ∙ ap are_posted is.ended in
+      record {
+        outcome = outcome;
+        run = is.run;
+        shows = shows;
+        is_well = told;
+        plain = λ ledger posted. is.plain asked.explain token text (sym told ∙ posted) (reported asked.ledger ledger shows);
+      }
+
+  by_settling : (settle : Bool) → MatchBool settle (IsOutcomeOf fares files ends outcome) (IsLive fares asked.shards asked.workers files ends outcome)
+      → MatchBool settle (ShowsSettled asked fares files token text well) (ShowsLive asked fares files token text well)
+  by_settling true is = shows_settled asked fares files ends outcome token text well is shown is_well
+  by_settling false is = shows_live is
+
+  pub shows_asked : IsPosted asked fares files ends outcome → ShowsAsked asked fares files token text well
+  shows_asked is = by_settling asked.settle is

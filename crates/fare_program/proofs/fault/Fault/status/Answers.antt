@@ -1,0 +1,38 @@
+use Rattle.std.proofs.Common.{◌≡◌, refl}
+use Rattle.fare_program.specs.Fault.{status_of}
+use Rattle.fare_program.specs.declared.fault.Fault.{Fault}
+use Rattle.fare_program.specs.declared.fault.Fault.TheVariants.{Digits, NoTable, SettleNoTable, SettleList, LedgerNoTable, LedgerList, ExplainNoToken, ExplainList, ExplainLedger, Unread, TooLong, Table, Uploads, Gather, Write, NoMemory}
+use Rattle.fare_program.proofs.fault.Fault.status.Goals as goal
+
+other : (fault : Fault) → (fault ≡ Digits → ⊥) → (fault ≡ NoTable → ⊥) → (fault ≡ SettleNoTable → ⊥) → (fault ≡ SettleList → ⊥) → (fault ≡ LedgerNoTable → ⊥) → (fault ≡ LedgerList → ⊥) → (fault ≡ ExplainNoToken → ⊥) → (fault ≡ ExplainList → ⊥) → (fault ≡ ExplainLedger → ⊥)
+    → 1 ≡ status_of fault
+other Digits digits table none list bare listed alone shown told = absurd (digits refl)
+other NoTable digits table none list bare listed alone shown told = absurd (table refl)
+other SettleNoTable digits table none list bare listed alone shown told = absurd (none refl)
+other SettleList digits table none list bare listed alone shown told = absurd (list refl)
+other LedgerNoTable digits table none list bare listed alone shown told = absurd (bare refl)
+other LedgerList digits table none list bare listed alone shown told = absurd (listed refl)
+other ExplainNoToken digits table none list bare listed alone shown told = absurd (alone refl)
+other ExplainList digits table none list bare listed alone shown told = absurd (shown refl)
+other ExplainLedger digits table none list bare listed alone shown told = absurd (told refl)
+other (Unread name) digits table none list bare listed alone shown told = refl
+other (TooLong name) digits table none list bare listed alone shown told = refl
+other (Table fault) digits table none list bare listed alone shown told = refl
+other Uploads digits table none list bare listed alone shown told = refl
+other (Gather fault) digits table none list bare listed alone shown told = refl
+other Write digits table none list bare listed alone shown told = refl
+other NoMemory digits table none list bare listed alone shown told = refl
+
+-- a fault that is none of the command line has the other status
+pub returns-in_default : goal.returns-in_default
+returns-in_default c =
+    let digits : c.args.self.now ≡ Digits → ⊥ = assumption in
+    let table : c.args.self.now ≡ NoTable → ⊥ = assumption in
+    let none : c.args.self.now ≡ SettleNoTable → ⊥ = assumption in
+    let list : c.args.self.now ≡ SettleList → ⊥ = assumption in
+    let bare : c.args.self.now ≡ LedgerNoTable → ⊥ = assumption in
+    let listed : c.args.self.now ≡ LedgerList → ⊥ = assumption in
+    let alone : c.args.self.now ≡ ExplainNoToken → ⊥ = assumption in
+    let shown : c.args.self.now ≡ ExplainList → ⊥ = assumption in
+    let told : c.args.self.now ≡ ExplainLedger → ⊥ = assumption in
+    other c.args.self.now digits table none list bare listed alone shown told

@@ -1,0 +1,62 @@
+use Rattle.std.proofs.Common.{◌≡◌, ◌<◌, ℕ, length, arith, List, [], ◌∷◌, Bool, true, false, Option, None, Some, All, Vec, Global, map, sym, subst}
+use Rattle.std.proofs.lemmas.List.Elements.{All-nil, All-cons}
+use Rattle.fare_table.specs.Fares.{Fares}
+use Rattle.shard_book.specs.declared.entry.Entry.{Entry}
+use Rattle.shard_book.specs.declared.token.Token.{Token}
+use Rattle.fare_service.specs.Outcomes.{OutcomeView}
+use Rattle.fare_service.specs.Plain.{IsReportOver, IsStatementOver, IsWholeGathering, WasWhole}
+use Rattle.fare_service.specs.Printed.{IsStatementOf, report_of}
+use Rattle.fare_service.specs.declared.upload_end.UploadEnd.{UploadEnd}
+use Rattle.fare_service.specs.declared.upload_end.UploadEnd.TheVariants.{Posted, Refused, Cut, Undrawn}
+use Rattle.std.specs.Prelude.{MatchBool}
+use Rattle.fare_service.proofs.PlainSums.{own_all}
+use Rattle.ledger_texts.specs.Explained.{IsExplainedOf, IsExplainedOver}
+use Rattle.fare_program.proofs.Explains.{explained_same}
+use Rattle.fare_program.specs.Posted.{are_posted}
+use Rattle.fare_program.specs.Program.{Shows}
+use Rattle.fare_program.specs.Settling.{ReportsOver}
+use Rattle.fare_program.proofs.run.shows_plain.Goals as goal
+
+-- what was posted was whole
+all_whole : (ends : List UploadEnd) → are_posted ends ≡ true → All WasWhole ends
+all_whole [] posted = All-nil WasWhole
+all_whole (Posted taps ∷ ends) posted = All-cons WasWhole (Posted taps) ends tt (all_whole ends posted)
+all_whole (Refused taps offset fault ∷ ends) posted = absurd (cc)
+all_whole (Cut taps ∷ ends) posted = absurd (cc)
+all_whole (Undrawn ∷ ends) posted = absurd (cc)
+
+-- a statement, explained or not
+stated : (explain : Bool) (outcome : OutcomeView) (fares : Fares) (history : List Entry) (token : Token) (text : List ℕ)
+    → (IsExplainedOf outcome.books token text → IsExplainedOver fares history token text)
+    → (IsStatementOf outcome token text → IsStatementOver fares history token text)
+    → MatchBool explain (IsExplainedOf outcome.books token text) (IsStatementOf outcome token text)
+    → MatchBool explain (IsExplainedOver fares history token text) (IsStatementOver fares history token text)
+stated true outcome fares history token text explained statement shows = explained shows
+stated false outcome fares history token text explained statement shows = statement shows
+
+-- what is shown, as report or as statement
+shown : (explain : Bool) (files : List (List ℕ)) (outcome : OutcomeView) (fares : Fares) (history : List Entry) (token : Option Token) (text : List ℕ)
+    → IsReportOver files history (report_of outcome)
+    → ((t : Token) → IsExplainedOf outcome.books t text → IsExplainedOver fares history t text)
+    → ((t : Token) → IsStatementOf outcome t text → IsStatementOver fares history t text)
+    → Shows explain token outcome text → ReportsOver explain token fares files history text
+shown explain files outcome fares history None text report explained statement shows = let R : List ℕ → Type 0 = λ t. IsReportOver files history t in subst R (sym shows) report
+shown explain files outcome fares history (Some token) text report explained statement shows =
+    stated explain outcome fares history token text (explained token) (statement token) shows
+
+pub returns : goal.returns
+returns c = λ fares shards workers explain token text run posted shows history is apart.
+    let files = map (λ (f : Vec ℕ Global). f.items) c.args.files.now in
+    let outcome = c.args.outcome.now in
+    let whole : IsWholeGathering fares shards files outcome history = record {
+      works = run.0;
+      headline = run.2;
+      whole = all_whole outcome.ends posted;
+      plain_is = is;
+      apart = apart;
+    } in
+    let some : 0 < length outcome.books = omega (arith, c.shards.ensures.some, c.shards.ensures.number) in
+    let same = own_all (record { table = fares; shards = shards; uploads = files }) outcome history some c.names.ensures.named c.names.ensures.here c.cuts.ensures whole in
+    shown explain files outcome fares history token text (c.report.ensures fares shards history whole)
+    (λ t. explained_same fares outcome history t text (same t) (λ book there. (whole.headline.books 0 book there).0))
+    (λ t. (c.statements.ensures.texts fares shards history whole t text).0) shows

@@ -1,0 +1,9 @@
+-- Files that are read before their turns.
+use Rattle.std.specs.Prelude.{◌≡◌, ◌≢◌, ℕ, List, [], ◌∷◌, ◌++◌, string_bytes}
+use Rattle.fare_program.specs.declared.ahead.Early.{Early}
+
+-- the next file, which stands last in the list, has another name, or there is none
+abbrev pub IsNotNext : List ℕ → List Early → Type 0
+IsNotNext name early =
+    (before : List Early) (next : Early) → early ≡ before ++ next ∷ []
+    → string_bytes next.name ≢ name

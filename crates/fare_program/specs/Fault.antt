@@ -1,0 +1,153 @@
+-- The fault lines, without their line feeds, and their statuses.
+use Rattle.std.specs.Prelude.{◌<◌, ℕ, List, ◌++◌, Bool, true, false, Option, Some, None, codes}
+use Rattle.std.specs.Prelude.{if◌then◌else◌, is_ok, is_some}
+use Rattle.hex.specs.Hex.{decode_sized}
+use Rattle.fare_table.specs.Key.{key_name}
+use Rattle.fare_table.specs.declared.fault.TableFault.{TableFault}
+use Rattle.fare_table.specs.declared.fault.TableFault.TheVariants as table
+use Rattle.fare_service.specs.declared.faults.GatherFault.{GatherFault}
+use Rattle.fare_service.specs.declared.faults.GatherFault.TheVariants as gather
+use Rattle.fare_service.specs.declared.print_fault.PrintFault.{PrintFault}
+use Rattle.fare_service.specs.declared.print_fault.PrintFault.TheVariants as print
+use Rattle.ledger_texts.specs.declared.fault.LedgerFault.{LedgerFault}
+use Rattle.ledger_texts.specs.declared.fault.LedgerFault.TheVariants as ledger
+use Rattle.fare_program.specs.Options.{Asked}
+use Rattle.fare_program.specs.declared.load.LoadFault.{LoadFault}
+use Rattle.fare_program.specs.declared.load.LoadFault.TheVariants as load
+use Rattle.fare_program.specs.declared.fault.Fault.{Fault}
+use Rattle.fare_program.specs.declared.fault.Fault.TheVariants.{Digits, NoTable, SettleNoTable}
+use Rattle.fare_program.specs.declared.fault.Fault.TheVariants.{SettleList, LedgerNoTable}
+use Rattle.fare_program.specs.declared.fault.Fault.TheVariants.{LedgerList, ExplainNoToken}
+use Rattle.fare_program.specs.declared.fault.Fault.TheVariants.{ExplainList, ExplainLedger, Unread}
+use Rattle.fare_program.specs.declared.fault.Fault.TheVariants.{TooLong, Table}
+use Rattle.fare_program.specs.declared.fault.Fault.TheVariants.{Uploads, Gather, Write, NoMemory}
+
+-- a fault of a table by its number, and the key where it has one
+abbrev pub table_text : TableFault → List ℕ
+table_text table.Text = codes "fault: table F1"
+table_text (table.Missing key) = codes "fault: table F2 " ++ key_name key
+table_text (table.Kind key) = codes "fault: table F3 " ++ key_name key
+table_text (table.Range key) = codes "fault: table F4 " ++ key_name key
+table_text table.Mode = codes "fault: table F5"
+table_text table.Overlap = codes "fault: table F6"
+table_text table.Rider = codes "fault: table F7"
+table_text table.NoMemory = codes "fault: out of memory"
+table_text table.Zone = codes "fault: table F9"
+
+-- a run whose workers' shares were not gathered
+abbrev pub gather_text : GatherFault → List ℕ
+gather_text (gather.Missing shard held kept) = codes "fault: run U3 G1"
+gather_text (gather.Drawn held drawn) = codes "fault: run U3 G4"
+gather_text gather.NoMemory = codes "fault: out of memory"
+
+abbrev pub fault_text : Fault → List ℕ
+fault_text Digits = codes "fault: --token needs 32 hexadecimal digits"
+fault_text NoTable = codes "fault: --token needs --table"
+fault_text SettleNoTable = codes "fault: --settle needs --table"
+fault_text SettleList = codes "fault: --settle cannot be used with --list"
+fault_text LedgerNoTable = codes "fault: --ledger needs --table"
+fault_text LedgerList = codes "fault: --ledger cannot be used with --list"
+fault_text ExplainNoToken = codes "fault: --explain needs --token"
+fault_text ExplainList = codes "fault: --explain cannot be used with --list"
+fault_text ExplainLedger = codes "fault: --explain cannot be used with --ledger"
+fault_text (Unread name) = codes "fault: cannot read " ++ name.now
+fault_text (TooLong name) = codes "fault: " ++ (name.now ++ codes " is too long")
+fault_text (Table fault) = table_text fault
+fault_text Uploads = codes "fault: too many uploads"
+fault_text (Gather fault) = gather_text fault
+fault_text Write = codes "fault: cannot write"
+fault_text NoMemory = codes "fault: out of memory"
+
+-- a mistake of the command line is told from all that may happen later
+abbrev pub status_of : Fault → ℕ
+status_of Digits = 2
+status_of NoTable = 2
+status_of SettleNoTable = 2
+status_of SettleList = 2
+status_of LedgerNoTable = 2
+status_of LedgerList = 2
+status_of ExplainNoToken = 2
+status_of ExplainList = 2
+status_of ExplainLedger = 2
+status_of _ = 1
+
+-- why a report or a statement was not printed
+abbrev pub printed_as : PrintFault → Fault
+printed_as print.Write = Write
+printed_as print.NoMemory = NoMemory
+
+-- why a ledger was not printed
+abbrev pub told_as : LedgerFault → Fault
+told_as ledger.Write = Write
+told_as ledger.NoMemory = NoMemory
+
+-- the line of a file of this name that was not loaded
+abbrev pub load_text : List ℕ → LoadFault → List ℕ
+load_text name load.Unread = codes "fault: cannot read " ++ name
+load_text name load.TooLong = codes "fault: " ++ (name ++ codes " is too long")
+load_text name load.NoMemory = codes "fault: out of memory"
+
+-- What is wrong with the token that is asked for, if anything: first its digits, and then that
+-- there is no table.
+abbrev pub token_fault_of : Option (List ℕ) → Option (List ℕ) → Option Fault
+token_fault_of None table = None
+token_fault_of (Some digits) table =
+    if is_ok (decode_sized digits 16) then (if is_some table then None else Some NoTable)
+    else Some Digits
+
+abbrev pub token_fault : Asked → Option Fault
+token_fault asked = token_fault_of asked.token asked.table
+
+-- What is wrong with settling where it is asked for: first that there is no table, and then that
+-- the taps are to be listed.
+abbrev pub settle_fault_of : Bool → Bool → Option (List ℕ) → Option Fault
+settle_fault_of false list table = None
+settle_fault_of true list None = Some SettleNoTable
+settle_fault_of true false (Some name) = None
+settle_fault_of true true (Some name) = Some SettleList
+
+abbrev pub settle_fault : Asked → Option Fault
+settle_fault asked = settle_fault_of asked.settle asked.list asked.table
+
+-- What is wrong with the ledger where it is asked for: first that there is no table, and then that
+-- the taps are to be listed.
+abbrev pub ledger_fault_of : Bool → Bool → Option (List ℕ) → Option Fault
+ledger_fault_of false list table = None
+ledger_fault_of true list None = Some LedgerNoTable
+ledger_fault_of true false (Some name) = None
+ledger_fault_of true true (Some name) = Some LedgerList
+
+abbrev pub ledger_fault : Asked → Option Fault
+ledger_fault asked = ledger_fault_of asked.ledger asked.list asked.table
+
+-- What is wrong with an explained statement where it is asked for: first that there is no token,
+-- then that the taps are to be listed, and then that the ledger is asked for.
+abbrev pub explain_fault_of : Bool → Bool → Bool → Option (List ℕ) → Option Fault
+explain_fault_of false list ledger token = None
+explain_fault_of true list ledger None = Some ExplainNoToken
+explain_fault_of true true ledger (Some digits) = Some ExplainList
+explain_fault_of true false true (Some digits) = Some ExplainLedger
+explain_fault_of true false false (Some digits) = None
+
+abbrev pub explain_fault : Asked → Option Fault
+explain_fault asked = explain_fault_of asked.explain asked.list asked.ledger asked.token
+
+-- the first of two faults, if there is one
+abbrev pub first_fault : Option Fault → Option Fault → Option Fault
+first_fault None other = other
+first_fault (Some fault) other = Some fault
+
+-- what is wrong with what is asked for, if anything: the token is looked at first, then settling,
+-- then the ledger, then the explained statement
+abbrev pub mistake : Asked → Option Fault
+mistake asked =
+    first_fault (token_fault asked) (first_fault (settle_fault asked)
+    (first_fault (ledger_fault asked) (explain_fault asked)))
+
+-- why a run over so many uploads came to nothing: there were too many of them, or memory or the
+-- gathering failed
+abbrev pub IsRunFailure : ℕ → Fault → Type 0
+IsRunFailure uploads Uploads = 65535 < uploads
+IsRunFailure uploads NoMemory = Unit {0}
+IsRunFailure uploads (Gather fault) = Unit {0}
+IsRunFailure uploads _ = ⊥

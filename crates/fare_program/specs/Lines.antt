@@ -1,0 +1,31 @@
+-- The lines of a listing, as bytes.
+use Rattle.std.specs.Prelude.{ℕ, List, ◌++◌, codes, decimal}
+use Rattle.hex.specs.Hex.{encode_lower}
+use Rattle.tap_views.specs.Layout.{Tap, num}
+use Rattle.tap_views.specs.Faults.{place}
+use Rattle.tap_views.specs.declared.fault.LayoutFault.{LayoutFault}
+use Rattle.fare_program.specs.declared.listing.Word.{Word}
+use Rattle.fare_program.specs.declared.listing.Word.TheVariants.{Live, Stale, Unknown}
+use Rattle.fare_program.specs.declared.listing.ListCounts.{ListCounts}
+
+abbrev pub word_text : Word → List ℕ
+word_text Live = codes "live"
+word_text Stale = codes "stale"
+word_text Unknown = codes "unknown"
+
+-- the number of the upload and of the tap in it, token, validator, moment and word
+unfoldable pub tap_line : ℕ → ℕ → Tap → Word → List ℕ
+tap_line upload number tap word = decimal upload ++ (codes " " ++ (decimal number ++ (codes " "
+    ++ (encode_lower tap.token ++ (codes " " ++ (decimal (num tap.validator) ++ (codes " "
+    ++ (decimal (num tap.moment) ++ (codes " " ++ (word_text word ++ codes "\n"))))))))))
+
+-- the number of the upload, the offset of the batch that was refused, and the row of its fault in
+-- the table of layout faults
+unfoldable pub refused_line : ℕ → ℕ → LayoutFault → List ℕ
+refused_line upload offset fault = decimal upload ++ (codes " refused " ++ (decimal offset
+    ++ (codes " L" ++ (decimal (place fault) ++ codes "\n"))))
+
+unfoldable pub counts_line : ListCounts → List ℕ
+counts_line counts = codes "taps " ++ (decimal counts.taps ++ (codes " live "
+    ++ (decimal counts.live ++ (codes " stale " ++ (decimal counts.stale ++ (codes " unknown "
+    ++ (decimal counts.unknown ++ codes "\n")))))))

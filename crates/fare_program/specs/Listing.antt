@@ -1,0 +1,78 @@
+-- What a list of taps says of each of them: live, stale or unknown.
+use Rattle.std.specs.Prelude.{◌≡◌, ◌+◌, ℕ, Bool, true, false, ◌&&◌, if◌then◌else◌, List, [], ◌∷◌}
+use Rattle.std.specs.Prelude.{◌++◌, length, filter, count_by, nat_lt, Option, None, Some}
+use Rattle.std.specs.List.{list_all}
+use Rattle.std.specs.Str.{bytes_eq}
+use Rattle.std.specs.Map.{lookup}
+use Rattle.tap_views.specs.Layout.{Tap, num}
+use Rattle.fare_program.specs.declared.listing.Word.{Word}
+use Rattle.fare_program.specs.declared.listing.Word.TheVariants.{Live, Stale, Unknown}
+use Rattle.fare_program.specs.declared.listing.ListCounts.{ListCounts}
+
+-- a tap, and whether its validator is known
+pub record Listed : Type 0 where
+  pub tap : Tap
+  pub known : Bool
+
+abbrev pub listed_of : Tap → Bool → Listed
+listed_of tap known = record { tap = tap; known = known }
+
+abbrev pub moment_of : Listed → ℕ
+moment_of listed = num listed.tap.moment
+
+-- the known taps of this token
+abbrev pub known_of : List ℕ → List Listed → List Listed
+known_of token taps = filter (λ t. t.known && bytes_eq t.tap.token token) taps
+
+abbrev pub are_before : ℕ → List Listed → Bool
+are_before moment taps = list_all (λ t. nat_lt (moment_of t) moment) taps
+
+-- A known tap is live where it is later than every known tap of its token before it.
+abbrev pub is_live : List Listed → Listed → Bool
+is_live before tap = are_before (moment_of tap) (known_of tap.tap.token before)
+
+abbrev pub word_of : List Listed → Listed → Word
+word_of before tap =
+    if tap.known then (if is_live before tap then Live else Stale) else Unknown
+
+-- the words of taps that follow those before
+abbrev pub words_after : List Listed → List Listed → List Word
+words_after before [] = []
+words_after before (tap ∷ taps) = word_of before tap ∷ words_after (before ++ tap ∷ []) taps
+
+abbrev pub is_word : Word → Word → Bool
+is_word Live Live = true
+is_word Stale Stale = true
+is_word Unknown Unknown = true
+is_word _ _ = false
+
+-- how many of the taps have the word
+abbrev pub count_of : Word → List Listed → ℕ
+count_of word taps = count_by (is_word word) (words_after [] taps)
+
+abbrev pub counts_of : List Listed → ListCounts
+counts_of taps = record {
+  taps = length taps;
+  live = count_of Live taps;
+  stale = count_of Stale taps;
+  unknown = count_of Unknown taps;
+}
+
+-- what a listing keeps: the last known moment of each token, and the counts
+pub record Kept : Type 0 where
+  pub last : List (List ℕ × ℕ)
+  pub counts : ListCounts
+
+abbrev pub last_of : List (List ℕ × ℕ) → List ℕ → Option ℕ
+last_of last token = lookup (bytes_eq token) last
+
+abbrev pub is_later : Option ℕ → ℕ → Bool
+is_later None moment = true
+is_later (Some last) moment = nat_lt last moment
+
+-- What is kept answers for the taps of this list: a moment is later than the last known one of a
+-- token where it is later than each known tap of that token, and the counts are those of the list.
+pub record StandsFor (kept : Kept) (taps : List Listed) : Type 0 where
+  pub last : (token : List ℕ) (moment : ℕ)
+      → is_later (last_of kept.last token) moment ≡ are_before moment (known_of token taps)
+  pub counts : kept.counts ≡ counts_of taps

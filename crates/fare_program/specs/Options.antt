@@ -1,0 +1,157 @@
+-- The command line, and what its words ask for.
+use Rattle.std.specs.Prelude.{◌≡◌, ℕ, Bool, false, ◌||◌, not, List, [], ◌∷◌, Option, Some, codes}
+use Rattle.std.specs.Prelude.{is_some, map, option_map, pos, unwrap_or}
+use Rattle.std.specs.Option.{option_map_or}
+use Rattle.std.specs.Str.{bytes_eq}
+use Rattle.std.specs.Str.Parse.{digits_value, without_leading_plus}
+use Rattle.clap.specs.Words.{App, IsAmong, Row, Rule, Text, all_of, fault_of, first_of, matches_of}
+use Rattle.clap.specs.Words.{new_app}
+use Rattle.clap.specs.Words.{new_rule, one_of, with_rule}
+use Rattle.clap.specs.declared.builder.action.ArgAction.TheVariants.{Set, SetTrue, Append}
+use Rattle.clap.specs.declared.builder.value_parser.ValueParser.TheVariants.{Signed}
+use Rattle.clap.specs.declared.error.kind.ErrorKind.TheVariants.{DisplayHelp}
+use Rattle.fare_program.specs.declared.asked.Options.{Options}
+
+-- `--table F`
+abbrev pub table_rule : Rule
+table_rule = record (new_rule (codes "table")) {
+  long = Some (codes "table");
+  action = Some Set;
+  value_names = 1;
+}
+
+-- `--list`
+abbrev pub list_rule : Rule
+list_rule = record (new_rule (codes "list")) { long = Some (codes "list"); action = Some SetTrue }
+
+-- `--workers N`, a number of 1 to 16; 2 where it is not given
+abbrev pub workers_rule : Rule
+workers_rule = record (new_rule (codes "workers")) {
+  long = Some (codes "workers");
+  action = Some Set;
+  value_names = 1;
+  parser = Some (Signed (pos 1) (pos 16));
+  defaults = codes "2" ∷ [];
+}
+
+-- `--shards N`, a number of 1 to 64; 8 where it is not given
+abbrev pub shards_rule : Rule
+shards_rule = record (new_rule (codes "shards")) {
+  long = Some (codes "shards");
+  action = Some Set;
+  value_names = 1;
+  parser = Some (Signed (pos 1) (pos 64));
+  defaults = codes "8" ∷ [];
+}
+
+-- `--token HEX`
+abbrev pub token_rule : Rule
+token_rule = record (new_rule (codes "token")) {
+  long = Some (codes "token");
+  action = Some Set;
+  value_names = 1;
+}
+
+-- `--settle`
+abbrev pub settle_rule : Rule
+settle_rule =
+    record (new_rule (codes "settle")) { long = Some (codes "settle"); action = Some SetTrue }
+
+-- `--ledger`
+abbrev pub ledger_rule : Rule
+ledger_rule =
+    record (new_rule (codes "ledger")) { long = Some (codes "ledger"); action = Some SetTrue }
+
+-- `--explain`
+abbrev pub explain_rule : Rule
+explain_rule =
+    record (new_rule (codes "explain")) { long = Some (codes "explain"); action = Some SetTrue }
+
+-- `FILE`, as often as wanted
+abbrev pub file_rule : Rule
+file_rule = record (new_rule (codes "FILE")) { action = Some Append }
+
+abbrev pub app_of_options : App
+app_of_options =
+    with_rule (with_rule (with_rule (with_rule
+    (with_rule (with_rule (with_rule (with_rule (new_app (codes "omny_cli"))
+    table_rule) list_rule) workers_rule) shards_rule) token_rule) settle_rule) ledger_rule)
+    explain_rule
+
+unfoldable pub program : App
+program = with_rule app_of_options file_rule
+
+-- the words after the program's name are a command line of the program
+abbrev pub Parses : List Text → Type 0
+Parses words = fault_of program words ≡ []
+
+-- reading the words ends at `--help` or `-h`
+abbrev pub AsksForHelp : List Text → Type 0
+AsksForHelp words = IsAmong DisplayHelp (fault_of program words)
+
+-- the file of the fare table that the words name, if any
+abbrev pub table_named : List Text → Option Text
+table_named words = first_of (codes "table") (matches_of program words)
+
+-- the token that the words name, if any, as it is written
+abbrev pub token_named : List Text → Option Text
+token_named words = first_of (codes "token") (matches_of program words)
+
+-- the files that the words name, in order
+abbrev pub files_named : List Text → List Text
+files_named words = unwrap_or (all_of (codes "FILE") (matches_of program words)) []
+
+-- whether the flag of this name was given
+abbrev pub is_given : Text → List Row → Bool
+is_given name rows = option_map_or (λ text. bytes_eq text (codes "true")) (one_of name rows) false
+
+-- the number that the decimal digits write, after a plus if there is one
+abbrev pub number_in : Text → ℕ
+number_in text = digits_value 10 (without_leading_plus text)
+
+-- the number of the option of this name
+abbrev pub number_of : Text → List Row → ℕ
+number_of name rows = option_map_or number_in (one_of name rows) 0
+
+-- what a command line asks for
+pub record Asked : Type 0 where
+  pub table : Option Text
+  pub list : Bool
+  pub workers : ℕ
+  pub shards : ℕ
+  pub token : Option Text
+  pub settle : Bool
+  pub ledger : Bool
+  pub explain : Bool
+  pub files : List Text
+
+abbrev pub asked_by : List Text → Asked
+asked_by words = record {
+  table = table_named words;
+  list = is_given (codes "list") (matches_of program words);
+  workers = number_of (codes "workers") (matches_of program words);
+  shards = number_of (codes "shards") (matches_of program words);
+  token = token_named words;
+  settle = is_given (codes "settle") (matches_of program words);
+  ledger = is_given (codes "ledger") (matches_of program words);
+  explain = is_given (codes "explain") (matches_of program words);
+  files = files_named words;
+}
+
+-- what the options ask for
+abbrev pub asked_of : Options → Asked
+asked_of options = record {
+  table = option_map (λ f. f.now) options.table;
+  list = options.list;
+  workers = options.workers;
+  shards = options.shards;
+  token = option_map (λ t. t.now) options.token;
+  settle = options.settle;
+  ledger = options.ledger;
+  explain = options.explain;
+  files = map (λ f. f.now) options.files.items;
+}
+
+-- The taps are listed by the flag, or where there is no table. Else the service runs.
+abbrev pub lists : Asked → Bool
+lists asked = asked.list || not (is_some asked.table)

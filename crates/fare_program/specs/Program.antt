@@ -1,0 +1,159 @@
+-- What a run of the program does.
+use Rattle.std.specs.Prelude.{◌≡◌, ◌≢◌, ℕ, Bool, true, false, List, [], ◌∷◌, ◌++◌, map, Option}
+use Rattle.std.specs.Prelude.{None, Some, Ok, MatchBool, codes}
+use Rattle.std.specs.Io.KnownBytes.{Appends, Keeps}
+use Rattle.hex.specs.Hex.{decode_sized}
+use Rattle.fare_table.specs.Fares.{Fares}
+use Rattle.fare_table.specs.Rules.{rules_in}
+use Rattle.fare_table.specs.Zone.{IsZoneOf}
+use Rattle.shard_book.specs.Token.{bytes_of}
+use Rattle.shard_book.specs.declared.token.Token.{Token}
+use Rattle.fare_service.specs.declared.upload_end.UploadEnd.{UploadEnd}
+use Rattle.shard_book.specs.declared.entry.Entry.{Entry}
+use Rattle.fare_service.specs.Headline.{HasRun}
+use Rattle.fare_service.specs.Outcomes.{OutcomeView}
+use Rattle.fare_service.specs.Plain.{AreApart, IsPlain}
+use Rattle.fare_service.specs.Printed.{IsStatementOf, report_with}
+use Rattle.fare_program.specs.Fault.{fault_text}
+use Rattle.fare_program.specs.Options.{Asked, lists}
+use Rattle.fare_program.specs.Posted.{are_posted}
+use Rattle.fare_program.specs.Settling.{ReportsOver, ShowsSettled}
+use Rattle.fare_program.specs.declared.fault.Fault.{Fault}
+use Rattle.fare_program.specs.declared.fault.Fault.TheVariants.{Write}
+use Rattle.ledger_texts.specs.Explained.{IsExplainedOf}
+use Rattle.ledger_texts.specs.Ledger.{IsLedgerOf}
+use Rattle.fare_program.specs.Source.{Loaded, Tells, TellsOne}
+use Rattle.fare_program.specs.Uploads.{IsListing}
+
+-- The text's rules, and the zone that it names, are those of these fares.
+abbrev pub Means : List ℕ → Fares → Type 0
+Means text fares = (rules_in text ≡ Ok fares.rules) × IsZoneOf fares.rules.zone fares.zone
+
+-- Where a table is named, its file was loaded under that name, and its text means these fares.
+abbrev pub LoadsTable : Option (List ℕ) → Option (List Loaded) → Option (List Loaded) → Option Fares
+    → Type 0
+LoadsTable None told told' fares = (fares ≡ None) × (told' ≡ told)
+LoadsTable (Some name) told told' fares = (bytes : List ℕ) × (meaning : Fares)
+    × TellsOne told told' (Some name) bytes × Means bytes meaning × (fares ≡ Some meaning)
+
+-- the names under which files are loaded: standard input, which has no name, where none is named
+abbrev pub wanted : List (List ℕ) → List (Option (List ℕ))
+wanted [] = None ∷ []
+wanted (name ∷ names) = map Some (name ∷ names)
+
+-- A file of each of these names was loaded, in their order.
+pub record LoadsFiles (names : List (Option (List ℕ))) (told told' : Option (List Loaded))
+    (files : List (List ℕ)) : Type 0 where
+  pub loads : List Loaded
+  pub named : map (λ load. load.name) loads ≡ names
+  pub bytes : map (λ load. load.bytes) loads ≡ files
+  pub told_is : Tells told told' loads
+
+-- The named table was loaded, then the named files, or standard input where none is named.
+pub record Loads (table : Option (List ℕ)) (names : List (List ℕ))
+    (told told' : Option (List Loaded)) (fares : Option Fares) (files : List (List ℕ))
+    : Type 0 where
+  pub between : Option (List Loaded)
+  pub loads_table : LoadsTable table told between fares
+  pub loads_files : LoadsFiles (wanted names) between told' files
+
+-- Table and files were loaded; what was appended to the writer is the listing of these files, with
+-- the validators known that the table knows. It is clean where no file has a layout fault.
+pub record RunsListing (table : Option (List ℕ)) (names : List (List ℕ))
+    (told told' : Option (List Loaded)) (out out' : Option (List ℕ)) (clean : Bool) : Type 0 where
+  pub fares : Option Fares
+  pub files : List (List ℕ)
+  pub loads : Loads table names told told' fares files
+  pub text : List ℕ
+  pub listing : IsListing fares files text clean
+  pub written : Appends out out' text
+
+-- A service of so many shards, over these files and by these fares, was run by so many workers to
+-- this outcome, and the headline holds.
+abbrev pub IsRun : Fares → ℕ → ℕ → List (List ℕ) → OutcomeView → Type 0
+IsRun fares shards workers files outcome = HasRun fares shards files workers outcome
+
+-- the text is the statement of this token, explained where that is asked for
+abbrev pub ShowsStatement : Bool → Token → OutcomeView → List ℕ → Type 0
+ShowsStatement explain token outcome text =
+    MatchBool explain (IsExplainedOf outcome.books token text) (IsStatementOf outcome token text)
+
+-- the text is the report with these ends of uploads, or the statement of this token, explained
+-- where that is asked for
+abbrev pub ShowsWith : Bool → Option Token → List UploadEnd → OutcomeView → List ℕ → Type 0
+ShowsWith explain None ends outcome text = text ≡ report_with ends outcome
+ShowsWith explain (Some token) ends outcome text = ShowsStatement explain token outcome text
+
+-- the text is the report, or the statement of this token, explained where that is asked for
+abbrev pub Shows : Bool → Option Token → OutcomeView → List ℕ → Type 0
+Shows explain token outcome text = ShowsWith explain token outcome.ends outcome text
+
+-- The text is what is asked for of an outcome, with these ends of uploads: the ledger of its books,
+-- or that of this token; else the report, or the statement of this token, explained where that is
+-- asked for.
+abbrev pub ShowsOf : Asked → Option Token → List UploadEnd → OutcomeView → List ℕ → Type 0
+ShowsOf asked token ends outcome text = MatchBool asked.ledger
+    (IsLedgerOf outcome.books token text) (ShowsWith asked.explain token ends outcome text)
+
+-- Where no token has taps in two of the files, the text is the report over the plain history of the
+-- files, or the statement of this token, explained where that is asked for. That is a function of
+-- the files and the table: no schedule, no number of workers and no number of shards has a part in
+-- it.
+abbrev pub ShowsPlain : Bool → Fares → List (List ℕ) → Option Token → List ℕ → Type 0
+ShowsPlain explain fares files token text =
+    (history : List Entry) (is : IsPlain fares files history) → AreApart is.taps
+    → ReportsOver explain token fares files history text
+
+-- the token that is asked for, if any, is that of these 32 hexadecimal digits
+abbrev pub IsTokenIn : Option (List ℕ) → Option Token → Type 0
+IsTokenIn None None = Unit {0}
+IsTokenIn (Some digits) (Some token) = decode_sized digits 16 ≡ Ok (bytes_of token)
+IsTokenIn _ _ = ⊥
+
+-- A service was run over the files as they are, and the text is what is asked for of its outcome.
+-- It is well where each upload was posted whole. A report or a statement that is well is then that
+-- of the plain history of the files, where no token has taps in two of them.
+pub record ShowsLive (asked : Asked) (fares : Fares) (files : List (List ℕ)) (token : Option Token)
+    (text : List ℕ) (well : Bool) : Type 0 where
+  pub outcome : OutcomeView
+  pub run : IsRun fares asked.shards asked.workers files outcome
+  pub shows : ShowsOf asked token outcome.ends outcome text
+  pub is_well : well ≡ are_posted outcome.ends
+  pub plain : asked.ledger ≡ false → well ≡ true
+      → ShowsPlain asked.explain fares files token text
+
+-- The text is what is asked for of the files. Settled, it is a function of the files and the table:
+-- no schedule and no number of workers has a part in it.
+abbrev pub ShowsAsked : Asked → Fares → List (List ℕ) → Option Token → List ℕ → Bool → Type 0
+ShowsAsked asked fares files token text well = MatchBool asked.settle
+    (ShowsSettled asked fares files token text well) (ShowsLive asked fares files token text well)
+
+-- Table and files were loaded, and their taps posted; what was appended to the writer is the
+-- report, the statement of the token that is asked for, or the ledger, whichever is asked for.
+pub record RunsService (asked : Asked) (told told' : Option (List Loaded))
+    (out out' : Option (List ℕ)) (well : Bool) : Type 0 where
+  pub fares : Fares
+  pub files : List (List ℕ)
+  pub loads : Loads asked.table asked.files told told' (Some fares) files
+  pub token : Option Token
+  pub is_token : IsTokenIn asked.token token
+  pub text : List ℕ
+  pub shows : ShowsAsked asked fares files token text well
+  pub written : Appends out out' text
+
+-- what is asked for was done
+abbrev pub Does : Asked → Option (List Loaded) → Option (List Loaded) → Option (List ℕ)
+    → Option (List ℕ) → Bool → Type 0
+Does asked told told' out out' well = MatchBool (lists asked)
+    (RunsListing asked.table asked.files told told' out out' well)
+    (RunsService asked told told' out out' well)
+
+-- The line was told, unless a write of it failed.
+abbrev pub Told : Option (List ℕ) → Option (List ℕ) → Bool → List ℕ → Type 0
+Told said said' failed line = failed ≡ false → Appends said said' (line ++ codes "\n")
+
+-- The program gave up: the fault's line was told, and nothing was written but where a write failed.
+pub record GaveUp (fault : Fault) (said said' : Option (List ℕ)) (failed : Bool)
+    (out out' : Option (List ℕ)) : Type 0 where
+  pub told : Told said said' failed (fault_text fault)
+  pub kept : fault ≢ Write → Keeps out out'

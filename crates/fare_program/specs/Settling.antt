@@ -1,0 +1,47 @@
+-- What a settled run prints.
+use Rattle.std.specs.Prelude.{◌≡◌, ℕ, Bool, List, Option, None, Some, MatchBool}
+use Rattle.fare_table.specs.Fares.{Fares}
+use Rattle.shard_book.specs.declared.entry.Entry.{Entry}
+use Rattle.shard_book.specs.declared.token.Token.{Token}
+use Rattle.fare_service.specs.Outcomes.{OutcomeView}
+use Rattle.fare_service.specs.Plain.{ArePlainEnds, IsReportOver, IsStatementOver}
+use Rattle.fare_service.specs.declared.upload_end.UploadEnd.{UploadEnd}
+use Rattle.ledger_texts.specs.Explained.{IsExplainedOver}
+use Rattle.ledger_texts.specs.Ledger.{IsLedgerOver}
+use Rattle.settlement.specs.Settled.{IsSettledHistory}
+use Rattle.settlement.specs.Told.{TellsSettled}
+use Rattle.fare_program.specs.Options.{Asked}
+use Rattle.fare_program.specs.Posted.{are_posted}
+
+-- the text is the report over this history of the files, or the statement of this token, explained
+-- where that is asked for
+abbrev pub ReportsOver : Bool → Option Token → Fares → List (List ℕ) → List Entry → List ℕ
+    → Type 0
+ReportsOver explain None fares files history text = IsReportOver files history text
+ReportsOver explain (Some token) fares files history text =
+    MatchBool explain (IsExplainedOver fares history token text)
+    (IsStatementOver fares history token text)
+
+-- The text is what is asked for of this history of the files: the ledger, or that of this token;
+-- else the report, or the statement of this token, explained where that is asked for.
+abbrev pub ShowsOver : Asked → Option Token → Fares → List (List ℕ) → List Entry → List ℕ → Type 0
+ShowsOver asked token fares files history text =
+    MatchBool asked.ledger (IsLedgerOver fares history token text)
+    (ReportsOver asked.explain token fares files history text)
+
+-- The files ended so, and the outcome tells their settled history.
+pub record IsOutcomeOf (fares : Fares) (files : List (List ℕ)) (ends : List UploadEnd)
+    (outcome : OutcomeView) : Type 0 where
+  pub ended : ArePlainEnds files ends
+  pub tells : TellsSettled fares files ends outcome
+
+-- The text shows what is asked for of the settled history of the files. It is well where each file
+-- ends posted whole.
+pub record ShowsSettled (asked : Asked) (fares : Fares) (files : List (List ℕ))
+    (token : Option Token) (text : List ℕ) (well : Bool) : Type 0 where
+  pub history : List Entry
+  pub is_settled : IsSettledHistory fares files history
+  pub shows : ShowsOver asked token fares files history text
+  pub ends : List UploadEnd
+  pub ended : ArePlainEnds files ends
+  pub is_well : well ≡ are_posted ends

@@ -1,0 +1,26 @@
+-- Fault: what private functions alone cite.
+use Rattle.std.specs.Prelude.{◌≡◌, ℕ, List, MatchOption}
+use Rattle.fare_table.specs.declared.fault.TableFault.{TableFault}
+use Rattle.fare_table.specs.declared.fault.TableFault.TheVariants as table
+use Rattle.fare_service.specs.declared.faults.GatherFault.TheVariants as gather
+use Rattle.fare_service.specs.declared.print_fault.PrintFault.TheVariants as print
+use Rattle.ledger_texts.specs.declared.fault.LedgerFault.TheVariants as ledger
+use Rattle.fare_program.specs.declared.load.LoadFault.{LoadFault}
+use Rattle.fare_program.specs.declared.load.LoadFault.TheVariants as load
+use Rattle.fare_program.specs.Fault.{load_text, mistake, status_of, table_text}
+use Rattle.fare_program.specs.Options.{Asked}
+use Rattle.fare_program.specs.declared.fault.Fault.{Fault}
+
+-- the line tells of a load under this name
+abbrev pub IsLoadLine : List ℕ → List ℕ → Type 0
+IsLoadLine name line = (fault : LoadFault) × (line ≡ load_text name fault)
+
+-- the line tells of a table's text
+abbrev pub IsTableLine : List ℕ → Type 0
+IsTableLine line = (fault : TableFault) × (line ≡ table_text fault)
+
+-- Why the program gives up: the first mistake in what is asked for, with its status, where there is
+-- one; else a fault with the other status.
+abbrev pub IsWhyOf : Asked → Fault → Type 0
+IsWhyOf asked fault = MatchOption (mistake asked) (status_of fault ≡ 1)
+    (λ first. (fault ≡ first) × (status_of fault ≡ 2))

@@ -1,0 +1,32 @@
+-- Posted files: what private functions alone cite.
+use Rattle.std.specs.Prelude.{◌≡◌, ℕ, Bool, true, List, Option, MatchBool}
+use Rattle.std.specs.Option.{option_map_or}
+use Rattle.fare_table.specs.Fares.{Fares}
+use Rattle.shard_book.specs.declared.token.Token.{Token}
+use Rattle.fare_service.specs.Outcomes.{OutcomeView}
+use Rattle.fare_service.specs.declared.upload_end.UploadEnd.{UploadEnd}
+use Rattle.fare_program.specs.Options.{Asked}
+use Rattle.fare_program.specs.Posted.{are_posted}
+use Rattle.fare_program.specs.Program.{IsRun, Shows, ShowsPlain}
+use Rattle.fare_program.specs.Settling.{IsOutcomeOf}
+use Rattle.fare_program.specs.declared.posting.Posted.{Posted}
+
+-- how the files ended: as is told of them, or as the outcome says
+abbrev pub ends_of : Posted → List UploadEnd
+ends_of posted = option_map_or (λ given. given.items) posted.given posted.outcome.ends
+
+-- The files were posted as they are, and ended so. If each was posted whole, what is shown of the
+-- outcome is shown over their plain history.
+pub record IsLive (fares : Fares) (shards workers : ℕ) (files : List (List ℕ))
+    (ends : List UploadEnd) (outcome : OutcomeView) : Type 0 where
+  pub run : IsRun fares shards workers files outcome
+  pub ended : ends ≡ outcome.ends
+  pub plain : (explain : Bool) (token : Option Token) (text : List ℕ)
+      → are_posted outcome.ends ≡ true → Shows explain token outcome text
+      → ShowsPlain explain fares files token text
+
+-- the files were posted, settled where that is asked for, and ended so
+abbrev pub IsPosted : Asked → Fares → List (List ℕ) → List UploadEnd → OutcomeView → Type 0
+IsPosted asked fares files ends outcome = MatchBool asked.settle
+    (IsOutcomeOf fares files ends outcome)
+    (IsLive fares asked.shards asked.workers files ends outcome)

@@ -1,0 +1,140 @@
+//! Files that are read before their turns, several at once.
+ghost use Rattle.std.specs.Prelude.{◌≡◌, ◌<◌, ◌≤◌, ◌++◌, ◌∷◌, [], IfNone, IfSome, length};
+ghost use Rattle.std.specs.Prelude.{string_bytes};
+ghost use Rattle.fare_program.specs.Ahead.{IsNotNext};
+
+use crate::load::LoadFault;
+use std::alloc::{AllocError, Global};
+use std::marker::Sync;
+use std::thread;
+use std::thread::Threads;
+
+/// Where files lie. Several threads may read there at once.
+pub trait Disk {
+    /// Whether the file of this name may be read before its turn.
+    fn may_be_early(&self, name: &str) -> bool;
+
+    /// All bytes of the file of this name.
+    fn read(&self, alloc: Global, name: &str) -> Result<Vec<u8>, LoadFault>;
+}
+
+/// What came of reading a file before its turn.
+#[derive(Drop)]
+pub struct Early {
+    /// The name of the file.
+    pub name: String,
+    /// Its bytes, or why it was not loaded.
+    pub loaded: Result<Vec<u8>, LoadFault>,
+}
+
+/// Takes the next file of the list, which stands last there, where it has this name.
+pub fn take_next(early: &mut Vec<Early>, name: &str) -> Option<Result<Vec<u8>, LoadFault>>
+    ensures taken { IfSome result (λ loaded. (next : Early)
+        × (early.old.items ≡ early.new.items ++ next ∷ []) × (string_bytes next.name ≡ name.now)
+        × (next.loaded ≡ loaded)) }
+    ensures kept { IfNone result ((early.new.items ≡ early.old.items)
+        × IsNotNext name.now early.old.items) }
+{
+    if early.last()?.name.as_str() != name {
+        return None;
+    }
+    let next = early.pop()?;
+    Some(next.loaded)
+}
+
+// How many files may be read before their turns. The first that may not keeps all behind it
+// waiting: they may be made while it is read.
+fn count_early<D: Disk>(disk: &D, names: &[&str]) -> usize
+    ensures { result ≤ length names.now }
+{
+    for (count, name) in names.iter().enumerate() {
+        if !disk.may_be_early(name) {
+            return count;
+        }
+    }
+    names.len()
+}
+
+// Keeps what came of a file, and says whether the next one is to be read too: a fault ends all
+// loading when its turn comes. Where memory was refused, nothing is kept, so that the file is read
+// when its turn comes.
+fn keep(
+    part: &mut Vec<Early>,
+    name: String,
+    loaded: Result<Vec<u8>, LoadFault>,
+) -> Result<bool, AllocError> {
+    if matches!(loaded, Err(LoadFault::NoMemory)) {
+        return Err(AllocError);
+    }
+    let is_whole = loaded.is_ok();
+    part.push(Early { name, loaded })?;
+    Ok(is_whole)
+}
+
+// Reads one more file, as `keep` tells.
+fn read_one<D: Disk>(
+    alloc: Global,
+    disk: &D,
+    part: &mut Vec<Early>,
+    name: &str,
+) -> Result<bool, AllocError> {
+    let loaded = disk.read(alloc, name);
+    keep(part, String::from_str(alloc, name)?, loaded)
+}
+
+// Reads these files, up to the first that is not whole.
+fn read_part<D: Disk>(alloc: Global, disk: &D, names: &[&str]) -> Vec<Early> {
+    let mut part = Vec::new(alloc);
+    for name in names {
+        if !read_one(alloc, disk, &mut part, name).unwrap_or(false) {
+            break;
+        }
+    }
+    part
+}
+
+// Reads these files by so many threads at most, each a part of them.
+fn read_parts<R: Threads + Sync, D: Disk + Sync>(
+    rt: &R,
+    alloc: Global,
+    disk: &D,
+    names: &[&str],
+    threads: usize,
+) -> Result<Vec<Early>, AllocError>
+    requires { 0 < threads }
+{
+    let size = names.len().div_ceil(threads).max(1);
+    let parts = thread::map_chunks(
+        rt,
+        alloc,
+        names,
+        size,
+        &|_, part: &[&str]| { read_part(alloc, disk, part) },
+    )?;
+    let mut early = Vec::new(alloc);
+    for mut part in parts {
+        early.append(&mut part)?;
+    }
+    early.reverse();
+    Ok(early)
+}
+
+/// Reads files before their turns, by so many threads at most, and gives what came of them, the
+/// first one last. One thread reads none: it would gain nothing. Where memory is refused, fewer are
+/// read or none; where a thread is, another reads its part.
+pub fn read_early<R: Threads + Sync, D: Disk + Sync>(
+    rt: &R,
+    alloc: Global,
+    disk: &D,
+    names: &[&str],
+    threads: usize,
+) -> Vec<Early> {
+    if threads < 2 {
+        return Vec::new(alloc);
+    }
+    let names = &names[..count_early(disk, names)];
+    match read_parts(rt, alloc, disk, names, threads) {
+        Ok(early) => early,
+        Err(_) => Vec::new(alloc),
+    }
+}

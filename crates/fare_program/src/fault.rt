@@ -1,0 +1,210 @@
+//! Why the program gives up, with the line that says so and the status.
+ghost use Rattle.std.specs.Prelude.{◌≡◌, ◌≢◌, Some};
+ghost use Rattle.fare_service.specs.declared.faults.GatherFault.{GatherFault};
+ghost use Rattle.fare_program.specs.Fault.{fault_text, gather_text, load_text, status_of};
+ghost use Rattle.fare_program.specs.Fault.{table_text};
+
+use crate::load::LoadFault;
+use fare_service::{GatherFault, OpenFault, PrintFault, RunFault};
+use fare_table::{NoMemory, TableFault};
+use ledger_texts::LedgerFault;
+use std::fmt;
+
+/// Why the program gives up. Its `Display` is the fault line without its line feed.
+#[derive(Clone, Copy, Debug)]
+pub enum Fault<'a> {
+    /// The token is not 32 hexadecimal digits.
+    Digits,
+    /// A statement is asked for without a fare table.
+    NoTable,
+    /// The taps are to be settled without a fare table.
+    SettleNoTable,
+    /// The taps are to be settled, and to be listed.
+    SettleList,
+    /// The ledger is asked for without a fare table.
+    LedgerNoTable,
+    /// The ledger is asked for, and a listing.
+    LedgerList,
+    /// An explained statement is asked for without a token.
+    ExplainNoToken,
+    /// An explained statement is asked for, and a listing.
+    ExplainList,
+    /// An explained statement is asked for, and the ledger.
+    ExplainLedger,
+    /// The file of this name could not be read.
+    Unread(&'a str),
+    /// The file of this name is longer than the limit.
+    TooLong(&'a str),
+    /// The fare table's text is no table.
+    Table(TableFault),
+    /// There are more uploads than a service takes.
+    Uploads,
+    /// What the workers did was not gathered.
+    Gather(GatherFault),
+    /// A write failed.
+    Write,
+    /// A growth of memory was refused.
+    NoMemory,
+}
+
+impl<'a> Fault<'a> {
+    /// Why the file of this name was not loaded.
+    pub fn of_load(name: &'a str, fault: LoadFault) -> Fault<'a>
+        ensures line { fault_text result ≡ load_text name.entry.now fault }
+        ensures status { status_of result ≡ 1 }
+    {
+        match fault {
+            LoadFault::Unread => Fault::Unread(name),
+            LoadFault::TooLong => Fault::TooLong(name),
+            LoadFault::NoMemory => Fault::NoMemory,
+        }
+    }
+
+    /// Why the service was not opened, with a number of shards that it takes.
+    pub fn of_open(fault: OpenFault) -> Fault<'a>
+        requires { fault ≢ OpenFault.Shards }
+        ensures uploads { fault ≡ OpenFault.Uploads → result ≡ Fault.Uploads }
+        ensures memory { fault ≡ OpenFault.NoMemory → result ≡ Fault.NoMemory }
+    {
+        match fault {
+            OpenFault::Shards => unreachable!(),
+            OpenFault::Uploads => Fault::Uploads,
+            OpenFault::NoMemory => Fault::NoMemory,
+        }
+    }
+
+    /// Why the service was not run, with a number of workers that it takes.
+    pub fn of_run(fault: RunFault) -> Fault<'a>
+        requires { fault ≢ RunFault.Workers }
+        ensures memory { fault ≡ RunFault.NoMemory → result ≡ Fault.NoMemory }
+        ensures gather { (why : GatherFault) → fault ≡ RunFault.Gather why
+            → result ≡ Fault.Gather why }
+    {
+        match fault {
+            RunFault::Workers => unreachable!(),
+            RunFault::NoMemory => Fault::NoMemory,
+            RunFault::Gather(fault) => Fault::Gather(fault),
+        }
+    }
+
+    /// The status with which the program ends.
+    pub fn status(&self) -> u8
+        ensures { result ≡ status_of self.now }
+    {
+        match self {
+            Fault::Digits | Fault::NoTable => 2,
+            Fault::SettleNoTable | Fault::SettleList => 2,
+            Fault::LedgerNoTable | Fault::LedgerList => 2,
+            Fault::ExplainNoToken | Fault::ExplainList | Fault::ExplainLedger => 2,
+            _ => 1,
+        }
+    }
+}
+
+impl From<NoMemory> for Fault<'_> {
+    ghost use Rattle.fare_program.specs.declared.fault.Fault.TheVariants.{NoMemory as ForMemory};
+
+    ghost from_gives = { λ _ fault. fault ≡ ForMemory };
+
+    fn from(_refused: NoMemory) -> Self {
+        Fault::NoMemory
+    }
+}
+
+impl From<TableFault> for Fault<'_> {
+    ghost from_gives = { λ refused fault.
+        (fault_text fault ≡ table_text refused) × (status_of fault ≡ 1) };
+
+    fn from(fault: TableFault) -> Self {
+        Fault::Table(fault)
+    }
+}
+
+impl From<PrintFault> for Fault<'_> {
+    ghost use Rattle.fare_program.specs.Fault.{printed_as};
+
+    ghost from_gives = { λ refused fault. fault ≡ printed_as refused };
+
+    fn from(fault: PrintFault) -> Self {
+        match fault {
+            PrintFault::Write => Fault::Write,
+            PrintFault::NoMemory => Fault::NoMemory,
+        }
+    }
+}
+
+impl From<LedgerFault> for Fault<'_> {
+    ghost use Rattle.fare_program.specs.Fault.{told_as};
+
+    ghost from_gives = { λ refused fault. fault ≡ told_as refused };
+
+    fn from(fault: LedgerFault) -> Self {
+        match fault {
+            LedgerFault::Write => Fault::Write,
+            LedgerFault::NoMemory => Fault::NoMemory,
+        }
+    }
+}
+
+// The line of a fault of the table.
+#[derive(Clone, Copy)]
+struct TableLine(TableFault);
+
+impl fmt::Display for TableLine {
+    ghost output = { λ line. Some (table_text line.0) };
+
+    fn fmt<W: fmt::Write>(&self, f: &mut fmt::Formatter<W>) -> fmt::Result {
+        match self.0 {
+            TableFault::Text => f.write_str("fault: table F1"),
+            TableFault::Missing { key } => write!(f, "fault: table F2 {}", key.name()),
+            TableFault::Kind { key } => write!(f, "fault: table F3 {}", key.name()),
+            TableFault::Range { key } => write!(f, "fault: table F4 {}", key.name()),
+            TableFault::Mode => f.write_str("fault: table F5"),
+            TableFault::Overlap => f.write_str("fault: table F6"),
+            TableFault::Rider => f.write_str("fault: table F7"),
+            TableFault::NoMemory => f.write_str("fault: out of memory"),
+            TableFault::Zone => f.write_str("fault: table F9"),
+        }
+    }
+}
+
+// The line of a run that was not gathered.
+#[derive(Clone, Copy)]
+struct GatherLine(GatherFault);
+
+impl fmt::Display for GatherLine {
+    ghost output = { λ line. Some (gather_text line.0) };
+
+    fn fmt<W: fmt::Write>(&self, f: &mut fmt::Formatter<W>) -> fmt::Result {
+        f.write_str(match self.0 {
+            GatherFault::Missing { .. } => "fault: run U3 G1",
+            GatherFault::Drawn { .. } => "fault: run U3 G4",
+            GatherFault::NoMemory => "fault: out of memory",
+        })
+    }
+}
+
+impl fmt::Display for Fault<'_> {
+    ghost output = { λ fault. Some (fault_text fault) };
+
+    fn fmt<W: fmt::Write>(&self, f: &mut fmt::Formatter<W>) -> fmt::Result {
+        match self {
+            Fault::Digits => f.write_str("fault: --token needs 32 hexadecimal digits"),
+            Fault::NoTable => f.write_str("fault: --token needs --table"),
+            Fault::SettleNoTable => f.write_str("fault: --settle needs --table"),
+            Fault::SettleList => f.write_str("fault: --settle cannot be used with --list"),
+            Fault::LedgerNoTable => f.write_str("fault: --ledger needs --table"),
+            Fault::LedgerList => f.write_str("fault: --ledger cannot be used with --list"),
+            Fault::ExplainNoToken => f.write_str("fault: --explain needs --token"),
+            Fault::ExplainList => f.write_str("fault: --explain cannot be used with --list"),
+            Fault::ExplainLedger => f.write_str("fault: --explain cannot be used with --ledger"),
+            Fault::Unread(name) => write!(f, "fault: cannot read {name}"),
+            Fault::TooLong(name) => write!(f, "fault: {name} is too long"),
+            Fault::Table(fault) => TableLine(*fault).fmt(f),
+            Fault::Uploads => f.write_str("fault: too many uploads"),
+            Fault::Gather(fault) => GatherLine(*fault).fmt(f),
+            Fault::Write => f.write_str("fault: cannot write"),
+            Fault::NoMemory => f.write_str("fault: out of memory"),
+        }
+    }
+}

@@ -1,0 +1,167 @@
+//! The word of each tap of a listing, from the taps before it.
+ghost use Rattle.std.specs.Prelude.{◌≡◌, ◌+◌, ◌^◌, ◌<◌, ℕ, List, [], ◌∷◌, ◌++◌, IfOk, OnOk, OnErr};
+ghost use Rattle.std.specs.Prelude.{◌&&◌, if◌then◌else◌};
+ghost use Rattle.std.specs.Str.{bytes_eq};
+ghost use Rattle.tap_views.specs.Layout.{num};
+ghost use Rattle.fare_program.specs.Listing.{Listed, StandsFor, counts_of, is_later};
+ghost use Rattle.fare_program.specs.inside.Listing.{Sums, counted};
+ghost use Rattle.fare_program.specs.Listing.{last_of, listed_of, word_of};
+ghost use Rattle.fare_program.specs.inside.Listing.{last_after, word_by};
+
+use fare_table::NoMemory;
+use std::alloc::Global;
+use std::collections::BTreeMap;
+use std::marker::Model;
+use tap_views::TapView;
+
+/// What a listing says of a tap.
+#[derive(Clone, Copy, Debug, PartialEq, Eq)]
+pub enum Word {
+    /// The validator is known, and the tap is later than every known tap of its token before it.
+    Live,
+    /// The validator is known, and a known tap of the token with this moment or a later one came
+    /// before.
+    Stale,
+    /// The validator is not known. The tap has no effect on later ones.
+    Unknown,
+}
+
+/// How many taps were listed, and how many with each word.
+#[derive(Clone, Copy, Debug, PartialEq, Eq)]
+pub struct ListCounts {
+    /// All taps; the other three add up to it.
+    pub taps: u128,
+    /// Those told as live.
+    pub live: u128,
+    /// Those told as stale.
+    pub stale: u128,
+    /// Those told as unknown.
+    pub unknown: u128,
+}
+
+impl ListCounts {
+    const NONE: ListCounts = ListCounts {
+        taps: 0,
+        live: 0,
+        stale: 0,
+        unknown: 0,
+    };
+
+    // Counts a tap with this word.
+    fn count(&mut self, word: Word)
+        requires sums { Sums self.old }
+        requires room { self.old.taps < 2 ^ 127 }
+        ensures { self.new ≡ counted word self.old }
+    {
+        self.taps += 1;
+        match word {
+            Word::Live => self.live += 1,
+            Word::Stale => self.stale += 1,
+            Word::Unknown => self.unknown += 1,
+        }
+    }
+}
+
+// Whether the moment is later than the last one of the token, if there is one.
+fn is_later(last: &BTreeMap<[u8; 16], u64>, token: &[u8; 16], moment: u64) -> bool
+    ensures { result ≡ is_later (last_of last.now.entries token.now) moment }
+{
+    match last.get(token) {
+        Some(latest) => *latest < moment,
+        None => true,
+    }
+}
+
+// Keeps the moment as the token's last one where it is later than that, and says whether it is.
+fn advance(
+    last: &mut BTreeMap<[u8; 16], u64>,
+    token: [u8; 16],
+    moment: u64,
+) -> Result<bool, NoMemory>
+    ensures live { IfOk result (λ live. live ≡ is_later (last_of last.old.entries token) moment) }
+    ensures last { IfOk result (λ live. (other : List ℕ) → last_of last.new.entries other
+        ≡ (if live && bytes_eq token other then Some moment else last_of last.old.entries other)) }
+    ensures err { OnErr result (last.new.entries ≡ last.old.entries) }
+{
+    let is_live = is_later(last, &token, moment);
+    if is_live {
+        last.insert(token, moment)?;
+    }
+    Ok(is_live)
+}
+
+// The word of a tap by the last moments, of which a live tap's becomes one.
+fn word_next(
+    last: &mut BTreeMap<[u8; 16], u64>,
+    tap: &TapView,
+    known: bool,
+) -> Result<Word, NoMemory>
+    ensures word { IfOk result (λ word. word
+        ≡ word_by last.old.entries (listed_of tap.now known)) }
+    ensures last { IfOk result (λ word. (other : List ℕ) → last_of last.new.entries other
+        ≡ last_after word tap.now.token (num tap.now.moment) last.old.entries other) }
+    ensures err { OnErr result (last.new.entries ≡ last.old.entries) }
+{
+    if !known {
+        return Ok(Word::Unknown);
+    }
+    let mut token = [0u8; 16];
+    token.copy_from_slice(tap.token());
+    let is_live = advance(last, token, tap.moment_ms())?;
+    Ok(if is_live { Word::Live } else { Word::Stale })
+}
+
+/// Gives each tap its word, from the taps that were listed before it.
+#[derive(Drop)]
+pub struct Listing {
+    // the moment of the last live tap of each token
+    last: BTreeMap<[u8; 16], u64>,
+    counts: ListCounts,
+}
+
+impl Model for Listing {
+    ghost use Rattle.fare_program.specs.Listing.{Kept};
+    ghost use Rattle.fare_program.specs.inside.Listing.{Sums};
+
+    ghost Value = { Kept };
+
+    ghost view = { λ l. record { last = l.last.entries; counts = l.counts } };
+
+    ghost invariant = { λ l. Sums l.counts };
+}
+
+impl Listing {
+    /// A listing of no taps.
+    pub fn new(alloc: Global) -> Listing
+        ensures { StandsFor result [] }
+    {
+        Listing {
+            last: BTreeMap::new(alloc),
+            counts: ListCounts::NONE,
+        }
+    }
+
+    /// Lists one more tap, `known` where its validator is, and says its word. A listing whose
+    /// memory was refused stays as it was.
+    pub fn add(&mut self, tap: &TapView, known: bool) -> Result<Word, NoMemory>
+        requires { self.old.counts.taps < 2 ^ 127 }
+        ensures word { IfOk result (λ word. (taps : List Listed) → StandsFor self.old taps
+            → word ≡ word_of taps (listed_of tap.now known)) }
+        ensures stands { OnOk result ((taps : List Listed) → StandsFor self.old taps
+            → StandsFor self.new (taps ++ listed_of tap.now known ∷ [])) }
+        ensures taps { OnOk result (self.new.counts.taps ≡ self.old.counts.taps + 1) }
+        ensures err { OnErr result (self.new ≡ self.old) }
+    {
+        let word = word_next(&mut self.last, tap, known)?;
+        self.counts.count(word);
+        Ok(word)
+    }
+
+    /// How many taps were listed, and how many with each word.
+    pub fn counts(&self) -> ListCounts
+        ensures kept { result ≡ self.now.counts }
+        ensures counts { (taps : List Listed) → StandsFor self.now taps → result ≡ counts_of taps }
+    {
+        self.counts
+    }
+}

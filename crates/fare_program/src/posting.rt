@@ -1,0 +1,181 @@
+//! Files that are posted, settled or not, and the text that is asked for of what came of it.
+ghost use Rattle.std.specs.Prelude.{◌≡◌, ◌≢◌, ℕ, List, IfErr, IfOk, OnOk, map};
+ghost use Rattle.std.specs.Io.KnownBytes.{Appends, Keeps};
+ghost use Rattle.fare_program.specs.Fault.{status_of};
+ghost use Rattle.fare_program.specs.Options.{asked_of};
+ghost use Rattle.fare_program.specs.Program.{ShowsAsked, ShowsOf, ShowsStatement, ShowsWith};
+ghost use Rattle.fare_program.specs.inside.PostedFiles.{IsPosted, ends_of};
+
+use crate::asked::Options;
+use crate::fault::Fault;
+use crate::output::flush;
+use crate::run::{are_posted, post_live};
+use crate::settle::post_settled;
+use fare_service::{Outcome, UploadEnd};
+use fare_table::FareTable;
+use ledger_texts::{write_explained, write_ledger};
+use shard_book::Token;
+use std::alloc::Global;
+use std::io::Write;
+use std::marker::Sync;
+use std::random::RandomSource;
+use std::sync::Wait;
+use std::thread::Threads;
+
+/// What came of posting files.
+#[derive(Drop)]
+pub struct Posted {
+    /// What the service came to.
+    pub outcome: Outcome,
+    /// How the files ended, where other files were posted in their place.
+    pub given: Option<Vec<UploadEnd>>,
+}
+
+impl Posted {
+    /// How each file ended.
+    pub fn ends(&self) -> &[UploadEnd]
+        ensures { result.now ≡ ends_of self.now }
+    {
+        match &self.given {
+            Some(given) => given.as_slice(),
+            None => self.outcome.ends(),
+        }
+    }
+}
+
+/// Posts the files, settled where that is asked for. Their bytes are given back.
+fn post<'a, R: Threads + Wait + RandomSource + Sync>(
+    rt: &R,
+    alloc: Global,
+    table: FareTable,
+    options: &Options<'a>,
+    files: Vec<Vec<u8>>,
+) -> Result<Posted, Fault<'a>>
+    ensures posted { IfOk result
+        (λ posted. IsPosted (asked_of options.now) table (map (λ f. f.items) files.items)
+        (ends_of posted) posted.outcome) }
+    ensures status { IfErr result (λ fault. status_of fault ≡ 1) }
+{
+    if options.settle {
+        post_settled(rt, alloc, table, options, files)
+    } else {
+        post_live(rt, alloc, table, options, files)
+    }
+}
+
+/// Prints the statement of the token, explained where that is asked for.
+fn print_statement<'a, W: Write>(
+    alloc: Global,
+    explain: bool,
+    outcome: &Outcome,
+    token: Token,
+    out: &mut W,
+) -> Result<(), Fault<'a>>
+    ensures ok { OnOk result ((text : List ℕ) × ShowsStatement explain token outcome.now text
+        × Appends (W.contents out.old) (W.contents out.new) text) }
+    ensures status { IfErr result (λ fault. status_of fault ≡ 1) }
+    ensures fault { IfErr result (λ fault. fault ≢ Fault.Write
+        → Keeps (W.contents out.old) (W.contents out.new)) }
+{
+    if explain {
+        write_explained(alloc, outcome.books(), token, out)?;
+    } else {
+        outcome.write_statement(alloc, &token, out)?;
+    }
+    Ok(())
+}
+
+/// Prints the report with these ends of uploads, or the statement of the token where one is asked
+/// for, explained where that is asked for.
+fn print<'a, R: Threads + Sync, W: Write>(
+    rt: &R,
+    alloc: Global,
+    explain: bool,
+    outcome: &Outcome,
+    ends: &[UploadEnd],
+    token: Option<Token>,
+    out: &mut W,
+) -> Result<(), Fault<'a>>
+    ensures ok { OnOk result ((text : List ℕ) × ShowsWith explain token ends.now outcome.now text
+        × Appends (W.contents out.old) (W.contents out.new) text) }
+    ensures status { IfErr result (λ fault. status_of fault ≡ 1) }
+    ensures fault { IfErr result (λ fault. fault ≢ Fault.Write
+        → Keeps (W.contents out.old) (W.contents out.new)) }
+{
+    match token {
+        None => outcome.write_report_with(rt, alloc, ends, out)?,
+        Some(token) => print_statement(alloc, explain, outcome, token, out)?,
+    }
+    Ok(())
+}
+
+/// Prints what is asked for: the ledger, or that of the token; else the report with these ends of
+/// uploads, or the statement of the token, explained where that is asked for.
+fn print_asked<'a, R: Threads + Sync, W: Write>(
+    rt: &R,
+    alloc: Global,
+    options: &Options<'a>,
+    outcome: &Outcome,
+    ends: &[UploadEnd],
+    token: Option<Token>,
+    out: &mut W,
+) -> Result<(), Fault<'a>>
+    ensures ok { OnOk result ((text : List ℕ)
+        × ShowsOf (asked_of options.now) token ends.now outcome.now text
+        × Appends (W.contents out.old) (W.contents out.new) text) }
+    ensures status { IfErr result (λ fault. status_of fault ≡ 1) }
+    ensures fault { IfErr result (λ fault. fault ≢ Fault.Write
+        → Keeps (W.contents out.old) (W.contents out.new)) }
+{
+    if options.ledger {
+        write_ledger(alloc, outcome.books(), token, out)?;
+    } else {
+        print(rt, alloc, options.explain, outcome, ends, token, out)?;
+    }
+    Ok(())
+}
+
+/// Writes what is asked for, through to where the writer brings it.
+fn write_asked<'a, R: Threads + Sync, W: Write>(
+    rt: &R,
+    alloc: Global,
+    options: &Options<'a>,
+    outcome: &Outcome,
+    ends: &[UploadEnd],
+    token: Option<Token>,
+    out: &mut W,
+) -> Result<(), Fault<'a>>
+    ensures ok { OnOk result ((text : List ℕ)
+        × ShowsOf (asked_of options.now) token ends.now outcome.now text
+        × Appends (W.contents out.old) (W.contents out.new) text) }
+    ensures status { IfErr result (λ fault. status_of fault ≡ 1) }
+    ensures fault { IfErr result (λ fault. fault ≢ Fault.Write
+        → Keeps (W.contents out.old) (W.contents out.new)) }
+{
+    print_asked(rt, alloc, options, outcome, ends, token, out)?;
+    flush(out)
+}
+
+/// Posts the files, settled where that is asked for, and writes what is asked for. Says whether
+/// each file was posted whole.
+pub fn charge<'a, R: Threads + Wait + RandomSource + Sync, W: Write>(
+    rt: &R,
+    alloc: Global,
+    options: &Options<'a>,
+    table: FareTable,
+    token: Option<Token>,
+    files: Vec<Vec<u8>>,
+    out: &mut W,
+) -> Result<bool, Fault<'a>>
+    ensures ok { IfOk result (λ well. (text : List ℕ)
+        × ShowsAsked (asked_of options.now) table (map (λ f. f.items) files.items) token text well
+        × Appends (W.contents out.old) (W.contents out.new) text) }
+    ensures status { IfErr result (λ fault. status_of fault ≡ 1) }
+    ensures fault { IfErr result (λ fault. fault ≢ Fault.Write
+        → Keeps (W.contents out.old) (W.contents out.new)) }
+{
+    let posted = post(rt, alloc, table, options, files)?;
+    let ends = posted.ends();
+    write_asked(rt, alloc, options, &posted.outcome, ends, token, out)?;
+    Ok(are_posted(ends))
+}

@@ -1,0 +1,428 @@
+//! The whole program, over any source of bytes and any two writers.
+ghost use Rattle.std.specs.Prelude.{MatchOption, codes, ◌≡◌, ◌≢◌, ◌≤◌, ◌⊎◌, ◌++◌, ◌∷◌, [], ℕ};
+ghost use Rattle.std.specs.Prelude.{List, true, false, None, Some, IfErr, IfOk, OnOk};
+ghost use Rattle.std.specs.Prelude.{is_some, map, option_map, string_bytes};
+ghost use Rattle.clap.specs.Words.{kind_of};
+ghost use Rattle.std.specs.Io.KnownBytes.{Appends, Keeps};
+ghost use Rattle.std.specs.IoError.{error_kind};
+ghost use Rattle.fare_program.specs.Fault.{explain_fault, fault_text, ledger_fault, mistake};
+ghost use Rattle.fare_program.specs.Fault.{settle_fault};
+ghost use Rattle.fare_program.specs.Fault.{status_of, token_fault};
+ghost use Rattle.fare_program.specs.inside.Fault.{IsLoadLine, IsTableLine, IsWhyOf};
+ghost use Rattle.fare_program.specs.Options.{AsksForHelp, Parses, asked_by, asked_of};
+ghost use Rattle.fare_program.specs.Program.{Does, GaveUp, IsTokenIn, Loads, LoadsFiles};
+ghost use Rattle.fare_program.specs.Program.{LoadsTable, Told, wanted};
+ghost use Rattle.fare_program.specs.Source.{TellsOne};
+ghost use Rattle.fare_program.specs.Uploads.{IsListing};
+
+use crate::ahead::{Disk, read_early};
+use crate::asked::Options;
+use crate::complaints::Complaints;
+use crate::fault::Fault;
+use crate::load::Source;
+use crate::output::{flush, write_text};
+use crate::posting::charge;
+use crate::uploads::listing_text;
+use clap::Error;
+use clap::error::ErrorKind;
+use fare_table::{FareTable, NoMemory};
+use hex::FromHex;
+use shard_book::Token;
+use std::alloc::Global;
+use std::io;
+use std::io::{ErrorKind as ReadKind, Write};
+use std::marker::Sync;
+use std::random::RandomSource;
+use std::sync::Wait;
+use std::thread::Threads;
+
+/// What standard input is called in a fault line.
+const STANDARD_INPUT: &str = "standard input";
+
+/// How many threads read files at once, or as many as there are workers where these are more. What
+/// is loaded does not depend on it.
+const READERS: u32 = 4;
+
+// All bytes of the file of this name.
+fn load_named<'a, S: Source>(source: &mut S, name: &'a str) -> Result<Vec<u8>, Fault<'a>>
+    ensures ok { IfOk result (λ bytes. TellsOne (S.loaded source.old) (S.loaded source.new)
+        (Some name.entry.now) bytes.items) }
+    ensures fault { IfErr result (λ fault. IsLoadLine name.entry.now (fault_text fault)) }
+    ensures status { IfErr result (λ fault. status_of fault ≡ 1) }
+{
+    match source.load(name) {
+        Ok(bytes) => Ok(bytes),
+        Err(fault) => Err(Fault::of_load(name, fault)),
+    }
+}
+
+// All bytes of standard input.
+fn load_input<'a, S: Source>(source: &mut S) -> Result<Vec<u8>, Fault<'a>>
+    ensures ok { IfOk result (λ bytes. TellsOne (S.loaded source.old) (S.loaded source.new)
+        None bytes.items) }
+    ensures fault { IfErr result (λ fault. IsLoadLine (codes "standard input") (fault_text fault)) }
+    ensures status { IfErr result (λ fault. status_of fault ≡ 1) }
+{
+    match source.input() {
+        Ok(bytes) => Ok(bytes),
+        Err(fault) => Err(Fault::of_load(STANDARD_INPUT, fault)),
+    }
+}
+
+// The table of this name, read, where one is named.
+fn load_table<'a, S: Source>(
+    alloc: Global,
+    name: Option<&'a str>,
+    source: &mut S,
+) -> Result<Option<FareTable>, Fault<'a>>
+    ensures ok { IfOk result (λ table. LoadsTable (option_map (λ n. n.now) name.entry)
+        (S.loaded source.old) (S.loaded source.new) table) }
+    ensures fault { IfErr result (λ fault. MatchOption name.entry ⊥ (λ n.
+        IsLoadLine n.now (fault_text fault) ⊎ IsTableLine (fault_text fault))) }
+    ensures status { IfErr result (λ fault. status_of fault ≡ 1) }
+{
+    let Some(name) = name else {
+        return Ok(None);
+    };
+    let text = load_named(source, name)?;
+    let table = FareTable::read(alloc, &text)?;
+    Ok(Some(table))
+}
+
+// The files of these names, in their order, or standard input where there is none. Several files
+// may be read at once.
+fn load_files<'a, R: Threads + Sync, D: Disk + Sync, S: Source>(
+    rt: &R,
+    alloc: Global,
+    disk: &D,
+    names: &[&'a str],
+    workers: u32,
+    source: &mut S,
+) -> Result<Vec<Vec<u8>>, Fault<'a>>
+    ensures ok { IfOk result (λ files. LoadsFiles (wanted (map (λ n. n.now) names.now))
+        (S.loaded source.old) (S.loaded source.new) (map (λ f. f.items) files.items)) }
+    ensures status { IfErr result (λ fault. status_of fault ≡ 1) }
+{
+    let mut files = Vec::new(alloc);
+    if names.is_empty() {
+        let bytes = load_input(source)?;
+        push(&mut files, bytes)?;
+        return Ok(files);
+    }
+    let early = read_early(rt, alloc, disk, names, workers.max(READERS) as usize);
+    source.keep_early(early);
+    for name in names {
+        let bytes = load_named(source, name)?;
+        push(&mut files, bytes)?;
+    }
+    Ok(files)
+}
+
+fn push(files: &mut Vec<Vec<u8>>, bytes: Vec<u8>) -> Result<(), NoMemory>
+    ensures { OnOk result (files.new.items ≡ files.old.items ++ bytes ∷ []) }
+{
+    files.push(bytes)?;
+    Ok(())
+}
+
+// Table and files, the table first.
+fn load<'a, R: Threads + Sync, D: Disk + Sync, S: Source>(
+    rt: &R,
+    alloc: Global,
+    disk: &D,
+    options: &Options<'a>,
+    source: &mut S,
+) -> Result<(Option<FareTable>, Vec<Vec<u8>>), Fault<'a>>
+    ensures loads { IfOk result
+        (λ loaded. Loads (asked_of options.now).table (asked_of options.now).files
+        (S.loaded source.old) (S.loaded source.new) loaded.0 (map (λ f. f.items) loaded.1.items)) }
+    ensures status { IfErr result (λ fault. status_of fault ≡ 1) }
+{
+    let table = load_table(alloc, options.table, source)?;
+    let files = load_files(rt, alloc, disk, &options.files, options.workers, source)?;
+    Ok((table, files))
+}
+
+// The token whose statement is asked for, if any: 32 hexadecimal digits, and a table to charge by.
+fn token_of<'a>(options: &Options<'a>) -> Result<Option<Token>, Fault<'a>>
+    ensures token { IfOk result (IsTokenIn (asked_of options.now).token) }
+    ensures right { OnOk result (token_fault (asked_of options.now) ≡ None) }
+    ensures fault { IfErr result (λ fault. token_fault (asked_of options.now) ≡ Some fault) }
+    ensures status { IfErr result (λ fault. status_of fault ≡ 2) }
+{
+    let Some(digits) = options.token else {
+        return Ok(None);
+    };
+    let Ok(token) = <[u8; 16] as FromHex>::from_hex(digits) else {
+        return Err(Fault::Digits);
+    };
+    if options.table.is_none() {
+        return Err(Fault::NoTable);
+    }
+    Ok(Some(Token::of(&token)))
+}
+
+// Looks whether the taps may be settled, where that is asked for: there is a table to charge by,
+// and they are not to be listed.
+fn check_settling<'a>(options: &Options<'a>) -> Result<(), Fault<'a>>
+    ensures right { OnOk result (settle_fault (asked_of options.now) ≡ None) }
+    ensures fault { IfErr result (λ fault. settle_fault (asked_of options.now) ≡ Some fault) }
+    ensures status { IfErr result (λ fault. status_of fault ≡ 2) }
+{
+    if !options.settle {
+        return Ok(());
+    }
+    if options.table.is_none() {
+        return Err(Fault::SettleNoTable);
+    }
+    if options.list {
+        return Err(Fault::SettleList);
+    }
+    Ok(())
+}
+
+// Looks whether the ledger may be printed, where that is asked for: there is a table to charge by,
+// and the taps are not to be listed.
+fn check_ledger<'a>(options: &Options<'a>) -> Result<(), Fault<'a>>
+    ensures right { OnOk result (ledger_fault (asked_of options.now) ≡ None) }
+    ensures fault { IfErr result (λ fault. ledger_fault (asked_of options.now) ≡ Some fault) }
+    ensures status { IfErr result (λ fault. status_of fault ≡ 2) }
+{
+    if !options.ledger {
+        return Ok(());
+    }
+    if options.table.is_none() {
+        return Err(Fault::LedgerNoTable);
+    }
+    if options.list {
+        return Err(Fault::LedgerList);
+    }
+    Ok(())
+}
+
+// Looks whether the statement may be explained, where that is asked for: there is a token, and
+// neither a listing nor the ledger is asked for.
+fn check_explain<'a>(options: &Options<'a>) -> Result<(), Fault<'a>>
+    ensures right { OnOk result (explain_fault (asked_of options.now) ≡ None) }
+    ensures fault { IfErr result (λ fault. explain_fault (asked_of options.now) ≡ Some fault) }
+    ensures status { IfErr result (λ fault. status_of fault ≡ 2) }
+{
+    if !options.explain {
+        return Ok(());
+    }
+    if options.token.is_none() {
+        return Err(Fault::ExplainNoToken);
+    }
+    if options.list {
+        return Err(Fault::ExplainList);
+    }
+    if options.ledger {
+        return Err(Fault::ExplainLedger);
+    }
+    Ok(())
+}
+
+// Looks for a mistake in what is asked for, and gives the token whose statement is, if any.
+fn checked<'a>(options: &Options<'a>) -> Result<Option<Token>, Fault<'a>>
+    ensures token { IfOk result (IsTokenIn (asked_of options.now).token) }
+    ensures right { OnOk result (mistake (asked_of options.now) ≡ None) }
+    ensures fault { IfErr result (λ fault. mistake (asked_of options.now) ≡ Some fault) }
+    ensures status { IfErr result (λ fault. status_of fault ≡ 2) }
+{
+    let token = token_of(options)?;
+    check_settling(options)?;
+    check_ledger(options)?;
+    check_explain(options)?;
+    Ok(token)
+}
+
+// Lists the files, and says whether none of them has a layout fault. The whole text is made before
+// it is written.
+fn list<'a, W: Write>(
+    alloc: Global,
+    table: Option<FareTable>,
+    files: &[Vec<u8>],
+    out: &mut W,
+) -> Result<bool, Fault<'a>>
+    ensures ok { IfOk result (λ clean. (text : List ℕ)
+        × IsListing table (map (λ f. f.items) files.now) text clean
+        × Appends (W.contents out.old) (W.contents out.new) text) }
+    ensures fault { IfErr result (λ fault. fault ≢ Fault.Write
+        → Keeps (W.contents out.old) (W.contents out.new)) }
+    ensures status { IfErr result (λ fault. status_of fault ≡ 1) }
+{
+    let (text, clean) = listing_text(alloc, table.as_ref(), files)?;
+    write_text(out, text.as_str())?;
+    Ok(clean)
+}
+
+// Does what is asked for, and says whether each upload was listed without a layout fault, or posted
+// whole. The token is looked at first, then settling, then the table is loaded, then the files, and
+// all memory is taken before the first byte is written.
+fn work<'a, R: Threads + Wait + RandomSource + Sync, D: Disk + Sync, S: Source, W: Write>(
+    rt: &R,
+    alloc: Global,
+    disk: &D,
+    options: &Options<'a>,
+    source: &mut S,
+    out: &mut W,
+) -> Result<bool, Fault<'a>>
+    ensures ok { IfOk result (λ well.
+        Does (asked_of options.now) (S.loaded source.old) (S.loaded source.new) (W.contents out.old)
+        (W.contents out.new) well) }
+    ensures right { OnOk result (mistake (asked_of options.now) ≡ None) }
+
+    // Only a write that fails leaves something of a text behind.
+    ensures fault { IfErr result (λ fault. fault ≢ Fault.Write
+        → Keeps (W.contents out.old) (W.contents out.new)) }
+
+    // A mistake in what is asked for is seen before all else, and then nothing was loaded. Another
+    // fault has the other status.
+    ensures why { IfErr result (IsWhyOf (asked_of options.now)) }
+    ensures unloaded { IfErr result (λ fault. status_of fault ≡ 2
+        → S.loaded source.new ≡ S.loaded source.old) }
+{
+    let token = checked(options)?;
+    let (table, files) = load(rt, alloc, disk, options, source)?;
+    match table {
+        Some(table) if !options.list => charge(rt, alloc, options, table, token, files, out),
+        table => list(alloc, table, &files, out),
+    }
+}
+
+// Says why the program gives up, where that can be written, and gives the status.
+fn tell<E: Write>(err: &mut Complaints<E>, fault: &Fault) -> u8
+    ensures status { result ≡ status_of fault.now }
+    ensures line { Told (E.contents err.old.writer) (E.contents err.new.writer) err.new.failed
+        (fault_text fault.now) }
+{
+    err.tell_line(*fault);
+    fault.status()
+}
+
+// Prints clap's help, through to where the writer brings it.
+fn show_help<'a, W: Write>(error: &Error, out: &mut W) -> Result<(), Fault<'a>>
+    ensures { IfErr result (λ fault. fault ≡ Fault.Write) }
+{
+    if write!(out, "{error}").is_err() {
+        return Err(Fault::Write);
+    }
+    flush(out)
+}
+
+// Shows what clap answers when there is nothing to run: help on `out`, else the mistake on `err`.
+fn show<W: Write, E: Write>(error: &Error, out: &mut W, err: &mut Complaints<E>) -> u8
+    ensures help { result ≡ 0 → kind_of error.now ≡ ErrorKind.DisplayHelp }
+    ensures memory { kind_of error.now ≡ ErrorKind.OutOfMemory → result ≡ 1 }
+    ensures refused { kind_of error.now ≡ ErrorKind.OutOfMemory
+        → GaveUp Fault.NoMemory (E.contents err.old.writer) (E.contents err.new.writer)
+        err.new.failed (W.contents out.old) (W.contents out.new) }
+    ensures words { kind_of error.now ≢ ErrorKind.DisplayHelp
+        → kind_of error.now ≢ ErrorKind.OutOfMemory → result ≡ 2 }
+    ensures mistake { result ≡ 2 → Keeps (W.contents out.old) (W.contents out.new) }
+    ensures quiet { result ≡ 0 → err.new ≡ err.old }
+    ensures fault { result ≡ 1 → (fault : Fault) × (status_of fault ≡ 1)
+        × GaveUp fault (E.contents err.old.writer) (E.contents err.new.writer) err.new.failed
+        (W.contents out.old) (W.contents out.new) }
+    ensures status { result ≤ 2 }
+{
+    match error.kind() {
+        ErrorKind::OutOfMemory => tell(err, &Fault::NoMemory),
+        ErrorKind::DisplayHelp => match show_help(error, out) {
+            Ok(()) => 0,
+            Err(unwritten) => tell(err, &unwritten),
+        },
+        _ => {
+            err.tell(error);
+            2
+        }
+    }
+}
+
+/// The whole program: reads the words, of which the first is the program's name, loads what they
+/// name from the source, where several workers may read files from the disk before their turns,
+/// does what they ask for, and writes its text to `out`, and mistakes and faults to `err`. Gives
+/// the status: 0 where all is well, 1 after a fault, or a text that tells of one, 2 where the words
+/// are no command line.
+pub fn main_over<
+    R: Threads + Wait + RandomSource + Sync,
+    D: Disk + Sync,
+    S: Source,
+    W: Write,
+    E: Write,
+>(
+    rt: &R,
+    alloc: Global,
+    words: &[String],
+    disk: &D,
+    source: &mut S,
+    out: &mut W,
+    err: &mut Complaints<E>,
+) -> u8
+    // With status 0 the whole text was written, and each upload is well.
+    ensures done { Parses (map string_bytes words.now) → result ≡ 0
+        → Does (asked_by (map string_bytes words.now)) (S.loaded source.old) (S.loaded source.new)
+        (W.contents out.old) (W.contents out.new) true }
+
+    // Words that are no command line end well only where they ask for help.
+    ensures helped { ¬ Parses (map string_bytes words.now) → result ≡ 0
+        → AsksForHelp (map string_bytes words.now) }
+
+    // The first mistake in what is asked for is told, with status 2. Only want of memory, where the
+    // words are read, may come before it.
+    ensures mistaken { (first : Fault) → Parses (map string_bytes words.now)
+        → mistake (asked_by (map string_bytes words.now)) ≡ Some first
+        → ((result ≡ 2) × GaveUp first (E.contents err.old.writer) (E.contents err.new.writer)
+        err.new.failed (W.contents out.old) (W.contents out.new))
+        ⊎ ((result ≡ 1) × GaveUp Fault.NoMemory (E.contents err.old.writer)
+        (E.contents err.new.writer) err.new.failed (W.contents out.old) (W.contents out.new)) }
+
+    // Only such a mistake, or words that are no command line, have status 2.
+    ensures right { result ≡ 2 → (¬ Parses (map string_bytes words.now))
+        ⊎ (is_some (mistake (asked_by (map string_bytes words.now))) ≡ true) }
+
+    // With status 1 the whole text was written, and tells of an upload that is not well; or a fault
+    // was told, and nothing was written but where a write failed.
+    ensures faults { result ≡ 1
+        → (Parses (map string_bytes words.now)
+        × Does (asked_by (map string_bytes words.now)) (S.loaded source.old) (S.loaded source.new)
+        (W.contents out.old) (W.contents out.new) false)
+        ⊎ ((fault : Fault) × (status_of fault ≡ 1)
+        × GaveUp fault (E.contents err.old.writer) (E.contents err.new.writer) err.new.failed
+        (W.contents out.old) (W.contents out.new)) }
+
+    // Nothing is said on `err` where all is well.
+    ensures quiet { result ≡ 0 → err.new ≡ err.old }
+
+    // A mistake in the words loads nothing and writes nothing to `out`.
+    ensures unloaded { result ≡ 2 → S.loaded source.new ≡ S.loaded source.old }
+    ensures unwritten { result ≡ 2 → Keeps (W.contents out.old) (W.contents out.new) }
+    ensures status { result ≤ 2 }
+{
+    let options = match Options::read(alloc, words) {
+        Ok(options) => options,
+        Err(error) => return show(&error, out, err),
+    };
+    match work(rt, alloc, disk, &options, source, out) {
+        Ok(true) => 0,
+        Ok(false) => 1,
+        Err(fault) => tell(err, &fault),
+    }
+}
+
+/// Says why the words could not be had, and gives the status: 1 for want of memory, and 2 for a
+/// word that is not UTF-8.
+pub fn unread_words<E: Write>(error: &io::Error, err: &mut Complaints<E>) -> u8
+    ensures memory { error_kind error.now ≡ ReadKind.OutOfMemory → (result ≡ 1)
+        × Told (E.contents err.old.writer) (E.contents err.new.writer) err.new.failed
+        (fault_text Fault.NoMemory) }
+    ensures word { error_kind error.now ≢ ReadKind.OutOfMemory → (result ≡ 2)
+        × Told (E.contents err.old.writer) (E.contents err.new.writer) err.new.failed
+        (codes "error: an argument is not UTF-8") }
+{
+    if error.kind() == ReadKind::OutOfMemory {
+        return tell(err, &Fault::NoMemory);
+    }
+    err.tell_line("error: an argument is not UTF-8");
+    2
+}

@@ -1,0 +1,108 @@
+//! A run of the service over loaded uploads.
+ghost use Rattle.std.specs.Prelude.{◌≡◌, ℕ, Bool, true, List, Option, IfErr, IfOk, length, map};
+ghost use Rattle.fare_table.specs.Fares.{Fares};
+ghost use Rattle.shard_book.specs.declared.token.Token.{Token};
+ghost use Rattle.fare_program.specs.Fault.{IsRunFailure, status_of};
+ghost use Rattle.fare_program.specs.Posted.{are_posted, is_posted};
+ghost use Rattle.fare_program.specs.Program.{IsRun, Shows, ShowsPlain};
+ghost use Rattle.fare_program.specs.inside.PostedFiles.{IsLive, ends_of};
+
+use crate::asked::Options;
+use crate::fault::Fault;
+use crate::posting::Posted;
+use fare_service::{Gate, Outcome, Service, UploadEnd, laws};
+use fare_table::FareTable;
+use std::alloc::Global;
+use std::marker::Sync;
+use std::random::RandomSource;
+use std::sync::Wait;
+use std::thread::Threads;
+
+// A gate that keeps nobody waiting.
+#[derive(Drop)]
+struct Open;
+
+impl Gate for Open {
+    type Begun = u32;
+
+    ghost begins = { λ begun. begun };
+
+    fn before(&self, upload: u32) -> u32 {
+        upload
+    }
+
+    fn after(&self, _: u32) {}
+}
+
+/// What the service comes to over these uploads, by this table.
+pub fn outcome_of<'a, R: Threads + Wait + RandomSource + Sync>(
+    rt: &R,
+    alloc: Global,
+    table: FareTable,
+    options: &Options<'a>,
+    files: &[Vec<u8>],
+) -> Result<Outcome, Fault<'a>>
+    ensures run { IfOk result (λ outcome. IsRun table options.now.shards options.now.workers
+        (map (λ f. f.items) files.now) outcome) }
+    ensures fault { IfErr result (IsRunFailure (length files.now)) }
+{
+    let (service, share) = match Service::open(rt, alloc, table, options.shards, files) {
+        Ok(opened) => opened,
+        Err(fault) => return Err(Fault::of_open(fault)),
+    };
+    match service.run(rt, alloc, share, options.workers, &Open) {
+        Ok(outcome) => Ok(outcome),
+        Err(fault) => Err(Fault::of_run(fault)),
+    }
+}
+
+// The law that where no token has taps in two files, what is shown of an outcome is shown over the
+// plain history of the files. Reads no tap and no entry.
+fn shows_plain(files: &[Vec<u8>], outcome: &Outcome)
+    ensures { (fares : Fares) (shards workers : ℕ) (explain : Bool) (token : Option Token)
+        (text : List ℕ) → IsRun fares shards workers (map (λ f. f.items) files.now) outcome.now
+        → are_posted outcome.now.ends ≡ true → Shows explain token outcome.now text
+        → ShowsPlain explain fares (map (λ f. f.items) files.now) token text }
+{
+    let _ = outcome.shards();
+    laws::names(outcome);
+    laws::cuts(files);
+    laws::report(files, outcome);
+    laws::statements(files, outcome);
+}
+
+/// Posts the files as they are.
+pub fn post_live<'a, R: Threads + Wait + RandomSource + Sync>(
+    rt: &R,
+    alloc: Global,
+    table: FareTable,
+    options: &Options<'a>,
+    files: Vec<Vec<u8>>,
+) -> Result<Posted, Fault<'a>>
+    ensures live { IfOk result
+        (λ posted. IsLive table options.now.shards options.now.workers
+        (map (λ f. f.items) files.items) (ends_of posted) posted.outcome) }
+    ensures status { IfErr result (λ fault. status_of fault ≡ 1) }
+{
+    let uploads = files.as_slice();
+    let outcome = outcome_of(rt, alloc, table, options, uploads)?;
+    // proof: where no token has taps in two files, what is shown does not depend on the schedule
+    shows_plain(uploads, &outcome);
+    Ok(Posted {
+        outcome,
+        given: None,
+    })
+}
+
+fn is_posted(end: UploadEnd) -> bool
+    ensures { result ≡ is_posted end }
+{
+    matches!(end, UploadEnd::Posted { .. })
+}
+
+/// Whether each upload was posted whole.
+pub fn are_posted(ends: &[UploadEnd]) -> bool
+    ensures { result ≡ are_posted ends.now }
+{
+    ends.iter().all(|end| is_posted(*end))
+}

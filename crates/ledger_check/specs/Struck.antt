@@ -1,0 +1,42 @@
+-- The taps of a ledger, struck out of a balance.
+use Rattle.std.specs.Prelude.{◌≡◌, ℕ, false, List, [], ◌∷◌, map, Option, None, Some}
+use Rattle.tap_balance.specs.Balances.{IsBalance}
+use Rattle.tap_balance.specs.declared.balance.Balance.{Balance}
+use Rattle.tap_views.specs.declared.encoder.TapFields.{TapFields}
+use Rattle.fare_table.specs.Fares.{Fares}
+use Rattle.shard_book.specs.Token.{bytes_of}
+use Rattle.shard_book.specs.declared.entry.Entry.{Entry}
+use Rattle.ledger_check.specs.Ledger.{AreNext}
+use Rattle.ledger_check.specs.Verdicts.{HasFed, is_legal}
+use Rattle.ledger_check.specs.declared.checker.Checker.{Checker}
+use Rattle.ledger_check.specs.declared.checker.Verdict.{Verdict}
+
+-- the tap of an entry, as an upload has it
+abbrev pub posted_tap : Entry → TapFields
+posted_tap entry =
+    record { token = bytes_of entry.token; validator = entry.validator; moment = entry.moment }
+
+-- whatever ledger begins with these lines, the head line first, these are the taps of their entries
+abbrev pub AreTapsOf : Fares → List (List ℕ) → List TapFields → Type 0
+AreTapsOf fares [] taps = taps ≡ []
+AreTapsOf fares (head ∷ lines) taps =
+    (entries : List Entry) → AreNext fares [] entries lines → map posted_tap entries ≡ taps
+
+-- the taps of these lines were struck out, of those that were posted
+pub record AreStruck (fares : Fares) (lines : List (List ℕ)) (balance : Balance)
+    (posted : List TapFields) : Type 0 where
+  pub taps : List TapFields
+  pub told : AreTapsOf fares lines taps
+  pub is : IsBalance balance posted taps
+
+-- the checker has read this text and found no wrong line, and the taps of the whole lines were
+-- struck out
+pub record HasStruck (fares : Fares) (checker : Checker) (balance : Balance) (text : List ℕ)
+    (posted : List TapFields) : Type 0 where
+  pub fed : HasFed fares checker text
+  pub struck : AreStruck fares fed.lines balance posted
+
+-- nothing is told, and this holds; or what is told is not `legal`
+abbrev pub IfUntold : Option Verdict → Type 0 → Type 0
+IfUntold None holds = holds
+IfUntold (Some verdict) holds = is_legal verdict ≡ false

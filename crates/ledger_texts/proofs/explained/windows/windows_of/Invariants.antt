@@ -1,0 +1,14 @@
+use Rattle.std.proofs.Common.{◌≡◌, map, take}
+use Rattle.account_rule.specs.Rules.{rules_of}
+use Rattle.account_rule.specs.Stands.{Stands}
+use Rattle.shard_book.specs.Entry.{tap_of}
+use Rattle.shard_book.specs.Token.{bytes_of}
+use Rattle.ledger_texts.specs.Explained.{earlier_windows}
+use Rattle.ledger_texts.proofs.explained.windows.windows_of.Given as goal
+
+-- the account stands for the entries so far, and the windows before its last one are kept
+abbrev pub invariant-loop-entry : goal.invariant-loop-entry
+invariant-loop-entry l = record {
+  stands : Stands (rules_of l.table (bytes_of l.fn.token)) l.account (map (tap_of l.table) (take l.entry-index l.entries));
+  earlier : l.earlier.items ≡ earlier_windows (rules_of l.table (bytes_of l.fn.token)) (map (tap_of l.table) (take l.entry-index l.entries));
+}

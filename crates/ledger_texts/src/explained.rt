@@ -1,0 +1,100 @@
+//! The explained statement of a token: why each line costs what it costs.
+
+ghost use Rattle.std.specs.Prelude.{◌≡◌, ◌<◌, ℕ, List, ◌++◌, IfErr, IfOk, OnOk, length};
+ghost use Rattle.std.specs.Prelude.{string_bytes};
+ghost use Rattle.std.specs.Io.KnownBytes.{Appends};
+ghost use Rattle.shard_book.specs.Sums.{sums, sums_of};
+ghost use Rattle.fare_texts.specs.StatementText.{statement_head};
+ghost use Rattle.ledger_texts.specs.Explained.{IsExplained, IsExplainedOf, terms_line};
+ghost use Rattle.ledger_texts.specs.Fault.{KeepsUnlessWrite};
+
+mod lines;
+mod totals;
+mod window_lines;
+mod windows;
+
+use crate::entries::own_of;
+use crate::fault::LedgerFault;
+use crate::ledger::table_of;
+use crate::lines::pass_on;
+use fare_table::{FareTable, NoMemory, Terms};
+use fare_texts::{Digits, write_totals};
+use lines::write_lines;
+use shard_book::{Entry, ShardBook, Token};
+use std::alloc::{AllocError, Global};
+use std::io::Write;
+use totals::totals_of;
+use window_lines::write_windows;
+
+/// Appends the head line, which is the plain statement's.
+#[tactic(auto, unfolding(fare_texts::specs::StatementText::statement_head))]
+fn write_head(text: &mut String, token: Token) -> Result<(), AllocError>
+    ensures { OnOk result (string_bytes text.new ≡ string_bytes text.old ++ statement_head token) }
+{
+    let digits = Digits(token);
+    writeln!(text, "statement {digits}")
+}
+
+/// Appends the line of the token's terms.
+#[tactic(auto, unfolding(crate::specs::Explained::terms_line))]
+fn write_terms(text: &mut String, terms: Terms) -> Result<(), AllocError>
+    ensures { OnOk result (string_bytes text.new ≡ string_bytes text.old ++ terms_line terms) }
+{
+    let fare = terms.fare;
+    let rides = terms.rides;
+    let ceiling = terms.ceiling;
+    writeln!(text, "terms fare {fare} rides {rides} ceiling {ceiling}")
+}
+
+/// The explained statement of a token that has these entries.
+fn text_of(
+    alloc: Global,
+    table: &FareTable,
+    token: Token,
+    entries: &[Entry],
+) -> Result<String, NoMemory>
+    ensures { IfOk result (λ text. IsExplained table.now token entries.now (string_bytes text)) }
+{
+    let clock = table.clock(alloc)?;
+    let bytes = token.bytes();
+    let mut text = String::new(alloc);
+    write_head(&mut text, token)?;
+    write_terms(&mut text, table.terms_of(&bytes))?;
+    write_lines(&mut text, table, &clock, token, entries)?;
+    write_totals(&mut text, &totals_of(entries))?;
+    write_windows(alloc, &mut text, table, &clock, token, entries)?;
+    Ok(text)
+}
+
+/// The explained statement of a token.
+fn explained_text(alloc: Global, books: &[ShardBook], token: Token) -> Result<String, NoMemory>
+    requires { 0 < length books.now }
+    ensures { IfOk result (λ text. IsExplainedOf books.now token (string_bytes text)) }
+{
+    let table = table_of(books);
+    let entries = own_of(alloc, books, token)?;
+    let text = text_of(alloc, table, token, entries.as_slice())?;
+    Ok(text)
+}
+
+/// Writes the explained statement of a token: the head line, the token's terms, its entries, each
+/// with the account rule's reason for it after its earlier entries, their totals, and all its
+/// windows, the last one last. Under a zone each entry and each window has its local times too. All
+/// memory is taken before the first byte is written: on a fault of memory nothing was.
+pub fn write_explained<W: Write>(
+    alloc: Global,
+    books: &[ShardBook],
+    token: Token,
+    out: &mut W,
+) -> Result<(), LedgerFault>
+    requires { 0 < length books.now }
+    ensures ok { OnOk result ((text : List ℕ) × IsExplainedOf books.now token text
+        × Appends (W.contents out.old) (W.contents out.new) text) }
+    ensures fault { IfErr result (λ fault. KeepsUnlessWrite fault (out.new ≡ out.old)) }
+{
+    let Ok(mut text) = explained_text(alloc, books, token) else {
+        return Err(LedgerFault::NoMemory);
+    };
+    pass_on(&mut text, out)?;
+    Ok(())
+}

@@ -1,0 +1,45 @@
+use Rattle.std.proofs.Common.{◌≡◌, ◌++◌, ℕ, List, [], sym, ap, ◌∙◌, append-nil, true, false, rules, tests, string_bytes}
+use Rattle.omny_audit.specs.Text.{verdict_text}
+use Rattle.omny_audit.proofs.AnswerLemmas.{alone, beside, not_legal}
+use Rattle.ledger_check.specs.Verdicts.{is_legal}
+use Rattle.omny_audit.proofs.audit.answer_text.Goals as goal
+
+pub returns-then-not-tells_legal : goal.returns-then-not-tells_legal
+returns-then-not-tells_legal c = λ fares text posted is balance.
+    let verdict = c.args.verdict.now in
+    let none : is_legal verdict ≡ false = sym c.tells_legal.ensures ∙ (first_of (cc, search (rules, tests))) in
+    record {
+      verdict = verdict;
+      is_verdict = is;
+      rest = [];
+      shown = c.in_ok-text.ensures ∙ sym (append-nil (verdict_text verdict));
+      second = not_legal fares text _ (is_legal verdict) none;
+    }
+
+pub returns-then-not-has_uploads : goal.returns-then-not-has_uploads
+returns-then-not-has_uploads c = λ fares text posted is balance.
+    let verdict = c.args.verdict.now in
+    let some : is_legal verdict ≡ true = sym c.tells_legal.ensures ∙ (first_of (cc, search (rules, tests))) in
+    let none : c.args.has_uploads ≡ false = first_of (cc, search (rules, tests)) in
+    record {
+      verdict = verdict;
+      is_verdict = is;
+      rest = [];
+      shown = c.in_ok-text.ensures ∙ sym (append-nil (verdict_text verdict));
+      second = alone fares text posted c.args.has_uploads (is_legal verdict) none some;
+    }
+
+pub returns : goal.returns
+returns c = λ fares text posted is balance.
+    let verdict = c.args.verdict.now in
+    let legal : is_legal verdict ≡ true = sym c.tells_legal.ensures ∙ (first_of (cc, search (rules, tests))) in
+    let some : c.args.has_uploads ≡ true = first_of (cc, search (rules, tests)) in
+    let wrote = c.in_ok-write_difference.ensures in
+    record {
+      verdict = verdict;
+      is_verdict = is;
+      rest = wrote.0;
+      shown = wrote.2 ∙ ap (λ (t : List ℕ). t ++ wrote.0) c.in_ok-text.ensures;
+      second = beside fares text posted c.args.has_uploads (is_legal verdict) c.difference-told.result wrote.0 _ some legal wrote.1 c.is_even.ensures
+          (λ entries ledger. c.difference-told.ensures posted _ (balance legal entries ledger));
+    }

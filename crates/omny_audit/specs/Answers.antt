@@ -1,0 +1,61 @@
+-- What is answered on a ledger's text.
+use Rattle.std.specs.Prelude.{◌≡◌, ◌↔◌, ℕ, Bool, true, false, List, [], ◌++◌, map, Option, None, Some}
+use Rattle.std.specs.List.Sorted.{IsPermutation}
+use Rattle.fare_table.specs.Fares.{Fares}
+use Rattle.shard_book.specs.declared.entry.Entry.{Entry}
+use Rattle.ledger_check.specs.Ledger.{IsLedger, IsLedgerOf}
+use Rattle.ledger_check.specs.Struck.{posted_tap}
+use Rattle.ledger_check.specs.Verdicts.{IsVerdict, is_legal}
+use Rattle.ledger_check.specs.declared.checker.Verdict.{Verdict}
+use Rattle.tap_balance.specs.Balances.{IsDifference}
+use Rattle.tap_balance.specs.declared.balance.Difference.{Difference}
+use Rattle.tap_views.specs.declared.encoder.TapFields.{TapFields}
+use Rattle.omny_audit.specs.Text.{IsDifferenceText, verdict_text}
+
+-- the difference is that of the posted taps and the ledger's, whatever entries the ledger has
+abbrev pub IsDifferenceOf : Fares → List ℕ → List TapFields → Option Difference → Type 0
+IsDifferenceOf fares text posted difference =
+    (entries : List Entry) → IsLedgerOf fares entries text
+    → IsDifference posted (map posted_tap entries) difference
+
+-- whether there is no difference
+abbrev pub agrees : Option Difference → Bool
+agrees None = true
+agrees (Some difference) = false
+
+-- What follows the line of the verdict, which is legal or not: nothing, or, where it is legal and
+-- there are uploads, the line of the difference. It is well where the ledger is legal and there is
+-- no difference.
+abbrev pub IsSecond : Fares → List ℕ → Option (List TapFields) → Bool → List ℕ → Bool → Type 0
+IsSecond fares text posted false rest well = (rest ≡ []) × (well ≡ false)
+IsSecond fares text None true rest well = (rest ≡ []) × (well ≡ true)
+IsSecond fares text (Some posted) true rest well =
+    (difference : Option Difference) × IsDifferenceText difference rest
+    × (well ≡ agrees difference) × IsDifferenceOf fares text posted difference
+
+-- what is told of the text, beside the posted taps of the uploads, if there are uploads: a true
+-- verdict, and the difference
+pub record IsAnswer (fares : Fares) (text : List ℕ) (posted : Option (List TapFields))
+    (told : List ℕ) (well : Bool) : Type 0 where
+  pub verdict : Verdict
+  pub is_verdict : IsVerdict fares text verdict
+  pub rest : List ℕ
+  pub shown : told ≡ verdict_text verdict ++ rest
+  pub second : IsSecond fares text posted (is_legal verdict) rest well
+
+-- the ledger's taps are those of the uploads in some order, if there are uploads
+abbrev pub HasTaps : Option (List TapFields) → List Entry → Type 0
+HasTaps None entries = Unit {0}
+HasTaps (Some posted) entries = IsPermutation posted (map posted_tap entries)
+
+-- the text is, whole, a ledger of legal histories, and has the taps of the uploads
+abbrev pub IsRight : Fares → List ℕ → Option (List TapFields) → Type 0
+IsRight fares text posted =
+    (entries : List Entry) × IsLedgerOf fares entries text × HasTaps posted entries
+
+-- what is answered is well exactly where the text is right
+abbrev pub AnswersDecide : Type 0
+AnswersDecide =
+    (fares : Fares) (text : List ℕ) (posted : Option (List TapFields)) (told : List ℕ)
+    (well : Bool) → IsAnswer fares text posted told well
+    → (well ≡ true) ↔ IsRight fares text posted

@@ -1,0 +1,37 @@
+//! Texts that are written out whole.
+
+ghost use Rattle.std.specs.Prelude.{OnOk};
+ghost use Rattle.std.specs.Io.KnownBytes.{Appends, Keeps};
+
+use crate::fault::Fault;
+use std::io;
+use std::io::{ErrorKind, Write};
+
+/// Why a write failed.
+pub fn unwritten<'a>(error: &io::Error) -> Fault<'a> {
+    if error.kind() == ErrorKind::BrokenPipe {
+        Fault::Closed
+    } else {
+        Fault::Write
+    }
+}
+
+/// Brings what was written through to where the writer brings it.
+pub fn flush<'a, W: Write>(out: &mut W) -> Result<(), Fault<'a>>
+    ensures { Keeps (W.contents out.old) (W.contents out.new) }
+{
+    match out.flush() {
+        Ok(()) => Ok(()),
+        Err(error) => Err(unwritten(&error)),
+    }
+}
+
+/// Writes the whole text, through to where the writer brings it.
+pub fn write_text<'a, W: Write>(out: &mut W, text: &str) -> Result<(), Fault<'a>>
+    ensures { OnOk result (Appends (W.contents out.old) (W.contents out.new) text.now) }
+{
+    match out.write_all(text.as_bytes()) {
+        Ok(()) => flush(out),
+        Err(error) => Err(unwritten(&error)),
+    }
+}

@@ -1,7 +1,0 @@
-use Rattle.std.proofs.Common.{Some, map, take}
-use Rattle.omny_cli.specs.Program.{LoadsFiles}
-use Rattle.omny_cli.proofs.program.load_files.Given as goal
-
-abbrev pub invariant-loop-name : goal.invariant-loop-name
-invariant-loop-name g l =
-    LoadsFiles (map (λ n. Some n.now) (take l.name-index l.names)) (g.S.Source.loaded l.fn.source) (g.S.Source.loaded l.source) (map (λ f. f.items) l.files.items)

@@ -1,0 +1,179 @@
+//! The command lines of `split`, `merge` and `merge-ledgers`.
+
+use crate::merging::MergeWords;
+use crate::names::Name;
+use crate::splitting::SplitWords;
+use clap::{Arg, ArgAction, ArgMatches, Command, value_parser};
+use std::alloc::{AllocError, Global};
+
+const SPLIT_STATUS: &str = "Exit status:
+  0  the parts' files are made, and each upload's line is written
+  1  a file could not be read or made, as a line `fault: ..` on the standard error tells
+  2  the command line is wrong";
+
+const SPLIT_ABOUT: &str =
+    "Splits uploads by token into parts. A run of omny_cli --settle can post a part by itself.
+
+The taps before each upload's first layout fault go to the part of their token: the number of the
+token's last four bytes, divided by 64, modulo the number of parts. DIR/0.tap, DIR/1.tap and so on
+have the parts' taps by rising token, moment and validator. A part's file is made as DIR/0.tap. and
+then renamed. A line for each upload tells how it ended, as in a report.";
+
+const PARTS_HELP: &str = "How many parts, 1 to 65535";
+
+const PART_FILES_HELP: &str = "The folder of the parts' files; it must be there";
+
+const FIRST_HELP: &str = "The number of the first upload, where uploads are split in groups";
+
+const UPLOADS_HELP: &str = "Uploads of at most 67108864 bytes; - stands for standard input";
+
+const MERGE_STATUS: &str = "Exit status:
+  0  the report is written, and no upload was refused
+  1  a text is wrong, or could not be read or written, as a line `fault: ..` on the standard error
+     tells; what was written is not the report
+  2  the command line is wrong
+  3  the report is written, and an upload was refused";
+
+const MERGE_ABOUT: &str =
+    "Merges the reports of all parts into that of the whole, on standard output.
+
+The uploads were split by omny_tools split, which wrote how they ended, and each part was posted by
+a run of omny_cli --settle. The report is that of one such run over the uploads. The reports are
+read as it is written, so they may be larger than memory.";
+
+const ENDS_HELP: &str = "The lines that split wrote, in the order of the uploads";
+
+const REPORTS_HELP: &str = "The reports of the parts, in any order";
+
+const MERGE_LEDGERS_STATUS: &str = "Exit status:
+  0  the ledger is written
+  1  a text is wrong, or could not be read or written, as a line `fault: ..` on the standard error
+     tells; what was written is not the ledger
+  2  the command line is wrong";
+
+const MERGE_LEDGERS_ABOUT: &str =
+    "Merges the ledgers of all parts into that of the whole, on standard output.
+
+The lines of the tokens come in the order of the tokens. A token has lines in one ledger alone. The
+ledgers are read as they are written, so they may be larger than memory.";
+
+const LEDGERS_HELP: &str = "The ledgers of the parts, in any order";
+
+/// `split --parts N --part-files DIR [--first K] FILE...`
+pub(crate) fn split_command<'a>(alloc: Global) -> Result<Command<'a>, AllocError> {
+    let parts = Arg::new(alloc, "parts")
+        .long("parts")
+        .value_name("N")
+        .action(ArgAction::Set)
+        .value_parser(value_parser!(u32).range(1..=65_535))
+        .required(true)
+        .help(PARTS_HELP);
+    let folder = Arg::new(alloc, "part-files")
+        .long("part-files")
+        .value_name("DIR")
+        .action(ArgAction::Set)
+        .required(true)
+        .help(PART_FILES_HELP);
+    let first = Arg::new(alloc, "first")
+        .long("first")
+        .value_name("K")
+        .action(ArgAction::Set)
+        .value_parser(value_parser!(u32))
+        .default_value("0")
+        .help(FIRST_HELP);
+    let file = Arg::new(alloc, "FILE")
+        .action(ArgAction::Append)
+        .required(true)
+        .help(UPLOADS_HELP);
+    Command::new(alloc, "split")
+        .about(SPLIT_ABOUT)
+        .after_help(SPLIT_STATUS)
+        .arg(parts)?
+        .arg(folder)?
+        .arg(first)?
+        .arg(file)
+}
+
+/// The names that an argument was given.
+fn names_of<'a>(
+    alloc: Global,
+    matches: &ArgMatches<'a>,
+    id: &str,
+) -> Result<Vec<Name<'a>>, AllocError> {
+    let mut names = Vec::new(alloc);
+    if let Some(words) = matches.get_strs(id) {
+        for word in words {
+            names.push(Name(word))?;
+        }
+    }
+    Ok(names)
+}
+
+/// What `split` is asked for.
+pub(crate) fn split_words<'a>(
+    alloc: Global,
+    matches: &ArgMatches<'a>,
+) -> Result<SplitWords<'a>, AllocError> {
+    Ok(SplitWords {
+        parts: matches.get_one("parts").unwrap_or(1),
+        folder: matches
+            .get_str("part-files")
+            .map_or(Name::here(), |word| Name(word)),
+        first: matches.get_one("first").unwrap_or(0),
+        uploads: names_of(alloc, matches, "FILE")?,
+    })
+}
+
+/// `merge --ends FILE... --reports FILE...`
+pub(crate) fn merge_command<'a>(alloc: Global) -> Result<Command<'a>, AllocError> {
+    let ends = Arg::new(alloc, "ends")
+        .long("ends")
+        .value_name("FILE")
+        .num_args(1..)
+        .action(ArgAction::Append)
+        .required(true)
+        .help(ENDS_HELP);
+    let reports = Arg::new(alloc, "reports")
+        .long("reports")
+        .value_name("FILE")
+        .num_args(1..)
+        .action(ArgAction::Append)
+        .required(true)
+        .help(REPORTS_HELP);
+    Command::new(alloc, "merge")
+        .about(MERGE_ABOUT)
+        .after_help(MERGE_STATUS)
+        .arg(ends)?
+        .arg(reports)
+}
+
+/// `merge-ledgers FILE...`
+pub(crate) fn merge_ledgers_command<'a>(alloc: Global) -> Result<Command<'a>, AllocError> {
+    let file = Arg::new(alloc, "FILE")
+        .action(ArgAction::Append)
+        .required(true)
+        .help(LEDGERS_HELP);
+    Command::new(alloc, "merge-ledgers")
+        .about(MERGE_LEDGERS_ABOUT)
+        .after_help(MERGE_LEDGERS_STATUS)
+        .arg(file)
+}
+
+/// What `merge` is asked for.
+pub(crate) fn merge_words<'a>(
+    alloc: Global,
+    matches: &ArgMatches<'a>,
+) -> Result<MergeWords<'a>, AllocError> {
+    Ok(MergeWords {
+        ends: names_of(alloc, matches, "ends")?,
+        reports: names_of(alloc, matches, "reports")?,
+    })
+}
+
+/// The ledgers that `merge-ledgers` is asked for.
+pub(crate) fn merge_ledgers_words<'a>(
+    alloc: Global,
+    matches: &ArgMatches<'a>,
+) -> Result<Vec<Name<'a>>, AllocError> {
+    names_of(alloc, matches, "FILE")
+}

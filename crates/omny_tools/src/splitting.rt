@@ -1,0 +1,150 @@
+//! `split`.
+
+use crate::fault::Fault;
+use crate::input::load_upload;
+use crate::names::Name;
+use crate::output::Output;
+use std::alloc::{AllocError, Global};
+use std::io::Write;
+use std::{fmt, fs, io};
+use tap_views::LayoutFault;
+use upload_facts::{Facts, facts_of};
+use upload_parts::Split;
+
+/// The most parts.
+pub(crate) const MOST_PARTS: u32 = 65_535;
+
+/// What `split` is asked for.
+#[derive(Drop)]
+pub(crate) struct SplitWords<'a> {
+    /// How many parts.
+    pub(crate) parts: u32,
+    /// The folder of the parts' files.
+    pub(crate) folder: Name<'a>,
+    /// The number of the first upload.
+    pub(crate) first: u32,
+    /// The uploads.
+    pub(crate) uploads: Vec<Name<'a>>,
+}
+
+/// The name of a layout fault in a report.
+#[derive(Clone, Copy)]
+struct FaultName(LayoutFault);
+
+impl fmt::Display for FaultName {
+    fn fmt<W: fmt::Write>(&self, f: &mut fmt::Formatter<W>) -> fmt::Result {
+        f.write_str(match self.0 {
+            LayoutFault::Short { .. } => "L1",
+            LayoutFault::Magic => "L2",
+            LayoutFault::Flags => "L3",
+            LayoutFault::TooMany { .. } => "L4",
+            LayoutFault::Length { .. } => "L5",
+            LayoutFault::Moment { .. } => "L6",
+        })
+    }
+}
+
+/// Appends the line that says how the upload of this number ends, as a report has it.
+fn push_end(text: &mut String, upload: u128, facts: &Facts) -> Result<(), AllocError> {
+    let taps = facts.taps;
+    match facts.fault {
+        None => write!(text, "upload {upload} posted {taps}\n"),
+        Some((offset, fault)) => {
+            let name = FaultName(fault);
+            write!(text, "upload {upload} refused {taps} at {offset} {name}\n")
+        }
+    }
+}
+
+/// Splits the uploads, and appends a line for each to `ends`.
+fn split_all<'a>(
+    rt: &HostRuntime,
+    words: &SplitWords<'a>,
+    ends: &mut String,
+) -> Result<Split, Fault<'a>> {
+    let Ok(mut split) = Split::new(rt.alloc(), words.parts.clamp(1, MOST_PARTS)) else {
+        return Err(Fault::NoMemory);
+    };
+    for (number, name) in words.uploads.iter().enumerate() {
+        let upload = load_upload(rt, *name)?;
+        let facts = facts_of(&upload);
+        if push_end(ends, u128::from(words.first) + number as u128, &facts).is_err() {
+            return Err(Fault::NoMemory);
+        }
+        split = match split.with(&upload) {
+            Ok(more) => more,
+            Err(_) => return Err(Fault::NoMemory),
+        };
+    }
+    Ok(split)
+}
+
+/// Makes a file of these bytes, which are on the disk when it returns.
+fn store(rt: &HostRuntime, path: &str, bytes: &[u8]) -> io::Result<()> {
+    let mut file = fs::File::create(rt, path)?;
+    file.write_all(bytes)?;
+    file.sync_all()
+}
+
+/// Makes the file of this name under another name, and then gives it its own: so a file of its own
+/// name is whole.
+fn store_whole(rt: &HostRuntime, begun: &str, whole: &str, bytes: &[u8]) -> io::Result<()> {
+    match store(rt, begun, bytes) {
+        Ok(()) => fs::rename(rt, begun, whole),
+        Err(error) => {
+            let _ = fs::remove_file(rt, begun);
+            Err(error)
+        }
+    }
+}
+
+/// The name of a part's file.
+fn part_name(alloc: Global, folder: Name<'_>, part: u32) -> Result<String, AllocError> {
+    let folder = folder.0;
+    format!(in alloc; "{folder}/{part}.tap")
+}
+
+/// Makes the file of a part.
+fn make_part<'a>(
+    rt: &HostRuntime,
+    folder: Name<'a>,
+    part: u32,
+    bytes: &[u8],
+) -> Result<(), Fault<'a>> {
+    let Ok(whole) = part_name(rt.alloc(), folder, part) else {
+        return Err(Fault::NoMemory);
+    };
+    let Ok(begun) = format!(in rt.alloc(); "{whole}.") else {
+        return Err(Fault::NoMemory);
+    };
+    match store_whole(rt, begun.as_str(), whole.as_str(), bytes) {
+        Ok(()) => Ok(()),
+        Err(_) => Err(Fault::UnmadePart(folder, part)),
+    }
+}
+
+/// Makes the files of all parts.
+fn make_parts<'a>(rt: &HostRuntime, folder: Name<'a>, split: &Split) -> Result<(), Fault<'a>> {
+    for part in 0..split.len() {
+        let Ok(bytes) = split.file(rt.alloc(), part) else {
+            return Err(Fault::NoMemory);
+        };
+        make_part(rt, folder, part, &bytes)?;
+    }
+    Ok(())
+}
+
+/// Splits uploads by token: makes a file of each part's taps, and then writes how each upload ends.
+pub(crate) fn split<'a, W: Write + Drop>(
+    rt: &HostRuntime,
+    words: &SplitWords<'a>,
+    out: &mut Output<W>,
+) -> Result<(), Fault<'a>> {
+    let mut ends = String::new(rt.alloc());
+    let split = split_all(rt, words, &mut ends)?;
+    make_parts(rt, words.folder, &split)?;
+    if out.write_all(ends.as_bytes()).is_err() {
+        return Err(out.failed());
+    }
+    Ok(())
+}

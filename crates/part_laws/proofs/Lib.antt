@@ -1,0 +1,4 @@
+mod Merging
+mod SplitFiles
+mod Tokens
+mod Validators

@@ -1,0 +1,101 @@
+//! What parts that were settled by runs of their own are together: the laws on which merging their
+//! reports stands.
+#![tactic(auto)]
+
+ghost use Rattle.std.specs.Prelude.{◌≡◌, ℕ, List, Some, slice_get, length, map, flat_map};
+ghost use Rattle.std.specs.List.{AllZip};
+ghost use Rattle.tap_views.specs.Layout.{Tap};
+ghost use Rattle.fare_table.specs.Fares.{Fares};
+ghost use Rattle.shard_book.specs.declared.entry.Entry.{Entry};
+ghost use Rattle.shard_book.specs.declared.token.Token.{Token};
+ghost use Rattle.shard_book.specs.Entry.{own};
+ghost use Rattle.shard_book.specs.Groups.{sums_by_token, sums_by_validator};
+ghost use Rattle.shard_book.specs.Sums.{Sums, sums};
+ghost use Rattle.shard_book.specs.Token.{bytes_of};
+ghost use Rattle.fare_service.specs.Adding.{add_all};
+ghost use Rattle.fare_service.specs.Plain.{ArePlainEnds, AreTapsOfEach, IsReportOver};
+ghost use Rattle.fare_service.specs.Text.{report};
+ghost use Rattle.fare_service.specs.declared.upload_end.UploadEnd.{UploadEnd};
+ghost use Rattle.tap_parts.specs.Parts.{part_of_token};
+ghost use Rattle.settlement.specs.Settled.{IsSettledHistory, joined};
+ghost use Rattle.upload_parts.specs.Split.{IsPartFile};
+ghost use Rattle.part_laws.specs.Split.{AreTokensOf, AreValidatorsOf, IsPartOf, IsSplit, Part};
+ghost use Rattle.part_laws.specs.Split.{entries_of, part_of};
+
+use fare_service::laws::cuts;
+use shard_book::laws::{rising, sums as adding};
+
+/// Uploads were split in groups, each into the same number of parts. The files that one part has of
+/// all groups, settled by a run of their own, are that part in the sense of the laws below.
+pub fn split_part(uploads: &[Vec<u8>], files: &[Vec<u8>])
+    ensures { (fares : Fares) (groups : List (List (List ℕ))) (number parts : ℕ)
+        (taps : List (List Tap)) (history : List Entry)
+        → map (λ upload. upload.items) uploads.now ≡ flat_map (λ group. group) groups
+        → AllZip (λ group file. IsPartFile group parts number file) groups
+        (map (λ file. file.items) files.now)
+        → AreTapsOfEach (map (λ upload. upload.items) uploads.now) taps
+        → IsSettledHistory fares (map (λ file. file.items) files.now) history
+        → IsPartOf fares (joined taps) number parts
+        (part_of (map (λ file. file.items) files.now) history) }
+{
+    cuts(uploads);
+    cuts(files);
+}
+
+/// Uploads were split by token, and each part was settled by itself. Then a token's entries are
+/// those of its part, with the answers and charges that they have in the settled history of the
+/// uploads. The sums over all parts' entries, of each validator and of each token are those of the
+/// settled history.
+pub fn merged()
+    ensures entries { (fares : Fares) (uploads : List (List ℕ)) (history : List Entry)
+        (parts : List Part) → IsSplit fares uploads history parts
+        → (token : Token) (part : Part)
+        → slice_get parts (part_of_token (bytes_of token) (length parts)) ≡ Some part
+        → own token part.history ≡ own token history }
+    ensures sums { (fares : Fares) (uploads : List (List ℕ)) (history : List Entry)
+        (parts : List Part) → IsSplit fares uploads history parts
+        → (sums (entries_of parts) ≡ sums history)
+        × (sums_by_validator (entries_of parts) ≡ sums_by_validator history)
+        × (sums_by_token (entries_of parts) ≡ sums_by_token history) }
+{
+    rising();
+}
+
+/// The parts' totals add up to those of the settled history. A rising list of the parts'
+/// validators, each with its sums in all parts, is that of the settled history.
+pub fn merged_sums()
+    ensures totals { (fares : Fares) (uploads : List (List ℕ)) (history : List Entry)
+        (parts : List Part) → IsSplit fares uploads history parts
+        → add_all (map (λ part. sums part.history) parts) ≡ sums history }
+    ensures validators { (fares : Fares) (uploads : List (List ℕ)) (history : List Entry)
+        (parts : List Part) → IsSplit fares uploads history parts
+        → (merged : List (ℕ × Sums)) → AreValidatorsOf parts merged
+        → merged ≡ sums_by_validator history }
+{
+    adding();
+    rising();
+}
+
+/// A rising list of all the parts' sums by token is that of the settled history.
+pub fn merged_tokens()
+    ensures { (fares : Fares) (uploads : List (List ℕ)) (history : List Entry)
+        (parts : List Part) → IsSplit fares uploads history parts
+        → (merged : List (Token × Sums)) → AreTokensOf parts merged
+        → merged ≡ sums_by_token history }
+{
+    rising();
+}
+
+/// The report with the uploads' ends, the parts' totals added up, and these lists of validators and
+/// of tokens is the report of the uploads' settled history.
+pub fn merged_report()
+    ensures { (fares : Fares) (uploads : List (List ℕ)) (history : List Entry)
+        (parts : List Part) → IsSplit fares uploads history parts
+        → (ends : List UploadEnd) (validators : List (ℕ × Sums)) (tokens : List (Token × Sums))
+        → ArePlainEnds uploads ends → AreValidatorsOf parts validators → AreTokensOf parts tokens
+        → IsReportOver uploads history
+        (report ends (add_all (map (λ part. sums part.history) parts)) validators tokens) }
+{
+    merged_sums();
+    merged_tokens();
+}

@@ -1,0 +1,22 @@
+//! The reports and the ledgers of parts, merged into those of the whole.
+//!
+//! Uploads were split by token into parts, and each part was posted by a run of its own. A token is
+//! in one part alone. So the whole's totals are the sums of the parts' totals, each validator has
+//! the sum of what it has in the parts, and the tokens and the ledger's lines are those of the
+//! parts, put in order.
+#![tactic(auto)]
+
+mod ends;
+mod fault;
+mod form;
+mod front;
+mod ledgers;
+mod merging;
+mod reading;
+mod reports;
+mod sums;
+
+pub use ends::Ends;
+pub use fault::{MergeFault, Wrong};
+pub use ledgers::Ledgers;
+pub use reports::Reports;

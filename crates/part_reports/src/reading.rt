@@ -1,0 +1,71 @@
+//! Lines, read one after the other.
+
+use crate::fault::{MergeFault, Wrong};
+use std::alloc::Global;
+use std::io::{BufRead, ErrorKind};
+
+/// A text that is read line by line.
+#[derive(Drop)]
+pub(crate) struct Reading<R: BufRead + Drop> {
+    /// What is left to read.
+    from: R,
+    /// The number of the text.
+    text: usize,
+    /// How many lines were read.
+    lines: u64,
+    /// The line that was read last, with its line feed; empty where the text has ended.
+    line: Vec<u8>,
+}
+
+impl<R: BufRead + Drop> Reading<R> {
+    /// The text of this number, of which nothing was read.
+    pub(crate) fn new(alloc: Global, from: R, text: usize) -> Reading<R> {
+        Reading {
+            from,
+            text,
+            lines: 0,
+            line: Vec::new(alloc),
+        }
+    }
+
+    /// Reads the next line, or the end.
+    pub(crate) fn next(&mut self) -> Result<(), MergeFault> {
+        self.line.clear();
+        match self.from.read_until(b'\n', &mut self.line) {
+            Ok(_) => {
+                self.lines = self.lines.saturating_add(1);
+                Ok(())
+            }
+            Err(error) if error.kind() == ErrorKind::OutOfMemory => Err(MergeFault::NoMemory),
+            Err(_) => Err(MergeFault::Unread(self.text)),
+        }
+    }
+
+    /// The line that was read last.
+    pub(crate) fn line(&self) -> &[u8] {
+        &self.line
+    }
+
+    /// Whether the text has ended.
+    pub(crate) fn is_over(&self) -> bool {
+        self.line.is_empty()
+    }
+
+    /// The fault of the line that was read last.
+    pub(crate) fn fault(&self, wrong: Wrong) -> MergeFault {
+        MergeFault::Line {
+            text: self.text,
+            number: self.lines,
+            wrong,
+        }
+    }
+
+    /// What a form tells of the line that was read last; the line's fault where it has not that
+    /// form.
+    pub(crate) fn told<T: Drop>(&self, told: Option<T>) -> Result<T, MergeFault> {
+        match told {
+            Some(told) => Ok(told),
+            None => Err(self.fault(Wrong::Form)),
+        }
+    }
+}

@@ -1,0 +1,221 @@
+//! Files that are loaded: up to the limit, and before their turns. No contract says what a file of
+//! the system holds.
+
+use super::running::{NoDisk, run_over};
+use super::shelf::{Content, Shelf};
+use fare_program::{Disk, Early, Host, LONGEST, LoadFault, Source, load_from, read_early};
+use std::alloc::Global;
+use std::io::Read;
+use std::marker::Sync;
+use std::process::Abort;
+use std::test::Fail;
+use std::thread::Threads;
+use std::{fs, io};
+
+/// A file for which there is no memory is no file that cannot be read.
+#[test]
+fn says_that_a_file_wants_memory(rt: HostRuntime) -> Result<(), Fail> {
+    let alloc = rt.alloc();
+    let files = [
+        ("empty", Content::Bytes(b"".as_slice())),
+        ("large", Content::Fault(LoadFault::NoMemory)),
+    ];
+    let input = Content::Fault(LoadFault::Unread);
+    let mut shelf = Shelf::new(alloc, files.as_slice(), input);
+    let mut out = Vec::new(alloc);
+    let words = ["empty", "large", "x.tap"];
+    let (status, err) = run_over(&rt, alloc, words.as_slice(), &NoDisk, &mut shelf, &mut out)?;
+    assert_eq!(rt; (out.len(), status), (0, 1));
+    assert_eq!(rt; err.as_slice(), b"fault: out of memory\n".as_slice());
+    Ok(())
+}
+
+/// A reader that gives this many zeros, a buffer at a time, and then fails or ends.
+#[derive(Drop)]
+struct Zeros {
+    left: usize,
+    fails: bool,
+}
+
+impl Read for Zeros {
+    fn read(&mut self, buf: &mut [u8]) -> io::Result<usize> {
+        if self.left == 0 && self.fails {
+            return Err(io::Error::from(io::ErrorKind::Other));
+        }
+        let count = buf.len().min(self.left);
+        for byte in &mut buf[..count] {
+            *byte = 0;
+        }
+        self.left -= count;
+        Ok(count)
+    }
+}
+
+#[test]
+fn loads_up_to_the_limit(rt: HostRuntime) -> Result<(), Fail> {
+    let alloc = rt.alloc();
+    let rows = [
+        (0, false, Ok(0)),
+        (5_000, false, Ok(5_000)),
+        (5_000, true, Err(LoadFault::Unread)),
+        (LONGEST, false, Ok(LONGEST)),
+        (LONGEST, true, Err(LoadFault::Unread)),
+        (LONGEST + 1, false, Err(LoadFault::TooLong)),
+        (usize::MAX, true, Err(LoadFault::TooLong)),
+    ];
+    for (left, fails, answer) in rows {
+        let loaded = load_from(alloc, &mut Zeros { left, fails });
+        assert_eq!(rt; loaded.map(|bytes| bytes.len()), answer, "of {left}");
+    }
+    let loaded = load_from(alloc, &mut b"tap".as_slice())?;
+    assert_eq!(rt; loaded.as_slice(), b"tap".as_slice());
+    Ok(())
+}
+
+// Each file holds its own name. One is named twice, and they are also loaded in another order than
+// that in which they were read.
+#[test]
+fn loads_each_early_file_under_its_name(rt: HostRuntime) -> Result<(), Fail> {
+    let [a, b, c] = ["each_a.tap", "each_b.tap", "each_c.tap"];
+    for name in [a, b, c] {
+        fs::write(&rt, name, name)?;
+    }
+    for threads in [1, 2, 3, 16] {
+        for order in [[a, b, a, c], [c, b, a, a], [b, a, c, a]] {
+            let mut host = Host::new(&rt);
+            host.keep_early(read_early(&rt, rt.alloc(), &rt, &[a, b, a, c], threads));
+            for name in order {
+                let loaded = host.load(name)?;
+                assert_eq!(rt; loaded.as_slice(), name.as_bytes(), "by {threads}");
+            }
+        }
+    }
+    for name in [a, b, c] {
+        fs::remove_file(&rt, name)?;
+    }
+    Ok(())
+}
+
+// What a file holds at first, and when its turn comes, says when it was read: here of files with a
+// folder between them.
+#[test]
+fn reads_files_early_by_several_threads_alone(rt: HostRuntime) -> Result<(), Fail> {
+    let [a, b, c, folder] = ["early_a.tap", "early_b.tap", "early_c.tap", "early_folder"];
+    fs::create_dir(&rt, folder)?;
+    for (threads, seen) in [(1, "late"), (2, "soon"), (16, "soon")] {
+        for name in [a, b, c] {
+            fs::write(&rt, name, "soon")?;
+        }
+        let mut host = Host::new(&rt);
+        host.keep_early(read_early(&rt, rt.alloc(), &rt, &[a, b, folder, c], threads));
+        for name in [a, b, c] {
+            fs::write(&rt, name, "late")?;
+        }
+        assert_eq!(rt; host.load(a)?.as_slice(), seen.as_bytes(), "by {threads}");
+        assert_eq!(rt; host.load(b)?.as_slice(), seen.as_bytes(), "by {threads}");
+        assert_eq!(rt; host.load(folder).err(), Some(LoadFault::Unread));
+        assert_eq!(rt;
+            host.load(c)?.as_slice(),
+            b"late".as_slice(),
+            "by {threads}"
+        );
+    }
+    for name in [a, b, c] {
+        fs::remove_file(&rt, name)?;
+    }
+    fs::remove_dir(&rt, folder)?;
+    Ok(())
+}
+
+/// A disk on which each file holds its own name, but for some.
+struct Names;
+
+impl Disk for Names {
+    fn may_be_early(&self, name: &str) -> bool {
+        name != "pipe"
+    }
+
+    fn read(&self, alloc: Global, name: &str) -> Result<Vec<u8>, LoadFault> {
+        match name {
+            "none" => Err(LoadFault::Unread),
+            "long" => Err(LoadFault::TooLong),
+            "large" => Err(LoadFault::NoMemory),
+            _ => Ok(Vec::from_slice(alloc, name.as_bytes())?),
+        }
+    }
+}
+
+/// The names of what two threads read early, in the order of the list. Each has its own bytes, or
+/// the fault that the disk tells of it.
+fn early_names<R: Threads + Sync + Abort>(
+    rt: &R,
+    alloc: Global,
+    names: &[&str],
+) -> Result<String, Fail> {
+    let mut text = String::new(alloc);
+    for file in read_early(rt, alloc, &Names, names, 2) {
+        write!(text, "{} ", file.name)?;
+        assert!(rt; file.loaded == Names.read(alloc, file.name.as_str()));
+    }
+    Ok(text)
+}
+
+// Each thread's part ends behind the first fault, and before the first file for which there is no
+// memory.
+#[test]
+fn reads_parts_up_to_a_fault(rt: HostRuntime) -> Result<(), Fail> {
+    let alloc = rt.alloc();
+    let rows = [
+        (["a", "b", "c", "d"], "d c b a "),
+        (["a", "none", "c", "d"], "d c none a "),
+        (["none", "b", "long", "d"], "long none "),
+        (["large", "b", "c", "large"], "c "),
+        (["a", "b", "c", "pipe"], "c b a "),
+        (["a", "pipe", "c", "d"], "a "),
+        (["pipe", "b", "c", "d"], ""),
+    ];
+    for (names, told) in rows {
+        let text = early_names(&rt, alloc, &names)?;
+        assert_eq!(rt; text.as_str(), told, "{names:?}");
+    }
+    Ok(())
+}
+
+/// A source without files, which counts what was read before its turn.
+#[derive(Drop)]
+struct EarlyCount {
+    files: usize,
+}
+
+impl Source for EarlyCount {
+    fn keep_early(&mut self, early: Vec<Early>) {
+        self.files = early.len();
+    }
+
+    fn load(&mut self, _: &str) -> Result<Vec<u8>, LoadFault> {
+        Err(LoadFault::Unread)
+    }
+
+    fn input(&mut self) -> Result<Vec<u8>, LoadFault> {
+        Err(LoadFault::Unread)
+    }
+}
+
+#[test]
+fn reads_files_early_for_any_number_of_workers(rt: HostRuntime) -> Result<(), Fail> {
+    let alloc = rt.alloc();
+    for workers in ["1", "2", "3", "16"] {
+        let mut source = EarlyCount { files: 0 };
+        let words = ["--workers", workers, "a", "b", "c"];
+        let mut out = Vec::new(alloc);
+        let (status, err) = run_over(&rt, alloc, words.as_slice(), &Names, &mut source, &mut out)?;
+        assert_eq!(rt; (out.len(), status), (0, 1), "by {workers}");
+        assert_eq!(rt;
+            err.as_slice(),
+            b"fault: cannot read a\n".as_slice(),
+            "by {workers}"
+        );
+        assert_eq!(rt; source.files, 3, "by {workers}");
+    }
+    Ok(())
+}

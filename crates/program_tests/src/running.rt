@@ -1,0 +1,42 @@
+//! A run of the program over words, a disk, a source and a writer.
+
+use fare_program::{Complaints, Disk, LoadFault, Source, main_over};
+use std::alloc::{AllocError, Global};
+use std::io::Write;
+use std::marker::Sync;
+use std::random::RandomSource;
+use std::sync::Wait;
+use std::thread::Threads;
+
+/// A disk of which nothing is read before its turn.
+pub struct NoDisk;
+
+impl Disk for NoDisk {
+    fn may_be_early(&self, _: &str) -> bool {
+        false
+    }
+
+    fn read(&self, _: Global, _: &str) -> Result<Vec<u8>, LoadFault> {
+        Err(LoadFault::Unread)
+    }
+}
+
+/// Runs the program with these words after its name. Returns the status and what was said on the
+/// second writer.
+pub fn run_over<R: Threads + Wait + RandomSource + Sync, D: Disk + Sync, S: Source, W: Write>(
+    rt: &R,
+    alloc: Global,
+    words: &[&str],
+    disk: &D,
+    source: &mut S,
+    out: &mut W,
+) -> Result<(u8, Vec<u8>), AllocError> {
+    let mut texts = Vec::new(alloc);
+    texts.push(String::from_str(alloc, "omny_cli")?)?;
+    for word in words {
+        texts.push(String::from_str(alloc, word)?)?;
+    }
+    let mut err = Complaints::new(Vec::new(alloc));
+    let status = main_over(rt, alloc, &texts, disk, source, out, &mut err);
+    Ok((status, err.into_writer()))
+}

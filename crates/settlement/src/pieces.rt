@@ -1,0 +1,95 @@
+//! The taps of each part, in the pieces in which several threads dealt them.
+
+ghost use Rattle.std.specs.Prelude.{◌≡◌, ◌<◌, ◌++◌, [], ℕ, All, flat_map, length, IfOk, OnOk};
+ghost use Rattle.std.specs.Prelude.{slice_index_or};
+ghost use Rattle.settlement.specs.inside.Dealt.{AreJoined, in_part};
+
+use std::alloc::{AllocError, Global};
+use std::marker::Model;
+use tap_parts::{PartTaps, Parts};
+
+/// The taps of one part. Its memory goes when it is dropped, while other parts stay.
+#[derive(Drop)]
+pub(crate) struct Pieces {
+    /// A piece from each thread that dealt, in their order.
+    list: Vec<PartTaps>,
+}
+
+impl Model for Pieces {
+    ghost use Rattle.std.specs.Prelude.{List, flat_map};
+    ghost use Rattle.tap_views.specs.declared.encoder.TapFields.{TapFields};
+
+    ghost Value = { List TapFields };
+
+    ghost view = { λ pieces. flat_map (λ piece. piece) pieces.list.items };
+}
+
+impl Pieces {
+    /// No taps.
+    fn new(alloc: Global) -> Self
+        ensures { result ≡ [] }
+    {
+        Pieces {
+            list: Vec::new(alloc),
+        }
+    }
+
+    /// Adds a piece behind the others.
+    fn push(&mut self, piece: PartTaps) -> Result<(), AllocError>
+        ensures { OnOk result (self.new ≡ self.old ++ piece) }
+    {
+        self.list.push(piece)?;
+        Ok(())
+    }
+
+    /// The pieces, in their order.
+    pub(crate) fn as_slice(&self) -> &[PartTaps]
+        ensures { flat_map (λ piece. piece) result.now ≡ self.now }
+    {
+        &self.list
+    }
+}
+
+/// So many parts with no taps.
+fn no_pieces(alloc: Global, parts: u32) -> Result<Vec<Pieces>, AllocError>
+    ensures number { IfOk result (λ made. length made.items ≡ parts) }
+    ensures empty { IfOk result (λ made. (part : ℕ) → part < parts
+        → slice_index_or made.items part [] ≡ []) }
+{
+    let mut made = Vec::with_capacity(alloc, parts as usize)?;
+    for _ in 0..parts {
+        made.push(Pieces::new(alloc))?;
+    }
+    Ok(made)
+}
+
+/// Adds to each part the piece that a thread dealt to it.
+fn join(parts: &mut [Pieces], lists: Vec<PartTaps>) -> Result<(), AllocError>
+    requires { length lists.items ≡ length parts.old }
+    ensures { OnOk result (AreJoined lists.items parts.old parts.new) }
+{
+    let mut place = 0usize;
+    for piece in lists {
+        parts[place].push(piece)?;
+        place += 1;
+    }
+    Ok(())
+}
+
+/// The pieces of each part, in the order of the lists that the threads dealt.
+pub(crate) fn pieces_of(
+    alloc: Global,
+    lists: Vec<Parts>,
+    parts: u32,
+) -> Result<Vec<Pieces>, AllocError>
+    requires { All (λ list. length list ≡ parts) lists.items }
+    ensures number { IfOk result (λ made. length made.items ≡ parts) }
+    ensures each { IfOk result (λ made. (part : ℕ) → part < parts
+        → slice_index_or made.items part [] ≡ in_part part lists.items) }
+{
+    let mut made = no_pieces(alloc, parts)?;
+    for list in lists {
+        join(&mut made, list.into_lists())?;
+    }
+    Ok(made)
+}

@@ -1,0 +1,2 @@
+mod IgnoredLemmas
+mod SeenLemmas

@@ -1,0 +1,3 @@
+pub mod Ignored
+pub mod Ranges
+pub mod Seen

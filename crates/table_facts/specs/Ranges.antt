@@ -1,0 +1,42 @@
+-- How ranges of validators meet the validators of some uploads.
+use Rattle.std.specs.Prelude.{ℕ, ℤ, suc, pos, ◌&&◌, ◌++◌, ◌∷◌, [], Bool, not, List, Option, Some}
+use Rattle.std.specs.Prelude.{None, codes, int_le, nat_le, unsigned_abs, if◌then◌else◌}
+use Rattle.std.specs.List.{list_any}
+use Rattle.std.specs.Option.{is_none, option_and_then}
+use Rattle.toml.specs.Data.{Data, Items, no_items, item, Members, get_member, as_integer, as_table}
+use Rattle.fare_table.specs.Fares.{Fares, mode_at}
+use Rattle.fare_table.specs.Faults.{items_of, passes}
+
+-- no range of the table has the validator
+abbrev pub is_unknown : Fares → ℕ → Bool
+is_unknown fares validator = is_none (mode_at fares validator)
+
+-- the number, where a validator can have it
+abbrev pub small : ℤ → Option ℕ
+small number =
+    if int_le (pos 0) number && int_le number (pos 4_294_967_295) then Some (unsigned_abs number)
+    else None
+
+-- the validator's number at a key
+abbrev pub number_at : List ℕ → Members → Option ℕ
+number_at key entry = option_and_then small (option_and_then as_integer (get_member key entry))
+
+-- the validator lies from the one number to the other
+abbrev pub is_from_to : ℕ → ℕ → ℕ → Bool
+is_from_to first last validator = nat_le first validator && nat_le validator last
+
+-- the value is an entry of `validators`, and no validator that was seen is one of its
+abbrev pub is_unused : List ℕ → Data → Bool
+is_unused seen value =
+    passes (λ entry. passes (λ first. passes (λ last. not (list_any (is_from_to first last) seen))
+    (number_at (codes "last") entry)) (number_at (codes "first") entry)) (as_table value)
+
+-- the places found, and those of the entries from this place on that no validator seen is in
+abbrev pub unused_from : List ℕ → ℕ → List ℕ → Items → List ℕ
+unused_from seen place found no_items = found
+unused_from seen place found (item value more) =
+    unused_from seen (suc place) (if is_unused seen value then found ++ place ∷ [] else found) more
+
+-- the places of the text's entries of `validators` that no validator seen is in
+abbrev pub unused_in : List ℕ → Members → List ℕ
+unused_in seen tree = unused_from seen 0 [] (items_of (get_member (codes "validators") tree))

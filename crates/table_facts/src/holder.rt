@@ -1,0 +1,34 @@
+//! Where a key stands, and which keys have a meaning there.
+
+ghost use Rattle.std.specs.Prelude.{◌≡◌};
+ghost use Rattle.table_facts.specs.Ignored as spec;
+
+/// Where a key of the text stands.
+#[derive(Clone, Copy, Debug, PartialEq, Eq)]
+pub enum Holder {
+    /// At the top.
+    Top,
+    /// In the class at this place in the order of the names.
+    Class(usize),
+    /// In the entry of `validators` at this place.
+    Range(usize),
+}
+
+/// Whether the key has a meaning where it stands.
+pub(crate) fn is_known(holder: Holder, key: &str) -> bool
+    ensures { result ≡ spec.is_known holder key.now }
+{
+    match holder {
+        Holder::Top => {
+            key == "modes"
+                || key == "transfers"
+                || key == "classes"
+                || key == "default_class"
+                || key == "validators"
+                || key == "riders"
+                || key == "zone"
+        }
+        Holder::Class(_) => key == "fare" || key == "rides" || key == "ceiling",
+        Holder::Range(_) => key == "first" || key == "last" || key == "mode",
+    }
+}

@@ -1,0 +1,52 @@
+//! How the ranges of a text meet the validators of some uploads.
+
+ghost use Rattle.std.specs.Prelude.{◌≡◌, [], IfOk};
+ghost use Rattle.toml.specs.View.{array_view, table_view, view};
+ghost use Rattle.table_facts.specs.Ranges as spec;
+
+use crate::members::{entries_at, number_at};
+use crate::seen::Seen;
+use fare_table::NoMemory;
+use std::alloc::Global;
+use toml::value::Array;
+use toml::{Table, Value};
+
+/// Whether the value is an entry of `validators` that no validator seen is in.
+fn is_unused(seen: &Seen, value: &Value) -> bool
+    ensures { result ≡ spec.is_unused seen.now (view value.now) }
+{
+    let Some(entry) = value.as_table() else {
+        return false;
+    };
+    let Some(first) = number_at(entry, "first") else {
+        return false;
+    };
+    let Some(last) = number_at(entry, "last") else {
+        return false;
+    };
+    !seen.has_between(first, last)
+}
+
+/// The places of the entries that no validator seen is in.
+fn unused_of(alloc: Global, seen: &Seen, entries: &Array) -> Result<Vec<usize>, NoMemory>
+    ensures { IfOk result (λ v. v.items
+        ≡ spec.unused_from seen.now 0 [] (array_view entries.now)) }
+{
+    let mut found = Vec::new(alloc);
+    for (place, value) in entries.iter().enumerate() {
+        if is_unused(seen, value) {
+            found.push(place)?;
+        }
+    }
+    Ok(found)
+}
+
+/// The places of the text's entries of `validators` that no validator seen is in.
+pub fn unused_ranges(alloc: Global, seen: &Seen, table: &Table) -> Result<Vec<usize>, NoMemory>
+    ensures { IfOk result (λ v. v.items ≡ spec.unused_in seen.now (table_view table.now)) }
+{
+    match entries_at(table, "validators") {
+        Some(entries) => unused_of(alloc, seen, entries),
+        None => Ok(Vec::new(alloc)),
+    }
+}

@@ -1,0 +1,17 @@
+use Rattle.std.proofs.Common.{◌≡◌, List, [], ◌++◌, map, Ok}
+use Rattle.tap_views.specs.Encoding.{fields_of}
+use Rattle.tap_views.specs.Files.{IsReading}
+use Rattle.tap_views.specs.Layout.{Tap}
+use Rattle.tap_views.specs.declared.encoder.TapFields.{TapFields}
+use Rattle.upload_facts.specs.Facts.{taps_of}
+use Rattle.tap_balance.specs.Balances.{IsBalance}
+use Rattle.tap_balance.proofs.balance.Balance.add_upload.Given as goal
+
+abbrev pub invariant-loop-item : goal.invariant-loop-item
+invariant-loop-item l = record {
+  may : (goal.iterator-loop-item).can_next l.item-iterator;
+  ends : (goal.iterator-loop-item).is_finite l.item-iterator;
+  reading : IsReading l.upload (l.yielded ++ l.item-iterator);
+  made : (done : List (List Tap)) × (l.yielded ≡ map Ok done)
+      × ((posted : List TapFields) → IsBalance l.fn.self posted [] → IsBalance l.self (posted ++ map fields_of (taps_of done)) []);
+}

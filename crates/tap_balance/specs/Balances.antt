@@ -1,0 +1,63 @@
+-- What uploads have against what somebody else has of their taps.
+use Rattle.std.specs.Prelude.{◌≡◌, ℕ, ◌+◌, ◌<◌, Bool, List, map, Option, None, Some, MatchOption}
+use Rattle.std.specs.BTreeMap as tree
+use Rattle.std.specs.BTreeMap.{BTreeMap}
+use Rattle.std.specs.Cmp.Lexicographic.{slice_cmp}
+use Rattle.std.specs.List.{count_by}
+use Rattle.std.specs.List.Sorted.{IsPermutation}
+use Rattle.std.specs.Option.{unwrap_or}
+use Rattle.std.specs.Ordering.{is_eq, nat_cmp, ordering_then}
+use Rattle.std.specs.declared.cmp.Ordering.{Ordering}
+use Rattle.tap_views.specs.Encoding.{fields_of}
+use Rattle.tap_views.specs.Layout.{Tap}
+use Rattle.tap_views.specs.declared.encoder.TapFields.{TapFields}
+use Rattle.tap_views.specs.declared.fault.LayoutFault.{LayoutFault}
+use Rattle.upload_facts.specs.Facts.{IsReadAs, taps_of}
+use Rattle.tap_balance.specs.declared.balance.Balance.{Balance}
+use Rattle.tap_balance.specs.declared.balance.Difference.{Difference}
+use Rattle.tap_balance.specs.declared.balance.Difference.TheVariants.{Missing, Surplus}
+use Rattle.tap_balance.specs.declared.balance.Key.{Key}
+
+-- the posted taps of an upload: those of all its batches before its first layout fault, in order
+pub record ArePosted (upload : List ℕ) (taps : List TapFields) : Type 0 where
+  pub batches : List (List Tap)
+  pub fault : Option (ℕ × LayoutFault)
+  pub read : IsReadAs upload batches fault
+  pub all : taps ≡ map fields_of (taps_of batches)
+
+-- what a balance keeps a tap by
+abbrev pub key_of : TapFields → Key
+key_of tap = record { token = tap.token; moment = tap.moment; validator = tap.validator }
+
+-- keys rise by the bytes of the token, then by moment, then by validator
+abbrev pub key_cmp : Key → Key → Ordering
+key_cmp a b =
+    ordering_then (slice_cmp nat_cmp a.token b.token)
+    (ordering_then (nat_cmp a.moment b.moment) (nat_cmp a.validator b.validator))
+
+-- whether both are taps of one token, at one moment and one validator
+abbrev pub is_same : TapFields → TapFields → Bool
+is_same tap other = is_eq (key_cmp (key_of tap) (key_of other))
+
+-- how often the tap is among these
+abbrev pub times : TapFields → List TapFields → ℕ
+times tap taps = count_by (λ other. is_same other tap) taps
+
+-- how many are left of the tap of this key
+abbrev pub left_at : BTreeMap Key ℕ → Key → ℕ
+left_at left key = unwrap_or (tree.get key_cmp left key) 0
+
+-- of each posted tap some were struck out, and so many are left; or a tap is known that was struck
+-- out more often than it was posted
+abbrev pub IsBalance : Balance → List TapFields → List TapFields → Type 0
+IsBalance balance posted struck =
+    MatchOption balance.surplus
+    ((tap : TapFields) → times tap posted ≡ left_at balance.left (key_of tap) + times tap struck)
+    (λ tap. times tap posted < times tap struck)
+
+-- the others are the posted taps in some order; or the told tap is more often among the ones, or
+-- among the others
+abbrev pub IsDifference : List TapFields → List TapFields → Option Difference → Type 0
+IsDifference posted others None = IsPermutation posted others
+IsDifference posted others (Some (Missing tap)) = times tap others < times tap posted
+IsDifference posted others (Some (Surplus tap)) = times tap posted < times tap others

@@ -1,0 +1,213 @@
+//! The taps of uploads, of which those of the other side are struck out.
+
+ghost use Rattle.std.specs.Prelude.{◌≡◌, ◌+◌, ◌<◌, ◌++◌, ◌∷◌, [], ℕ, List, IfNone, IfSome, OnOk};
+ghost use Rattle.std.specs.Prelude.{if◌then◌else◌, false, map, true};
+ghost use Rattle.std.specs.Ordering.{is_eq};
+ghost use Rattle.tap_views.specs.Encoding.{fields_of};
+ghost use Rattle.tap_views.specs.declared.encoder.TapFields.{TapFields};
+ghost use Rattle.tap_balance.specs.Balances.{ArePosted, IsBalance, IsDifference, key_cmp};
+ghost use Rattle.tap_balance.specs.Balances.{key_of, left_at};
+ghost use Rattle.tap_balance.specs.declared.balance.Key.{Key};
+
+use std::alloc::{AllocError, Global};
+use std::collections::BTreeMap;
+use tap_views::{Batch, TapFields, TapView, batches};
+
+/// A tap, in the order in which a balance keeps taps: by token, then by moment, then by validator.
+#[derive(Clone, Copy, PartialEq, Eq, PartialOrd, Ord)]
+struct Key {
+    /// The 16 bytes of the token.
+    token: [u8; 16],
+    /// The moment in milliseconds since 1970-01-01T00:00Z.
+    moment: u64,
+    /// The validator's number.
+    validator: u32,
+}
+
+/// A tap that one side has more often than the other.
+#[derive(Clone, Copy, Debug, PartialEq, Eq)]
+pub enum Difference {
+    /// The uploads have it more often.
+    Missing(TapFields),
+    /// The other side has it more often.
+    Surplus(TapFields),
+}
+
+impl Difference {
+    /// The tap.
+    pub fn tap(&self) -> &TapFields {
+        match self {
+            Difference::Missing(tap) | Difference::Surplus(tap) => tap,
+        }
+    }
+}
+
+/// The fields of a tap.
+fn fields(tap: &TapView<'_>) -> TapFields
+    ensures { result ≡ fields_of tap.now }
+{
+    let mut token = [0; 16];
+    token.copy_from_slice(tap.token());
+    TapFields {
+        token,
+        validator: tap.validator_number(),
+        moment: tap.moment_ms(),
+    }
+}
+
+/// What a balance keeps the tap by.
+fn key_for(tap: &TapFields) -> Key
+    ensures { result ≡ key_of tap.now }
+{
+    Key {
+        token: tap.token,
+        moment: tap.moment,
+        validator: tap.validator,
+    }
+}
+
+/// How many are left of the tap of this key.
+fn count_at(left: &BTreeMap<Key, u64>, key: Key) -> u64
+    ensures { result ≡ left_at left.now key }
+{
+    left.get(&key).copied().unwrap_or(0)
+}
+
+/// One more is left of the tap of this key. Its one error is want of memory; 2^64 of one tap are
+/// taken for that.
+fn put_one(left: &mut BTreeMap<Key, u64>, key: Key) -> Result<(), AllocError>
+    ensures { OnOk result ((other : Key) → left_at left.new other
+        ≡ left_at left.old other + (if is_eq (key_cmp key other) then 1 else 0)) }
+{
+    let count = count_at(left, key);
+    let Some(more) = count.checked_add(1) else {
+        return Err(AllocError);
+    };
+    left.insert(key, more)?;
+    Ok(())
+}
+
+/// One fewer is left of the tap of this key. False where none was left.
+fn take_one(left: &mut BTreeMap<Key, u64>, key: Key) -> bool
+    ensures taken { result ≡ true → (other : Key) → left_at left.old other
+        ≡ left_at left.new other + (if is_eq (key_cmp key other) then 1 else 0) }
+    ensures none { result ≡ false → left_at left.old key ≡ 0 }
+{
+    match left.get_mut(&key) {
+        Some(count) if *count > 0 => {
+            *count -= 1;
+            true
+        }
+        _ => false,
+    }
+}
+
+/// The first key of whose tap some are left.
+fn first_left(left: &BTreeMap<Key, u64>) -> Option<Key>
+    ensures found { IfSome result (λ key. 0 < left_at left.now key) }
+    ensures none { IfNone result ((key : Key) → left_at left.now key ≡ 0) }
+{
+    for (key, count) in left {
+        if *count > 0 {
+            return Some(*key);
+        }
+    }
+    None
+}
+
+/// The tap of the key.
+fn tap_for(key: &Key) -> TapFields
+    ensures { key_of result ≡ key.now }
+{
+    TapFields {
+        token: key.token,
+        validator: key.validator,
+        moment: key.moment,
+    }
+}
+
+/// The taps of uploads, of which those of the other side are struck out.
+#[derive(Drop)]
+pub struct Balance {
+    /// How many of each tap are left.
+    left: BTreeMap<Key, u64>,
+    /// The first tap that was struck out more often than the uploads have it.
+    surplus: Option<TapFields>,
+}
+
+impl Balance {
+    /// No upload was added, and nothing struck out.
+    pub fn new(alloc: Global) -> Balance
+        ensures { IsBalance result [] [] }
+    {
+        Balance {
+            left: BTreeMap::new(alloc),
+            surplus: None,
+        }
+    }
+
+    /// Adds a tap of an upload.
+    fn add(&mut self, tap: &TapFields) -> Result<(), AllocError>
+        ensures { OnOk result ((posted : List TapFields) → IsBalance self.old posted []
+            → IsBalance self.new (posted ++ tap.now ∷ []) []) }
+    {
+        put_one(&mut self.left, key_for(tap))
+    }
+
+    /// Adds the taps of a batch.
+    fn add_batch(&mut self, batch: &Batch<'_>) -> Result<(), AllocError>
+        ensures { OnOk result ((posted : List TapFields) → IsBalance self.old posted []
+            → IsBalance self.new (posted ++ map fields_of batch.now) []) }
+    {
+        for tap in batch.taps() {
+            self.add(&fields(&tap))?;
+        }
+        Ok(())
+    }
+
+    /// Adds the posted taps of an upload: those before its first layout fault. All uploads are
+    /// added before a tap is struck out. Its one error is want of memory, and after it the balance
+    /// is of no use.
+    pub fn add_upload(&mut self, upload: &[u8]) -> Result<(), AllocError>
+        ensures { OnOk result ((taps : List TapFields) × ArePosted upload.now taps
+            × ((posted : List TapFields) → IsBalance self.old posted []
+            → IsBalance self.new (posted ++ taps) [])) }
+    {
+        for item in batches(upload) {
+            match item {
+                Ok(batch) => self.add_batch(&batch)?,
+                Err(_) => return Ok(()),
+            }
+        }
+        Ok(())
+    }
+
+    /// Strikes out a tap of the other side.
+    pub fn strike(&mut self, tap: &TapFields)
+        ensures { (posted struck : List TapFields) → IsBalance self.old posted struck
+            → IsBalance self.new posted (struck ++ tap.now ∷ []) }
+    {
+        if self.surplus.is_some() {
+            return;
+        }
+        if !take_one(&mut self.left, key_for(tap)) {
+            self.surplus = Some(*tap);
+        }
+    }
+
+    /// A tap that one side has more often than the other: the first struck one of which the uploads
+    /// have no more, else the first of those that are left, by token, moment and validator. `None`
+    /// where the taps that were struck out are, in some order, those of the uploads.
+    pub fn difference(&self) -> Option<Difference>
+        ensures { (posted struck : List TapFields) → IsBalance self.now posted struck
+            → IsDifference posted struck result }
+    {
+        if let Some(tap) = self.surplus {
+            return Some(Difference::Surplus(tap));
+        }
+        let Some(key) = first_left(&self.left) else {
+            return None;
+        };
+        Some(Difference::Missing(tap_for(&key)))
+    }
+}

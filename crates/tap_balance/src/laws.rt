@@ -1,0 +1,16 @@
+//! What follows of a difference. Each law is the contract of a function, which does nothing at run
+//! time.
+
+ghost use Rattle.std.specs.Prelude.{◌≡◌, ◌↔◌, List, Some, true};
+ghost use Rattle.std.specs.List.Sorted.{IsPermutation};
+ghost use Rattle.tap_balance.specs.Balances.{IsDifference, is_same};
+ghost use Rattle.tap_balance.specs.declared.balance.Difference.{Difference};
+ghost use Rattle.tap_views.specs.declared.encoder.TapFields.{TapFields};
+
+/// Taps that are the same by token, moment and validator are one tap; where a tap is told that one
+/// side has more often, the taps of both sides are not the same in any order.
+pub fn differences()
+    ensures same { (tap other : TapFields) → (is_same tap other ≡ true) ↔ (tap ≡ other) }
+    ensures apart { (posted others : List TapFields) (difference : Difference)
+        → IsDifference posted others (Some difference) → ¬ (IsPermutation posted others) }
+{}

@@ -1,0 +1,14 @@
+use Rattle.std.proofs.Common.{◌≡◌, List, ◌++◌, map, Ok}
+use Rattle.tap_views.specs.Layout.{Tap}
+use Rattle.tap_views.specs.Files.{IsReading}
+use Rattle.tap_parts.specs.Parts.{AreAdded}
+use Rattle.upload_facts.specs.Facts.{taps_of}
+use Rattle.upload_parts.proofs.split.add_upload.Given as goal
+
+abbrev pub invariant-loop-item : goal.invariant-loop-item
+invariant-loop-item l = record {
+  may : (goal.iterator-loop-item).can_next l.item-iterator;
+  ends : (goal.iterator-loop-item).is_finite l.item-iterator;
+  reading : IsReading l.upload (l.yielded ++ l.item-iterator);
+  made : (done : List (List Tap)) × (l.yielded ≡ map Ok done) × AreAdded (taps_of done) l.fn.parts l.parts;
+}

@@ -1,0 +1,51 @@
+-- Uploads that are split by token into parts.
+use Rattle.std.specs.Prelude.{◌≡◌, ℕ, ◌<◌, List, [], length, map, flat_map, All, Option}
+use Rattle.std.specs.Prelude.{slice_index_or}
+use Rattle.std.specs.List.{AllZip}
+use Rattle.tap_views.specs.Encoding.{fields_of, AreEarly}
+use Rattle.tap_views.specs.Layout.{Tap}
+use Rattle.tap_views.specs.declared.encoder.TapFields.{TapFields}
+use Rattle.tap_views.specs.declared.fault.LayoutFault.{LayoutFault}
+use Rattle.tap_parts.specs.Parts.{AreAdded, IsFileOf, of_part}
+use Rattle.upload_facts.specs.Facts.{IsReadAs, taps_of}
+use Rattle.upload_parts.specs.Order.{IsCanonical}
+
+-- the upload has these taps before its first layout fault
+pub record HasTaps (upload : List ℕ) (taps : List Tap) : Type 0 where
+  pub batches : List (List Tap)
+  pub fault : Option (ℕ × LayoutFault)
+  pub read : IsReadAs upload batches fault
+  pub all : taps ≡ taps_of batches
+
+-- the taps of all uploads, one upload after the other
+abbrev pub joined : List (List Tap) → List Tap
+joined taps = flat_map (λ upload. upload) taps
+
+-- each of so many parts has exactly the uploads' taps that fall to it, in their order
+pub record AreSplit (parts : ℕ) (uploads : List (List ℕ)) (lists : List (List TapFields))
+    : Type 0 where
+  pub taps : List (List Tap)
+  pub of_uploads : AllZip HasTaps uploads taps
+  pub number : length lists ≡ parts
+  pub each : (part : ℕ) → part < parts
+      → slice_index_or lists part [] ≡ map fields_of (of_part part parts (joined taps))
+
+-- the file is read, with no fault, as exactly the uploads' taps that fall to the part, in canonical
+-- order
+pub record IsPartFile (uploads : List (List ℕ)) (parts part : ℕ) (file : List ℕ) : Type 0 where
+  pub taps : List (List Tap)
+  pub of_uploads : AllZip HasTaps uploads taps
+  pub list : List TapFields
+  pub canonical : IsCanonical (map fields_of (of_part part parts (joined taps))) list
+  pub reads : IsFileOf file list
+
+-- ---- what the private functions tell each other
+-- the upload's taps before its first layout fault were added, each to its part
+pub record IsAdded (upload : List ℕ) (old new : List (List TapFields)) : Type 0 where
+  pub taps : List Tap
+  pub of_upload : HasTaps upload taps
+  pub added : AreAdded taps old new
+
+-- the taps of all parts have moments that a file can have
+abbrev pub AreAllEarly : List (List TapFields) → Type 0
+AreAllEarly lists = All (λ taps. AreEarly (λ (tap : TapFields). tap.moment) taps) lists

@@ -1,0 +1,99 @@
+//! Uploads, split into parts.
+
+ghost use Rattle.std.specs.Prelude.{◌≡◌, ◌<◌, ◌≤◌, ◌++◌, ◌∷◌, [], ℕ, List, IfOk, OnOk, length};
+ghost use Rattle.std.specs.Prelude.{slice_index_or};
+ghost use Rattle.tap_views.specs.Encoding.{AreEarly};
+ghost use Rattle.upload_parts.specs.Order.{IsCanonical};
+ghost use Rattle.upload_parts.specs.Split.{AreSplit, IsAdded, IsPartFile};
+
+use crate::order::sort;
+use std::alloc::{AllocError, Global};
+use std::marker::Model;
+use tap_parts::{Parts, text_of};
+use tap_views::{TapFields, batches};
+
+/// Adds the upload's taps before its first layout fault, each to the part of its token. After an
+/// error the parts are of no use.
+fn add_upload(parts: &mut Parts, upload: &[u8]) -> Result<(), AllocError>
+    ensures { OnOk result (IsAdded upload.now parts.old parts.new) }
+{
+    for item in batches(upload) {
+        match item {
+            Ok(batch) => parts.add(&batch)?,
+            Err(_) => return Ok(()),
+        }
+    }
+    Ok(())
+}
+
+/// These taps in canonical order.
+fn sorted(alloc: Global, taps: &[TapFields]) -> Result<Vec<TapFields>, AllocError>
+    ensures { IfOk result (λ list. IsCanonical taps.now list.items) }
+{
+    let mut list = Vec::new(alloc);
+    list.extend_from_slice(taps)?;
+    sort(&mut list);
+    Ok(list)
+}
+
+/// The taps of uploads, split by token into parts. Contracts see the taps of each part, in the
+/// order of the uploads.
+#[derive(Drop)]
+pub struct Split {
+    /// The taps of each part.
+    parts: Parts,
+}
+
+impl Model for Split {
+    ghost use Rattle.std.specs.Prelude.{List};
+    ghost use Rattle.tap_views.specs.declared.encoder.TapFields.{TapFields};
+    ghost use Rattle.upload_parts.specs.Split.{AreAllEarly};
+
+    ghost Value = { List (List TapFields) };
+
+    ghost view = { λ split. split.parts };
+
+    ghost invariant = { λ split. AreAllEarly split.parts };
+}
+
+impl Split {
+    /// No uploads, in so many parts, 1 to 65,536.
+    pub fn new(alloc: Global, parts: u32) -> Result<Split, AllocError>
+        requires least { 1 ≤ parts }
+        requires most { parts ≤ 65536 }
+        ensures { IfOk result (λ made. AreSplit parts [] made) }
+    {
+        Ok(Split {
+            parts: Parts::with_room(alloc, parts, 0)?,
+        })
+    }
+
+    /// With the taps of one upload more: those before its first layout fault.
+    pub fn with(self, upload: &[u8]) -> Result<Split, AllocError>
+        ensures { IfOk result (λ more. (parts : ℕ) (uploads : List (List ℕ))
+            → AreSplit parts uploads self → AreSplit parts (uploads ++ upload.now ∷ []) more) }
+    {
+        let mut parts = self.parts;
+        add_upload(&mut parts, upload)?;
+        Ok(Split { parts })
+    }
+
+    /// How many parts there are.
+    pub fn len(&self) -> u32
+        ensures { result ≡ length self.now }
+    {
+        self.parts.len()
+    }
+
+    /// The file of a part: its taps in canonical order, as an upload from which they are read
+    /// again.
+    pub fn file(&self, alloc: Global, part: u32) -> Result<Vec<u8>, AllocError>
+        requires { part < length self.now }
+        ensures { IfOk result (λ file. (parts : ℕ) (uploads : List (List ℕ))
+            → AreSplit parts uploads self.now → IsPartFile uploads parts part file.items) }
+    {
+        let taps = sorted(alloc, self.parts.part(part))?;
+        let file = text_of(alloc, &taps)?;
+        Ok(file)
+    }
+}
