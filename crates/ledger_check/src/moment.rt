@@ -86,7 +86,7 @@ fn read_day(text: &[u8; 10]) -> Option<u64>
     since_epoch(date)
 }
 
-/// The milliseconds since midnight of a time of day, as `T17:00:00.000Z`.
+/// The milliseconds since midnight of the time of day in a moment's text, from its `T` to its `Z`.
 fn read_clock(text: &[u8; 14]) -> Option<u64>
     ensures small { IfSome result (λ ms. ms < 86_400_000) }
     ensures found { (ms : ℕ) → ms < 86_400_000 → text.now ≡ clock_text ms → result ≡ Some ms }
