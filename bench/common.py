@@ -1,4 +1,4 @@
-"""What the two scripts of this folder share: building, running, medians, tables."""
+"""What `compare` needs: building, running, medians, tables."""
 
 import os
 import shutil
