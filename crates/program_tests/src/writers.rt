@@ -82,33 +82,79 @@ fn run_first<R: Threads + Wait + RandomSource + Sync, W: Write>(
     Ok(run_over(rt, alloc, words, &NoDisk, &mut shelf, out)?)
 }
 
+/// The status and the complaint of such a run, where the writer takes so many bytes.
+fn run_with_room<R: Threads + Wait + RandomSource + Sync>(
+    rt: &R,
+    alloc: Global,
+    words: &[&str],
+    room: usize,
+) -> Result<(u8, Vec<u8>), Fail> {
+    let mut out = Full { room };
+    run_first(rt, alloc, words, &mut out)
+}
+
+/// The same, where the writer brings no byte anywhere.
+fn run_stuck<R: Threads + Wait + RandomSource + Sync>(
+    rt: &R,
+    alloc: Global,
+    words: &[&str],
+) -> Result<(u8, Vec<u8>), Fail> {
+    let mut out = Stuck;
+    run_first(rt, alloc, words, &mut out)
+}
+
+/// Whether such a run writes this text, ends well, and says nothing.
+fn writes<R: Threads + Wait + RandomSource + Sync>(
+    rt: &R,
+    alloc: Global,
+    words: &[&str],
+    text: &[u8],
+) -> Result<bool, Fail> {
+    let mut out = Vec::new(alloc);
+    let (status, err) = run_first(rt, alloc, words, &mut out)?;
+    Ok(status == 0 && err.is_empty() && out.as_slice() == text)
+}
+
+/// The first room below the length with which such a run does not tell, with status 1, that it
+/// cannot write.
+fn first_untold<R: Threads + Wait + RandomSource + Sync>(
+    rt: &R,
+    alloc: Global,
+    words: &[&str],
+    length: usize,
+) -> Result<Option<usize>, Fail> {
+    for room in 0..length {
+        let (status, err) = run_with_room(rt, alloc, words, room)?;
+        if status != 1 || err.as_slice() != CANNOT_WRITE {
+            return Ok(Some(room));
+        }
+    }
+    Ok(None)
+}
+
 #[test]
 fn tells_of_a_text_that_cannot_be_written(rt: HostRuntime) -> Result<(), Fail> {
     let alloc = rt.alloc();
-    let rows: [(&[&str], &str); 2] = [(&[], LISTING), (&["--table", "t"], REPORT)];
-    for (words, text) in rows {
-        for room in 0..text.len() {
-            let (status, err) = run_first(&rt, alloc, words, &mut Full { room })?;
-            assert_eq!(rt;
-                (err.as_slice(), status),
-                (CANNOT_WRITE, 1),
-                "with room for {room}"
-            );
-        }
-        let mut out = Vec::new(alloc);
-        let (status, err) = run_first(&rt, alloc, words, &mut out)?;
-        assert_eq!(rt;
-            (out.as_slice(), err.as_slice(), status),
-            (text.as_bytes(), b"".as_slice(), 0)
-        );
-        let (status, err) = run_first(&rt, alloc, words, &mut Full { room: text.len() })?;
-        assert_eq!(rt; (err.as_slice(), status), (b"".as_slice(), 0));
-        let (status, err) = run_first(&rt, alloc, words, &mut Stuck)?;
-        assert_eq!(rt; (err.as_slice(), status), (CANNOT_WRITE, 1));
-    }
-    let (status, err) = run_first(&rt, alloc, &["--help"], &mut Full { room: 9 })?;
+    assert!(rt; writes(&rt, alloc, &[], LISTING.as_bytes())?);
+    assert_eq!(rt; first_untold(&rt, alloc, &[], LISTING.len())?, None);
+    let report = ["--table", "t"];
+    assert!(rt; writes(&rt, alloc, &report, REPORT.as_bytes())?);
+    assert_eq!(rt; first_untold(&rt, alloc, &report, REPORT.len())?, None);
+    let (status, err) = run_with_room(&rt, alloc, &report, REPORT.len())?;
+    assert_eq!(rt; (err.as_slice(), status), (b"".as_slice(), 0));
+    let (status, err) = run_with_room(&rt, alloc, &["--help"], 9)?;
     assert_eq!(rt; (err.as_slice(), status), (CANNOT_WRITE, 1));
-    let (status, err) = run_first(&rt, alloc, &["--help"], &mut Stuck)?;
+    Ok(())
+}
+
+#[test]
+fn tells_of_a_text_that_is_not_brought_anywhere(rt: HostRuntime) -> Result<(), Fail> {
+    let alloc = rt.alloc();
+    let (status, err) = run_stuck(&rt, alloc, &[])?;
+    assert_eq!(rt; (err.as_slice(), status), (CANNOT_WRITE, 1));
+    let (status, err) = run_stuck(&rt, alloc, &["--table", "t"])?;
+    assert_eq!(rt; (err.as_slice(), status), (CANNOT_WRITE, 1));
+    let (status, err) = run_stuck(&rt, alloc, &["--help"])?;
     assert_eq!(rt; (err.as_slice(), status), (CANNOT_WRITE, 1));
     Ok(())
 }
@@ -131,23 +177,20 @@ fn ends_with_its_status_where_the_fault_cannot_be_told(rt: HostRuntime) -> Resul
     Ok(())
 }
 
+/// What is said of words that cannot be read for this reason, and the status.
+fn unread(alloc: Global, kind: io::ErrorKind) -> (Vec<u8>, u8) {
+    let mut err = Complaints::new(Vec::new(alloc));
+    let status = unread_words(&io::Error::from(kind), &mut err);
+    (err.into_writer(), status)
+}
+
 #[test]
-fn tells_of_words_that_cannot_be_had(rt: HostRuntime) -> Result<(), Fail> {
-    let rows = [
-        (io::ErrorKind::OutOfMemory, "fault: out of memory\n", 1),
-        (
-            io::ErrorKind::InvalidData,
-            "error: an argument is not UTF-8\n",
-            2,
-        ),
-    ];
-    for (kind, line, status) in rows {
-        let mut err = Complaints::new(Vec::new(rt.alloc()));
-        let ended = unread_words(&io::Error::from(kind), &mut err);
-        assert_eq!(rt;
-            (err.into_writer().as_slice(), ended),
-            (line.as_bytes(), status)
-        );
-    }
-    Ok(())
+fn tells_of_words_that_cannot_be_had(rt: HostRuntime) {
+    let (said, status) = unread(rt.alloc(), io::ErrorKind::OutOfMemory);
+    assert_eq!(rt; (said.as_slice(), status), (b"fault: out of memory\n".as_slice(), 1));
+    let (said, status) = unread(rt.alloc(), io::ErrorKind::InvalidData);
+    assert_eq!(rt;
+        (said.as_slice(), status),
+        (b"error: an argument is not UTF-8\n".as_slice(), 2)
+    );
 }
