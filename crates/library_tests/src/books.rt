@@ -46,11 +46,7 @@ fn post(alloc: Global, book: &mut ShardBook, tap: TapFields) -> Result<Reply, Fa
 }
 
 /// A book with these taps.
-fn book_of<R: RandomSource>(
-    alloc: Global,
-    rt: &R,
-    taps: &[TapFields],
-) -> Result<ShardBook, Fail> {
+fn book_of<R: RandomSource>(alloc: Global, rt: &R, taps: &[TapFields]) -> Result<ShardBook, Fail> {
     let mut book = empty_book(alloc, rt)?;
     for tap in taps {
         post(alloc, &mut book, *tap)?;
@@ -80,10 +76,7 @@ fn two_entries(cents: u32) -> [Entry; 2] {
 /// From the very list, from one with other cents, and from its beginning.
 #[test]
 fn differences_from_a_list(rt: HostRuntime) -> Result<(), Fail> {
-    let taps = [
-        tap(0xa1, SUBWAY, START),
-        tap(0xa1, BUS, START + 7_200_000),
-    ];
+    let taps = [tap(0xa1, SUBWAY, START), tap(0xa1, BUS, START + 7_200_000)];
     let book = book_of(rt.alloc(), &rt, &taps)?;
     let found = [
         first_difference(&book, &two_entries(0)),

@@ -17,7 +17,14 @@ fn digits_of(run: &Run<'_>) -> u64 {
 
 /// The taps' moments end in 1 to 5, and the batch in the middle has none.
 fn three_batches(alloc: Global) -> Result<Vec<u8>, Fail> {
-    let mut file = encode(alloc, &[tap(0xa1, SUBWAY, 1), tap(0xb2, SUBWAY, 2), tap(0xa9, SUBWAY, 3)])?;
+    let mut file = encode(
+        alloc,
+        &[
+            tap(0xa1, SUBWAY, 1),
+            tap(0xb2, SUBWAY, 2),
+            tap(0xa9, SUBWAY, 3),
+        ],
+    )?;
     file.extend_from_slice(&encode(alloc, &[])?)?;
     file.extend_from_slice(&encode(alloc, &[tap(0xb2, SUBWAY, 4), tap(0xb2, SUBWAY, 5)])?)?;
     Ok(file)

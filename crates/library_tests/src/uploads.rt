@@ -50,7 +50,10 @@ fn a_batch_of_two_taps(rt: HostRuntime) -> Result<(), Fail> {
     let first = taps.next().ok_or("no first tap")?;
     let last = taps.next_back().ok_or("no last tap")?;
     assert!(rt; taps.next().is_none());
-    assert_eq!(rt; (first.moment(), first.moment_ms()), (&FIRST[28..36], START));
+    assert_eq!(rt;
+        (first.moment(), first.moment_ms()),
+        (&FIRST[28..36], START)
+    );
     let tap = batch.tap(1);
     assert_eq!(rt;
         (tap.validator_number(), tap.moment_ms(), tap.validator()),
@@ -74,7 +77,11 @@ fn faults_come_in_their_order(rt: HostRuntime) {
     is_fault(&rt, &SHARED[..10], LayoutFault::Short { have: 10 });
     let short = LayoutFault::Short { have: 11 };
     is_fault(&rt, b"TAP2\x00\x00\x00\x01\x00\x00\x03", short);
-    is_fault(&rt, b"TAP2\x00\x00\x00\x01\x00\x00\x03\xe8", LayoutFault::Flags);
+    is_fault(
+        &rt,
+        b"TAP2\x00\x00\x00\x01\x00\x00\x03\xe8",
+        LayoutFault::Flags,
+    );
     is_fault(&rt, b"TAP2\x10\x01\x00\x00\x00\x00\x03\xe8", too_many);
     let length = LayoutFault::Length { want: 36, have: 35 };
     is_fault(&rt, &SHARED[..35], length);
@@ -103,7 +110,10 @@ fn both_taps_are_in_one_of_eight_shards(rt: HostRuntime) -> Result<(), Fail> {
     let mut left = batch.run_of(2, 8).taps();
     let one = left.next().map(|tap| tap.validator_number());
     let other = left.next().map(|tap| tap.validator_number());
-    assert_eq!(rt; (one, other, left.next().is_none()), (Some(9), Some(SUBWAY), true));
+    assert_eq!(rt;
+        (one, other, left.next().is_none()),
+        (Some(9), Some(SUBWAY), true)
+    );
     let token = &FIRST[8..24];
     assert_eq!(rt; (shard_of(token, 8), shard_of(token, 1)), (1, 0));
     Ok(())
@@ -111,10 +121,7 @@ fn both_taps_are_in_one_of_eight_shards(rt: HostRuntime) -> Result<(), Fail> {
 
 #[test]
 fn encoding(rt: HostRuntime) -> Result<(), Fail> {
-    let mut taps = [
-        tap(0xa1, SUBWAY, START),
-        tap(0xa1, BUS, START + 7_200_000),
-    ];
+    let mut taps = [tap(0xa1, SUBWAY, START), tap(0xa1, BUS, START + 7_200_000)];
     assert!(rt; encode(rt.alloc(), &taps)?.as_slice() == &FIRST[..]);
     assert!(rt; encode(rt.alloc(), &[])?.as_slice() == &b"TAP1\x00\x00\x00\x00"[..]);
     taps[1].moment = LIMIT;

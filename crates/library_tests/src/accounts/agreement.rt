@@ -90,7 +90,10 @@ fn five_thousand_taps(rt: HostRuntime) -> Result<(), Fail> {
     let zoned = format!(in alloc; "zone = \"EST5EDT,M3.2.0,M11.1.0\"\n{SAMPLE}")?;
     for text in [SAMPLE, zoned.as_str()] {
         assert_eq!(rt; counts_under(&rt, alloc, text, 3_600_000, 7_200_000)?, wide);
-        assert_eq!(rt; counts_under(&rt, alloc, text, 2_400_000, 4_800_000)?, close);
+        assert_eq!(rt;
+            counts_under(&rt, alloc, text, 2_400_000, 4_800_000)?,
+            close
+        );
     }
     Ok(())
 }
