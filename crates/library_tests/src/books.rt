@@ -1,7 +1,5 @@
 //! Books by themselves: calls that no program makes, and what no clause says.
 
-ghost use Rattle.std.specs.Prelude.{◌<◌};
-
 use crate::sample::{BUS, SAMPLE, START, SUBWAY, tap, token};
 use account_rule::{Answer, Reply};
 use fare_table::FareTable;
