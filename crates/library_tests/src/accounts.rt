@@ -1,8 +1,5 @@
-//! Worked rows of one account, and the plain account that keeps all its taps.
+//! One account beside a plain one, which keeps all its taps.
 
 mod agreement;
 mod both;
 mod plain;
-mod reasons;
-mod rows;
-mod tables;

@@ -1,4 +1,5 @@
-//! Tests of the libraries by their public calls: uploads, fare tables, accounts, books, turns.
+//! Tests of the libraries by their public calls: uploads, accounts, books, turns. They are what no
+//! command line shows; what one shows is a case in `cases/`.
 //!
 //! They stand in a crate of their own, so that no library is proved anew with them.
 #![tactic(auto)]
@@ -12,7 +13,9 @@ mod cuts;
 #[cfg(test)]
 mod draws;
 #[cfg(test)]
-mod fares;
+mod sample;
+#[cfg(test)]
+mod texts;
 #[cfg(test)]
 mod turns;
 #[cfg(test)]

@@ -6,6 +6,7 @@ ghost use Rattle.fare_service.specs.Plain.{AreApart, IsPlain, IsReportOver, WasW
 ghost use Rattle.fare_service.specs.Printed.{report_of};
 ghost use Rattle.fare_service.specs.Shares.{IsShareOf};
 
+use crate::sample::{Open, TABLE, two_taps};
 use fare_service::{Gate, Outcome, RunFault, Service, Share, laws};
 use fare_table::FareTable;
 use std::alloc::Global;
@@ -15,38 +16,6 @@ use std::random::RandomSource;
 use std::sync::Wait;
 use std::test::Fail;
 use std::thread::Threads;
-use tap_views::{TapFields, encode};
-
-const TABLE: &str = r#"modes = ["subway"]
-transfers = []
-default_class = "full"
-
-[classes.full]
-fare = 300
-rides = 12
-ceiling = 3500
-
-[[validators]]
-first = 1
-last = 9
-mode = "subway"
-"#;
-
-// A gate that keeps nobody waiting.
-#[derive(Drop)]
-struct Open;
-
-impl Gate for Open {
-    type Begun = u32;
-
-    ghost begins = { λ begun. begun };
-
-    fn before(&self, upload: u32) -> u32 {
-        upload
-    }
-
-    fn after(&self, _: u32) {}
-}
 
 // Runs a service of these uploads, and knows of the outcome that its report is that of their plain
 // history.
@@ -72,17 +41,6 @@ fn run<R: Threads + Wait + Sync, G: Gate + Sync>(
     Ok(outcome)
 }
 
-fn upload(alloc: Global, last: u8) -> Result<Vec<u8>, Fail> {
-    let mut token = [0; 16];
-    token[15] = last;
-    let tap = TapFields {
-        token,
-        validator: 7,
-        moment: 1_709_917_200_000,
-    };
-    Ok(encode(alloc, &[tap])?)
-}
-
 fn report_text<R: Threads + Sync>(
     rt: &R,
     alloc: Global,
@@ -106,13 +64,6 @@ fn posted<R: Threads + Wait + RandomSource + Sync>(
     Ok(run(service, uploads, rt, alloc, share, workers, &Open)?)
 }
 
-fn two_uploads(alloc: Global) -> Result<Vec<Vec<u8>>, Fail> {
-    let mut uploads = Vec::new(alloc);
-    uploads.push(upload(alloc, 1)?)?;
-    uploads.push(upload(alloc, 2)?)?;
-    Ok(uploads)
-}
-
 fn have_one_text<R: Abort + Threads + Sync>(
     rt: &R,
     alloc: Global,
@@ -128,7 +79,7 @@ fn have_one_text<R: Abort + Threads + Sync>(
 #[test]
 fn two_runs_have_one_report(rt: HostRuntime) -> Result<(), Fail> {
     let alloc = rt.alloc();
-    let uploads = two_uploads(alloc)?;
+    let uploads = two_taps(alloc)?;
     let one = posted(&rt, alloc, uploads.as_slice(), 1, 1)?;
     let other = posted(&rt, alloc, uploads.as_slice(), 5, 3)?;
     assert!(rt; laws::ended_whole(&one) && laws::ended_whole(&other));

@@ -1,5 +1,5 @@
-//! Tests of the service by its public calls: worked rows on ends, texts and shares, damaged
-//! uploads, writers that fail, schedules.
+//! Tests of the service by its public calls: shares and workers, numbers out of range, damaged
+//! uploads, writers that fail, schedules. What a command line shows is a case in `cases/`.
 //!
 //! They stand in a crate of their own, so that the service is not proved anew with them.
 #![tactic(auto)]

@@ -71,36 +71,35 @@ pub fn tap(last: u8, validator: u32, after: u64) -> TapFields {
     }
 }
 
-/// Appends an upload. One way out a line: each way out drops all that its function owns, and is
-/// proved.
-pub fn add(uploads: &mut Vec<Vec<u8>>, upload: Result<Vec<u8>, Fail>) -> Result<(), Fail> {
-    Ok(uploads.push(upload?)?)
-}
-
-/// Subway, bus, bus, subway within an hour: paid, transfer, paid, transfer.
-pub fn four_rides(alloc: Global) -> Result<Vec<u8>, Fail> {
-    Ok(encode(
-        alloc,
-        &[
-            tap(0xa1, SUBWAY, 0),
-            tap(0xa1, BUS, 1_200_000),
-            tap(0xa1, BUS, 2_400_000),
-            tap(0xa1, SUBWAY, 3_600_000),
-        ],
-    )?)
-}
-
-/// A tap at a validator that the table does not know, and then an earlier one: unknown, paid.
-pub fn an_unknown_one(alloc: Global) -> Result<Vec<u8>, Fail> {
-    Ok(encode(alloc, &[tap(0xb2, 9, 10), tap(0xb2, SUBWAY, 5)])?)
-}
-
-/// The uploads of the example.
-pub fn two_uploads(alloc: Global) -> Result<Vec<Vec<u8>>, Fail> {
+/// Two uploads of one batch each.
+pub fn uploads_of(
+    alloc: Global,
+    one: &[TapFields],
+    other: &[TapFields],
+) -> Result<Vec<Vec<u8>>, Fail> {
     let mut uploads = Vec::new(alloc);
-    add(&mut uploads, four_rides(alloc))?;
-    add(&mut uploads, an_unknown_one(alloc))?;
+    uploads.push(encode(alloc, one)?)?;
+    uploads.push(encode(alloc, other)?)?;
     Ok(uploads)
+}
+
+/// The uploads of the example: subway, bus, bus, subway within an hour (paid, transfer, paid,
+/// transfer); a tap at a validator that the table does not know, and then an earlier one (unknown,
+/// paid).
+pub fn two_uploads(alloc: Global) -> Result<Vec<Vec<u8>>, Fail> {
+    let four = [
+        tap(0xa1, SUBWAY, 0),
+        tap(0xa1, BUS, 1_200_000),
+        tap(0xa1, BUS, 2_400_000),
+        tap(0xa1, SUBWAY, 3_600_000),
+    ];
+    uploads_of(alloc, &four, &[tap(0xb2, 9, 10), tap(0xb2, SUBWAY, 5)])
+}
+
+/// Two uploads of one tap each, of two tokens.
+pub fn two_taps(alloc: Global) -> Result<Vec<Vec<u8>>, Fail> {
+    let (one, other) = (tap(0xa1, SUBWAY, 0), tap(0xb2, SUBWAY, 0));
+    uploads_of(alloc, &[one], &[other])
 }
 
 /// A gate that keeps nobody waiting.

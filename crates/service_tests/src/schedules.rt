@@ -89,23 +89,3 @@ fn twenty_uploads_by_two_workers(rt: HostRuntime) -> Result<(), Fail> {
     }
     Ok(())
 }
-
-// Would catch a worker that stops after some number of uploads though none was cut.
-#[test]
-fn one_worker_posts_five_thousand_uploads(rt: HostRuntime) -> Result<(), Fail> {
-    let alloc = rt.alloc();
-    let mut uploads = Vec::new(alloc);
-    for _ in 0..5_000u32 {
-        uploads.push(encode(alloc, &[tap(1, SUBWAY, 0)])?)?;
-    }
-    let outcome = run(&rt, alloc, uploads.as_slice(), 1, 1, &Open)?;
-    assert_eq!(rt; outcome.uploads(), 5_000);
-    for upload in 0..outcome.uploads() {
-        assert_eq!(rt;
-            outcome.upload(upload),
-            UploadEnd::Posted { taps: 1 },
-            "upload {upload}"
-        );
-    }
-    Ok(())
-}

@@ -2,40 +2,32 @@
 
 ghost use Rattle.std.specs.Prelude.{◌≡◌, ◌<◌, ◌≤◌};
 
-use super::both::{B, M0, S, X, step_both, tap_of, transfers};
+use super::both::{step_both, tap_of};
 use super::plain::PlainAccount;
-use super::tables::{NEW_YORK, SAMPLE};
+use crate::sample::{BUS, SAMPLE, START, SUBWAY, tap};
 use account_rule::{Account, Answer};
 use fare_table::{Clock, FareTable, Terms};
 use std::alloc::Global;
+use std::mem::size_of;
 use std::process::Abort;
 use std::test::Fail;
 
-/// How many replies there are of each answer.
-#[derive(Clone, Copy, Debug, PartialEq, Eq)]
-struct Counts {
-    paid: u32,
-    transfers: u32,
-    capped: u32,
-    stale: u32,
-    unknown: u32,
-}
-
-impl Counts {
-    fn add(&mut self, answer: Answer) {
-        let count = match answer {
-            Answer::Paid => &mut self.paid,
-            Answer::Transfer => &mut self.transfers,
-            Answer::Capped => &mut self.capped,
-            Answer::Stale => &mut self.stale,
-            Answer::Unknown => &mut self.unknown,
-        };
-        *count = count.saturating_add(1);
+/// The place of an answer among paid, transfer, capped, stale and unknown.
+fn place_of(answer: Answer) -> usize
+    ensures { result < 5 }
+{
+    match answer {
+        Answer::Paid => 0,
+        Answer::Transfer => 1,
+        Answer::Capped => 2,
+        Answer::Stale => 3,
+        Answer::Unknown => 4,
     }
 }
 
-/// The replies to 5,000 taps: tap `i` is at `M0 + ahead * i - back * (i % 3)`, on the subway where
-/// `i % 5` is 0 or 1, on a bus where it is 2 or 3, and else at a validator that no table knows.
+/// How many of 5,000 taps have each answer: tap `i` is at `START + ahead * i - back * (i % 3)`, on
+/// the subway where `i % 5` is 0 or 1, on a bus where it is 2 or 3, and else at a validator that no
+/// table knows.
 fn counts_of(
     rt: &impl Abort,
     alloc: Global,
@@ -43,37 +35,32 @@ fn counts_of(
     clock: &Clock,
     ahead: u64,
     back: u64,
-) -> Result<Counts, Fail>
+) -> Result<[u32; 5], Fail>
     requires clock { clock.now ≡ table.now.zone }
     requires ahead { ahead ≤ 3_600_000 }
     requires back { back ≤ 7_200_000 }
 {
-    let mut token = [0; 16];
-    token[15] = 0xa1;
+    let token = tap(0xa1, SUBWAY, START).token;
     let terms = Terms {
         fare: 300,
         rides: 12,
         ceiling: 3500,
     };
     let mut account = Account::fresh();
-    let mut plain = PlainAccount::fresh(alloc, terms, transfers(alloc)?);
-    let mut counts = Counts {
-        paid: 0,
-        transfers: 0,
-        capped: 0,
-        stale: 0,
-        unknown: 0,
-    };
+    let transfers = [(0, 1), (1, 0), (1, 1)].to_vec(alloc)?;
+    let mut plain = PlainAccount::fresh(alloc, terms, transfers);
+    let mut counts = [0u32; 5];
     for i in 0..5_000u64 {
-        let moment = M0 + ahead * i - back * (i % 3);
+        let moment = START + ahead * i - back * (i % 3);
         let validator = match i % 5 {
-            0 | 1 => S,
-            2 | 3 => B,
-            _ => X,
+            0 | 1 => SUBWAY,
+            2 | 3 => BUS,
+            _ => 9,
         };
         let tap = tap_of(table, clock, validator, moment)?;
         let reply = step_both(rt, table, &token, &mut account, &mut plain, tap)?;
-        counts.add(reply.answer);
+        let place = place_of(reply.answer);
+        counts[place] = counts[place].saturating_add(1);
     }
     Ok(counts)
 }
@@ -85,7 +72,7 @@ fn counts_under(
     text: &str,
     ahead: u64,
     back: u64,
-) -> Result<Counts, Fail>
+) -> Result<[u32; 5], Fail>
     requires ahead { ahead ≤ 3_600_000 }
     requires back { back ≤ 7_200_000 }
 {
@@ -97,29 +84,21 @@ fn counts_under(
 #[test]
 fn five_thousand_taps(rt: HostRuntime) -> Result<(), Fail> {
     // Counted by a program of another language, from the rule's text.
-    let wide = Counts {
-        paid: 360,
-        transfers: 0,
-        capped: 1307,
-        stale: 2333,
-        unknown: 1000,
-    };
-    let close = Counts {
-        paid: 240,
-        transfers: 666,
-        capped: 761,
-        stale: 2333,
-        unknown: 1000,
-    };
-    for text in [SAMPLE, NEW_YORK] {
+    let wide = [360, 0, 1307, 2333, 1000];
+    let close = [240, 666, 761, 2333, 1000];
+    let alloc = rt.alloc();
+    let zoned = format!(in alloc; "zone = \"EST5EDT,M3.2.0,M11.1.0\"\n{SAMPLE}")?;
+    for text in [SAMPLE, zoned.as_str()] {
+        assert_eq!(rt; counts_under(&rt, alloc, text, 3_600_000, 7_200_000)?, wide);
         assert_eq!(rt;
-            counts_under(&rt, rt.alloc(), text, 3_600_000, 7_200_000)?,
-            wide
-        );
-        assert_eq!(rt;
-            counts_under(&rt, rt.alloc(), text, 2_400_000, 4_800_000)?,
+            counts_under(&rt, alloc, text, 2_400_000, 4_800_000)?,
             close
         );
     }
     Ok(())
+}
+
+#[test]
+fn account_is_small(rt: HostRuntime) {
+    assert_eq!(rt; size_of::<Account>(), 48);
 }

@@ -9,27 +9,8 @@ ghost use Rattle.account_rule.specs.Stands.{StandsForSome};
 use super::plain::PlainAccount;
 use account_rule::{Account, Reply, TapIn};
 use fare_table::{Clock, FareTable, NoMemory};
-use std::alloc::Global;
 use std::process::Abort;
 use std::test::Fail;
-
-/// 2024-03-08T17:00:00.000Z.
-pub(crate) const M0: u64 = 1_709_917_200_000;
-
-/// Seven days, in milliseconds.
-pub(crate) const WEEK: u64 = 604_800_000;
-
-/// A subway validator, a bus validator, and one that no table here knows.
-pub(crate) const S: u32 = 1500;
-
-pub(crate) const B: u32 = 2500;
-
-pub(crate) const X: u32 = 9;
-
-/// The transfers of the sample: subway to bus, bus to subway, bus to bus.
-pub(crate) fn transfers(alloc: Global) -> Result<Vec<(u8, u8)>, Fail> {
-    Ok([(0, 1), (1, 0), (1, 1)].to_vec(alloc)?)
-}
 
 /// The tap as the table sees it.
 pub(crate) fn tap_of(

@@ -20,7 +20,7 @@ pub(crate) struct PlainAccount {
 }
 
 /// A known tap that is later than all known taps before it.
-#[derive(Clone, Copy, Debug, PartialEq, Eq)]
+#[derive(Clone, Copy)]
 struct LiveTap {
     moment: u64,
     mode: Mode,
