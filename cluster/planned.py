@@ -10,7 +10,7 @@ import sys
 # A task's kind, and the file that it names last: where that stands, the task is done.
 DONE = {"split": "ends/{}", "post": "reports/{}", "merge": "status"}
 BATCH_TAPS = 4096  # of each batch in a part's file; the last one may have fewer
-FOLDERS = ("bin", "groups", "parts", "sizes", "ends", "reports", "logs", "work")
+FOLDERS = ("bin", "groups", "parts", "sizes", "ends", "reports", "ledgers", "logs", "work")
 
 
 class Fault(Exception):
@@ -30,8 +30,8 @@ class Run:
                 plan = json.load(file)
             self.folder = os.path.realpath(folder)
             os.chdir(self.folder)
-            self.parts, self.groups, self.workers = (
-                plan[key] for key in ("parts", "groups", "workers"))
+            self.parts, self.groups, self.workers, self.ledger = (
+                plan[key] for key in ("parts", "groups", "workers", "ledger"))
         except (OSError, ValueError, KeyError):
             raise Fault(f"{folder} is no planned run") from None
         self.counts = {"split": self.groups, "post": self.parts, "merge": 1}
@@ -86,6 +86,23 @@ class Run:
                 yield group, f"{name} has {size} bytes, not {wanted}"
             elif size and self.part_of(int.from_bytes(first[20:], "big")) != part:
                 yield group, f"{name} has taps of another part"
+
+    def damaged_ledgers(self):
+        """What is wrong with the ledgers of parts: pairs of a part and a reason."""
+        for part in range(self.parts):
+            name = f"ledgers/{part}"
+            try:
+                with open(f"sizes/ledger-{part}", encoding="ascii") as file:
+                    wanted = json.load(file)
+                with open(name, "rb") as file:
+                    size, _, first = os.fstat(file.fileno()).st_size, file.readline(), file.read(32)
+            except (OSError, ValueError):
+                yield part, f"{name} is missing"
+                continue
+            if size != wanted:
+                yield part, f"{name} has {size} bytes, not {wanted}"
+            elif first and self.part_of(int(first[24:], 16)) != part:
+                yield part, f"{name} is of another part"
 
     def sized_taps(self, group):
         """How many taps the split found in the uploads of a group, for each part."""
