@@ -187,7 +187,10 @@ fn unread(alloc: Global, kind: io::ErrorKind) -> (Vec<u8>, u8) {
 #[test]
 fn tells_of_words_that_cannot_be_had(rt: HostRuntime) {
     let (said, status) = unread(rt.alloc(), io::ErrorKind::OutOfMemory);
-    assert_eq!(rt; (said.as_slice(), status), (b"fault: out of memory\n".as_slice(), 1));
+    assert_eq!(rt;
+        (said.as_slice(), status),
+        (b"fault: out of memory\n".as_slice(), 1)
+    );
     let (said, status) = unread(rt.alloc(), io::ErrorKind::InvalidData);
     assert_eq!(rt;
         (said.as_slice(), status),
