@@ -7,7 +7,10 @@ ghost use Rattle.tap_views.specs.Layout.{magic, Tap1, Tap2, spelling};
 ghost use Rattle.tap_views.specs.Encoding.{Encodes, Encodes2, AreEncodable, IsRefused, IsFields};
 ghost use Rattle.tap_views.specs.Encoding.{IsFields2, written, written_2};
 
-use crate::batch::{LIMIT, MOST};
+use crate::layout::{
+    MAX_TAPS, MOMENT_LIMIT_MS, TAP1, TAP1_HEADER_BYTES, TAP1_TAP_BYTES, TAP2, TAP2_HEADER_BYTES,
+    TAP2_TAP_BYTES,
+};
 use std::alloc::{AllocError, Global};
 use thiserror::Error;
 
@@ -85,10 +88,11 @@ pub fn encode_tap2(
     Ok(write_tap2(alloc, validator, taps)?)
 }
 
-// What the taps of both layouts are asked.
+/// What the taps of both layouts are asked.
 trait Timed {
     ghost moment_of: { Self → ℕ };
 
+    /// The moment in milliseconds since 1970-01-01T00:00Z.
     fn moment(&self) -> u64
         ensures { result ≡ moment_of self.now };
 }
@@ -109,23 +113,23 @@ impl Timed for Tap2Fields {
     }
 }
 
-// Whether the taps may stand in one batch.
+/// Whether the taps may stand in one batch.
 fn check<T: Timed>(taps: &[T]) -> Result<(), EncodeFault>
     ensures ok { OnOk result (AreEncodable T.moment_of taps.now) }
     ensures fault { IfErr result (IsRefused T.moment_of taps.now) }
 {
-    if taps.len() > MOST as usize {
+    if taps.len() > MAX_TAPS {
         return Err(EncodeFault::TooMany);
     }
     for (i, tap) in taps.iter().enumerate() {
-        if tap.moment() >= LIMIT {
+        if tap.moment() >= MOMENT_LIMIT_MS {
             return Err(EncodeFault::Moment { index: i as u64 });
         }
     }
     Ok(())
 }
 
-// The bytes of a batch, of taps that may stand in one.
+/// The bytes of a `TAP1` batch, of taps that may stand in one.
 fn write(alloc: Global, taps: &[TapFields]) -> Result<Vec<u8>, AllocError>
     requires { length taps.now ≤ 4096 }
     ensures fields { OnOk result (All IsFields taps.now) }
@@ -133,8 +137,8 @@ fn write(alloc: Global, taps: &[TapFields]) -> Result<Vec<u8>, AllocError>
         (λ bytes. bytes.items ≡ (magic Tap1 ++ big_bytes 2 (length taps.now) ++ 0 ∷ 0 ∷ [])
         ++ flat_map (λ tap. spelling Tap1 (written tap)) taps.now) }
 {
-    let mut bytes = Vec::with_capacity(alloc, 8 + 28 * taps.len())?;
-    bytes.extend_from_slice(b"TAP1")?;
+    let mut bytes = Vec::with_capacity(alloc, TAP1_HEADER_BYTES + TAP1_TAP_BYTES * taps.len())?;
+    bytes.extend_from_slice(&TAP1)?;
     bytes.extend_from_slice(&(taps.len() as u16).to_be_bytes())?;
     bytes.extend_from_slice(&[0, 0])?;
     for tap in taps {
@@ -143,7 +147,7 @@ fn write(alloc: Global, taps: &[TapFields]) -> Result<Vec<u8>, AllocError>
     Ok(bytes)
 }
 
-// Adds one tap with its validator.
+/// Adds one tap with its validator.
 fn put_tap(bytes: &mut Vec<u8>, tap: &TapFields) -> Result<(), AllocError>
     ensures bytes { OnOk result
         (bytes.new.items ≡ bytes.old.items ++ spelling Tap1 (written tap.now)) }
@@ -155,7 +159,7 @@ fn put_tap(bytes: &mut Vec<u8>, tap: &TapFields) -> Result<(), AllocError>
     Ok(())
 }
 
-// The bytes of a batch with one validator, of taps that may stand in one.
+/// The bytes of a `TAP2` batch, of taps that may stand in one.
 fn write_tap2(alloc: Global, validator: u32, taps: &[Tap2Fields]) -> Result<Vec<u8>, AllocError>
     requires { length taps.now ≤ 4096 }
     ensures fields { OnOk result (All IsFields2 taps.now) }
@@ -164,8 +168,8 @@ fn write_tap2(alloc: Global, validator: u32, taps: &[Tap2Fields]) -> Result<Vec<
         ++ big_bytes 4 validator)
         ++ flat_map (λ tap. spelling (Tap2 []) (written_2 validator tap)) taps.now) }
 {
-    let mut bytes = Vec::with_capacity(alloc, 12 + 24 * taps.len())?;
-    bytes.extend_from_slice(b"TAP2")?;
+    let mut bytes = Vec::with_capacity(alloc, TAP2_HEADER_BYTES + TAP2_TAP_BYTES * taps.len())?;
+    bytes.extend_from_slice(&TAP2)?;
     bytes.extend_from_slice(&(taps.len() as u16).to_be_bytes())?;
     bytes.extend_from_slice(&[0, 0])?;
     bytes.extend_from_slice(&validator.to_be_bytes())?;
@@ -175,7 +179,7 @@ fn write_tap2(alloc: Global, validator: u32, taps: &[Tap2Fields]) -> Result<Vec<
     Ok(bytes)
 }
 
-// Adds one tap without its validator.
+/// Adds one tap without its validator.
 fn put_tap2(bytes: &mut Vec<u8>, bare: &Tap2Fields) -> Result<(), AllocError>
     ensures bytes { OnOk result ((validator : ℕ)
         → bytes.new.items ≡ bytes.old.items ++ spelling (Tap2 []) (written_2 validator bare.now)) }

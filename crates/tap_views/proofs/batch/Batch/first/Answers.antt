@@ -10,14 +10,14 @@ returns-in_err-count-clause-only c front rest taps batch whole =
     absurd (no_row _ taps rest _ (begins batch.0 front taps rest _ batch.1 whole) c.in_err-count.ensures.fault.holds)
 
 pub invariant_of-result : goal.invariant_of-result
-invariant_of-result c = rw (c.split_at.ensures.front, c.width_of.ensures, c.header_of.ensures, take_rest) (first-records _ _ c.in_ok-count.ensures.count _ c.shared_in-shared.ensures)
+invariant_of-result c = rw (c.split_at.ensures.front, c.width_of.ensures, c.header_in.ensures, take_rest) (first-records _ _ c.in_ok-count.ensures.count _ c.shared_in-shared.ensures)
 
 pub returns-clause-found : goal.returns-clause-found
-returns-clause-found c = rw (c.split_at.ensures.front, c.split_at.ensures.back, c.width_of.ensures, c.header_of.ensures, take_rest) (first-found _ _ c.in_ok-count.ensures.count _ c.shared_in-shared.ensures)
+returns-clause-found c = rw (c.split_at.ensures.front, c.split_at.ensures.back, c.width_of.ensures, c.header_in.ensures, take_rest) (first-found _ _ c.in_ok-count.ensures.count _ c.shared_in-shared.ensures)
 
 pub returns-clause-only : goal.returns-clause-only
 returns-clause-only c front rest taps batch whole =
-    rw (c.split_at.ensures.front, c.split_at.ensures.back, c.width_of.ensures, c.header_of.ensures, take_rest)
+    rw (c.split_at.ensures.front, c.split_at.ensures.back, c.width_of.ensures, c.header_in.ensures, take_rest)
     (first-only _ _ c.in_ok-count.ensures.count _ c.shared_in-shared.ensures front rest taps batch whole)
 
 pub returns-in_err-count-clause-refused : goal.returns-in_err-count-clause-refused

@@ -1,7 +1,7 @@
 use Rattle.std.proofs.Common.{ap, sym, length, arith}
 use Rattle.std.proofs.lemmas.Bool.{eqb-false}
 use Rattle.tap_views.proofs.Reading.{step-batch, step-fault}
-use Rattle.tap_views.proofs.file.iter.BatchesIterator.next.Goals as goal
+use Rattle.tap_views.proofs.file.FileBatchesIterator.next.Goals as goal
 
 pub returns-in-Ok-clause-steps : goal.returns-in-Ok-clause-steps
 returns-in-Ok-clause-steps c =
