@@ -1,8 +1,7 @@
-use Rattle.std.specs.Prelude.{◌≡◌, Bool, false, if◌then◌else◌, IsTrue, List, [], ◌∷◌, ◌++◌, ⊤}
-use Rattle.std.specs.List.{flat_map}
-
 -- A list cut into blocks of consecutive elements, by a test that says whether an element joins the
 -- block that stands before it. An element that does not join opens the next block.
+use Rattle.std.specs.Prelude.{◌≡◌, Bool, false, if◌then◌else◌, IsTrue, List, [], ◌∷◌, ◌++◌, ⊤}
+use Rattle.std.specs.List.{flat_map}
 
 -- the blocks of a list whose first block has begun
 unfoldable pub cut_from : {A : Type 0} → (List A → A → Bool) → List A → List A → List (List A)

@@ -1,3 +1,4 @@
+-- What an account keeps, and what its private functions make of it.
 use Rattle.std.specs.Prelude.{◌≡◌, ℕ, Bool, true, if◌then◌else◌, nat_lt, Option, Some, None}
 use Rattle.std.specs.Prelude.{option_map}
 use Rattle.fare_table.specs.Terms.{HasLimits}
@@ -6,8 +7,6 @@ use Rattle.fare_table.specs.declared.terms.Terms.{Terms}
 use Rattle.account_rule.specs.declared.account.Account.{Account}
 use Rattle.account_rule.specs.declared.window.Window.{Window}
 use Rattle.account_rule.specs.Taps.{LiveTap, live_at}
-
--- What an account keeps, and what its private functions make of it.
 
 -- what is kept from the first live tap on, which is a ride and so opens a window
 pub record State : Type 0 where

@@ -1,3 +1,4 @@
+-- What holds of the chains and the windows of every list of taps.
 use Rattle.std.specs.Prelude.{◌≡◌, ◌↔◌, ℕ, zero, suc, ◌≤◌, Bool, true, false, List, [], ◌∷◌, ◌++◌}
 use Rattle.std.specs.Prelude.{length, filter, All, sum_by, count_by}
 use Rattle.std.specs.List.{flat_map}
@@ -40,6 +41,7 @@ WindowsKeepTheCeiling =
     → All (λ window. ride_cents rules.terms (length window) ≤ rules.terms.ceiling)
     (windows rules taps)
 
+-- whether the reply is to a ride that costs something
 abbrev pub is_paid : Reply → Bool
 is_paid reply = is_paid_answer reply.answer
   where

@@ -1,3 +1,4 @@
+-- The reply to each tap of a token, after the taps before it.
 use Rattle.std.specs.Prelude.{ℕ, ◌-◌, if◌then◌else◌, List, [], ◌∷◌, ◌++◌, length, is_some, nat_lt}
 use Rattle.account_rule.specs.declared.reply.Answer.{Answer}
 use Rattle.account_rule.specs.declared.reply.Answer.TheVariants.{Paid, Transfer, Capped, Stale}
@@ -10,6 +11,7 @@ use Rattle.account_rule.specs.Rules.{Rules}
 use Rattle.account_rule.specs.Taps.{is_later}
 use Rattle.account_rule.specs.Windows.{windows, charge}
 
+-- the reply of this answer and these cents
 unfoldable pub reply_of : Answer → ℕ → Reply
 reply_of answer cents = record { answer = answer; cents = cents }
 

@@ -1,3 +1,5 @@
+//! The reply to a tap.
+
 ghost use Rattle.std.specs.Prelude.{◌≡◌};
 ghost use Rattle.account_rule.specs.Replies.{reply_of, ride_reply};
 

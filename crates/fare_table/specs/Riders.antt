@@ -46,11 +46,13 @@ riders_from classes earlier (member key value more) = do
   riders ← with_rider earlier rider.0 rider.1
   riders_from classes riders more
 
+-- the riders of a value, which is a table of strings; none where there is no value
 abbrev pub riders_in : Members → Option Data → Outcome (List (List ℕ × Terms))
 riders_in classes None = Ok []
 riders_in classes (Some value) = do
   riders ← of_kind the_key.Riders (as_table value)
   if hold_strings riders then riders_from classes [] riders else Err (Kind the_key.Riders)
 
+-- the riders that the text names, in the order of their tokens
 unfoldable pub riders_of : Members → Members → Outcome (List (List ℕ × Terms))
 riders_of classes tree = riders_in classes (get_member (codes "riders") tree)

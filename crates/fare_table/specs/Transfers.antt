@@ -29,6 +29,7 @@ two_strings (item from (item to no_items)) =
     option_and_then (λ a. option_map (λ b. (a, b)) (as_str to)) (as_str from)
 two_strings (item from (item to (item third more))) = None
 
+-- the two strings of a value that is an array of two strings
 abbrev pub pair_of : Data → Option (List ℕ × List ℕ)
 pair_of value = option_and_then two_strings (as_array value)
 
@@ -53,6 +54,7 @@ transfers_from modes found (pair ∷ more) =
     places_of modes pair >>= (λ places.
     transfers_from modes (with_pair found places.0 places.1) more)
 
+-- the pairs of places of modes that the text permits, each once
 unfoldable pub transfers_of : List (List ℕ) → Members → Outcome (List (ℕ × ℕ))
 transfers_of modes tree = do
   items ← array_at (codes "transfers") the_key.Transfers tree

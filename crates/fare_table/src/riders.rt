@@ -45,7 +45,7 @@ impl Riders {
     ghost use Rattle.fare_table.specs.Token.{Fits, by_bytes};
 
     /// The riders of a map by their tokens. `NoMemory` is answered where a growth is refused.
-    pub fn new(alloc: Global, terms: BTreeMap<Token, Terms>) -> Result<Riders, NoMemory>
+    pub(crate) fn new(alloc: Global, terms: BTreeMap<Token, Terms>) -> Result<Riders, NoMemory>
         requires { All Fits (keys_of terms.entries) }
         ensures { IfOk result (λ r. r ≡ by_bytes terms.entries) }
     {
@@ -54,7 +54,7 @@ impl Riders {
     }
 
     /// The terms of the rider with this token, if there is one.
-    pub fn terms_of(&self, token: &[u8]) -> Option<Terms>
+    pub(crate) fn terms_of(&self, token: &[u8]) -> Option<Terms>
         requires { length token.now ≡ 16 }
         ensures { result ≡ lookup (is_at (slice_cmp nat_cmp token.now)) self.now }
     {

@@ -29,7 +29,7 @@ impl Model for Transfers {
 
 impl Transfers {
     /// No permitted transfer.
-    pub fn new(alloc: Global) -> Transfers
+    pub(crate) fn new(alloc: Global) -> Transfers
         ensures { result ≡ [] }
     {
         Transfers {
@@ -39,7 +39,7 @@ impl Transfers {
     }
 
     /// Whether the pair is among them.
-    pub fn permits(&self, from: u8, to: u8) -> bool
+    pub(crate) fn permits(&self, from: u8, to: u8) -> bool
         requires from { from < 32 }
         requires to { to < 32 }
         ensures { result ≡ has_pair self.now from to }
@@ -48,7 +48,7 @@ impl Transfers {
     }
 
     /// Adds a pair that is not yet among them. Unchanged where memory is refused.
-    pub fn add(&mut self, from: u8, to: u8) -> Result<(), NoMemory>
+    pub(crate) fn add(&mut self, from: u8, to: u8) -> Result<(), NoMemory>
         requires from { from < 32 }
         requires to { to < 32 }
         ensures ok { OnOk result (self.new ≡ with_pair self.old from to) }

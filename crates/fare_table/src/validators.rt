@@ -56,7 +56,7 @@ impl Ranges {
 
     /// The ranges of a map by their first numbers. `NoMemory` is answered where a growth is
     /// refused.
-    pub fn new(alloc: Global, ranges: BTreeMap<u32, Span>) -> Result<Ranges, NoMemory>
+    pub(crate) fn new(alloc: Global, ranges: BTreeMap<u32, Span>) -> Result<Ranges, NoMemory>
         requires { is_chain ranges.entries ≡ true }
         ensures { IfOk result (λ r. r ≡ ranges.entries) }
     {
@@ -71,7 +71,7 @@ impl Ranges {
     }
 
     /// The rest of the range of a number.
-    pub fn at(&self, number: u32) -> Option<Span>
+    pub(crate) fn at(&self, number: u32) -> Option<Span>
         ensures { result ≡ option_map (λ range. range.1) (range_at self.now number) }
     {
         let (_, span) = range_at(&self.ranges, &self.firsts, &self.guesses, number)?;
@@ -99,8 +99,8 @@ fn range_at<'a>(
 }
 
 /// The range of the number, or that none has it, if the range at the guessed place or the next one
-/// says so; else `None`. At most one range of a chain has the number, so a wrong guess cannot give a
-/// wrong range. The choice between the two is a sum and no branch, since numbers come in no order
+/// says so; else `None`. At most one range of a chain has the number, so a wrong guess cannot give
+/// a wrong range. The choice between the two is a sum and no branch, since numbers come in no order
 /// that a processor could guess.
 fn range_near<'a>(
     ranges: &'a [(u32, Span)],

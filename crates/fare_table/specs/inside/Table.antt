@@ -7,6 +7,7 @@ use Rattle.fare_table.specs.Zone.{zone_rule, zone_text}
 use Rattle.fare_table.specs.declared.table.Parts.{Parts}
 use Rattle.fare_table.specs.Validators.{are_modes_below}
 
+-- what contracts see of the parts of a table
 abbrev pub fares_of : Parts → Fares
 fares_of parts = record {
   rules = record {

@@ -12,7 +12,7 @@ use toml::{Table, Value};
 
 /// The classes of the text, each with terms.
 #[tactic(auto, unfolding(crate::specs::Classes::classes_of))]
-pub fn classes_of(table: &Table) -> Result<&Table, TableFault>
+pub(crate) fn classes_of(table: &Table) -> Result<&Table, TableFault>
     ensures { seen_by (λ m. table_view m.now) result ≡ spec.classes_of (table_view table.now) }
 {
     let classes = table_at(table, "classes", Key::Classes)?;
@@ -77,7 +77,7 @@ fn ceiling_of(price: u32, value: Option<&Value>) -> Result<u32, TableFault>
 }
 
 /// The terms of the class of this name.
-pub fn class_named(classes: &Table, name: &str) -> Result<Terms, TableFault>
+pub(crate) fn class_named(classes: &Table, name: &str) -> Result<Terms, TableFault>
     ensures terms { result ≡ spec.class_named (table_view classes.now) name.now }
     ensures limits { IfOk result HasLimits }
 {
@@ -92,7 +92,7 @@ pub fn class_named(classes: &Table, name: &str) -> Result<Terms, TableFault>
 
 /// The terms of the default class.
 #[tactic(auto, unfolding(crate::specs::Classes::default_of))]
-pub fn default_of(classes: &Table, table: &Table) -> Result<Terms, TableFault>
+pub(crate) fn default_of(classes: &Table, table: &Table) -> Result<Terms, TableFault>
     ensures terms { result ≡ spec.default_of (table_view classes.now) (table_view table.now) }
     ensures limits { IfOk result HasLimits }
 {

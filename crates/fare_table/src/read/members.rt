@@ -10,14 +10,14 @@ use toml::value::Array;
 use toml::{Table, Value};
 
 /// The value at a key, if there is one.
-pub fn optional<'a>(table: &'a Table, name: &str) -> Option<&'a Value>
+pub(crate) fn optional<'a>(table: &'a Table, name: &str) -> Option<&'a Value>
     ensures { option_map (λ v. view v.now) result ≡ get_member name.now (table_view table.now) }
 {
     table.get(name)
 }
 
 /// The value at a key that has to be there.
-pub fn needed<'a>(table: &'a Table, name: &str, key: Key) -> Result<&'a Value, TableFault>
+pub(crate) fn needed<'a>(table: &'a Table, name: &str, key: Key) -> Result<&'a Value, TableFault>
     ensures { seen_by (λ v. view v.now) result ≡ spec.needed name.now key (table_view table.now) }
 {
     match optional(table, name) {
@@ -27,7 +27,7 @@ pub fn needed<'a>(table: &'a Table, name: &str, key: Key) -> Result<&'a Value, T
 }
 
 /// The string at a key.
-pub fn text_at<'a>(table: &'a Table, name: &str, key: Key) -> Result<&'a str, TableFault>
+pub(crate) fn text_at<'a>(table: &'a Table, name: &str, key: Key) -> Result<&'a str, TableFault>
     ensures { seen_by (λ s. s.now) result ≡ spec.text_at name.now key (table_view table.now) }
 {
     match needed(table, name, key)?.as_str() {
@@ -37,7 +37,7 @@ pub fn text_at<'a>(table: &'a Table, name: &str, key: Key) -> Result<&'a str, Ta
 }
 
 /// The array at a key.
-pub fn array_at<'a>(table: &'a Table, name: &str, key: Key) -> Result<&'a Array, TableFault>
+pub(crate) fn array_at<'a>(table: &'a Table, name: &str, key: Key) -> Result<&'a Array, TableFault>
     ensures { seen_by (λ v. array_view v.now) result
         ≡ spec.array_at name.now key (table_view table.now) }
 {
@@ -48,7 +48,7 @@ pub fn array_at<'a>(table: &'a Table, name: &str, key: Key) -> Result<&'a Array,
 }
 
 /// The table at a key.
-pub fn table_at<'a>(table: &'a Table, name: &str, key: Key) -> Result<&'a Table, TableFault>
+pub(crate) fn table_at<'a>(table: &'a Table, name: &str, key: Key) -> Result<&'a Table, TableFault>
     ensures { seen_by (λ m. table_view m.now) result
         ≡ spec.table_at name.now key (table_view table.now) }
 {
@@ -66,7 +66,7 @@ fn is_within(low: u32, number: i64, high: u32) -> bool
 }
 
 /// The value as a number from `low` to `high`.
-pub fn number_in(value: &Value, key: Key, low: u32, high: u32) -> Result<u32, TableFault>
+pub(crate) fn number_in(value: &Value, key: Key, low: u32, high: u32) -> Result<u32, TableFault>
     ensures number { result ≡ spec.number_in key low high (view value.now) }
     ensures low { IfOk result (λ n. low ≤ n) }
     ensures high { IfOk result (λ n. n ≤ high) }
@@ -82,7 +82,7 @@ pub fn number_in(value: &Value, key: Key, low: u32, high: u32) -> Result<u32, Ta
 }
 
 /// The number at a key, from `low` to `high`.
-pub fn number_at(
+pub(crate) fn number_at(
     table: &Table,
     name: &str,
     key: Key,
@@ -97,7 +97,7 @@ pub fn number_at(
 }
 
 /// Whether each value of an array is a table.
-pub fn are_tables(array: &Array) -> bool
+pub(crate) fn are_tables(array: &Array) -> bool
     ensures { result ≡ spec.are_tables (array_view array.now) }
 {
     for value in array {
@@ -109,7 +109,7 @@ pub fn are_tables(array: &Array) -> bool
 }
 
 /// Whether each value of a table is a table.
-pub fn hold_tables(table: &Table) -> bool
+pub(crate) fn hold_tables(table: &Table) -> bool
     ensures { result ≡ spec.hold_tables (table_view table.now) }
 {
     for (_key, value) in table {
@@ -121,7 +121,7 @@ pub fn hold_tables(table: &Table) -> bool
 }
 
 /// Whether each value of a table is a string.
-pub fn hold_strings(table: &Table) -> bool
+pub(crate) fn hold_strings(table: &Table) -> bool
     ensures { result ≡ spec.hold_strings (table_view table.now) }
 {
     for (_key, value) in table {

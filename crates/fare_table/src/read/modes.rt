@@ -16,7 +16,7 @@ use toml::value::Array;
 
 /// The names of the modes, 1 to 32 of 1 to 16 letters `a` to `z`, none twice.
 #[tactic(auto, unfolding(crate::specs::Modes::modes_of))]
-pub fn modes_of(alloc: Global, table: &Table) -> Result<Vec<String>, TableFault>
+pub(crate) fn modes_of(alloc: Global, table: &Table) -> Result<Vec<String>, TableFault>
     ensures answer { Answers (λ v. map string_bytes v.items) result
         (spec.modes_of (table_view table.now)) }
     ensures few { IfOk result (λ v. vec_len v ≤ 32) }
@@ -110,7 +110,7 @@ fn has_name(names: &[String], name: &str) -> bool
 }
 
 /// The place of the mode of this name.
-pub fn mode_named(modes: &[String], name: &str) -> Result<u8, TableFault>
+pub(crate) fn mode_named(modes: &[String], name: &str) -> Result<u8, TableFault>
     requires { length modes.now ≤ 32 }
     ensures mode { result ≡ spec.mode_named (map string_bytes modes.now) name.now }
     ensures within { IfOk result (λ place. place < length modes.now) }

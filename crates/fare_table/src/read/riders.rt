@@ -20,7 +20,7 @@ use toml::{Table, Value};
 
 /// The terms of the riders that the text names, by their tokens; none where it has no such key.
 #[tactic(auto, unfolding(crate::specs::Riders::riders_of))]
-pub fn riders_of(alloc: Global, classes: &Table, table: &Table) -> Result<Riders, TableFault>
+pub(crate) fn riders_of(alloc: Global, classes: &Table, table: &Table) -> Result<Riders, TableFault>
     ensures answer { Answers (λ r. r) result
         (spec.riders_of (table_view classes.now) (table_view table.now)) }
     ensures limits { IfOk result (λ r. All HasLimits (values_of r)) }

@@ -14,7 +14,11 @@ use toml::{Table, Value};
 
 /// The pairs of places of modes that the text permits.
 #[tactic(auto, unfolding(crate::specs::Transfers::transfers_of))]
-pub fn transfers_of(alloc: Global, modes: &[String], table: &Table) -> Result<Transfers, TableFault>
+pub(crate) fn transfers_of(
+    alloc: Global,
+    modes: &[String],
+    table: &Table,
+) -> Result<Transfers, TableFault>
     requires { length modes.now ≤ 32 }
     ensures { Answers (λ t. t) result
         (spec.transfers_of (map string_bytes modes.now) (table_view table.now)) }

@@ -19,7 +19,11 @@ use toml::{Table, Value};
 
 /// The ranges of the text by their first numbers, rising.
 #[tactic(auto, unfolding(crate::specs::Validators::ranges_of))]
-pub fn ranges_of(alloc: Global, modes: &[String], table: &Table) -> Result<Ranges, TableFault>
+pub(crate) fn ranges_of(
+    alloc: Global,
+    modes: &[String],
+    table: &Table,
+) -> Result<Ranges, TableFault>
     requires { length modes.now ≤ 32 }
     ensures answer { Answers (λ r. r) result
         (spec.ranges_of (map string_bytes modes.now) (table_view table.now)) }

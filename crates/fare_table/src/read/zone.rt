@@ -16,7 +16,7 @@ use toml::{Table, Value};
 
 /// The zone of the text; none where it has no such key.
 #[tactic(auto, unfolding(crate::specs::Zone::zone_of))]
-pub fn zone_of(alloc: Global, table: &Table) -> Result<Option<Zone>, TableFault>
+pub(crate) fn zone_of(alloc: Global, table: &Table) -> Result<Option<Zone>, TableFault>
     ensures answer { Answers zone_text result (spec.zone_of (table_view table.now)) }
     ensures rule { IfOk result (λ z. IsZoneOf (zone_text z) (zone_rule z)) }
 {

@@ -19,7 +19,7 @@ const MARKS_FOR_EACH: usize = 8;
 /// A token whose slot has no mark is none of them. One whose slot has a mark may be, since tokens
 /// share slots: who asks looks further then. So slots that many tokens share cost time alone.
 #[derive(Drop)]
-pub struct Marks {
+pub(crate) struct Marks {
     /// A power of two of them, so that a slot is found without a division. None where there is no
     /// token.
     marks: Vec<bool>,
@@ -35,7 +35,7 @@ impl Model for Marks {
 
 impl Marks {
     /// The marks of a map's tokens. `NoMemory` is answered where a growth is refused.
-    pub fn new(alloc: Global, terms: &BTreeMap<Token, Terms>) -> Result<Marks, NoMemory>
+    pub(crate) fn new(alloc: Global, terms: &BTreeMap<Token, Terms>) -> Result<Marks, NoMemory>
         ensures marked { IfOk result
             (λ marks. All (λ token. is_marked marks token ≡ true) (keys_of terms.now.entries)) }
         ensures few { IfOk result (λ marks. length marks ≤ 16 * length terms.now.entries) }
@@ -49,7 +49,7 @@ impl Marks {
     }
 
     /// Whether the token's slot is marked.
-    pub fn has(&self, token: Token) -> bool
+    pub(crate) fn has(&self, token: Token) -> bool
         ensures { result ≡ is_marked self.now token }
     {
         !self.marks.is_empty() && self.marks[token.slot(self.marks.len())]

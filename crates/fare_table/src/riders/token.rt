@@ -18,7 +18,7 @@ pub struct Token {
 
 impl Token {
     /// The token of these 16 bytes.
-    pub fn of(bytes: &[u8]) -> Token
+    pub(crate) fn of(bytes: &[u8]) -> Token
         requires { length bytes.now ≡ 16 }
         ensures bytes { bytes_of result ≡ bytes.now }
         ensures fits { Fits result }
@@ -35,7 +35,7 @@ impl Token {
 
     /// The token's slot among so many, a power of two: its last bits, which spread well, since most
     /// tokens are random.
-    pub fn slot(self, slots: usize) -> usize
+    pub(crate) fn slot(self, slots: usize) -> usize
         requires { 0 < slots }
         ensures slot { result ≡ slot self slots }
         ensures inside { result < slots }

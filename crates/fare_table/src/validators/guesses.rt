@@ -17,7 +17,7 @@ const STEPS_FOR_EACH: u64 = 4;
 /// answer is a guess: the caller checks it, and searches if it is wrong. It may be wrong where many
 /// ranges end in one step.
 #[derive(Drop)]
-pub struct Guesses {
+pub(crate) struct Guesses {
     /// The lowest last number of a range.
     lowest: u32,
     /// The width of a step, as a power of two.
@@ -31,7 +31,7 @@ pub struct Guesses {
 
 impl Guesses {
     /// Guesses for the ranges. Their memory grows with the ranges, whatever numbers these have.
-    pub fn new(alloc: Global, ranges: &[(u32, Span)]) -> Result<Guesses, NoMemory>
+    pub(crate) fn new(alloc: Global, ranges: &[(u32, Span)]) -> Result<Guesses, NoMemory>
         ensures few { IfOk result (λ g. vec_len g.places ≤ 4 * length ranges.now + 2) }
     {
         let lowest = end_of(ranges.first());
@@ -48,7 +48,7 @@ impl Guesses {
 
     /// The place of the range that may have the number, or of the one before it. No branch depends
     /// on the number, since numbers come in no order that a processor could guess.
-    pub fn at(&self, number: u32) -> usize {
+    pub(crate) fn at(&self, number: u32) -> usize {
         let step = step_of(number.saturating_sub(self.lowest), self.width_bits);
         match self.places.get(step.min(self.last_step)) {
             Some(place) => *place as usize,

@@ -17,6 +17,7 @@ left_of None shard shards taps = run_of shard shards taps
 left_of (Some places) shard shards taps =
     flat_map (λ place. option_to_list (slice_get taps place)) places.now
 
+-- where a run keeps its places, each is below the count
 abbrev pub AreBelow : Option (Bor (List ℕ)) → ℕ → Type 0
 AreBelow None count = Unit {0}
 AreBelow (Some places) count = AllByRecursion (λ place. place < count) places.now

@@ -28,6 +28,7 @@ is_row bytes (TooMany count) = nat_lt 4096 (count_in bytes)
 is_row bytes (Length want have) = nat_lt (length bytes) (size_in bytes)
 is_row bytes (Moment index) = not (nat_lt (moment_in bytes index) moment_limit)
 
+-- the first row that holds of the bytes, if one does
 abbrev pub first_fault : List ℕ → Option LayoutFault
 first_fault bytes = find (is_row bytes) (rows_of bytes)
 
