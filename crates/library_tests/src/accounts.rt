@@ -5,4 +5,3 @@ mod both;
 mod plain;
 mod reasons;
 mod rows;
-mod tables;

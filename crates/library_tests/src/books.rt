@@ -4,6 +4,7 @@ ghost use Rattle.std.specs.Prelude.{◌<◌, ◌≤◌, length};
 
 use account_rule::{Answer, Reply, WindowView};
 use fare_table::FareTable;
+use sample_table::{BUS, NEW_YORK, SAMPLE, START, SUBWAY, bytes_of, tap};
 use shard_book::*;
 use std::alloc::Global;
 use std::hash::BuildHasher;
@@ -13,73 +14,9 @@ use std::test::Fail;
 use std::thread::Threads;
 use tap_views::{Batch, TapFields};
 
-/// The sample table, and the same with a zone.
-const SAMPLE: &str = r#"modes = ["subway", "bus"]
-transfers = [["subway", "bus"], ["bus", "subway"], ["bus", "bus"]]
-default_class = "full"
-
-[classes.full]
-fare = 300
-rides = 12
-ceiling = 3500
-
-[classes.reduced]
-fare = 150
-rides = 12
-
-[[validators]]
-first = 1000
-last = 1999
-mode = "subway"
-
-[[validators]]
-first = 2000
-last = 2999
-mode = "bus"
-
-[riders]
-000000000000000000000000000000d4 = "reduced"
-"#;
-
-const ZONED: &str = r#"modes = ["subway", "bus"]
-transfers = []
-default_class = "full"
-zone = "EST5EDT,M3.2.0,M11.1.0"
-
-[classes.full]
-fare = 300
-rides = 12
-
-[[validators]]
-first = 1000
-last = 1999
-mode = "subway"
-"#;
-
-/// 2024-03-08T17:00:00.000Z.
-const START: u64 = 1_709_917_200_000;
-
-const SUBWAY: u32 = 1000;
-
-const BUS: u32 = 2000;
-
 /// The token whose last byte is the given one and whose other bytes are 0.
-fn bytes_of(last: u8) -> [u8; 16] {
-    let mut token = [0; 16];
-    token[15] = last;
-    token
-}
-
 fn token(last: u8) -> Token {
     Token::of(&bytes_of(last))
-}
-
-fn tap(last: u8, validator: u32, moment: u64) -> TapFields {
-    TapFields {
-        token: bytes_of(last),
-        validator,
-        moment,
-    }
 }
 
 fn reply(answer: Answer, cents: u32) -> Reply {
@@ -461,7 +398,7 @@ fn three_rides(alloc: Global, book: &mut ShardBook) -> Result<[Option<WindowView
 #[test]
 fn civil_window_ends_at_midnight(rt: HostRuntime) -> Result<(), Fail> {
     let alloc = rt.alloc();
-    let mut book = book_of(alloc, &rt, ZONED, 0, 1)?;
+    let mut book = book_of(alloc, &rt, NEW_YORK, 0, 1)?;
     let windows = three_rides(alloc, &mut book)?;
     let until_midnight = WindowView {
         start: START,

@@ -1,19 +1,10 @@
 //! One cut, filled with batch after batch as a worker does it.
 
+use sample_table::{SUBWAY, tap};
 use std::alloc::{AllocError, Global};
 use std::process::Abort;
 use std::test::Fail;
-use tap_views::{Cut, Run, TapFields, batches, encode};
-
-fn tap(last: u8, moment: u64) -> TapFields {
-    let mut token = [0; 16];
-    token[15] = last;
-    TapFields {
-        token,
-        validator: 1000,
-        moment,
-    }
-}
+use tap_views::{Cut, Run, batches, encode};
 
 /// The digits of a run, as a worker comes to it: its shard, and the last digit of each moment.
 fn digits_of(run: &Run<'_>) -> u64 {
@@ -26,9 +17,16 @@ fn digits_of(run: &Run<'_>) -> u64 {
 
 /// The taps' moments end in 1 to 5, and the batch in the middle has none.
 fn three_batches(alloc: Global) -> Result<Vec<u8>, Fail> {
-    let mut file = encode(alloc, &[tap(0xa1, 1), tap(0xb2, 2), tap(0xa9, 3)])?;
+    let mut file = encode(
+        alloc,
+        &[
+            tap(0xa1, SUBWAY, 1),
+            tap(0xb2, SUBWAY, 2),
+            tap(0xa9, SUBWAY, 3),
+        ],
+    )?;
     file.extend_from_slice(&encode(alloc, &[])?)?;
-    file.extend_from_slice(&encode(alloc, &[tap(0xb2, 4), tap(0xb2, 5)])?)?;
+    file.extend_from_slice(&encode(alloc, &[tap(0xb2, SUBWAY, 4), tap(0xb2, SUBWAY, 5)])?)?;
     Ok(file)
 }
 

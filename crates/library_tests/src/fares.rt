@@ -1,36 +1,9 @@
 //! Worked rows on the fare table: its texts, its first faults and its look-ups.
 
 use fare_table::{FareTable, Key, Mode, TableFault, Terms};
+use sample_table::{NEW_YORK, SAMPLE, bytes_of};
 use std::alloc::Global;
 use std::test::Fail;
-
-/// The sample table.
-const SAMPLE: &str = r#"modes = ["subway", "bus"]
-transfers = [["subway", "bus"], ["bus", "subway"], ["bus", "bus"]]
-default_class = "full"
-
-[classes.full]
-fare = 300
-rides = 12
-ceiling = 3500
-
-[classes.reduced]
-fare = 150
-rides = 12
-
-[[validators]]
-first = 1000
-last = 1999
-mode = "subway"
-
-[[validators]]
-first = 2000
-last = 2999
-mode = "bus"
-
-[riders]
-000000000000000000000000000000d4 = "reduced"
-"#;
 
 const FULL: Terms = Terms {
     fare: 300,
@@ -59,11 +32,6 @@ fn fault_of(alloc: Global, text: &str) -> Option<TableFault> {
     FareTable::read(alloc, text.as_bytes()).err()
 }
 
-/// A token whose last byte is the given one and whose other bytes are 0.
-fn token(last: u8) -> [u8; 16] {
-    [0, 0, 0, 0, 0, 0, 0, 0, 0, 0, 0, 0, 0, 0, 0, last]
-}
-
 #[test]
 fn the_sample_is_looked_up(rt: HostRuntime) -> Result<(), Fail> {
     let table = FareTable::read(rt.alloc(), SAMPLE.as_bytes())?;
@@ -79,8 +47,8 @@ fn the_sample_is_looked_up(rt: HostRuntime) -> Result<(), Fail> {
     ] {
         assert_eq!(rt; table.mode_of(validator), mode, "at {validator}");
     }
-    assert_eq!(rt; table.terms_of(&token(0xa1)), FULL);
-    assert_eq!(rt; table.terms_of(&token(0xd4)), REDUCED);
+    assert_eq!(rt; table.terms_of(&bytes_of(0xa1)), FULL);
+    assert_eq!(rt; table.terms_of(&bytes_of(0xd4)), REDUCED);
     Ok(())
 }
 
@@ -134,14 +102,14 @@ fn a_rider_is_told_from_tokens_at_its_mark(rt: HostRuntime) -> Result<(), Fail> 
     let table = FareTable::read(alloc, SAMPLE.as_bytes())?;
     for last in 0..=255 {
         let terms = if last == 0xd4 { REDUCED } else { FULL };
-        assert_eq!(rt; table.terms_of(&token(last)), terms, "at {last}");
+        assert_eq!(rt; table.terms_of(&bytes_of(last)), terms, "at {last}");
     }
-    let mut other = token(0xd4);
+    let mut other = bytes_of(0xd4);
     other[0] = 1;
     assert_eq!(rt; table.terms_of(&other), FULL);
     let text = changed(alloc, "000000000000000000000000000000d4 = \"reduced\"", "")?;
     let without_riders = FareTable::read(alloc, text.as_bytes())?;
-    assert_eq!(rt; without_riders.terms_of(&token(0xd4)), FULL);
+    assert_eq!(rt; without_riders.terms_of(&bytes_of(0xd4)), FULL);
     Ok(())
 }
 
@@ -162,8 +130,7 @@ fn the_samples_modes_permit_transfers(rt: HostRuntime) -> Result<(), Fail> {
 #[test]
 fn a_clone_answers_as_the_table(rt: HostRuntime) -> Result<(), Fail> {
     let alloc = rt.alloc();
-    let text = format!(in alloc; "zone = \"EST5EDT,M3.2.0,M11.1.0\"\n{SAMPLE}")?;
-    let table = FareTable::read(alloc, text.as_bytes())?;
+    let table = FareTable::read(alloc, NEW_YORK.as_bytes())?;
     let copy = table.try_clone(alloc)?;
     for validator in [999, 1000, 1999, 2000, 2999, 3000] {
         assert_eq!(rt;
@@ -172,8 +139,8 @@ fn a_clone_answers_as_the_table(rt: HostRuntime) -> Result<(), Fail> {
             "at {validator}"
         );
     }
-    assert_eq!(rt; copy.terms_of(&token(0xd4)), REDUCED);
-    assert_eq!(rt; copy.terms_of(&token(0xd5)), FULL);
+    assert_eq!(rt; copy.terms_of(&bytes_of(0xd4)), REDUCED);
+    assert_eq!(rt; copy.terms_of(&bytes_of(0xd5)), FULL);
     assert_eq!(rt;
         copy.clock(alloc)?.until(1_709_917_200_000)?,
         1_710_475_200_000
@@ -195,7 +162,7 @@ fn clones_outlive_the_table(rt: HostRuntime) -> Result<(), Fail> {
     drop(table);
     drop(first);
     assert_eq!(rt; shared(&second).mode_of(1000), Some(SUBWAY));
-    assert_eq!(rt; second.terms_of(&token(0xd4)), REDUCED);
+    assert_eq!(rt; second.terms_of(&bytes_of(0xd4)), REDUCED);
     Ok(())
 }
 
@@ -406,8 +373,7 @@ fn windows_end_after_seven_days(rt: HostRuntime) -> Result<(), Fail> {
 #[test]
 fn windows_end_at_midnight_in_a_zone(rt: HostRuntime) -> Result<(), Fail> {
     let alloc = rt.alloc();
-    let text = format!(in alloc; "zone = \"EST5EDT,M3.2.0,M11.1.0\"\n{SAMPLE}")?;
-    let clock = FareTable::read(alloc, text.as_bytes())?.clock(alloc)?;
+    let clock = FareTable::read(alloc, NEW_YORK.as_bytes())?.clock(alloc)?;
     for (start, limit) in [
         // 8 March 2024, noon: 15 March, 00:00, four hours behind
         (1_709_917_200_000, 1_710_475_200_000),

@@ -3,6 +3,7 @@
 ghost use Rattle.std.specs.Prelude.{◌≡◌, ◌^◌, ◌≤◌, IfOk, IfSome};
 
 use fare_table::{Clock, FareTable, NoMemory};
+use sample_table::{BUS, SAMPLE, START, SUBWAY, bytes_of, tap};
 use shard_book::{Ends, Lines, Replies, RunEnd, ShardBook, Token, TokenKeys};
 use shared_books::{Missing, Pass, ReadFault, SharedBook};
 use std::alloc::Global;
@@ -14,51 +15,9 @@ use std::thread;
 use std::thread::Threads;
 use tap_views::{Batch, TapFields};
 
-// One class, two modes and their pairs.
-const TABLE: &str = r#"modes = ["subway", "bus"]
-transfers = [["subway", "bus"], ["bus", "subway"], ["bus", "bus"]]
-default_class = "full"
-
-[classes.full]
-fare = 300
-rides = 12
-ceiling = 3500
-
-[[validators]]
-first = 1000
-last = 1999
-mode = "subway"
-
-[[validators]]
-first = 2000
-last = 2999
-mode = "bus"
-"#;
-
-// 2024-03-08T17:00:00.000Z
-const START: u64 = 1_709_917_200_000;
-
-const SUBWAY: u32 = 1000;
-
-const BUS: u32 = 2000;
-
 // The token whose last byte is the given one and whose other bytes are 0.
-fn bytes_of(last: u8) -> [u8; 16] {
-    let mut token = [0; 16];
-    token[15] = last;
-    token
-}
-
 fn token(last: u8) -> Token {
     Token::of(&bytes_of(last))
-}
-
-fn tap(last: u8, validator: u32, moment: u64) -> TapFields {
-    TapFields {
-        token: bytes_of(last),
-        validator,
-        moment,
-    }
 }
 
 // A book that is the only one of its service, shared from the number on, with its first pass and
@@ -74,7 +33,7 @@ fn shared_from<R: RandomSource>(
     ensures only { IfOk result (λ r. (r.0.shard ≡ 0) × (r.0.shards ≡ 1)) }
 {
     let keys = TokenKeys::new(rt)?;
-    let table = FareTable::read(alloc, TABLE.as_bytes())?;
+    let table = FareTable::read(alloc, SAMPLE.as_bytes())?;
     let clock = table.clock(alloc)?;
     let (shared, pass) = SharedBook::open(alloc, first, ShardBook::open(alloc, keys, table, 0, 1))?;
     Ok((shared, pass, clock))

@@ -1,8 +1,9 @@
 //! A report that is longer than what waits at most before it is written.
 
 use super::running::{NoDisk, run_over};
-use super::shelf::{Content, SAMPLE, Shelf};
+use super::shelf::{Content, Shelf};
 use super::writers::Full;
+use sample_table::SAMPLE;
 use std::alloc::Global;
 use std::io;
 use std::io::Write;

@@ -9,34 +9,6 @@ use std::alloc::{AllocError, Global};
 pub const FIRST: &str =
     "5441503100020000000000000000000000000000000000a1000003e80000018e1f01de80000000000000000000000000000000a1000007d00000018e1f6fbb80";
 
-/// The sample fare table.
-pub const SAMPLE: &str = "modes = [\"subway\", \"bus\"]
-transfers = [[\"subway\", \"bus\"], [\"bus\", \"subway\"], [\"bus\", \"bus\"]]
-default_class = \"full\"
-
-[classes.full]
-fare = 300
-rides = 12
-ceiling = 3500
-
-[classes.reduced]
-fare = 150
-rides = 12
-
-[[validators]]
-first = 1000
-last = 1999
-mode = \"subway\"
-
-[[validators]]
-first = 2000
-last = 2999
-mode = \"bus\"
-
-[riders]
-000000000000000000000000000000d4 = \"reduced\"
-";
-
 /// What a source has under a name.
 #[derive(Clone, Copy)]
 pub enum Content<'a> {

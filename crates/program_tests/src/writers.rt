@@ -1,8 +1,9 @@
 //! Writers that fail.
 
 use super::running::{NoDisk, run_over};
-use super::shelf::{Content, FIRST, SAMPLE, Shelf};
+use super::shelf::{Content, FIRST, Shelf};
 use fare_program::{Complaints, LoadFault, main_over, unread_words};
+use sample_table::SAMPLE;
 use std::alloc::Global;
 use std::io;
 use std::io::Write;

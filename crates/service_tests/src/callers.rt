@@ -6,8 +6,10 @@ ghost use Rattle.fare_service.specs.Plain.{AreApart, IsPlain, IsReportOver, WasW
 ghost use Rattle.fare_service.specs.Printed.{report_of};
 ghost use Rattle.fare_service.specs.Shares.{IsShareOf};
 
+use crate::sample::Open;
 use fare_service::{Gate, Outcome, RunFault, Service, Share, laws};
 use fare_table::FareTable;
+use sample_table::{SAMPLE, START, SUBWAY, tap};
 use std::alloc::Global;
 use std::marker::Sync;
 use std::process::Abort;
@@ -15,38 +17,7 @@ use std::random::RandomSource;
 use std::sync::Wait;
 use std::test::Fail;
 use std::thread::Threads;
-use tap_views::{TapFields, encode};
-
-const TABLE: &str = r#"modes = ["subway"]
-transfers = []
-default_class = "full"
-
-[classes.full]
-fare = 300
-rides = 12
-ceiling = 3500
-
-[[validators]]
-first = 1
-last = 9
-mode = "subway"
-"#;
-
-// A gate that keeps nobody waiting.
-#[derive(Drop)]
-struct Open;
-
-impl Gate for Open {
-    type Begun = u32;
-
-    ghost begins = { λ begun. begun };
-
-    fn before(&self, upload: u32) -> u32 {
-        upload
-    }
-
-    fn after(&self, _: u32) {}
-}
+use tap_views::encode;
 
 // Runs a service of these uploads, and knows of the outcome that its report is that of their plain
 // history.
@@ -73,14 +44,7 @@ fn run<R: Threads + Wait + Sync, G: Gate + Sync>(
 }
 
 fn upload(alloc: Global, last: u8) -> Result<Vec<u8>, Fail> {
-    let mut token = [0; 16];
-    token[15] = last;
-    let tap = TapFields {
-        token,
-        validator: 7,
-        moment: 1_709_917_200_000,
-    };
-    Ok(encode(alloc, &[tap])?)
+    Ok(encode(alloc, &[tap(last, SUBWAY, START)])?)
 }
 
 fn report_text<R: Threads + Sync>(
@@ -101,7 +65,7 @@ fn posted<R: Threads + Wait + RandomSource + Sync>(
     shards: u32,
     workers: u32,
 ) -> Result<Outcome, Fail> {
-    let table = FareTable::read(alloc, TABLE.as_bytes())?;
+    let table = FareTable::read(alloc, SAMPLE.as_bytes())?;
     let (service, share) = Service::open(rt, alloc, table, shards, uploads)?;
     Ok(run(service, uploads, rt, alloc, share, workers, &Open)?)
 }

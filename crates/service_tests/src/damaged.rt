@@ -1,7 +1,8 @@
 //! Damaged uploads through the whole service.
 
-use crate::sample::{BUS, Open, SUBWAY, end_of, run, tap};
+use crate::sample::{Open, end_of, run, tap};
 use fare_service::UploadEnd;
+use sample_table::{BUS, SUBWAY};
 use std::alloc::Global;
 use std::test::Fail;
 use tap_views::{LayoutFault, encode};

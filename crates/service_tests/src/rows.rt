@@ -3,12 +3,10 @@
 ghost use Rattle.std.specs.Prelude.{All, IfOk};
 ghost use Rattle.fare_service.specs.Shares.{IsShareOf};
 
-use crate::sample::{
-    BUS, Open, REPORT, START, SUBWAY, TABLE, add, an_unknown_one, bytes_of, end_of, four_rides,
-    opened, run, tap, two_uploads,
-};
+use crate::sample::{Open, add, an_unknown_one, end_of, four_rides, opened, run, tap, two_uploads};
 use fare_service::{Gate, GatherFault, OpenFault, Outcome, RunFault, Service, Share, UploadEnd};
 use fare_table::FareTable;
+use sample_table::{BUS, REPORT, SAMPLE, START, SUBWAY, bytes_of};
 use shard_book::{Token, Totals};
 use std::alloc::Global;
 use std::marker::Sync;
@@ -525,7 +523,7 @@ fn opening_fault<R: RandomSource>(
     uploads: &[Vec<u8>],
     shards: u32,
 ) -> Result<Option<OpenFault>, Fail> {
-    let table = FareTable::read(alloc, TABLE.as_bytes())?;
+    let table = FareTable::read(alloc, SAMPLE.as_bytes())?;
     Ok(Service::open(rt, alloc, table, shards, uploads).err())
 }
 

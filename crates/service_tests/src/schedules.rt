@@ -1,7 +1,8 @@
 //! The same answers for every number of workers and of shards.
 
-use crate::sample::{Open, REPORT, SUBWAY, run, tap, two_uploads};
+use crate::sample::{Open, run, tap, two_uploads};
 use fare_service::{Outcome, UploadEnd};
+use sample_table::{REPORT, SUBWAY};
 use std::alloc::Global;
 use std::marker::Sync;
 use std::process::Abort;

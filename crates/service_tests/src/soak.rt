@@ -3,8 +3,9 @@
 ghost use Rattle.std.specs.Prelude.{◌<◌};
 
 use crate::plain::PlainAccount;
-use crate::sample::{Open, START, bytes_of, run};
+use crate::sample::{Open, run};
 use fare_service::{Outcome, UploadEnd};
+use sample_table::{START, bytes_of};
 use shard_book::{ShardBook, Statement};
 use std::alloc::Global;
 use std::process::Abort;

@@ -2,11 +2,11 @@
 
 ghost use Rattle.std.specs.Prelude.{◌≡◌, ◌<◌, ◌≤◌};
 
-use super::both::{B, M0, S, X, step_both, tap_of, transfers};
+use super::both::{B, S, X, step_both, tap_of, transfers};
 use super::plain::PlainAccount;
-use super::tables::{NEW_YORK, SAMPLE};
 use account_rule::{Account, Answer};
 use fare_table::{Clock, FareTable, Terms};
+use sample_table::{NEW_YORK, SAMPLE, START};
 use std::alloc::Global;
 use std::process::Abort;
 use std::test::Fail;
@@ -34,7 +34,7 @@ impl Counts {
     }
 }
 
-/// The replies to 5,000 taps: tap `i` is at `M0 + ahead * i - back * (i % 3)`, on the subway where
+/// The replies to 5,000 taps: tap `i` is at `START + ahead * i - back * (i % 3)`, on the subway where
 /// `i % 5` is 0 or 1, on a bus where it is 2 or 3, and else at a validator that no table knows.
 fn counts_of(
     rt: &impl Abort,
@@ -65,7 +65,7 @@ fn counts_of(
         unknown: 0,
     };
     for i in 0..5_000u64 {
-        let moment = M0 + ahead * i - back * (i % 3);
+        let moment = START + ahead * i - back * (i % 3);
         let validator = match i % 5 {
             0 | 1 => S,
             2 | 3 => B,

@@ -13,9 +13,6 @@ use std::alloc::Global;
 use std::process::Abort;
 use std::test::Fail;
 
-/// 2024-03-08T17:00:00.000Z.
-pub(crate) const M0: u64 = 1_709_917_200_000;
-
 /// Seven days, in milliseconds.
 pub(crate) const WEEK: u64 = 604_800_000;
 

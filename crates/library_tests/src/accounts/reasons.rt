@@ -2,12 +2,12 @@
 
 ghost use Rattle.std.specs.Prelude.{◌≡◌};
 
-use super::both::{B, M0, S, WEEK, X, tap_of};
-use super::tables::{FEW_RIDES, LOW_CEILING, SAMPLE};
+use super::both::{B, S, WEEK, X, tap_of};
 use account_rule::Charge::{CeilingCut, CeilingReached, Full, RideLimitReached};
 use account_rule::Reason::{Ride, Stale, Transfer, Unknown};
 use account_rule::{Account, Charge, Reason};
 use fare_table::{Clock, FareTable, Mode};
+use sample_table::{FEW_RIDES, LOW_CEILING, SAMPLE, START};
 use std::alloc::Global;
 use std::process::Abort;
 use std::test::Fail;
@@ -19,7 +19,7 @@ struct Row<'a> {
     table: &'static str,
     /// The last byte of the token, whose other bytes are 0.
     token: u8,
-    /// Validator, moment after `M0`, and the reason that is wanted.
+    /// Validator, moment after `START`, and the reason that is wanted.
     taps: &'a [(u32, u64, Reason)],
 }
 
@@ -27,16 +27,16 @@ const SUBWAY: Mode = Mode { place: 0 };
 
 const BUS: Mode = Mode { place: 1 };
 
-/// A ride of the window that starts at `M0`.
+/// A ride of the window that starts at `START`.
 fn first(charge: Charge) -> Reason {
     Ride {
-        start: M0,
-        until: M0 + WEEK,
+        start: START,
+        until: START + WEEK,
         charge,
     }
 }
 
-/// The place's ride at a whole fare of class `full`, in the window that starts at `M0`.
+/// The place's ride at a whole fare of class `full`, in the window that starts at `START`.
 fn full(place: u32) -> Reason {
     first(Full { place, cents: 300 })
 }
@@ -58,7 +58,7 @@ fn feed(rt: &impl Abort, table: &FareTable, clock: &Clock, row: &Row<'_>) -> Res
     token[15] = row.token;
     let mut account = Account::fresh();
     for &(validator, after, wanted) in row.taps {
-        let moment = M0.saturating_add(after);
+        let moment = START.saturating_add(after);
         assert!(rt; moment < 4_102_444_800_000);
         let tap = tap_of(table, clock, validator, moment)?;
         let reason = account.explain(table, &token, tap);
@@ -74,12 +74,12 @@ const H3: u64 = 10_800_000;
 #[test]
 fn worked_reasons(rt: HostRuntime) -> Result<(), Fail> {
     let subway = Transfer {
-        moment: M0,
+        moment: START,
         mode: SUBWAY,
     };
     let late = Ride {
-        start: M0 + WEEK,
-        until: M0 + 2 * WEEK,
+        start: START + WEEK,
+        until: START + 2 * WEEK,
         charge: Full {
             place: 0,
             cents: 300,
@@ -109,7 +109,7 @@ fn worked_reasons(rt: HostRuntime) -> Result<(), Fail> {
                     B,
                     3_600_000,
                     Transfer {
-                        moment: M0 + 1_800_000,
+                        moment: START + 1_800_000,
                         mode: SUBWAY,
                     },
                 ),
@@ -127,7 +127,7 @@ fn worked_reasons(rt: HostRuntime) -> Result<(), Fail> {
                     S,
                     3_600_000,
                     Transfer {
-                        moment: M0 + 2_400_000,
+                        moment: START + 2_400_000,
                         mode: BUS,
                     },
                 ),
@@ -135,14 +135,14 @@ fn worked_reasons(rt: HostRuntime) -> Result<(), Fail> {
                     S,
                     0,
                     Stale {
-                        latest: M0 + 3_600_000,
+                        latest: START + 3_600_000,
                     },
                 ),
                 (
                     S,
                     3_600_000,
                     Stale {
-                        latest: M0 + 3_600_000,
+                        latest: START + 3_600_000,
                     },
                 ),
             ],
@@ -187,7 +187,7 @@ fn worked_reasons(rt: HostRuntime) -> Result<(), Fail> {
                     B,
                     604_801_000,
                     Transfer {
-                        moment: M0 + 604_799_000,
+                        moment: START + 604_799_000,
                         mode: SUBWAY,
                     },
                 ),

@@ -2,12 +2,12 @@
 
 ghost use Rattle.std.specs.Prelude.{◌≡◌};
 
-use super::both::{B, M0, S, WEEK, X, step_both, tap_of, transfers};
+use super::both::{B, S, WEEK, X, step_both, tap_of, transfers};
 use super::plain::PlainAccount;
-use super::tables::{FEW_RIDES, LOW_CEILING, NEW_YORK, SAMPLE};
 use account_rule::Answer::{Capped, Paid, Stale, Transfer, Unknown};
 use account_rule::{Account, Answer, Reply, WindowView};
 use fare_table::{Clock, FareTable, Terms};
+use sample_table::{FEW_RIDES, LOW_CEILING, NEW_YORK, SAMPLE, START};
 use std::alloc::Global;
 use std::mem::size_of;
 use std::process::Abort;
@@ -155,51 +155,51 @@ fn worked_rows(rt: HostRuntime) -> Result<(), Fail> {
         Row {
             name: "transfer_within_two_hours",
             rider: full,
-            from: M0,
+            from: START,
             opening: &[],
             taps: &[(S, 0, Paid, 300), (B, 7_200_000, Transfer, 0)],
-            window: window(M0, M0 + WEEK, 1, 300),
+            window: window(START, START + WEEK, 1, 300),
         },
         Row {
             name: "no_transfer_after_two_hours",
             rider: full,
-            from: M0,
+            from: START,
             opening: &[],
             taps: &[(S, 0, Paid, 300), (B, 7_200_001, Paid, 300)],
-            window: window(M0, M0 + WEEK, 2, 600),
+            window: window(START, START + WEEK, 2, 600),
         },
         Row {
             name: "bus_to_bus_is_permitted",
             rider: full,
-            from: M0,
+            from: START,
             opening: &[],
             taps: &[(B, 0, Paid, 300), (B, 1_200_000, Transfer, 0)],
-            window: window(M0, M0 + WEEK, 1, 300),
+            window: window(START, START + WEEK, 1, 300),
         },
         Row {
             name: "only_the_last_tap_gives_a_transfer",
             rider: full,
-            from: M0,
+            from: START,
             opening: &[],
             taps: &[
                 (S, 0, Paid, 300),
                 (S, 1_800_000, Paid, 300),
                 (B, 3_600_000, Transfer, 0),
             ],
-            window: window(M0, M0 + WEEK, 2, 600),
+            window: window(START, START + WEEK, 2, 600),
         },
         Row {
             name: "transfer_gives_no_transfer",
             rider: full,
-            from: M0,
+            from: START,
             opening: &LINKED_TAPS,
             taps: &[],
-            window: window(M0, M0 + WEEK, 2, 600),
+            window: window(START, START + WEEK, 2, 600),
         },
         Row {
             name: "stale_when_posted_again",
             rider: full,
-            from: M0,
+            from: START,
             opening: &LINKED_TAPS,
             taps: &[
                 (S, 0, Stale, 0),
@@ -207,80 +207,80 @@ fn worked_rows(rt: HostRuntime) -> Result<(), Fail> {
                 (B, 2_400_000, Stale, 0),
                 (S, 3_600_000, Stale, 0),
             ],
-            window: window(M0, M0 + WEEK, 2, 600),
+            window: window(START, START + WEEK, 2, 600),
         },
         Row {
             name: "equal_moments_are_stale",
             rider: full,
-            from: M0,
+            from: START,
             opening: &[],
             taps: &[(S, 0, Paid, 300), (S, 0, Stale, 0)],
-            window: window(M0, M0 + WEEK, 1, 300),
+            window: window(START, START + WEEK, 1, 300),
         },
         Row {
             name: "unknown_validator_moves_nothing",
             rider: full,
-            from: M0,
+            from: START,
             opening: &[],
             taps: &[(X, 10, Unknown, 0), (S, 5, Paid, 300)],
-            window: window(M0 + 5, M0 + 5 + WEEK, 1, 300),
+            window: window(START + 5, START + 5 + WEEK, 1, 300),
         },
         Row {
             name: "unknown_is_asked_before_stale",
             rider: full,
-            from: M0,
+            from: START,
             opening: &[],
             taps: &[(S, 10, Paid, 300), (X, 5, Unknown, 0)],
-            window: window(M0 + 10, M0 + 10 + WEEK, 1, 300),
+            window: window(START + 10, START + 10 + WEEK, 1, 300),
         },
         Row {
             name: "ceiling_cuts_the_twelfth_ride",
             rider: full,
-            from: M0,
+            from: START,
             opening: &THIRTEEN_RIDES,
             taps: &[],
-            window: window(M0, M0 + WEEK, 12, 3500),
+            window: window(START, START + WEEK, 12, 3500),
         },
         Row {
             name: "capped_ride_gives_a_transfer",
             rider: full,
-            from: M0,
+            from: START,
             opening: &THIRTEEN_RIDES,
             taps: &[(B, 136_800_000, Transfer, 0)],
-            window: window(M0, M0 + WEEK, 12, 3500),
+            window: window(START, START + WEEK, 12, 3500),
         },
         Row {
             name: "window_lasts_seven_days",
             rider: full,
-            from: M0,
+            from: START,
             opening: &THIRTEEN_RIDES,
             taps: &[(S, 604_799_999, Capped, 0)],
-            window: window(M0, M0 + WEEK, 12, 3500),
+            window: window(START, START + WEEK, 12, 3500),
         },
         Row {
             name: "window_ends_after_seven_days",
             rider: full,
-            from: M0,
+            from: START,
             opening: &THIRTEEN_RIDES,
             taps: &[(S, WEEK, Paid, 300)],
-            window: window(M0 + WEEK, M0 + 2 * WEEK, 1, 300),
+            window: window(START + WEEK, START + 2 * WEEK, 1, 300),
         },
         Row {
             name: "transfer_may_fall_after_the_window",
             rider: full,
-            from: M0,
+            from: START,
             opening: &[],
             taps: &[
                 (S, 0, Paid, 300),
                 (S, 604_799_000, Paid, 300),
                 (B, 604_801_000, Transfer, 0),
             ],
-            window: window(M0, M0 + WEEK, 2, 600),
+            window: window(START, START + WEEK, 2, 600),
         },
         Row {
             name: "next_ride_opens_a_window",
             rider: full,
-            from: M0,
+            from: START,
             opening: &[],
             taps: &[
                 (S, 0, Paid, 300),
@@ -288,12 +288,12 @@ fn worked_rows(rt: HostRuntime) -> Result<(), Fail> {
                 (B, 604_801_000, Transfer, 0),
                 (S, 620_000_000, Paid, 300),
             ],
-            window: window(M0 + 620_000_000, M0 + 1_224_800_000, 1, 300),
+            window: window(START + 620_000_000, START + 1_224_800_000, 1, 300),
         },
         Row {
             name: "reduced_riders_pay_half",
             rider: reduced,
-            from: M0,
+            from: START,
             opening: &[],
             taps: &[
                 (S, 0, Paid, 150),
@@ -310,40 +310,40 @@ fn worked_rows(rt: HostRuntime) -> Result<(), Fail> {
                 (S, 118_800_000, Paid, 150),
                 (S, 129_600_000, Capped, 0),
             ],
-            window: window(M0, M0 + WEEK, 12, 1800),
+            window: window(START, START + WEEK, 12, 1800),
         },
         Row {
             name: "ceiling_below_one_fare",
             rider: low,
-            from: M0,
+            from: START,
             opening: &[],
             taps: &[(S, 0, Paid, 200), (S, 10_800_000, Capped, 0)],
-            window: window(M0, M0 + WEEK, 1, 200),
+            window: window(START, START + WEEK, 1, 200),
         },
         Row {
             name: "ride_limit_below_the_ceiling",
             rider: few,
-            from: M0,
+            from: START,
             opening: &[],
             taps: &[
                 (S, 0, Paid, 300),
                 (S, 10_800_000, Paid, 300),
                 (S, 21_600_000, Capped, 0),
             ],
-            window: window(M0, M0 + WEEK, 2, 600),
+            window: window(START, START + WEEK, 2, 600),
         },
         Row {
             name: "civil_window_ends_at_midnight",
             rider: civil,
-            from: M0,
+            from: START,
             opening: &[],
             taps: &[(S, 0, Paid, 300), (S, 557_999_999, Paid, 300)],
-            window: window(M0, 1_710_475_200_000, 2, 600),
+            window: window(START, 1_710_475_200_000, 2, 600),
         },
         Row {
             name: "ride_at_midnight_opens_a_window",
             rider: civil,
-            from: M0,
+            from: START,
             opening: &[],
             taps: &[
                 (S, 0, Paid, 300),
@@ -371,10 +371,10 @@ fn worked_rows(rt: HostRuntime) -> Result<(), Fail> {
         Row {
             name: "civil_window_keeps_the_ceiling",
             rider: civil,
-            from: M0,
+            from: START,
             opening: &THIRTEEN_RIDES,
             taps: &[(S, 557_999_999, Capped, 0)],
-            window: window(M0, 1_710_475_200_000, 12, 3500),
+            window: window(START, 1_710_475_200_000, 12, 3500),
         },
     ];
     for row in &rows {
