@@ -5,7 +5,7 @@ use byteorder::{BigEndian, ByteOrder};
 use std::alloc::Global;
 use std::fs;
 use std::rt::Files;
-use tap_views::{Batch, TapFields, TapView, batches};
+use tap_views::{Batch, TapFields, batches};
 
 /// The bytes of each file.
 pub fn load<R: Files + AllocGlobal>(rt: &R, names: &[String]) -> anyhow::Result<Vec<Vec<u8>>> {
@@ -32,19 +32,9 @@ pub fn fields_of(alloc: Global, files: &[Vec<u8>]) -> anyhow::Result<Vec<TapFiel
 
 fn add_fields(taps: &mut Vec<TapFields>, batch: &Batch<'_>) -> anyhow::Result<()> {
     for tap in batch.taps() {
-        taps.push(fields(&tap))?;
+        taps.push(TapFields::of(&tap))?;
     }
     Ok(())
-}
-
-fn fields(tap: &TapView<'_>) -> TapFields {
-    let mut token = [0; 16];
-    token.copy_from_slice(tap.token());
-    TapFields {
-        token,
-        validator: tap.validator_number(),
-        moment: tap.moment_ms(),
-    }
 }
 
 /// The taps of the files.

@@ -23,7 +23,7 @@ loop-tap-preserved c = record {
       let before = map fields_of c.loop-tap.yielded in
       let more = c.in_ok-add.ensures (posted ++ before) (c.loop-tap.invariant.added posted is) in
       subst (λ (ts : List TapFields). IsBalance c.add.new.self ts [])
-      (append_assoc posted before (c.fields.result ∷ []) ∙ ap (λ (t : TapFields). posted ++ (before ++ t ∷ [])) c.fields.ensures
+      (append_assoc posted before (c.of.result ∷ []) ∙ ap (λ (t : TapFields). posted ++ (before ++ t ∷ [])) c.of.ensures
       ∙ ap (λ (ts : List TapFields). posted ++ ts) (sym (map-append fields_of c.loop-tap.yielded (c.in-Some.tap ∷ [])))) more;
 }
 
