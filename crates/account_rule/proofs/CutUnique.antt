@@ -1,7 +1,7 @@
 -- A list has one cut into blocks.
 use Rattle.std.proofs.Common.{◌≡◌, ◌↔◌, Bool, true, false, cond, List, [], ◌∷◌, ◌++◌, refl, sym, ap, ◌∙◌, append_assoc, append-nil}
 use Rattle.std.specs.List.{flat_map}
-use Rattle.account_rule.specs.Cut.{cut, cut_from, AreJoined, IsBlock, IsApart, AreBlocks, IsCut}
+use Rattle.account_rule.specs.Cut.{cut, cut_from, EachJoins, IsBlock, IsApart, AreBlocks, IsCutBy}
 
 abbrev joined : {A : Type 0} → List (List A) → List A
 joined blocks = flat_map (λ block. block) blocks
@@ -16,8 +16,8 @@ joined-cut_from joins block (x ∷ xs) =
     ]
 
 AreJoined-push : {A : Type 0} (joins : List A → A → Bool) (block xs : List A) (x : A)
-    → AreJoined joins block xs → joins (block ++ xs) x ≡ true → AreJoined joins block (xs ++ x ∷ [])
-unfolding AreJoined
+    → EachJoins joins block xs → joins (block ++ xs) x ≡ true → EachJoins joins block (xs ++ x ∷ [])
+unfolding EachJoins
 AreJoined-push joins block [] x all last = (rw append-nil at last, tt)
 AreJoined-push joins block (y ∷ ys) x all last =
     (all.0, AreJoined-push joins (block ++ y ∷ []) ys x all.1 (rw (append_assoc block (y ∷ []) ys) last))
@@ -43,7 +43,7 @@ AreBlocks-cons joins block x more (y ∷ ys) first apart rest =
 
 AreBlocks-cut_from : {A : Type 0} (joins : List A → A → Bool) (block xs : List A)
     → IsBlock joins block → AreBlocks joins (cut_from joins block xs)
-unfolding cut_from AreBlocks IsBlock AreJoined
+unfolding cut_from AreBlocks IsBlock EachJoins
 AreBlocks-cut_from joins block [] first = first
 AreBlocks-cut_from joins block (x ∷ xs) first =
     elim (joins block x) as (λ v. joins block x ≡ v → AreBlocks joins (cond v (cut_from joins (block ++ x ∷ []) xs) (block ∷ cut_from joins (x ∷ []) xs))) [
@@ -51,8 +51,8 @@ AreBlocks-cut_from joins block (x ∷ xs) first =
       | false ↦ λ same. AreBlocks-cons joins block x [] xs first same (AreBlocks-cut_from joins (x ∷ []) xs tt)
     ] refl
 
-IsCut-cut : {A : Type 0} (joins : List A → A → Bool) (xs : List A) → IsCut joins xs (cut joins xs)
-unfolding cut AreBlocks IsBlock AreJoined
+IsCut-cut : {A : Type 0} (joins : List A → A → Bool) (xs : List A) → IsCutBy joins xs (cut joins xs)
+unfolding cut AreBlocks IsBlock EachJoins
 IsCut-cut joins [] = record { whole = refl; apart = tt }
 IsCut-cut joins (x ∷ xs) = record {
   whole = joined-cut_from joins (x ∷ []) xs;
@@ -61,9 +61,9 @@ IsCut-cut joins (x ∷ xs) = record {
 
 -- a block grows by the elements that join it
 cut_from-joined : {A : Type 0} (joins : List A → A → Bool) (block xs rest : List A) (blocks : List (List A))
-    → AreJoined joins block xs → cut_from joins (block ++ xs) rest ≡ (block ++ xs) ∷ blocks
+    → EachJoins joins block xs → cut_from joins (block ++ xs) rest ≡ (block ++ xs) ∷ blocks
     → cut_from joins block (xs ++ rest) ≡ (block ++ xs) ∷ blocks
-unfolding cut_from AreJoined
+unfolding cut_from EachJoins
 cut_from-joined joins block [] rest blocks all next = rw append-nil at next ∙ rw append-nil refl
 cut_from-joined joins block (x ∷ xs) rest blocks all next =
     rw all.0 (cut_from-joined joins (block ++ x ∷ []) xs rest blocks all.1 (rw (append_assoc block (x ∷ []) xs) next)
@@ -78,7 +78,7 @@ first_block joins block (next ∷ blocks) all = all.0
 -- it ends where the next block begins
 cut_from-apart : {A : Type 0} (joins : List A → A → Bool) (block : List A) (blocks : List (List A))
     → AreBlocks joins (block ∷ blocks) → cut_from joins block (joined blocks) ≡ block ∷ blocks
-unfolding cut_from AreBlocks IsBlock IsApart AreJoined
+unfolding cut_from AreBlocks IsBlock IsApart EachJoins
 cut_from-apart joins block [] all = refl
 cut_from-apart joins block ([] ∷ []) all = absurd all.2
 cut_from-apart joins block ([] ∷ next ∷ blocks) all = absurd all.2.0
@@ -95,7 +95,7 @@ cut-joined joins ((x ∷ xs) ∷ blocks) all =
 
 -- the blocks of a cut are those of `cut`, and no others
 pub cut_iff : {A : Type 0} (joins : List A → A → Bool) (xs : List A) (blocks : List (List A))
-    → IsCut joins xs blocks ↔ (blocks ≡ cut joins xs)
+    → IsCutBy joins xs blocks ↔ (blocks ≡ cut joins xs)
 cut_iff joins xs blocks = (
   (λ is_cut. cut-joined joins blocks is_cut.apart ∙ ap (λ ys. cut joins ys) is_cut.whole),
   (λ same. rw same (IsCut-cut joins xs)),

@@ -15,7 +15,7 @@ use Rattle.account_rule.specs.Cut.{cut, cut_from, last_block}
 use Rattle.account_rule.specs.Kept.{State, is_after, kept_giver, kept_window}
 use Rattle.account_rule.specs.inside.Kept.{gives, next_reason, open_window, window_at}
 use Rattle.account_rule.specs.Reasons.{charge_by, charged_by, given_by, latest, live_reason, reason, replied_by, ride_of}
-use Rattle.account_rule.specs.Replies.{live_reply, reply, reply_of, ride_reply}
+use Rattle.account_rule.specs.Replies.{live_reply, reply, reply_with, ride_reply}
 use Rattle.account_rule.specs.Rules.{Rules}
 use Rattle.account_rule.specs.Stands.{KeepsOf, giver_of, window_of}
 use Rattle.account_rule.specs.Taps.{LiveTap, is_later, live, live_at, live_tap}
@@ -241,7 +241,7 @@ ride-follows rules (first ∷ window) ride =
     ]
 
 transfer-follows : (permits : Mode → Mode → Bool) (given other : Option LiveTap) (tap : LiveTap) → gives permits given tap ≡ true
-    → ((giver : LiveTap) → given ≡ Some giver → other ≡ Some giver) → reply_of answer.Transfer 0 ≡ replied_by (given_by other)
+    → ((giver : LiveTap) → given ≡ Some giver → other ≡ Some giver) → reply_with answer.Transfer 0 ≡ replied_by (given_by other)
 unfolding gives given_by
 transfer-follows permits None other tap given same = cc
 transfer-follows permits (Some giver) other tap given same = rw (same giver refl) refl

@@ -11,7 +11,7 @@ use Rattle.account_rule.specs.declared.tap.TapIn.{TapIn}
 use Rattle.account_rule.specs.Chains.{chains, ends_in_transfer, rides}
 use Rattle.account_rule.specs.Cut.{cut, last_block}
 use Rattle.account_rule.specs.Laws.{is_paid, is_ride, place_replies}
-use Rattle.account_rule.specs.Replies.{live_reply, replies, replies_after, reply, reply_of, ride_reply}
+use Rattle.account_rule.specs.Replies.{live_reply, replies, replies_after, reply, reply_with, ride_reply}
 use Rattle.account_rule.specs.Rules.{Rules}
 use Rattle.account_rule.specs.Taps.{LiveTap, is_later, live, live_after, live_at, live_tap}
 use Rattle.account_rule.specs.Windows.{charge, is_within, paid_rides, ride_cents, windows}
@@ -35,9 +35,9 @@ replies-push rules taps tap = replies_after-push rules [] taps tap
 
 -- what one more tap makes of the replies and the windows
 data Change (rules : Rules) (taps : List TapIn) (tap : TapIn) : Type 0 where
-  is_unknown : reply rules taps tap ≡ reply_of Unknown 0 → windows rules (taps ++ tap ∷ []) ≡ windows rules taps → Change rules taps tap
-  is_stale : reply rules taps tap ≡ reply_of Stale 0 → windows rules (taps ++ tap ∷ []) ≡ windows rules taps → Change rules taps tap
-  is_transfer : reply rules taps tap ≡ reply_of Transfer 0 → windows rules (taps ++ tap ∷ []) ≡ windows rules taps → Change rules taps tap
+  is_unknown : reply rules taps tap ≡ reply_with Unknown 0 → windows rules (taps ++ tap ∷ []) ≡ windows rules taps → Change rules taps tap
+  is_stale : reply rules taps tap ≡ reply_with Stale 0 → windows rules (taps ++ tap ∷ []) ≡ windows rules taps → Change rules taps tap
+  is_transfer : reply rules taps tap ≡ reply_with Transfer 0 → windows rules (taps ++ tap ∷ []) ≡ windows rules taps → Change rules taps tap
   is_charged : (shown : LiveTap)
       → reply rules taps tap ≡ ride_reply (charge rules.terms (length (last_block (extend (is_within rules.until) (windows rules taps) shown)) - 1))
       → windows rules (taps ++ tap ∷ []) ≡ extend (is_within rules.until) (windows rules taps) shown → Change rules taps tap
@@ -64,9 +64,9 @@ change rules taps tap = elim tap.mode as (λ mode. tap.mode ≡ mode → Change 
 
 -- A measure of the replies, as their cents, and the same measure of the first rides of a window.
 pub record IsMeasure (terms : Terms) (of_reply : Reply → ℕ) (of_places : ℕ → ℕ) : Type 0 where
-  pub unknown : of_reply (reply_of Unknown 0) ≡ 0
-  pub stale : of_reply (reply_of Stale 0) ≡ 0
-  pub transfer : of_reply (reply_of Transfer 0) ≡ 0
+  pub unknown : of_reply (reply_with Unknown 0) ≡ 0
+  pub stale : of_reply (reply_with Stale 0) ≡ 0
+  pub transfer : of_reply (reply_with Transfer 0) ≡ 0
   pub none : of_places 0 ≡ 0
   pub more : (place : ℕ) → of_places (suc place) ≡ of_places place + of_reply (ride_reply (charge terms place))
 
@@ -139,9 +139,9 @@ ride_replies-free : (replies : List Reply) (reply : Reply) → is_ride reply ≡
 ride_replies-free replies reply none = rw (filter-append is_ride replies (reply ∷ [])) (rw none (append-nil (filter is_ride replies)))
 
 ride_replies-ride : (replies : List Reply) (cents : ℕ) → filter is_ride (replies ++ ride_reply cents ∷ []) ≡ filter is_ride replies ++ ride_reply cents ∷ []
-unfolding ride_reply reply_of
+unfolding ride_reply reply_with
 ride_replies-ride replies cents = rw (filter-append is_ride replies (ride_reply cents ∷ []))
-    (elim (ltb 0 cents) as (λ v. filter is_ride replies ++ filter is_ride (cond v (reply_of Paid cents) (reply_of Capped 0) ∷ []) ≡ filter is_ride replies ++ cond v (reply_of Paid cents) (reply_of Capped 0) ∷ [])
+    (elim (ltb 0 cents) as (λ v. filter is_ride replies ++ filter is_ride (cond v (reply_with Paid cents) (reply_with Capped 0) ∷ []) ≡ filter is_ride replies ++ cond v (reply_with Paid cents) (reply_with Capped 0) ∷ [])
     [ true ↦ refl | false ↦ refl ])
 
 -- the replies of all windows, by the places of their rides
@@ -166,42 +166,42 @@ no_shares : (rules : Rules) → filter is_ride (replies rules []) ≡ shares_of 
 unfolding replies replies_after windows rides chains live live_after cut shares_of
 no_shares rules = refl
 
-free_unknown : is_ride (reply_of Unknown 0) ≡ false
-unfolding reply_of
+free_unknown : is_ride (reply_with Unknown 0) ≡ false
+unfolding reply_with
 free_unknown = refl
 
-free_stale : is_ride (reply_of Stale 0) ≡ false
-unfolding reply_of
+free_stale : is_ride (reply_with Stale 0) ≡ false
+unfolding reply_with
 free_stale = refl
 
-free_transfer : is_ride (reply_of Transfer 0) ≡ false
-unfolding reply_of
+free_transfer : is_ride (reply_with Transfer 0) ≡ false
+unfolding reply_with
 free_transfer = refl
 
 pub ride_replies-shares : (rules : Rules) (taps : List TapIn) → filter is_ride (replies rules taps) ≡ shares_of rules.terms (windows rules taps)
 ride_replies-shares rules taps =
     push_all (λ taps. filter is_ride (replies rules taps) ≡ shares_of rules.terms (windows rules taps)) (no_shares rules)
     (λ taps tap all. rw (replies-push rules taps tap) (elim (change rules taps tap) [
-      | is_unknown answered same ↦ rw (answered, same) (ride_replies-free (replies rules taps) (reply_of Unknown 0) (free_unknown) ∙ all)
-      | is_stale answered same ↦ rw (answered, same) (ride_replies-free (replies rules taps) (reply_of Stale 0) (free_stale) ∙ all)
-      | is_transfer answered same ↦ rw (answered, same) (ride_replies-free (replies rules taps) (reply_of Transfer 0) (free_transfer) ∙ all)
+      | is_unknown answered same ↦ rw (answered, same) (ride_replies-free (replies rules taps) (reply_with Unknown 0) (free_unknown) ∙ all)
+      | is_stale answered same ↦ rw (answered, same) (ride_replies-free (replies rules taps) (reply_with Stale 0) (free_stale) ∙ all)
+      | is_transfer answered same ↦ rw (answered, same) (ride_replies-free (replies rules taps) (reply_with Transfer 0) (free_transfer) ∙ all)
       | is_charged shown answered opens ↦ rw (answered, opens, shares_of-extend rules.terms (is_within rules.until) (windows rules taps) shown)
           (ride_replies-ride (replies rules taps) _ ∙ rw all refl)
     ]))
     [] taps (no_shares rules)
 
 cents_of : (cents : ℕ) → cents ≡ (ride_reply cents).cents
-unfolding ride_reply reply_of
+unfolding ride_reply reply_with
 cents_of cents =
-    elim (ltb 0 cents) as (λ v. ltb 0 cents ≡ v → cents ≡ (cond v (reply_of Paid cents) (reply_of Capped 0)).cents)
+    elim (ltb 0 cents) as (λ v. ltb 0 cents ≡ v → cents ≡ (cond v (reply_with Paid cents) (reply_with Capped 0)).cents)
     [ true ↦ λ _. refl | false ↦ λ h. omega (arith, ltb-false 0 cents h) ] refl
 
 paid_of : (cents : ℕ) → cond {A = ℕ} (ltb 0 cents) 1 0 ≡ cond {A = ℕ} (is_paid (ride_reply cents)) 1 0
-unfolding ride_reply reply_of
-paid_of cents = elim (ltb 0 cents) as (λ v. cond {A = ℕ} v 1 0 ≡ cond {A = ℕ} (is_paid (cond v (reply_of Paid cents) (reply_of Capped 0))) 1 0) [ true ↦ refl | false ↦ refl ]
+unfolding ride_reply reply_with
+paid_of cents = elim (ltb 0 cents) as (λ v. cond {A = ℕ} v 1 0 ≡ cond {A = ℕ} (is_paid (cond v (reply_with Paid cents) (reply_with Capped 0))) 1 0) [ true ↦ refl | false ↦ refl ]
 
 pub cents_measure : (terms : Terms) → IsMeasure terms (λ reply. reply.cents) (λ n. ride_cents terms n)
-unfolding reply_of ride_reply ride_cents
+unfolding reply_with ride_reply ride_cents
 cents_measure terms = record {
   unknown = refl;
   stale = refl;
@@ -211,7 +211,7 @@ cents_measure terms = record {
 }
 
 pub paid_measure : (terms : Terms) → IsMeasure terms (λ reply. cond (is_paid reply) 1 0) (λ n. paid_rides terms n)
-unfolding reply_of ride_reply paid_rides
+unfolding reply_with ride_reply paid_rides
 paid_measure terms = record {
   unknown = refl;
   stale = refl;

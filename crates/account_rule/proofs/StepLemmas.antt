@@ -12,9 +12,9 @@ use Rattle.account_rule.specs.declared.tap.TapIn.{TapIn}
 use Rattle.account_rule.specs.declared.window.Window.{Window}
 use Rattle.account_rule.specs.Chains.{chains, ends_in_transfer}
 use Rattle.account_rule.specs.Cut.{last_block}
-use Rattle.account_rule.specs.Replies.{live_reply, reply, reply_of, ride_reply}
+use Rattle.account_rule.specs.Replies.{live_reply, reply, reply_with, ride_reply}
 use Rattle.account_rule.specs.Rules.{Rules}
-use Rattle.account_rule.specs.Kept.{KeepsTerms, State, fields_of, is_after, kept_giver, kept_of, kept_window}
+use Rattle.account_rule.specs.Kept.{KeepsTerms, State, state_of, is_after, kept_giver, kept_of, kept_window}
 use Rattle.account_rule.specs.inside.Kept.{IsRoomy, gives, open_window, window_at, with_ride}
 use Rattle.account_rule.specs.Stands.{KeepsOf, Stands, giver_of, window_of}
 use Rattle.account_rule.specs.Taps.{is_later, live_at, live_tap}
@@ -23,7 +23,7 @@ use Rattle.account_rule.proofs.TapLemmas.{and-true, chains-same, ends_in_transfe
 use Rattle.account_rule.proofs.WindowLemmas.{charge-after, roomy, window_of-after}
 
 -- an account with a window keeps what stands in its fields
-pub kept-open : (account : Account) → account.has_window ≡ true → kept_of account ≡ Some (fields_of account)
+pub kept-open : (account : Account) → account.has_window ≡ true → kept_of account ≡ Some (state_of account)
 unfolding kept_of
 kept-open account there = rw there refl
 
@@ -33,7 +33,7 @@ unfolding kept_of
 kept-fresh account fresh = rw fresh refl
 
 -- an account with a window stands for what its fields stand for
-pub stands-open : (rules : Rules) (account : Account) (taps : List TapIn) → account.has_window ≡ true → KeepsOf rules (Some (fields_of account)) taps
+pub stands-open : (rules : Rules) (account : Account) (taps : List TapIn) → account.has_window ≡ true → KeepsOf rules (Some (state_of account)) taps
     → Stands rules account taps
 unfolding Stands
 stands-open rules account taps there keeps = rw (kept-open account there) keeps
@@ -70,12 +70,12 @@ pub is_live : (taps : List TapIn) (tap : TapIn) (mode : Mode) → tap.mode ≡ S
 unfolding live_tap
 is_live taps tap mode known later = rw (known, later) refl
 
-pub reply_unknown : (rules : Rules) (taps : List TapIn) (tap : TapIn) → tap.mode ≡ None → reply rules taps tap ≡ reply_of Unknown 0
+pub reply_unknown : (rules : Rules) (taps : List TapIn) (tap : TapIn) → tap.mode ≡ None → reply rules taps tap ≡ reply_with Unknown 0
 unfolding reply
 reply_unknown rules taps tap none = let no_mode : is_some tap.mode ≡ false = ap (λ o. is_some o) none in rw no_mode refl
 
 pub reply_stale : (rules : Rules) (taps : List TapIn) (tap : TapIn) (mode : Mode) → tap.mode ≡ Some mode → is_later taps tap.moment ≡ false
-    → reply rules taps tap ≡ reply_of Stale 0
+    → reply rules taps tap ≡ reply_with Stale 0
 unfolding reply
 reply_stale rules taps tap mode known not_after =
     let known_mode : is_some tap.mode ≡ true = ap (λ o. is_some o) known in rw (known_mode, not_after) refl
@@ -86,7 +86,7 @@ unfolding reply
 reply_live rules taps tap mode known later =
     let known_mode : is_some tap.mode ≡ true = ap (λ o. is_some o) known in rw (known_mode, later) refl
 
-pub reply_transfer : (rules : Rules) (taps : List TapIn) → ends_in_transfer rules taps ≡ true → live_reply rules taps ≡ reply_of Transfer 0
+pub reply_transfer : (rules : Rules) (taps : List TapIn) → ends_in_transfer rules taps ≡ true → live_reply rules taps ≡ reply_with Transfer 0
 unfolding live_reply
 reply_transfer rules taps ends = rw ends refl
 
@@ -97,7 +97,7 @@ reply_ride rules taps ends = rw ends refl
 
 -- a tap of no known validator
 pub unknown : (rules : Rules) (state : Option State) (taps : List TapIn) (tap : TapIn) → KeepsOf rules state taps
-    → tap.mode ≡ None → IsStep rules taps tap (reply_of Unknown 0) state
+    → tap.mode ≡ None → IsStep rules taps tap (reply_with Unknown 0) state
 unknown rules state taps tap stands none = record {
   reply = sym (reply_unknown rules taps tap none);
   stands = same rules state taps tap stands (not_known taps tap none)
@@ -116,7 +116,7 @@ later_stale last moment earlier before =
 
 -- a known tap that is not later than all known taps before it
 stale_at : (rules : Rules) (state : State) (taps : List TapIn) (tap : TapIn) (mode : Mode) → KeepsOf rules (Some state) taps
-    → tap.mode ≡ Some mode → tap.moment ≤ state.last → IsStep rules taps tap (reply_of Stale 0) (Some state)
+    → tap.mode ≡ Some mode → tap.moment ≤ state.last → IsStep rules taps tap (reply_with Stale 0) (Some state)
 unfolding is_after
 stale_at rules state taps tap mode stands known before =
     let not_after : is_later taps tap.moment ≡ false = sym (stands.last tap.moment) ∙ le-ltb state.last tap.moment before in
@@ -138,7 +138,7 @@ both (Some state) tapped moment later =
 
 pub stale : (rules : Rules) (account : Option State) (state : State) (taps : List TapIn) (tap : TapIn) (mode : Mode)
     → account ≡ Some state → KeepsOf rules account taps → tap.mode ≡ Some mode → tap.moment ≤ state.last
-    → IsStep rules taps tap (reply_of Stale 0) (Some state)
+    → IsStep rules taps tap (reply_with Stale 0) (Some state)
 stale rules account state taps tap mode same stands known before =
     stale_at rules state taps tap mode (at_state rules account state taps same stands) known before
 
@@ -160,7 +160,7 @@ keeps_terms terms state next some kept limits =
 transfer_at : (rules : Rules) (state : State) (taps : List TapIn) (tap : TapIn) (mode : Mode) → KeepsOf rules (Some state) taps
     → tap.mode ≡ Some mode → state.last < tap.moment
     → gives rules.permits (kept_giver (Some state)) (live_at tap.moment mode) ≡ true
-    → IsStep rules taps tap (reply_of Transfer 0) (Some (record { last = tap.moment; giver = None; terms = state.terms; window = state.window }))
+    → IsStep rules taps tap (reply_with Transfer 0) (Some (record { last = tap.moment; giver = None; terms = state.terms; window = state.window }))
 unfolding is_after kept_giver kept_window
 transfer_at rules state taps tap mode stands known after given =
     let later : is_later taps tap.moment ≡ true = sym (stands.last tap.moment) ∙ lt-ltb state.last tap.moment after in
@@ -181,7 +181,7 @@ transfer_at rules state taps tap mode stands known after given =
 pub transfer : (rules : Rules) (account : Option State) (state : State) (taps : List TapIn) (tap : TapIn) (mode : Mode)
     → account ≡ Some state → KeepsOf rules account taps → tap.mode ≡ Some mode → state.last < tap.moment
     → gives rules.permits (option_map (live_at state.last) state.giver) (live_at tap.moment mode) ≡ true
-    → IsStep rules taps tap (reply_of Transfer 0) (Some (record { last = tap.moment; giver = None; terms = state.terms; window = state.window }))
+    → IsStep rules taps tap (reply_with Transfer 0) (Some (record { last = tap.moment; giver = None; terms = state.terms; window = state.window }))
 unfolding kept_giver
 transfer rules account state taps tap mode same stands known after given =
     transfer_at rules state taps tap mode (at_state rules account state taps same stands) known after given

@@ -19,8 +19,8 @@ pub record State : Type 0 where
   pub window : Window
 
 -- what stands in the account's fields
-abbrev pub fields_of : Account → State
-fields_of account =
+abbrev pub state_of : Account → State
+state_of account =
     record {
       last = account.last;
       giver = account.giver;
@@ -30,7 +30,7 @@ fields_of account =
 
 -- what the account keeps, if it has seen a live tap
 unfoldable pub kept_of : Account → Option State
-kept_of account = if account.has_window then Some (fields_of account) else None
+kept_of account = if account.has_window then Some (state_of account) else None
 
 -- whether the moment is after the last live tap's
 unfoldable pub is_after : Option State → ℕ → Bool

@@ -76,7 +76,7 @@ impl Charge {
 
 impl Reason {
     /// The reply that a tap with this reason has.
-    #[tactic(auto, unfolding(crate::specs::Replies::reply_of))]
+    #[tactic(auto, unfolding(crate::specs::Replies::reply_with))]
     pub fn reply(self) -> Reply
         ensures { result ≡ replied_by self }
     {

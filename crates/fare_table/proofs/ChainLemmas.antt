@@ -12,7 +12,7 @@ use Rattle.std.specs.Option.{option_or}
 use Rattle.std.specs.Prelude.{nat_le, nat_lt, if◌then◌else◌}
 use Rattle.fare_table.specs.Fares.{has_number}
 use Rattle.fare_table.specs.Validators.{is_chain}
-use Rattle.fare_table.specs.inside.Validators.{is_rising, last_begun, IsSplit}
+use Rattle.fare_table.specs.inside.Validators.{is_rising, last_begun, IsSplitAt}
 use Rattle.fare_table.specs.declared.validators.Span.{Span}
 
 -- the range, where it reaches the number
@@ -199,9 +199,9 @@ find-all p q (x ∷ xs) all =
 parted : (n : ℕ) (firsts : List ℕ) → is_rising firsts ≡ true → IsPartitionedBy (λ first. nat_le first n) firsts
 parted n firsts rising = IsPartitionedBy-leb (λ first. first) firsts n (rises firsts rising)
 
-halved : (n : ℕ) (firsts : List ℕ) (base size : ℕ) (d : ℕ) → is_rising firsts ≡ true → IsSplit n firsts base size → 1 < size → base + size ≤ length firsts
+halved : (n : ℕ) (firsts : List ℕ) (base size : ℕ) (d : ℕ) → is_rising firsts ≡ true → IsSplitAt n firsts base size → 1 < size → base + size ≤ length firsts
     → (b : Bool) → nat_le (get_or firsts (base + size / 2) d) n ≡ b
-    → IsSplit n firsts (base + (if b then size / 2 else 0)) (size - size / 2)
+    → IsSplitAt n firsts (base + (if b then size / 2 else 0)) (size - size / 2)
 halved n firsts base size d rising split more inside true is = record {
   front = λ k e low high.
       let same : get_or firsts (base + size / 2) d ≡ get_or firsts (base + size / 2) e = get_or_default firsts (base + size / 2) d e (omega arith) in
@@ -221,6 +221,6 @@ halved n firsts base size d rising split more inside false is = record {
 }
 
 -- half of what is left is taken where its first number is not above the number
-pub split-half : (n : ℕ) (firsts : List ℕ) (base size : ℕ) (d : ℕ) → is_rising firsts ≡ true → IsSplit n firsts base size → 1 < size → base + size ≤ length firsts
-    → IsSplit n firsts (base + (if nat_le (get_or firsts (base + size / 2) d) n then size / 2 else 0)) (size - size / 2)
+pub split-half : (n : ℕ) (firsts : List ℕ) (base size : ℕ) (d : ℕ) → is_rising firsts ≡ true → IsSplitAt n firsts base size → 1 < size → base + size ≤ length firsts
+    → IsSplitAt n firsts (base + (if nat_le (get_or firsts (base + size / 2) d) n then size / 2 else 0)) (size - size / 2)
 split-half n firsts base size d rising split more inside = halved n firsts base size d rising split more inside (nat_le (get_or firsts (base + size / 2) d) n) refl

@@ -14,7 +14,7 @@ use Rattle.fare_table.specs.Fares.{Fares, has_number, mode_at, range_at}
 use Rattle.fare_table.specs.Members.{are_tables, array_at, number_at, of_kind, text_at}
 use Rattle.fare_table.specs.Modes.{mode_named}
 use Rattle.fare_table.specs.Outcome.{Outcome, ◌>>=◌}
-use Rattle.fare_table.specs.Rules.{Rules, rules_of}
+use Rattle.fare_table.specs.Rules.{TableRules, rules_of_tree}
 use Rattle.fare_table.specs.Validators.{is_chain, range_in, range_of, ranges_from, ranges_of, share_number, with_range}
 use Rattle.fare_table.specs.declared.fault.Key.TheVariants as the_key
 use Rattle.fare_table.specs.declared.fault.TableFault.{TableFault}
@@ -404,7 +404,7 @@ is_given modes tree ranges validator mode text g =
     let one : f.range.1.mode ≡ mode = cc in
     ap (option_map (λ (range : ℕ × Span). range.1.mode)) f.found ∙ ap (λ (m : ℕ). Some m) one
 
-pub mode-given : (tree : Members) (fares : Fares) (validator mode : ℕ) → rules_of tree ≡ Ok fares.rules
+pub mode-given : (tree : Members) (fares : Fares) (validator mode : ℕ) → rules_of_tree tree ≡ Ok fares.rules
     → (mode_at fares validator ≡ Some mode) ↔ EntryGives fares.rules.modes tree validator mode
 mode-given tree fares validator mode is =
     let text = ranges_read fares.rules.modes tree fares.rules.ranges (parts tree fares.rules is).ranges in (
@@ -419,7 +419,7 @@ none_or_gives (Some mode) none = absurd (none mode refl)
 maps_none : (o : Option (ℕ × Span)) (range : ℕ × Span) → o ≡ Some range → option_map (λ (range : ℕ × Span). range.1.mode) o ≡ None → ⊥
 maps_none o range is none = let no : Some range.1.mode ≡ None = sym (ap (option_map (λ (range : ℕ × Span). range.1.mode)) is) ∙ none in absurd (cc)
 
-pub mode-none : (tree : Members) (fares : Fares) (validator : ℕ) → rules_of tree ≡ Ok fares.rules
+pub mode-none : (tree : Members) (fares : Fares) (validator : ℕ) → rules_of_tree tree ≡ Ok fares.rules
     → (mode_at fares validator ≡ None) ↔ ((place : ℕ) → ¬ EntryHas tree validator place)
 mode-none tree fares validator is =
     let text = ranges_read fares.rules.modes tree fares.rules.ranges (parts tree fares.rules is).ranges in (
@@ -431,7 +431,7 @@ mode-none tree fares validator is =
           none g.place (record { entry = g.entry; listed = g.listed; has = g.has })),
     )
 
-pub one-entry : (tree : Members) (rules : Rules) (validator place place' : ℕ) → rules_of tree ≡ Ok rules
+pub one-entry : (tree : Members) (rules : TableRules) (validator place place' : ℕ) → rules_of_tree tree ≡ Ok rules
     → EntryHas tree validator place → EntryHas tree validator place' → place ≡ place'
 one-entry tree rules validator place place' is one other =
     let text = ranges_read rules.modes tree rules.ranges (parts tree rules is).ranges in

@@ -12,11 +12,11 @@ use Rattle.toml.specs.Data.{Data, Items, no_items, item, Members, no_members, me
 use Rattle.fare_table.proofs.PartLemmas.{bind_ok}
 use Rattle.fare_table.proofs.PayLemmas.{by_some, by_table, member-found, terms_by}
 use Rattle.fare_table.specs.Classes.{ceiling_of, checked, class_named, class_of, classes_of, default_of, is_empty}
-use Rattle.fare_table.specs.Faults.{Row, Where, top, class, a_row, are_pairs, are_texts, class_rows, classes_in, first_of, holds, is_from, is_kind, is_mode, is_within, is_wrong, items_of, member_at, members_at, members_of, mode_names, needed_rows, pairs, passes, rows_of_class, texts, value_at, word_of}
+use Rattle.fare_table.specs.Faults.{Row, Where, top, class, a_row, are_pairs, are_texts, class_rows, classes_in, first_row, holds, is_from, is_kind, is_mode, is_in_limits, is_wrong, items_of, member_at, members_at, members_of, mode_names, needed_rows, pairs, passes, rows_of_class, texts, value_at, string_of}
 use Rattle.fare_table.specs.Members.{hold_tables, number_at, number_in, of_kind, within}
 use Rattle.fare_table.specs.Modes.{are_mode_names, modes_of, same_name, strings_from}
 use Rattle.fare_table.specs.Outcome.{Outcome, ◌>>=◌}
-use Rattle.fare_table.specs.Transfers.{pair_of, pairs_from, transfers_from, transfers_of, with_pair}
+use Rattle.fare_table.specs.Transfers.{name_pair, pairs_from, transfers_from, transfers_of, with_pair}
 use Rattle.fare_table.specs.declared.fault.Key.{Key}
 use Rattle.fare_table.specs.declared.fault.Key.TheVariants as the_key
 use Rattle.fare_table.specs.declared.fault.TableFault.{TableFault}
@@ -31,21 +31,21 @@ cond_map : (b : Bool) (r : Row) (o : Option Row) → option_map (λ (one : Row).
 cond_map true r o = refl
 cond_map false r o = refl
 
-pub told : (tree : Members) (at : Where) (fault : TableFault) (more : List Row) → first_of tree (a_row at fault ∷ more) ≡ cond (is_wrong tree at fault) (Some fault) (first_of tree more)
+pub told : (tree : Members) (at : Where) (fault : TableFault) (more : List Row) → first_row tree (a_row at fault ∷ more) ≡ cond (is_wrong tree at fault) (Some fault) (first_row tree more)
 told tree at fault more = cond_map (is_wrong tree at fault) (a_row at fault) (find (holds tree) more)
 
 or_map : (a b : Option Row) → option_map (λ (one : Row). one.1) (option_or a b) ≡ option_or (option_map (λ (one : Row). one.1) a) (option_map (λ (one : Row). one.1) b)
 or_map None b = refl
 or_map (Some r) b = refl
 
-pub told_append : (tree : Members) (front back : List Row) → first_of tree (front ++ back) ≡ option_or (first_of tree front) (first_of tree back)
+pub told_append : (tree : Members) (front back : List Row) → first_row tree (front ++ back) ≡ option_or (first_row tree front) (first_row tree back)
 told_append tree front back = ap (option_map (λ (one : Row). one.1)) (find-append (holds tree) front back) ∙ or_map (find (holds tree) front) (find (holds tree) back)
 
 -- two steps, and the rows of the one and of the other
-pub steps : {A B : Type 0} (tree : Members) (o : Outcome A) (f : A → Outcome B) (front back : List Row) → fault_in o ≡ first_of tree front → ((a : A) → o ≡ Ok a → fault_in (f a) ≡ first_of tree back)
-    → fault_in (o >>= f) ≡ first_of tree (front ++ back)
-steps tree (Ok a) f front back one two = two a refl ∙ ap (λ (x : Option TableFault). option_or x (first_of tree back)) one ∙ sym (told_append tree front back)
-steps tree (Err e) f front back one two = ap (λ (x : Option TableFault). option_or x (first_of tree back)) one ∙ sym (told_append tree front back)
+pub steps : {A B : Type 0} (tree : Members) (o : Outcome A) (f : A → Outcome B) (front back : List Row) → fault_in o ≡ first_row tree front → ((a : A) → o ≡ Ok a → fault_in (f a) ≡ first_row tree back)
+    → fault_in (o >>= f) ≡ first_row tree (front ++ back)
+steps tree (Ok a) f front back one two = two a refl ∙ ap (λ (x : Option TableFault). option_or x (first_row tree back)) one ∙ sym (told_append tree front back)
+steps tree (Err e) f front back one two = ap (λ (x : Option TableFault). option_or x (first_row tree back)) one ∙ sym (told_append tree front back)
 
 -- a last step that always goes well
 pub done : {A B : Type 0} (o : Outcome A) (f : A → B) → fault_in (o >>= (λ a. Ok (f a))) ≡ fault_in o
@@ -58,7 +58,7 @@ fails test o = passes (λ value. not (test value)) o
 abbrev pub needs : Option Data → (Data → Bool) → (Data → Bool) → Key → Option TableFault
 needs o kind limits key = cond (is_none o) (Some (Missing key)) (cond (fails kind o) (Some (Kind key)) (cond (fails limits o) (Some (Range key)) None))
 
-pub told_needed : (tree : Members) (at : Where) (key : Key) → first_of tree (needed_rows at key) ≡ needs (value_at at key tree) (is_kind key) (is_within key (members_at at tree)) key
+pub told_needed : (tree : Members) (at : Where) (key : Key) → first_row tree (needed_rows at key) ≡ needs (value_at at key tree) (is_kind key) (is_in_limits key (members_at at tree)) key
 told_needed tree at key =
     told tree at (Missing key) (a_row at (Kind key) ∷ a_row at (Range key) ∷ [])
     ∙ ap (λ (x : Option TableFault). cond (is_none (value_at at key tree)) (Some (Missing key)) x)
@@ -99,13 +99,13 @@ abbrev by_names : Items → Outcome (List (List ℕ))
 by_names ds = strings_from [] ds >>= (λ found. if are_mode_names found then Ok found else Err (Range the_key.Modes))
 
 modes_steps : (o : Option Data) → fault_in ((ok_or o (Missing the_key.Modes) >>= (λ value. of_kind the_key.Modes (as_array value))) >>= by_names)
-    ≡ needs o (is_kind the_key.Modes) (is_within the_key.Modes no_members) the_key.Modes
+    ≡ needs o (is_kind the_key.Modes) (is_in_limits the_key.Modes no_members) the_key.Modes
 modes_steps None = refl
 modes_steps (Some (array ds)) =
     ap (λ (names : Outcome (List (List ℕ))). fault_in (names >>= (λ found. if are_mode_names found then Ok found else Err (Range the_key.Modes)))) (strings-read [] ds) ∙ names_if (are_texts ds) (texts ds)
 modes_steps (Some _) = refl
 
-pub modes-told : (tree : Members) → fault_in (modes_of tree) ≡ first_of tree (needed_rows top the_key.Modes)
+pub modes-told : (tree : Members) → fault_in (modes_of tree) ≡ first_row tree (needed_rows top the_key.Modes)
 unfolding modes_of
 modes-told tree = modes_steps (get_member (codes "modes") tree) ∙ sym (told_needed tree top the_key.Modes)
 
@@ -142,7 +142,7 @@ pairs-read found no_items = ap (λ (names : List (List ℕ × List ℕ)). Ok nam
     append_nil : (xs : List (List ℕ × List ℕ)) → xs ++ [] ≡ xs
     append_nil [] = refl
     append_nil (x ∷ xs) = ap (λ ys. x ∷ ys) (append_nil xs)
-pairs-read found (item value more) = pair_read (pair_of value) found more (λ next. pairs-read next more)
+pairs-read found (item value more) = pair_read (name_pair value) found more (λ next. pairs-read next more)
 
 abbrev is_unknown : List (List ℕ) → List ℕ × List ℕ → Bool
 is_unknown modes pair = not (is_mode modes pair.0 && is_mode modes pair.1)
@@ -180,7 +180,7 @@ transfers_steps (Some (array ds)) modes =
 transfers_steps (Some _) modes = refl
 
 pub transfers-told : (tree : Members) (modes : List (List ℕ)) → mode_names tree ≡ modes
-    → fault_in (transfers_of modes tree) ≡ first_of tree (a_row top (Missing the_key.Transfers) ∷ a_row top (Kind the_key.Transfers) ∷ a_row top Mode ∷ [])
+    → fault_in (transfers_of modes tree) ≡ first_row tree (a_row top (Missing the_key.Transfers) ∷ a_row top (Kind the_key.Transfers) ∷ a_row top Mode ∷ [])
 unfolding transfers_of
 transfers-told tree modes known =
     transfers_steps (get_member (codes "transfers") tree) modes
@@ -214,10 +214,10 @@ ceiling_tells price fare rides (Some (integer z)) =
     done (within the_key.Ceiling 1 100_000_000 z) (terms_by fare rides) ∙ within_tells (int_le (pos 1) z && int_le z (pos 100_000_000)) (unsigned_abs z) the_key.Ceiling
 ceiling_tells price fare rides (Some _) = refl
 
-pub told_two : (tree : Members) (at : Where) (one two : TableFault) → first_of tree (a_row at one ∷ a_row at two ∷ []) ≡ cond (is_wrong tree at one) (Some one) (cond (is_wrong tree at two) (Some two) None)
+pub told_two : (tree : Members) (at : Where) (one two : TableFault) → first_row tree (a_row at one ∷ a_row at two ∷ []) ≡ cond (is_wrong tree at one) (Some one) (cond (is_wrong tree at two) (Some two) None)
 told_two tree at one two = told tree at one (a_row at two ∷ []) ∙ ap (λ (x : Option TableFault). cond (is_wrong tree at one) (Some one) x) (told tree at two [])
 
-class-told : (tree : Members) (n : ℕ) → fault_in (class_of (members_at (class n) tree)) ≡ first_of tree (rows_of_class n)
+class-told : (tree : Members) (n : ℕ) → fault_in (class_of (members_at (class n) tree)) ≡ first_row tree (rows_of_class n)
 unfolding class_of
 class-told tree n =
     let at = class n in
@@ -228,7 +228,7 @@ class-told tree n =
     (number_tells (value_at at the_key.Rides tree) the_key.Rides 1 1_000 ∙ sym (told_needed tree at the_key.Rides))
     (λ rides is'. ceiling_tells (rides * fare) fare rides (value_at at the_key.Ceiling tree) ∙ sym (told_two tree at (Kind the_key.Ceiling) (Range the_key.Ceiling))))
 
-checked-told : (tree : Members) (n : ℕ) (part : Members) → Stand (classes_in tree) n part → hold_tables part ≡ true → fault_in (checked part) ≡ first_of tree (class_rows n part)
+checked-told : (tree : Members) (n : ℕ) (part : Members) → Stand (classes_in tree) n part → hold_tables part ≡ true → fault_in (checked part) ≡ first_row tree (class_rows n part)
 checked-told tree n no_members stand tables = refl
 checked-told tree n (member name (table inner) more) stand tables =
     let here : members_at (class n) tree ≡ inner = ap (λ (o : Option (List ℕ × Data)). members_of (option_map (λ (one : List ℕ × Data). one.1) o)) (stand_here (classes_in tree) n name (table inner) more stand) in
@@ -238,7 +238,7 @@ checked-told tree n (member name (table inner) more) stand tables =
 checked-told tree n (member name _ more) stand tables = absurd (false≢true tables)
 
 class_need : Option Data → Option TableFault
-class_need o = needs o (is_kind the_key.Classes) (is_within the_key.Classes no_members) the_key.Classes
+class_need o = needs o (is_kind the_key.Classes) (is_in_limits the_key.Classes no_members) the_key.Classes
 
 empty_if : (b : Bool) (inner : Members) (rest : Option TableFault) → fault_in (checked inner) ≡ rest
     → fault_in ((if b then Err (Range the_key.Classes) else Ok inner) >>= by_some) ≡ option_or (cond (not (not b)) (Some (Range the_key.Classes)) None) rest
@@ -258,14 +258,14 @@ classes_steps None tree rest same = refl
 classes_steps (Some (table inner)) tree rest same = tables_if (hold_tables inner) tree inner rest (λ tables. same inner refl tables)
 classes_steps (Some _) tree rest same = refl
 
-pub classes-told : (tree : Members) → fault_in (classes_of tree) ≡ first_of tree (needed_rows top the_key.Classes ++ class_rows 0 (classes_in tree))
+pub classes-told : (tree : Members) → fault_in (classes_of tree) ≡ first_row tree (needed_rows top the_key.Classes ++ class_rows 0 (classes_in tree))
 unfolding classes_of class_need
 classes-told tree =
-    classes_steps (get_member (codes "classes") tree) tree (first_of tree (class_rows 0 (classes_in tree))) (λ inner is tables.
+    classes_steps (get_member (codes "classes") tree) tree (first_row tree (class_rows 0 (classes_in tree))) (λ inner is tables.
     let same : classes_in tree ≡ inner = ap members_of is in
     let stand : Stand (classes_in tree) 0 inner = subst (λ (m : Members). Stand (classes_in tree) 0 m) same (stand_all (classes_in tree)) in
-    checked-told tree 0 inner stand tables ∙ ap (λ (m : Members). first_of tree (class_rows 0 m)) (sym same))
-    ∙ ap (λ (x : Option TableFault). option_or x (first_of tree (class_rows 0 (classes_in tree)))) (sym (told_needed tree top the_key.Classes))
+    checked-told tree 0 inner stand tables ∙ ap (λ (m : Members). first_row tree (class_rows 0 m)) (sym same))
+    ∙ ap (λ (x : Option TableFault). option_or x (first_row tree (class_rows 0 (classes_in tree)))) (sym (told_needed tree top the_key.Classes))
     ∙ sym (told_append tree (needed_rows top the_key.Classes) (class_rows 0 (classes_in tree)))
 
 -- ---- the default class
@@ -295,17 +295,17 @@ named-told classes name sound = found_fine (get_member name classes) (λ value a
 
 default_steps : (o : Option Data) (classes : Members) → checked classes ≡ Ok tt
     → fault_in ((ok_or o (Missing the_key.DefaultClass) >>= (λ value. of_kind the_key.DefaultClass (as_str value))) >>= (λ name. class_named classes name))
-    ≡ cond (is_none o) (Some (Missing the_key.DefaultClass)) (cond (fails (is_kind the_key.DefaultClass) o) (Some (Kind the_key.DefaultClass)) (cond (is_none (get_member (word_of o) classes)) (Some Rider) None))
+    ≡ cond (is_none o) (Some (Missing the_key.DefaultClass)) (cond (fails (is_kind the_key.DefaultClass) o) (Some (Kind the_key.DefaultClass)) (cond (is_none (get_member (string_of o) classes)) (Some Rider) None))
 default_steps None classes sound = refl
 default_steps (Some (string s)) classes sound = named-told classes s sound
 default_steps (Some _) classes sound = refl
 
 pub default-told : (tree classes : Members) → classes_in tree ≡ classes → checked classes ≡ Ok tt
-    → fault_in (default_of classes tree) ≡ first_of tree (a_row top (Missing the_key.DefaultClass) ∷ a_row top (Kind the_key.DefaultClass) ∷ a_row top Rider ∷ [])
+    → fault_in (default_of classes tree) ≡ first_row tree (a_row top (Missing the_key.DefaultClass) ∷ a_row top (Kind the_key.DefaultClass) ∷ a_row top Rider ∷ [])
 unfolding default_of
 default-told tree classes same sound =
     default_steps o classes sound
-    ∙ ap (λ (m : Members). cond (is_none o) (Some (Missing the_key.DefaultClass)) (cond (fails (is_kind the_key.DefaultClass) o) (Some (Kind the_key.DefaultClass)) (cond (is_none (get_member (word_of o) m)) (Some Rider) None))) (sym same)
+    ∙ ap (λ (m : Members). cond (is_none o) (Some (Missing the_key.DefaultClass)) (cond (fails (is_kind the_key.DefaultClass) o) (Some (Kind the_key.DefaultClass)) (cond (is_none (get_member (string_of o) m)) (Some Rider) None))) (sym same)
     ∙ sym (told tree top (Missing the_key.DefaultClass) (a_row top (Kind the_key.DefaultClass) ∷ a_row top Rider ∷ [])
     ∙ ap (λ (x : Option TableFault). cond (is_none o) (Some (Missing the_key.DefaultClass)) x) (told_two tree top (Kind the_key.DefaultClass) Rider))
   where

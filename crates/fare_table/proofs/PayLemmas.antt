@@ -18,8 +18,8 @@ use Rattle.fare_table.specs.Fares.{Fares, terms_at}
 use Rattle.fare_table.specs.Members.{hold_strings, hold_tables, number_at, of_kind, table_at, text_at}
 use Rattle.fare_table.specs.Outcome.{Outcome, ◌>>=◌}
 use Rattle.fare_table.specs.Paying.{HasTerms, IsCeiling, IsClassOf, NamesRider, Pays}
-use Rattle.fare_table.specs.Riders.{is_rider, rider_of, riders_from, riders_in, riders_of, token_of, with_rider}
-use Rattle.fare_table.specs.Rules.{Rules, rules_of}
+use Rattle.fare_table.specs.Riders.{is_rider, rider_of, riders_from, riders_at, riders_of, token_of_digits, with_rider}
+use Rattle.fare_table.specs.Rules.{TableRules, rules_of_tree}
 use Rattle.fare_table.specs.declared.fault.Key.TheVariants as the_key
 use Rattle.fare_table.specs.declared.fault.TableFault.{TableFault}
 use Rattle.fare_table.specs.declared.fault.TableFault.TheVariants.{Kind, Range, Rider}
@@ -112,7 +112,7 @@ adds_rider earlier riders token terms is = added_if (is_rider earlier token) ear
 
 -- what a key of the riders reads as
 pub record ReadsRider (classes : Members) (key : List ℕ) (value : Data) (rider : List ℕ × Terms) : Type 0 where
-  pub token : token_of key ≡ Ok rider.0
+  pub token : token_of_digits key ≡ Ok rider.0
   pub class : List ℕ
   pub is : value ≡ string class
   pub terms : class_named classes class ≡ Ok rider.1
@@ -139,7 +139,7 @@ same_rider token terms rider is = (ap (token_in token) is, ap (terms_in terms) i
 
 pub reads_rider : (classes : Members) (key : List ℕ) (value : Data) (rider : List ℕ × Terms) → rider_of classes key value ≡ Ok rider → ReadsRider classes key value rider
 reads_rider classes key value rider is =
-    let token = bind_ok (token_of key) (by_token classes value) rider is in
+    let token = bind_ok (token_of_digits key) (by_token classes value) rider is in
     let name = bind_ok (of_kind the_key.Riders (as_str value)) (by_text classes token.0) rider token.2 in
     let terms = bind_ok (class_named classes name.0) (by_class token.0) rider name.2 in
     let same = same_rider token.0 terms.0 rider terms.2 in
@@ -196,15 +196,15 @@ still classes token earlier (member key value more) riders terms is at =
       | inr none ↦ still classes token s.next more riders terms s.rest (s.found token ∙ ap (λ b. cond b (Some s.rider.1) (Named token earlier)) none ∙ at)
     ]
 
-same_token : (key first token other : List ℕ) → key ≡ first → token_of key ≡ Ok token → token_of first ≡ Ok other → token ≡ other
-same_token key first token other same one two = let both : Ok token ≡ Ok other = sym one ∙ ap token_of same ∙ two in cc
+same_token : (key first token other : List ℕ) → key ≡ first → token_of_digits key ≡ Ok token → token_of_digits first ≡ Ok other → token ≡ other
+same_token key first token other same one two = let both : Ok token ≡ Ok other = sym one ∙ ap token_of_digits same ∙ two in cc
 
 same_class : (value : Data) (class other : List ℕ) → value ≡ string class → value ≡ string other → class ≡ other
 same_class value class other one two = let both : string class ≡ string other = sym one ∙ two in cc
 
 -- the terms of the class of a key that names the token are found
 pub there : (classes : Members) (token : List ℕ) (earlier : List (List ℕ × Terms)) (text : Members) (riders : List (List ℕ × Terms)) (key class : List ℕ) → riders_from classes earlier text ≡ Ok riders
-    → get_member key text ≡ Some (string class) → token_of key ≡ Ok token → (terms : Terms) × (class_named classes class ≡ Ok terms) × (Named token riders ≡ Some terms)
+    → get_member key text ≡ Some (string class) → token_of_digits key ≡ Ok token → (terms : Terms) × (class_named classes class ≡ Ok terms) × (Named token riders ≡ Some terms)
 there classes token earlier no_members riders key class is at named = absurd (cc)
 there classes token earlier (member first value more) riders key class is at named =
     let s = step classes earlier first value more riders is in
@@ -222,7 +222,7 @@ there classes token earlier (member first value more) riders key class is at nam
 
 -- no key names the token of an earlier rider
 again : (classes : Members) (token : List ℕ) (earlier : List (List ℕ × Terms)) (text : Members) (riders : List (List ℕ × Terms)) (terms : Terms) (key class : List ℕ) → riders_from classes earlier text ≡ Ok riders
-    → Named token earlier ≡ Some terms → get_member key text ≡ Some (string class) → token_of key ≡ Ok token → ⊥
+    → Named token earlier ≡ Some terms → get_member key text ≡ Some (string class) → token_of_digits key ≡ Ok token → ⊥
 again classes token earlier no_members riders terms key class is old at named = absurd (cc)
 again classes token earlier (member first value more) riders terms key class is old at named =
     let s = step classes earlier first value more riders is in
@@ -241,7 +241,7 @@ pub record Came (classes : Members) (token : List ℕ) (text : Members) (terms :
   pub key : List ℕ
   pub class : List ℕ
   pub at : get_member key text ≡ Some (string class)
-  pub named : token_of key ≡ Ok token
+  pub named : token_of_digits key ≡ Ok token
   pub has : class_named classes class ≡ Ok terms
 
 came_first : (classes : Members) (token : List ℕ) (earlier : List (List ℕ × Terms)) (key : List ℕ) (value : Data) (more : Members) (riders : List (List ℕ × Terms)) (terms : Terms)
@@ -279,7 +279,7 @@ came classes token earlier (member key value more) riders terms is at =
 
 -- two keys that name one token are one key
 one_key : (classes : Members) (token : List ℕ) (earlier : List (List ℕ × Terms)) (text : Members) (riders : List (List ℕ × Terms)) (key key' class class' : List ℕ) → riders_from classes earlier text ≡ Ok riders
-    → get_member key text ≡ Some (string class) → token_of key ≡ Ok token → get_member key' text ≡ Some (string class') → token_of key' ≡ Ok token → key ≡ key'
+    → get_member key text ≡ Some (string class) → token_of_digits key ≡ Ok token → get_member key' text ≡ Some (string class') → token_of_digits key' ≡ Ok token → key ≡ key'
 one_key classes token earlier no_members riders key key' class class' is at named at' named' = absurd (cc)
 one_key classes token earlier (member first value more) riders key key' class class' is at named at' named' =
     let s = step classes earlier first value more riders is in
@@ -443,7 +443,7 @@ by_strings classes text = if hold_strings text then riders_from classes [] text 
 unfoldable pub AreRiders : Members → Option Data → List (List ℕ × Terms) → Type 0
 AreRiders classes o riders = ((o ≡ None) × (riders ≡ [])) ⊎ ((text : Members) × (o ≡ Some (table text)) × (riders_from classes [] text ≡ Ok riders))
 
-are_riders : (classes : Members) (o : Option Data) (riders : List (List ℕ × Terms)) → riders_in classes o ≡ Ok riders → AreRiders classes o riders
+are_riders : (classes : Members) (o : Option Data) (riders : List (List ℕ × Terms)) → riders_at classes o ≡ Ok riders → AreRiders classes o riders
 unfolding AreRiders
 are_riders classes None riders is = let same : [] ≡ riders = cc in inl (refl, sym same)
 are_riders classes (Some value) riders is =
@@ -486,7 +486,7 @@ default_named classes tree terms is =
     let name = bind_ok (text_at (codes "default_class") the_key.DefaultClass tree) (by_name classes) terms is in
     (name.0, text-read (codes "default_class") the_key.DefaultClass tree name.0 name.1, name.2)
 
-pays_if : (tree classes : Members) (rules : Rules) (token : List ℕ) (o : Option Terms) → classes_of tree ≡ Ok classes → default_of classes tree ≡ Ok rules.standard → AreRiders classes (get_member (codes "riders") tree) rules.riders
+pays_if : (tree classes : Members) (rules : TableRules) (token : List ℕ) (o : Option Terms) → classes_of tree ≡ Ok classes → default_of classes tree ≡ Ok rules.standard → AreRiders classes (get_member (codes "riders") tree) rules.riders
     → Named token rules.riders ≡ o → Pays tree token (unwrap_or o rules.standard)
 pays_if tree classes rules token None read standard are at =
     let d = default_named classes tree rules.standard standard in
@@ -505,12 +505,12 @@ pays_if tree classes rules token (Some terms) read standard are at =
     let c = came_from classes tree rules.riders token terms are at in
     record { class = c.1; is = inl (c.0, c.2); has = has_terms tree classes c.1 terms read c.3 }
 
-pays : (tree : Members) (fares : Fares) (token : List ℕ) → rules_of tree ≡ Ok fares.rules → Pays tree token (terms_at fares token)
+pays : (tree : Members) (fares : Fares) (token : List ℕ) → rules_of_tree tree ≡ Ok fares.rules → Pays tree token (terms_at fares token)
 pays tree fares token is =
     let p = parts tree fares.rules is in
     pays_if tree p.table fares.rules token (Named token fares.rules.riders) p.classes p.standard (riders_read p.table tree fares.rules.riders p.riders) refl
 
-pub one-key : (tree : Members) (rules : Rules) (token key key' class class' : List ℕ) → rules_of tree ≡ Ok rules
+pub one-key : (tree : Members) (rules : TableRules) (token key key' class class' : List ℕ) → rules_of_tree tree ≡ Ok rules
     → NamesRider tree token key class → NamesRider tree token key' class' → key ≡ key'
 one-key tree rules token key key' class class' is one two =
     let p = parts tree rules is in
@@ -523,7 +523,7 @@ text_of : (o : Option Data) (n m : List ℕ) → o ≡ Some (string n) → o ≡
 text_of o n m one two = let both : Some (string n) ≡ Some (string m) = sym one ∙ two in cc
 
 -- a token pays by one class
-one_class : (tree : Members) (rules : Rules) (token class class' : List ℕ) → rules_of tree ≡ Ok rules → IsClassOf tree token class → IsClassOf tree token class' → class ≡ class'
+one_class : (tree : Members) (rules : TableRules) (token class class' : List ℕ) → rules_of_tree tree ≡ Ok rules → IsClassOf tree token class → IsClassOf tree token class' → class ≡ class'
 one_class tree rules token class class' is (inl one) (inl two) =
     let key = one-key tree rules token one.0 two.0 class class' is one.1 two.1 in
     let same : one.1.riders ≡ two.1.riders = table_of (get_member (codes "riders") tree) one.1.riders two.1.riders one.1.listed two.1.listed in
@@ -532,7 +532,7 @@ one_class tree rules token class class' is (inl one) (inr two) = absurd (two.1 o
 one_class tree rules token class class' is (inr one) (inl two) = absurd (one.1 two.0 class' two.1)
 one_class tree rules token class class' is (inr one) (inr two) = text_of (get_member (codes "default_class") tree) class class' one.0 two.0
 
-pub pays-terms : (tree : Members) (fares : Fares) (token : List ℕ) (terms : Terms) → rules_of tree ≡ Ok fares.rules → (terms_at fares token ≡ terms) ↔ Pays tree token terms
+pub pays-terms : (tree : Members) (fares : Fares) (token : List ℕ) (terms : Terms) → rules_of_tree tree ≡ Ok fares.rules → (terms_at fares token ≡ terms) ↔ Pays tree token terms
 pays-terms tree fares token terms is =
     let p = pays tree fares token is in (
       λ same. subst (λ (t : Terms). Pays tree token t) same p,

@@ -18,13 +18,13 @@ use Rattle.fare_table.proofs.OverlapLemmas.{chain-insert, comes_after, comes_bef
 use Rattle.fare_table.proofs.PayLemmas.{Named, by_class, classes_read, classes_sound, named_with}
 use Rattle.fare_table.proofs.ReadLemmas.{number-read}
 use Rattle.fare_table.specs.Classes.{checked, class_named, classes_of, default_of}
-use Rattle.fare_table.specs.Faults.{Where, classes_step, default_step, riders_step, transfers_step, validators_step, zone_step, top, range, rider, a_row, amount_of, classes_in, entries_in, first_at, first_fault, first_of, is_again, is_earlier, is_from, is_kind, is_mode, is_no_zone, is_wrong, items_of, last_at, member_at, members_at, members_of, mode_names, needed_rows, passes, range_rows, rider_rows, riders_in, rows, rows_of_range, same_token, shares_validator, token_at, value_at, word_of}
+use Rattle.fare_table.specs.Faults.{Where, classes_step, default_step, riders_step, transfers_step, validators_step, zone_step, top, range, rider, a_row, amount_of, classes_in, entries_in, first_at, first_fault, first_row, is_again, is_earlier, is_from, is_kind, is_mode, is_no_zone, is_wrong, items_of, last_at, member_at, members_at, members_of, mode_names, needed_rows, passes, range_rows, rider_rows, riders_in, rows, rows_of_range, is_token, shares_validator, token_at, value_at, string_of}
 use Rattle.fare_table.specs.Members.{are_tables, hold_strings, number_at, of_kind}
 use Rattle.fare_table.specs.Modes.{mode_named, modes_of, same_name}
 use Rattle.fare_table.specs.Outcome.{Outcome, ◌>>=◌}
-use Rattle.fare_table.specs.Riders.{is_rider, rider_of, riders_from, riders_of, token_of, with_rider}
+use Rattle.fare_table.specs.Riders.{is_rider, rider_of, riders_from, riders_of, token_of_digits, with_rider}
 use Rattle.fare_table.specs.Riders as riders
-use Rattle.fare_table.specs.Rules.{Rules, rules_in, rules_of}
+use Rattle.fare_table.specs.Rules.{TableRules, rules_in, rules_of_tree}
 use Rattle.fare_table.specs.Transfers.{transfers_of}
 use Rattle.fare_table.specs.Validators.{is_chain, range_of, ranges_from, ranges_of, share_number, with_range}
 use Rattle.fare_table.specs.Zone.{zone_in, zone_of}
@@ -37,7 +37,7 @@ use Rattle.fare_table.specs.declared.validators.Span.{Span}
 
 -- ---- one entry of `validators`
 told_three : (tree : Members) (at : Where) (one two three : TableFault)
-    → first_of tree (a_row at one ∷ a_row at two ∷ a_row at three ∷ []) ≡ cond (is_wrong tree at one) (Some one) (cond (is_wrong tree at two) (Some two) (cond (is_wrong tree at three) (Some three) None))
+    → first_row tree (a_row at one ∷ a_row at two ∷ a_row at three ∷ []) ≡ cond (is_wrong tree at one) (Some one) (cond (is_wrong tree at two) (Some two) (cond (is_wrong tree at three) (Some three) None))
 told_three tree at one two three = told tree at one (a_row at two ∷ a_row at three ∷ []) ∙ ap (λ (x : Option TableFault). cond (is_wrong tree at one) (Some one) x) (told_two tree at two three)
 
 place_tells : (o : Option ℕ) (first last : ℕ) → fault_in (ok_or o Mode >>= by_mode first last) ≡ cond (not (is_some o)) (Some Mode) None
@@ -48,7 +48,7 @@ abbrev by_word : List (List ℕ) → ℕ → ℕ → List ℕ → Outcome (ℕ �
 by_word modes first last name = mode_named modes name >>= by_mode first last
 
 abbrev mode_need : Option Data → List (List ℕ) → Option TableFault
-mode_need o modes = cond (is_none o) (Some (Missing the_key.ModeName)) (cond (fails (is_kind the_key.ModeName) o) (Some (Kind the_key.ModeName)) (cond (not (is_mode modes (word_of o))) (Some Mode) None))
+mode_need o modes = cond (is_none o) (Some (Missing the_key.ModeName)) (cond (fails (is_kind the_key.ModeName) o) (Some (Kind the_key.ModeName)) (cond (not (is_mode modes (string_of o))) (Some Mode) None))
 
 mode_steps : (o : Option Data) (modes : List (List ℕ)) (first last : ℕ)
     → fault_in ((ok_or o (Missing the_key.ModeName) >>= (λ value. of_kind the_key.ModeName (as_str value))) >>= by_word modes first last) ≡ mode_need o modes
@@ -59,7 +59,7 @@ mode_steps (Some _) modes first last = refl
 amount_is : (o : Option Data) (n : ℕ) → o ≡ Some (integer (pos n)) → amount_of o ≡ n
 amount_is o n is = ap amount_of is
 
-range-told : (tree : Members) (modes : List (List ℕ)) (n : ℕ) → mode_names tree ≡ modes → fault_in (range_of modes (members_at (range n) tree)) ≡ first_of tree (rows_of_range n)
+range-told : (tree : Members) (modes : List (List ℕ)) (n : ℕ) → mode_names tree ≡ modes → fault_in (range_of modes (members_at (range n) tree)) ≡ first_row tree (rows_of_range n)
 unfolding range_of
 range-told tree modes n known =
     let at = range n in
@@ -152,7 +152,7 @@ earlier_next tree n one earlier is order chain free are other =
     ∙ ap (λ (b : Bool). meets tree other n || b) (are other)
 
 ranges-told : (tree : Members) (modes : List (List ℕ)) (n : ℕ) (earlier : List (ℕ × Span)) (part : Items) → mode_names tree ≡ modes → StandItems (entries_in tree) n part → are_tables part ≡ true
-    → is_chain earlier ≡ true → AreEarlier tree n earlier → fault_in (ranges_from modes earlier part) ≡ first_of tree (range_rows n part)
+    → is_chain earlier ≡ true → AreEarlier tree n earlier → fault_in (ranges_from modes earlier part) ≡ first_row tree (range_rows n part)
 unfolding with_one
 ranges-told tree modes n earlier no_items known stand tables chain are = refl
 ranges-told tree modes n earlier (item (table inner) more) known stand tables chain are =
@@ -163,10 +163,10 @@ ranges-told tree modes n earlier (item (table inner) more) known stand tables ch
     (λ one is.
     let r = reads modes (table inner) one is in
     let nums = numbers tree modes n inner one here r in
-    overlap_if (list_any (share_number one) earlier) (with_one one earlier) (λ next. ranges_from modes next more) (first_of tree (range_rows (suc n) more))
+    overlap_if (list_any (share_number one) earlier) (with_one one earlier) (λ next. ranges_from modes next more) (first_row tree (range_rows (suc n) more))
     (λ free. ranges-told tree modes (suc n) (with_one one earlier) more known (λ k j same. stand (suc k) j (omega (arith, same))) tables
     (chain-insert one earlier r.order chain free) (earlier_next tree n one earlier nums r.order chain free are))
-    ∙ ap (λ (b : Bool). cond b (Some Overlap) (first_of tree (range_rows (suc n) more))) (are one ∙ shared tree n one nums)
+    ∙ ap (λ (b : Bool). cond b (Some Overlap) (first_row tree (range_rows (suc n) more))) (are one ∙ shared tree n one nums)
     ∙ sym (told tree (range n) Overlap (range_rows (suc n) more)))
 ranges-told tree modes n earlier (item _ more) known stand tables chain are = absurd (false≢true tables)
 
@@ -186,20 +186,20 @@ stand_items : (whole part : Items) → whole ≡ part → StandItems whole 0 par
 stand_items whole part same k j is = let one : j ≡ k = omega (arith, is) in ap (λ (n : ℕ). get_item n whole) one ∙ ap (get_item k) same
 
 entries-told : (tree : Members) (modes : List (List ℕ)) → mode_names tree ≡ modes
-    → fault_in (ranges_of modes tree) ≡ first_of tree (a_row top (Missing the_key.Validators) ∷ a_row top (Kind the_key.Validators) ∷ range_rows 0 (entries_in tree))
+    → fault_in (ranges_of modes tree) ≡ first_row tree (a_row top (Missing the_key.Validators) ∷ a_row top (Kind the_key.Validators) ∷ range_rows 0 (entries_in tree))
 unfolding ranges_of
 entries-told tree modes known =
     let o = get_member (codes "validators") tree in
-    entries_steps o modes (first_of tree (range_rows 0 (entries_in tree))) (λ ds is tables.
+    entries_steps o modes (first_row tree (range_rows 0 (entries_in tree))) (λ ds is tables.
     let same : entries_in tree ≡ ds = ap items_of is in
-    ranges-told tree modes 0 [] ds known (stand_items (entries_in tree) ds same) tables refl (λ one. refl) ∙ ap (λ (d : Items). first_of tree (range_rows 0 d)) (sym same))
+    ranges-told tree modes 0 [] ds known (stand_items (entries_in tree) ds same) tables refl (λ one. refl) ∙ ap (λ (d : Items). first_row tree (range_rows 0 d)) (sym same))
     ∙ sym (told tree top (Missing the_key.Validators) (a_row top (Kind the_key.Validators) ∷ range_rows 0 (entries_in tree))
     ∙ ap (λ (x : Option TableFault). cond (is_none o) (Some (Missing the_key.Validators)) x) (told tree top (Kind the_key.Validators) (range_rows 0 (entries_in tree))))
 
 -- ---- the riders
 -- the riders are those of the keys before a place
 abbrev AreBefore : Members → ℕ → List (List ℕ × Terms) → Type 0
-AreBefore tree n earlier = (token : List ℕ) → is_rider earlier token ≡ is_earlier (λ place. same_token token (token_at tree place)) n
+AreBefore tree n earlier = (token : List ℕ) → is_rider earlier token ≡ is_earlier (λ place. is_token token (token_at tree place)) n
 
 some_cond : (b : Bool) (terms : Terms) (o : Option Terms) → is_some (cond b (Some terms) o) ≡ (b || is_some o)
 some_cond true terms o = refl
@@ -211,7 +211,7 @@ before_next tree n earlier token terms at free are other =
     ap is_some (named_with token other terms earlier free)
     ∙ some_cond (is_eq (slice_cmp nat_cmp other token)) terms (Named other earlier)
     ∙ ap (λ (b : Bool). is_eq (slice_cmp nat_cmp other token) || b) (are other)
-    ∙ ap (λ (o : Option (List ℕ)). same_token other o || is_earlier (λ place. same_token other (token_at tree place)) n) (sym at)
+    ∙ ap (λ (o : Option (List ℕ)). is_token other o || is_earlier (λ place. is_token other (token_at tree place)) n) (sym at)
 
 again_if : (b : Bool) (next : List (List ℕ × Terms)) (f : List (List ℕ × Terms) → Outcome (List (List ℕ × Terms))) (rest : Option TableFault) → (b ≡ false → fault_in (f next) ≡ rest)
     → fault_in ((if b then Err Rider else Ok next) >>= f) ≡ cond b (Some Rider) rest
@@ -245,19 +245,19 @@ rider_if (Some token) classes name earlier again f rest sound later are =
     ∙ ap (λ (b : Bool). cond b (Some Rider) rest) (are token refl))
 
 riders-told : (tree classes : Members) (n : ℕ) (earlier : List (List ℕ × Terms)) (part : Members) → classes_in tree ≡ classes → checked classes ≡ Ok tt → Stand (riders_in tree) n part → hold_strings part ≡ true
-    → AreBefore tree n earlier → fault_in (riders_from classes earlier part) ≡ first_of tree (rider_rows n part)
+    → AreBefore tree n earlier → fault_in (riders_from classes earlier part) ≡ first_row tree (rider_rows n part)
 riders-told tree classes n earlier no_members known sound stand strings are = refl
 riders-told tree classes n earlier (member key (string name) more) known sound stand strings are =
     let at : member_at n (riders_in tree) ≡ Some (key, string name) = stand_here (riders_in tree) n key (string name) more stand in
     let token : token_at tree n ≡ result_ok (decode_sized key 16) = ap (λ (o : Option (List ℕ × Data)). option_and_then (λ (one : List ℕ × Data). result_ok (decode_sized one.0 16)) o) at in
-    let word : word_of (option_map (λ (one : List ℕ × Data). one.1) (member_at n (riders_in tree))) ≡ name = ap (λ (o : Option (List ℕ × Data)). word_of (option_map (λ (one : List ℕ × Data). one.1) o)) at in
-    rider_if (result_ok (decode_sized key 16)) classes name earlier (λ t. is_earlier (λ place. same_token t (token_at tree place)) n) (λ next. riders_from classes next more) (first_of tree (rider_rows (suc n) more)) sound
+    let word : string_of (option_map (λ (one : List ℕ × Data). one.1) (member_at n (riders_in tree))) ≡ name = ap (λ (o : Option (List ℕ × Data)). string_of (option_map (λ (one : List ℕ × Data). one.1) o)) at in
+    rider_if (result_ok (decode_sized key 16)) classes name earlier (λ t. is_earlier (λ place. is_token t (token_at tree place)) n) (λ next. riders_from classes next more) (first_row tree (rider_rows (suc n) more)) sound
     (λ t terms is free. riders-told tree classes (suc n) (insert_entry (slice_cmp nat_cmp) earlier t terms) more known sound (stand_next (riders_in tree) n key (string name) more stand) strings
     (before_next tree n earlier t terms (token ∙ is) free are))
     (λ t is. are t)
-    ∙ ap (λ (o : Option (List ℕ)). cond (is_none o || (is_none (get_member name classes) || passes (λ t. is_earlier (λ place. same_token t (token_at tree place)) n) o)) (Some Rider) (first_of tree (rider_rows (suc n) more))) (sym token)
-    ∙ ap (λ (w : List ℕ). cond (is_none (token_at tree n) || (is_none (get_member w classes) || is_again tree n)) (Some Rider) (first_of tree (rider_rows (suc n) more))) (sym word)
-    ∙ ap (λ (m : Members). cond (is_none (token_at tree n) || (is_none (get_member (word_of (option_map (λ (one : List ℕ × Data). one.1) (member_at n (riders_in tree)))) m) || is_again tree n)) (Some Rider) (first_of tree (rider_rows (suc n) more))) (sym known)
+    ∙ ap (λ (o : Option (List ℕ)). cond (is_none o || (is_none (get_member name classes) || passes (λ t. is_earlier (λ place. is_token t (token_at tree place)) n) o)) (Some Rider) (first_row tree (rider_rows (suc n) more))) (sym token)
+    ∙ ap (λ (w : List ℕ). cond (is_none (token_at tree n) || (is_none (get_member w classes) || is_again tree n)) (Some Rider) (first_row tree (rider_rows (suc n) more))) (sym word)
+    ∙ ap (λ (m : Members). cond (is_none (token_at tree n) || (is_none (get_member (string_of (option_map (λ (one : List ℕ × Data). one.1) (member_at n (riders_in tree)))) m) || is_again tree n)) (Some Rider) (first_row tree (rider_rows (suc n) more))) (sym known)
     ∙ sym (told tree (rider n) Rider (rider_rows (suc n) more))
 riders-told tree classes n earlier (member key _ more) known sound stand strings are = absurd (false≢true strings)
 
@@ -267,7 +267,7 @@ strings_if true classes part rest same = same refl
 strings_if false classes part rest same = refl
 
 riders_steps : (o : Option Data) (tree classes : Members) (rest : Members → Option TableFault) → rest no_members ≡ None → ((part : Members) → o ≡ Some (table part) → hold_strings part ≡ true → fault_in (riders_from classes [] part) ≡ rest part)
-    → fault_in (riders.riders_in classes o) ≡ cond (fails (is_kind the_key.Riders) o) (Some (Kind the_key.Riders)) (rest (members_of o))
+    → fault_in (riders.riders_at classes o) ≡ cond (fails (is_kind the_key.Riders) o) (Some (Kind the_key.Riders)) (rest (members_of o))
 riders_steps None tree classes rest none same = sym none
 riders_steps (Some (table part)) tree classes rest none same = strings_if (hold_strings part) classes part (rest part) (λ strings. same part refl strings)
 riders_steps (Some _) tree classes rest none same = refl
@@ -275,11 +275,11 @@ riders_steps (Some _) tree classes rest none same = refl
 stand_members : (whole part : Members) → whole ≡ part → Stand whole 0 part
 stand_members whole part same = subst (λ (m : Members). Stand whole 0 m) same (stand_all whole)
 
-keys-told : (tree classes : Members) → classes_in tree ≡ classes → checked classes ≡ Ok tt → fault_in (riders_of classes tree) ≡ first_of tree (a_row top (Kind the_key.Riders) ∷ rider_rows 0 (riders_in tree))
+keys-told : (tree classes : Members) → classes_in tree ≡ classes → checked classes ≡ Ok tt → fault_in (riders_of classes tree) ≡ first_row tree (a_row top (Kind the_key.Riders) ∷ rider_rows 0 (riders_in tree))
 unfolding riders_of
 keys-told tree classes known sound =
     let o = get_member (codes "riders") tree in
-    riders_steps o tree classes (λ part. first_of tree (rider_rows 0 part)) refl (λ part is strings.
+    riders_steps o tree classes (λ part. first_row tree (rider_rows 0 part)) refl (λ part is strings.
     riders-told tree classes 0 [] part known sound (stand_members (riders_in tree) part (ap members_of is)) strings (λ token. refl))
     ∙ sym (told tree top (Kind the_key.Riders) (rider_rows 0 (riders_in tree)))
 
@@ -293,13 +293,13 @@ zone_steps None = refl
 zone_steps (Some (string s)) = rule_if (is_some (read_whole s)) s
 zone_steps (Some _) = refl
 
-zone-told : (tree : Members) → fault_in (zone_of tree) ≡ first_of tree (a_row top (Kind the_key.Zone) ∷ a_row top the_fault.Zone ∷ [])
+zone-told : (tree : Members) → fault_in (zone_of tree) ≡ first_row tree (a_row top (Kind the_key.Zone) ∷ a_row top the_fault.Zone ∷ [])
 unfolding zone_of
 zone-told tree = zone_steps (get_member (codes "zone") tree) ∙ sym (told_two tree top (Kind the_key.Zone) the_fault.Zone)
 
 -- ---- the whole
-rules-told : (tree : Members) → fault_in (rules_of tree) ≡ first_of tree (rows tree)
-unfolding rules_of
+rules-told : (tree : Members) → fault_in (rules_of_tree tree) ≡ first_row tree (rows tree)
+unfolding rules_of_tree
 rules-told tree =
     let key_rows = riders_step tree ++ zone_step in
     let entry_rows = validators_step tree ++ key_rows in
@@ -316,7 +316,7 @@ rules-told tree =
     steps tree (riders_of classes tree) _ (riders_step tree) zone_step (keys-told tree classes same sound) (λ riders is_riders.
     done (zone_of tree) _ ∙ zone-told tree))))))
 
-text_tells : (o : Option Members) → fault_in (ok_or o the_fault.Text >>= rules_of) ≡ first_fault o
+text_tells : (o : Option Members) → fault_in (ok_or o the_fault.Text >>= rules_of_tree) ≡ first_fault o
 text_tells None = refl
 text_tells (Some tree) = rules-told tree
 
@@ -334,7 +334,7 @@ told_none : {A : Type 0} (o : Outcome A) → ((a : A) × (o ≡ Ok a)) ↔ (faul
 told_none {A} (Ok a) = (λ is. refl, λ is. (a, refl))
 told_none {A} (Err e) = (λ is. ap (λ (x : Outcome A). fault_in x) is.1, λ is. absurd (cc))
 
-pub no-row : (text : List ℕ) → ((rules : Rules) × (rules_in text ≡ Ok rules)) ↔ (first_fault (parse_document text) ≡ None)
+pub no-row : (text : List ℕ) → ((rules : TableRules) × (rules_in text ≡ Ok rules)) ↔ (first_fault (parse_document text) ≡ None)
 no-row text =
     let both = told_none (rules_in text) in
     let told = text_tells (parse_document text) in
@@ -346,7 +346,7 @@ pub first-of-err : {A : Type 0} (P : Type 0) (text : List ℕ) (result : Result 
 first-of-err P text (Ok a) is = tt
 first-of-err P text (Err e) is = λ other known. (first-row text e).0 (is other known)
 
-pub none-of-ok : {A : Type 0} (P : Type 0) (text : List ℕ) (result : Result A TableFault) (f : A → Rules) → IfOk result (λ a. P × (rules_in text ≡ Ok (f a)))
+pub none-of-ok : {A : Type 0} (P : Type 0) (text : List ℕ) (result : Result A TableFault) (f : A → TableRules) → IfOk result (λ a. P × (rules_in text ≡ Ok (f a)))
     → IfOk result (λ a. first_fault (parse_document text) ≡ None)
 none-of-ok P text (Ok a) f is = (no-row text).0 (f a, is.1)
 none-of-ok P text (Err e) f is = tt

@@ -11,7 +11,7 @@ use Rattle.fare_table.proofs.EntryLemmas.{ranges_read, step}
 use Rattle.fare_table.proofs.PartLemmas.{bind_ok, parts}
 use Rattle.fare_table.proofs.PayLemmas.{AreRiders, adds_rider, after_rider, riders_read}
 use Rattle.fare_table.specs.Riders.{rider_of, riders_from, with_rider}
-use Rattle.fare_table.specs.Rules.{Rules, rules_of}
+use Rattle.fare_table.specs.Rules.{TableRules, rules_of_tree}
 use Rattle.fare_table.specs.Validators.{is_chain, ranges_from}
 use Rattle.fare_table.specs.declared.terms.Terms.{Terms}
 use Rattle.fare_table.specs.declared.validators.Span.{Span}
@@ -71,7 +71,7 @@ rise_all classes o riders are = ⊎_elim
     (λ some. rise_from classes [] some.0 riders some.2 tt)
     are
 
-pub riders-rise : (tree : Members) (rules : Rules) → rules_of tree ≡ Ok rules → IsStrictlySortedBy (slice_cmp nat_cmp) (keys_of rules.riders)
+pub riders-rise : (tree : Members) (rules : TableRules) → rules_of_tree tree ≡ Ok rules → IsStrictlySortedBy (slice_cmp nat_cmp) (keys_of rules.riders)
 riders-rise tree rules is =
     let p = parts tree rules is in
     rise_all p.table (get_member (codes "riders") tree) rules.riders (riders_read p.table tree rules.riders p.riders)
@@ -82,7 +82,7 @@ chain_from modes earlier (item value more) ranges is chain =
     let s = step modes earlier value more ranges is chain in
     chain_from modes s.next more ranges s.rest s.chain
 
-pub ranges-rise : (tree : Members) (rules : Rules) → rules_of tree ≡ Ok rules → is_chain rules.ranges ≡ true
+pub ranges-rise : (tree : Members) (rules : TableRules) → rules_of_tree tree ≡ Ok rules → is_chain rules.ranges ≡ true
 ranges-rise tree rules is =
     let text = ranges_read rules.modes tree rules.ranges (parts tree rules is).ranges in
     chain_from rules.modes [] text.items rules.ranges text.read refl

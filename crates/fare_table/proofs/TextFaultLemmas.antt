@@ -10,9 +10,9 @@ use Rattle.fare_table.specs.Classes.{ceiling_of, checked, class_named, class_of,
 use Rattle.fare_table.specs.Members.{are_tables, array_at, hold_strings, hold_tables, needed, number_at, number_in, of_kind, table_at, text_at, within}
 use Rattle.fare_table.specs.Modes.{are_mode_names, mode_named, modes_of, strings_from}
 use Rattle.fare_table.specs.Outcome.{Outcome, ◌>>=◌}
-use Rattle.fare_table.specs.Riders.{rider_of, riders_from, riders_in, riders_of, token_of, with_rider}
-use Rattle.fare_table.specs.Rules.{rules_of}
-use Rattle.fare_table.specs.Transfers.{pair_of, pairs_from, places_of, transfers_from, transfers_of, with_pair}
+use Rattle.fare_table.specs.Riders.{rider_of, riders_from, riders_at, riders_of, token_of_digits, with_rider}
+use Rattle.fare_table.specs.Rules.{rules_of_tree}
+use Rattle.fare_table.specs.Transfers.{name_pair, pairs_from, places_of, transfers_from, transfers_of, with_pair}
 use Rattle.fare_table.specs.Validators.{range_in, range_of, ranges_from, ranges_of, with_range}
 use Rattle.fare_table.specs.Zone.{zone_in, zone_of}
 use Rattle.fare_table.specs.declared.fault.Key.{Key}
@@ -82,7 +82,7 @@ mode_named-text modes name = a_part _ the_fault.Mode (λ is. cc)
 
 pairs_from-text : (found : List (List ℕ × List ℕ)) (items : Items) → NotText (pairs_from found items)
 pairs_from-text found no_items = an_ok found
-pairs_from-text found (item value more) = steps (of_kind the_key.Transfers (pair_of value)) (λ pair. pairs_from (found ++ pair ∷ []) more) (of_kind-text the_key.Transfers (pair_of value)) (λ pair. pairs_from-text (found ++ pair ∷ []) more)
+pairs_from-text found (item value more) = steps (of_kind the_key.Transfers (name_pair value)) (λ pair. pairs_from (found ++ pair ∷ []) more) (of_kind-text the_key.Transfers (name_pair value)) (λ pair. pairs_from-text (found ++ pair ∷ []) more)
 
 places_of-text : (modes : List (List ℕ)) (pair : List ℕ × List ℕ) → NotText (places_of modes pair)
 places_of-text modes pair = steps (mode_named modes pair.0) _ (mode_named-text modes pair.0) (λ from. steps (mode_named modes pair.1) _ (mode_named-text modes pair.1) (λ to. an_ok (from, to)))
@@ -149,7 +149,7 @@ ranges_of-text modes tree = steps (array_at (codes "validators") the_key.Validat
     (λ items. a_choice (are_tables items) (ranges_from modes [] items) (Err (the_fault.Kind the_key.Validators)) (ranges_from-text modes [] items) (another (the_fault.Kind the_key.Validators) (λ is. cc)))
 
 rider_of-text : (classes : Members) (key : List ℕ) (value : Data) → NotText (rider_of classes key value)
-rider_of-text classes key value = steps (token_of key) _ (a_part (result_ok (decode_sized key 16)) the_fault.Rider (λ is. cc))
+rider_of-text classes key value = steps (token_of_digits key) _ (a_part (result_ok (decode_sized key 16)) the_fault.Rider (λ is. cc))
     (λ token. steps (of_kind the_key.Riders (as_str value)) _ (of_kind-text the_key.Riders (as_str value))
     (λ name. steps (class_named classes name) _ (class_named-text classes name) (λ terms. an_ok (token, terms))))
 
@@ -158,7 +158,7 @@ riders_from-text classes earlier no_members = an_ok earlier
 riders_from-text classes earlier (member key value more) = steps (rider_of classes key value) _ (rider_of-text classes key value)
     (λ rider. steps (with_rider earlier rider.0 rider.1) (λ riders. riders_from classes riders more) (a_choice _ _ _ (another the_fault.Rider (λ is. cc)) (an_ok _)) (λ riders. riders_from-text classes riders more))
 
-riders_in-text : (classes : Members) (value : Option Data) → NotText (riders_in classes value)
+riders_in-text : (classes : Members) (value : Option Data) → NotText (riders_at classes value)
 riders_in-text classes None = an_ok []
 riders_in-text classes (Some value) = steps (of_kind the_key.Riders (as_table value)) _ (of_kind-text the_key.Riders (as_table value))
     (λ riders. a_choice (hold_strings riders) (riders_from classes [] riders) (Err (the_fault.Kind the_key.Riders)) (riders_from-text classes [] riders) (another (the_fault.Kind the_key.Riders) (λ is. cc)))
@@ -176,8 +176,8 @@ zone_of-text : (tree : Members) → NotText (zone_of tree)
 unfolding zone_of
 zone_of-text tree = zone_in-text (get_member (codes "zone") tree)
 
-pub rules_of-text : (tree : Members) → NotText (rules_of tree)
-unfolding rules_of
+pub rules_of-text : (tree : Members) → NotText (rules_of_tree tree)
+unfolding rules_of_tree
 rules_of-text tree =
     steps (modes_of tree) _ (modes_of-text tree) (λ modes.
     steps (transfers_of modes tree) _ (transfers_of-text modes tree) (λ transfers.

@@ -8,7 +8,7 @@ ghost use Rattle.fare_table.specs.Fares.{mode_at, is_permitted, terms_at};
 ghost use Rattle.fare_table.specs.Outcome.{Answers};
 ghost use Rattle.fare_table.specs.inside.PosixRule.{HasRule, rule_of};
 ghost use Rattle.fare_table.specs.declared.fault.TableFault.{TableFault};
-ghost use Rattle.fare_table.specs.Rules.{rules_in, rules_of};
+ghost use Rattle.fare_table.specs.Rules.{rules_in, rules_of_tree};
 ghost use Rattle.fare_table.specs.Zone.{IsZoneOf, zone_rule, zone_text};
 ghost use Rattle.fare_table.specs.Terms.{HasLimits};
 
@@ -46,11 +46,11 @@ impl Model for FareTable {
 
     ghost Value = { Fares };
 
-    ghost use Rattle.fare_table.specs.inside.Table.{fares_of, IsSound};
+    ghost use Rattle.fare_table.specs.inside.Table.{fares_of, AreSound};
 
     ghost view = { λ t. fares_of (arc_value t.parts) };
 
-    ghost invariant = { λ t. IsSound (arc_value t.parts) };
+    ghost invariant = { λ t. AreSound (arc_value t.parts) };
 }
 
 /// What a table and its clones share.
@@ -164,9 +164,9 @@ impl FareTable {
 }
 
 /// Reads each key in its turn, up to the first fault.
-#[tactic(auto, unfolding(crate::specs::Rules::rules_of))]
+#[tactic(auto, unfolding(crate::specs::Rules::rules_of_tree))]
 fn table_of(alloc: Global, table: &Table) -> Result<FareTable, TableFault>
-    ensures answer { Answers (λ t. t.rules) result (rules_of (table_view table.now)) }
+    ensures answer { Answers (λ t. t.rules) result (rules_of_tree (table_view table.now)) }
     ensures zone { IfOk result (λ t. IsZoneOf t.rules.zone t.zone) }
 {
     let modes = modes_of(alloc, table)?;

@@ -3,7 +3,7 @@ ghost use Rattle.std.specs.Prelude.{◌≡◌, ◌<◌, ◌≤◌, true, if◌th
 ghost use Rattle.std.specs.Prelude.{length, nat_le, option_copied};
 ghost use Rattle.fare_table.specs.Fares.{range_at};
 ghost use Rattle.fare_table.specs.Validators.{is_chain};
-ghost use Rattle.fare_table.specs.inside.Validators.{is_rising, last_begun, AreSearchable, IsSplit};
+ghost use Rattle.fare_table.specs.inside.Validators.{is_rising, last_begun, AreSearchable, IsSplitAt};
 
 use crate::fault::NoMemory;
 use crate::validators::guesses::Guesses;
@@ -167,7 +167,7 @@ fn last_begun<'a>(ranges: &'a [(u32, Span)], firsts: &[u32], number: u32) -> Opt
 fn begun_by_halves(firsts: &[u32], number: u32) -> usize
     requires { is_rising firsts.now ≡ true }
     ensures bound { result ≤ length firsts.now }
-    ensures split { IsSplit number firsts.now result 0 }
+    ensures split { IsSplitAt number firsts.now result 0 }
 {
     if firsts.is_empty() {
         return 0;

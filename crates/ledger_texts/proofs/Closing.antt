@@ -6,7 +6,7 @@ use Rattle.fare_table.specs.declared.mode.Mode.{Mode}
 use Rattle.account_rule.specs.Chains.{ends_in_transfer}
 use Rattle.account_rule.specs.Cut.{last_block}
 use Rattle.account_rule.specs.Laws.{is_ride}
-use Rattle.account_rule.specs.Replies.{reply, reply_of, ride_reply}
+use Rattle.account_rule.specs.Replies.{reply, reply_with, ride_reply}
 use Rattle.account_rule.specs.Rules.{Rules}
 use Rattle.account_rule.specs.Taps.{LiveTap, is_later, live_at, live_tap}
 use Rattle.account_rule.specs.Windows.{is_within, last_window, shown_window, windows}
@@ -70,19 +70,19 @@ free rules taps tap none same =
     rw (none, same, ended-free (last_window rules taps) tap.moment) (sym (append-nil (shown_in rules (but_last (windows rules taps)))))
 
 rides : (cents : ℕ) → is_ride (ride_reply cents) ≡ true
-unfolding ride_reply reply_of
-rides cents = elim (ltb 0 cents) as (λ v. is_ride (cond v (reply_of Paid cents) (reply_of Capped 0)) ≡ true) [ true ↦ refl | false ↦ refl ]
+unfolding ride_reply reply_with
+rides cents = elim (ltb 0 cents) as (λ v. is_ride (cond v (reply_with Paid cents) (reply_with Capped 0)) ≡ true) [ true ↦ refl | false ↦ refl ]
 
-free_unknown : is_ride (reply_of Unknown 0) ≡ false
-unfolding reply_of
+free_unknown : is_ride (reply_with Unknown 0) ≡ false
+unfolding reply_with
 free_unknown = refl
 
-free_stale : is_ride (reply_of Stale 0) ≡ false
-unfolding reply_of
+free_stale : is_ride (reply_with Stale 0) ≡ false
+unfolding reply_with
 free_stale = refl
 
-free_transfer : is_ride (reply_of Transfer 0) ≡ false
-unfolding reply_of
+free_transfer : is_ride (reply_with Transfer 0) ≡ false
+unfolding reply_with
 free_transfer = refl
 
 ride : (rules : Rules) (taps : List TapIn) (tap : TapIn) (mode : Mode) → is_ride (reply rules taps tap) ≡ true

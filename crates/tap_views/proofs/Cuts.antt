@@ -5,16 +5,16 @@ use Rattle.std.proofs.lemmas.List.{length-take-le, length-drop, take-append-le, 
 use Rattle.std.specs.List.{AllByRecursion}
 use Rattle.tap_views.specs.Layout.{Tap, IsTap, Layout}
 use Rattle.tap_views.specs.Faults.{width}
-use Rattle.tap_views.specs.inside.Records.{cut}
+use Rattle.tap_views.specs.inside.Records.{first_records}
 use Rattle.tap_views.specs.inside.Records.{taps_in, tap_at, AreRecords}
 
 module _ (w : ℕ) (tap_of : List ℕ → Tap) where
-  pub length-cut : (n : ℕ) (bytes : List ℕ) → length (cut w tap_of n bytes) ≡ n
+  pub length-cut : (n : ℕ) (bytes : List ℕ) → length (first_records w tap_of n bytes) ≡ n
   length-cut zero bytes = refl
   length-cut (suc n) bytes = ap suc (length-cut n (drop w bytes))
 
   -- bytes behind the records change nothing
-  pub cut-append : (n : ℕ) (xs ys : List ℕ) → w * n ≤ length xs → cut w tap_of n (xs ++ ys) ≡ cut w tap_of n xs
+  pub cut-append : (n : ℕ) (xs ys : List ℕ) → w * n ≤ length xs → first_records w tap_of n (xs ++ ys) ≡ first_records w tap_of n xs
   cut-append zero xs ys whole = refl
   cut-append (suc n) xs ys whole =
       let first : w ≤ length xs = omega (arith, mul-suc w n) in
@@ -22,7 +22,7 @@ module _ (w : ℕ) (tap_of : List ℕ → Tap) where
       rw (take-append-le w xs ys first, drop-append-le w xs ys first, cut-append n (drop w xs) ys left) refl
 
   -- what is true of each tap is true of the one at a place
-  pub all-cut : (P : Tap → Type 0) (n i : ℕ) (bytes : List ℕ) → i < n → AllByRecursion P (cut w tap_of n bytes)
+  pub all-cut : (P : Tap → Type 0) (n i : ℕ) (bytes : List ℕ) → i < n → AllByRecursion P (first_records w tap_of n bytes)
       → P (tap_of (take w (drop (w * i) bytes)))
   all-cut P zero i bytes below all = absurd (omega arith)
   all-cut P (suc n) zero bytes below all =
@@ -34,7 +34,7 @@ module _ (w : ℕ) (tap_of : List ℕ → Tap) where
       subst (λ (part : List ℕ). P (tap_of (take w part))) moved (all-cut P n i (drop w bytes) (omega arith) all.1)
 
   -- the tap at a place is the one in the record there
-  pub slice_get-cut : (n i : ℕ) (bytes : List ℕ) → i < n → slice_get (cut w tap_of n bytes) i ≡ Some (tap_of (take w (drop (w * i) bytes)))
+  pub slice_get-cut : (n i : ℕ) (bytes : List ℕ) → i < n → slice_get (first_records w tap_of n bytes) i ≡ Some (tap_of (take w (drop (w * i) bytes)))
   slice_get-cut zero i bytes below = absurd (omega arith)
   slice_get-cut (suc n) zero bytes below =
       let start : w * zero ≡ 0 = omega arith in rw start refl
@@ -45,7 +45,7 @@ module _ (w : ℕ) (tap_of : List ℕ → Tap) where
 
   -- the last record taken off
   pub cut-last : (n : ℕ) (bytes : List ℕ) → length bytes ≡ w * suc n
-      → cut w tap_of (suc n) bytes ≡ cut w tap_of n (take (w * n) bytes) ++ tap_of (drop (w * n) bytes) ∷ []
+      → first_records w tap_of (suc n) bytes ≡ first_records w tap_of n (take (w * n) bytes) ++ tap_of (drop (w * n) bytes) ∷ []
   cut-last zero bytes whole =
       let start : w * zero ≡ 0 = omega arith in
       let all : take w bytes ≡ bytes = take_all w bytes (omega (arith, mul-suc w 0)) in

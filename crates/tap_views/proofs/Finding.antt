@@ -8,7 +8,7 @@ use Rattle.std.proofs.lemmas.Slice.Eq.{bytes_eq-Decides}
 use Rattle.tap_views.specs.Layout.{moment_limit}
 use Rattle.tap_views.specs.Faults.{header, layout_in, count_in, flags_in, size_in, moment_in, Row, IsFault}
 use Rattle.tap_views.specs.inside.Faults.{AllEarly}
-use Rattle.tap_views.specs.inside.Readings.{is_row, first_fault}
+use Rattle.tap_views.specs.inside.Readings.{is_row, found_fault}
 use Rattle.tap_views.specs.declared.fault.LayoutFault.{LayoutFault}
 use Rattle.tap_views.specs.declared.fault.LayoutFault.TheVariants.{Short, Magic, Flags, TooMany, Length, Moment}
 
@@ -78,7 +78,7 @@ module _ (bytes : List ℕ) where
       go (inr here) more = let same : k ≡ index = omega (arith, from, here) in rw (same, late_row index late) refl
 
   -- where no row holds, none is found
-  pub first_fault-none : ((fault : LayoutFault) → ¬ (Row fault bytes)) → AllEarly bytes (count_in bytes) → first_fault bytes ≡ None
+  pub first_fault-none : ((fault : LayoutFault) → ¬ (Row fault bytes)) → AllEarly bytes (count_in bytes) → found_fault bytes ≡ None
   first_fault-none none early =
       let short = no_short (none (Short (length bytes))) in
       let magic = no_magic (none Magic) in
@@ -88,7 +88,7 @@ module _ (bytes : List ℕ) where
       rw (short, magic, flags, many, cut_off) (find-early 0 (count_in bytes) (λ i below. early i (omega (arith, below))))
 
   -- the first row that holds is found
-  pub first_fault-some : (fault : LayoutFault) → IsFault bytes fault → first_fault bytes ≡ Some fault
+  pub first_fault-some : (fault : LayoutFault) → IsFault bytes fault → found_fault bytes ≡ Some fault
   first_fault-some (Short have) is =
       let this = lt-ltb (length bytes) (header (layout_in bytes)) is.holds.1 in
       rw (this, is.holds.0) refl

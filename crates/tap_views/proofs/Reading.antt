@@ -7,7 +7,7 @@ use Rattle.tap_views.specs.inside.Faults.{AllEarly}
 use Rattle.tap_views.specs.declared.fault.LayoutFault.{LayoutFault}
 use Rattle.tap_views.specs.Files.{HasNoBatch, IsFile, Item, IsEnd, IsReading}
 use Rattle.tap_views.proofs.Grammar.{begins, no_row}
-use Rattle.tap_views.specs.inside.Readings.{first_fault, first_taps, items_within, items_from}
+use Rattle.tap_views.specs.inside.Readings.{found_fault, first_taps, items_within, items_from}
 use Rattle.tap_views.proofs.Finding.{first_fault-none, first_fault-some}
 use Rattle.tap_views.proofs.Deciding.{same_fault, decided, Found}
 
@@ -68,7 +68,7 @@ one_reading offset bytes (Err stop ∷ xs) (Err stop' ∷ ys) gives gives' =
 
 -- and there is one
 sound_taps : (bytes front rest : List ℕ) (taps : List Tap) → IsBatch front taps → bytes ≡ front ++ rest
-    → (first_fault bytes ≡ None) × (first_taps bytes ≡ taps) × (drop (size_in bytes) bytes ≡ rest) × (size_in bytes ≡ length front)
+    → (found_fault bytes ≡ None) × (first_taps bytes ≡ taps) × (drop (size_in bytes) bytes ≡ rest) × (size_in bytes ≡ length front)
 sound_taps bytes front rest taps batch is =
     let begin = begins batch.0 front taps rest bytes batch.1 is in
     let P : ℕ → Type 0 = λ n. AllEarly bytes n in

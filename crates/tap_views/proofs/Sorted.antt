@@ -10,7 +10,7 @@ use Rattle.std.specs.Prelude.{slice_get, Option, Some, None, flat_map, option_to
 use Rattle.std.specs.Borrow.{Bor}
 use Rattle.std.specs.List.{AllByRecursion}
 use Rattle.tap_views.specs.Cut.{places_from}
-use Rattle.tap_views.specs.inside.Cut.{AreKept, AreBelow, left_of}
+use Rattle.tap_views.specs.inside.Cut.{ArePlacesKept, ArePlacesBelow, left_of}
 
 -- no more places than taps
 pub places_few : (shard shards at : ℕ) (taps : List Tap) → length (places_from shard shards at taps) ≤ length taps
@@ -103,16 +103,16 @@ places_count shard shards at [] = refl
 places_count shard shards at (tap ∷ taps) = count_step shard shards at tap taps (shard_of_token tap.token shards == shard) (places_count shard shards (suc at) taps)
 
 pub kept_left : (places : Option (Bor (List ℕ))) (shard shards : ℕ) (taps : List Tap)
-    → AreKept places (places_from shard shards 0 taps) → left_of places shard shards taps ≡ run_of shard shards taps
+    → ArePlacesKept places (places_from shard shards 0 taps) → left_of places shard shards taps ≡ run_of shard shards taps
 kept_left None shard shards taps kept = refl
 kept_left (Some places) shard shards taps kept = rw kept (places_run shard shards [] taps)
 
 pub kept_below : (places : Option (Bor (List ℕ))) (shard shards : ℕ) (taps : List Tap)
-    → AreKept places (places_from shard shards 0 taps) → AreBelow places (length taps)
+    → ArePlacesKept places (places_from shard shards 0 taps) → ArePlacesBelow places (length taps)
 kept_below None shard shards taps kept = tt
 kept_below (Some places) shard shards taps kept = rw kept (places_below shard shards 0 (length taps) taps (omega arith))
 
 pub kept_count : (places : Option (Bor (List ℕ))) (kept : Bor (List ℕ)) (shard shards : ℕ) (taps : List Tap) → places ≡ Some kept
-    → AreKept places (places_from shard shards 0 taps) → length kept.now ≡ length (run_of shard shards taps)
+    → ArePlacesKept places (places_from shard shards 0 taps) → length kept.now ≡ length (run_of shard shards taps)
 kept_count places kept shard shards taps is all =
-    ap length (subst (λ o. AreKept o (places_from shard shards 0 taps)) is all) ∙ places_count shard shards 0 taps
+    ap length (subst (λ o. ArePlacesKept o (places_from shard shards 0 taps)) is all) ∙ places_count shard shards 0 taps

@@ -33,7 +33,7 @@ impl<'a> Model for Run<'a> {
     ghost use Rattle.tap_views.specs.inside.Records.{layout_of, taps_in, AreRecords};
     ghost use Rattle.tap_views.specs.Shards.{ShardRun};
     ghost use Rattle.tap_views.specs.Cut.{places_from};
-    ghost use Rattle.tap_views.specs.inside.Cut.{AreKept};
+    ghost use Rattle.tap_views.specs.inside.Cut.{ArePlacesKept};
 
     ghost Value = { ShardRun };
 
@@ -45,7 +45,7 @@ impl<'a> Model for Run<'a> {
 
     ghost invariant = { λ run. AreRecords (layout_of run.shared) run.count run.records.now
         × (run.shard < run.shards) × (run.shards ≤ 64)
-        × AreKept run.places (places_from run.shard run.shards 0
+        × ArePlacesKept run.places (places_from run.shard run.shards 0
         (taps_in (layout_of run.shared) run.count run.records.now)) };
 }
 
@@ -121,14 +121,14 @@ pub struct RunTaps<'a> {
 impl<'a> Model for RunTaps<'a> {
     ghost use Rattle.std.specs.Prelude.{List, ◌<◌, ◌≤◌, length};
     ghost use Rattle.tap_views.specs.Layout.{Tap};
-    ghost use Rattle.tap_views.specs.inside.Cut.{left_of, AreBelow};
+    ghost use Rattle.tap_views.specs.inside.Cut.{left_of, ArePlacesBelow};
 
     ghost Value = { List Tap };
 
     ghost view = { λ left. left_of left.places left.shard left.shards left.taps };
 
     ghost invariant = { λ left. (left.shard < left.shards) × (left.shards ≤ 64)
-        × AreBelow left.places (length left.taps) };
+        × ArePlacesBelow left.places (length left.taps) };
 }
 
 impl<'a> Iterator for RunTaps<'a> {

@@ -22,7 +22,7 @@ fares_of parts = record {
 }
 
 -- at most 32 modes, ranges of modes of the table, and terms within their limits
-pub record IsSound (parts : Parts) : Type 0 where
+pub record AreSound (parts : Parts) : Type 0 where
   pub few : length parts.modes.items ≤ 32
   pub known : are_modes_below (length parts.modes.items) parts.ranges ≡ true
   pub standard : HasLimits parts.standard

@@ -2,7 +2,7 @@
 ghost use Rattle.std.specs.Prelude.{◌≡◌, ◌≤◌, IfOk, option_map};
 ghost use Rattle.toml.specs.View.{view, table_view};
 ghost use Rattle.fare_table.specs.Classes as spec;
-ghost use Rattle.fare_table.specs.Outcome.{seen_by};
+ghost use Rattle.fare_table.specs.Outcome.{seen_through};
 ghost use Rattle.fare_table.specs.Terms.{HasLimits};
 
 use super::members::{hold_tables, number_at, number_in, optional, table_at, text_at};
@@ -13,7 +13,7 @@ use toml::{Table, Value};
 /// The classes of the text, each with terms.
 #[tactic(auto, unfolding(crate::specs::Classes::classes_of))]
 pub(crate) fn classes_of(table: &Table) -> Result<&Table, TableFault>
-    ensures { seen_by (λ m. table_view m.now) result ≡ spec.classes_of (table_view table.now) }
+    ensures { seen_through (λ m. table_view m.now) result ≡ spec.classes_of (table_view table.now) }
 {
     let classes = table_at(table, "classes", Key::Classes)?;
     if !hold_tables(classes) {

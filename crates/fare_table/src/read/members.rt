@@ -3,7 +3,7 @@ ghost use Rattle.std.specs.Prelude.{◌≡◌, ◌&&◌, ◌≤◌, pos, int_le,
 ghost use Rattle.toml.specs.Data.{get_member};
 ghost use Rattle.toml.specs.View.{view, array_view, table_view};
 ghost use Rattle.fare_table.specs.Members as spec;
-ghost use Rattle.fare_table.specs.Outcome.{seen_by};
+ghost use Rattle.fare_table.specs.Outcome.{seen_through};
 
 use crate::fault::{Key, TableFault};
 use toml::value::Array;
@@ -18,7 +18,7 @@ pub(crate) fn optional<'a>(table: &'a Table, name: &str) -> Option<&'a Value>
 
 /// The value at a key that has to be there.
 pub(crate) fn needed<'a>(table: &'a Table, name: &str, key: Key) -> Result<&'a Value, TableFault>
-    ensures { seen_by (λ v. view v.now) result ≡ spec.needed name.now key (table_view table.now) }
+    ensures { seen_through (λ v. view v.now) result ≡ spec.needed name.now key (table_view table.now) }
 {
     match optional(table, name) {
         Some(value) => Ok(value),
@@ -28,7 +28,7 @@ pub(crate) fn needed<'a>(table: &'a Table, name: &str, key: Key) -> Result<&'a V
 
 /// The string at a key.
 pub(crate) fn text_at<'a>(table: &'a Table, name: &str, key: Key) -> Result<&'a str, TableFault>
-    ensures { seen_by (λ s. s.now) result ≡ spec.text_at name.now key (table_view table.now) }
+    ensures { seen_through (λ s. s.now) result ≡ spec.text_at name.now key (table_view table.now) }
 {
     match needed(table, name, key)?.as_str() {
         Some(text) => Ok(text),
@@ -38,7 +38,7 @@ pub(crate) fn text_at<'a>(table: &'a Table, name: &str, key: Key) -> Result<&'a 
 
 /// The array at a key.
 pub(crate) fn array_at<'a>(table: &'a Table, name: &str, key: Key) -> Result<&'a Array, TableFault>
-    ensures { seen_by (λ v. array_view v.now) result
+    ensures { seen_through (λ v. array_view v.now) result
         ≡ spec.array_at name.now key (table_view table.now) }
 {
     match needed(table, name, key)?.as_array() {
@@ -49,7 +49,7 @@ pub(crate) fn array_at<'a>(table: &'a Table, name: &str, key: Key) -> Result<&'a
 
 /// The table at a key.
 pub(crate) fn table_at<'a>(table: &'a Table, name: &str, key: Key) -> Result<&'a Table, TableFault>
-    ensures { seen_by (λ m. table_view m.now) result
+    ensures { seen_through (λ m. table_view m.now) result
         ≡ spec.table_at name.now key (table_view table.now) }
 {
     match needed(table, name, key)?.as_table() {

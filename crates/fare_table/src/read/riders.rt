@@ -66,7 +66,7 @@ fn rider_of(classes: &Table, key: &str, value: &Value) -> Result<([u8; 16], Term
     ensures rider { result ≡ spec.rider_of (table_view classes.now) key.now (view value.now) }
     ensures limits { IfOk result (λ rider. HasLimits rider.1) }
 {
-    let token = token_of(key)?;
+    let token = token_of_digits(key)?;
     let Some(name) = value.as_str() else {
         return Err(TableFault::Kind { key: Key::Riders });
     };
@@ -74,8 +74,8 @@ fn rider_of(classes: &Table, key: &str, value: &Value) -> Result<([u8; 16], Term
 }
 
 /// The token of 32 hexadecimal digits of either case.
-fn token_of(digits: &str) -> Result<[u8; 16], TableFault>
-    ensures { result ≡ spec.token_of digits.now }
+fn token_of_digits(digits: &str) -> Result<[u8; 16], TableFault>
+    ensures { result ≡ spec.token_of_digits digits.now }
 {
     match <[u8; 16] as FromHex>::from_hex(digits) {
         Ok(token) => Ok(token),

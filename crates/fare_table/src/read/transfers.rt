@@ -34,7 +34,7 @@ fn pairs_of(alloc: Global, array: &Array) -> Result<Vec<(&str, &str)>, TableFaul
 {
     let mut pairs = Vec::new(alloc);
     for value in array {
-        let Some(pair) = pair_of(value) else {
+        let Some(pair) = name_pair(value) else {
             return Err(TableFault::Kind {
                 key: Key::Transfers,
             });
@@ -45,8 +45,9 @@ fn pairs_of(alloc: Global, array: &Array) -> Result<Vec<(&str, &str)>, TableFaul
 }
 
 /// The two names of a value, where it is an array of two strings.
-fn pair_of(value: &Value) -> Option<(&str, &str)>
-    ensures { option_map (λ pair. (pair.0.now, pair.1.now)) result ≡ spec.pair_of (view value.now) }
+fn name_pair(value: &Value) -> Option<(&str, &str)>
+    ensures { option_map (λ pair. (pair.0.now, pair.1.now)) result
+        ≡ spec.name_pair (view value.now) }
 {
     let array = value.as_array()?;
     if array.len() != 2 {

@@ -2,7 +2,7 @@ use Rattle.std.proofs.Common.{◌≡◌, ◌≢◌, List, [], ◌∷◌, None, l
 use Rattle.toml.specs.View.{items_view}
 use Rattle.toml.specs.declared.value.Value.{Value}
 use Rattle.fare_table.specs.Transfers.{two_strings}
-use Rattle.fare_table.proofs.read.transfers.pair_of.Goals as goal
+use Rattle.fare_table.proofs.read.transfers.name_pair.Goals as goal
 
 not_two : (values : List Value) → length values ≢ 2 → two_strings (items_view values) ≡ None
 not_two [] other = refl
