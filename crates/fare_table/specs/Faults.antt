@@ -150,7 +150,8 @@ abbrev pub is_in_limits : Key → Members → Data → Bool
 is_in_limits the_key.Modes beside value =
     passes (λ names. are_mode_names (texts names)) (as_array value)
 is_in_limits the_key.Transfers beside value = true
-is_in_limits the_key.Classes beside value = passes (λ classes. not (is_empty classes)) (as_table value)
+is_in_limits the_key.Classes beside value =
+    passes (λ classes. not (is_empty classes)) (as_table value)
 is_in_limits the_key.Fare beside value = is_from 1 100_000 value
 is_in_limits the_key.Rides beside value = is_from 1 1_000 value
 is_in_limits the_key.Ceiling beside value = is_from 1 100_000_000 value

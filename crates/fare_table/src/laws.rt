@@ -50,11 +50,12 @@ pub fn modes_are_of_entries()
     ensures some { (tree : Members) (fares : Fares) (validator mode : ℕ)
         → rules_of_tree tree ≡ Ok fares.rules
         → (mode_at fares validator ≡ Some mode) ↔ EntryGives fares.rules.modes tree validator mode }
-    ensures none { (tree : Members) (fares : Fares) (validator : ℕ) → rules_of_tree tree ≡ Ok fares.rules
+    ensures none { (tree : Members) (fares : Fares) (validator : ℕ)
+        → rules_of_tree tree ≡ Ok fares.rules
         → (mode_at fares validator ≡ None) ↔ ((place : ℕ) → ¬ EntryHas tree validator place) }
     ensures one { (tree : Members) (rules : TableRules) (validator place place' : ℕ)
-        → rules_of_tree tree ≡ Ok rules → EntryHas tree validator place → EntryHas tree validator place'
-        → place ≡ place' }
+        → rules_of_tree tree ≡ Ok rules → EntryHas tree validator place
+        → EntryHas tree validator place' → place ≡ place' }
 {}
 
 /// What a token pays are the terms of the class that the key of the text's `riders` has which names

@@ -3,7 +3,8 @@ ghost use Rattle.std.specs.Prelude.{◌≡◌, ◌<◌, ◌≤◌, true, if◌th
 ghost use Rattle.std.specs.Prelude.{length, nat_le, option_copied};
 ghost use Rattle.fare_table.specs.Fares.{range_at};
 ghost use Rattle.fare_table.specs.Validators.{is_chain};
-ghost use Rattle.fare_table.specs.inside.Validators.{is_rising, last_begun, AreSearchable, IsSplitAt};
+ghost use Rattle.fare_table.specs.inside.Validators.{is_rising, last_begun, AreSearchable};
+ghost use Rattle.fare_table.specs.inside.Validators.{IsSplitAt};
 
 use crate::fault::NoMemory;
 use crate::validators::guesses::Guesses;

@@ -7,4 +7,6 @@ use Rattle.upload_parts.specs.Order.{tap_cmp}
 
 pub tap_cmp_total : IsTotalOrder tap_cmp
 tap_cmp_total =
-    then_total (on_texts (λ (t : TapFields). t.token)) (then_total (on_total (λ (t : TapFields). t.moment) nat_cmp_total) (on_total (λ (t : TapFields). t.validator) nat_cmp_total))
+    then_total (on_texts (λ (t : TapFields). t.token))
+    (then_total (on_total (λ (t : TapFields). t.moment) nat_cmp_total)
+    (on_total (λ (t : TapFields). t.validator) nat_cmp_total))

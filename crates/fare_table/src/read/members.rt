@@ -18,7 +18,8 @@ pub(crate) fn optional<'a>(table: &'a Table, name: &str) -> Option<&'a Value>
 
 /// The value at a key that has to be there.
 pub(crate) fn needed<'a>(table: &'a Table, name: &str, key: Key) -> Result<&'a Value, TableFault>
-    ensures { seen_through (λ v. view v.now) result ≡ spec.needed name.now key (table_view table.now) }
+    ensures { seen_through (λ v. view v.now) result
+        ≡ spec.needed name.now key (table_view table.now) }
 {
     match optional(table, name) {
         Some(value) => Ok(value),

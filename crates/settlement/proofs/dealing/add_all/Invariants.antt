@@ -12,5 +12,7 @@ invariant-loop-upload l = record {
   ends : (goal.iterator-loop-upload).is_finite l.upload-iterator;
   left : l.yielded ++ into_iter_items l.upload-iterator ≡ l.fn.uploads.items;
   left_len : into_iter_len l.upload-iterator ≡ length (into_iter_items l.upload-iterator);
-  made : (taps : List (List Tap)) × AreTapsOfEach (map (λ upload. upload.items) l.yielded) taps × AreAdded (joined taps) l.fn.parts l.parts × ArePlainEnds (map (λ upload. upload.items) l.yielded) l.ends.items;
+  made : (taps : List (List Tap)) × AreTapsOfEach (map (λ upload. upload.items) l.yielded) taps
+      × AreAdded (joined taps) l.fn.parts l.parts
+      × ArePlainEnds (map (λ upload. upload.items) l.yielded) l.ends.items;
 }

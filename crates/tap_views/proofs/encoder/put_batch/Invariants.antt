@@ -7,6 +7,8 @@ use Rattle.tap_views.proofs.encoder.put_batch.Given as goal
 
 abbrev pub invariant-loop-tap : goal.invariant-loop-tap
 invariant-loop-tap l = record {
-  bytes : l.bytes.items ≡ (l.fn.bytes.items ++ (magic Tap1 ++ big_bytes 2 (length l.taps) ++ 0 ∷ 0 ∷ [])) ++ flat_map (λ tap. spelling Tap1 (written tap)) (take l.tap-index l.taps);
+  bytes : l.bytes.items
+      ≡ (l.fn.bytes.items ++ (magic Tap1 ++ big_bytes 2 (length l.taps) ++ 0 ∷ 0 ∷ []))
+      ++ flat_map (λ tap. spelling Tap1 (written tap)) (take l.tap-index l.taps);
   fields : All IsFields (take l.tap-index l.taps);
 }

@@ -5,4 +5,5 @@ use Rattle.fare_table.proofs.read.classes.checked.Given as goal
 
 -- the first fault of the classes is that of the classes that are left
 abbrev pub invariant-loop-name : goal.invariant-loop-name
-invariant-loop-name l = checked (members_view l.classes.entries) ≡ checked (members_view l._name-iterator)
+invariant-loop-name l = checked (members_view l.classes.entries)
+    ≡ checked (members_view l._name-iterator)

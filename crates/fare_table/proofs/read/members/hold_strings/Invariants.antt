@@ -5,4 +5,5 @@ use Rattle.fare_table.proofs.read.members.hold_strings.Given as goal
 
 -- what is left decides
 abbrev pub invariant-loop-key : goal.invariant-loop-key
-invariant-loop-key l = hold_strings (members_view l.table.entries) ≡ hold_strings (members_view l._key-iterator)
+invariant-loop-key l = hold_strings (members_view l.table.entries)
+    ≡ hold_strings (members_view l._key-iterator)

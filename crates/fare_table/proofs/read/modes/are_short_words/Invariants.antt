@@ -5,4 +5,5 @@ use Rattle.fare_table.proofs.read.modes.are_short_words.Given as goal
 
 -- what is left decides
 abbrev pub invariant-loop-name : goal.invariant-loop-name
-invariant-loop-name l = list_all is_mode_name (map string_bytes l.names) ≡ list_all is_mode_name (map string_bytes (drop l.name-index l.names))
+invariant-loop-name l = list_all is_mode_name (map string_bytes l.names)
+    ≡ list_all is_mode_name (map string_bytes (drop l.name-index l.names))

@@ -12,4 +12,6 @@ not_two (a ∷ b ∷ c ∷ more) other = refl
 
 pub returns-then-len-ne2 : goal.returns-then-len-ne2
 returns-then-len-ne2 c =
-    rw (← c.in_ok-array.ensures) (sym (not_two c.in_ok-array.array.now.items (λ two. c.if-len-ne2.true (omega (arith, c.len.ensures, two, c.in_ok-array.array.now.ok.0)))))
+    rw (← c.in_ok-array.ensures)
+    (sym (not_two c.in_ok-array.array.now.items (λ two.
+    c.if-len-ne2.true (omega (arith, c.len.ensures, two, c.in_ok-array.array.now.ok.0)))))

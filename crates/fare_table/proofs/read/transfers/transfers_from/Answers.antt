@@ -1,4 +1,5 @@
-use Rattle.std.proofs.Common.{◌≡◌, ◌∙◌, ℕ, ◌<◌, List, ap, sym, map, string_bytes, drop, length, get_or, suc, add-one, arith, Bor}
+use Rattle.std.proofs.Common.{◌≡◌, ◌∙◌, ℕ, ◌<◌, List, ap, sym, map, string_bytes, drop, length}
+use Rattle.std.proofs.Common.{get_or, suc, add-one, arith, Bor}
 use Rattle.std.proofs.Math.Seq.{drop-cons}
 use Rattle.std.proofs.lemmas.Result.{err_from_is_err_and}
 use Rattle.fare_table.specs.Outcome.{◌>>=◌}
@@ -9,9 +10,12 @@ use Rattle.fare_table.proofs.read.transfers.transfers_from.Goals as goal
 abbrev names : Bor (List ℕ) × Bor (List ℕ) → List ℕ × List ℕ
 names pair = (pair.0.now, pair.1.now)
 
-step : (modes : List (List ℕ)) (found : List (ℕ × ℕ)) (pairs : List (Bor (List ℕ) × Bor (List ℕ))) (i : ℕ) (d : Bor (List ℕ) × Bor (List ℕ)) → i < length pairs
+step : (modes : List (List ℕ)) (found : List (ℕ × ℕ)) (pairs : List (Bor (List ℕ) × Bor (List ℕ)))
+    (i : ℕ) (d : Bor (List ℕ) × Bor (List ℕ)) → i < length pairs
     → transfers_from modes found (map names (drop i pairs))
-    ≡ (places_of modes (names (get_or pairs i d)) >>= (λ places. transfers_from modes (with_pair found places.0 places.1) (map names (drop (suc i) pairs))))
+    ≡ (places_of modes (names (get_or pairs i d))
+    >>= (λ places. transfers_from modes (with_pair found places.0 places.1)
+    (map names (drop (suc i) pairs))))
 step modes found pairs i d inside = rw (drop-cons pairs i d inside)
 
 pub returns-in_err-from : goal.returns-in_err-from
@@ -23,7 +27,9 @@ returns-in_err-from c =
     rw (p.1, p.2)
     (λ known.
     c.loop-pair.invariant ∙ step modes found c.args.pairs.now i _ (omega arith)
-    ∙ ap (λ o. o >>= (λ places. transfers_from modes (with_pair found places.0 places.1) (map names (drop (suc i) c.args.pairs.now)))) (sym c.in_err-from.ensures.places))
+    ∙ ap (λ o. o >>= (λ places.
+    transfers_from modes (with_pair found places.0 places.1)
+    (map names (drop (suc i) c.args.pairs.now)))) (sym c.in_err-from.ensures.places))
 
 pub loop-pair-preserved : goal.loop-pair-preserved
 loop-pair-preserved c =
@@ -32,4 +38,6 @@ loop-pair-preserved c =
     let i = c.loop-pair.pair-index in
     rw (c.in_ok-add.ensures.ok, add-one)
     (c.loop-pair.invariant ∙ step modes found c.args.pairs.now i _ (omega arith)
-    ∙ ap (λ o. o >>= (λ places. transfers_from modes (with_pair found places.0 places.1) (map names (drop (suc i) c.args.pairs.now)))) (sym c.in_ok-from.ensures.places))
+    ∙ ap (λ o. o >>= (λ places.
+    transfers_from modes (with_pair found places.0 places.1)
+    (map names (drop (suc i) c.args.pairs.now)))) (sym c.in_ok-from.ensures.places))

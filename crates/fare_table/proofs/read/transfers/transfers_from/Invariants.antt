@@ -6,4 +6,5 @@ use Rattle.fare_table.proofs.read.transfers.transfers_from.Given as goal
 abbrev pub invariant-loop-pair : goal.invariant-loop-pair
 invariant-loop-pair l =
     transfers_from (map string_bytes l.modes) [] (map (λ pair. (pair.0.now, pair.1.now)) l.pairs)
-    ≡ transfers_from (map string_bytes l.modes) l.transfers (map (λ pair. (pair.0.now, pair.1.now)) (drop l.pair-index l.pairs))
+    ≡ transfers_from (map string_bytes l.modes) l.transfers
+    (map (λ pair. (pair.0.now, pair.1.now)) (drop l.pair-index l.pairs))

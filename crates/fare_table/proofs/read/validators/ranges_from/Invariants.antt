@@ -6,7 +6,9 @@ use Rattle.fare_table.proofs.read.validators.ranges_from.Given as goal
 abbrev pub invariant-loop-value : goal.invariant-loop-value
 invariant-loop-value l = record {
   -- the ranges of the whole are those found and those of what is left
-  same : ranges_from (map string_bytes l.modes) [] (items_view l.array.items) ≡ ranges_from (map string_bytes l.modes) l.ranges.entries (items_view (drop l.value-index l.array.items));
+  same : ranges_from (map string_bytes l.modes) [] (items_view l.array.items)
+      ≡ ranges_from (map string_bytes l.modes) l.ranges.entries
+      (items_view (drop l.value-index l.array.items));
   apart : is_chain l.ranges.entries ≡ true;
   known : are_modes_below (length l.modes) l.ranges.entries ≡ true;
 }
