@@ -31,13 +31,13 @@ use Rattle.std.proofs.lemmas.List.Sorted.{All-permutation, ranks_by}
 use Rattle.tap_views.specs.Encoding.{fields_of}
 use Rattle.tap_views.specs.declared.encoder.TapFields.{TapFields}
 use Rattle.fare_service.specs.Plain.{IsPlain, unanswered, plain}
-use Rattle.settlement.specs.Canonical.{tap_cmp}
-use Rattle.settlement.specs.Settled.{joined}
+use Rattle.tap_parts.specs.Canonical.{tap_cmp}
+use Rattle.tap_parts.specs.Parts.{joined}
 use Rattle.settlement.proofs.Histories.{same_after}
 use Rattle.settlement.proofs.Own.{IsNamedBy}
 use Rattle.settlement.proofs.Same.{part_fields, sum_filter}
 use Rattle.settlement.proofs.Told.{fields_named, same_plain}
-use Rattle.settlement.proofs.Total.{tap_cmp_total, tap_cmp_exact}
+use Rattle.tap_parts.proofs.Total.{tap_cmp_total, tap_cmp_exact}
 use Rattle.settlement.proofs.Unique.{same_sorted}
 use Rattle.fare_service.proofs.PlainFields.{plain_fields}
 use Rattle.fare_service.proofs.PlainLists.{flat_alone, mapped_at, same_elements, filter-filter}

@@ -14,7 +14,7 @@ use Rattle.tap_parts.specs.Parts.{part_of_token, of_part}
 use Rattle.upload_parts.specs.Split.{HasTaps, IsPartFile}
 use Rattle.fare_service.specs.Plain.{AreTapsOf, AreTapsOfEach, HasOneCut}
 use Rattle.fare_service.proofs.PlainRuns.{AllZip-append}
-use Rattle.settlement.specs.Settled.{joined}
+use Rattle.tap_parts.specs.Parts.{joined}
 use Rattle.settlement.proofs.Histories.{read_fields}
 use Rattle.settlement.proofs.Same.{one_list}
 

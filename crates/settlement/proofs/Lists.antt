@@ -11,7 +11,7 @@ use Rattle.fare_service.specs.Plain.{AreTapsOf, IsPlainEnd}
 use Rattle.fare_service.specs.declared.upload_end.UploadEnd.{UploadEnd}
 use Rattle.fare_service.proofs.PlainRuns.{AllZip-append}
 use Rattle.settlement.specs.inside.Dealt.{AreDealt, in_part}
-use Rattle.settlement.specs.Settled.{joined}
+use Rattle.tap_parts.specs.Parts.{joined}
 
 -- the taps of a part in two runs of uploads
 parts_joined : (part parts : ℕ) (one other : List (List Tap))

@@ -14,12 +14,12 @@ use Rattle.shard_book.specs.Entry.{is_of, own}
 use Rattle.shard_book.specs.Keys.{same_token}
 use Rattle.shard_book.specs.Token.{bytes_of, token_eq}
 use Rattle.fare_service.specs.Plain.{token_of, unanswered}
-use Rattle.settlement.specs.Canonical.{tap_cmp}
+use Rattle.tap_parts.specs.Canonical.{tap_cmp}
 use Rattle.settlement.proofs.Histories.{entry_of}
 use Rattle.settlement.proofs.Placed.{Pairs, NotLess, Rises}
 use Rattle.settlement.proofs.Same.{sum_filter}
 use Rattle.settlement.proofs.Sorting.{sorted_by_pairs}
-use Rattle.settlement.proofs.Total.{tap_cmp_total, tap_cmp_exact}
+use Rattle.tap_parts.proofs.Total.{tap_cmp_total, tap_cmp_exact}
 use Rattle.settlement.proofs.Unique.{AreAlike, same_sorted}
 
 -- the fields' token is the one that its bytes name

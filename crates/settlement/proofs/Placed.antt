@@ -20,11 +20,12 @@ use Rattle.tap_views.specs.declared.encoder.TapFields.{TapFields}
 use Rattle.tap_parts.specs.Parts.{part_of_token, of_part}
 use Rattle.fare_service.specs.Plain.{AreTapsOf, AreTapsOfEach, AreApart, HasOneCut}
 use Rattle.fare_service.specs.declared.upload_end.UploadEnd.{UploadEnd}
-use Rattle.settlement.specs.Canonical.{tap_cmp}
-use Rattle.settlement.specs.Settled.{joined, IsPartFile, IsSettled}
+use Rattle.tap_parts.specs.Canonical.{tap_cmp}
+use Rattle.settlement.specs.Settled.{IsPartFile, IsSettled}
+use Rattle.tap_parts.specs.Parts.{joined}
 use Rattle.settlement.proofs.Histories.{read_fields}
 use Rattle.settlement.proofs.Same.{part_fields}
-use Rattle.settlement.proofs.Total.{tap_cmp_total, tap_cmp_exact}
+use Rattle.tap_parts.proofs.Total.{tap_cmp_total, tap_cmp_exact}
 use Rattle.settlement.proofs.Unique.{tail}
 
 -- R holds of each element and each later one

@@ -20,8 +20,9 @@ use Rattle.fare_service.specs.Text.{report, validators_part, tokens_part}
 use Rattle.fare_texts.specs.Counts.{totals_line}
 use Rattle.fare_service.proofs.PlainReplies.{bare, plain_bare, plain_legal}
 use Rattle.settlement.specs.Alike.{DifferInUploads, HaveSameTaps}
-use Rattle.settlement.specs.Canonical.{tap_cmp}
-use Rattle.settlement.specs.Settled.{joined, IsSettledHistory}
+use Rattle.tap_parts.specs.Canonical.{tap_cmp}
+use Rattle.settlement.specs.Settled.{IsSettledHistory}
+use Rattle.tap_parts.specs.Parts.{joined}
 use Rattle.settlement.specs.Twins.{HasTwin, IsInTimeOrder}
 use Rattle.settlement.proofs.Histories.{same_after}
 use Rattle.settlement.proofs.Own.{IsNamedBy}
@@ -30,7 +31,7 @@ use Rattle.settlement.proofs.Same.{one_list}
 use Rattle.settlement.proofs.Sorting.{canonical_order}
 use Rattle.settlement.proofs.Stale.{before_rises, fields, has_twin, same_fields}
 use Rattle.settlement.proofs.Told.{fields_named}
-use Rattle.settlement.proofs.Total.{tap_cmp_total, tap_cmp_exact}
+use Rattle.tap_parts.proofs.Total.{tap_cmp_total, tap_cmp_exact}
 use Rattle.settlement.proofs.Unique.{same_sorted}
 
 pub same_history : (fares : Fares) (uploads others : List (List ℕ)) (history again : List Entry)

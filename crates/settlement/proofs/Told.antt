@@ -34,7 +34,8 @@ use Rattle.fare_service.proofs.PlainReplies.{bare, own_bare, plain_bare, plain_l
 use Rattle.fare_service.proofs.PlainSums.{AllHere, RisingNumbers, RisingTokens, own_all, same_sums}
 use Rattle.fare_service.proofs.PlainSums.{same_entries, same_by_validator, same_by_token}
 use Rattle.fare_service.proofs.PlainUploads.{AllNamed, same_statement, statement_same}
-use Rattle.settlement.specs.Settled.{joined, IsSettled}
+use Rattle.settlement.specs.Settled.{IsSettled}
+use Rattle.tap_parts.specs.Parts.{joined}
 use Rattle.settlement.specs.Told.{TellsSettled}
 use Rattle.settlement.proofs.Histories.{read_fields}
 use Rattle.settlement.proofs.Own.{IsNamedBy, same_own}

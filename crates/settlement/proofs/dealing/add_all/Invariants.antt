@@ -3,7 +3,7 @@ use Rattle.std.specs.Vec.Iter.{into_iter_items, into_iter_len}
 use Rattle.tap_views.specs.Layout.{Tap}
 use Rattle.tap_parts.specs.Parts.{AreAdded}
 use Rattle.fare_service.specs.Plain.{AreTapsOfEach, ArePlainEnds}
-use Rattle.settlement.specs.Settled.{joined}
+use Rattle.tap_parts.specs.Parts.{joined}
 use Rattle.settlement.proofs.dealing.add_all.Given as goal
 
 abbrev pub invariant-loop-upload : goal.invariant-loop-upload

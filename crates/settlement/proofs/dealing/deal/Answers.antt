@@ -5,7 +5,7 @@ use Rattle.tap_views.specs.Encoding.{fields_of}
 use Rattle.tap_views.specs.declared.encoder.TapFields.{TapFields}
 use Rattle.tap_parts.specs.Parts.{of_part}
 use Rattle.settlement.specs.inside.Dealt.{AreDealt}
-use Rattle.settlement.specs.Settled.{joined}
+use Rattle.tap_parts.specs.Parts.{joined}
 use Rattle.settlement.proofs.Files.{bytes_in}
 use Rattle.settlement.proofs.dealing.deal.Goals as goal
 

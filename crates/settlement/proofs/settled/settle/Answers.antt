@@ -5,7 +5,8 @@ use Rattle.tap_views.specs.Encoding.{fields_of, AreEarly}
 use Rattle.tap_views.specs.declared.encoder.TapFields.{TapFields}
 use Rattle.tap_parts.specs.Parts.{of_part}
 use Rattle.settlement.specs.inside.Dealt.{in_part}
-use Rattle.settlement.specs.Settled.{IsPartFile, joined}
+use Rattle.settlement.specs.Settled.{IsPartFile}
+use Rattle.tap_parts.specs.Parts.{joined}
 use Rattle.settlement.proofs.Early.{part_early}
 use Rattle.settlement.proofs.Files.{bytes_in, there_below, zip_length, zip_there}
 use Rattle.settlement.proofs.Placed.{all_by}

@@ -4,8 +4,8 @@ use Rattle.tap_views.specs.Encoding.{AreEarly, fields_of}
 use Rattle.tap_views.specs.Layout.{moment_limit}
 use Rattle.tap_views.specs.declared.encoder.TapFields.{TapFields}
 use Rattle.tap_parts.specs.Parts.{IsFileOf, of_part}
-use Rattle.upload_parts.specs.Order.{IsCanonical}
-use Rattle.upload_parts.specs.Split.{joined}
+use Rattle.tap_parts.specs.Canonical.{IsCanonical}
+use Rattle.tap_parts.specs.Parts.{joined}
 use Rattle.upload_parts.proofs.split.Split.file.Goals as goal
 
 pub text_of-requires : goal.text_of-requires
