@@ -4,8 +4,8 @@ use Rattle.tap_views.proofs.Deciding.{rows_before}
 use Rattle.tap_views.proofs.Numbers.{number_read}
 use Rattle.tap_views.proofs.batch.count_of.Goals as goal
 
-pub returns-then-count-gt-MAX_TAPS-clause-fault : goal.returns-then-count-gt-MAX_TAPS-clause-fault
-returns-then-count-gt-MAX_TAPS-clause-fault c =
+pub returns-then-count-clause-fault : goal.returns-then-count-clause-fault
+returns-then-count-clause-fault c =
     let bytes = c.args.bytes.now in
     let flags : c.read_u16.result ≡ flags_in bytes =
     c.read_u16.ensures ∙ number_read 2 (take 2 (drop 6 bytes)) (search rules) in

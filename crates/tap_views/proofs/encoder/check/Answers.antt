@@ -15,7 +15,7 @@ loop-i-preserved g c =
 
 pub returns-clause-ok : goal.returns-clause-ok
 returns-clause-ok g c = (
-  c.if-taps.false,
+  c.if-taps-gt-MAX_TAPS.false,
   rw (← take_all c.loop-i.i c.args.taps.now c.loop-i-test.false)
       c.loop-i.invariant,
 )
