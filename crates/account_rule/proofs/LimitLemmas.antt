@@ -1,5 +1,7 @@
 -- What rides cost by their places in a window, and that no window exceeds its limits.
-use Rattle.std.proofs.Common.{◌≡◌, ℕ, zero, suc, ◌+◌, ◌-◌, ◌*◌, ◌<◌, ◌≤◌, true, false, ◌||◌, ◌⊎◌, cond, List, length, min, leb, ltb, refl, sym, ap, ◌∙◌, inl, inr, ⊎_elim, arith, All}
+use Rattle.std.proofs.Common.{◌≡◌, ℕ, zero, suc, ◌+◌, ◌-◌, ◌*◌, ◌<◌, ◌≤◌, true, false, ◌||◌, ◌⊎◌}
+use Rattle.std.proofs.Common.{cond, List, length, min, leb, ltb, refl, sym, ap, ◌∙◌, inl, inr}
+use Rattle.std.proofs.Common.{⊎_elim, arith, All}
 use Rattle.std.proofs.lemmas.Bool.{cases_Bool, cases_lt, leb-false, or_parts}
 use Rattle.fare_table.specs.declared.terms.Terms.{Terms}
 use Rattle.account_rule.specs.Windows.{charge, paid_rides, ride_cents}
@@ -15,7 +17,8 @@ pub charged : (terms : Terms) (place : ℕ) → (charge terms place ≡ 0) ⊎ I
 unfolding charge
 charged terms place =
     ⊎_elim
-    (λ (h : (leb terms.rides place || leb terms.ceiling (place * terms.fare)) ≡ true). inl (rw h refl))
+    (λ (h : (leb terms.rides place || leb terms.ceiling (place * terms.fare)) ≡ true).
+    inl (rw h refl))
     (λ (h : (leb terms.rides place || leb terms.ceiling (place * terms.fare)) ≡ false).
     let parts = or_parts _ _ h in inr (record {
       below_rides = leb-false _ _ parts.0;
@@ -25,16 +28,22 @@ charged terms place =
     (cases_Bool (leb terms.rides place || leb terms.ceiling (place * terms.fare)))
 
 pub charge-le : (terms : Terms) (place : ℕ) → charge terms place ≤ terms.fare
-charge-le terms place = elim (charged terms place) [ inl free ↦ omega arith | inr paid ↦ omega (arith, paid.cost) ]
+charge-le terms place = elim (charged terms place)
+    [ inl free ↦ omega arith | inr paid ↦ omega (arith, paid.cost) ]
 
 free_from : (terms : Terms) (place : ℕ) → terms.rides ≤ place → charge terms place ≡ 0
-free_from terms place past = elim (charged terms place) [ inl free ↦ free | inr paid ↦ absurd (omega (arith, paid.below_rides)) ]
+free_from terms place past =
+    elim (charged terms place)
+    [ inl free ↦ free | inr paid ↦ absurd (omega (arith, paid.below_rides)) ]
 
 -- past the ride limit all places cost the same
-pub charge-min : (terms : Terms) (place : ℕ) → charge terms (min place terms.rides) ≡ charge terms place
+pub charge-min : (terms : Terms) (place : ℕ)
+    → charge terms (min place terms.rides) ≡ charge terms place
 charge-min terms place = elim (cases_lt place terms.rides) [
-  | inl below ↦ let same : min place terms.rides ≡ place = omega arith in ap (λ n. charge terms n) same
-  | inr past ↦ free_from terms (min place terms.rides) (omega arith) ∙ sym (free_from terms place past)
+  | inl below ↦ let same : min place terms.rides ≡ place = omega arith in
+      ap (λ n. charge terms n) same
+  | inr past ↦ free_from terms (min place terms.rides) (omega arith)
+      ∙ sym (free_from terms place past)
 ]
 
 ride_cents-le_fares : (terms : Terms) (places : ℕ) → ride_cents terms places ≤ places * terms.fare
@@ -55,8 +64,11 @@ paid_rides-le_places : (terms : Terms) (places : ℕ) → paid_rides terms place
 unfolding paid_rides
 paid_rides-le_places terms zero = omega arith
 paid_rides-le_places terms (suc place) =
-    elim (ltb 0 (charge terms place)) as (λ v. paid_rides terms place + cond v 1 0 ≤ suc place)
-    [ true ↦ omega (arith, paid_rides-le_places terms place) | false ↦ omega (arith, paid_rides-le_places terms place) ]
+    elim (ltb 0 (charge terms place)) as (λ v. paid_rides terms place + cond v 1 0 ≤ suc place) [
+      | true ↦ omega (arith, paid_rides-le_places terms place)
+      | false ↦ omega
+          (arith, paid_rides-le_places terms place)
+    ]
 
 pub paid_rides-le_rides : (terms : Terms) (places : ℕ) → paid_rides terms places ≤ terms.rides
 unfolding paid_rides
@@ -64,12 +76,14 @@ paid_rides-le_rides terms zero = omega arith
 paid_rides-le_rides terms (suc place) = elim (charged terms place) [
   | inl free ↦ rw free (omega (arith, paid_rides-le_rides terms place))
   | inr paid ↦
-      elim (ltb 0 (charge terms place)) as (λ v. paid_rides terms place + cond v 1 0 ≤ terms.rides) [
+      elim (ltb 0 (charge terms place)) as
+      (λ v. paid_rides terms place + cond v 1 0 ≤ terms.rides) [
         | true ↦ omega (arith, paid_rides-le_places terms place, paid.below_rides)
         | false ↦ omega (arith, paid_rides-le_rides terms place)
       ]
 ]
 
 -- a fact of every number of rides holds of every window
-pub All-windows : {A : Type 0} (P : ℕ → Type 0) → ((n : ℕ) → P n) → (windows : List (List A)) → All (λ window. P (length window)) windows
+pub All-windows : {A : Type 0} (P : ℕ → Type 0) → ((n : ℕ) → P n) → (windows : List (List A))
+    → All (λ window. P (length window)) windows
 All-windows P every windows = λ k d _. every _

@@ -1,5 +1,6 @@
 -- The window that an account keeps, and the window of the rule.
-use Rattle.std.proofs.Common.{◌≡◌, ℕ, suc, ◌+◌, ◌-◌, ◌≤◌, true, false, cond, List, [], ◌∷◌, ◌++◌, length, min, ltb, Some, option_map, IfSome, refl, ap, arith}
+use Rattle.std.proofs.Common.{◌≡◌, ℕ, suc, ◌+◌, ◌-◌, ◌≤◌, true, false, cond, List, [], ◌∷◌, ◌++◌}
+use Rattle.std.proofs.Common.{length, min, ltb, Some, option_map, IfSome, refl, ap, arith}
 use Rattle.fare_table.specs.Terms.{HasLimits}
 use Rattle.account_rule.specs.Rules.{Rules}
 use Rattle.account_rule.specs.inside.Kept.{IsRoomy, open_window, shown_of, window_at, with_ride}
@@ -17,12 +18,14 @@ counted rides limit = omega arith
 
 -- a window with one more ride, or a window of that ride alone
 abbrev pub after_ride : Rules → List LiveTap → LiveTap → List LiveTap
-after_ride rules window ride = cond (is_within rules.until window ride) (window ++ ride ∷ []) (ride ∷ [])
+after_ride rules window ride =
+    cond (is_within rules.until window ride) (window ++ ride ∷ []) (ride ∷ [])
 
 -- the numbers of the window after a ride are those before it with the ride counted
 pub window_of-after : (rules : Rules) (window : List LiveTap) (ride : LiveTap)
     → window_of rules (after_ride rules window ride)
-    ≡ Some (with_ride rules.terms (window_at (window_of rules window) ride.moment (rules.until ride.moment)))
+    ≡ Some (with_ride rules.terms
+    (window_at (window_of rules window) ride.moment (rules.until ride.moment)))
 unfolding window_of window_at with_ride open_window is_within paid_rides ride_cents
 window_of-after rules [] ride = refl
 window_of-after rules (first ∷ window) ride =
@@ -35,14 +38,19 @@ window_of-after rules (first ∷ window) ride =
       paid = paid_rides rules.terms (suc (length window));
       cents = ride_cents rules.terms (suc (length window));
     }) (open_window ride.moment (rules.until ride.moment))))) [
-      | true ↦ rw (length-push window ride, charge-min rules.terms (suc (length window)), counted (suc (length window)) rules.terms.rides) refl
+      | true ↦ rw (
+        length-push window ride,
+        charge-min rules.terms (suc (length window)),
+        counted (suc (length window)) rules.terms.rides,
+      ) refl
       | false ↦ refl
     ]
 
 -- the ride's place in its window costs what the counted rides say
 pub charge-after : (rules : Rules) (window : List LiveTap) (ride : LiveTap)
     → charge rules.terms (length (after_ride rules window ride) - 1)
-    ≡ charge rules.terms (window_at (window_of rules window) ride.moment (rules.until ride.moment)).rides
+    ≡ charge rules.terms
+    (window_at (window_of rules window) ride.moment (rules.until ride.moment)).rides
 unfolding window_of window_at open_window is_within
 charge-after rules [] ride = refl
 charge-after rules (first ∷ window) ride =
@@ -56,7 +64,8 @@ charge-after rules (first ∷ window) ride =
       cents = ride_cents rules.terms (suc (length window));
     }) (open_window ride.moment (rules.until ride.moment))).rides) [
       | true ↦ rw (charge-min rules.terms (suc (length window)))
-          (let place : suc (length (window ++ ride ∷ [])) - 1 ≡ suc (length window) = omega (arith, length-push window ride) in
+          (let place : suc (length (window ++ ride ∷ [])) - 1
+          ≡ suc (length window) = omega (arith, length-push window ride) in
           ap (λ n. charge rules.terms n) place)
       | false ↦ refl
     ]
@@ -91,17 +100,20 @@ roomy rules (first ∷ window) moment until limits =
     ]
 
 -- what is seen of the kept window is what the rule shows, within both limits
-pub shown_window-of : (rules : Rules) (window : List LiveTap) → option_map shown_of (window_of rules window) ≡ shown_window rules window
+pub shown_window-of : (rules : Rules) (window : List LiveTap)
+    → option_map shown_of (window_of rules window) ≡ shown_window rules window
 unfolding window_of shown_of shown_window
 shown_window-of rules [] = refl
 shown_window-of rules (first ∷ window) = refl
 
-pub paid-shown : (rules : Rules) (window : List LiveTap) → IfSome (shown_window rules window) (λ shown. shown.paid ≤ rules.terms.rides)
+pub paid-shown : (rules : Rules) (window : List LiveTap)
+    → IfSome (shown_window rules window) (λ shown. shown.paid ≤ rules.terms.rides)
 unfolding shown_window
 paid-shown rules [] = tt
 paid-shown rules (first ∷ window) = paid_rides-le_rides rules.terms (suc (length window))
 
-pub cents-shown : (rules : Rules) (window : List LiveTap) → IfSome (shown_window rules window) (λ shown. shown.cents ≤ rules.terms.ceiling)
+pub cents-shown : (rules : Rules) (window : List LiveTap)
+    → IfSome (shown_window rules window) (λ shown. shown.cents ≤ rules.terms.ceiling)
 unfolding shown_window
 cents-shown rules [] = tt
 cents-shown rules (first ∷ window) = ride_cents-le_ceiling rules.terms (suc (length window))

@@ -1,3 +1,4 @@
+-- The chains of a token's live taps, and which of their taps are rides.
 use Rattle.std.specs.Prelude.{ℕ, zero, suc, ◌-◌, Bool, true, false, not, ◌&&◌, List, [], ◌∷◌}
 use Rattle.std.specs.Prelude.{length, nat_le}
 use Rattle.std.specs.List.{flat_map}
@@ -33,6 +34,7 @@ evens (x ∷ _ ∷ xs) = x ∷ evens xs
 unfoldable pub rides : Rules → List TapIn → List LiveTap
 rides rules taps = flat_map evens (chains rules taps)
 
+-- the number is even
 unfoldable pub is_even : ℕ → Bool
 is_even zero = true
 is_even (suc n) = not (is_even n)

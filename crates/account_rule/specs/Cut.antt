@@ -1,8 +1,7 @@
-use Rattle.std.specs.Prelude.{◌≡◌, Bool, false, if◌then◌else◌, IsTrue, List, [], ◌∷◌, ◌++◌, ⊤}
-use Rattle.std.specs.List.{flat_map}
-
 -- A list cut into blocks of consecutive elements, by a test that says whether an element joins the
 -- block that stands before it. An element that does not join opens the next block.
+use Rattle.std.specs.Prelude.{◌≡◌, Bool, false, if◌then◌else◌, IsTrue, List, [], ◌∷◌, ◌++◌, ⊤}
+use Rattle.std.specs.List.{flat_map}
 
 -- the blocks of a list whose first block has begun
 unfoldable pub cut_from : {A : Type 0} → (List A → A → Bool) → List A → List A → List (List A)
@@ -23,14 +22,14 @@ last_block (block ∷ []) = block
 last_block (_ ∷ next ∷ blocks) = last_block (next ∷ blocks)
 
 -- each element joins the block and the elements before it
-unfoldable pub AreJoined : {A : Type 0} → (List A → A → Bool) → List A → List A → Type 0
-AreJoined joins block [] = ⊤
-AreJoined joins block (x ∷ xs) = IsTrue (joins block x) × AreJoined joins (block ++ x ∷ []) xs
+unfoldable pub EachJoins : {A : Type 0} → (List A → A → Bool) → List A → List A → Type 0
+EachJoins joins block [] = ⊤
+EachJoins joins block (x ∷ xs) = IsTrue (joins block x) × EachJoins joins (block ++ x ∷ []) xs
 
 -- the block has an element, and each further one joins those before it
 unfoldable pub IsBlock : {A : Type 0} → (List A → A → Bool) → List A → Type 0
 IsBlock joins [] = ⊥
-IsBlock joins (x ∷ xs) = AreJoined joins (x ∷ []) xs
+IsBlock joins (x ∷ xs) = EachJoins joins (x ∷ []) xs
 
 -- the list's first element does not join the block
 unfoldable pub IsApart : {A : Type 0} → (List A → A → Bool) → List A → List A → Type 0
@@ -45,7 +44,7 @@ AreBlocks joins (block ∷ next ∷ blocks) =
     IsBlock joins block × IsApart joins block next × AreBlocks joins (next ∷ blocks)
 
 -- the blocks are the list, cut where an element does not join
-pub record IsCut {A : Type 0} (joins : List A → A → Bool) (xs : List A) (blocks : List (List A))
+pub record IsCutBy {A : Type 0} (joins : List A → A → Bool) (xs : List A) (blocks : List (List A))
     : Type 0 where
   pub whole : flat_map (λ block. block) blocks ≡ xs
   pub apart : AreBlocks joins blocks

@@ -1,3 +1,4 @@
+-- What an account keeps, and what its private functions make of it.
 use Rattle.std.specs.Prelude.{◌≡◌, ℕ, Bool, true, if◌then◌else◌, nat_lt, Option, Some, None}
 use Rattle.std.specs.Prelude.{option_map}
 use Rattle.fare_table.specs.Terms.{HasLimits}
@@ -6,8 +7,6 @@ use Rattle.fare_table.specs.declared.terms.Terms.{Terms}
 use Rattle.account_rule.specs.declared.account.Account.{Account}
 use Rattle.account_rule.specs.declared.window.Window.{Window}
 use Rattle.account_rule.specs.Taps.{LiveTap, live_at}
-
--- What an account keeps, and what its private functions make of it.
 
 -- what is kept from the first live tap on, which is a ride and so opens a window
 pub record State : Type 0 where
@@ -20,8 +19,8 @@ pub record State : Type 0 where
   pub window : Window
 
 -- what stands in the account's fields
-abbrev pub fields_of : Account → State
-fields_of account =
+abbrev pub state_of : Account → State
+state_of account =
     record {
       last = account.last;
       giver = account.giver;
@@ -31,7 +30,7 @@ fields_of account =
 
 -- what the account keeps, if it has seen a live tap
 unfoldable pub kept_of : Account → Option State
-kept_of account = if account.has_window then Some (fields_of account) else None
+kept_of account = if account.has_window then Some (state_of account) else None
 
 -- whether the moment is after the last live tap's
 unfoldable pub is_after : Option State → ℕ → Bool

@@ -1,3 +1,4 @@
+-- What holds of the chains and the windows of every list of taps.
 use Rattle.std.specs.Prelude.{◌≡◌, ◌↔◌, ℕ, zero, suc, ◌≤◌, Bool, true, false, List, [], ◌∷◌, ◌++◌}
 use Rattle.std.specs.Prelude.{length, filter, All, sum_by, count_by}
 use Rattle.std.specs.List.{flat_map}
@@ -8,7 +9,7 @@ use Rattle.account_rule.specs.declared.reply.Answer.TheVariants.{Unknown}
 use Rattle.account_rule.specs.declared.reply.Reply.{Reply}
 use Rattle.account_rule.specs.declared.tap.TapIn.{TapIn}
 use Rattle.account_rule.specs.Chains.{continues, chains, rides}
-use Rattle.account_rule.specs.Cut.{IsCut}
+use Rattle.account_rule.specs.Cut.{IsCutBy}
 use Rattle.account_rule.specs.Replies.{replies, ride_reply}
 use Rattle.account_rule.specs.Rules.{Rules}
 use Rattle.account_rule.specs.Taps.{LiveTap, live}
@@ -18,13 +19,13 @@ use Rattle.account_rule.specs.Windows.{charge, is_within, windows, paid_rides, r
 abbrev pub ChainsAreTheOnlyCut : Type 0
 ChainsAreTheOnlyCut =
     (rules : Rules) (taps : List TapIn) (blocks : List (List LiveTap))
-    → IsCut (continues rules.permits) (live taps) blocks ↔ (blocks ≡ chains rules taps)
+    → IsCutBy (continues rules.permits) (live taps) blocks ↔ (blocks ≡ chains rules taps)
 
 -- the windows are the only blocks into which limits cut the rides
 abbrev pub WindowsAreTheOnlyCut : Type 0
 WindowsAreTheOnlyCut =
     (rules : Rules) (taps : List TapIn) (blocks : List (List LiveTap))
-    → IsCut (is_within rules.until) (rides rules taps) blocks ↔ (blocks ≡ windows rules taps)
+    → IsCutBy (is_within rules.until) (rides rules taps) blocks ↔ (blocks ≡ windows rules taps)
 
 -- no window has more paid rides than the terms allow
 abbrev pub WindowsKeepTheRideLimit : Type 0
@@ -40,6 +41,7 @@ WindowsKeepTheCeiling =
     → All (λ window. ride_cents rules.terms (length window) ≤ rules.terms.ceiling)
     (windows rules taps)
 
+-- whether the reply is to a ride that costs something
 abbrev pub is_paid : Reply → Bool
 is_paid reply = is_paid_answer reply.answer
   where

@@ -14,7 +14,7 @@ use Rattle.account_rule.specs.declared.reply.Reply.{Reply}
 use Rattle.account_rule.specs.declared.tap.TapIn.{TapIn}
 use Rattle.account_rule.specs.Chains.{ends_in_transfer}
 use Rattle.account_rule.specs.Cut.{last_block}
-use Rattle.account_rule.specs.Replies.{reply, reply_of, ride_reply}
+use Rattle.account_rule.specs.Replies.{reply, reply_with, ride_reply}
 use Rattle.account_rule.specs.Rules.{Rules}
 use Rattle.account_rule.specs.Taps.{LiveTap, is_later, live, live_at}
 use Rattle.account_rule.specs.Windows.{windows}
@@ -67,9 +67,9 @@ charged_by RideLimitReached = 0
 
 -- the reply that follows from the reason
 abbrev pub replied_by : Reason → Reply
-replied_by Unknown = reply_of answer.Unknown 0
-replied_by (Stale moment) = reply_of answer.Stale 0
-replied_by (Transfer moment mode) = reply_of answer.Transfer 0
+replied_by Unknown = reply_with answer.Unknown 0
+replied_by (Stale moment) = reply_with answer.Stale 0
+replied_by (Transfer moment mode) = reply_with answer.Transfer 0
 replied_by (Ride start until charge) = ride_reply (charged_by charge)
 
 -- each reply is the one that follows from the reason

@@ -1,3 +1,4 @@
+-- What the rule takes from a fare table for the taps of one token.
 use Rattle.std.specs.Prelude.{ℕ, Bool, List, length}
 use Rattle.fare_table.specs.declared.mode.Mode.{Mode}
 use Rattle.fare_table.specs.declared.terms.Terms.{Terms}

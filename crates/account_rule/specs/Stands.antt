@@ -1,3 +1,4 @@
+-- For which lists of taps an account stands.
 use Rattle.std.specs.Prelude.{◌≡◌, ℕ, ◌<◌, List, [], ◌∷◌, length, min, Option, Some, None}
 use Rattle.std.specs.Option.{ForSome}
 use Rattle.account_rule.specs.declared.account.Account.{Account}

@@ -1,11 +1,10 @@
+-- A list of taps is all taps of one token, in the order in which they were posted.
 use Rattle.std.specs.Prelude.{ℕ, Bool, if◌then◌else◌, List, [], ◌∷◌, ◌++◌, Option, None, is_some}
 use Rattle.std.specs.Prelude.{option_map, filter, nat_lt}
 use Rattle.std.specs.List.{list_all}
 use Rattle.std.specs.Option.{option_to_list}
 use Rattle.fare_table.specs.declared.mode.Mode.{Mode}
 use Rattle.account_rule.specs.declared.tap.TapIn.{TapIn}
-
--- A list of taps is all taps of one token, in the order in which they were posted.
 
 -- whether the moment is greater than the moments of all known taps of the list
 unfoldable pub is_later : List TapIn → ℕ → Bool
@@ -18,6 +17,7 @@ pub record LiveTap : Type 0 where
   pub moment : ℕ
   pub mode : Mode
 
+-- the live tap of this moment and mode
 unfoldable pub live_at : ℕ → Mode → LiveTap
 live_at moment mode = record { moment = moment; mode = mode }
 

@@ -1,3 +1,4 @@
+-- The windows of a token's rides, and what the rides of a window cost.
 use Rattle.std.specs.Prelude.{ℕ, zero, suc, ◌+◌, ◌-◌, ◌*◌, Bool, false, ◌||◌, if◌then◌else◌, List}
 use Rattle.std.specs.Prelude.{[], ◌∷◌, length, min, nat_lt, nat_le, Option, Some, None}
 use Rattle.fare_table.specs.declared.terms.Terms.{Terms}

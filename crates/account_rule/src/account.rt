@@ -1,3 +1,5 @@
+//! The account of one token: what it keeps, and its step.
+
 ghost use Rattle.std.specs.Prelude.{◌≡◌, ℕ, ◌<◌, ◌≤◌, List, [], ◌∷◌, ◌++◌, length, option_map};
 ghost use Rattle.std.specs.Prelude.{IfSome, Some};
 ghost use Rattle.std.specs.Option.{ForSome};
@@ -38,6 +40,7 @@ pub struct Account {
     giver: Option<Mode>,
     /// The token's terms, so that the table is asked for them once.
     terms: Terms,
+    /// The last window.
     window: Window,
 }
 

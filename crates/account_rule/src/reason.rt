@@ -13,17 +13,23 @@ pub enum Reason {
     Unknown,
     /// A known tap before it is not earlier. The latest of these was at this moment.
     Stale {
+        /// That moment, in milliseconds since 1970-01-01T00:00Z.
         latest: u64,
     },
     /// The ride at this moment, on this mode, includes it: it is the last live tap before it.
     Transfer {
+        /// The moment of the ride, in milliseconds since 1970-01-01T00:00Z.
         moment: u64,
+        /// The mode of the ride.
         mode: Mode,
     },
     /// It is a ride of the window that its first ride opened at `start` and that ends at `until`.
     Ride {
+        /// The moment of the window's first ride, in milliseconds since 1970-01-01T00:00Z.
         start: u64,
+        /// The moment from which on a ride opens the next window.
         until: u64,
+        /// What decides the cents.
         charge: Charge,
     },
 }
@@ -32,11 +38,24 @@ pub enum Reason {
 #[derive(Clone, Copy, Debug, PartialEq, Eq)]
 pub enum Charge {
     /// The ceiling leaves a whole fare.
-    Full { place: u32, cents: u32 },
+    Full {
+        /// The place of the ride in its window.
+        place: u32,
+        /// The fare.
+        cents: u32,
+    },
     /// The ceiling leaves less than a fare, and that is charged.
-    CeilingCut { place: u32, cents: u32 },
+    CeilingCut {
+        /// The place of the ride in its window.
+        place: u32,
+        /// What the ceiling leaves.
+        cents: u32,
+    },
     /// As many fares as there are rides before it reach the ceiling.
-    CeilingReached { place: u32 },
+    CeilingReached {
+        /// The place of the ride in its window.
+        place: u32,
+    },
     /// The window has had all the rides that may be charged.
     RideLimitReached,
 }
@@ -57,7 +76,7 @@ impl Charge {
 
 impl Reason {
     /// The reply that a tap with this reason has.
-    #[tactic(auto, unfolding(crate::specs::Replies::reply_of))]
+    #[tactic(auto, unfolding(crate::specs::Replies::reply_with))]
     pub fn reply(self) -> Reply
         ensures { result ≡ replied_by self }
     {

@@ -1,5 +1,7 @@
+//! The reply to a tap.
+
 ghost use Rattle.std.specs.Prelude.{◌≡◌};
-ghost use Rattle.account_rule.specs.Replies.{reply_of, ride_reply};
+ghost use Rattle.account_rule.specs.Replies.{reply_with, ride_reply};
 
 /// What became of a tap.
 #[derive(Clone, Copy, Debug, PartialEq, Eq)]
@@ -27,15 +29,15 @@ pub struct Reply {
 
 impl Reply {
     /// A reply that costs nothing.
-    #[tactic(auto, unfolding(crate::specs::Replies::reply_of))]
+    #[tactic(auto, unfolding(crate::specs::Replies::reply_with))]
     pub(crate) fn free(answer: Answer) -> Self
-        ensures { result ≡ reply_of answer 0 }
+        ensures { result ≡ reply_with answer 0 }
     {
         Reply { answer, cents: 0 }
     }
 
     /// The reply to a ride that costs so much.
-    #[tactic(auto, unfolding(crate::specs::Replies::ride_reply, crate::specs::Replies::reply_of))]
+    #[tactic(auto, unfolding(crate::specs::Replies::ride_reply, crate::specs::Replies::reply_with))]
     pub(crate) fn to_ride(cents: u32) -> Self
         ensures { result ≡ ride_reply cents }
     {

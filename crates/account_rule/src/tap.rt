@@ -1,3 +1,5 @@
+//! A tap, as the rule sees it.
+
 use fare_table::Mode;
 
 /// A tap, as the rule sees it.

@@ -1,3 +1,5 @@
+//! A window of rides, and what its next ride costs.
+
 ghost use Rattle.std.specs.Prelude.{◌≡◌, ◌+◌, ◌*◌, ◌^◌, ◌<◌, ◌≤◌};
 ghost use Rattle.fare_table.specs.Terms.{HasLimits};
 ghost use Rattle.account_rule.specs.inside.Kept.{IsRoomy, next_reason, open_window, shown_of};
@@ -25,8 +27,11 @@ pub struct WindowView {
 /// What an account keeps of its last window.
 #[derive(Clone, Copy, Debug, PartialEq, Eq)]
 pub(crate) struct Window {
+    /// The moment of its first ride, in milliseconds since 1970-01-01T00:00Z.
     pub(crate) start: u64,
+    /// The moment from which on a ride opens the next window.
     pub(crate) until: u64,
+    /// What its rides cost together.
     pub(crate) cents: u32,
     /// How many rides it has, counted up to the limit of the terms and no further.
     pub(crate) rides: u16,

@@ -1,12 +1,16 @@
 -- The mode of a validator is the one that the text's entry which has it names.
-use Rattle.std.proofs.Common.{◌≡◌, ◌⊎◌, ◌↔◌, ℕ, ◌<◌, ◌≤◌, ◌||◌, Bool, true, false, List, [], ◌∷◌, Option, Some, None, Ok, Err, cond, option_map, refl, sym, ap, ◌∙◌, arith, inl, inr, ⊎_elim, zero, suc, codes, le-leb}
+use Rattle.std.proofs.Common.{◌≡◌, ◌⊎◌, ◌↔◌, ℕ, ◌<◌, ◌≤◌, ◌||◌, Bool, true, false, List, [], ◌∷◌}
+use Rattle.std.proofs.Common.{Option, Some, None, Ok, Err, cond, option_map, refl, sym, ap, ◌∙◌}
+use Rattle.std.proofs.Common.{arith, inl, inr, ⊎_elim, zero, suc, codes, le-leb}
 use Rattle.std.proofs.lemmas.Bool.{and_parts, cases_Bool, false≢true, leb-true, or_parts}
 use Rattle.std.specs.BTreeMap.{insert_entry}
 use Rattle.std.specs.List.{find, list_any}
 use Rattle.std.specs.Ordering.{nat_cmp}
 use Rattle.std.specs.Prelude.{pos, nat_le, if◌then◌else◌}
-use Rattle.toml.specs.Data.{Data, Items, no_items, item, Members, string, integer, array, table, as_table, get_member, get_item}
-use Rattle.fare_table.proofs.OverlapLemmas.{chain-insert, comes_after, comes_before, ends_after, free_apart, rest_chain}
+use Rattle.toml.specs.Data.{Data, Items, no_items, item, Members, string, integer, array, table}
+use Rattle.toml.specs.Data.{as_table, get_member, get_item}
+use Rattle.fare_table.proofs.OverlapLemmas.{chain-insert, comes_after, comes_before, ends_after}
+use Rattle.fare_table.proofs.OverlapLemmas.{free_apart, rest_chain}
 use Rattle.fare_table.proofs.PartLemmas.{bind_ok, parts}
 use Rattle.fare_table.proofs.ReadLemmas.{array-read, is_table, number-read, text-read}
 use Rattle.fare_table.specs.Entries.{EntryGives, EntryHas, HasEntry, HasValidator, NamesMode}
@@ -14,8 +18,9 @@ use Rattle.fare_table.specs.Fares.{Fares, has_number, mode_at, range_at}
 use Rattle.fare_table.specs.Members.{are_tables, array_at, number_at, of_kind, text_at}
 use Rattle.fare_table.specs.Modes.{mode_named}
 use Rattle.fare_table.specs.Outcome.{Outcome, ◌>>=◌}
-use Rattle.fare_table.specs.Rules.{Rules, rules_of}
-use Rattle.fare_table.specs.Validators.{is_chain, range_in, range_of, ranges_from, ranges_of, share_number, with_range}
+use Rattle.fare_table.specs.Rules.{TableRules, rules_of_tree}
+use Rattle.fare_table.specs.Validators.{is_chain, range_in, range_of, ranges_from, ranges_of}
+use Rattle.fare_table.specs.Validators.{share_number, with_range}
 use Rattle.fare_table.specs.declared.fault.Key.TheVariants as the_key
 use Rattle.fare_table.specs.declared.fault.TableFault.{TableFault}
 use Rattle.fare_table.specs.declared.fault.TableFault.TheVariants.{Kind, Overlap}
@@ -23,13 +28,15 @@ use Rattle.fare_table.specs.declared.validators.Span.{Span}
 
 -- ---- ranges in a chain, and one more
 -- of two choices that exclude each other the order is free
-swap : {A : Type 0} (a b : Bool) (x y z : A) → (a ≡ true → b ≡ false) → cond a x (cond b y z) ≡ cond b y (cond a x z)
+swap : {A : Type 0} (a b : Bool) (x y z : A) → (a ≡ true → b ≡ false)
+    → cond a x (cond b y z) ≡ cond b y (cond a x z)
 swap true true x y z apart = absurd (false≢true (sym (apart refl)))
 swap true false x y z apart = refl
 swap false b x y z apart = refl
 
 -- ranges that stand apart have no number both
-other_has : (n : ℕ) (one other : ℕ × Span) → one.1.last < other.0 → has_number n one ≡ true → has_number n other ≡ false
+other_has : (n : ℕ) (one other : ℕ × Span) → one.1.last < other.0 → has_number n one ≡ true
+    → has_number n other ≡ false
 other_has n one other ends has = elim (cases_Bool (has_number n other)) [
   | inl both ↦
       let upto = leb-true n one.1.last (and_parts (nat_le one.0 n) (nat_le n one.1.last) has).1 in
@@ -41,26 +48,36 @@ other_has n one other ends has = elim (cases_Bool (has_number n other)) [
 with_one : ℕ × Span → List (ℕ × Span) → List (ℕ × Span)
 with_one range ranges = insert_entry nat_cmp ranges range.0 range.1
 
-found_step : (n : ℕ) (range other : ℕ × Span) (more : List (ℕ × Span)) → range.0 ≤ range.1.last → other.0 ≤ other.1.last → share_number range other ≡ false
-    → find (has_number n) (with_one range more) ≡ cond (has_number n range) (Some range) (find (has_number n) more)
-    → find (has_number n) (with_one range (other ∷ more)) ≡ cond (has_number n range) (Some range) (find (has_number n) (other ∷ more))
+found_step : (n : ℕ) (range other : ℕ × Span) (more : List (ℕ × Span)) → range.0 ≤ range.1.last
+    → other.0 ≤ other.1.last → share_number range other ≡ false
+    → find (has_number n) (with_one range more)
+    ≡ cond (has_number n range) (Some range) (find (has_number n) more)
+    → find (has_number n) (with_one range (other ∷ more))
+    ≡ cond (has_number n range) (Some range) (find (has_number n) (other ∷ more))
 unfolding with_one
 found_step n range other more order further free ih = elim (free_apart range other free) [
   | inl a ↦ rw (comes_before range other order a) refl
-  | inr a ↦ rw (comes_after range other further a, ih) (swap (has_number n other) (has_number n range) (Some other) (Some range) (find (has_number n) more) (other_has n other range a))
+  | inr a ↦ rw (comes_after range other further a, ih)
+      (swap (has_number n other) (has_number n range) (Some other) (Some range)
+      (find (has_number n) more) (other_has n other range a))
 ]
 
--- one more range that shares no number with the others has its numbers, and each other keeps its own
-found_with : (n : ℕ) (range : ℕ × Span) (ranges : List (ℕ × Span)) → range.0 ≤ range.1.last → is_chain ranges ≡ true → list_any (share_number range) ranges ≡ false
-    → find (has_number n) (with_one range ranges) ≡ cond (has_number n range) (Some range) (find (has_number n) ranges)
+-- one more range that shares no number with the others has its numbers, and each other keeps its
+-- own
+found_with : (n : ℕ) (range : ℕ × Span) (ranges : List (ℕ × Span)) → range.0 ≤ range.1.last
+    → is_chain ranges ≡ true → list_any (share_number range) ranges ≡ false
+    → find (has_number n) (with_one range ranges)
+    ≡ cond (has_number n range) (Some range) (find (has_number n) ranges)
 unfolding with_one
 found_with n range [] order chain free = refl
 found_with n range (other ∷ more) order chain free =
     let apart = or_parts (share_number range other) (list_any (share_number range) more) free in
-    found_step n range other more order (ends_after other more chain) apart.0 (found_with n range more order (rest_chain other more chain) apart.1)
+    found_step n range other more order (ends_after other more chain) apart.0
+    (found_with n range more order (rest_chain other more chain) apart.1)
 
 -- ranges that both have a number share it
-both_have : (n : ℕ) (range other : ℕ × Span) → has_number n range ≡ true → has_number n other ≡ true → share_number range other ≡ true
+both_have : (n : ℕ) (range other : ℕ × Span) → has_number n range ≡ true → has_number n other ≡ true
+    → share_number range other ≡ true
 both_have n range other one two =
     let a = and_parts (nat_le range.0 n) (nat_le n range.1.last) one in
     let b = and_parts (nat_le other.0 n) (nat_le n other.1.last) two in
@@ -72,33 +89,44 @@ both_have n range other one two =
     let second : nat_le other.0 range.1.last ≡ true = le-leb _ _ (omega (arith, b0, a1)) in
     rw (first, second) refl
 
-shared_if : (n : ℕ) (range other : ℕ × Span) (more : List (ℕ × Span)) (b : Bool) (found : ℕ × Span) → has_number n range ≡ true → has_number n other ≡ b
-    → cond b (Some other) (find (has_number n) more) ≡ Some found → (find (has_number n) more ≡ Some found → list_any (share_number range) more ≡ true)
+shared_if : (n : ℕ) (range other : ℕ × Span) (more : List (ℕ × Span)) (b : Bool) (found : ℕ × Span)
+    → has_number n range ≡ true → has_number n other ≡ b
+    → cond b (Some other) (find (has_number n) more) ≡ Some found
+    → (find (has_number n) more ≡ Some found → list_any (share_number range) more ≡ true)
     → (share_number range other || list_any (share_number range) more) ≡ true
 shared_if n range other more true found has is at later = rw (both_have n range other has is) refl
-shared_if n range other more false found has is at later = rw (later at) (or_true (share_number range other))
+shared_if n range other more false found has is at later =
+    rw (later at) (or_true (share_number range other))
   where
     or_true : (b : Bool) → (b || true) ≡ true
     or_true true = refl
     or_true false = refl
 
 -- a range with a number shares one with ranges of which one has it
-shares : (n : ℕ) (range found : ℕ × Span) (ranges : List (ℕ × Span)) → has_number n range ≡ true → find (has_number n) ranges ≡ Some found → list_any (share_number range) ranges ≡ true
+shares : (n : ℕ) (range found : ℕ × Span) (ranges : List (ℕ × Span)) → has_number n range ≡ true
+    → find (has_number n) ranges ≡ Some found → list_any (share_number range) ranges ≡ true
 shares n range found [] has at = absurd (cc)
-shares n range found (other ∷ more) has at = shared_if n range other more (has_number n other) found has refl at (shares n range found more has)
+shares n range found (other ∷ more) has at =
+    shared_if n range other more (has_number n other) found has refl at
+    (shares n range found more has)
 
 -- ---- what the entries read as
-pub record AddsRange (earlier : List (ℕ × Span)) (range : ℕ × Span) (ranges : List (ℕ × Span)) : Type 0 where
+pub record AddsRange (earlier : List (ℕ × Span)) (range : ℕ
+    × Span) (ranges : List (ℕ × Span)) : Type 0 where
   pub free : list_any (share_number range) earlier ≡ false
   pub one : ranges ≡ insert_entry nat_cmp earlier range.0 range.1
 
-added_if : (b : Bool) (earlier ranges : List (ℕ × Span)) (range : ℕ × Span) → list_any (share_number range) earlier ≡ b
-    → (if b then Err Overlap else Ok (insert_entry nat_cmp earlier range.0 range.1)) ≡ Ok ranges → AddsRange earlier range ranges
+added_if : (b : Bool) (earlier ranges : List (ℕ × Span)) (range : ℕ × Span)
+    → list_any (share_number range) earlier ≡ b
+    → (if b then Err Overlap else Ok (insert_entry nat_cmp earlier range.0 range.1)) ≡ Ok ranges
+    → AddsRange earlier range ranges
 added_if true earlier ranges range is at = absurd (cc)
 added_if false earlier ranges range is at = record { free = is; one = cc }
 
-pub adds_range : (earlier ranges : List (ℕ × Span)) (range : ℕ × Span) → with_range earlier range ≡ Ok ranges → AddsRange earlier range ranges
-adds_range earlier ranges range is = added_if (list_any (share_number range) earlier) earlier ranges range refl is
+pub adds_range : (earlier ranges : List (ℕ × Span)) (range : ℕ × Span)
+    → with_range earlier range ≡ Ok ranges → AddsRange earlier range ranges
+adds_range earlier ranges range is =
+    added_if (list_any (share_number range) earlier) earlier ranges range refl is
 
 -- what an entry says that reads as a range
 pub record Reads (modes : List (List ℕ)) (value : Data) (range : ℕ × Span) : Type 0 where
@@ -119,13 +147,17 @@ abbrev by_name : List (List ℕ) → ℕ → ℕ → List ℕ → Outcome (ℕ �
 by_name modes first last name = mode_named modes name >>= by_mode first last
 
 abbrev by_last : List (List ℕ) → Members → ℕ → ℕ → Outcome (ℕ × Span)
-by_last modes entry first last = text_at (codes "mode") the_key.ModeName entry >>= by_name modes first last
+by_last modes entry first last =
+    text_at (codes "mode") the_key.ModeName entry >>= by_name modes first last
 
 abbrev by_first : List (List ℕ) → Members → ℕ → Outcome (ℕ × Span)
-by_first modes entry first = number_at (codes "last") the_key.Last first 4_294_967_295 entry >>= by_last modes entry first
+by_first modes entry first =
+    number_at (codes "last") the_key.Last first 4_294_967_295 entry >>= by_last modes entry first
 
-one_range : (first last mode : ℕ) (range : ℕ × Span) → by_mode first last mode ≡ Ok range → (first ≡ range.0) × (last ≡ range.1.last) × (mode ≡ range.1.mode)
-one_range first last mode range is = (ap (first_of first) is, ap (last_of last) is, ap (mode_of mode) is)
+one_range : (first last mode : ℕ) (range : ℕ × Span) → by_mode first last mode ≡ Ok range
+    → (first ≡ range.0) × (last ≡ range.1.last) × (mode ≡ range.1.mode)
+one_range first last mode range is =
+    (ap (first_of first) is, ap (last_of last) is, ap (mode_of mode) is)
   where
     first_of : ℕ → Outcome (ℕ × Span) → ℕ
     first_of d (Ok r) = r.0
@@ -139,12 +171,16 @@ one_range first last mode range is = (ap (first_of first) is, ap (last_of last) 
     mode_of d (Ok r) = r.1.mode
     mode_of d (Err e) = d
 
-reads_table : (modes : List (List ℕ)) (value : Data) (entry : Members) (range : ℕ × Span) → value ≡ table entry → range_of modes entry ≡ Ok range → Reads modes value range
+reads_table : (modes : List (List ℕ)) (value : Data) (entry : Members) (range : ℕ × Span)
+    → value ≡ table entry → range_of modes entry ≡ Ok range → Reads modes value range
 unfolding range_of
 reads_table modes value entry range whole is =
-    let first = bind_ok (number_at (codes "first") the_key.First 0 4_294_967_295 entry) (by_first modes entry) range is in
-    let last = bind_ok (number_at (codes "last") the_key.Last first.0 4_294_967_295 entry) (by_last modes entry first.0) range first.2 in
-    let name = bind_ok (text_at (codes "mode") the_key.ModeName entry) (by_name modes first.0 last.0) range last.2 in
+    let first = bind_ok (number_at (codes "first") the_key.First 0 4_294_967_295 entry)
+    (by_first modes entry) range is in
+    let last = bind_ok (number_at (codes "last") the_key.Last first.0 4_294_967_295 entry)
+    (by_last modes entry first.0) range first.2 in
+    let name = bind_ok (text_at (codes "mode") the_key.ModeName entry)
+    (by_name modes first.0 last.0) range last.2 in
     let mode = bind_ok (mode_named modes name.0) (by_mode first.0 last.0) range name.2 in
     let same = one_range first.0 last.0 mode.0 range mode.2 in
     let from = number-read (codes "first") the_key.First 0 4_294_967_295 entry first.0 first.1 in
@@ -162,35 +198,44 @@ reads_table modes value entry range whole is =
       };
     }
 
-pub reads : (modes : List (List ℕ)) (value : Data) (range : ℕ × Span) → range_in modes value ≡ Ok range → Reads modes value range
+pub reads : (modes : List (List ℕ)) (value : Data) (range : ℕ × Span)
+    → range_in modes value ≡ Ok range → Reads modes value range
 reads modes value range is =
     let entry = bind_ok (of_kind the_key.Validators (as_table value)) (range_of modes) range is in
-    reads_table modes value entry.0 range (is_table value the_key.Validators entry.0 entry.1) entry.2
+    reads_table modes value entry.0 range (is_table value the_key.Validators entry.0 entry.1)
+    entry.2
 
 -- ---- the ranges behind some entries
 -- the item at the place reads as the range
 abbrev pub IsRangeAt : List (List ℕ) → Items → ℕ → ℕ × Span → Type 0
-IsRangeAt modes items place range = (value : Data) × (get_item place items ≡ Some value) × (range_in modes value ≡ Ok range)
+IsRangeAt modes items place range =
+    (value : Data) × (get_item place items ≡ Some value) × (range_in modes value ≡ Ok range)
 
-pub record Steps (modes : List (List ℕ)) (earlier : List (ℕ × Span)) (value : Data) (more : Items) (ranges : List (ℕ × Span)) : Type 0 where
+pub record Steps (modes : List (List ℕ)) (earlier : List (ℕ × Span)) (value : Data) (more : Items)
+    (ranges : List (ℕ × Span)) : Type 0 where
   pub range : ℕ × Span
   pub read : range_in modes value ≡ Ok range
   pub next : List (ℕ × Span)
   pub free : list_any (share_number range) earlier ≡ false
   pub order : range.0 ≤ range.1.last
   pub chain : is_chain next ≡ true
-  pub found : (n : ℕ) → find (has_number n) next ≡ cond (has_number n range) (Some range) (find (has_number n) earlier)
+  pub found : (n : ℕ) → find (has_number n) next
+      ≡ cond (has_number n range) (Some range) (find (has_number n) earlier)
   pub rest : ranges_from modes next more ≡ Ok ranges
 
 abbrev after_range : List (List ℕ) → List (ℕ × Span) → Items → ℕ × Span → Outcome (List (ℕ × Span))
-after_range modes earlier more range = with_range earlier range >>= (λ ranges. ranges_from modes ranges more)
+after_range modes earlier more range =
+    with_range earlier range >>= (λ ranges. ranges_from modes ranges more)
 
-pub step : (modes : List (List ℕ)) (earlier : List (ℕ × Span)) (value : Data) (more : Items) (ranges : List (ℕ × Span))
-    → ranges_from modes earlier (item value more) ≡ Ok ranges → is_chain earlier ≡ true → Steps modes earlier value more ranges
+pub step : (modes : List (List ℕ)) (earlier : List (ℕ × Span)) (value : Data) (more : Items)
+    (ranges : List (ℕ × Span))
+    → ranges_from modes earlier (item value more) ≡ Ok ranges → is_chain earlier ≡ true
+    → Steps modes earlier value more ranges
 unfolding with_one
 step modes earlier value more ranges is chain =
     let one = bind_ok (range_in modes value) (after_range modes earlier more) ranges is in
-    let two = bind_ok (with_range earlier one.0) (λ next. ranges_from modes next more) ranges one.2 in
+    let two = bind_ok (with_range earlier one.0) (λ next. ranges_from modes next more) ranges
+    one.2 in
     let added = adds_range earlier two.0 one.0 two.1 in
     let order = (reads modes value one.0 one.1).order in
     record {
@@ -200,7 +245,8 @@ step modes earlier value more ranges is chain =
       free = added.free;
       order = order;
       chain = rw added.one (chain-insert one.0 earlier order chain added.free);
-      found = λ n. ap (find (has_number n)) added.one ∙ found_with n one.0 earlier order chain added.free;
+      found = λ n. ap (find (has_number n)) added.one
+          ∙ found_with n one.0 earlier order chain added.free;
       rest = two.2;
     }
 
@@ -208,54 +254,77 @@ step modes earlier value more ranges is chain =
 abbrev HasOne : ℕ → List (ℕ × Span) → Type 0
 HasOne n ranges = (found : ℕ × Span) × (find (has_number n) ranges ≡ Some found)
 
-has_if : (b : Bool) (n : ℕ) (range found : ℕ × Span) (next : List (ℕ × Span)) → find (has_number n) next ≡ cond b (Some range) (Some found) → HasOne n next
+has_if : (b : Bool) (n : ℕ) (range found : ℕ × Span) (next : List (ℕ × Span))
+    → find (has_number n) next ≡ cond b (Some range) (Some found) → HasOne n next
 has_if true n range found next is = (range, is)
 has_if false n range found next is = (found, is)
 
 -- an earlier range that has a number is kept
-still : (modes : List (List ℕ)) (n : ℕ) (earlier : List (ℕ × Span)) (items : Items) (ranges : List (ℕ × Span)) (found : ℕ × Span) → ranges_from modes earlier items ≡ Ok ranges → is_chain earlier ≡ true
+still : (modes : List (List ℕ)) (n : ℕ) (earlier : List (ℕ × Span)) (items : Items)
+    (ranges : List (ℕ × Span)) (found : ℕ × Span) → ranges_from modes earlier items ≡ Ok ranges
+    → is_chain earlier ≡ true
     → find (has_number n) earlier ≡ Some found → find (has_number n) ranges ≡ Some found
-still modes n earlier no_items ranges found is chain at = let same : earlier ≡ ranges = cc in rw (← same) at
+still modes n earlier no_items ranges found is chain at = let same : earlier ≡ ranges = cc in
+    rw (← same) at
 still modes n earlier (item value more) ranges found is chain at =
     let s = step modes earlier value more ranges is chain in
     elim (cases_Bool (has_number n s.range)) [
       | inl both ↦ absurd (false≢true (sym s.free ∙ shares n s.range found earlier both at))
-      | inr none ↦ still modes n s.next more ranges found s.rest s.chain (s.found n ∙ ap (λ b. cond b (Some s.range) (find (has_number n) earlier)) none ∙ at)
+      | inr none ↦ still modes n s.next more ranges found s.rest s.chain (s.found n
+          ∙ ap (λ b. cond b (Some s.range) (find (has_number n) earlier)) none ∙ at)
     ]
 
 -- what an entry reads as, and that it is found by its numbers
-there : (modes : List (List ℕ)) (n : ℕ) (earlier : List (ℕ × Span)) (items : Items) (ranges : List (ℕ × Span)) (place : ℕ) (value : Data) → ranges_from modes earlier items ≡ Ok ranges → is_chain earlier ≡ true
+there : (modes : List (List ℕ)) (n : ℕ) (earlier : List (ℕ × Span)) (items : Items)
+    (ranges : List (ℕ × Span)) (place : ℕ) (value : Data)
+    → ranges_from modes earlier items ≡ Ok ranges → is_chain earlier ≡ true
     → get_item place items ≡ Some value
-    → (range : ℕ × Span) × (range_in modes value ≡ Ok range) × (has_number n range ≡ true → find (has_number n) ranges ≡ Some range)
+    → (range : ℕ × Span) × (range_in modes value ≡ Ok range)
+    × (has_number n range ≡ true → find (has_number n) ranges ≡ Some range)
 there modes n earlier no_items ranges place value is chain at = absurd (cc)
 there modes n earlier (item first more) ranges zero value is chain at =
     let s = step modes earlier first more ranges is chain in
-    let same : first ≡ value = cc in
-    (s.range, ap (range_in modes) (sym same) ∙ s.read, λ has. still modes n s.next more ranges s.range s.rest s.chain (s.found n ∙ ap (λ b. cond b (Some s.range) (find (has_number n) earlier)) has))
+    let same : first ≡ value = cc in (
+      s.range,
+      ap (range_in modes) (sym same) ∙ s.read,
+      λ has. still modes n s.next more ranges s.range s.rest s.chain (s.found n
+          ∙ ap (λ b. cond b (Some s.range) (find (has_number n) earlier)) has),
+    )
 there modes n earlier (item first more) ranges (suc place) value is chain at =
     let s = step modes earlier first more ranges is chain in
     there modes n s.next more ranges place value s.rest s.chain at
 
-came_if : (modes : List (List ℕ)) (n : ℕ) (earlier : List (ℕ × Span)) (value : Data) (more : Items) (range found : ℕ × Span) (b : Bool) → range_in modes value ≡ Ok range
+came_if : (modes : List (List ℕ)) (n : ℕ) (earlier : List (ℕ × Span)) (value : Data) (more : Items)
+    (range found : ℕ × Span) (b : Bool) → range_in modes value ≡ Ok range
     → cond b (Some range) (find (has_number n) earlier) ≡ Some found
-    → (find (has_number n) earlier ≡ Some found) ⊎ ((place : ℕ) × IsRangeAt modes (item value more) place found)
-came_if modes n earlier value more range found true read at = let same : range ≡ found = cc in inr (zero, (value, refl, read ∙ ap (λ r. Ok r) same))
+    → (find (has_number n) earlier ≡ Some found)
+    ⊎ ((place : ℕ) × IsRangeAt modes (item value more) place found)
+came_if modes n earlier value more range found true read at = let same : range ≡ found = cc in
+    inr (zero, (value, refl, read ∙ ap (λ r. Ok r) same))
 came_if modes n earlier value more range found false read at = inl at
 
 -- a range that is found is an earlier one or an entry's
-came : (modes : List (List ℕ)) (n : ℕ) (earlier : List (ℕ × Span)) (items : Items) (ranges : List (ℕ × Span)) (found : ℕ × Span) → ranges_from modes earlier items ≡ Ok ranges → is_chain earlier ≡ true
-    → find (has_number n) ranges ≡ Some found → (find (has_number n) earlier ≡ Some found) ⊎ ((place : ℕ) × IsRangeAt modes items place found)
-came modes n earlier no_items ranges found is chain at = let same : earlier ≡ ranges = cc in inl (rw same at)
+came : (modes : List (List ℕ)) (n : ℕ) (earlier : List (ℕ × Span)) (items : Items) (ranges : List (ℕ
+    × Span)) (found : ℕ × Span) → ranges_from modes earlier items ≡ Ok ranges
+    → is_chain earlier ≡ true
+    → find (has_number n) ranges ≡ Some found → (find (has_number n) earlier ≡ Some found)
+    ⊎ ((place : ℕ) × IsRangeAt modes items place found)
+came modes n earlier no_items ranges found is chain at = let same : earlier ≡ ranges = cc in
+    inl (rw same at)
 came modes n earlier (item value more) ranges found is chain at =
     let s = step modes earlier value more ranges is chain in
     ⊎_elim
-    (λ before. came_if modes n earlier value more s.range found (has_number n s.range) s.read (sym (s.found n) ∙ before))
+    (λ before. came_if modes n earlier value more s.range found (has_number n s.range) s.read
+    (sym (s.found n) ∙ before))
     (λ later. inr (suc later.0, later.1))
     (came modes n s.next more ranges found s.rest s.chain at)
 
 -- no entry has a number that an earlier range has
-again : (modes : List (List ℕ)) (n : ℕ) (earlier : List (ℕ × Span)) (items : Items) (ranges : List (ℕ × Span)) (place : ℕ) (value : Data) (range : ℕ × Span) → ranges_from modes earlier items ≡ Ok ranges → is_chain earlier ≡ true
-    → HasOne n earlier → get_item place items ≡ Some value → range_in modes value ≡ Ok range → has_number n range ≡ true → ⊥
+again : (modes : List (List ℕ)) (n : ℕ) (earlier : List (ℕ × Span)) (items : Items)
+    (ranges : List (ℕ × Span)) (place : ℕ) (value : Data) (range : ℕ × Span)
+    → ranges_from modes earlier items ≡ Ok ranges → is_chain earlier ≡ true
+    → HasOne n earlier → get_item place items ≡ Some value → range_in modes value ≡ Ok range
+    → has_number n range ≡ true → ⊥
 again modes n earlier no_items ranges place value range is chain old at read has = absurd (cc)
 again modes n earlier (item first more) ranges zero value range is chain old at read has =
     let s = step modes earlier first more ranges is chain in
@@ -266,57 +335,84 @@ again modes n earlier (item first more) ranges zero value range is chain old at 
 again modes n earlier (item first more) ranges (suc place) value range is chain old at read has =
     let s = step modes earlier first more ranges is chain in
     again modes n s.next more ranges place value range s.rest s.chain
-    (has_if (has_number n s.range) n s.range old.0 s.next (s.found n ∙ ap (λ o. cond (has_number n s.range) (Some s.range) o) old.1)) at read has
+    (has_if (has_number n s.range) n s.range old.0 s.next (s.found n
+    ∙ ap (λ o. cond (has_number n s.range) (Some s.range) o) old.1)) at read has
 
-first_has : (modes : List (List ℕ)) (n : ℕ) (earlier : List (ℕ × Span)) (first value : Data) (one range : ℕ × Span) (next : List (ℕ × Span)) → range_in modes first ≡ Ok one
-    → find (has_number n) next ≡ cond (has_number n one) (Some one) (find (has_number n) earlier) → Some first ≡ Some value → range_in modes value ≡ Ok range → has_number n range ≡ true → HasOne n next
+first_has : (modes : List (List ℕ)) (n : ℕ) (earlier : List (ℕ × Span)) (first value : Data)
+    (one range : ℕ × Span) (next : List (ℕ × Span)) → range_in modes first ≡ Ok one
+    → find (has_number n) next ≡ cond (has_number n one) (Some one) (find (has_number n) earlier)
+    → Some first ≡ Some value → range_in modes value ≡ Ok range → has_number n range ≡ true
+    → HasOne n next
 first_has modes n earlier first value one range next is found at read has =
     let same : first ≡ value = cc in
     let both : Ok one ≡ Ok range = sym is ∙ ap (range_in modes) same ∙ read in
-    let here : one ≡ range = cc in
-    (one, found ∙ ap (λ b. cond b (Some one) (find (has_number n) earlier)) (ap (has_number n) here ∙ has))
+    let here : one ≡ range = cc in (
+      one,
+      found ∙ ap (λ b. cond b (Some one) (find (has_number n) earlier)) (ap (has_number n) here
+          ∙ has),
+    )
 
 -- an entry that has a number is the only one
-only : (modes : List (List ℕ)) (n : ℕ) (earlier : List (ℕ × Span)) (items : Items) (ranges : List (ℕ × Span)) (place place' : ℕ) (value value' : Data) (range range' : ℕ × Span)
+only : (modes : List (List ℕ)) (n : ℕ) (earlier : List (ℕ × Span)) (items : Items) (ranges : List (ℕ
+    × Span)) (place place' : ℕ) (value value' : Data) (range range' : ℕ × Span)
     → ranges_from modes earlier items ≡ Ok ranges → is_chain earlier ≡ true
-    → get_item place items ≡ Some value → range_in modes value ≡ Ok range → has_number n range ≡ true
-    → get_item place' items ≡ Some value' → range_in modes value' ≡ Ok range' → has_number n range' ≡ true → place ≡ place'
-only modes n earlier no_items ranges place place' value value' range range' is chain at read has at' read' has' = absurd (cc)
-only modes n earlier (item first more) ranges zero zero value value' range range' is chain at read has at' read' has' = refl
-only modes n earlier (item first more) ranges zero (suc place') value value' range range' is chain at read has at' read' has' =
+    → get_item place items ≡ Some value → range_in modes value ≡ Ok range
+    → has_number n range ≡ true
+    → get_item place' items ≡ Some value' → range_in modes value' ≡ Ok range'
+    → has_number n range' ≡ true → place ≡ place'
+only modes n earlier no_items ranges place place' value value' range range' is chain at read has at'
+    read' has' = absurd (cc)
+only modes n earlier (item first more) ranges zero zero value value' range range' is chain at read
+    has at' read' has' = refl
+only modes n earlier (item first more) ranges zero (suc place') value value' range range' is chain
+    at read has at' read' has' =
     let s = step modes earlier first more ranges is chain in
-    absurd (again modes n s.next more ranges place' value' range' s.rest s.chain (first_has modes n earlier first value s.range range s.next s.read (s.found n) at read has) at' read' has')
-only modes n earlier (item first more) ranges (suc place) zero value value' range range' is chain at read has at' read' has' =
+    absurd (again modes n s.next more ranges place' value' range' s.rest s.chain
+    (first_has modes n earlier first value s.range range s.next s.read (s.found n) at read has)
+    at' read' has')
+only modes n earlier (item first more) ranges (suc place) zero value value' range range' is chain at
+    read has at' read' has' =
     let s = step modes earlier first more ranges is chain in
-    absurd (again modes n s.next more ranges place value range s.rest s.chain (first_has modes n earlier first value' s.range range' s.next s.read (s.found n) at' read' has') at read has)
-only modes n earlier (item first more) ranges (suc place) (suc place') value value' range range' is chain at read has at' read' has' =
+    absurd (again modes n s.next more ranges place value range s.rest s.chain
+    (first_has modes n earlier first value' s.range range' s.next s.read (s.found n) at' read'
+    has') at read has)
+only modes n earlier (item first more) ranges (suc place) (suc place') value value' range range' is
+    chain at read has at' read' has' =
     let s = step modes earlier first more ranges is chain in
-    ap suc (only modes n s.next more ranges place place' value value' range range' s.rest s.chain at read has at' read' has')
+    ap suc (only modes n s.next more ranges place place' value value' range range' s.rest s.chain at
+    read has at' read' has')
 
 -- ---- the laws
-pub if_ok : {A : Type 0} (b : Bool) (o : Outcome A) (e : TableFault) (a : A) → (if b then o else Err e) ≡ Ok a → o ≡ Ok a
+pub if_ok : {A : Type 0} (b : Bool) (o : Outcome A) (e : TableFault) (a : A)
+    → (if b then o else Err e) ≡ Ok a → o ≡ Ok a
 if_ok true o e a is = is
 if_ok false o e a is = absurd (cc)
 
-pub record AreRead (modes : List (List ℕ)) (tree : Members) (ranges : List (ℕ × Span)) : Type 0 where
+pub record AreRead (modes : List (List ℕ)) (tree : Members) (ranges : List (ℕ × Span)) : Type
+    0 where
   pub items : Items
   pub listed : get_member (codes "validators") tree ≡ Some (array items)
   pub read : ranges_from modes [] items ≡ Ok ranges
 
 abbrev pub by_tables : List (List ℕ) → Items → Outcome (List (ℕ × Span))
-by_tables modes items = if are_tables items then ranges_from modes [] items else Err (Kind the_key.Validators)
+by_tables modes items = if are_tables items then ranges_from modes [] items else Err
+    (Kind the_key.Validators)
 
-pub ranges_read : (modes : List (List ℕ)) (tree : Members) (ranges : List (ℕ × Span)) → ranges_of modes tree ≡ Ok ranges → AreRead modes tree ranges
+pub ranges_read : (modes : List (List ℕ)) (tree : Members) (ranges : List (ℕ × Span))
+    → ranges_of modes tree ≡ Ok ranges → AreRead modes tree ranges
 unfolding ranges_of
 ranges_read modes tree ranges is =
-    let items = bind_ok (array_at (codes "validators") the_key.Validators tree) (by_tables modes) ranges is in
+    let items = bind_ok (array_at (codes "validators") the_key.Validators tree) (by_tables modes)
+    ranges is in
     record {
       items = items.0;
       listed = array-read (codes "validators") the_key.Validators tree items.0 items.1;
-      read = if_ok (are_tables items.0) (ranges_from modes [] items.0) (Kind the_key.Validators) ranges items.2;
+      read = if_ok (are_tables items.0) (ranges_from modes [] items.0) (Kind the_key.Validators)
+          ranges items.2;
     }
 
-found_says_if : {A : Type 0} (p : A → Bool) (b : Bool) (x y : A) (o : Option A) → p x ≡ b → (o ≡ Some y → p y ≡ true) → cond b (Some x) o ≡ Some y → p y ≡ true
+found_says_if : {A : Type 0} (p : A → Bool) (b : Bool) (x y : A) (o : Option A) → p x ≡ b
+    → (o ≡ Some y → p y ≡ true) → cond b (Some x) o ≡ Some y → p y ≡ true
 found_says_if p true x y o is later at = let same : x ≡ y = cc in ap p (sym same) ∙ is
 found_says_if p false x y o is later at = later at
 
@@ -326,12 +422,16 @@ found_says p [] y at = absurd (cc)
 found_says p (x ∷ xs) y at = found_says_if p (p x) x y (find p xs) refl (found_says p xs y) at
 
 -- a validator that an entry has is one of the range that it reads as
-agrees : (modes : List (List ℕ)) (entry : Members) (range : ℕ × Span) (validator : ℕ) → Reads modes (table entry) range → HasValidator entry validator → has_number validator range ≡ true
+agrees : (modes : List (List ℕ)) (entry : Members) (range : ℕ × Span) (validator : ℕ)
+    → Reads modes (table entry) range → HasValidator entry validator
+    → has_number validator range ≡ true
 agrees modes entry range validator r has =
     let whole : table entry ≡ table r.entry = r.is_table in
     let same : entry ≡ r.entry = cc in
-    let at_first : Some (integer (pos has.first)) ≡ Some (integer (pos range.0)) = sym has.is_first ∙ ap (get_member (codes "first")) same ∙ r.first in
-    let at_last : Some (integer (pos has.last)) ≡ Some (integer (pos range.1.last)) = sym has.is_last ∙ ap (get_member (codes "last")) same ∙ r.last in
+    let at_first : Some (integer (pos has.first)) ≡ Some (integer (pos range.0)) =
+    sym has.is_first ∙ ap (get_member (codes "first")) same ∙ r.first in
+    let at_last : Some (integer (pos has.last)) ≡ Some (integer (pos range.1.last)) =
+    sym has.is_last ∙ ap (get_member (codes "last")) same ∙ r.last in
     let first : has.first ≡ range.0 = cc in
     let last : has.last ≡ range.1.last = cc in
     let from : nat_le range.0 validator ≡ true = le-leb _ _ (omega (arith, first, has.from)) in
@@ -339,7 +439,9 @@ agrees modes entry range validator r has =
     rw (from, upto) refl
 
 -- and the other way round
-has_it : (modes : List (List ℕ)) (value : Data) (range : ℕ × Span) (validator : ℕ) (r : Reads modes value range) → has_number validator range ≡ true → HasValidator r.entry validator
+has_it : (modes : List (List ℕ)) (value : Data) (range : ℕ
+    × Span) (validator : ℕ) (r : Reads modes value range) → has_number validator range ≡ true
+    → HasValidator r.entry validator
 has_it modes value range validator r has =
     let both = and_parts (nat_le range.0 validator) (nat_le validator range.1.last) has in
     record {
@@ -354,11 +456,13 @@ has_it modes value range validator r has =
 abbrev MapsTo : Option (ℕ × Span) → ℕ → Type 0
 MapsTo o mode = (range : ℕ × Span) × (o ≡ Some range) × (range.1.mode ≡ mode)
 
-maps : (o : Option (ℕ × Span)) (mode : ℕ) → option_map (λ (range : ℕ × Span). range.1.mode) o ≡ Some mode → MapsTo o mode
+maps : (o : Option (ℕ × Span)) (mode : ℕ)
+    → option_map (λ (range : ℕ × Span). range.1.mode) o ≡ Some mode → MapsTo o mode
 maps None mode is = absurd (cc)
 maps (Some range) mode is = (range, refl, cc)
 
-gives : (modes : List (List ℕ)) (tree : Members) (ranges : List (ℕ × Span)) (validator mode : ℕ) → AreRead modes tree ranges → MapsTo (range_at ranges validator) mode
+gives : (modes : List (List ℕ)) (tree : Members) (ranges : List (ℕ × Span)) (validator mode : ℕ)
+    → AreRead modes tree ranges → MapsTo (range_at ranges validator) mode
     → EntryGives modes tree validator mode
 gives modes tree ranges validator mode text at = ⊎_elim
     (λ none. absurd (cc (none)))
@@ -367,48 +471,68 @@ gives modes tree ranges validator mode text at = ⊎_elim
     record {
       place = entry.0;
       entry = r.entry;
-      listed = record { items = text.items; listed = text.listed; stands = entry.1.1 ∙ ap (λ (v : Data). Some v) r.is_table };
-      has = has_it modes entry.1.0 at.0 validator r (found_says (has_number validator) ranges at.0 at.1);
-      names = record { name = r.names.name; written = r.names.written; named = r.names.named ∙ ap (λ m. Ok m) at.2 };
+      listed = record {
+        items = text.items;
+        listed = text.listed;
+        stands = entry.1.1 ∙ ap (λ (v : Data). Some v) r.is_table;
+      };
+      has = has_it modes entry.1.0 at.0 validator r
+          (found_says (has_number validator) ranges at.0 at.1);
+      names = record {
+        name = r.names.name;
+        written = r.names.written;
+        named = r.names.named ∙ ap (λ m. Ok m) at.2;
+      };
     })
     (came modes validator [] text.items ranges at.0 text.read refl at.1)
 
 -- an entry that has the validator reads as the range that is found
-pub record IsFound (modes : List (List ℕ)) (ranges : List (ℕ × Span)) (validator : ℕ) (items : Items) (place : ℕ) (entry : Members) : Type 0 where
+pub record IsFound (modes : List (List ℕ)) (ranges : List (ℕ × Span)) (validator : ℕ)
+    (items : Items) (place : ℕ) (entry : Members) : Type 0 where
   pub range : ℕ × Span
   pub stands : get_item place items ≡ Some (table entry)
   pub read : range_in modes (table entry) ≡ Ok range
   pub has : has_number validator range ≡ true
   pub found : find (has_number validator) ranges ≡ Some range
 
-is_found : (modes : List (List ℕ)) (tree : Members) (ranges : List (ℕ × Span)) (validator place : ℕ) (entry : Members) (text : AreRead modes tree ranges) → HasEntry tree place entry → HasValidator entry validator
+is_found : (modes : List (List ℕ)) (tree : Members) (ranges : List (ℕ × Span)) (validator place : ℕ)
+    (entry : Members) (text : AreRead modes tree ranges) → HasEntry tree place entry
+    → HasValidator entry validator
     → IsFound modes ranges validator text.items place entry
 is_found modes tree ranges validator place entry text listed has =
-    let both : Some (array listed.items) ≡ Some (array text.items) = sym listed.listed ∙ text.listed in
+    let both : Some (array listed.items) ≡ Some (array text.items) =
+    sym listed.listed ∙ text.listed in
     let same : listed.items ≡ text.items = cc in
-    let stands : get_item place text.items ≡ Some (table entry) = ap (get_item place) (sym same) ∙ listed.stands in
+    let stands : get_item place text.items ≡ Some (table entry) =
+    ap (get_item place) (sym same) ∙ listed.stands in
     let at = there modes validator [] text.items ranges place (table entry) text.read refl stands in
     let here = agrees modes entry at.0 validator (reads modes (table entry) at.0 at.1) has in
     record { range = at.0; stands = stands; read = at.1; has = here; found = at.2 here }
 
-is_given : (modes : List (List ℕ)) (tree : Members) (ranges : List (ℕ × Span)) (validator mode : ℕ) → AreRead modes tree ranges → EntryGives modes tree validator mode
+is_given : (modes : List (List ℕ)) (tree : Members) (ranges : List (ℕ × Span)) (validator mode : ℕ)
+    → AreRead modes tree ranges → EntryGives modes tree validator mode
     → option_map (λ (range : ℕ × Span). range.1.mode) (range_at ranges validator) ≡ Some mode
 is_given modes tree ranges validator mode text g =
     let f = is_found modes tree ranges validator g.place g.entry text g.listed g.has in
     let r = reads modes (table g.entry) f.range f.read in
     let whole : table g.entry ≡ table r.entry = r.is_table in
     let same : g.entry ≡ r.entry = cc in
-    let texts : Some (string g.names.name) ≡ Some (string r.names.name) = sym g.names.written ∙ ap (get_member (codes "mode")) same ∙ r.names.written in
+    let texts : Some (string g.names.name) ≡ Some (string r.names.name) =
+    sym g.names.written ∙ ap (get_member (codes "mode")) same ∙ r.names.written in
     let name : g.names.name ≡ r.names.name = cc in
-    let modes_same : Ok mode ≡ Ok f.range.1.mode = sym g.names.named ∙ ap (mode_named modes) name ∙ r.names.named in
+    let modes_same : Ok mode ≡ Ok f.range.1.mode =
+    sym g.names.named ∙ ap (mode_named modes) name ∙ r.names.named in
     let one : f.range.1.mode ≡ mode = cc in
     ap (option_map (λ (range : ℕ × Span). range.1.mode)) f.found ∙ ap (λ (m : ℕ). Some m) one
 
-pub mode-given : (tree : Members) (fares : Fares) (validator mode : ℕ) → rules_of tree ≡ Ok fares.rules
+pub mode-given : (tree : Members) (fares : Fares) (validator mode : ℕ)
+    → rules_of_tree tree ≡ Ok fares.rules
     → (mode_at fares validator ≡ Some mode) ↔ EntryGives fares.rules.modes tree validator mode
 mode-given tree fares validator mode is =
-    let text = ranges_read fares.rules.modes tree fares.rules.ranges (parts tree fares.rules is).ranges in (
-      λ at. gives fares.rules.modes tree fares.rules.ranges validator mode text (maps (range_at fares.rules.ranges validator) mode at),
+    let text = ranges_read fares.rules.modes tree fares.rules.ranges
+    (parts tree fares.rules is).ranges in (
+      λ at. gives fares.rules.modes tree fares.rules.ranges validator mode text
+          (maps (range_at fares.rules.ranges validator) mode at),
       λ g. is_given fares.rules.modes tree fares.rules.ranges validator mode text g,
     )
 
@@ -416,25 +540,36 @@ none_or_gives : (o : Option ℕ) → ((mode : ℕ) → o ≡ Some mode → ⊥) 
 none_or_gives None none = refl
 none_or_gives (Some mode) none = absurd (none mode refl)
 
-maps_none : (o : Option (ℕ × Span)) (range : ℕ × Span) → o ≡ Some range → option_map (λ (range : ℕ × Span). range.1.mode) o ≡ None → ⊥
-maps_none o range is none = let no : Some range.1.mode ≡ None = sym (ap (option_map (λ (range : ℕ × Span). range.1.mode)) is) ∙ none in absurd (cc)
+maps_none : (o : Option (ℕ × Span)) (range : ℕ × Span) → o ≡ Some range
+    → option_map (λ (range : ℕ × Span). range.1.mode) o ≡ None → ⊥
+maps_none o range is none = let no : Some range.1.mode ≡ None =
+    sym (ap (option_map (λ (range : ℕ × Span). range.1.mode)) is) ∙ none in absurd (cc)
 
-pub mode-none : (tree : Members) (fares : Fares) (validator : ℕ) → rules_of tree ≡ Ok fares.rules
+pub mode-none : (tree : Members) (fares : Fares) (validator : ℕ)
+    → rules_of_tree tree ≡ Ok fares.rules
     → (mode_at fares validator ≡ None) ↔ ((place : ℕ) → ¬ EntryHas tree validator place)
 mode-none tree fares validator is =
-    let text = ranges_read fares.rules.modes tree fares.rules.ranges (parts tree fares.rules is).ranges in (
+    let text = ranges_read fares.rules.modes tree fares.rules.ranges
+    (parts tree fares.rules is).ranges in (
       λ none place e.
-          let f = is_found fares.rules.modes tree fares.rules.ranges validator place e.entry text e.listed e.has in
+          let f = is_found fares.rules.modes tree fares.rules.ranges validator place e.entry text
+          e.listed e.has in
           maps_none (range_at fares.rules.ranges validator) f.range f.found none,
       λ none. none_or_gives (mode_at fares validator) (λ mode at.
-          let g = gives fares.rules.modes tree fares.rules.ranges validator mode text (maps (range_at fares.rules.ranges validator) mode at) in
+          let g = gives fares.rules.modes tree fares.rules.ranges validator mode text
+          (maps (range_at fares.rules.ranges validator) mode at) in
           none g.place (record { entry = g.entry; listed = g.listed; has = g.has })),
     )
 
-pub one-entry : (tree : Members) (rules : Rules) (validator place place' : ℕ) → rules_of tree ≡ Ok rules
+pub one-entry : (tree : Members) (rules : TableRules) (validator place place' : ℕ)
+    → rules_of_tree tree ≡ Ok rules
     → EntryHas tree validator place → EntryHas tree validator place' → place ≡ place'
 one-entry tree rules validator place place' is one other =
     let text = ranges_read rules.modes tree rules.ranges (parts tree rules is).ranges in
-    let f = is_found rules.modes tree rules.ranges validator place one.entry text one.listed one.has in
-    let g = is_found rules.modes tree rules.ranges validator place' other.entry text other.listed other.has in
-    only rules.modes validator [] text.items rules.ranges place place' (table one.entry) (table other.entry) f.range g.range text.read refl f.stands f.read f.has g.stands g.read g.has
+    let f = is_found rules.modes tree rules.ranges validator place one.entry text one.listed
+    one.has in
+    let g = is_found rules.modes tree rules.ranges validator place' other.entry text other.listed
+    other.has in
+    only rules.modes validator [] text.items rules.ranges place place' (table one.entry)
+    (table other.entry) f.range g.range text.read refl f.stands f.read f.has g.stands g.read
+    g.has

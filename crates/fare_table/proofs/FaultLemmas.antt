@@ -1,5 +1,7 @@
 -- The fault that the rules of a tree tell is that of the first row that holds.
-use Rattle.std.proofs.Common.{◌≡◌, ⊎_elim, ℕ, zero, suc, ◌+◌, ◌*◌, ◌&&◌, ◌||◌, not, Bool, true, false, List, [], ◌∷◌, ◌++◌, Option, Some, None, Ok, Err, cond, option_map, refl, sym, ap, ◌∙◌, subst, arith, codes, append_assoc}
+use Rattle.std.proofs.Common.{◌≡◌, ⊎_elim, ℕ, zero, suc, ◌+◌, ◌*◌, ◌&&◌, ◌||◌, not, Bool, true}
+use Rattle.std.proofs.Common.{false, List, [], ◌∷◌, ◌++◌, Option, Some, None, Ok, Err, cond}
+use Rattle.std.proofs.Common.{option_map, refl, sym, ap, ◌∙◌, subst, arith, codes, append_assoc}
 use Rattle.std.proofs.lemmas.Bool.{false≢true}
 use Rattle.std.proofs.lemmas.List.Folds.{find-append}
 use Rattle.std.specs.Cmp.Lexicographic.{slice_cmp}
@@ -8,47 +10,73 @@ use Rattle.std.specs.Option.{is_none, is_some, ok_or, option_or}
 use Rattle.std.specs.Ordering.{is_eq, nat_cmp}
 use Rattle.std.specs.Prelude.{pos, int_le, position, unsigned_abs, if◌then◌else◌}
 use Rattle.std.specs.Result.{result_err}
-use Rattle.toml.specs.Data.{Data, Items, no_items, item, Members, no_members, member, string, integer, array, table, get_member, as_str, as_integer, as_array, as_table}
+use Rattle.toml.specs.Data.{Data, Items, no_items, item, Members, no_members, member, string}
+use Rattle.toml.specs.Data.{integer, array, table, get_member, as_str, as_integer, as_array}
+use Rattle.toml.specs.Data.{as_table}
 use Rattle.fare_table.proofs.PartLemmas.{bind_ok}
 use Rattle.fare_table.proofs.PayLemmas.{by_some, by_table, member-found, terms_by}
-use Rattle.fare_table.specs.Classes.{ceiling_of, checked, class_named, class_of, classes_of, default_of, is_empty}
-use Rattle.fare_table.specs.Faults.{Row, Where, top, class, a_row, are_pairs, are_texts, class_rows, classes_in, first_of, holds, is_from, is_kind, is_mode, is_within, is_wrong, items_of, member_at, members_at, members_of, mode_names, needed_rows, pairs, passes, rows_of_class, texts, value_at, word_of}
+use Rattle.fare_table.specs.Classes.{ceiling_of, checked, class_named, class_of, classes_of}
+use Rattle.fare_table.specs.Classes.{default_of, is_empty}
+use Rattle.fare_table.specs.Faults.{Row, Where, top, class, a_row, are_pairs, are_texts, class_rows}
+use Rattle.fare_table.specs.Faults.{classes_in, first_row, holds, is_from, is_kind, is_mode}
+use Rattle.fare_table.specs.Faults.{is_in_limits, is_wrong, items_of, member_at, members_at}
+use Rattle.fare_table.specs.Faults.{members_of, mode_names, needed_rows, pairs, passes}
+use Rattle.fare_table.specs.Faults.{rows_of_class, texts, value_at, string_of}
 use Rattle.fare_table.specs.Members.{hold_tables, number_at, number_in, of_kind, within}
 use Rattle.fare_table.specs.Modes.{are_mode_names, modes_of, same_name, strings_from}
 use Rattle.fare_table.specs.Outcome.{Outcome, ◌>>=◌}
-use Rattle.fare_table.specs.Transfers.{pair_of, pairs_from, transfers_from, transfers_of, with_pair}
+use Rattle.fare_table.specs.Transfers.{name_pair, pairs_from, transfers_from, transfers_of}
+use Rattle.fare_table.specs.Transfers.{with_pair}
 use Rattle.fare_table.specs.declared.fault.Key.{Key}
 use Rattle.fare_table.specs.declared.fault.Key.TheVariants as the_key
 use Rattle.fare_table.specs.declared.fault.TableFault.{TableFault}
-use Rattle.fare_table.specs.declared.fault.TableFault.TheVariants.{Missing, Kind, Range, Mode, Rider}
+use Rattle.fare_table.specs.declared.fault.TableFault.TheVariants.{Missing, Kind, Range, Mode}
+use Rattle.fare_table.specs.declared.fault.TableFault.TheVariants.{Rider}
 use Rattle.fare_table.specs.declared.terms.Terms.{Terms}
 
 -- ---- rows, one after the other
 abbrev pub fault_in : {A : Type 0} → Outcome A → Option TableFault
 fault_in o = result_err o
 
-cond_map : (b : Bool) (r : Row) (o : Option Row) → option_map (λ (one : Row). one.1) (cond b (Some r) o) ≡ cond b (Some r.1) (option_map (λ (one : Row). one.1) o)
+cond_map : (b : Bool) (r : Row) (o : Option Row)
+    → option_map (λ (one : Row). one.1) (cond b (Some r) o)
+    ≡ cond b (Some r.1) (option_map (λ (one : Row). one.1) o)
 cond_map true r o = refl
 cond_map false r o = refl
 
-pub told : (tree : Members) (at : Where) (fault : TableFault) (more : List Row) → first_of tree (a_row at fault ∷ more) ≡ cond (is_wrong tree at fault) (Some fault) (first_of tree more)
-told tree at fault more = cond_map (is_wrong tree at fault) (a_row at fault) (find (holds tree) more)
+pub told : (tree : Members) (at : Where) (fault : TableFault) (more : List Row)
+    → first_row tree (a_row at fault ∷ more)
+    ≡ cond (is_wrong tree at fault) (Some fault) (first_row tree more)
+told tree at fault more =
+    cond_map (is_wrong tree at fault) (a_row at fault) (find (holds tree) more)
 
-or_map : (a b : Option Row) → option_map (λ (one : Row). one.1) (option_or a b) ≡ option_or (option_map (λ (one : Row). one.1) a) (option_map (λ (one : Row). one.1) b)
+or_map : (a b : Option Row)
+    → option_map (λ (one : Row). one.1) (option_or a b)
+    ≡ option_or (option_map (λ (one : Row). one.1) a) (option_map (λ (one : Row). one.1) b)
 or_map None b = refl
 or_map (Some r) b = refl
 
-pub told_append : (tree : Members) (front back : List Row) → first_of tree (front ++ back) ≡ option_or (first_of tree front) (first_of tree back)
-told_append tree front back = ap (option_map (λ (one : Row). one.1)) (find-append (holds tree) front back) ∙ or_map (find (holds tree) front) (find (holds tree) back)
+pub told_append : (tree : Members) (front back : List Row)
+    → first_row tree (front ++ back) ≡ option_or (first_row tree front) (first_row tree back)
+told_append tree front back =
+    ap (option_map (λ (one : Row). one.1)) (find-append (holds tree) front back)
+    ∙ or_map (find (holds tree) front) (find (holds tree) back)
 
 -- two steps, and the rows of the one and of the other
-pub steps : {A B : Type 0} (tree : Members) (o : Outcome A) (f : A → Outcome B) (front back : List Row) → fault_in o ≡ first_of tree front → ((a : A) → o ≡ Ok a → fault_in (f a) ≡ first_of tree back)
-    → fault_in (o >>= f) ≡ first_of tree (front ++ back)
-steps tree (Ok a) f front back one two = two a refl ∙ ap (λ (x : Option TableFault). option_or x (first_of tree back)) one ∙ sym (told_append tree front back)
-steps tree (Err e) f front back one two = ap (λ (x : Option TableFault). option_or x (first_of tree back)) one ∙ sym (told_append tree front back)
+pub steps : {A B : Type 0} (tree : Members) (o : Outcome A) (f : A
+    → Outcome B) (front back : List Row) → fault_in o ≡ first_row tree front
+    → ((a : A) → o ≡ Ok a → fault_in (f a) ≡ first_row tree back)
+    → fault_in (o >>= f) ≡ first_row tree (front ++ back)
+steps tree (Ok a) f front back one two =
+    two a refl ∙ ap (λ (x : Option TableFault). option_or x (first_row tree back)) one
+    ∙ sym (told_append tree front back)
+steps tree (Err e) f front back one two =
+    ap (λ (x : Option TableFault). option_or x (first_row tree back)) one
+    ∙ sym (told_append tree front back)
 
 -- a last step that always goes well
-pub done : {A B : Type 0} (o : Outcome A) (f : A → B) → fault_in (o >>= (λ a. Ok (f a))) ≡ fault_in o
+pub done : {A B : Type 0} (o : Outcome A) (f : A → B)
+    → fault_in (o >>= (λ a. Ok (f a))) ≡ fault_in o
 done (Ok a) f = refl
 done (Err e) f = refl
 
@@ -56,139 +84,210 @@ abbrev pub fails : (Data → Bool) → Option Data → Bool
 fails test o = passes (λ value. not (test value)) o
 
 abbrev pub needs : Option Data → (Data → Bool) → (Data → Bool) → Key → Option TableFault
-needs o kind limits key = cond (is_none o) (Some (Missing key)) (cond (fails kind o) (Some (Kind key)) (cond (fails limits o) (Some (Range key)) None))
+needs o kind limits key =
+    cond (is_none o) (Some (Missing key))
+    (cond (fails kind o) (Some (Kind key)) (cond (fails limits o) (Some (Range key)) None))
 
-pub told_needed : (tree : Members) (at : Where) (key : Key) → first_of tree (needed_rows at key) ≡ needs (value_at at key tree) (is_kind key) (is_within key (members_at at tree)) key
+pub told_needed : (tree : Members) (at : Where) (key : Key)
+    → first_row tree (needed_rows at key)
+    ≡ needs (value_at at key tree) (is_kind key) (is_in_limits key (members_at at tree)) key
 told_needed tree at key =
     told tree at (Missing key) (a_row at (Kind key) ∷ a_row at (Range key) ∷ [])
     ∙ ap (λ (x : Option TableFault). cond (is_none (value_at at key tree)) (Some (Missing key)) x)
     (told tree at (Kind key) (a_row at (Range key) ∷ [])
-    ∙ ap (λ (x : Option TableFault). cond (fails (is_kind key) (value_at at key tree)) (Some (Kind key)) x) (told tree at (Range key) []))
+    ∙ ap (λ (x : Option TableFault).
+    cond (fails (is_kind key) (value_at at key tree)) (Some (Kind key)) x)
+    (told tree at (Range key) []))
 
 -- ---- numbers
-within_tells : (b : Bool) (n : ℕ) (key : Key) → fault_in (if b then Ok n else Err (Range key)) ≡ cond (not b) (Some (Range key)) None
+within_tells : (b : Bool) (n : ℕ) (key : Key)
+    → fault_in (if b then Ok n else Err (Range key)) ≡ cond (not b) (Some (Range key)) None
 within_tells true n key = refl
 within_tells false n key = refl
 
-pub number_tells : (o : Option Data) (key : Key) (low high : ℕ) → fault_in (ok_or o (Missing key) >>= number_in key low high) ≡ needs o (λ value. is_some (as_integer value)) (is_from low high) key
+pub number_tells : (o : Option Data) (key : Key) (low high : ℕ)
+    → fault_in (ok_or o (Missing key) >>= number_in key low high)
+    ≡ needs o (λ value. is_some (as_integer value)) (is_from low high) key
 number_tells None key low high = refl
-number_tells (Some (integer z)) key low high = within_tells (int_le (pos low) z && int_le z (pos high)) (unsigned_abs z) key
+number_tells (Some (integer z)) key low high =
+    within_tells (int_le (pos low) z && int_le z (pos high)) (unsigned_abs z) key
 number_tells (Some _) key low high = refl
 
 -- ---- modes
-strings-read : (found : List (List ℕ)) (ds : Items) → strings_from found ds ≡ (if are_texts ds then Ok (found ++ texts ds) else Err (Kind the_key.Modes))
+strings-read : (found : List (List ℕ)) (ds : Items)
+    → strings_from found ds
+    ≡ (if are_texts ds then Ok (found ++ texts ds) else Err (Kind the_key.Modes))
 strings-read found no_items = ap (λ (names : List (List ℕ)). Ok names) (sym (append_nil found))
   where
     append_nil : (xs : List (List ℕ)) → xs ++ [] ≡ xs
     append_nil [] = refl
     append_nil (x ∷ xs) = ap (λ ys. x ∷ ys) (append_nil xs)
 strings-read found (item (string s) more) =
-    strings-read (found ++ s ∷ []) more ∙ ap (λ (names : List (List ℕ)). if are_texts more then Ok names else Err (Kind the_key.Modes)) (append_assoc found (s ∷ []) (texts more))
+    strings-read (found ++ s ∷ []) more
+    ∙ ap (λ (names : List (List ℕ)).
+    if are_texts more then Ok names else Err (Kind the_key.Modes))
+    (append_assoc found (s ∷ []) (texts more))
 strings-read found (item _ more) = refl
 
-names_if : (b : Bool) (names : List (List ℕ)) → fault_in ((if b then Ok names else Err (Kind the_key.Modes)) >>= (λ found. if are_mode_names found then Ok found else Err (Range the_key.Modes)))
-    ≡ cond (not b) (Some (Kind the_key.Modes)) (cond (not (are_mode_names names)) (Some (Range the_key.Modes)) None)
+names_if : (b : Bool) (names : List (List ℕ))
+    → fault_in ((if b then Ok names else Err (Kind the_key.Modes))
+    >>= (λ found. if are_mode_names found then Ok found else Err (Range the_key.Modes)))
+    ≡ cond (not b) (Some (Kind the_key.Modes))
+    (cond (not (are_mode_names names)) (Some (Range the_key.Modes)) None)
 names_if true names = within_names (are_mode_names names) names
   where
-    within_names : (b : Bool) (names : List (List ℕ)) → fault_in (if b then Ok names else Err (Range the_key.Modes)) ≡ cond (not b) (Some (Range the_key.Modes)) None
+    within_names : (b : Bool) (names : List (List ℕ))
+        → fault_in (if b then Ok names else Err (Range the_key.Modes))
+        ≡ cond (not b) (Some (Range the_key.Modes)) None
     within_names true names = refl
     within_names false names = refl
 names_if false names = refl
 
 abbrev by_names : Items → Outcome (List (List ℕ))
-by_names ds = strings_from [] ds >>= (λ found. if are_mode_names found then Ok found else Err (Range the_key.Modes))
+by_names ds = strings_from [] ds
+    >>= (λ found. if are_mode_names found then Ok found else Err (Range the_key.Modes))
 
-modes_steps : (o : Option Data) → fault_in ((ok_or o (Missing the_key.Modes) >>= (λ value. of_kind the_key.Modes (as_array value))) >>= by_names)
-    ≡ needs o (is_kind the_key.Modes) (is_within the_key.Modes no_members) the_key.Modes
+modes_steps : (o : Option Data)
+    → fault_in ((ok_or o (Missing the_key.Modes)
+    >>= (λ value. of_kind the_key.Modes (as_array value))) >>= by_names)
+    ≡ needs o (is_kind the_key.Modes) (is_in_limits the_key.Modes no_members) the_key.Modes
 modes_steps None = refl
 modes_steps (Some (array ds)) =
-    ap (λ (names : Outcome (List (List ℕ))). fault_in (names >>= (λ found. if are_mode_names found then Ok found else Err (Range the_key.Modes)))) (strings-read [] ds) ∙ names_if (are_texts ds) (texts ds)
+    ap (λ (names : Outcome (List (List ℕ))).
+    fault_in (names >>= (λ found.
+    if are_mode_names found then Ok found else Err (Range the_key.Modes)))) (strings-read [] ds)
+    ∙ names_if (are_texts ds) (texts ds)
 modes_steps (Some _) = refl
 
-pub modes-told : (tree : Members) → fault_in (modes_of tree) ≡ first_of tree (needed_rows top the_key.Modes)
+pub modes-told : (tree : Members)
+    → fault_in (modes_of tree) ≡ first_row tree (needed_rows top the_key.Modes)
 unfolding modes_of
-modes-told tree = modes_steps (get_member (codes "modes") tree) ∙ sym (told_needed tree top the_key.Modes)
+modes-told tree = modes_steps (get_member (codes "modes") tree)
+    ∙ sym (told_needed tree top the_key.Modes)
 
-names_known : (o : Option Data) (modes : List (List ℕ)) → ((ok_or o (Missing the_key.Modes) >>= (λ value. of_kind the_key.Modes (as_array value))) >>= by_names) ≡ Ok modes → texts (items_of o) ≡ modes
+names_known : (o : Option Data) (modes : List (List ℕ))
+    → ((ok_or o (Missing the_key.Modes) >>= (λ value. of_kind the_key.Modes (as_array value)))
+    >>= by_names) ≡ Ok modes → texts (items_of o) ≡ modes
 names_known None modes is = absurd (cc)
 names_known (Some (array ds)) modes is =
-    known (are_texts ds) (texts ds) modes (ap (λ (names : Outcome (List (List ℕ))). names >>= (λ found. if are_mode_names found then Ok found else Err (Range the_key.Modes))) (sym (strings-read [] ds)) ∙ is)
+    known (are_texts ds) (texts ds) modes
+    (ap (λ (names : Outcome (List (List ℕ))).
+    names >>= (λ found. if are_mode_names found then Ok found else Err (Range the_key.Modes)))
+    (sym (strings-read [] ds)) ∙ is)
   where
-    in_range : (b : Bool) (names modes : List (List ℕ)) → (if b then Ok names else Err (Range the_key.Modes)) ≡ Ok modes → names ≡ modes
+    in_range : (b : Bool) (names modes : List (List ℕ))
+        → (if b then Ok names else Err (Range the_key.Modes)) ≡ Ok modes → names ≡ modes
     in_range true names modes is = cc
     in_range false names modes is = absurd (cc)
 
-    known : (b : Bool) (names modes : List (List ℕ)) → ((if b then Ok names else Err (Kind the_key.Modes)) >>= (λ found. if are_mode_names found then Ok found else Err (Range the_key.Modes))) ≡ Ok modes → names ≡ modes
+    known : (b : Bool) (names modes : List (List ℕ))
+        → ((if b then Ok names else Err (Kind the_key.Modes))
+        >>= (λ found. if are_mode_names found then Ok found else Err (Range the_key.Modes)))
+        ≡ Ok modes → names ≡ modes
     known true names modes is = in_range (are_mode_names names) names modes is
     known false names modes is = absurd (cc)
 names_known (Some _) modes is = absurd (cc)
 
-pub modes-known : (tree : Members) (modes : List (List ℕ)) → modes_of tree ≡ Ok modes → mode_names tree ≡ modes
+pub modes-known : (tree : Members) (modes : List (List ℕ)) → modes_of tree ≡ Ok modes
+    → mode_names tree ≡ modes
 unfolding modes_of
 modes-known tree modes is = names_known (get_member (codes "modes") tree) modes is
 
 -- ---- transfers
 pair_read : (o : Option (List ℕ × List ℕ)) (found : List (List ℕ × List ℕ)) (more : Items)
-    → ((next : List (List ℕ × List ℕ)) → pairs_from next more ≡ (if are_pairs more then Ok (next ++ pairs more) else Err (Kind the_key.Transfers)))
+    → ((next : List (List ℕ × List ℕ))
+    → pairs_from next more
+    ≡ (if are_pairs more then Ok (next ++ pairs more) else Err (Kind the_key.Transfers)))
     → (of_kind the_key.Transfers o >>= (λ pair. pairs_from (found ++ pair ∷ []) more))
-    ≡ (if is_some o && are_pairs more then Ok (found ++ cons_option o (pairs more)) else Err (Kind the_key.Transfers))
+    ≡ (if is_some o && are_pairs more then Ok (found ++ cons_option o (pairs more)) else Err
+    (Kind the_key.Transfers))
 pair_read None found more rest = refl
 pair_read (Some pair) found more rest =
-    rest (found ++ pair ∷ []) ∙ ap (λ (names : List (List ℕ × List ℕ)). if are_pairs more then Ok names else Err (Kind the_key.Transfers)) (append_assoc found (pair ∷ []) (pairs more))
+    rest (found ++ pair ∷ [])
+    ∙ ap (λ (names : List (List ℕ × List ℕ)).
+    if are_pairs more then Ok names else Err (Kind the_key.Transfers))
+    (append_assoc found (pair ∷ []) (pairs more))
 
-pairs-read : (found : List (List ℕ × List ℕ)) (ds : Items) → pairs_from found ds ≡ (if are_pairs ds then Ok (found ++ pairs ds) else Err (Kind the_key.Transfers))
-pairs-read found no_items = ap (λ (names : List (List ℕ × List ℕ)). Ok names) (sym (append_nil found))
+pairs-read : (found : List (List ℕ × List ℕ)) (ds : Items)
+    → pairs_from found ds
+    ≡ (if are_pairs ds then Ok (found ++ pairs ds) else Err (Kind the_key.Transfers))
+pairs-read found no_items =
+    ap (λ (names : List (List ℕ × List ℕ)). Ok names) (sym (append_nil found))
   where
     append_nil : (xs : List (List ℕ × List ℕ)) → xs ++ [] ≡ xs
     append_nil [] = refl
     append_nil (x ∷ xs) = ap (λ ys. x ∷ ys) (append_nil xs)
-pairs-read found (item value more) = pair_read (pair_of value) found more (λ next. pairs-read next more)
+pairs-read found (item value more) =
+    pair_read (name_pair value) found more (λ next. pairs-read next more)
 
 abbrev is_unknown : List (List ℕ) → List ℕ × List ℕ → Bool
 is_unknown modes pair = not (is_mode modes pair.0 && is_mode modes pair.1)
 
-place_if : (from to : Option ℕ) (f : ℕ × ℕ → Outcome (List (ℕ × ℕ))) (rest : Option TableFault) → ((places : ℕ × ℕ) → fault_in (f places) ≡ rest)
-    → fault_in ((ok_or from Mode >>= (λ a. ok_or to Mode >>= (λ b. Ok (a, b)))) >>= f) ≡ cond (not (is_some from && is_some to)) (Some Mode) rest
+place_if : (from to : Option ℕ) (f : ℕ × ℕ → Outcome (List (ℕ × ℕ))) (rest : Option TableFault)
+    → ((places : ℕ × ℕ) → fault_in (f places) ≡ rest)
+    → fault_in ((ok_or from Mode >>= (λ a. ok_or to Mode >>= (λ b. Ok (a, b)))) >>= f)
+    ≡ cond (not (is_some from && is_some to)) (Some Mode) rest
 place_if None to f rest same = refl
 place_if (Some a) None f rest same = refl
 place_if (Some a) (Some b) f rest same = same (a, b)
 
-any_if : (b c : Bool) → cond b (Some Mode) (cond c (Some Mode) None) ≡ cond (b || c) (Some Mode) None
+any_if : (b c : Bool)
+    → cond b (Some Mode) (cond c (Some Mode) None) ≡ cond (b || c) (Some Mode) None
 any_if true c = refl
 any_if false c = refl
 
-transfers_tell : (modes : List (List ℕ)) (found : List (ℕ × ℕ)) (names : List (List ℕ × List ℕ)) → fault_in (transfers_from modes found names) ≡ cond (list_any (is_unknown modes) names) (Some Mode) None
+transfers_tell : (modes : List (List ℕ)) (found : List (ℕ × ℕ)) (names : List (List ℕ × List ℕ))
+    → fault_in (transfers_from modes found names)
+    ≡ cond (list_any (is_unknown modes) names) (Some Mode) None
 transfers_tell modes found [] = refl
 transfers_tell modes found (pair ∷ more) =
-    place_if (position (same_name pair.0) modes) (position (same_name pair.1) modes) (λ places. transfers_from modes (with_pair found places.0 places.1) more) (cond (list_any (is_unknown modes) more) (Some Mode) None)
+    place_if (position (same_name pair.0) modes) (position (same_name pair.1) modes) (λ places.
+    transfers_from modes (with_pair found places.0 places.1) more)
+    (cond (list_any (is_unknown modes) more) (Some Mode) None)
     (λ places. transfers_tell modes (with_pair found places.0 places.1) more)
     ∙ any_if (is_unknown modes pair) (list_any (is_unknown modes) more)
 
-pairs_if : (b : Bool) (modes : List (List ℕ)) (names : List (List ℕ × List ℕ)) → fault_in ((if b then Ok names else Err (Kind the_key.Transfers)) >>= transfers_from modes [])
-    ≡ cond (not b) (Some (Kind the_key.Transfers)) (cond (list_any (is_unknown modes) names) (Some Mode) None)
+pairs_if : (b : Bool) (modes : List (List ℕ)) (names : List (List ℕ × List ℕ))
+    → fault_in ((if b then Ok names else Err (Kind the_key.Transfers)) >>= transfers_from modes [])
+    ≡ cond (not b) (Some (Kind the_key.Transfers))
+    (cond (list_any (is_unknown modes) names) (Some Mode) None)
 pairs_if true modes names = transfers_tell modes [] names
 pairs_if false modes names = refl
 
 abbrev by_pairs : List (List ℕ) → Items → Outcome (List (ℕ × ℕ))
 by_pairs modes ds = pairs_from [] ds >>= (λ names. transfers_from modes [] names)
 
-transfers_steps : (o : Option Data) (modes : List (List ℕ)) → fault_in ((ok_or o (Missing the_key.Transfers) >>= (λ value. of_kind the_key.Transfers (as_array value))) >>= by_pairs modes)
-    ≡ cond (is_none o) (Some (Missing the_key.Transfers)) (cond (fails (is_kind the_key.Transfers) o) (Some (Kind the_key.Transfers)) (cond (list_any (is_unknown modes) (pairs (items_of o))) (Some Mode) None))
+transfers_steps : (o : Option Data) (modes : List (List ℕ))
+    → fault_in ((ok_or o (Missing the_key.Transfers)
+    >>= (λ value. of_kind the_key.Transfers (as_array value))) >>= by_pairs modes)
+    ≡ cond (is_none o) (Some (Missing the_key.Transfers))
+    (cond (fails (is_kind the_key.Transfers) o) (Some (Kind the_key.Transfers))
+    (cond (list_any (is_unknown modes) (pairs (items_of o))) (Some Mode) None))
 transfers_steps None modes = refl
 transfers_steps (Some (array ds)) modes =
-    ap (λ (names : Outcome (List (List ℕ × List ℕ))). fault_in (names >>= (λ found. transfers_from modes [] found))) (pairs-read [] ds) ∙ pairs_if (are_pairs ds) modes (pairs ds)
+    ap (λ (names : Outcome (List (List ℕ × List ℕ))).
+    fault_in (names >>= (λ found. transfers_from modes [] found))) (pairs-read [] ds)
+    ∙ pairs_if (are_pairs ds) modes (pairs ds)
 transfers_steps (Some _) modes = refl
 
 pub transfers-told : (tree : Members) (modes : List (List ℕ)) → mode_names tree ≡ modes
-    → fault_in (transfers_of modes tree) ≡ first_of tree (a_row top (Missing the_key.Transfers) ∷ a_row top (Kind the_key.Transfers) ∷ a_row top Mode ∷ [])
+    → fault_in (transfers_of modes tree)
+    ≡ first_row tree (a_row top (Missing the_key.Transfers) ∷ a_row top (Kind the_key.Transfers)
+    ∷ a_row top Mode ∷ [])
 unfolding transfers_of
 transfers-told tree modes known =
     transfers_steps (get_member (codes "transfers") tree) modes
-    ∙ ap (λ (names : List (List ℕ)). cond (is_none o) (Some (Missing the_key.Transfers)) (cond (fails (is_kind the_key.Transfers) o) (Some (Kind the_key.Transfers)) (cond (list_any (is_unknown names) (pairs (items_of o))) (Some Mode) None))) (sym known)
-    ∙ sym (told tree top (Missing the_key.Transfers) (a_row top (Kind the_key.Transfers) ∷ a_row top Mode ∷ [])
+    ∙ ap (λ (names : List (List ℕ)).
+    cond (is_none o) (Some (Missing the_key.Transfers))
+    (cond (fails (is_kind the_key.Transfers) o) (Some (Kind the_key.Transfers))
+    (cond (list_any (is_unknown names) (pairs (items_of o))) (Some Mode) None))) (sym known)
+    ∙ sym (told tree top (Missing the_key.Transfers) (a_row top (Kind the_key.Transfers)
+    ∷ a_row top Mode ∷ [])
     ∙ ap (λ (x : Option TableFault). cond (is_none o) (Some (Missing the_key.Transfers)) x)
     (told tree top (Kind the_key.Transfers) (a_row top Mode ∷ [])
-    ∙ ap (λ (x : Option TableFault). cond (fails (is_kind the_key.Transfers) o) (Some (Kind the_key.Transfers)) x) (told tree top Mode [])))
+    ∙ ap (λ (x : Option TableFault).
+    cond (fails (is_kind the_key.Transfers) o) (Some (Kind the_key.Transfers)) x)
+    (told tree top Mode [])))
   where
     o : Option Data
     o = get_member (codes "transfers") tree
@@ -198,116 +297,182 @@ transfers-told tree modes known =
 abbrev pub Stand : Members → ℕ → Members → Type 0
 Stand whole n part = (k j : ℕ) → j ≡ n + k → member_at j whole ≡ member_at k part
 
-pub stand_here : (whole : Members) (n : ℕ) (key : List ℕ) (value : Data) (more : Members) → Stand whole n (member key value more) → member_at n whole ≡ Some (key, value)
+pub stand_here : (whole : Members) (n : ℕ) (key : List ℕ) (value : Data) (more : Members)
+    → Stand whole n (member key value more) → member_at n whole ≡ Some (key, value)
 stand_here whole n key value more stand = stand zero n (omega arith)
 
-pub stand_next : (whole : Members) (n : ℕ) (key : List ℕ) (value : Data) (more : Members) → Stand whole n (member key value more) → Stand whole (suc n) more
+pub stand_next : (whole : Members) (n : ℕ) (key : List ℕ) (value : Data) (more : Members)
+    → Stand whole n (member key value more) → Stand whole (suc n) more
 stand_next whole n key value more stand k j is = stand (suc k) j (omega (arith, is))
 
 pub stand_all : (whole : Members) → Stand whole 0 whole
 stand_all whole k j is = let same : j ≡ k = omega (arith, is) in ap (λ n. member_at n whole) same
 
-ceiling_tells : (price fare rides : ℕ) (o : Option Data) → fault_in (ceiling_of price o >>= (λ ceiling. Ok (terms_by fare rides ceiling)))
-    ≡ cond (fails (is_kind the_key.Ceiling) o) (Some (Kind the_key.Ceiling)) (cond (fails (is_from 1 100_000_000) o) (Some (Range the_key.Ceiling)) None)
+ceiling_tells : (price fare rides : ℕ) (o : Option Data)
+    → fault_in (ceiling_of price o >>= (λ ceiling. Ok (terms_by fare rides ceiling)))
+    ≡ cond (fails (is_kind the_key.Ceiling) o) (Some (Kind the_key.Ceiling))
+    (cond (fails (is_from 1 100_000_000) o) (Some (Range the_key.Ceiling)) None)
 ceiling_tells price fare rides None = refl
 ceiling_tells price fare rides (Some (integer z)) =
-    done (within the_key.Ceiling 1 100_000_000 z) (terms_by fare rides) ∙ within_tells (int_le (pos 1) z && int_le z (pos 100_000_000)) (unsigned_abs z) the_key.Ceiling
+    done (within the_key.Ceiling 1 100_000_000 z) (terms_by fare rides)
+    ∙ within_tells (int_le (pos 1) z && int_le z (pos 100_000_000)) (unsigned_abs z)
+    the_key.Ceiling
 ceiling_tells price fare rides (Some _) = refl
 
-pub told_two : (tree : Members) (at : Where) (one two : TableFault) → first_of tree (a_row at one ∷ a_row at two ∷ []) ≡ cond (is_wrong tree at one) (Some one) (cond (is_wrong tree at two) (Some two) None)
-told_two tree at one two = told tree at one (a_row at two ∷ []) ∙ ap (λ (x : Option TableFault). cond (is_wrong tree at one) (Some one) x) (told tree at two [])
+pub told_two : (tree : Members) (at : Where) (one two : TableFault)
+    → first_row tree (a_row at one ∷ a_row at two ∷ [])
+    ≡ cond (is_wrong tree at one) (Some one) (cond (is_wrong tree at two) (Some two) None)
+told_two tree at one two =
+    told tree at one (a_row at two ∷ [])
+    ∙ ap (λ (x : Option TableFault). cond (is_wrong tree at one) (Some one) x) (told tree at two [])
 
-class-told : (tree : Members) (n : ℕ) → fault_in (class_of (members_at (class n) tree)) ≡ first_of tree (rows_of_class n)
+class-told : (tree : Members) (n : ℕ)
+    → fault_in (class_of (members_at (class n) tree)) ≡ first_row tree (rows_of_class n)
 unfolding class_of
 class-told tree n =
     let at = class n in
     let inner = members_at at tree in
-    steps tree (number_at (codes "fare") the_key.Fare 1 100_000 inner) _ (needed_rows at the_key.Fare) (needed_rows at the_key.Rides ++ (a_row at (Kind the_key.Ceiling) ∷ a_row at (Range the_key.Ceiling) ∷ []))
-    (number_tells (value_at at the_key.Fare tree) the_key.Fare 1 100_000 ∙ sym (told_needed tree at the_key.Fare))
-    (λ fare is. steps tree (number_at (codes "rides") the_key.Rides 1 1_000 inner) _ (needed_rows at the_key.Rides) (a_row at (Kind the_key.Ceiling) ∷ a_row at (Range the_key.Ceiling) ∷ [])
-    (number_tells (value_at at the_key.Rides tree) the_key.Rides 1 1_000 ∙ sym (told_needed tree at the_key.Rides))
-    (λ rides is'. ceiling_tells (rides * fare) fare rides (value_at at the_key.Ceiling tree) ∙ sym (told_two tree at (Kind the_key.Ceiling) (Range the_key.Ceiling))))
+    steps tree (number_at (codes "fare") the_key.Fare 1 100_000 inner) _
+    (needed_rows at the_key.Fare) (needed_rows at the_key.Rides
+    ++ (a_row at (Kind the_key.Ceiling) ∷ a_row at (Range the_key.Ceiling) ∷ []))
+    (number_tells (value_at at the_key.Fare tree) the_key.Fare 1 100_000
+    ∙ sym (told_needed tree at the_key.Fare))
+    (λ fare is. steps tree (number_at (codes "rides") the_key.Rides 1 1_000 inner) _
+    (needed_rows at the_key.Rides) (a_row at (Kind the_key.Ceiling)
+    ∷ a_row at (Range the_key.Ceiling) ∷ [])
+    (number_tells (value_at at the_key.Rides tree) the_key.Rides 1 1_000
+    ∙ sym (told_needed tree at the_key.Rides))
+    (λ rides is'. ceiling_tells (rides * fare) fare rides (value_at at the_key.Ceiling tree)
+    ∙ sym (told_two tree at (Kind the_key.Ceiling) (Range the_key.Ceiling))))
 
-checked-told : (tree : Members) (n : ℕ) (part : Members) → Stand (classes_in tree) n part → hold_tables part ≡ true → fault_in (checked part) ≡ first_of tree (class_rows n part)
+checked-told : (tree : Members) (n : ℕ) (part : Members) → Stand (classes_in tree) n part
+    → hold_tables part ≡ true → fault_in (checked part) ≡ first_row tree (class_rows n part)
 checked-told tree n no_members stand tables = refl
 checked-told tree n (member name (table inner) more) stand tables =
-    let here : members_at (class n) tree ≡ inner = ap (λ (o : Option (List ℕ × Data)). members_of (option_map (λ (one : List ℕ × Data). one.1) o)) (stand_here (classes_in tree) n name (table inner) more stand) in
+    let here : members_at (class n) tree ≡ inner =
+    ap (λ (o : Option (List ℕ × Data)).
+    members_of (option_map (λ (one : List ℕ × Data). one.1) o))
+    (stand_here (classes_in tree) n name (table inner) more stand) in
     steps tree (class_of inner) (λ terms. checked more) (rows_of_class n) (class_rows (suc n) more)
     (ap (λ (m : Members). fault_in (class_of m)) (sym here) ∙ class-told tree n)
-    (λ terms is. checked-told tree (suc n) more (stand_next (classes_in tree) n name (table inner) more stand) tables)
+    (λ terms is. checked-told tree (suc n) more
+    (stand_next (classes_in tree) n name (table inner) more stand) tables)
 checked-told tree n (member name _ more) stand tables = absurd (false≢true tables)
 
 class_need : Option Data → Option TableFault
-class_need o = needs o (is_kind the_key.Classes) (is_within the_key.Classes no_members) the_key.Classes
+class_need o = needs o (is_kind the_key.Classes) (is_in_limits the_key.Classes no_members)
+    the_key.Classes
 
 empty_if : (b : Bool) (inner : Members) (rest : Option TableFault) → fault_in (checked inner) ≡ rest
-    → fault_in ((if b then Err (Range the_key.Classes) else Ok inner) >>= by_some) ≡ option_or (cond (not (not b)) (Some (Range the_key.Classes)) None) rest
+    → fault_in ((if b then Err (Range the_key.Classes) else Ok inner) >>= by_some)
+    ≡ option_or (cond (not (not b)) (Some (Range the_key.Classes)) None) rest
 empty_if true inner rest same = refl
 empty_if false inner rest same = done (checked inner) (λ sound. inner) ∙ same
 
-tables_if : (b : Bool) (tree inner : Members) (rest : Option TableFault) → (b ≡ true → fault_in (checked inner) ≡ rest)
-    → fault_in ((if b then Ok inner else Err (Kind the_key.Classes)) >>= (λ tables. (if is_empty tables then Err (Range the_key.Classes) else Ok tables) >>= by_some))
-    ≡ option_or (cond (not b) (Some (Kind the_key.Classes)) (cond (not (not (is_empty inner))) (Some (Range the_key.Classes)) None)) rest
+tables_if : (b : Bool) (tree inner : Members) (rest : Option TableFault)
+    → (b ≡ true → fault_in (checked inner) ≡ rest)
+    → fault_in ((if b then Ok inner else Err (Kind the_key.Classes))
+    >>= (λ tables. (if is_empty tables then Err (Range the_key.Classes) else Ok tables)
+    >>= by_some))
+    ≡ option_or (cond (not b) (Some (Kind the_key.Classes))
+    (cond (not (not (is_empty inner))) (Some (Range the_key.Classes)) None)) rest
 tables_if true tree inner rest same = empty_if (is_empty inner) inner rest (same refl)
 tables_if false tree inner rest same = refl
 
-classes_steps : (o : Option Data) (tree : Members) (rest : Option TableFault) → ((inner : Members) → o ≡ Some (table inner) → hold_tables inner ≡ true → fault_in (checked inner) ≡ rest)
-    → fault_in ((ok_or o (Missing the_key.Classes) >>= (λ value. of_kind the_key.Classes (as_table value))) >>= by_table tree) ≡ option_or (class_need o) rest
+classes_steps : (o : Option Data) (tree : Members) (rest : Option TableFault)
+    → ((inner : Members) → o ≡ Some (table inner) → hold_tables inner ≡ true
+    → fault_in (checked inner) ≡ rest)
+    → fault_in ((ok_or o (Missing the_key.Classes)
+    >>= (λ value. of_kind the_key.Classes (as_table value))) >>= by_table tree)
+    ≡ option_or (class_need o) rest
 unfolding class_need
 classes_steps None tree rest same = refl
-classes_steps (Some (table inner)) tree rest same = tables_if (hold_tables inner) tree inner rest (λ tables. same inner refl tables)
+classes_steps (Some (table inner)) tree rest same =
+    tables_if (hold_tables inner) tree inner rest (λ tables. same inner refl tables)
 classes_steps (Some _) tree rest same = refl
 
-pub classes-told : (tree : Members) → fault_in (classes_of tree) ≡ first_of tree (needed_rows top the_key.Classes ++ class_rows 0 (classes_in tree))
+pub classes-told : (tree : Members)
+    → fault_in (classes_of tree)
+    ≡ first_row tree (needed_rows top the_key.Classes ++ class_rows 0 (classes_in tree))
 unfolding classes_of class_need
 classes-told tree =
-    classes_steps (get_member (codes "classes") tree) tree (first_of tree (class_rows 0 (classes_in tree))) (λ inner is tables.
+    classes_steps (get_member (codes "classes") tree) tree
+    (first_row tree (class_rows 0 (classes_in tree))) (λ inner is tables.
     let same : classes_in tree ≡ inner = ap members_of is in
-    let stand : Stand (classes_in tree) 0 inner = subst (λ (m : Members). Stand (classes_in tree) 0 m) same (stand_all (classes_in tree)) in
-    checked-told tree 0 inner stand tables ∙ ap (λ (m : Members). first_of tree (class_rows 0 m)) (sym same))
-    ∙ ap (λ (x : Option TableFault). option_or x (first_of tree (class_rows 0 (classes_in tree)))) (sym (told_needed tree top the_key.Classes))
+    let stand : Stand (classes_in tree) 0 inner =
+    subst (λ (m : Members). Stand (classes_in tree) 0 m) same (stand_all (classes_in tree)) in
+    checked-told tree 0 inner stand tables
+    ∙ ap (λ (m : Members). first_row tree (class_rows 0 m)) (sym same))
+    ∙ ap (λ (x : Option TableFault). option_or x (first_row tree (class_rows 0 (classes_in tree))))
+    (sym (told_needed tree top the_key.Classes))
     ∙ sym (told_append tree (needed_rows top the_key.Classes) (class_rows 0 (classes_in tree)))
 
 -- ---- the default class
-entry_fine : (value : Data) (inner : Members) (terms : Terms) → of_kind the_key.Classes (as_table value) ≡ Ok inner → class_of inner ≡ Ok terms → fault_in (of_kind the_key.Classes (as_table value) >>= class_of) ≡ None
-entry_fine value inner terms one two = ap (λ (x : Outcome Members). fault_in (x >>= class_of)) one ∙ ap (λ (x : Outcome Terms). fault_in x) two
+entry_fine : (value : Data) (inner : Members) (terms : Terms)
+    → of_kind the_key.Classes (as_table value) ≡ Ok inner → class_of inner ≡ Ok terms
+    → fault_in (of_kind the_key.Classes (as_table value) >>= class_of) ≡ None
+entry_fine value inner terms one two =
+    ap (λ (x : Outcome Members). fault_in (x >>= class_of)) one
+    ∙ ap (λ (x : Outcome Terms). fault_in x) two
 
 -- a class that was found sound has no fault where it is looked up
-named_fine : (part : Members) (name : List ℕ) (value : Data) → checked part ≡ Ok tt → get_member name part ≡ Some value → fault_in (of_kind the_key.Classes (as_table value) >>= class_of) ≡ None
+named_fine : (part : Members) (name : List ℕ) (value : Data) → checked part ≡ Ok tt
+    → get_member name part ≡ Some value
+    → fault_in (of_kind the_key.Classes (as_table value) >>= class_of) ≡ None
 named_fine no_members name value sound at = absurd (cc)
 named_fine (member first one more) name value sound at =
-    let inner = bind_ok (of_kind the_key.Classes (as_table one)) (λ inner. class_of inner >>= (λ terms. checked more)) tt sound in
+    let inner = bind_ok (of_kind the_key.Classes (as_table one)) (λ inner.
+    class_of inner >>= (λ terms. checked more)) tt sound in
     let terms = bind_ok (class_of inner.0) (λ terms. checked more) tt inner.2 in
     ⊎_elim
-    (λ (same : (name ≡ first) × (one ≡ value)). subst (λ (v : Data). fault_in (of_kind the_key.Classes (as_table v) >>= class_of) ≡ None) same.1 (entry_fine one inner.0 terms.0 inner.1 terms.1))
-    (λ (later : (is_eq (slice_cmp nat_cmp name first) ≡ false) × (get_member name more ≡ Some value)). named_fine more name value terms.2 later.1)
+    (λ (same : (name ≡ first) × (one ≡ value)).
+    subst (λ (v : Data). fault_in (of_kind the_key.Classes (as_table v) >>= class_of) ≡ None)
+    same.1 (entry_fine one inner.0 terms.0 inner.1 terms.1))
+    (λ (later : (is_eq (slice_cmp nat_cmp name first) ≡ false)
+    × (get_member name more ≡ Some value)). named_fine more name value terms.2 later.1)
     (member-found name first one value more at)
 
 abbrev by_entry : Data → Outcome Terms
 by_entry value = of_kind the_key.Classes (as_table value) >>= (λ inner. class_of inner)
 
-found_fine : (o : Option Data) → ((value : Data) → o ≡ Some value → fault_in (by_entry value) ≡ None) → fault_in (ok_or o Rider >>= by_entry) ≡ cond (is_none o) (Some Rider) None
+found_fine : (o : Option Data)
+    → ((value : Data) → o ≡ Some value → fault_in (by_entry value) ≡ None)
+    → fault_in (ok_or o Rider >>= by_entry) ≡ cond (is_none o) (Some Rider) None
 found_fine None fine = refl
 found_fine (Some value) fine = fine value refl
 
-pub named-told : (classes : Members) (name : List ℕ) → checked classes ≡ Ok tt → fault_in (class_named classes name) ≡ cond (is_none (get_member name classes)) (Some Rider) None
-named-told classes name sound = found_fine (get_member name classes) (λ value at. named_fine classes name value sound at)
+pub named-told : (classes : Members) (name : List ℕ) → checked classes ≡ Ok tt
+    → fault_in (class_named classes name)
+    ≡ cond (is_none (get_member name classes)) (Some Rider) None
+named-told classes name sound =
+    found_fine (get_member name classes) (λ value at. named_fine classes name value sound at)
 
 default_steps : (o : Option Data) (classes : Members) → checked classes ≡ Ok tt
-    → fault_in ((ok_or o (Missing the_key.DefaultClass) >>= (λ value. of_kind the_key.DefaultClass (as_str value))) >>= (λ name. class_named classes name))
-    ≡ cond (is_none o) (Some (Missing the_key.DefaultClass)) (cond (fails (is_kind the_key.DefaultClass) o) (Some (Kind the_key.DefaultClass)) (cond (is_none (get_member (word_of o) classes)) (Some Rider) None))
+    → fault_in ((ok_or o (Missing the_key.DefaultClass)
+    >>= (λ value. of_kind the_key.DefaultClass (as_str value)))
+    >>= (λ name. class_named classes name))
+    ≡ cond (is_none o) (Some (Missing the_key.DefaultClass))
+    (cond (fails (is_kind the_key.DefaultClass) o) (Some (Kind the_key.DefaultClass))
+    (cond (is_none (get_member (string_of o) classes)) (Some Rider) None))
 default_steps None classes sound = refl
 default_steps (Some (string s)) classes sound = named-told classes s sound
 default_steps (Some _) classes sound = refl
 
 pub default-told : (tree classes : Members) → classes_in tree ≡ classes → checked classes ≡ Ok tt
-    → fault_in (default_of classes tree) ≡ first_of tree (a_row top (Missing the_key.DefaultClass) ∷ a_row top (Kind the_key.DefaultClass) ∷ a_row top Rider ∷ [])
+    → fault_in (default_of classes tree)
+    ≡ first_row tree (a_row top (Missing the_key.DefaultClass)
+    ∷ a_row top (Kind the_key.DefaultClass) ∷ a_row top Rider ∷ [])
 unfolding default_of
 default-told tree classes same sound =
     default_steps o classes sound
-    ∙ ap (λ (m : Members). cond (is_none o) (Some (Missing the_key.DefaultClass)) (cond (fails (is_kind the_key.DefaultClass) o) (Some (Kind the_key.DefaultClass)) (cond (is_none (get_member (word_of o) m)) (Some Rider) None))) (sym same)
-    ∙ sym (told tree top (Missing the_key.DefaultClass) (a_row top (Kind the_key.DefaultClass) ∷ a_row top Rider ∷ [])
-    ∙ ap (λ (x : Option TableFault). cond (is_none o) (Some (Missing the_key.DefaultClass)) x) (told_two tree top (Kind the_key.DefaultClass) Rider))
+    ∙ ap (λ (m : Members).
+    cond (is_none o) (Some (Missing the_key.DefaultClass))
+    (cond (fails (is_kind the_key.DefaultClass) o) (Some (Kind the_key.DefaultClass))
+    (cond (is_none (get_member (string_of o) m)) (Some Rider) None))) (sym same)
+    ∙ sym (told tree top (Missing the_key.DefaultClass) (a_row top (Kind the_key.DefaultClass)
+    ∷ a_row top Rider ∷ [])
+    ∙ ap (λ (x : Option TableFault). cond (is_none o) (Some (Missing the_key.DefaultClass)) x)
+    (told_two tree top (Kind the_key.DefaultClass) Rider))
   where
     o : Option Data
     o = get_member (codes "default_class") tree

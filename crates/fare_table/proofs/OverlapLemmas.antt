@@ -1,5 +1,7 @@
 -- Where a new range shares a number with ranges that stand apart, and that they stay apart without.
-use Rattle.std.proofs.Common.{◌≡◌, ◌⊎◌, ℕ, ◌<◌, ◌≤◌, ◌&&◌, not, Bool, true, false, List, [], ◌∷◌, ◌++◌, refl, sym, ap, ◌∙◌, arith, Option, Some, None, cond, inl, inr, le-leb, Ordering, Less, Equal, Greater}
+use Rattle.std.proofs.Common.{◌≡◌, ◌⊎◌, ℕ, ◌<◌, ◌≤◌, ◌&&◌, not, Bool, true, false, List, [], ◌∷◌}
+use Rattle.std.proofs.Common.{◌++◌, refl, sym, ap, ◌∙◌, arith, Option, Some, None, cond, inl, inr}
+use Rattle.std.proofs.Common.{le-leb, Ordering, Less, Equal, Greater}
 use Rattle.std.proofs.lemmas.Bool.{and_parts, false≢true, leb-true, or_parts}
 use Rattle.std.proofs.lemmas.Bool.Decides.{leb_tells, nat_tests}
 use Rattle.std.proofs.Math.Bool.{or-false}
@@ -38,15 +40,19 @@ alone range chain = leb-true _ _ chain
 not_past : (n q : ℕ) → not (is_lt (nat_cmp n q)) ≡ nat_le q n
 not_past n q = grind (arith, nat_tests)
 
-begun_cons : (n : ℕ) (range : ℕ × Span) (more : List (ℕ × Span)) → begun n (range ∷ more) ≡ cond (nat_le range.0 n) (range ∷ begun n more) (begun n more)
-begun_cons n range more = ap (λ b. cond b (range ∷ begun n more) (begun n more)) (not_past n range.0)
+begun_cons : (n : ℕ) (range : ℕ × Span) (more : List (ℕ × Span))
+    → begun n (range ∷ more) ≡ cond (nat_le range.0 n) (range ∷ begun n more) (begun n more)
+begun_cons n range more =
+    ap (λ b. cond b (range ∷ begun n more) (begun n more)) (not_past n range.0)
 
-begun_step : (n : ℕ) (range : ℕ × Span) (more : List (ℕ × Span)) → n < range.0 → begun n more ≡ [] → begun n (range ∷ more) ≡ []
+begun_step : (n : ℕ) (range : ℕ × Span) (more : List (ℕ × Span)) → n < range.0 → begun n more ≡ []
+    → begun n (range ∷ more) ≡ []
 begun_step n range more after rest =
     let past : nat_le range.0 n ≡ false = grind (arith, nat_tests) in
     begun_cons n range more ∙ rw (past, rest)
 
-begun_none : (n : ℕ) (range : ℕ × Span) (more : List (ℕ × Span)) → is_chain (range ∷ more) ≡ true → n < range.0 → begun n (range ∷ more) ≡ []
+begun_none : (n : ℕ) (range : ℕ × Span) (more : List (ℕ × Span)) → is_chain (range ∷ more) ≡ true
+    → n < range.0 → begun n (range ∷ more) ≡ []
 begun_none n range [] chain after = begun_step n range [] after refl
 begun_none n range (next ∷ more) chain after =
     let two = apart range next more chain in
@@ -61,19 +67,22 @@ and_true : (b : Bool) → (b && true) ≡ b
 and_true true = refl
 and_true false = refl
 
-pub rest_chain : (range : ℕ × Span) (more : List (ℕ × Span)) → is_chain (range ∷ more) ≡ true → is_chain more ≡ true
+pub rest_chain : (range : ℕ × Span) (more : List (ℕ × Span)) → is_chain (range ∷ more) ≡ true
+    → is_chain more ≡ true
 rest_chain range [] chain = refl
 rest_chain range (next ∷ more) chain = (apart range next more chain).rest
 
 -- what a map's range up to a number ends with
-pub last_begun-begun : (n : ℕ) (ranges : List (ℕ × Span)) → is_chain ranges ≡ true → last_of (begun n ranges) ≡ last_begun n ranges
+pub last_begun-begun : (n : ℕ) (ranges : List (ℕ × Span)) → is_chain ranges ≡ true
+    → last_of (begun n ranges) ≡ last_begun n ranges
 last_begun-begun n [] chain = refl
 last_begun-begun n (range ∷ more) chain = elim (leb_tells range.0 n) [
   | inl a ↦ rw (begun_cons n range more, a.0, last_begun-begun n more (rest_chain range more chain))
   | inr a ↦ rw (begun_none n range more chain a.1, a.0)
 ]
 
-pub ends_after : (range : ℕ × Span) (more : List (ℕ × Span)) → is_chain (range ∷ more) ≡ true → range.0 ≤ range.1.last
+pub ends_after : (range : ℕ × Span) (more : List (ℕ × Span)) → is_chain (range ∷ more) ≡ true
+    → range.0 ≤ range.1.last
 ends_after range [] chain = alone range chain
 ends_after range (next ∷ more) chain = (apart range next more chain).begins
 
@@ -83,7 +92,8 @@ reaches number None = false
 reaches number (Some range) = nat_le number range.1.last
 
 -- the last range that begins no later than a number reaches any number that an earlier one reaches
-reached : (x n : ℕ) (range : ℕ × Span) (more : List (ℕ × Span)) → is_chain (range ∷ more) ≡ true → nat_le range.0 n ≡ true → x ≤ range.1.last
+reached : (x n : ℕ) (range : ℕ × Span) (more : List (ℕ × Span)) → is_chain (range ∷ more) ≡ true
+    → nat_le range.0 n ≡ true → x ≤ range.1.last
     → reaches x (last_begun n (range ∷ more)) ≡ true
 reached x n range [] chain here back = rw here (le-leb _ _ back)
 reached x n range (next ∷ more) chain here back =
@@ -97,31 +107,52 @@ reached x n range (next ∷ more) chain here back =
       | inr a ↦ rw (here, a.0) (le-leb _ _ back)
     ]
 
-shares_step : (range other next : ℕ × Span) (more : List (ℕ × Span)) → range.0 ≤ range.1.last → AreApart other next more
-    → list_any (share_number range) (next ∷ more) ≡ reaches range.0 (last_begun range.1.last (next ∷ more))
-    → ((nat_le range.0 other.1.last ≡ true) × (range.0 ≤ other.1.last)) ⊎ ((nat_le range.0 other.1.last ≡ false) × (other.1.last < range.0))
-    → ((nat_le other.0 range.1.last ≡ true) × (other.0 ≤ range.1.last)) ⊎ ((nat_le other.0 range.1.last ≡ false) × (range.1.last < other.0))
-    → ((nat_le next.0 range.1.last ≡ true) × (next.0 ≤ range.1.last)) ⊎ ((nat_le next.0 range.1.last ≡ false) × (range.1.last < next.0))
-    → list_any (share_number range) (other ∷ next ∷ more) ≡ reaches range.0 (last_begun range.1.last (other ∷ next ∷ more))
+shares_step : (range other next : ℕ × Span) (more : List (ℕ × Span)) → range.0 ≤ range.1.last
+    → AreApart other next more
+    → list_any (share_number range) (next ∷ more)
+    ≡ reaches range.0 (last_begun range.1.last (next ∷ more))
+    → ((nat_le range.0 other.1.last ≡ true) × (range.0 ≤ other.1.last))
+    ⊎ ((nat_le range.0 other.1.last ≡ false) × (other.1.last < range.0))
+    → ((nat_le other.0 range.1.last ≡ true) × (other.0 ≤ range.1.last))
+    ⊎ ((nat_le other.0 range.1.last ≡ false) × (range.1.last < other.0))
+    → ((nat_le next.0 range.1.last ≡ true) × (next.0 ≤ range.1.last))
+    ⊎ ((nat_le next.0 range.1.last ≡ false) × (range.1.last < next.0))
+    → list_any (share_number range) (other ∷ next ∷ more)
+    ≡ reaches range.0 (last_begun range.1.last (other ∷ next ∷ more))
 shares_step range other next more order two ih back (inr a) nexts =
-    let later : nat_le next.0 range.1.last ≡ false = grind (arith, nat_tests, two.begins, two.ends) in
+    let later : nat_le next.0 range.1.last ≡ false =
+    grind (arith, nat_tests, two.begins, two.ends) in
     let none : list_any (share_number range) (next ∷ more) ≡ false = ih ∙ rw later in
     rw (a.0, none, and_false (nat_le range.0 other.1.last))
 shares_step range other next more order two ih (inl b) (inl a) (inl d) =
-    let all : reaches range.0 (last_begun range.1.last (next ∷ more)) ≡ true = reached range.0 range.1.last next more two.rest d.0 (omega (arith, two.ends, ends_after next more two.rest)) in
-    let same : reaches range.0 (option_or (last_begun range.1.last more) (Some next)) ≡ true = rw d.0 at all in
+    let all : reaches range.0 (last_begun range.1.last (next ∷ more)) ≡ true =
+    reached range.0 range.1.last next more two.rest d.0
+    (omega (arith, two.ends, ends_after next more two.rest)) in
+    let same : reaches range.0 (option_or (last_begun range.1.last more) (Some next)) ≡ true =
+    rw d.0 at all in
     rw (a.0, b.0, d.0, or_twice (last_begun range.1.last more) next other) (sym same)
 shares_step range other next more order two ih (inr b) (inl a) (inl d) =
-    let some : last_begun range.1.last (next ∷ more) ≡ option_or (last_begun range.1.last more) (Some next) = rw d.0 in
-    let same : last_begun range.1.last (next ∷ more) ≡ option_or (last_begun range.1.last (next ∷ more)) (Some other) =
-    some ∙ sym (or_twice (last_begun range.1.last more) next other) ∙ ap (λ o. option_or o (Some other)) (sym some) in
+    let some : last_begun range.1.last (next ∷ more)
+    ≡ option_or (last_begun range.1.last more) (Some next) = rw d.0 in
+    let same : last_begun range.1.last (next ∷ more)
+    ≡ option_or (last_begun range.1.last (next ∷ more)) (Some other) =
+    some ∙ sym (or_twice (last_begun range.1.last more) next other)
+    ∙ ap (λ o. option_or o (Some other)) (sym some) in
     rw (a.0, b.0) (ih ∙ ap (reaches range.0) same)
 shares_step range other next more order two ih back (inl a) (inr d) =
     let none : list_any (share_number range) (next ∷ more) ≡ false = ih ∙ rw d.0 in
-    rw (none, a.0, d.0, and_true (nat_le range.0 other.1.last), or-false (nat_le range.0 other.1.last))
+    rw (
+      none,
+      a.0,
+      d.0,
+      and_true (nat_le range.0 other.1.last),
+      or-false (nat_le range.0 other.1.last),
+    )
 
--- a range shares a number with one of those that stand apart where the last one that begins no later than it ends reaches back to it
-pub shares-last_begun : (range : ℕ × Span) (ranges : List (ℕ × Span)) → range.0 ≤ range.1.last → is_chain ranges ≡ true
+-- a range shares a number with one of those that stand apart where the last one that begins no
+-- later than it ends reaches back to it
+pub shares-last_begun : (range : ℕ × Span) (ranges : List (ℕ × Span)) → range.0 ≤ range.1.last
+    → is_chain ranges ≡ true
     → list_any (share_number range) ranges ≡ reaches range.0 (last_begun range.1.last ranges)
 shares-last_begun range [] order chain = refl
 shares-last_begun range (other ∷ []) order chain = elim (leb_tells other.0 range.1.last) [
@@ -129,10 +160,13 @@ shares-last_begun range (other ∷ []) order chain = elim (leb_tells other.0 ran
   | inr a ↦ rw (a.0, and_false (nat_le range.0 other.1.last))
 ]
 shares-last_begun range (other ∷ next ∷ more) order chain =
-    shares_step range other next more order (apart other next more chain) (shares-last_begun range (next ∷ more) order (rest_chain other (next ∷ more) chain))
-    (leb_tells range.0 other.1.last) (leb_tells other.0 range.1.last) (leb_tells next.0 range.1.last)
+    shares_step range other next more order (apart other next more chain)
+    (shares-last_begun range (next ∷ more) order (rest_chain other (next ∷ more) chain))
+    (leb_tells range.0 other.1.last) (leb_tells other.0 range.1.last)
+    (leb_tells next.0 range.1.last)
 
-cons_chain : (range next : ℕ × Span) (more : List (ℕ × Span)) → range.0 ≤ range.1.last → range.1.last < next.0 → is_chain (next ∷ more) ≡ true
+cons_chain : (range next : ℕ × Span) (more : List (ℕ × Span)) → range.0 ≤ range.1.last
+    → range.1.last < next.0 → is_chain (next ∷ more) ≡ true
     → is_chain (range ∷ next ∷ more) ≡ true
 cons_chain range next more begins ends rest =
     let first : nat_le range.0 range.1.last ≡ true = grind (arith, nat_tests) in
@@ -140,7 +174,8 @@ cons_chain range next more begins ends rest =
     rw (first, second, rest)
 
 -- a range that shares no number with another ends before it or begins after it
-pub free_apart : (range other : ℕ × Span) → share_number range other ≡ false → (range.1.last < other.0) ⊎ (other.1.last < range.0)
+pub free_apart : (range other : ℕ × Span) → share_number range other ≡ false
+    → (range.1.last < other.0) ⊎ (other.1.last < range.0)
 free_apart range other free = elim (leb_tells range.0 other.1.last) [
   | inl a ↦ elim (leb_tells other.0 range.1.last) [
     | inl b ↦ let both : true ≡ false = rw (a.0, b.0) at free in absurd (false≢true (sym both))
@@ -149,75 +184,101 @@ free_apart range other free = elim (leb_tells range.0 other.1.last) [
   | inr a ↦ inr a.1
 ]
 
-pub comes_before : (range other : ℕ × Span) → range.0 ≤ range.1.last → range.1.last < other.0 → nat_cmp range.0 other.0 ≡ Less
+pub comes_before : (range other : ℕ × Span) → range.0 ≤ range.1.last → range.1.last < other.0
+    → nat_cmp range.0 other.0 ≡ Less
 comes_before range other order before = sym (nat_cmp_is range.0 other.0 Less (omega arith))
 
-pub comes_after : (range other : ℕ × Span) → other.0 ≤ other.1.last → other.1.last < range.0 → nat_cmp range.0 other.0 ≡ Greater
+pub comes_after : (range other : ℕ × Span) → other.0 ≤ other.1.last → other.1.last < range.0
+    → nat_cmp range.0 other.0 ≡ Greater
 comes_after range other order after = sym (nat_cmp_is range.0 other.0 Greater (omega arith))
 
 with_one : ℕ × Span → List (ℕ × Span) → List (ℕ × Span)
 with_one range ranges = insert_entry nat_cmp ranges range.0 range.1
 
-one_before : (range other : ℕ × Span) (more : List (ℕ × Span)) → nat_cmp range.0 other.0 ≡ Less → with_one range (other ∷ more) ≡ range ∷ other ∷ more
+one_before : (range other : ℕ × Span) (more : List (ℕ × Span)) → nat_cmp range.0 other.0 ≡ Less
+    → with_one range (other ∷ more) ≡ range ∷ other ∷ more
 unfolding with_one
 one_before range other more less = rw less
 
-one_after : (range other : ℕ × Span) (more : List (ℕ × Span)) → nat_cmp range.0 other.0 ≡ Greater → with_one range (other ∷ more) ≡ other ∷ with_one range more
+one_after : (range other : ℕ × Span) (more : List (ℕ × Span)) → nat_cmp range.0 other.0 ≡ Greater
+    → with_one range (other ∷ more) ≡ other ∷ with_one range more
 unfolding with_one
 one_after range other more greater = rw greater
 
 -- before a chain that goes on with a new range stands a range that ends before both
-cons_with_one : (first range next : ℕ × Span) (more : List (ℕ × Span)) → first.0 ≤ first.1.last → first.1.last < range.0 → first.1.last < next.0
+cons_with_one : (first range next : ℕ × Span) (more : List (ℕ × Span)) → first.0 ≤ first.1.last
+    → first.1.last < range.0 → first.1.last < next.0
     → range.0 ≤ range.1.last → next.0 ≤ next.1.last → share_number range next ≡ false
-    → is_chain (with_one range (next ∷ more)) ≡ true → is_chain (first ∷ with_one range (next ∷ more)) ≡ true
-cons_with_one first range next more begins ends further order onward free chain = elim (free_apart range next free) [
-  | inl a ↦
-      let same = one_before range next more (comes_before range next order a) in
-      rw same (cons_chain first range (next ∷ more) begins ends (rw same at chain))
-  | inr a ↦
-      let same = one_after range next more (comes_after range next onward a) in
-      rw same (cons_chain first next (with_one range more) begins further (rw same at chain))
-]
+    → is_chain (with_one range (next ∷ more)) ≡ true
+    → is_chain (first ∷ with_one range (next ∷ more)) ≡ true
+cons_with_one first range next more begins ends further order onward free chain =
+    elim (free_apart range next free) [
+      | inl a ↦
+          let same = one_before range next more (comes_before range next order a) in
+          rw same (cons_chain first range (next ∷ more) begins ends (rw same at chain))
+      | inr a ↦
+          let same = one_after range next more (comes_after range next onward a) in
+          rw same (cons_chain first next (with_one range more) begins further (rw same at chain))
+    ]
 
-chain-with_one : (range other : ℕ × Span) (more : List (ℕ × Span)) → range.0 ≤ range.1.last → is_chain (other ∷ more) ≡ true
-    → list_any (share_number range) (other ∷ more) ≡ false → is_chain (with_one range (other ∷ more)) ≡ true
+chain-with_one : (range other : ℕ × Span) (more : List (ℕ × Span)) → range.0 ≤ range.1.last
+    → is_chain (other ∷ more) ≡ true
+    → list_any (share_number range) (other ∷ more) ≡ false
+    → is_chain (with_one range (other ∷ more)) ≡ true
 unfolding with_one
 chain-with_one range other [] order chain free =
     let begins : other.0 ≤ other.1.last = alone other chain in
     elim (free_apart range other (or_parts (share_number range other) false free).0) [
-      | inl a ↦ rw (one_before range other [] (comes_before range other order a)) (cons_chain range other [] order a chain)
-      | inr a ↦ rw (one_after range other [] (comes_after range other begins a)) (cons_chain other range [] begins a (le-leb _ _ order))
+      | inl a ↦ rw (one_before range other [] (comes_before range other order a))
+          (cons_chain range other [] order a chain)
+      | inr a ↦ rw (one_after range other [] (comes_after range other begins a))
+          (cons_chain other range [] begins a (le-leb _ _ order))
     ]
 chain-with_one range other (next ∷ more) order chain free =
     let two = apart other next more chain in
-    let apart_from = or_parts (share_number range other) (list_any (share_number range) (next ∷ more)) free in
-    let later = or_parts (share_number range next) (list_any (share_number range) more) apart_from.1 in
+    let apart_from = or_parts (share_number range other)
+    (list_any (share_number range) (next ∷ more)) free in
+    let later = or_parts (share_number range next) (list_any (share_number range) more)
+    apart_from.1 in
     elim (free_apart range other apart_from.0) [
-      | inl a ↦ rw (one_before range other (next ∷ more) (comes_before range other order a)) (cons_chain range other (next ∷ more) order a chain)
+      | inl a ↦ rw (one_before range other (next ∷ more) (comes_before range other order a))
+          (cons_chain range other (next ∷ more) order a chain)
       | inr a ↦ rw (one_after range other (next ∷ more) (comes_after range other two.begins a))
-          (cons_with_one other range next more two.begins a two.ends order (ends_after next more two.rest) later.0 (chain-with_one range next more order two.rest apart_from.1))
+          (cons_with_one other range next more two.begins a two.ends order
+          (ends_after next more two.rest) later.0
+          (chain-with_one range next more order two.rest apart_from.1))
     ]
 
 -- ranges that stand apart stay so with a range that shares no number with them
-pub chain-insert : (range : ℕ × Span) (ranges : List (ℕ × Span)) → range.0 ≤ range.1.last → is_chain ranges ≡ true
+pub chain-insert : (range : ℕ × Span) (ranges : List (ℕ × Span)) → range.0 ≤ range.1.last
+    → is_chain ranges ≡ true
     → list_any (share_number range) ranges ≡ false
     → is_chain (insert_entry nat_cmp ranges range.0 range.1) ≡ true
 unfolding with_one
 chain-insert range [] order chain free = le-leb _ _ order
-chain-insert range (other ∷ more) order chain free = chain-with_one range other more order chain free
+chain-insert range (other ∷ more) order chain free =
+    chain-with_one range other more order chain free
 
-known_step : (count : ℕ) (range other : ℕ × Span) (more : List (ℕ × Span)) (o : Ordering) → nat_lt range.1.mode count ≡ true → are_modes_below count (other ∷ more) ≡ true
+known_step : (count : ℕ) (range other : ℕ × Span) (more : List (ℕ × Span)) (o : Ordering)
+    → nat_lt range.1.mode count ≡ true → are_modes_below count (other ∷ more) ≡ true
     → are_modes_below count (insert_entry nat_cmp more range.0 range.1) ≡ true
-    → are_modes_below count (match_ordering o (range ∷ other ∷ more) ((other.0, range.1) ∷ more) (other ∷ insert_entry nat_cmp more range.0 range.1)) ≡ true
+    → are_modes_below count
+    (match_ordering o (range ∷ other ∷ more) ((other.0, range.1) ∷ more) (other
+    ∷ insert_entry nat_cmp more range.0 range.1)) ≡ true
 known_step count range other more Less known all later = rw known all
-known_step count range other more Equal known all later = rw known (and_parts (nat_lt other.1.mode count) (are_modes_below count more) all).1
-known_step count range other more Greater known all later = rw ((and_parts (nat_lt other.1.mode count) (are_modes_below count more) all).0) later
+known_step count range other more Equal known all later =
+    rw known (and_parts (nat_lt other.1.mode count) (are_modes_below count more) all).1
+known_step count range other more Greater known all later =
+    rw ((and_parts (nat_lt other.1.mode count) (are_modes_below count more) all).0) later
 
 -- one more range of a mode of the table
-pub known-insert : (count : ℕ) (range : ℕ × Span) (ranges : List (ℕ × Span)) → range.1.mode < count → are_modes_below count ranges ≡ true
+pub known-insert : (count : ℕ) (range : ℕ × Span) (ranges : List (ℕ × Span)) → range.1.mode < count
+    → are_modes_below count ranges ≡ true
     → are_modes_below count (insert_entry nat_cmp ranges range.0 range.1) ≡ true
-known-insert count range [] below all = let known : nat_lt range.1.mode count ≡ true = grind (arith, nat_tests) in rw known
+known-insert count range [] below all = let known : nat_lt range.1.mode count ≡ true =
+    grind (arith, nat_tests) in rw known
 known-insert count range (other ∷ more) below all =
     let known : nat_lt range.1.mode count ≡ true = grind (arith, nat_tests) in
     known_step count range other more (nat_cmp range.0 other.0) known all
-    (known-insert count range more below (and_parts (nat_lt other.1.mode count) (are_modes_below count more) all).1)
+    (known-insert count range more below
+    (and_parts (nat_lt other.1.mode count) (are_modes_below count more) all).1)

@@ -1,5 +1,7 @@
 -- The pairs of places of a table are those of the pairs of names that its text lists.
-use Rattle.std.proofs.Common.{◌≡◌, ◌⊎◌, ◌↔◌, ℕ, ◌<◌, ◌==◌, ◌||◌, ◌&&◌, Bool, true, false, List, [], ◌∷◌, ◌++◌, length, Ok, refl, sym, ap, ◌∙◌, subst, arith, inl, inr, ⊎_elim, slice_index_or, zero, suc}
+use Rattle.std.proofs.Common.{◌≡◌, ◌⊎◌, ◌↔◌, ℕ, ◌<◌, ◌==◌, ◌||◌, ◌&&◌, Bool, true, false, List, []}
+use Rattle.std.proofs.Common.{◌∷◌, ◌++◌, length, Ok, refl, sym, ap, ◌∙◌, subst, arith, inl, inr}
+use Rattle.std.proofs.Common.{⊎_elim, slice_index_or, zero, suc}
 use Rattle.std.specs.Prelude.{Contains, codes, if◌then◌else◌}
 use Rattle.std.proofs.lemmas.Bool.Decides.{eqb_tells}
 use Rattle.std.proofs.lemmas.List.Elements.{Contains-append_right, Contains-get_or}
@@ -8,8 +10,9 @@ use Rattle.toml.specs.Data.{Items, Members}
 use Rattle.fare_table.proofs.PartLemmas.{bind_ok, parts}
 use Rattle.fare_table.specs.Members.{array_at}
 use Rattle.fare_table.specs.Outcome.{Outcome, ◌>>=◌}
-use Rattle.fare_table.specs.Rules.{Rules, rules_of}
-use Rattle.fare_table.specs.Transfers.{has_pair, joins, named_pairs, pairs_from, places_of, transfers_from, transfers_of, with_pair, ListsPair}
+use Rattle.fare_table.specs.Rules.{TableRules, rules_of_tree}
+use Rattle.fare_table.specs.Transfers.{has_pair, joins, named_pairs, pairs_from, places_of}
+use Rattle.fare_table.specs.Transfers.{transfers_from, transfers_of, with_pair, ListsPair}
 use Rattle.fare_table.specs.declared.fault.Key.TheVariants as the_key
 
 or_left : (a b : Bool) → a ≡ true → (a || b) ≡ true
@@ -40,7 +43,8 @@ eq_refl : (n : ℕ) → (n == n) ≡ true
 eq_refl n = ⊎_elim (λ same. same.0) (λ other. absurd (other.1 refl)) (eqb_tells n n)
 
 eq_true : (a b : ℕ) → (a == b) ≡ true → a ≡ b
-eq_true a b is = ⊎_elim (λ same. same.1) (λ other. let no = other.0 in absurd (cc (no, is))) (eqb_tells a b)
+eq_true a b is = ⊎_elim (λ same. same.1) (λ other. let no = other.0 in absurd (cc (no, is)))
+    (eqb_tells a b)
 
 abbrev pair_by : ℕ → ℕ → ℕ × ℕ
 pair_by a b = (a, b)
@@ -49,59 +53,76 @@ same_pair : (a b c d : ℕ) → a ≡ c → b ≡ d → pair_by a b ≡ pair_by 
 same_pair a b c d one other = cc
 
 -- what stands in a list stands first, or among the others
-cons_cases : {X : Type 0} (x : X) (xs : List X) (y : X) (k : ℕ) → k < length (x ∷ xs) → slice_index_or (x ∷ xs) k y ≡ y → (x ≡ y) ⊎ Contains xs y
+cons_cases : {X : Type 0} (x : X) (xs : List X) (y : X) (k : ℕ) → k < length (x ∷ xs)
+    → slice_index_or (x ∷ xs) k y ≡ y → (x ≡ y) ⊎ Contains xs y
 cons_cases x xs y zero below is = inl is
 cons_cases x xs y (suc k) below is = inr (k, omega arith, is)
 
-keeps_if : (b : Bool) (pairs : List (ℕ × ℕ)) (f t from to : ℕ) → has_pair pairs from to ≡ true → has_pair (if b then pairs else pairs ++ (f, t) ∷ []) from to ≡ true
+keeps_if : (b : Bool) (pairs : List (ℕ × ℕ)) (f t from to : ℕ) → has_pair pairs from to ≡ true
+    → has_pair (if b then pairs else pairs ++ (f, t) ∷ []) from to ≡ true
 keeps_if true pairs f t from to has = has
-keeps_if false pairs f t from to has = list_any-append (joins from to) pairs ((f, t) ∷ []) ∙ or_left _ _ has
+keeps_if false pairs f t from to has =
+    list_any-append (joins from to) pairs ((f, t) ∷ []) ∙ or_left _ _ has
 
 -- one more pair leaves the others
-keeps : (pairs : List (ℕ × ℕ)) (f t from to : ℕ) → has_pair pairs from to ≡ true → has_pair (with_pair pairs f t) from to ≡ true
+keeps : (pairs : List (ℕ × ℕ)) (f t from to : ℕ) → has_pair pairs from to ≡ true
+    → has_pair (with_pair pairs f t) from to ≡ true
 keeps pairs f t from to has = keeps_if (has_pair pairs f t) pairs f t from to has
 
-adds_if : (b : Bool) (pairs : List (ℕ × ℕ)) (f t : ℕ) → has_pair pairs f t ≡ b → has_pair (if b then pairs else pairs ++ (f, t) ∷ []) f t ≡ true
+adds_if : (b : Bool) (pairs : List (ℕ × ℕ)) (f t : ℕ) → has_pair pairs f t ≡ b
+    → has_pair (if b then pairs else pairs ++ (f, t) ∷ []) f t ≡ true
 adds_if true pairs f t is = is
 adds_if false pairs f t is =
     list_any-append (joins f t) pairs ((f, t) ∷ [])
-    ∙ or_right (has_pair pairs f t) _ (or_left (joins f t (pair_by f t)) false (and_both (f == f) (t == t) (eq_refl f) (eq_refl t)))
+    ∙ or_right (has_pair pairs f t) _
+    (or_left (joins f t (pair_by f t)) false
+    (and_both (f == f) (t == t) (eq_refl f) (eq_refl t)))
 
 -- one more pair is one of them
 adds : (pairs : List (ℕ × ℕ)) (f t : ℕ) → has_pair (with_pair pairs f t) f t ≡ true
 adds pairs f t = adds_if (has_pair pairs f t) pairs f t refl
 
-only_if : (b : Bool) (pairs : List (ℕ × ℕ)) (f t from to : ℕ) → has_pair (if b then pairs else pairs ++ (f, t) ∷ []) from to ≡ true
+only_if : (b : Bool) (pairs : List (ℕ × ℕ)) (f t from to : ℕ)
+    → has_pair (if b then pairs else pairs ++ (f, t) ∷ []) from to ≡ true
     → (has_pair pairs from to ≡ true) ⊎ (pair_by f t ≡ pair_by from to)
 only_if true pairs f t from to has = inl has
 only_if false pairs f t from to has =
-    let one_of : (has_pair pairs from to || (joins from to (pair_by f t) || false)) ≡ true = sym (list_any-append (joins from to) pairs ((f, t) ∷ [])) ∙ has in
+    let one_of : (has_pair pairs from to || (joins from to (pair_by f t) || false)) ≡ true =
+    sym (list_any-append (joins from to) pairs ((f, t) ∷ [])) ∙ has in
     ⊎_elim (λ old. inl old)
     (λ last. ⊎_elim
-    (λ joined. inr (same_pair f t from to (eq_true f from (and_left (f == from) (t == to) joined)) (eq_true t to (and_right (f == from) (t == to) joined))))
+    (λ joined. inr (same_pair f t from to (eq_true f from (and_left (f == from) (t == to) joined))
+    (eq_true t to (and_right (f == from) (t == to) joined))))
     (λ none. absurd (cc (none)))
     (or_cases (joins from to (pair_by f t)) false last))
     (or_cases (has_pair pairs from to) (joins from to (pair_by f t) || false) one_of)
 
 -- of one pair more, each is that one or an earlier one
-only : (pairs : List (ℕ × ℕ)) (f t from to : ℕ) → has_pair (with_pair pairs f t) from to ≡ true → (has_pair pairs from to ≡ true) ⊎ (pair_by f t ≡ pair_by from to)
+only : (pairs : List (ℕ × ℕ)) (f t from to : ℕ) → has_pair (with_pair pairs f t) from to ≡ true
+    → (has_pair pairs from to ≡ true) ⊎ (pair_by f t ≡ pair_by from to)
 only pairs f t from to has = only_if (has_pair pairs f t) pairs f t from to has
 
 -- the pairs behind the first one, after it was read
-abbrev after : List (List ℕ) → List (ℕ × ℕ) → List (List ℕ × List ℕ) → ℕ × ℕ → Outcome (List (ℕ × ℕ))
+abbrev after : List (List ℕ) → List (ℕ × ℕ) → List (List ℕ × List ℕ) → ℕ × ℕ
+    → Outcome (List (ℕ × ℕ))
 after modes found more places = transfers_from modes (with_pair found places.0 places.1) more
 
 -- the pairs found stay
-still : (modes : List (List ℕ)) (found : List (ℕ × ℕ)) (names : List (List ℕ × List ℕ)) (pairs : List (ℕ × ℕ)) → transfers_from modes found names ≡ Ok pairs
+still : (modes : List (List ℕ)) (found : List (ℕ × ℕ)) (names : List (List ℕ × List ℕ))
+    (pairs : List (ℕ × ℕ)) → transfers_from modes found names ≡ Ok pairs
     → (from to : ℕ) → has_pair found from to ≡ true → has_pair pairs from to ≡ true
-still modes found [] pairs is from to has = let same : found ≡ pairs = cc in subst (λ (ps : List (ℕ × ℕ)). has_pair ps from to ≡ true) same has
+still modes found [] pairs is from to has = let same : found ≡ pairs = cc in
+    subst (λ (ps : List (ℕ × ℕ)). has_pair ps from to ≡ true) same has
 still modes found (pair ∷ more) pairs is from to has =
     let step = bind_ok (places_of modes pair) (after modes found more) pairs is in
-    still modes (with_pair found step.0.0 step.0.1) more pairs step.2 from to (keeps found step.0.0 step.0.1 from to has)
+    still modes (with_pair found step.0.0 step.0.1) more pairs step.2 from to
+    (keeps found step.0.0 step.0.1 from to has)
 
 -- a pair of names that is listed comes in
-there : (modes : List (List ℕ)) (found : List (ℕ × ℕ)) (names : List (List ℕ × List ℕ)) (pairs : List (ℕ × ℕ)) → transfers_from modes found names ≡ Ok pairs
-    → (from to : ℕ) (pair : List ℕ × List ℕ) → Contains names pair → places_of modes pair ≡ Ok (pair_by from to) → has_pair pairs from to ≡ true
+there : (modes : List (List ℕ)) (found : List (ℕ × ℕ)) (names : List (List ℕ × List ℕ))
+    (pairs : List (ℕ × ℕ)) → transfers_from modes found names ≡ Ok pairs
+    → (from to : ℕ) (pair : List ℕ × List ℕ) → Contains names pair
+    → places_of modes pair ≡ Ok (pair_by from to) → has_pair pairs from to ≡ true
 there modes found [] pairs is from to pair at places = absurd (omega (arith, at.1))
 there modes found (first ∷ more) pairs is from to pair at places =
     let step = bind_ok (places_of modes first) (after modes found more) pairs is in
@@ -110,51 +131,79 @@ there modes found (first ∷ more) pairs is from to pair at places =
     let one : Ok step.0 ≡ Ok (pair_by from to) = sym step.1 ∙ ap (places_of modes) same ∙ places in
     let here : step.0 ≡ pair_by from to = cc in
     still modes (with_pair found step.0.0 step.0.1) more pairs step.2 from to
-    (subst (λ (p : ℕ × ℕ). has_pair (with_pair found p.0 p.1) from to ≡ true) (sym here) (adds found from to)))
-    (λ later. there modes (with_pair found step.0.0 step.0.1) more pairs step.2 from to pair later places)
+    (subst (λ (p : ℕ × ℕ). has_pair (with_pair found p.0 p.1) from to ≡ true) (sym here)
+    (adds found from to)))
+    (λ later. there modes (with_pair found step.0.0 step.0.1) more pairs step.2 from to pair later
+    places)
     (cons_cases first more pair at.0 at.1 at.2)
 
 -- a pair of names of these places is listed
 abbrev IsListed : List (List ℕ) → List (List ℕ × List ℕ) → ℕ → ℕ → Type 0
-IsListed modes names from to = (pair : List ℕ × List ℕ) × Contains names pair × (places_of modes pair ≡ Ok (pair_by from to))
+IsListed modes names from to =
+    (pair : List ℕ × List ℕ) × Contains names pair × (places_of modes pair ≡ Ok (pair_by from to))
 
 -- each pair was found before, or is listed
-came : (modes : List (List ℕ)) (found : List (ℕ × ℕ)) (names : List (List ℕ × List ℕ)) (pairs : List (ℕ × ℕ)) → transfers_from modes found names ≡ Ok pairs
-    → (from to : ℕ) → has_pair pairs from to ≡ true → (has_pair found from to ≡ true) ⊎ IsListed modes names from to
-came modes found [] pairs is from to has = let same : found ≡ pairs = cc in inl (subst (λ (ps : List (ℕ × ℕ)). has_pair ps from to ≡ true) (sym same) has)
+came : (modes : List (List ℕ)) (found : List (ℕ × ℕ)) (names : List (List ℕ × List ℕ))
+    (pairs : List (ℕ × ℕ)) → transfers_from modes found names ≡ Ok pairs
+    → (from to : ℕ) → has_pair pairs from to ≡ true → (has_pair found from to ≡ true)
+    ⊎ IsListed modes names from to
+came modes found [] pairs is from to has = let same : found ≡ pairs = cc in
+    inl (subst (λ (ps : List (ℕ × ℕ)). has_pair ps from to ≡ true) (sym same) has)
 came modes found (first ∷ more) pairs is from to has =
     let step = bind_ok (places_of modes first) (after modes found more) pairs is in
     ⊎_elim
     (λ before. ⊎_elim (λ old. inl old)
-    (λ same. inr (first, Contains-get_or (first ∷ more) 0 first (omega arith), step.1 ∙ ap (λ (p : ℕ × ℕ). Ok p) same))
+    (λ same. inr (
+      first,
+      Contains-get_or (first ∷ more) 0 first (omega arith),
+      step.1 ∙ ap (λ (p : ℕ × ℕ). Ok p) same,
+    ))
     (only found step.0.0 step.0.1 from to before))
     (λ later. inr (later.0, Contains-append_right (first ∷ []) more later.0 later.1, later.2))
     (came modes (with_pair found step.0.0 step.0.1) more pairs step.2 from to has)
 
 -- the pairs of a text, and the names that it lists
-lists : (modes : List (List ℕ)) (tree : Members) (pairs : List (ℕ × ℕ)) → transfers_of modes tree ≡ Ok pairs
-    → (names : List (List ℕ × List ℕ)) × (named_pairs tree ≡ Ok names) × (transfers_from modes [] names ≡ Ok pairs)
+lists : (modes : List (List ℕ)) (tree : Members) (pairs : List (ℕ × ℕ))
+    → transfers_of modes tree ≡ Ok pairs
+    → (names : List (List ℕ × List ℕ)) × (named_pairs tree ≡ Ok names)
+    × (transfers_from modes [] names ≡ Ok pairs)
 unfolding transfers_of
 lists modes tree pairs is =
-    let read = bind_ok (array_at (codes "transfers") the_key.Transfers tree) (λ (items : Items). pairs_from [] items >>= (λ names. transfers_from modes [] names)) pairs is in
-    let named = bind_ok (pairs_from [] read.0) (λ (names : List (List ℕ × List ℕ)). transfers_from modes [] names) pairs read.2 in
-    (named.0, ap (λ (o : Outcome Items). o >>= (λ items. pairs_from [] items)) read.1 ∙ named.1, named.2)
+    let read = bind_ok (array_at (codes "transfers") the_key.Transfers tree) (λ (items : Items).
+    pairs_from [] items >>= (λ names. transfers_from modes [] names)) pairs is in
+    let named = bind_ok (pairs_from [] read.0) (λ (names : List (List ℕ × List ℕ)).
+    transfers_from modes [] names) pairs read.2 in (
+      named.0,
+      ap (λ (o : Outcome Items). o >>= (λ items. pairs_from [] items)) read.1 ∙ named.1,
+      named.2,
+    )
 
 -- a table's pairs are exactly those that are listed
-pairs-listed : (modes : List (List ℕ)) (tree : Members) (pairs : List (ℕ × ℕ)) (from to : ℕ) → transfers_of modes tree ≡ Ok pairs
+pairs-listed : (modes : List (List ℕ)) (tree : Members) (pairs : List (ℕ × ℕ)) (from to : ℕ)
+    → transfers_of modes tree ≡ Ok pairs
     → (has_pair pairs from to ≡ true) ↔ ListsPair modes tree from to
 pairs-listed modes tree pairs from to is =
     let text = lists modes tree pairs is in (
       λ has. ⊎_elim (λ none. absurd (cc (none)))
-          (λ listed. record { pairs = text.0; listed = text.1; pair = listed.0; is_one = listed.1; places = listed.2 })
+          (λ listed. record {
+            pairs = text.0;
+            listed = text.1;
+            pair = listed.0;
+            is_one = listed.1;
+            places = listed.2;
+          })
           (came modes [] text.0 pairs text.2 from to has),
       λ listed.
           let both : Ok listed.pairs ≡ Ok text.0 = sym listed.listed ∙ text.1 in
           let same : listed.pairs ≡ text.0 = cc in
           let C : List (List ℕ × List ℕ) → Type 0 = λ names. Contains names listed.pair in
-          there modes [] text.0 pairs text.2 from to listed.pair (subst C same listed.is_one) listed.places,
+          there modes [] text.0 pairs text.2 from to listed.pair (subst C same listed.is_one)
+          listed.places,
     )
 
 -- the law
-pub permitted-listed : (tree : Members) (rules : Rules) (from to : ℕ) → rules_of tree ≡ Ok rules → (has_pair rules.transfers from to ≡ true) ↔ ListsPair rules.modes tree from to
-permitted-listed tree rules from to is = pairs-listed rules.modes tree rules.transfers from to (parts tree rules is).transfers
+pub permitted-listed : (tree : Members) (rules : TableRules) (from to : ℕ)
+    → rules_of_tree tree ≡ Ok rules → (has_pair rules.transfers from to ≡ true)
+    ↔ ListsPair rules.modes tree from to
+permitted-listed tree rules from to is =
+    pairs-listed rules.modes tree rules.transfers from to (parts tree rules is).transfers

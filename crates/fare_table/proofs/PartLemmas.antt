@@ -5,7 +5,7 @@ use Rattle.fare_table.specs.Classes.{classes_of, default_of}
 use Rattle.fare_table.specs.Modes.{modes_of}
 use Rattle.fare_table.specs.Outcome.{Outcome, ◌>>=◌}
 use Rattle.fare_table.specs.Riders.{riders_of}
-use Rattle.fare_table.specs.Rules.{Rules, rules_of}
+use Rattle.fare_table.specs.Rules.{TableRules, rules_of_tree}
 use Rattle.fare_table.specs.Transfers.{transfers_of}
 use Rattle.fare_table.specs.Validators.{ranges_of}
 use Rattle.fare_table.specs.Zone.{zone_of}
@@ -13,12 +13,13 @@ use Rattle.fare_table.specs.declared.terms.Terms.{Terms}
 use Rattle.fare_table.specs.declared.validators.Span.{Span}
 
 -- two steps that came to an end: the first gave a value, and the second went on with it
-pub bind_ok : {A B : Type 0} (o : Outcome A) (f : A → Outcome B) (b : B) → (o >>= f) ≡ Ok b → (a : A) × (o ≡ Ok a) × (f a ≡ Ok b)
+pub bind_ok : {A B : Type 0} (o : Outcome A) (f : A → Outcome B) (b : B) → (o >>= f) ≡ Ok b
+    → (a : A) × (o ≡ Ok a) × (f a ≡ Ok b)
 bind_ok (Ok a) f b is = (a, refl, is)
 bind_ok (Err e) f b is = absurd (cc)
 
 -- the rules are what the keys give
-pub record AreParts (tree : Members) (rules : Rules) : Type 0 where
+pub record AreParts (tree : Members) (rules : TableRules) : Type 0 where
   pub modes : modes_of tree ≡ Ok rules.modes
   pub transfers : transfers_of rules.modes tree ≡ Ok rules.transfers
   pub table : Members
@@ -28,47 +29,76 @@ pub record AreParts (tree : Members) (rules : Rules) : Type 0 where
   pub riders : riders_of table tree ≡ Ok rules.riders
   pub zone : zone_of tree ≡ Ok rules.zone
 
-abbrev by_zone : Members → List (List ℕ) → List (ℕ × ℕ) → Terms → List (ℕ × Span) → List (List ℕ × Terms) → Option (List ℕ) → Outcome Rules
-by_zone tree modes transfers standard ranges riders zone = Ok (record { modes = modes; transfers = transfers; standard = standard; ranges = ranges; riders = riders; zone = zone })
+abbrev by_zone : Members → List (List ℕ) → List (ℕ × ℕ) → Terms → List (ℕ × Span)
+    → List (List ℕ × Terms) → Option (List ℕ) → Outcome TableRules
+by_zone tree modes transfers standard ranges riders zone = Ok (record {
+  modes = modes;
+  transfers = transfers;
+  standard = standard;
+  ranges = ranges;
+  riders = riders;
+  zone = zone;
+})
 
-abbrev by_riders : Members → List (List ℕ) → List (ℕ × ℕ) → Terms → List (ℕ × Span) → List (List ℕ × Terms) → Outcome Rules
-by_riders tree modes transfers standard ranges riders = zone_of tree >>= by_zone tree modes transfers standard ranges riders
+abbrev by_riders : Members → List (List ℕ) → List (ℕ × ℕ) → Terms → List (ℕ × Span)
+    → List (List ℕ × Terms) → Outcome TableRules
+by_riders tree modes transfers standard ranges riders =
+    zone_of tree >>= by_zone tree modes transfers standard ranges riders
 
-abbrev by_ranges : Members → List (List ℕ) → List (ℕ × ℕ) → Members → Terms → List (ℕ × Span) → Outcome Rules
-by_ranges tree modes transfers classes standard ranges = riders_of classes tree >>= by_riders tree modes transfers standard ranges
+abbrev by_ranges : Members → List (List ℕ) → List (ℕ × ℕ) → Members → Terms → List (ℕ × Span)
+    → Outcome TableRules
+by_ranges tree modes transfers classes standard ranges =
+    riders_of classes tree >>= by_riders tree modes transfers standard ranges
 
-abbrev by_default : Members → List (List ℕ) → List (ℕ × ℕ) → Members → Terms → Outcome Rules
-by_default tree modes transfers classes standard = ranges_of modes tree >>= by_ranges tree modes transfers classes standard
+abbrev by_default : Members → List (List ℕ) → List (ℕ × ℕ) → Members → Terms → Outcome TableRules
+by_default tree modes transfers classes standard =
+    ranges_of modes tree >>= by_ranges tree modes transfers classes standard
 
-abbrev by_classes : Members → List (List ℕ) → List (ℕ × ℕ) → Members → Outcome Rules
-by_classes tree modes transfers classes = default_of classes tree >>= by_default tree modes transfers classes
+abbrev by_classes : Members → List (List ℕ) → List (ℕ × ℕ) → Members → Outcome TableRules
+by_classes tree modes transfers classes =
+    default_of classes tree >>= by_default tree modes transfers classes
 
-abbrev by_transfers : Members → List (List ℕ) → List (ℕ × ℕ) → Outcome Rules
+abbrev by_transfers : Members → List (List ℕ) → List (ℕ × ℕ) → Outcome TableRules
 by_transfers tree modes transfers = classes_of tree >>= by_classes tree modes transfers
 
-abbrev by_modes : Members → List (List ℕ) → Outcome Rules
+abbrev by_modes : Members → List (List ℕ) → Outcome TableRules
 by_modes tree modes = transfers_of modes tree >>= by_transfers tree modes
 
-abbrev outcome_of : Rules → Outcome Rules
+abbrev outcome_of : TableRules → Outcome TableRules
 outcome_of rules = Ok rules
 
-same_rules : (one other : Rules) → outcome_of one ≡ outcome_of other → one ≡ other
+same_rules : (one other : TableRules) → outcome_of one ≡ outcome_of other → one ≡ other
 same_rules one other is = cc
 
-moved : (tree : Members) (one other : Rules) → outcome_of one ≡ outcome_of other → AreParts tree one → AreParts tree other
-moved tree one other is has = subst (λ (r : Rules). AreParts tree r) (same_rules one other is) has
+moved : (tree : Members) (one other : TableRules) → outcome_of one ≡ outcome_of other
+    → AreParts tree one → AreParts tree other
+moved tree one other is has =
+    subst (λ (r : TableRules). AreParts tree r) (same_rules one other is) has
 
-pub parts : (tree : Members) (rules : Rules) → rules_of tree ≡ Ok rules → AreParts tree rules
-unfolding rules_of
+pub parts : (tree : Members) (rules : TableRules) → rules_of_tree tree ≡ Ok rules
+    → AreParts tree rules
+unfolding rules_of_tree
 parts tree rules is =
     let modes = bind_ok (modes_of tree) (by_modes tree) rules is in
     let transfers = bind_ok (transfers_of modes.0 tree) (by_transfers tree modes.0) rules modes.2 in
-    let classes = bind_ok (classes_of tree) (by_classes tree modes.0 transfers.0) rules transfers.2 in
-    let standard = bind_ok (default_of classes.0 tree) (by_default tree modes.0 transfers.0 classes.0) rules classes.2 in
-    let ranges = bind_ok (ranges_of modes.0 tree) (by_ranges tree modes.0 transfers.0 classes.0 standard.0) rules standard.2 in
-    let riders = bind_ok (riders_of classes.0 tree) (by_riders tree modes.0 transfers.0 standard.0 ranges.0) rules ranges.2 in
-    let zone = bind_ok (zone_of tree) (by_zone tree modes.0 transfers.0 standard.0 ranges.0 riders.0) rules riders.2 in
-    let whole : Rules = record { modes = modes.0; transfers = transfers.0; standard = standard.0; ranges = ranges.0; riders = riders.0; zone = zone.0 } in
+    let classes = bind_ok (classes_of tree) (by_classes tree modes.0 transfers.0) rules
+    transfers.2 in
+    let standard = bind_ok (default_of classes.0 tree)
+    (by_default tree modes.0 transfers.0 classes.0) rules classes.2 in
+    let ranges = bind_ok (ranges_of modes.0 tree)
+    (by_ranges tree modes.0 transfers.0 classes.0 standard.0) rules standard.2 in
+    let riders = bind_ok (riders_of classes.0 tree)
+    (by_riders tree modes.0 transfers.0 standard.0 ranges.0) rules ranges.2 in
+    let zone = bind_ok (zone_of tree)
+    (by_zone tree modes.0 transfers.0 standard.0 ranges.0 riders.0) rules riders.2 in
+    let whole : TableRules = record {
+      modes = modes.0;
+      transfers = transfers.0;
+      standard = standard.0;
+      ranges = ranges.0;
+      riders = riders.0;
+      zone = zone.0;
+    } in
     moved tree whole rules zone.2
     (record {
       modes = modes.1;

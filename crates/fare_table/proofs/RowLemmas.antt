@@ -1,5 +1,8 @@
 -- The same of the entries of `validators`, the keys of `riders` and the zone, and of the whole.
-use Rattle.std.proofs.Common.{◌≡◌, ◌↔◌, ℕ, zero, suc, ◌+◌, ◌≤◌, ◌&&◌, ◌||◌, not, Bool, true, false, List, [], ◌∷◌, ◌++◌, Option, Some, None, Ok, Err, cond, option_map, refl, sym, ap, ◌∙◌, subst, arith, codes, inl, inr, ◌≢◌, Result, IfErr, IfOk}
+use Rattle.std.proofs.Common.{◌≡◌, ◌↔◌, ℕ, zero, suc, ◌+◌, ◌≤◌, ◌&&◌, ◌||◌, not, Bool, true, false}
+use Rattle.std.proofs.Common.{List, [], ◌∷◌, ◌++◌, Option, Some, None, Ok, Err, cond, option_map}
+use Rattle.std.proofs.Common.{refl, sym, ap, ◌∙◌, subst, arith, codes, inl, inr, ◌≢◌, Result, IfErr}
+use Rattle.std.proofs.Common.{IfOk}
 use Rattle.std.proofs.lemmas.Bool.{false≢true, or_parts}
 use Rattle.std.specs.BTreeMap.{insert_entry}
 use Rattle.std.specs.Cmp.Lexicographic.{slice_cmp}
@@ -10,37 +13,58 @@ use Rattle.std.specs.Prelude.{pos, nat_le, position, if◌then◌else◌}
 use Rattle.std.specs.Result.{result_ok}
 use Rattle.hex.specs.Hex.{decode_sized}
 use Rattle.jiff.specs.Words.{read_whole}
-use Rattle.toml.specs.Data.{Data, Items, no_items, item, Members, no_members, member, string, integer, array, table, get_member, get_item, as_str, as_array}
+use Rattle.toml.specs.Data.{Data, Items, no_items, item, Members, no_members, member, string}
+use Rattle.toml.specs.Data.{integer, array, table, get_member, get_item, as_str, as_array}
 use Rattle.toml.specs.Parse.{parse_document}
 use Rattle.fare_table.proofs.EntryLemmas.{Reads, by_mode, by_tables, reads}
-use Rattle.fare_table.proofs.FaultLemmas.{Stand, classes-told, default-told, done, fails, fault_in, modes-known, modes-told, named-told, needs, number_tells, stand_all, stand_here, stand_next, steps, told, told_needed, told_two, transfers-told}
-use Rattle.fare_table.proofs.OverlapLemmas.{chain-insert, comes_after, comes_before, ends_after, free_apart, rest_chain}
+use Rattle.fare_table.proofs.FaultLemmas.{Stand, classes-told, default-told, done, fails, fault_in}
+use Rattle.fare_table.proofs.FaultLemmas.{modes-known, modes-told, named-told, needs, number_tells}
+use Rattle.fare_table.proofs.FaultLemmas.{stand_all, stand_here, stand_next, steps, told}
+use Rattle.fare_table.proofs.FaultLemmas.{told_needed, told_two, transfers-told}
+use Rattle.fare_table.proofs.OverlapLemmas.{chain-insert, comes_after, comes_before, ends_after}
+use Rattle.fare_table.proofs.OverlapLemmas.{free_apart, rest_chain}
 use Rattle.fare_table.proofs.PayLemmas.{Named, by_class, classes_read, classes_sound, named_with}
 use Rattle.fare_table.proofs.ReadLemmas.{number-read}
 use Rattle.fare_table.specs.Classes.{checked, class_named, classes_of, default_of}
-use Rattle.fare_table.specs.Faults.{Where, classes_step, default_step, riders_step, transfers_step, validators_step, zone_step, top, range, rider, a_row, amount_of, classes_in, entries_in, first_at, first_fault, first_of, is_again, is_earlier, is_from, is_kind, is_mode, is_no_zone, is_wrong, items_of, last_at, member_at, members_at, members_of, mode_names, needed_rows, passes, range_rows, rider_rows, riders_in, rows, rows_of_range, same_token, shares_validator, token_at, value_at, word_of}
+use Rattle.fare_table.specs.Faults.{Where, classes_step, default_step, riders_step, transfers_step}
+use Rattle.fare_table.specs.Faults.{validators_step, zone_step, top, range, rider, a_row, amount_of}
+use Rattle.fare_table.specs.Faults.{classes_in, entries_in, first_at, first_fault, first_row}
+use Rattle.fare_table.specs.Faults.{is_again, is_earlier, is_from, is_kind, is_mode, is_no_zone}
+use Rattle.fare_table.specs.Faults.{is_wrong, items_of, last_at, member_at, members_at, members_of}
+use Rattle.fare_table.specs.Faults.{mode_names, needed_rows, passes, range_rows, rider_rows}
+use Rattle.fare_table.specs.Faults.{riders_in, rows, rows_of_range, is_token, shares_validator}
+use Rattle.fare_table.specs.Faults.{token_at, value_at, string_of}
 use Rattle.fare_table.specs.Members.{are_tables, hold_strings, number_at, of_kind}
 use Rattle.fare_table.specs.Modes.{mode_named, modes_of, same_name}
 use Rattle.fare_table.specs.Outcome.{Outcome, ◌>>=◌}
-use Rattle.fare_table.specs.Riders.{is_rider, rider_of, riders_from, riders_of, token_of, with_rider}
+use Rattle.fare_table.specs.Riders.{is_rider, rider_of, riders_from, riders_of, token_of_digits}
+use Rattle.fare_table.specs.Riders.{with_rider}
 use Rattle.fare_table.specs.Riders as riders
-use Rattle.fare_table.specs.Rules.{Rules, rules_in, rules_of}
+use Rattle.fare_table.specs.Rules.{TableRules, rules_in, rules_of_tree}
 use Rattle.fare_table.specs.Transfers.{transfers_of}
-use Rattle.fare_table.specs.Validators.{is_chain, range_of, ranges_from, ranges_of, share_number, with_range}
+use Rattle.fare_table.specs.Validators.{is_chain, range_of, ranges_from, ranges_of, share_number}
+use Rattle.fare_table.specs.Validators.{with_range}
 use Rattle.fare_table.specs.Zone.{zone_in, zone_of}
 use Rattle.fare_table.specs.declared.fault.Key.TheVariants as the_key
 use Rattle.fare_table.specs.declared.fault.TableFault.{TableFault}
 use Rattle.fare_table.specs.declared.fault.TableFault.TheVariants as the_fault
-use Rattle.fare_table.specs.declared.fault.TableFault.TheVariants.{Missing, Kind, Range, Mode, Overlap, Rider}
+use Rattle.fare_table.specs.declared.fault.TableFault.TheVariants.{Missing, Kind, Range, Mode}
+use Rattle.fare_table.specs.declared.fault.TableFault.TheVariants.{Overlap, Rider}
 use Rattle.fare_table.specs.declared.terms.Terms.{Terms}
 use Rattle.fare_table.specs.declared.validators.Span.{Span}
 
 -- ---- one entry of `validators`
 told_three : (tree : Members) (at : Where) (one two three : TableFault)
-    → first_of tree (a_row at one ∷ a_row at two ∷ a_row at three ∷ []) ≡ cond (is_wrong tree at one) (Some one) (cond (is_wrong tree at two) (Some two) (cond (is_wrong tree at three) (Some three) None))
-told_three tree at one two three = told tree at one (a_row at two ∷ a_row at three ∷ []) ∙ ap (λ (x : Option TableFault). cond (is_wrong tree at one) (Some one) x) (told_two tree at two three)
+    → first_row tree (a_row at one ∷ a_row at two ∷ a_row at three ∷ [])
+    ≡ cond (is_wrong tree at one) (Some one)
+    (cond (is_wrong tree at two) (Some two) (cond (is_wrong tree at three) (Some three) None))
+told_three tree at one two three =
+    told tree at one (a_row at two ∷ a_row at three ∷ [])
+    ∙ ap (λ (x : Option TableFault). cond (is_wrong tree at one) (Some one) x)
+    (told_two tree at two three)
 
-place_tells : (o : Option ℕ) (first last : ℕ) → fault_in (ok_or o Mode >>= by_mode first last) ≡ cond (not (is_some o)) (Some Mode) None
+place_tells : (o : Option ℕ) (first last : ℕ)
+    → fault_in (ok_or o Mode >>= by_mode first last) ≡ cond (not (is_some o)) (Some Mode) None
 place_tells None first last = refl
 place_tells (Some n) first last = refl
 
@@ -48,33 +72,47 @@ abbrev by_word : List (List ℕ) → ℕ → ℕ → List ℕ → Outcome (ℕ �
 by_word modes first last name = mode_named modes name >>= by_mode first last
 
 abbrev mode_need : Option Data → List (List ℕ) → Option TableFault
-mode_need o modes = cond (is_none o) (Some (Missing the_key.ModeName)) (cond (fails (is_kind the_key.ModeName) o) (Some (Kind the_key.ModeName)) (cond (not (is_mode modes (word_of o))) (Some Mode) None))
+mode_need o modes = cond (is_none o) (Some (Missing the_key.ModeName))
+    (cond (fails (is_kind the_key.ModeName) o) (Some (Kind the_key.ModeName))
+    (cond (not (is_mode modes (string_of o))) (Some Mode) None))
 
 mode_steps : (o : Option Data) (modes : List (List ℕ)) (first last : ℕ)
-    → fault_in ((ok_or o (Missing the_key.ModeName) >>= (λ value. of_kind the_key.ModeName (as_str value))) >>= by_word modes first last) ≡ mode_need o modes
+    → fault_in ((ok_or o (Missing the_key.ModeName)
+    >>= (λ value. of_kind the_key.ModeName (as_str value))) >>= by_word modes first last)
+    ≡ mode_need o modes
 mode_steps None modes first last = refl
-mode_steps (Some (string s)) modes first last = place_tells (position (same_name s) modes) first last
+mode_steps (Some (string s)) modes first last =
+    place_tells (position (same_name s) modes) first last
 mode_steps (Some _) modes first last = refl
 
 amount_is : (o : Option Data) (n : ℕ) → o ≡ Some (integer (pos n)) → amount_of o ≡ n
 amount_is o n is = ap amount_of is
 
-range-told : (tree : Members) (modes : List (List ℕ)) (n : ℕ) → mode_names tree ≡ modes → fault_in (range_of modes (members_at (range n) tree)) ≡ first_of tree (rows_of_range n)
+range-told : (tree : Members) (modes : List (List ℕ)) (n : ℕ) → mode_names tree ≡ modes
+    → fault_in (range_of modes (members_at (range n) tree)) ≡ first_row tree (rows_of_range n)
 unfolding range_of
 range-told tree modes n known =
     let at = range n in
     let inner = members_at at tree in
-    let mode_rows = a_row at (Missing the_key.ModeName) ∷ a_row at (Kind the_key.ModeName) ∷ a_row at Mode ∷ [] in
-    steps tree (number_at (codes "first") the_key.First 0 4_294_967_295 inner) _ (needed_rows at the_key.First) (needed_rows at the_key.Last ++ mode_rows)
-    (number_tells (value_at at the_key.First tree) the_key.First 0 4_294_967_295 ∙ sym (told_needed tree at the_key.First))
+    let mode_rows = a_row at (Missing the_key.ModeName) ∷ a_row at (Kind the_key.ModeName)
+    ∷ a_row at Mode ∷ [] in
+    steps tree (number_at (codes "first") the_key.First 0 4_294_967_295 inner) _
+    (needed_rows at the_key.First) (needed_rows at the_key.Last ++ mode_rows)
+    (number_tells (value_at at the_key.First tree) the_key.First 0 4_294_967_295
+    ∙ sym (told_needed tree at the_key.First))
     (λ first is.
-    let low : amount_of (get_member (codes "first") inner) ≡ first = amount_is (get_member (codes "first") inner) first (number-read (codes "first") the_key.First 0 4_294_967_295 inner first is).is in
-    steps tree (number_at (codes "last") the_key.Last first 4_294_967_295 inner) _ (needed_rows at the_key.Last) mode_rows
+    let low : amount_of (get_member (codes "first") inner) ≡ first =
+    amount_is (get_member (codes "first") inner) first
+    (number-read (codes "first") the_key.First 0 4_294_967_295 inner first is).is in
+    steps tree (number_at (codes "last") the_key.Last first 4_294_967_295 inner) _
+    (needed_rows at the_key.Last) mode_rows
     (number_tells (value_at at the_key.Last tree) the_key.Last first 4_294_967_295
-    ∙ ap (λ (m : ℕ). needs (value_at at the_key.Last tree) (is_kind the_key.Last) (is_from m 4_294_967_295) the_key.Last) (sym low)
+    ∙ ap (λ (m : ℕ). needs (value_at at the_key.Last tree) (is_kind the_key.Last)
+    (is_from m 4_294_967_295) the_key.Last) (sym low)
     ∙ sym (told_needed tree at the_key.Last))
     (λ last is'. mode_steps (value_at at the_key.ModeName tree) modes first last
-    ∙ ap (λ (names : List (List ℕ)). mode_need (value_at at the_key.ModeName tree) names) (sym known)
+    ∙ ap (λ (names : List (List ℕ)). mode_need (value_at at the_key.ModeName tree) names)
+    (sym known)
     ∙ sym (told_three tree at (Missing the_key.ModeName) (Kind the_key.ModeName) Mode)))
 
 -- ---- the entries, each with those before it
@@ -86,22 +124,27 @@ swap_or false b c = refl
 with_one : ℕ × Span → List (ℕ × Span) → List (ℕ × Span)
 with_one one ranges = insert_entry nat_cmp ranges one.0 one.1
 
-any_step : (test : ℕ × Span → Bool) (one other : ℕ × Span) (more : List (ℕ × Span)) → one.0 ≤ one.1.last → other.0 ≤ other.1.last → share_number one other ≡ false
-    → list_any test (with_one one more) ≡ (test one || list_any test more) → list_any test (with_one one (other ∷ more)) ≡ (test one || list_any test (other ∷ more))
+any_step : (test : ℕ × Span → Bool) (one other : ℕ × Span) (more : List (ℕ × Span))
+    → one.0 ≤ one.1.last → other.0 ≤ other.1.last → share_number one other ≡ false
+    → list_any test (with_one one more) ≡ (test one || list_any test more)
+    → list_any test (with_one one (other ∷ more)) ≡ (test one || list_any test (other ∷ more))
 unfolding with_one
 any_step test one other more order further free ih = elim (free_apart one other free) [
   | inl a ↦ rw (comes_before one other order a) refl
-  | inr a ↦ rw (comes_after one other further a, ih) (swap_or (test other) (test one) (list_any test more))
+  | inr a ↦ rw (comes_after one other further a, ih)
+      (swap_or (test other) (test one) (list_any test more))
 ]
 
 -- a test of ranges holds of one more range or of the others
-any_with : (test : ℕ × Span → Bool) (one : ℕ × Span) (ranges : List (ℕ × Span)) → one.0 ≤ one.1.last → is_chain ranges ≡ true → list_any (share_number one) ranges ≡ false
+any_with : (test : ℕ × Span → Bool) (one : ℕ × Span) (ranges : List (ℕ × Span)) → one.0 ≤ one.1.last
+    → is_chain ranges ≡ true → list_any (share_number one) ranges ≡ false
     → list_any test (with_one one ranges) ≡ (test one || list_any test ranges)
 unfolding with_one
 any_with test one [] order chain free = refl
 any_with test one (other ∷ more) order chain free =
     let apart = or_parts (share_number one other) (list_any (share_number one) more) free in
-    any_step test one other more order (ends_after other more chain) apart.0 (any_with test one more order (rest_chain other more chain) apart.1)
+    any_step test one other more order (ends_after other more chain) apart.0
+    (any_with test one more order (rest_chain other more chain) apart.1)
 
 -- the range shares a number with the entry at a place
 abbrev meets : Members → ℕ × Span → ℕ → Bool
@@ -109,13 +152,15 @@ meets tree one place = nat_le one.0 (last_at tree place) && nat_le (first_at tre
 
 -- the ranges are those of the entries before a place
 abbrev AreEarlier : Members → ℕ → List (ℕ × Span) → Type 0
-AreEarlier tree n earlier = (one : ℕ × Span) → list_any (share_number one) earlier ≡ is_earlier (meets tree one) n
+AreEarlier tree n earlier =
+    (one : ℕ × Span) → list_any (share_number one) earlier ≡ is_earlier (meets tree one) n
 
 -- some items are those of a whole from a place on
 abbrev StandItems : Items → ℕ → Items → Type 0
 StandItems whole n part = (k j : ℕ) → j ≡ n + k → get_item j whole ≡ get_item k part
 
-overlap_if : (b : Bool) (next : List (ℕ × Span)) (f : List (ℕ × Span) → Outcome (List (ℕ × Span))) (rest : Option TableFault) → (b ≡ false → fault_in (f next) ≡ rest)
+overlap_if : (b : Bool) (next : List (ℕ × Span)) (f : List (ℕ × Span)
+    → Outcome (List (ℕ × Span))) (rest : Option TableFault) → (b ≡ false → fault_in (f next) ≡ rest)
     → fault_in ((if b then Err Overlap else Ok next) >>= f) ≡ cond b (Some Overlap) rest
 overlap_if true next f rest same = refl
 overlap_if false next f rest same = same refl
@@ -125,206 +170,314 @@ record Numbers (tree : Members) (n : ℕ) (one : ℕ × Span) : Type 0 where
   first : first_at tree n ≡ one.0
   last : last_at tree n ≡ one.1.last
 
-numbers : (tree : Members) (modes : List (List ℕ)) (n : ℕ) (inner : Members) (one : ℕ × Span) → members_at (range n) tree ≡ inner → Reads modes (table inner) one → Numbers tree n one
+numbers : (tree : Members) (modes : List (List ℕ)) (n : ℕ) (inner : Members) (one : ℕ × Span)
+    → members_at (range n) tree ≡ inner → Reads modes (table inner) one → Numbers tree n one
 numbers tree modes n inner one here r =
     let whole : table inner ≡ table r.entry = r.is_table in
     let same : inner ≡ r.entry = cc in
     record {
-      first = amount_is (value_at (range n) the_key.First tree) one.0 (ap (get_member (codes "first")) (here ∙ same) ∙ r.first);
-      last = amount_is (value_at (range n) the_key.Last tree) one.1.last (ap (get_member (codes "last")) (here ∙ same) ∙ r.last);
+      first = amount_is (value_at (range n) the_key.First tree) one.0
+          (ap (get_member (codes "first")) (here ∙ same) ∙ r.first);
+      last = amount_is (value_at (range n) the_key.Last tree) one.1.last
+          (ap (get_member (codes "last")) (here ∙ same) ∙ r.last);
     }
 
-shared : (tree : Members) (n : ℕ) (one : ℕ × Span) → Numbers tree n one → is_earlier (meets tree one) n ≡ shares_validator (range n) tree
+shared : (tree : Members) (n : ℕ) (one : ℕ × Span) → Numbers tree n one
+    → is_earlier (meets tree one) n ≡ shares_validator (range n) tree
 shared tree n one is =
-    ap (λ (a : ℕ). is_earlier (λ earlier. nat_le a (last_at tree earlier) && nat_le (first_at tree earlier) one.1.last) n) (sym is.first)
-    ∙ ap (λ (b : ℕ). is_earlier (λ earlier. nat_le (first_at tree n) (last_at tree earlier) && nat_le (first_at tree earlier) b) n) (sym is.last)
+    ap (λ (a : ℕ). is_earlier (λ earlier.
+    nat_le a (last_at tree earlier) && nat_le (first_at tree earlier) one.1.last) n)
+    (sym is.first)
+    ∙ ap (λ (b : ℕ). is_earlier (λ earlier.
+    nat_le (first_at tree n) (last_at tree earlier) && nat_le (first_at tree earlier) b) n)
+    (sym is.last)
 
-met : (tree : Members) (n : ℕ) (one other : ℕ × Span) → Numbers tree n one → share_number other one ≡ meets tree other n
+met : (tree : Members) (n : ℕ) (one other : ℕ × Span) → Numbers tree n one
+    → share_number other one ≡ meets tree other n
 met tree n one other is =
     ap (λ (a : ℕ). nat_le other.0 a && nat_le one.0 other.1.last) (sym is.last)
     ∙ ap (λ (b : ℕ). nat_le other.0 (last_at tree n) && nat_le b other.1.last) (sym is.first)
 
-earlier_next : (tree : Members) (n : ℕ) (one : ℕ × Span) (earlier : List (ℕ × Span)) → Numbers tree n one → one.0 ≤ one.1.last → is_chain earlier ≡ true → list_any (share_number one) earlier ≡ false
+earlier_next : (tree : Members) (n : ℕ) (one : ℕ × Span) (earlier : List (ℕ × Span))
+    → Numbers tree n one → one.0 ≤ one.1.last → is_chain earlier ≡ true
+    → list_any (share_number one) earlier ≡ false
     → AreEarlier tree n earlier → AreEarlier tree (suc n) (with_one one earlier)
 earlier_next tree n one earlier is order chain free are other =
     any_with (share_number other) one earlier order chain free
     ∙ ap (λ (b : Bool). b || list_any (share_number other) earlier) (met tree n one other is)
     ∙ ap (λ (b : Bool). meets tree other n || b) (are other)
 
-ranges-told : (tree : Members) (modes : List (List ℕ)) (n : ℕ) (earlier : List (ℕ × Span)) (part : Items) → mode_names tree ≡ modes → StandItems (entries_in tree) n part → are_tables part ≡ true
-    → is_chain earlier ≡ true → AreEarlier tree n earlier → fault_in (ranges_from modes earlier part) ≡ first_of tree (range_rows n part)
+ranges-told : (tree : Members) (modes : List (List ℕ)) (n : ℕ) (earlier : List (ℕ × Span))
+    (part : Items) → mode_names tree ≡ modes → StandItems (entries_in tree) n part
+    → are_tables part ≡ true
+    → is_chain earlier ≡ true → AreEarlier tree n earlier
+    → fault_in (ranges_from modes earlier part) ≡ first_row tree (range_rows n part)
 unfolding with_one
 ranges-told tree modes n earlier no_items known stand tables chain are = refl
 ranges-told tree modes n earlier (item (table inner) more) known stand tables chain are =
     let at : get_item n (entries_in tree) ≡ Some (table inner) = stand zero n (omega arith) in
     let here : members_at (range n) tree ≡ inner = ap members_of at in
-    steps tree (range_of modes inner) (λ one. with_range earlier one >>= (λ next. ranges_from modes next more)) (rows_of_range n) (a_row (range n) Overlap ∷ range_rows (suc n) more)
+    steps tree (range_of modes inner) (λ one.
+    with_range earlier one >>= (λ next. ranges_from modes next more)) (rows_of_range n)
+    (a_row (range n) Overlap ∷ range_rows (suc n) more)
     (ap (λ (m : Members). fault_in (range_of modes m)) (sym here) ∙ range-told tree modes n known)
     (λ one is.
     let r = reads modes (table inner) one is in
     let nums = numbers tree modes n inner one here r in
-    overlap_if (list_any (share_number one) earlier) (with_one one earlier) (λ next. ranges_from modes next more) (first_of tree (range_rows (suc n) more))
-    (λ free. ranges-told tree modes (suc n) (with_one one earlier) more known (λ k j same. stand (suc k) j (omega (arith, same))) tables
-    (chain-insert one earlier r.order chain free) (earlier_next tree n one earlier nums r.order chain free are))
-    ∙ ap (λ (b : Bool). cond b (Some Overlap) (first_of tree (range_rows (suc n) more))) (are one ∙ shared tree n one nums)
+    overlap_if (list_any (share_number one) earlier) (with_one one earlier) (λ next.
+    ranges_from modes next more) (first_row tree (range_rows (suc n) more))
+    (λ free. ranges-told tree modes (suc n) (with_one one earlier) more known (λ k j same.
+    stand (suc k) j (omega (arith, same))) tables
+    (chain-insert one earlier r.order chain free)
+    (earlier_next tree n one earlier nums r.order chain free are))
+    ∙ ap (λ (b : Bool). cond b (Some Overlap) (first_row tree (range_rows (suc n) more))) (are one
+    ∙ shared tree n one nums)
     ∙ sym (told tree (range n) Overlap (range_rows (suc n) more)))
-ranges-told tree modes n earlier (item _ more) known stand tables chain are = absurd (false≢true tables)
+ranges-told tree modes n earlier (item _ more) known stand tables chain are =
+    absurd (false≢true tables)
 
-entries_if : (b : Bool) (modes : List (List ℕ)) (ds : Items) (rest : Option TableFault) → (b ≡ true → fault_in (ranges_from modes [] ds) ≡ rest)
-    → fault_in (if b then ranges_from modes [] ds else Err (Kind the_key.Validators)) ≡ cond (not b) (Some (Kind the_key.Validators)) rest
+entries_if : (b : Bool) (modes : List (List ℕ)) (ds : Items) (rest : Option TableFault)
+    → (b ≡ true → fault_in (ranges_from modes [] ds) ≡ rest)
+    → fault_in (if b then ranges_from modes [] ds else Err (Kind the_key.Validators))
+    ≡ cond (not b) (Some (Kind the_key.Validators)) rest
 entries_if true modes ds rest same = same refl
 entries_if false modes ds rest same = refl
 
-entries_steps : (o : Option Data) (modes : List (List ℕ)) (rest : Option TableFault) → ((ds : Items) → o ≡ Some (array ds) → are_tables ds ≡ true → fault_in (ranges_from modes [] ds) ≡ rest)
-    → fault_in ((ok_or o (Missing the_key.Validators) >>= (λ value. of_kind the_key.Validators (as_array value))) >>= by_tables modes)
-    ≡ cond (is_none o) (Some (Missing the_key.Validators)) (cond (fails (is_kind the_key.Validators) o) (Some (Kind the_key.Validators)) rest)
+entries_steps : (o : Option Data) (modes : List (List ℕ)) (rest : Option TableFault)
+    → ((ds : Items) → o ≡ Some (array ds) → are_tables ds ≡ true
+    → fault_in (ranges_from modes [] ds) ≡ rest)
+    → fault_in ((ok_or o (Missing the_key.Validators)
+    >>= (λ value. of_kind the_key.Validators (as_array value))) >>= by_tables modes)
+    ≡ cond (is_none o) (Some (Missing the_key.Validators))
+    (cond (fails (is_kind the_key.Validators) o) (Some (Kind the_key.Validators)) rest)
 entries_steps None modes rest same = refl
-entries_steps (Some (array ds)) modes rest same = entries_if (are_tables ds) modes ds rest (λ tables. same ds refl tables)
+entries_steps (Some (array ds)) modes rest same =
+    entries_if (are_tables ds) modes ds rest (λ tables. same ds refl tables)
 entries_steps (Some _) modes rest same = refl
 
 stand_items : (whole part : Items) → whole ≡ part → StandItems whole 0 part
-stand_items whole part same k j is = let one : j ≡ k = omega (arith, is) in ap (λ (n : ℕ). get_item n whole) one ∙ ap (get_item k) same
+stand_items whole part same k j is = let one : j ≡ k = omega (arith, is) in
+    ap (λ (n : ℕ). get_item n whole) one ∙ ap (get_item k) same
 
 entries-told : (tree : Members) (modes : List (List ℕ)) → mode_names tree ≡ modes
-    → fault_in (ranges_of modes tree) ≡ first_of tree (a_row top (Missing the_key.Validators) ∷ a_row top (Kind the_key.Validators) ∷ range_rows 0 (entries_in tree))
+    → fault_in (ranges_of modes tree)
+    ≡ first_row tree (a_row top (Missing the_key.Validators)
+    ∷ a_row top (Kind the_key.Validators) ∷ range_rows 0 (entries_in tree))
 unfolding ranges_of
 entries-told tree modes known =
     let o = get_member (codes "validators") tree in
-    entries_steps o modes (first_of tree (range_rows 0 (entries_in tree))) (λ ds is tables.
+    entries_steps o modes (first_row tree (range_rows 0 (entries_in tree))) (λ ds is tables.
     let same : entries_in tree ≡ ds = ap items_of is in
-    ranges-told tree modes 0 [] ds known (stand_items (entries_in tree) ds same) tables refl (λ one. refl) ∙ ap (λ (d : Items). first_of tree (range_rows 0 d)) (sym same))
-    ∙ sym (told tree top (Missing the_key.Validators) (a_row top (Kind the_key.Validators) ∷ range_rows 0 (entries_in tree))
-    ∙ ap (λ (x : Option TableFault). cond (is_none o) (Some (Missing the_key.Validators)) x) (told tree top (Kind the_key.Validators) (range_rows 0 (entries_in tree))))
+    ranges-told tree modes 0 [] ds known (stand_items (entries_in tree) ds same) tables refl (λ one.
+    refl) ∙ ap (λ (d : Items). first_row tree (range_rows 0 d)) (sym same))
+    ∙ sym (told tree top (Missing the_key.Validators) (a_row top (Kind the_key.Validators)
+    ∷ range_rows 0 (entries_in tree))
+    ∙ ap (λ (x : Option TableFault). cond (is_none o) (Some (Missing the_key.Validators)) x)
+    (told tree top (Kind the_key.Validators) (range_rows 0 (entries_in tree))))
 
 -- ---- the riders
 -- the riders are those of the keys before a place
 abbrev AreBefore : Members → ℕ → List (List ℕ × Terms) → Type 0
-AreBefore tree n earlier = (token : List ℕ) → is_rider earlier token ≡ is_earlier (λ place. same_token token (token_at tree place)) n
+AreBefore tree n earlier =
+    (token : List ℕ) → is_rider earlier token
+    ≡ is_earlier (λ place. is_token token (token_at tree place)) n
 
-some_cond : (b : Bool) (terms : Terms) (o : Option Terms) → is_some (cond b (Some terms) o) ≡ (b || is_some o)
+some_cond : (b : Bool) (terms : Terms) (o : Option Terms)
+    → is_some (cond b (Some terms) o) ≡ (b || is_some o)
 some_cond true terms o = refl
 some_cond false terms o = refl
 
-before_next : (tree : Members) (n : ℕ) (earlier : List (List ℕ × Terms)) (token : List ℕ) (terms : Terms) → token_at tree n ≡ Some token → is_rider earlier token ≡ false
-    → AreBefore tree n earlier → AreBefore tree (suc n) (insert_entry (slice_cmp nat_cmp) earlier token terms)
+before_next : (tree : Members) (n : ℕ) (earlier : List (List ℕ × Terms)) (token : List ℕ)
+    (terms : Terms) → token_at tree n ≡ Some token → is_rider earlier token ≡ false
+    → AreBefore tree n earlier
+    → AreBefore tree (suc n) (insert_entry (slice_cmp nat_cmp) earlier token terms)
 before_next tree n earlier token terms at free are other =
     ap is_some (named_with token other terms earlier free)
     ∙ some_cond (is_eq (slice_cmp nat_cmp other token)) terms (Named other earlier)
     ∙ ap (λ (b : Bool). is_eq (slice_cmp nat_cmp other token) || b) (are other)
-    ∙ ap (λ (o : Option (List ℕ)). same_token other o || is_earlier (λ place. same_token other (token_at tree place)) n) (sym at)
+    ∙ ap (λ (o : Option (List ℕ)).
+    is_token other o || is_earlier (λ place. is_token other (token_at tree place)) n) (sym at)
 
-again_if : (b : Bool) (next : List (List ℕ × Terms)) (f : List (List ℕ × Terms) → Outcome (List (List ℕ × Terms))) (rest : Option TableFault) → (b ≡ false → fault_in (f next) ≡ rest)
+again_if : (b : Bool) (next : List (List ℕ × Terms)) (f : List (List ℕ × Terms)
+    → Outcome (List (List ℕ × Terms))) (rest : Option TableFault)
+    → (b ≡ false → fault_in (f next) ≡ rest)
     → fault_in ((if b then Err Rider else Ok next) >>= f) ≡ cond b (Some Rider) rest
 again_if true next f rest same = refl
 again_if false next f rest same = same refl
 
 -- a class that is there, and then the rest
-class_if : (o : Outcome Terms) (b c : Bool) (f : Terms → Outcome (List (List ℕ × Terms))) (rest : Option TableFault) → fault_in o ≡ cond b (Some Rider) None → ((terms : Terms) → fault_in (f terms) ≡ cond c (Some Rider) rest)
+class_if : (o : Outcome Terms) (b c : Bool) (f : Terms
+    → Outcome (List (List ℕ × Terms))) (rest : Option TableFault)
+    → fault_in o ≡ cond b (Some Rider) None
+    → ((terms : Terms) → fault_in (f terms) ≡ cond c (Some Rider) rest)
     → fault_in (o >>= f) ≡ cond (b || c) (Some Rider) rest
 class_if (Ok terms) true c f rest first same = absurd (cc)
 class_if (Ok terms) false c f rest first same = same terms
 class_if (Err e) true c f rest first same = first
 class_if (Err e) false c f rest first same = absurd (cc)
 
-assoc : (o : Outcome Terms) (token : List ℕ) (f : List ℕ × Terms → Outcome (List (List ℕ × Terms))) → fault_in ((o >>= (λ terms. Ok (token, terms))) >>= f) ≡ fault_in (o >>= (λ terms. f (token, terms)))
+assoc : (o : Outcome Terms) (token : List ℕ) (f : List ℕ × Terms → Outcome (List (List ℕ × Terms)))
+    → fault_in ((o >>= (λ terms. Ok (token, terms))) >>= f)
+    ≡ fault_in (o >>= (λ terms. f (token, terms)))
 assoc (Ok terms) token f = refl
 assoc (Err e) token f = refl
 
 -- the token, then the class, then whether an earlier key names it
-rider_if : (o : Option (List ℕ)) (classes : Members) (name : List ℕ) (earlier : List (List ℕ × Terms)) (again : List ℕ → Bool) (f : List (List ℕ × Terms) → Outcome (List (List ℕ × Terms))) (rest : Option TableFault)
+rider_if : (o : Option (List ℕ)) (classes : Members) (name : List ℕ) (earlier : List (List ℕ
+    × Terms)) (again : List ℕ → Bool) (f : List (List ℕ × Terms)
+    → Outcome (List (List ℕ × Terms))) (rest : Option TableFault)
     → checked classes ≡ Ok tt
-    → ((token : List ℕ) (terms : Terms) → o ≡ Some token → is_rider earlier token ≡ false → fault_in (f (insert_entry (slice_cmp nat_cmp) earlier token terms)) ≡ rest)
+    → ((token : List ℕ) (terms : Terms) → o ≡ Some token → is_rider earlier token ≡ false
+    → fault_in (f (insert_entry (slice_cmp nat_cmp) earlier token terms)) ≡ rest)
     → ((token : List ℕ) → o ≡ Some token → is_rider earlier token ≡ again token)
-    → fault_in ((ok_or o Rider >>= (λ token. class_named classes name >>= by_class token)) >>= (λ rider. with_rider earlier rider.0 rider.1 >>= f))
+    → fault_in ((ok_or o Rider >>= (λ token. class_named classes name >>= by_class token))
+    >>= (λ rider. with_rider earlier rider.0 rider.1 >>= f))
     ≡ cond (is_none o || (is_none (get_member name classes) || passes again o)) (Some Rider) rest
 rider_if None classes name earlier again f rest sound later are = refl
 rider_if (Some token) classes name earlier again f rest sound later are =
     assoc (class_named classes name) token (λ rider. with_rider earlier rider.0 rider.1 >>= f)
-    ∙ class_if (class_named classes name) (is_none (get_member name classes)) (again token) (λ terms. with_rider earlier token terms >>= f) rest (named-told classes name sound)
-    (λ terms. again_if (is_rider earlier token) (insert_entry (slice_cmp nat_cmp) earlier token terms) f rest (λ free. later token terms refl free)
+    ∙ class_if (class_named classes name) (is_none (get_member name classes)) (again token)
+    (λ terms. with_rider earlier token terms >>= f) rest (named-told classes name sound)
+    (λ terms. again_if (is_rider earlier token)
+    (insert_entry (slice_cmp nat_cmp) earlier token terms) f rest (λ free.
+    later token terms refl free)
     ∙ ap (λ (b : Bool). cond b (Some Rider) rest) (are token refl))
 
-riders-told : (tree classes : Members) (n : ℕ) (earlier : List (List ℕ × Terms)) (part : Members) → classes_in tree ≡ classes → checked classes ≡ Ok tt → Stand (riders_in tree) n part → hold_strings part ≡ true
-    → AreBefore tree n earlier → fault_in (riders_from classes earlier part) ≡ first_of tree (rider_rows n part)
+riders-told : (tree classes : Members) (n : ℕ) (earlier : List (List ℕ × Terms)) (part : Members)
+    → classes_in tree ≡ classes → checked classes ≡ Ok tt → Stand (riders_in tree) n part
+    → hold_strings part ≡ true
+    → AreBefore tree n earlier
+    → fault_in (riders_from classes earlier part) ≡ first_row tree (rider_rows n part)
 riders-told tree classes n earlier no_members known sound stand strings are = refl
 riders-told tree classes n earlier (member key (string name) more) known sound stand strings are =
-    let at : member_at n (riders_in tree) ≡ Some (key, string name) = stand_here (riders_in tree) n key (string name) more stand in
-    let token : token_at tree n ≡ result_ok (decode_sized key 16) = ap (λ (o : Option (List ℕ × Data)). option_and_then (λ (one : List ℕ × Data). result_ok (decode_sized one.0 16)) o) at in
-    let word : word_of (option_map (λ (one : List ℕ × Data). one.1) (member_at n (riders_in tree))) ≡ name = ap (λ (o : Option (List ℕ × Data)). word_of (option_map (λ (one : List ℕ × Data). one.1) o)) at in
-    rider_if (result_ok (decode_sized key 16)) classes name earlier (λ t. is_earlier (λ place. same_token t (token_at tree place)) n) (λ next. riders_from classes next more) (first_of tree (rider_rows (suc n) more)) sound
-    (λ t terms is free. riders-told tree classes (suc n) (insert_entry (slice_cmp nat_cmp) earlier t terms) more known sound (stand_next (riders_in tree) n key (string name) more stand) strings
+    let at : member_at n (riders_in tree) ≡ Some (key, string name) =
+    stand_here (riders_in tree) n key (string name) more stand in
+    let token : token_at tree n ≡ result_ok (decode_sized key 16) =
+    ap (λ (o : Option (List ℕ × Data)).
+    option_and_then (λ (one : List ℕ × Data). result_ok (decode_sized one.0 16)) o) at in
+    let word : string_of
+    (option_map (λ (one : List ℕ × Data). one.1) (member_at n (riders_in tree))) ≡ name =
+    ap (λ (o : Option (List ℕ × Data)).
+    string_of (option_map (λ (one : List ℕ × Data). one.1) o)) at in
+    rider_if (result_ok (decode_sized key 16)) classes name earlier (λ t.
+    is_earlier (λ place. is_token t (token_at tree place)) n) (λ next.
+    riders_from classes next more) (first_row tree (rider_rows (suc n) more)) sound
+    (λ t terms is free. riders-told tree classes (suc n)
+    (insert_entry (slice_cmp nat_cmp) earlier t terms) more known sound
+    (stand_next (riders_in tree) n key (string name) more stand) strings
     (before_next tree n earlier t terms (token ∙ is) free are))
     (λ t is. are t)
-    ∙ ap (λ (o : Option (List ℕ)). cond (is_none o || (is_none (get_member name classes) || passes (λ t. is_earlier (λ place. same_token t (token_at tree place)) n) o)) (Some Rider) (first_of tree (rider_rows (suc n) more))) (sym token)
-    ∙ ap (λ (w : List ℕ). cond (is_none (token_at tree n) || (is_none (get_member w classes) || is_again tree n)) (Some Rider) (first_of tree (rider_rows (suc n) more))) (sym word)
-    ∙ ap (λ (m : Members). cond (is_none (token_at tree n) || (is_none (get_member (word_of (option_map (λ (one : List ℕ × Data). one.1) (member_at n (riders_in tree)))) m) || is_again tree n)) (Some Rider) (first_of tree (rider_rows (suc n) more))) (sym known)
+    ∙ ap (λ (o : Option (List ℕ)).
+    cond (is_none o || (is_none (get_member name classes) || passes (λ t.
+    is_earlier (λ place. is_token t (token_at tree place)) n) o)) (Some Rider)
+    (first_row tree (rider_rows (suc n) more))) (sym token)
+    ∙ ap (λ (w : List ℕ).
+    cond (is_none (token_at tree n) || (is_none (get_member w classes) || is_again tree n))
+    (Some Rider) (first_row tree (rider_rows (suc n) more))) (sym word)
+    ∙ ap (λ (m : Members).
+    cond (is_none (token_at tree n)
+    || (is_none (get_member
+    (string_of (option_map (λ (one : List ℕ × Data). one.1) (member_at n (riders_in tree)))) m)
+    || is_again tree n)) (Some Rider) (first_row tree (rider_rows (suc n) more))) (sym known)
     ∙ sym (told tree (rider n) Rider (rider_rows (suc n) more))
-riders-told tree classes n earlier (member key _ more) known sound stand strings are = absurd (false≢true strings)
+riders-told tree classes n earlier (member key _ more) known sound stand strings are =
+    absurd (false≢true strings)
 
-strings_if : (b : Bool) (classes part : Members) (rest : Option TableFault) → (b ≡ true → fault_in (riders_from classes [] part) ≡ rest)
-    → fault_in (if b then riders_from classes [] part else Err (Kind the_key.Riders)) ≡ cond (not b) (Some (Kind the_key.Riders)) rest
+strings_if : (b : Bool) (classes part : Members) (rest : Option TableFault)
+    → (b ≡ true → fault_in (riders_from classes [] part) ≡ rest)
+    → fault_in (if b then riders_from classes [] part else Err (Kind the_key.Riders))
+    ≡ cond (not b) (Some (Kind the_key.Riders)) rest
 strings_if true classes part rest same = same refl
 strings_if false classes part rest same = refl
 
-riders_steps : (o : Option Data) (tree classes : Members) (rest : Members → Option TableFault) → rest no_members ≡ None → ((part : Members) → o ≡ Some (table part) → hold_strings part ≡ true → fault_in (riders_from classes [] part) ≡ rest part)
-    → fault_in (riders.riders_in classes o) ≡ cond (fails (is_kind the_key.Riders) o) (Some (Kind the_key.Riders)) (rest (members_of o))
+riders_steps : (o : Option Data) (tree classes : Members) (rest : Members → Option TableFault)
+    → rest no_members ≡ None
+    → ((part : Members) → o ≡ Some (table part) → hold_strings part ≡ true
+    → fault_in (riders_from classes [] part) ≡ rest part)
+    → fault_in (riders.riders_at classes o)
+    ≡ cond (fails (is_kind the_key.Riders) o) (Some (Kind the_key.Riders)) (rest (members_of o))
 riders_steps None tree classes rest none same = sym none
-riders_steps (Some (table part)) tree classes rest none same = strings_if (hold_strings part) classes part (rest part) (λ strings. same part refl strings)
+riders_steps (Some (table part)) tree classes rest none same =
+    strings_if (hold_strings part) classes part (rest part) (λ strings. same part refl strings)
 riders_steps (Some _) tree classes rest none same = refl
 
 stand_members : (whole part : Members) → whole ≡ part → Stand whole 0 part
 stand_members whole part same = subst (λ (m : Members). Stand whole 0 m) same (stand_all whole)
 
-keys-told : (tree classes : Members) → classes_in tree ≡ classes → checked classes ≡ Ok tt → fault_in (riders_of classes tree) ≡ first_of tree (a_row top (Kind the_key.Riders) ∷ rider_rows 0 (riders_in tree))
+keys-told : (tree classes : Members) → classes_in tree ≡ classes → checked classes ≡ Ok tt
+    → fault_in (riders_of classes tree)
+    ≡ first_row tree (a_row top (Kind the_key.Riders) ∷ rider_rows 0 (riders_in tree))
 unfolding riders_of
 keys-told tree classes known sound =
     let o = get_member (codes "riders") tree in
-    riders_steps o tree classes (λ part. first_of tree (rider_rows 0 part)) refl (λ part is strings.
-    riders-told tree classes 0 [] part known sound (stand_members (riders_in tree) part (ap members_of is)) strings (λ token. refl))
+    riders_steps o tree classes (λ part. first_row tree (rider_rows 0 part)) refl
+    (λ part is strings.
+    riders-told tree classes 0 [] part known sound
+    (stand_members (riders_in tree) part (ap members_of is)) strings (λ token. refl))
     ∙ sym (told tree top (Kind the_key.Riders) (rider_rows 0 (riders_in tree)))
 
 -- ---- the zone
-rule_if : (b : Bool) (text : List ℕ) → fault_in (if b then Ok (Some text) else Err the_fault.Zone) ≡ cond (not b) (Some the_fault.Zone) None
+rule_if : (b : Bool) (text : List ℕ)
+    → fault_in (if b then Ok (Some text) else Err the_fault.Zone)
+    ≡ cond (not b) (Some the_fault.Zone) None
 rule_if true text = refl
 rule_if false text = refl
 
-zone_steps : (o : Option Data) → fault_in (zone_in o) ≡ cond (fails (is_kind the_key.Zone) o) (Some (Kind the_key.Zone)) (cond (is_no_zone o) (Some the_fault.Zone) None)
+zone_steps : (o : Option Data)
+    → fault_in (zone_in o)
+    ≡ cond (fails (is_kind the_key.Zone) o) (Some (Kind the_key.Zone))
+    (cond (is_no_zone o) (Some the_fault.Zone) None)
 zone_steps None = refl
 zone_steps (Some (string s)) = rule_if (is_some (read_whole s)) s
 zone_steps (Some _) = refl
 
-zone-told : (tree : Members) → fault_in (zone_of tree) ≡ first_of tree (a_row top (Kind the_key.Zone) ∷ a_row top the_fault.Zone ∷ [])
+zone-told : (tree : Members)
+    → fault_in (zone_of tree)
+    ≡ first_row tree (a_row top (Kind the_key.Zone) ∷ a_row top the_fault.Zone ∷ [])
 unfolding zone_of
-zone-told tree = zone_steps (get_member (codes "zone") tree) ∙ sym (told_two tree top (Kind the_key.Zone) the_fault.Zone)
+zone-told tree = zone_steps (get_member (codes "zone") tree)
+    ∙ sym (told_two tree top (Kind the_key.Zone) the_fault.Zone)
 
 -- ---- the whole
-rules-told : (tree : Members) → fault_in (rules_of tree) ≡ first_of tree (rows tree)
-unfolding rules_of
+rules-told : (tree : Members) → fault_in (rules_of_tree tree) ≡ first_row tree (rows tree)
+unfolding rules_of_tree
 rules-told tree =
     let key_rows = riders_step tree ++ zone_step in
     let entry_rows = validators_step tree ++ key_rows in
     let default_rows = default_step ++ entry_rows in
     let class_rows = classes_step tree ++ default_rows in
-    steps tree (modes_of tree) _ (needed_rows top the_key.Modes) (transfers_step ++ class_rows) (modes-told tree) (λ modes is_modes.
+    steps tree (modes_of tree) _ (needed_rows top the_key.Modes) (transfers_step ++ class_rows)
+    (modes-told tree) (λ modes is_modes.
     let known = modes-known tree modes is_modes in
-    steps tree (transfers_of modes tree) _ transfers_step class_rows (transfers-told tree modes known) (λ transfers is_transfers.
-    steps tree (classes_of tree) _ (classes_step tree) default_rows (classes-told tree) (λ classes is_classes.
+    steps tree (transfers_of modes tree) _ transfers_step class_rows
+    (transfers-told tree modes known) (λ transfers is_transfers.
+    steps tree (classes_of tree) _ (classes_step tree) default_rows (classes-told tree)
+    (λ classes is_classes.
     let same : classes_in tree ≡ classes = ap members_of (classes_read tree classes is_classes) in
     let sound = classes_sound tree classes is_classes in
-    steps tree (default_of classes tree) _ default_step entry_rows (default-told tree classes same sound) (λ standard is_standard.
-    steps tree (ranges_of modes tree) _ (validators_step tree) key_rows (entries-told tree modes known) (λ ranges is_ranges.
-    steps tree (riders_of classes tree) _ (riders_step tree) zone_step (keys-told tree classes same sound) (λ riders is_riders.
+    steps tree (default_of classes tree) _ default_step entry_rows
+    (default-told tree classes same sound) (λ standard is_standard.
+    steps tree (ranges_of modes tree) _ (validators_step tree) key_rows
+    (entries-told tree modes known) (λ ranges is_ranges.
+    steps tree (riders_of classes tree) _ (riders_step tree) zone_step
+    (keys-told tree classes same sound) (λ riders is_riders.
     done (zone_of tree) _ ∙ zone-told tree))))))
 
-text_tells : (o : Option Members) → fault_in (ok_or o the_fault.Text >>= rules_of) ≡ first_fault o
+text_tells : (o : Option Members)
+    → fault_in (ok_or o the_fault.Text >>= rules_of_tree) ≡ first_fault o
 text_tells None = refl
 text_tells (Some tree) = rules-told tree
 
-told_fault : {A : Type 0} (o : Outcome A) (fault : TableFault) → (o ≡ Err fault) ↔ (fault_in o ≡ Some fault)
+told_fault : {A : Type 0} (o : Outcome A) (fault : TableFault) → (o ≡ Err fault)
+    ↔ (fault_in o ≡ Some fault)
 told_fault {A} (Ok a) fault = (λ is. absurd (cc), λ is. absurd (cc))
-told_fault {A} (Err e) fault = (λ is. ap (λ (x : Outcome A). fault_in x) is, λ is. let same : e ≡ fault = cc in ap (λ (f : TableFault). Err f) same)
+told_fault {A} (Err e) fault = (
+  λ is. ap (λ (x : Outcome A). fault_in x) is,
+  λ is. let same : e ≡ fault = cc in ap (λ (f : TableFault). Err f) same,
+)
 
-pub first-row : (text : List ℕ) (fault : TableFault) → (rules_in text ≡ Err fault) ↔ (first_fault (parse_document text) ≡ Some fault)
+pub first-row : (text : List ℕ) (fault : TableFault) → (rules_in text ≡ Err fault)
+    ↔ (first_fault (parse_document text) ≡ Some fault)
 first-row text fault =
     let both = told_fault (rules_in text) fault in
     let told = text_tells (parse_document text) in
@@ -334,19 +487,22 @@ told_none : {A : Type 0} (o : Outcome A) → ((a : A) × (o ≡ Ok a)) ↔ (faul
 told_none {A} (Ok a) = (λ is. refl, λ is. (a, refl))
 told_none {A} (Err e) = (λ is. ap (λ (x : Outcome A). fault_in x) is.1, λ is. absurd (cc))
 
-pub no-row : (text : List ℕ) → ((rules : Rules) × (rules_in text ≡ Ok rules)) ↔ (first_fault (parse_document text) ≡ None)
+pub no-row : (text : List ℕ) → ((rules : TableRules) × (rules_in text ≡ Ok rules))
+    ↔ (first_fault (parse_document text) ≡ None)
 no-row text =
     let both = told_none (rules_in text) in
     let told = text_tells (parse_document text) in
     (λ is. sym told ∙ both.0 is, λ is. both.1 (told ∙ is))
 
 -- the same of what reading a text answers
-pub first-of-err : {A : Type 0} (P : Type 0) (text : List ℕ) (result : Result A TableFault) → IfErr result (λ e. e ≢ the_fault.NoMemory → P → rules_in text ≡ Err e)
+pub first-of-err : {A : Type 0} (P : Type 0) (text : List ℕ) (result : Result A TableFault)
+    → IfErr result (λ e. e ≢ the_fault.NoMemory → P → rules_in text ≡ Err e)
     → IfErr result (λ e. e ≢ the_fault.NoMemory → P → first_fault (parse_document text) ≡ Some e)
 first-of-err P text (Ok a) is = tt
 first-of-err P text (Err e) is = λ other known. (first-row text e).0 (is other known)
 
-pub none-of-ok : {A : Type 0} (P : Type 0) (text : List ℕ) (result : Result A TableFault) (f : A → Rules) → IfOk result (λ a. P × (rules_in text ≡ Ok (f a)))
+pub none-of-ok : {A : Type 0} (P : Type 0) (text : List ℕ) (result : Result A TableFault) (f : A
+    → TableRules) → IfOk result (λ a. P × (rules_in text ≡ Ok (f a)))
     → IfOk result (λ a. first_fault (parse_document text) ≡ None)
 none-of-ok P text (Ok a) f is = (no-row text).0 (f a, is.1)
 none-of-ok P text (Err e) f is = tt

@@ -1,5 +1,7 @@
--- The riders of a table come in the byte order of their tokens, and its ranges rise and stand apart.
-use Rattle.std.proofs.Common.{◌≡◌, ⊎_elim, ℕ, true, List, [], ◌∷◌, Option, Ok, refl, sym, ap, ◌∙◌, subst, codes, Ordering, Less, Equal, Greater}
+-- The riders of a table come in the byte order of their tokens, and its ranges rise and stand
+-- apart.
+use Rattle.std.proofs.Common.{◌≡◌, ⊎_elim, ℕ, true, List, [], ◌∷◌, Option, Ok, refl, sym, ap, ◌∙◌}
+use Rattle.std.proofs.Common.{subst, codes, Ordering, Less, Equal, Greater}
 use Rattle.std.specs.BTreeMap.{insert_entry}
 use Rattle.std.specs.Cmp.Lexicographic.{nat_list_cmp_total, slice_cmp}
 use Rattle.std.specs.List.{AllByRecursion}
@@ -11,7 +13,7 @@ use Rattle.fare_table.proofs.EntryLemmas.{ranges_read, step}
 use Rattle.fare_table.proofs.PartLemmas.{bind_ok, parts}
 use Rattle.fare_table.proofs.PayLemmas.{AreRiders, adds_rider, after_rider, riders_read}
 use Rattle.fare_table.specs.Riders.{rider_of, riders_from, with_rider}
-use Rattle.fare_table.specs.Rules.{Rules, rules_of}
+use Rattle.fare_table.specs.Rules.{TableRules, rules_of_tree}
 use Rattle.fare_table.specs.Validators.{is_chain, ranges_from}
 use Rattle.fare_table.specs.declared.terms.Terms.{Terms}
 use Rattle.fare_table.specs.declared.validators.Span.{Span}
@@ -29,60 +31,88 @@ Above low riders = AllByRecursion (λ token. slice_cmp nat_cmp low token ≡ Les
 abbrev Rise : Riders → Type 0
 Rise riders = IsStrictlySortedBy (slice_cmp nat_cmp) (keys_of riders)
 
-above_if : (r : Ordering) (low token : List ℕ) (terms : Terms) (first : List ℕ × Terms) (more : Riders) → slice_cmp nat_cmp low token ≡ Less → Above low (first ∷ more) → Above low (with_one token terms more)
-    → Above low (match_ordering r ((token, terms) ∷ first ∷ more) ((first.0, terms) ∷ more) (first ∷ with_one token terms more))
+above_if : (r : Ordering) (low token : List ℕ) (terms : Terms) (first : List ℕ
+    × Terms) (more : Riders) → slice_cmp nat_cmp low token ≡ Less → Above low (first ∷ more)
+    → Above low (with_one token terms more)
+    → Above low (match_ordering r ((token, terms) ∷ first ∷ more) ((first.0, terms) ∷ more) (first
+    ∷ with_one token terms more))
 above_if Less low token terms first more below all later = (below, all)
 above_if Equal low token terms first more below all later = all
 above_if Greater low token terms first more below all later = (all.0, later)
 
-above_with : (low token : List ℕ) (terms : Terms) (riders : Riders) → slice_cmp nat_cmp low token ≡ Less → Above low riders → Above low (with_one token terms riders)
+above_with : (low token : List ℕ) (terms : Terms) (riders : Riders)
+    → slice_cmp nat_cmp low token ≡ Less → Above low riders
+    → Above low (with_one token terms riders)
 above_with low token terms [] below all = (below, tt)
-above_with low token terms (first ∷ more) below all = above_if (slice_cmp nat_cmp token first.0) low token terms first more below all (above_with low token terms more below all.1)
+above_with low token terms (first ∷ more) below all =
+    above_if (slice_cmp nat_cmp token first.0) low token terms first more below all
+    (above_with low token terms more below all.1)
 
-lower : (low token : List ℕ) (riders : Riders) → slice_cmp nat_cmp low token ≡ Less → Above token riders → Above low riders
+lower : (low token : List ℕ) (riders : Riders) → slice_cmp nat_cmp low token ≡ Less
+    → Above token riders → Above low riders
 lower low token [] below all = tt
-lower low token (first ∷ more) below all = ((nat_list_cmp_total).trans low token first.0 below all.0, lower low token more below all.1)
+lower low token (first ∷ more) below all =
+    ((nat_list_cmp_total).trans low token first.0 below all.0, lower low token more below all.1)
 
-rise_if : (r : Ordering) (token : List ℕ) (terms : Terms) (first : List ℕ × Terms) (more : Riders) → slice_cmp nat_cmp token first.0 ≡ r → Rise (first ∷ more) → Rise (with_one token terms more)
-    → Rise (match_ordering r ((token, terms) ∷ first ∷ more) ((first.0, terms) ∷ more) (first ∷ with_one token terms more))
+rise_if : (r : Ordering) (token : List ℕ) (terms : Terms) (first : List ℕ × Terms) (more : Riders)
+    → slice_cmp nat_cmp token first.0 ≡ r → Rise (first ∷ more) → Rise (with_one token terms more)
+    → Rise (match_ordering r ((token, terms) ∷ first ∷ more) ((first.0, terms) ∷ more) (first
+    ∷ with_one token terms more))
 unfolding IsStrictlySortedBy
 rise_if Less token terms first more is rise later = ((is, lower token first.0 more is rise.0), rise)
 rise_if Equal token terms first more is rise later = rise
-rise_if Greater token terms first more is rise later =
-    (above_with first.0 token terms more ((nat_list_cmp_total).antisymm first.0 token ∙ ap ordering_reverse is) rise.0, later)
+rise_if Greater token terms first more is rise later = (
+  above_with first.0 token terms more ((nat_list_cmp_total).antisymm first.0 token
+      ∙ ap ordering_reverse is) rise.0,
+  later,
+)
 
-rise_with : (token : List ℕ) (terms : Terms) (riders : Riders) → Rise riders → Rise (with_one token terms riders)
+rise_with : (token : List ℕ) (terms : Terms) (riders : Riders) → Rise riders
+    → Rise (with_one token terms riders)
 unfolding IsStrictlySortedBy
 rise_with token terms [] rise = (tt, tt)
-rise_with token terms (first ∷ more) rise = rise_if (slice_cmp nat_cmp token first.0) token terms first more refl rise (rise_with token terms more rise.1)
+rise_with token terms (first ∷ more) rise =
+    rise_if (slice_cmp nat_cmp token first.0) token terms first more refl rise
+    (rise_with token terms more rise.1)
 
-rise_from : (classes : Members) (earlier : Riders) (part : Members) (riders : Riders) → riders_from classes earlier part ≡ Ok riders → Rise earlier → Rise riders
-rise_from classes earlier no_members riders is rise = let same : earlier ≡ riders = cc in subst (λ (r : Riders). Rise r) same rise
+rise_from : (classes : Members) (earlier : Riders) (part : Members) (riders : Riders)
+    → riders_from classes earlier part ≡ Ok riders → Rise earlier → Rise riders
+rise_from classes earlier no_members riders is rise = let same : earlier ≡ riders = cc in
+    subst (λ (r : Riders). Rise r) same rise
 rise_from classes earlier (member key value more) riders is rise =
     let one = bind_ok (rider_of classes key value) (after_rider classes earlier more) riders is in
-    let two = bind_ok (with_rider earlier one.0.0 one.0.1) (λ next. riders_from classes next more) riders one.2 in
+    let two = bind_ok (with_rider earlier one.0.0 one.0.1) (λ next. riders_from classes next more)
+    riders one.2 in
     let added = adds_rider earlier two.0 one.0.0 one.0.1 two.1 in
-    rise_from classes two.0 more riders two.2 (subst (λ (r : Riders). Rise r) (sym added.one) (rise_with one.0.0 one.0.1 earlier rise))
+    rise_from classes two.0 more riders two.2
+    (subst (λ (r : Riders). Rise r) (sym added.one) (rise_with one.0.0 one.0.1 earlier rise))
 
-rise_all : (classes : Members) (o : Option Data) (riders : Riders) → AreRiders classes o riders → Rise riders
+rise_all : (classes : Members) (o : Option Data) (riders : Riders) → AreRiders classes o riders
+    → Rise riders
 unfolding AreRiders IsStrictlySortedBy
 rise_all classes o riders are = ⊎_elim
     (λ none. subst (λ (r : Riders). Rise r) (sym none.1) tt)
     (λ some. rise_from classes [] some.0 riders some.2 tt)
     are
 
-pub riders-rise : (tree : Members) (rules : Rules) → rules_of tree ≡ Ok rules → IsStrictlySortedBy (slice_cmp nat_cmp) (keys_of rules.riders)
+pub riders-rise : (tree : Members) (rules : TableRules) → rules_of_tree tree ≡ Ok rules
+    → IsStrictlySortedBy (slice_cmp nat_cmp) (keys_of rules.riders)
 riders-rise tree rules is =
     let p = parts tree rules is in
-    rise_all p.table (get_member (codes "riders") tree) rules.riders (riders_read p.table tree rules.riders p.riders)
+    rise_all p.table (get_member (codes "riders") tree) rules.riders
+    (riders_read p.table tree rules.riders p.riders)
 
-chain_from : (modes : List (List ℕ)) (earlier : List (ℕ × Span)) (part : Items) (ranges : List (ℕ × Span)) → ranges_from modes earlier part ≡ Ok ranges → is_chain earlier ≡ true → is_chain ranges ≡ true
-chain_from modes earlier no_items ranges is chain = let same : earlier ≡ ranges = cc in subst (λ (r : List (ℕ × Span)). is_chain r ≡ true) same chain
+chain_from : (modes : List (List ℕ)) (earlier : List (ℕ × Span)) (part : Items) (ranges : List (ℕ
+    × Span)) → ranges_from modes earlier part ≡ Ok ranges → is_chain earlier ≡ true
+    → is_chain ranges ≡ true
+chain_from modes earlier no_items ranges is chain = let same : earlier ≡ ranges = cc in
+    subst (λ (r : List (ℕ × Span)). is_chain r ≡ true) same chain
 chain_from modes earlier (item value more) ranges is chain =
     let s = step modes earlier value more ranges is chain in
     chain_from modes s.next more ranges s.rest s.chain
 
-pub ranges-rise : (tree : Members) (rules : Rules) → rules_of tree ≡ Ok rules → is_chain rules.ranges ≡ true
+pub ranges-rise : (tree : Members) (rules : TableRules) → rules_of_tree tree ≡ Ok rules
+    → is_chain rules.ranges ≡ true
 ranges-rise tree rules is =
     let text = ranges_read rules.modes tree rules.ranges (parts tree rules is).ranges in
     chain_from rules.modes [] text.items rules.ranges text.read refl

@@ -1,18 +1,24 @@
 -- No step over the tree of a text gives the text fault.
-use Rattle.std.proofs.Common.{◌≡◌, ◌≢◌, ℕ, Bool, true, false, List, [], ◌∷◌, ◌++◌, Option, Some, None, Ok, Err, ap, codes}
+use Rattle.std.proofs.Common.{◌≡◌, ◌≢◌, ℕ, Bool, true, false, List, [], ◌∷◌, ◌++◌, Option, Some}
+use Rattle.std.proofs.Common.{None, Ok, Err, ap, codes}
 use Rattle.std.specs.Option.{ok_or, is_some}
 use Rattle.std.specs.Prelude.{if◌then◌else◌, ◌*◌}
 use Rattle.std.specs.Result.{result_ok}
 use Rattle.hex.specs.Hex.{decode_sized}
 use Rattle.jiff.specs.Words.{read_whole}
-use Rattle.toml.specs.Data.{Data, Items, no_items, item, Members, no_members, member, get_member, as_str, as_integer, as_array, as_table}
-use Rattle.fare_table.specs.Classes.{ceiling_of, checked, class_named, class_of, classes_of, default_of, is_empty}
-use Rattle.fare_table.specs.Members.{are_tables, array_at, hold_strings, hold_tables, needed, number_at, number_in, of_kind, table_at, text_at, within}
+use Rattle.toml.specs.Data.{Data, Items, no_items, item, Members, no_members, member, get_member}
+use Rattle.toml.specs.Data.{as_str, as_integer, as_array, as_table}
+use Rattle.fare_table.specs.Classes.{ceiling_of, checked, class_named, class_of, classes_of}
+use Rattle.fare_table.specs.Classes.{default_of, is_empty}
+use Rattle.fare_table.specs.Members.{are_tables, array_at, hold_strings, hold_tables, needed}
+use Rattle.fare_table.specs.Members.{number_at, number_in, of_kind, table_at, text_at, within}
 use Rattle.fare_table.specs.Modes.{are_mode_names, mode_named, modes_of, strings_from}
 use Rattle.fare_table.specs.Outcome.{Outcome, ◌>>=◌}
-use Rattle.fare_table.specs.Riders.{rider_of, riders_from, riders_in, riders_of, token_of, with_rider}
-use Rattle.fare_table.specs.Rules.{rules_of}
-use Rattle.fare_table.specs.Transfers.{pair_of, pairs_from, places_of, transfers_from, transfers_of, with_pair}
+use Rattle.fare_table.specs.Riders.{rider_of, riders_from, riders_at, riders_of, token_of_digits}
+use Rattle.fare_table.specs.Riders.{with_rider}
+use Rattle.fare_table.specs.Rules.{rules_of_tree}
+use Rattle.fare_table.specs.Transfers.{name_pair, pairs_from, places_of, transfers_from}
+use Rattle.fare_table.specs.Transfers.{transfers_of, with_pair}
 use Rattle.fare_table.specs.Validators.{range_in, range_of, ranges_from, ranges_of, with_range}
 use Rattle.fare_table.specs.Zone.{zone_in, zone_of}
 use Rattle.fare_table.specs.declared.fault.Key.{Key}
@@ -32,15 +38,19 @@ an_ok x is = cc
 another : {A : Type 0} (fault : TableFault) → fault ≢ the_fault.Text → NotText {A = A} (Err fault)
 another fault other is = other cc
 
-steps : {A B : Type 0} (o : Outcome A) (f : A → Outcome B) → NotText o → ((x : A) → NotText (f x)) → NotText (o >>= f)
+steps : {A B : Type 0} (o : Outcome A) (f : A → Outcome B) → NotText o → ((x : A) → NotText (f x))
+    → NotText (o >>= f)
 steps (Ok x) f first rest = rest x
-steps (Err e) f first rest = λ is. let same : e ≡ the_fault.Text = cc in first (ap (λ fault. Err fault) same)
+steps (Err e) f first rest = λ is. let same : e ≡ the_fault.Text = cc in
+    first (ap (λ fault. Err fault) same)
 
-a_part : {A : Type 0} (part : Option A) (fault : TableFault) → fault ≢ the_fault.Text → NotText (ok_or part fault)
+a_part : {A : Type 0} (part : Option A) (fault : TableFault) → fault ≢ the_fault.Text
+    → NotText (ok_or part fault)
 a_part None fault other = another fault other
 a_part (Some x) fault other = an_ok x
 
-a_choice : {A : Type 0} (b : Bool) (x y : Outcome A) → NotText x → NotText y → NotText (if b then x else y)
+a_choice : {A : Type 0} (b : Bool) (x y : Outcome A) → NotText x → NotText y
+    → NotText (if b then x else y)
 a_choice true x y first second = first
 a_choice false x y first second = second
 
@@ -50,51 +60,82 @@ of_kind-text key part = a_part part (the_fault.Kind key) (λ is. cc)
 needed-text : (name : List ℕ) (key : Key) (tree : Members) → NotText (needed name key tree)
 needed-text name key tree = a_part (get_member name tree) (the_fault.Missing key) (λ is. cc)
 
-a_range : {A : Type 0} (b : Bool) (x : A) (key : Key) → NotText (if b then Ok x else Err (the_fault.Range key))
-a_range b x key = a_choice b (Ok x) (Err (the_fault.Range key)) (an_ok x) (another (the_fault.Range key) (λ is. cc))
+a_range : {A : Type 0} (b : Bool) (x : A) (key : Key)
+    → NotText (if b then Ok x else Err (the_fault.Range key))
+a_range b x key = a_choice b (Ok x) (Err (the_fault.Range key)) (an_ok x)
+    (another (the_fault.Range key) (λ is. cc))
 
 text_at-text : (name : List ℕ) (key : Key) (tree : Members) → NotText (text_at name key tree)
-text_at-text name key tree = steps (needed name key tree) (λ value. of_kind key (as_str value)) (needed-text name key tree) (λ value. of_kind-text key (as_str value))
+text_at-text name key tree =
+    steps (needed name key tree) (λ value. of_kind key (as_str value)) (needed-text name key tree)
+    (λ value. of_kind-text key (as_str value))
 
 array_at-text : (name : List ℕ) (key : Key) (tree : Members) → NotText (array_at name key tree)
-array_at-text name key tree = steps (needed name key tree) (λ value. of_kind key (as_array value)) (needed-text name key tree) (λ value. of_kind-text key (as_array value))
+array_at-text name key tree =
+    steps (needed name key tree) (λ value. of_kind key (as_array value)) (needed-text name key tree)
+    (λ value. of_kind-text key (as_array value))
 
 table_at-text : (name : List ℕ) (key : Key) (tree : Members) → NotText (table_at name key tree)
-table_at-text name key tree = steps (needed name key tree) (λ value. of_kind key (as_table value)) (needed-text name key tree) (λ value. of_kind-text key (as_table value))
+table_at-text name key tree =
+    steps (needed name key tree) (λ value. of_kind key (as_table value)) (needed-text name key tree)
+    (λ value. of_kind-text key (as_table value))
 
 number_in-text : (key : Key) (low high : ℕ) (value : Data) → NotText (number_in key low high value)
-number_in-text key low high value = steps (of_kind key (as_integer value)) (λ number. within key low high number) (of_kind-text key (as_integer value)) (λ number. a_range _ _ key)
+number_in-text key low high value =
+    steps (of_kind key (as_integer value)) (λ number. within key low high number)
+    (of_kind-text key (as_integer value)) (λ number. a_range _ _ key)
 
-number_at-text : (name : List ℕ) (key : Key) (low high : ℕ) (tree : Members) → NotText (number_at name key low high tree)
-number_at-text name key low high tree = steps (needed name key tree) (λ value. number_in key low high value) (needed-text name key tree) (number_in-text key low high)
+number_at-text : (name : List ℕ) (key : Key) (low high : ℕ) (tree : Members)
+    → NotText (number_at name key low high tree)
+number_at-text name key low high tree =
+    steps (needed name key tree) (λ value. number_in key low high value) (needed-text name key tree)
+    (number_in-text key low high)
 
 strings_from-text : (found : List (List ℕ)) (items : Items) → NotText (strings_from found items)
 strings_from-text found no_items = an_ok found
-strings_from-text found (item value more) = steps (of_kind the_key.Modes (as_str value)) (λ name. strings_from (found ++ name ∷ []) more) (of_kind-text the_key.Modes (as_str value)) (λ name. strings_from-text (found ++ name ∷ []) more)
+strings_from-text found (item value more) =
+    steps (of_kind the_key.Modes (as_str value)) (λ name. strings_from (found ++ name ∷ []) more)
+    (of_kind-text the_key.Modes (as_str value)) (λ name.
+    strings_from-text (found ++ name ∷ []) more)
 
 modes_of-text : (tree : Members) → NotText (modes_of tree)
 unfolding modes_of
-modes_of-text tree = steps (array_at (codes "modes") the_key.Modes tree) _ (array_at-text (codes "modes") the_key.Modes tree)
-    (λ items. steps (strings_from [] items) _ (strings_from-text [] items) (λ names. a_range (are_mode_names names) names the_key.Modes))
+modes_of-text tree = steps (array_at (codes "modes") the_key.Modes tree) _
+    (array_at-text (codes "modes") the_key.Modes tree)
+    (λ items. steps (strings_from [] items) _ (strings_from-text [] items) (λ names.
+    a_range (are_mode_names names) names the_key.Modes))
 
 mode_named-text : (modes : List (List ℕ)) (name : List ℕ) → NotText (mode_named modes name)
 mode_named-text modes name = a_part _ the_fault.Mode (λ is. cc)
 
-pairs_from-text : (found : List (List ℕ × List ℕ)) (items : Items) → NotText (pairs_from found items)
+pairs_from-text : (found : List (List ℕ × List ℕ)) (items : Items)
+    → NotText (pairs_from found items)
 pairs_from-text found no_items = an_ok found
-pairs_from-text found (item value more) = steps (of_kind the_key.Transfers (pair_of value)) (λ pair. pairs_from (found ++ pair ∷ []) more) (of_kind-text the_key.Transfers (pair_of value)) (λ pair. pairs_from-text (found ++ pair ∷ []) more)
+pairs_from-text found (item value more) =
+    steps (of_kind the_key.Transfers (name_pair value)) (λ pair.
+    pairs_from (found ++ pair ∷ []) more) (of_kind-text the_key.Transfers (name_pair value))
+    (λ pair. pairs_from-text (found ++ pair ∷ []) more)
 
 places_of-text : (modes : List (List ℕ)) (pair : List ℕ × List ℕ) → NotText (places_of modes pair)
-places_of-text modes pair = steps (mode_named modes pair.0) _ (mode_named-text modes pair.0) (λ from. steps (mode_named modes pair.1) _ (mode_named-text modes pair.1) (λ to. an_ok (from, to)))
+places_of-text modes pair =
+    steps (mode_named modes pair.0) _ (mode_named-text modes pair.0) (λ from.
+    steps (mode_named modes pair.1) _ (mode_named-text modes pair.1) (λ to. an_ok (from, to)))
 
-transfers_from-text : (modes : List (List ℕ)) (found : List (ℕ × ℕ)) (pairs : List (List ℕ × List ℕ)) → NotText (transfers_from modes found pairs)
+transfers_from-text : (modes : List (List ℕ)) (found : List (ℕ × ℕ)) (pairs : List (List ℕ
+    × List ℕ)) → NotText (transfers_from modes found pairs)
 transfers_from-text modes found [] = an_ok found
-transfers_from-text modes found (pair ∷ more) = steps (places_of modes pair) (λ places. transfers_from modes (with_pair found places.0 places.1) more) (places_of-text modes pair) (λ places. transfers_from-text modes (with_pair found places.0 places.1) more)
+transfers_from-text modes found (pair ∷ more) =
+    steps (places_of modes pair) (λ places.
+    transfers_from modes (with_pair found places.0 places.1) more) (places_of-text modes pair)
+    (λ places. transfers_from-text modes (with_pair found places.0 places.1) more)
 
 transfers_of-text : (modes : List (List ℕ)) (tree : Members) → NotText (transfers_of modes tree)
 unfolding transfers_of
-transfers_of-text modes tree = steps (array_at (codes "transfers") the_key.Transfers tree) _ (array_at-text (codes "transfers") the_key.Transfers tree)
-    (λ items. steps (pairs_from [] items) _ (pairs_from-text [] items) (λ pairs. transfers_from-text modes [] pairs))
+transfers_of-text modes tree =
+    steps (array_at (codes "transfers") the_key.Transfers tree) _
+    (array_at-text (codes "transfers") the_key.Transfers tree)
+    (λ items. steps (pairs_from [] items) _ (pairs_from-text [] items) (λ pairs.
+    transfers_from-text modes [] pairs))
 
 ceiling_of-text : (price : ℕ) (value : Option Data) → NotText (ceiling_of price value)
 ceiling_of-text price None = an_ok price
@@ -102,66 +143,109 @@ ceiling_of-text price (Some value) = number_in-text the_key.Ceiling 1 100_000_00
 
 class_of-text : (entry : Members) → NotText (class_of entry)
 unfolding class_of
-class_of-text entry = steps (number_at (codes "fare") the_key.Fare 1 100_000 entry) _ (number_at-text (codes "fare") the_key.Fare 1 100_000 entry)
-    (λ fare. steps (number_at (codes "rides") the_key.Rides 1 1_000 entry) _ (number_at-text (codes "rides") the_key.Rides 1 1_000 entry)
-    (λ rides. steps (ceiling_of (rides * fare) (get_member (codes "ceiling") entry)) _ (ceiling_of-text (rides * fare) (get_member (codes "ceiling") entry)) (λ ceiling. an_ok _)))
+class_of-text entry = steps (number_at (codes "fare") the_key.Fare 1 100_000 entry) _
+    (number_at-text (codes "fare") the_key.Fare 1 100_000 entry)
+    (λ fare. steps (number_at (codes "rides") the_key.Rides 1 1_000 entry) _
+    (number_at-text (codes "rides") the_key.Rides 1 1_000 entry)
+    (λ rides. steps (ceiling_of (rides * fare) (get_member (codes "ceiling") entry)) _
+    (ceiling_of-text (rides * fare) (get_member (codes "ceiling") entry)) (λ ceiling. an_ok _)))
 
 checked-text : (classes : Members) → NotText (checked classes)
 checked-text no_members = an_ok tt
-checked-text (member name value more) = steps (of_kind the_key.Classes (as_table value)) _ (of_kind-text the_key.Classes (as_table value))
-    (λ entry. steps (class_of entry) (λ terms. checked more) (class_of-text entry) (λ terms. checked-text more))
+checked-text (member name value more) =
+    steps (of_kind the_key.Classes (as_table value)) _
+    (of_kind-text the_key.Classes (as_table value))
+    (λ entry. steps (class_of entry) (λ terms. checked more) (class_of-text entry) (λ terms.
+    checked-text more))
 
 classes_of-text : (tree : Members) → NotText (classes_of tree)
 unfolding classes_of
-classes_of-text tree = steps (table_at (codes "classes") the_key.Classes tree) _ (table_at-text (codes "classes") the_key.Classes tree)
-    (λ classes. steps (if hold_tables classes then Ok classes else Err (the_fault.Kind the_key.Classes)) _
-    (a_choice (hold_tables classes) (Ok classes) (Err (the_fault.Kind the_key.Classes)) (an_ok classes) (another (the_fault.Kind the_key.Classes) (λ is. cc)))
-    (λ tables. steps (if is_empty tables then Err (the_fault.Range the_key.Classes) else Ok tables) _
-    (a_choice (is_empty tables) (Err (the_fault.Range the_key.Classes)) (Ok tables) (another (the_fault.Range the_key.Classes) (λ is. cc)) (an_ok tables))
+classes_of-text tree = steps (table_at (codes "classes") the_key.Classes tree) _
+    (table_at-text (codes "classes") the_key.Classes tree)
+    (λ classes. steps (if hold_tables classes then Ok classes else Err
+    (the_fault.Kind the_key.Classes)) _
+    (a_choice (hold_tables classes) (Ok classes) (Err (the_fault.Kind the_key.Classes))
+    (an_ok classes) (another (the_fault.Kind the_key.Classes) (λ is. cc)))
+    (λ tables. steps (if is_empty tables then Err (the_fault.Range the_key.Classes) else Ok tables)
+    _
+    (a_choice (is_empty tables) (Err (the_fault.Range the_key.Classes)) (Ok tables)
+    (another (the_fault.Range the_key.Classes) (λ is. cc)) (an_ok tables))
     (λ some. steps (checked some) _ (checked-text some) (λ sound. an_ok some))))
 
 class_named-text : (classes : Members) (name : List ℕ) → NotText (class_named classes name)
-class_named-text classes name = steps (ok_or (get_member name classes) the_fault.Rider) _ (a_part (get_member name classes) the_fault.Rider (λ is. cc))
-    (λ value. steps (of_kind the_key.Classes (as_table value)) (λ entry. class_of entry) (of_kind-text the_key.Classes (as_table value)) class_of-text)
+class_named-text classes name =
+    steps (ok_or (get_member name classes) the_fault.Rider) _
+    (a_part (get_member name classes) the_fault.Rider (λ is. cc))
+    (λ value. steps (of_kind the_key.Classes (as_table value)) (λ entry. class_of entry)
+    (of_kind-text the_key.Classes (as_table value)) class_of-text)
 
 default_of-text : (classes tree : Members) → NotText (default_of classes tree)
 unfolding default_of
-default_of-text classes tree = steps (text_at (codes "default_class") the_key.DefaultClass tree) (λ name. class_named classes name) (text_at-text (codes "default_class") the_key.DefaultClass tree) (class_named-text classes)
+default_of-text classes tree =
+    steps (text_at (codes "default_class") the_key.DefaultClass tree) (λ name.
+    class_named classes name) (text_at-text (codes "default_class") the_key.DefaultClass tree)
+    (class_named-text classes)
 
 range_of-text : (modes : List (List ℕ)) (entry : Members) → NotText (range_of modes entry)
 unfolding range_of
-range_of-text modes entry = steps (number_at (codes "first") the_key.First 0 4_294_967_295 entry) _ (number_at-text (codes "first") the_key.First 0 4_294_967_295 entry)
-    (λ first. steps (number_at (codes "last") the_key.Last first 4_294_967_295 entry) _ (number_at-text (codes "last") the_key.Last first 4_294_967_295 entry)
-    (λ last. steps (text_at (codes "mode") the_key.ModeName entry) _ (text_at-text (codes "mode") the_key.ModeName entry)
+range_of-text modes entry =
+    steps (number_at (codes "first") the_key.First 0 4_294_967_295 entry) _
+    (number_at-text (codes "first") the_key.First 0 4_294_967_295 entry)
+    (λ first. steps (number_at (codes "last") the_key.Last first 4_294_967_295 entry) _
+    (number_at-text (codes "last") the_key.Last first 4_294_967_295 entry)
+    (λ last. steps (text_at (codes "mode") the_key.ModeName entry) _
+    (text_at-text (codes "mode") the_key.ModeName entry)
     (λ name. steps (mode_named modes name) _ (mode_named-text modes name) (λ mode. an_ok _))))
 
 range_in-text : (modes : List (List ℕ)) (value : Data) → NotText (range_in modes value)
-range_in-text modes value = steps (of_kind the_key.Validators (as_table value)) (λ entry. range_of modes entry) (of_kind-text the_key.Validators (as_table value)) (range_of-text modes)
+range_in-text modes value =
+    steps (of_kind the_key.Validators (as_table value)) (λ entry. range_of modes entry)
+    (of_kind-text the_key.Validators (as_table value)) (range_of-text modes)
 
-ranges_from-text : (modes : List (List ℕ)) (earlier : List (ℕ × Span)) (items : Items) → NotText (ranges_from modes earlier items)
+ranges_from-text : (modes : List (List ℕ)) (earlier : List (ℕ × Span)) (items : Items)
+    → NotText (ranges_from modes earlier items)
 ranges_from-text modes earlier no_items = an_ok earlier
-ranges_from-text modes earlier (item value more) = steps (range_in modes value) _ (range_in-text modes value)
-    (λ range. steps (with_range earlier range) (λ ranges. ranges_from modes ranges more) (a_choice _ _ _ (another the_fault.Overlap (λ is. cc)) (an_ok _)) (λ ranges. ranges_from-text modes ranges more))
+ranges_from-text modes earlier (item value more) =
+    steps (range_in modes value) _ (range_in-text modes value)
+    (λ range. steps (with_range earlier range) (λ ranges. ranges_from modes ranges more)
+    (a_choice _ _ _ (another the_fault.Overlap (λ is. cc)) (an_ok _)) (λ ranges.
+    ranges_from-text modes ranges more))
 
 ranges_of-text : (modes : List (List ℕ)) (tree : Members) → NotText (ranges_of modes tree)
 unfolding ranges_of
-ranges_of-text modes tree = steps (array_at (codes "validators") the_key.Validators tree) _ (array_at-text (codes "validators") the_key.Validators tree)
-    (λ items. a_choice (are_tables items) (ranges_from modes [] items) (Err (the_fault.Kind the_key.Validators)) (ranges_from-text modes [] items) (another (the_fault.Kind the_key.Validators) (λ is. cc)))
+ranges_of-text modes tree =
+    steps (array_at (codes "validators") the_key.Validators tree) _
+    (array_at-text (codes "validators") the_key.Validators tree)
+    (λ items. a_choice (are_tables items) (ranges_from modes [] items)
+    (Err (the_fault.Kind the_key.Validators)) (ranges_from-text modes [] items)
+    (another (the_fault.Kind the_key.Validators) (λ is. cc)))
 
-rider_of-text : (classes : Members) (key : List ℕ) (value : Data) → NotText (rider_of classes key value)
-rider_of-text classes key value = steps (token_of key) _ (a_part (result_ok (decode_sized key 16)) the_fault.Rider (λ is. cc))
-    (λ token. steps (of_kind the_key.Riders (as_str value)) _ (of_kind-text the_key.Riders (as_str value))
-    (λ name. steps (class_named classes name) _ (class_named-text classes name) (λ terms. an_ok (token, terms))))
+rider_of-text : (classes : Members) (key : List ℕ) (value : Data)
+    → NotText (rider_of classes key value)
+rider_of-text classes key value =
+    steps (token_of_digits key) _
+    (a_part (result_ok (decode_sized key 16)) the_fault.Rider (λ is. cc))
+    (λ token. steps (of_kind the_key.Riders (as_str value)) _
+    (of_kind-text the_key.Riders (as_str value))
+    (λ name. steps (class_named classes name) _ (class_named-text classes name) (λ terms.
+    an_ok (token, terms))))
 
-riders_from-text : (classes : Members) (earlier : List (List ℕ × Terms)) (members : Members) → NotText (riders_from classes earlier members)
+riders_from-text : (classes : Members) (earlier : List (List ℕ × Terms)) (members : Members)
+    → NotText (riders_from classes earlier members)
 riders_from-text classes earlier no_members = an_ok earlier
-riders_from-text classes earlier (member key value more) = steps (rider_of classes key value) _ (rider_of-text classes key value)
-    (λ rider. steps (with_rider earlier rider.0 rider.1) (λ riders. riders_from classes riders more) (a_choice _ _ _ (another the_fault.Rider (λ is. cc)) (an_ok _)) (λ riders. riders_from-text classes riders more))
+riders_from-text classes earlier (member key value more) =
+    steps (rider_of classes key value) _ (rider_of-text classes key value)
+    (λ rider. steps (with_rider earlier rider.0 rider.1) (λ riders. riders_from classes riders more)
+    (a_choice _ _ _ (another the_fault.Rider (λ is. cc)) (an_ok _)) (λ riders.
+    riders_from-text classes riders more))
 
-riders_in-text : (classes : Members) (value : Option Data) → NotText (riders_in classes value)
+riders_in-text : (classes : Members) (value : Option Data) → NotText (riders_at classes value)
 riders_in-text classes None = an_ok []
-riders_in-text classes (Some value) = steps (of_kind the_key.Riders (as_table value)) _ (of_kind-text the_key.Riders (as_table value))
-    (λ riders. a_choice (hold_strings riders) (riders_from classes [] riders) (Err (the_fault.Kind the_key.Riders)) (riders_from-text classes [] riders) (another (the_fault.Kind the_key.Riders) (λ is. cc)))
+riders_in-text classes (Some value) =
+    steps (of_kind the_key.Riders (as_table value)) _ (of_kind-text the_key.Riders (as_table value))
+    (λ riders. a_choice (hold_strings riders) (riders_from classes [] riders)
+    (Err (the_fault.Kind the_key.Riders)) (riders_from-text classes [] riders)
+    (another (the_fault.Kind the_key.Riders) (λ is. cc)))
 
 riders_of-text : (classes tree : Members) → NotText (riders_of classes tree)
 unfolding riders_of
@@ -169,15 +253,17 @@ riders_of-text classes tree = riders_in-text classes (get_member (codes "riders"
 
 zone_in-text : (value : Option Data) → NotText (zone_in value)
 zone_in-text None = an_ok None
-zone_in-text (Some value) = steps (of_kind the_key.Zone (as_str value)) _ (of_kind-text the_key.Zone (as_str value))
-    (λ text. a_choice (is_some (read_whole text)) (Ok (Some text)) (Err the_fault.Zone) (an_ok (Some text)) (another the_fault.Zone (λ is. cc)))
+zone_in-text (Some value) =
+    steps (of_kind the_key.Zone (as_str value)) _ (of_kind-text the_key.Zone (as_str value))
+    (λ text. a_choice (is_some (read_whole text)) (Ok (Some text)) (Err the_fault.Zone)
+    (an_ok (Some text)) (another the_fault.Zone (λ is. cc)))
 
 zone_of-text : (tree : Members) → NotText (zone_of tree)
 unfolding zone_of
 zone_of-text tree = zone_in-text (get_member (codes "zone") tree)
 
-pub rules_of-text : (tree : Members) → NotText (rules_of tree)
-unfolding rules_of
+pub rules_of-text : (tree : Members) → NotText (rules_of_tree tree)
+unfolding rules_of_tree
 rules_of-text tree =
     steps (modes_of tree) _ (modes_of-text tree) (λ modes.
     steps (transfers_of modes tree) _ (transfers_of-text modes tree) (λ transfers.

@@ -14,6 +14,7 @@ abbrev pub ceiling_of : ℕ → Option Data → Outcome ℕ
 ceiling_of price None = Ok price
 ceiling_of price (Some value) = number_in the_key.Ceiling 1 100_000_000 value
 
+-- the terms of a class: its fare, its rides and its ceiling, within their limits
 unfoldable pub class_of : Members → Outcome Terms
 class_of entry = do
   fare ← number_at (codes "fare") the_key.Fare 1 100_000 entry
@@ -33,6 +34,7 @@ checked (member name value more) = do
   terms ← class_of entry
   checked more
 
+-- there is no class
 abbrev pub is_empty : Members → Bool
 is_empty no_members = true
 is_empty (member name value more) = false
@@ -53,6 +55,7 @@ class_named classes name = do
   entry ← of_kind the_key.Classes (as_table value)
   class_of entry
 
+-- the terms of the class that `default_class` names
 unfoldable pub default_of : Members → Members → Outcome Terms
 default_of classes tree = do
   name ← text_at (codes "default_class") the_key.DefaultClass tree

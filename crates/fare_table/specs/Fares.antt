@@ -5,14 +5,14 @@ use Rattle.std.specs.List.{find}
 use Rattle.std.specs.Map.{lookup}
 use Rattle.std.specs.Ordering.{nat_cmp, is_eq}
 use Rattle.jiff_tz.specs.declared.posix.TimeZone.{TimeZone as PosixRule}
-use Rattle.fare_table.specs.Rules.{Rules}
+use Rattle.fare_table.specs.Rules.{TableRules}
 use Rattle.fare_table.specs.Transfers.{has_pair}
 use Rattle.fare_table.specs.declared.terms.Terms.{Terms}
 use Rattle.fare_table.specs.declared.validators.Span.{Span}
 
 -- the rules of the text, and the zone's rule that its text reads as
 pub record Fares : Type 0 where
-  pub rules : Rules
+  pub rules : TableRules
   pub zone : Option PosixRule
 
 -- the range has this validator

@@ -15,7 +15,7 @@ use Rattle.toml.specs.Data.{get_item, as_str, as_integer, as_array, as_table}
 use Rattle.fare_table.specs.Classes.{is_empty}
 use Rattle.fare_table.specs.Members.{are_tables, hold_strings, hold_tables}
 use Rattle.fare_table.specs.Modes.{are_mode_names, same_name}
-use Rattle.fare_table.specs.Transfers.{pair_of}
+use Rattle.fare_table.specs.Transfers.{name_pair}
 use Rattle.fare_table.specs.declared.fault.Key.{Key}
 use Rattle.fare_table.specs.declared.fault.Key.TheVariants as the_key
 use Rattle.fare_table.specs.declared.fault.TableFault.{TableFault}
@@ -62,8 +62,8 @@ abbrev pub members_of : Option Data → Members
 members_of value = unwrap_or (option_and_then as_table value) no_members
 
 -- the text of a value, where it is a string
-abbrev pub word_of : Option Data → List ℕ
-word_of value = unwrap_or (option_and_then as_str value) []
+abbrev pub string_of : Option Data → List ℕ
+string_of value = unwrap_or (option_and_then as_str value) []
 
 -- the number of a value, where it is one
 abbrev pub amount_of : Option Data → ℕ
@@ -77,7 +77,7 @@ texts (item value more) = cons_option (as_str value) (texts more)
 -- the pairs of strings among some items
 abbrev pub pairs : Items → List (List ℕ × List ℕ)
 pairs no_items = []
-pairs (item value more) = cons_option (pair_of value) (pairs more)
+pairs (item value more) = cons_option (name_pair value) (pairs more)
 
 -- the key and the value at a place
 abbrev pub member_at : ℕ → Members → Option (List ℕ × Data)
@@ -122,7 +122,7 @@ are_texts (item value more) = is_some (as_str value) && are_texts more
 -- each item is a pair of strings
 abbrev pub are_pairs : Items → Bool
 are_pairs no_items = true
-are_pairs (item value more) = is_some (pair_of value) && are_pairs more
+are_pairs (item value more) = is_some (name_pair value) && are_pairs more
 
 -- the value is of the kind that the key takes, and so are all its elements
 abbrev pub is_kind : Key → Data → Bool
@@ -146,22 +146,23 @@ is_from low high value =
     passes (λ number. int_le (pos low) number && int_le number (pos high)) (as_integer value)
 
 -- the value is within the limits of the key; `last` is not below `first` beside it
-abbrev pub is_within : Key → Members → Data → Bool
-is_within the_key.Modes beside value =
+abbrev pub is_in_limits : Key → Members → Data → Bool
+is_in_limits the_key.Modes beside value =
     passes (λ names. are_mode_names (texts names)) (as_array value)
-is_within the_key.Transfers beside value = true
-is_within the_key.Classes beside value = passes (λ classes. not (is_empty classes)) (as_table value)
-is_within the_key.Fare beside value = is_from 1 100_000 value
-is_within the_key.Rides beside value = is_from 1 1_000 value
-is_within the_key.Ceiling beside value = is_from 1 100_000_000 value
-is_within the_key.DefaultClass beside value = true
-is_within the_key.Validators beside value = true
-is_within the_key.First beside value = is_from 0 4_294_967_295 value
-is_within the_key.Last beside value =
+is_in_limits the_key.Transfers beside value = true
+is_in_limits the_key.Classes beside value =
+    passes (λ classes. not (is_empty classes)) (as_table value)
+is_in_limits the_key.Fare beside value = is_from 1 100_000 value
+is_in_limits the_key.Rides beside value = is_from 1 1_000 value
+is_in_limits the_key.Ceiling beside value = is_from 1 100_000_000 value
+is_in_limits the_key.DefaultClass beside value = true
+is_in_limits the_key.Validators beside value = true
+is_in_limits the_key.First beside value = is_from 0 4_294_967_295 value
+is_in_limits the_key.Last beside value =
     is_from (amount_of (get_member (codes "first") beside)) 4_294_967_295 value
-is_within the_key.ModeName beside value = true
-is_within the_key.Riders beside value = true
-is_within the_key.Zone beside value = true
+is_in_limits the_key.ModeName beside value = true
+is_in_limits the_key.Riders beside value = true
+is_in_limits the_key.Zone beside value = true
 
 -- one of the names is this one
 abbrev pub is_mode : List (List ℕ) → List ℕ → Bool
@@ -174,7 +175,7 @@ names_no_mode top tree =
     (pairs (items_of (get_member (codes "transfers") tree)))
 names_no_mode (class place) tree = false
 names_no_mode (range place) tree =
-    not (is_mode (mode_names tree) (word_of (value_at (range place) the_key.ModeName tree)))
+    not (is_mode (mode_names tree) (string_of (value_at (range place) the_key.ModeName tree)))
 names_no_mode (rider place) tree = false
 
 -- the test holds of an earlier place
@@ -205,13 +206,13 @@ token_at tree place =
     option_and_then (λ one. result_ok (decode_sized one.0 16)) (member_at place (riders_in tree))
 
 -- the one token is the other one, where there is one
-abbrev pub same_token : List ℕ → Option (List ℕ) → Bool
-same_token token other = passes (λ o. is_eq (slice_cmp nat_cmp token o)) other
+abbrev pub is_token : List ℕ → Option (List ℕ) → Bool
+is_token token other = passes (λ o. is_eq (slice_cmp nat_cmp token o)) other
 
 -- the key names the token that an earlier key names
 abbrev pub is_again : Members → ℕ → Bool
 is_again tree place =
-    passes (λ token. is_earlier (λ earlier. same_token token (token_at tree earlier)) place)
+    passes (λ token. is_earlier (λ earlier. is_token token (token_at tree earlier)) place)
     (token_at tree place)
 
 -- the text has no class of this name
@@ -221,12 +222,12 @@ is_no_class tree name = is_none (get_member name (classes_in tree))
 -- the default class, or the class of a key of `riders`, is none of the text's; or the key is no
 -- token, or the token of an earlier key
 abbrev pub names_no_rider : Where → Members → Bool
-names_no_rider top tree = is_no_class tree (word_of (get_member (codes "default_class") tree))
+names_no_rider top tree = is_no_class tree (string_of (get_member (codes "default_class") tree))
 names_no_rider (class place) tree = false
 names_no_rider (range place) tree = false
 names_no_rider (rider place) tree =
     is_none (token_at tree place)
-    || (is_no_class tree (word_of
+    || (is_no_class tree (string_of
     (option_map (λ one. one.1) (member_at place (riders_in tree)))) || is_again tree place)
 
 -- the zone is a text that reads as no rule
@@ -239,7 +240,7 @@ is_wrong tree at Text = false
 is_wrong tree at (Missing key) = is_none (value_at at key tree)
 is_wrong tree at (Kind key) = passes (λ value. not (is_kind key value)) (value_at at key tree)
 is_wrong tree at (Range key) =
-    passes (λ value. not (is_within key (members_at at tree) value)) (value_at at key tree)
+    passes (λ value. not (is_in_limits key (members_at at tree) value)) (value_at at key tree)
 is_wrong tree at Mode = names_no_mode at tree
 is_wrong tree at Overlap = shares_validator at tree
 is_wrong tree at Rider = names_no_rider at tree
@@ -332,10 +333,10 @@ rows tree =
     ++ (default_step ++ (validators_step tree ++ (riders_step tree ++ zone_step)))))
 
 -- the fault of the first row that holds, if one does
-abbrev pub first_of : Members → List Row → Option TableFault
-first_of tree listed = option_map (λ one. one.1) (find (holds tree) listed)
+abbrev pub first_row : Members → List Row → Option TableFault
+first_row tree listed = option_map (λ one. one.1) (find (holds tree) listed)
 
 -- the same of a tree, if a text has one: else it is no TOML
 abbrev pub first_fault : Option Members → Option TableFault
 first_fault None = Some Text
-first_fault (Some tree) = first_of tree (rows tree)
+first_fault (Some tree) = first_row tree (rows tree)

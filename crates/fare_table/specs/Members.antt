@@ -23,26 +23,31 @@ within key low high number =
     if int_le (pos low) number && int_le number (pos high) then Ok (unsigned_abs number)
     else Err (Range key)
 
+-- the string at a key that has to be there
 abbrev pub text_at : List ℕ → Key → Members → Outcome (List ℕ)
 text_at name key tree = do
   value ← needed name key tree
   of_kind key (as_str value)
 
+-- the array at a key that has to be there
 abbrev pub array_at : List ℕ → Key → Members → Outcome Items
 array_at name key tree = do
   value ← needed name key tree
   of_kind key (as_array value)
 
+-- the table at a key that has to be there
 abbrev pub table_at : List ℕ → Key → Members → Outcome Members
 table_at name key tree = do
   value ← needed name key tree
   of_kind key (as_table value)
 
+-- the value as a number from `low` to `high`
 abbrev pub number_in : Key → ℕ → ℕ → Data → Outcome ℕ
 number_in key low high value = do
   number ← of_kind key (as_integer value)
   within key low high number
 
+-- the number from `low` to `high` at a key that has to be there
 abbrev pub number_at : List ℕ → Key → ℕ → ℕ → Members → Outcome ℕ
 number_at name key low high tree = do
   value ← needed name key tree

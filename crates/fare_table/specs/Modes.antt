@@ -37,6 +37,7 @@ are_mode_names names =
     nat_le 1 (length names) && nat_le (length names) 32 && list_all is_mode_name names
     && are_distinct names
 
+-- the names of the modes that the text lists
 unfoldable pub modes_of : Members → Outcome (List (List ℕ))
 modes_of tree = do
   items ← array_at (codes "modes") Modes tree

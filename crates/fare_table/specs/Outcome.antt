@@ -3,6 +3,7 @@ use Rattle.std.specs.Prelude.{◌≡◌, ◌≢◌, Result, Ok, Err, MatchResult
 use Rattle.fare_table.specs.declared.fault.TableFault.{TableFault}
 use Rattle.fare_table.specs.declared.fault.TableFault.TheVariants.{NoMemory}
 
+-- a meaning, or the first fault
 abbrev pub Outcome : Type 0 → Type 0
 Outcome A = Result A TableFault
 
@@ -14,9 +15,9 @@ Ok x >>= f = f x
 Err e >>= f = Err e
 
 -- the result, with its value seen through f
-abbrev pub seen_by : {A B : Type 0} → (A → B) → Result A TableFault → Result B TableFault
-seen_by f (Ok x) = Ok (f x)
-seen_by f (Err e) = Err e
+abbrev pub seen_through : {A B : Type 0} → (A → B) → Result A TableFault → Result B TableFault
+seen_through f (Ok x) = Ok (f x)
+seen_through f (Err e) = Err e
 
 -- the result, seen through f, is the outcome, unless memory was refused
 abbrev pub Answers : {A B : Type 0} → (A → B) → Result A TableFault → Result B TableFault → Type 0

@@ -1,7 +1,7 @@
 -- What a token pays by the text: its class, and the terms of the class.
 use Rattle.std.specs.Prelude.{◌≡◌, ◌⊎◌, ℕ, ◌*◌, pos, List, Option, None, Some, Ok, codes}
 use Rattle.toml.specs.Data.{Data, Members, string, integer, table, get_member}
-use Rattle.fare_table.specs.Riders.{token_of}
+use Rattle.fare_table.specs.Riders.{token_of_digits}
 use Rattle.fare_table.specs.declared.terms.Terms.{Terms}
 
 -- this key of the text's `riders` names the token, and its value is the name of this class
@@ -9,7 +9,7 @@ pub record NamesRider (tree : Members) (token key class : List ℕ) : Type 0 whe
   pub riders : Members
   pub listed : get_member (codes "riders") tree ≡ Some (table riders)
   pub stands : get_member key riders ≡ Some (string class)
-  pub named : token_of key ≡ Ok token
+  pub named : token_of_digits key ≡ Ok token
 
 -- the class of the key that names the token, else the default class where no key names it
 abbrev pub IsClassOf : Members → List ℕ → List ℕ → Type 0

@@ -17,8 +17,8 @@ use Rattle.fare_table.specs.declared.fault.TableFault.TheVariants.{Kind, Rider}
 use Rattle.fare_table.specs.declared.terms.Terms.{Terms}
 
 -- the token that 32 hexadecimal digits name, of either case
-abbrev pub token_of : List ℕ → Outcome (List ℕ)
-token_of digits = ok_or (result_ok (decode_sized digits 16)) Rider
+abbrev pub token_of_digits : List ℕ → Outcome (List ℕ)
+token_of_digits digits = ok_or (result_ok (decode_sized digits 16)) Rider
 
 -- the token is one of the riders'
 abbrev pub is_rider : List (List ℕ × Terms) → List ℕ → Bool
@@ -33,7 +33,7 @@ with_rider riders token terms =
 -- the token and the terms of one key
 abbrev pub rider_of : Members → List ℕ → Data → Outcome (List ℕ × Terms)
 rider_of classes key value = do
-  token ← token_of key
+  token ← token_of_digits key
   name ← of_kind the_key.Riders (as_str value)
   terms ← class_named classes name
   Ok (token, terms)
@@ -46,11 +46,13 @@ riders_from classes earlier (member key value more) = do
   riders ← with_rider earlier rider.0 rider.1
   riders_from classes riders more
 
-abbrev pub riders_in : Members → Option Data → Outcome (List (List ℕ × Terms))
-riders_in classes None = Ok []
-riders_in classes (Some value) = do
+-- the riders of a value, which is a table of strings; none where there is no value
+abbrev pub riders_at : Members → Option Data → Outcome (List (List ℕ × Terms))
+riders_at classes None = Ok []
+riders_at classes (Some value) = do
   riders ← of_kind the_key.Riders (as_table value)
   if hold_strings riders then riders_from classes [] riders else Err (Kind the_key.Riders)
 
+-- the riders that the text names, in the order of their tokens
 unfoldable pub riders_of : Members → Members → Outcome (List (List ℕ × Terms))
-riders_of classes tree = riders_in classes (get_member (codes "riders") tree)
+riders_of classes tree = riders_at classes (get_member (codes "riders") tree)

@@ -17,7 +17,7 @@ use Rattle.fare_table.specs.declared.validators.Span.{Span}
 -- the modes' names by their places, the pairs of places with a transfer, each once, the terms of
 -- the default class, the ranges of validators by their first numbers, rising, the terms of the
 -- riders by their tokens, rising, and the text of the zone
-pub record Rules : Type 0 where
+pub record TableRules : Type 0 where
   pub modes : List (List ℕ)
   pub transfers : List (ℕ × ℕ)
   pub standard : Terms
@@ -26,8 +26,8 @@ pub record Rules : Type 0 where
   pub zone : Option (List ℕ)
 
 -- the meaning of a table's tree, or the fault of the first key that has one
-unfoldable pub rules_of : Members → Outcome Rules
-rules_of tree = do
+unfoldable pub rules_of_tree : Members → Outcome TableRules
+rules_of_tree tree = do
   modes ← modes_of tree
   transfers ← transfers_of modes tree
   classes ← classes_of tree
@@ -45,5 +45,5 @@ rules_of tree = do
   })
 
 -- the same of a table's text
-abbrev pub rules_in : List ℕ → Outcome Rules
-rules_in text = ok_or (parse_document text) Text >>= rules_of
+abbrev pub rules_in : List ℕ → Outcome TableRules
+rules_in text = ok_or (parse_document text) Text >>= rules_of_tree

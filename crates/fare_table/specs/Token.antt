@@ -2,7 +2,7 @@
 use Rattle.std.specs.Prelude.{ℕ, ◌^◌, ◌<◌, List, ◌++◌, map}
 use Rattle.std.specs.Int.{to_be_bytes, w64}
 use Rattle.fare_table.specs.declared.terms.Terms.{Terms}
-use Rattle.fare_table.specs.declared.token.Token.{Token}
+use Rattle.fare_table.specs.declared.riders.token.Token.{Token}
 
 -- the bytes that the token was made of: the high number's, then the low number's
 unfoldable pub bytes_of : Token → List ℕ

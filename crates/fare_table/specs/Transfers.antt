@@ -29,14 +29,15 @@ two_strings (item from (item to no_items)) =
     option_and_then (λ a. option_map (λ b. (a, b)) (as_str to)) (as_str from)
 two_strings (item from (item to (item third more))) = None
 
-abbrev pub pair_of : Data → Option (List ℕ × List ℕ)
-pair_of value = option_and_then two_strings (as_array value)
+-- the two strings of a value that is an array of two strings
+abbrev pub name_pair : Data → Option (List ℕ × List ℕ)
+name_pair value = option_and_then two_strings (as_array value)
 
 -- the pairs of names found and those of the items
 abbrev pub pairs_from : List (List ℕ × List ℕ) → Items → Outcome (List (List ℕ × List ℕ))
 pairs_from found no_items = Ok found
 pairs_from found (item value more) =
-    of_kind the_key.Transfers (pair_of value) >>= (λ pair. pairs_from (found ++ pair ∷ []) more)
+    of_kind the_key.Transfers (name_pair value) >>= (λ pair. pairs_from (found ++ pair ∷ []) more)
 
 -- the places of a pair of names
 abbrev pub places_of : List (List ℕ) → List ℕ × List ℕ → Outcome (ℕ × ℕ)
@@ -53,6 +54,7 @@ transfers_from modes found (pair ∷ more) =
     places_of modes pair >>= (λ places.
     transfers_from modes (with_pair found places.0 places.1) more)
 
+-- the pairs of places of modes that the text permits, each once
 unfoldable pub transfers_of : List (List ℕ) → Members → Outcome (List (ℕ × ℕ))
 transfers_of modes tree = do
   items ← array_at (codes "transfers") the_key.Transfers tree

@@ -33,6 +33,7 @@ with_range earlier range =
     if list_any (share_number range) earlier then Err Overlap
     else Ok (insert_entry nat_cmp earlier range.0 range.1)
 
+-- the range of an entry: its first number, its last one and its mode
 unfoldable pub range_of : List (List ℕ) → Members → Outcome (ℕ × Span)
 range_of modes entry = do
   first ← number_at (codes "first") the_key.First 0 4_294_967_295 entry
@@ -41,6 +42,7 @@ range_of modes entry = do
   mode ← mode_named modes name
   Ok (first, record { last = last; mode = mode })
 
+-- the range of a value that is a table
 abbrev pub range_in : List (List ℕ) → Data → Outcome (ℕ × Span)
 range_in modes value = do
   entry ← of_kind the_key.Validators (as_table value)
@@ -54,6 +56,7 @@ ranges_from modes earlier (item value more) = do
   ranges ← with_range earlier range
   ranges_from modes ranges more
 
+-- the ranges that the text lists, in the order of their first numbers
 unfoldable pub ranges_of : List (List ℕ) → Members → Outcome (List (ℕ × Span))
 ranges_of modes tree = do
   items ← array_at (codes "validators") the_key.Validators tree

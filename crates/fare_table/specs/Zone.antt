@@ -27,12 +27,14 @@ zone_in (Some value) = do
   text ← of_kind the_key.Zone (as_str value)
   if is_some (read_whole text) then Ok (Some text) else Err the_fault.Zone
 
+-- the zone that the text names, if it names one
 unfoldable pub zone_of : Members → Outcome (Option (List ℕ))
 zone_of tree = zone_in (get_member (codes "zone") tree)
 
--- the text of a zone, and its rule
+-- the text of a zone, if there is one
 abbrev pub zone_text : Option Zone → Option (List ℕ)
 zone_text zone = option_map (λ z. string_bytes z.text) zone
 
+-- the rule of a zone, if there is one
 abbrev pub zone_rule : Option Zone → Option PosixRule
 zone_rule zone = option_and_then (λ z. posix_rule (plain_zone z.rule)) zone

@@ -16,6 +16,7 @@ const SEVEN_DAYS: u64 = 604_800_000;
 /// Tells where the windows of one fare table end. A worker makes its own from the table.
 #[derive(Drop)]
 pub struct Clock {
+    /// The rule of the table's zone, if it names one.
     zone: Option<TimeZone<'static>>,
 }
 
@@ -37,6 +38,7 @@ impl Clock {
     ghost use Rattle.fare_table.specs.inside.PosixRule.{HasRule, rule_of};
     ghost use Rattle.fare_table.specs.Until.{IsLimit, limit_in, seconds_ahead};
 
+    /// A clock of this zone, or of none.
     pub(crate) fn new(zone: Option<TimeZone<'static>>) -> Clock
         requires { HasRule zone }
         ensures { result ≡ rule_of zone.entry }
@@ -79,8 +81,8 @@ impl Clock {
     }
 }
 
-// Kept out of `until`, so that the few instructions of a table without a zone stand where it is
-// called.
+/// The limit under a zone. Kept out of `until`, so that the few instructions of a table without a
+/// zone stand where it is called.
 #[inline(never)]
 fn civil_limit(zone: &TimeZone<'static>, moment: u64) -> u64
     requires { moment < 4_102_444_800_000 }
@@ -94,6 +96,7 @@ fn civil_limit(zone: &TimeZone<'static>, moment: u64) -> u64
     limit.as_millisecond() as u64
 }
 
+/// The moment as an instant of the zone's library.
 fn instant(moment: u64) -> Timestamp
     requires { moment < 253_402_207_200_000 }
     ensures { result.nanosecond ≡ moment_nanos moment }
@@ -101,6 +104,7 @@ fn instant(moment: u64) -> Timestamp
     Timestamp::from_millisecond(moment as i64).unwrap()
 }
 
+/// The seventh date after this one.
 fn week_later(date: Date) -> Date
     requires low { neg_ℤ (pos 10) ≤ℤ epoch_day date }
     requires high { epoch_day date ≤ℤ pos 50_000 }

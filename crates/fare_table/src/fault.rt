@@ -79,13 +79,22 @@ pub enum TableFault {
     Text,
     /// A key is absent that every table has.
     #[error("{key} is missing")]
-    Missing { key: Key },
+    Missing {
+        /// The key.
+        key: Key,
+    },
     /// A value is of another kind than its key takes.
     #[error("{key} is of another kind")]
-    Kind { key: Key },
+    Kind {
+        /// The key.
+        key: Key,
+    },
     /// A value is outside its limits.
     #[error("{key} is out of range")]
-    Range { key: Key },
+    Range {
+        /// The key.
+        key: Key,
+    },
     /// A transfer or a range of validators names none of the table's modes.
     #[error("a name is no mode of the table")]
     Mode,

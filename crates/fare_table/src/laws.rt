@@ -13,7 +13,7 @@ ghost use Rattle.fare_table.specs.Entries.{EntryGives, EntryHas};
 ghost use Rattle.fare_table.specs.Fares.{Fares, mode_at, terms_at};
 ghost use Rattle.fare_table.specs.Faults.{first_fault};
 ghost use Rattle.fare_table.specs.Paying.{NamesRider, Pays};
-ghost use Rattle.fare_table.specs.Rules.{Rules, rules_in, rules_of};
+ghost use Rattle.fare_table.specs.Rules.{TableRules, rules_in, rules_of_tree};
 ghost use Rattle.fare_table.specs.Transfers.{has_pair, ListsPair};
 ghost use Rattle.fare_table.specs.Until.{IsLimit, until};
 ghost use Rattle.fare_table.specs.Validators.{is_chain};
@@ -40,7 +40,7 @@ pub fn windows_have_one_limit()
 /// A table permits a transfer from one mode to another exactly where its text lists the pair of
 /// their names.
 pub fn permitted_pairs_are_listed()
-    ensures { (tree : Members) (rules : Rules) (from to : ℕ) → rules_of tree ≡ Ok rules
+    ensures { (tree : Members) (rules : TableRules) (from to : ℕ) → rules_of_tree tree ≡ Ok rules
         → (has_pair rules.transfers from to ≡ true) ↔ ListsPair rules.modes tree from to }
 {}
 
@@ -48,23 +48,24 @@ pub fn permitted_pairs_are_listed()
 /// and none exactly where no entry has it. At most one entry has it.
 pub fn modes_are_of_entries()
     ensures some { (tree : Members) (fares : Fares) (validator mode : ℕ)
-        → rules_of tree ≡ Ok fares.rules
+        → rules_of_tree tree ≡ Ok fares.rules
         → (mode_at fares validator ≡ Some mode) ↔ EntryGives fares.rules.modes tree validator mode }
-    ensures none { (tree : Members) (fares : Fares) (validator : ℕ) → rules_of tree ≡ Ok fares.rules
+    ensures none { (tree : Members) (fares : Fares) (validator : ℕ)
+        → rules_of_tree tree ≡ Ok fares.rules
         → (mode_at fares validator ≡ None) ↔ ((place : ℕ) → ¬ EntryHas tree validator place) }
-    ensures one { (tree : Members) (rules : Rules) (validator place place' : ℕ)
-        → rules_of tree ≡ Ok rules → EntryHas tree validator place → EntryHas tree validator place'
-        → place ≡ place' }
+    ensures one { (tree : Members) (rules : TableRules) (validator place place' : ℕ)
+        → rules_of_tree tree ≡ Ok rules → EntryHas tree validator place
+        → EntryHas tree validator place' → place ≡ place' }
 {}
 
 /// What a token pays are the terms of the class that the key of the text's `riders` has which names
 /// it, else those of the default class. At most one key names it.
 pub fn terms_are_of_classes()
     ensures terms { (tree : Members) (fares : Fares) (token : List ℕ) (terms : Terms)
-        → rules_of tree ≡ Ok fares.rules
+        → rules_of_tree tree ≡ Ok fares.rules
         → (terms_at fares token ≡ terms) ↔ Pays tree token terms }
-    ensures one { (tree : Members) (rules : Rules) (token key key' class class' : List ℕ)
-        → rules_of tree ≡ Ok rules → NamesRider tree token key class
+    ensures one { (tree : Members) (rules : TableRules) (token key key' class class' : List ℕ)
+        → rules_of_tree tree ≡ Ok rules → NamesRider tree token key class
         → NamesRider tree token key' class' → key ≡ key' }
 {}
 
@@ -77,9 +78,9 @@ pub fn keys_come_in_byte_order()
 
 /// The ranges of a table rise and stand apart. Its riders come in the byte order of their tokens.
 pub fn rules_come_in_order()
-    ensures ranges { (tree : Members) (rules : Rules) → rules_of tree ≡ Ok rules
+    ensures ranges { (tree : Members) (rules : TableRules) → rules_of_tree tree ≡ Ok rules
         → is_chain rules.ranges ≡ true }
-    ensures riders { (tree : Members) (rules : Rules) → rules_of tree ≡ Ok rules
+    ensures riders { (tree : Members) (rules : TableRules) → rules_of_tree tree ≡ Ok rules
         → IsStrictlySortedBy (slice_cmp nat_cmp) (keys_of rules.riders) }
 {}
 
@@ -88,7 +89,7 @@ pub fn rules_come_in_order()
 pub fn first_row_tells_the_fault()
     ensures fault { (text : List ℕ) (fault : TableFault)
         → (rules_in text ≡ Err fault) ↔ (first_fault (parse_document text) ≡ Some fault) }
-    ensures none { (text : List ℕ) → ((rules : Rules) × (rules_in text ≡ Ok rules))
+    ensures none { (text : List ℕ) → ((rules : TableRules) × (rules_in text ≡ Ok rules))
         ↔ (first_fault (parse_document text) ≡ None) }
 {}
 

@@ -6,19 +6,14 @@
 //! project's.
 #![tactic(auto)]
 
-mod classes;
 mod clock;
 mod fault;
-mod guesses;
 pub mod laws;
-mod marks;
-mod members;
 mod mode;
-mod modes;
+mod read;
 mod riders;
 mod table;
 mod terms;
-mod token;
 mod transfers;
 mod validators;
 mod zone;

@@ -1,5 +1,8 @@
 //! A mode of travel.
 
+/// The most modes of one table.
+pub(crate) const MAX_MODES: usize = 32;
+
 /// A mode of travel, as subway or bus: its place in one table's list of modes.
 #[derive(Clone, Copy, Debug, PartialEq, Eq)]
 pub struct Mode {

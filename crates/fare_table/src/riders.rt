@@ -1,29 +1,25 @@
-//! The key `riders`: the terms of single riders by their tokens.
-ghost use Rattle.std.specs.Prelude.{◌≡◌, [], All, IfOk};
-ghost use Rattle.std.specs.Map.{keys_of, values_of};
-ghost use Rattle.toml.specs.View.{view, table_view};
-ghost use Rattle.fare_table.specs.Outcome.{Answers};
-ghost use Rattle.fare_table.specs.Riders as spec;
-ghost use Rattle.fare_table.specs.Terms.{HasLimits};
+//! The terms of single riders by their tokens.
+ghost use Rattle.std.specs.Prelude.{◌≡◌, All, IfOk, length};
+ghost use Rattle.std.specs.Map.{keys_of};
 ghost use Rattle.fare_table.specs.Token.{Fits, by_bytes};
 
-use crate::classes::class_named;
-use crate::fault::{Key, NoMemory, TableFault};
-use crate::marks::Marks;
-use crate::members::{hold_strings, optional};
+use crate::fault::NoMemory;
+use crate::riders::marks::Marks;
+use crate::riders::token::Token;
 use crate::terms::Terms;
-use crate::token::Token;
-use hex::FromHex;
 use std::alloc::Global;
 use std::collections::BTreeMap;
 use std::marker::Model;
-use toml::{Table, Value};
+
+mod marks;
+pub(crate) mod token;
 
 /// The terms of riders, by the bytes of their tokens.
 #[derive(Drop)]
 pub struct Riders {
+    /// The terms of each rider.
     terms: BTreeMap<Token, Terms>,
-    // most tokens are no rider's: that they have no mark says so at once, and a search is saved
+    /// Most tokens are no rider's. That they have no mark says so at once, without a search.
     marks: Marks,
 }
 
@@ -49,7 +45,7 @@ impl Riders {
     ghost use Rattle.fare_table.specs.Token.{Fits, by_bytes};
 
     /// The riders of a map by their tokens. `NoMemory` is answered where a growth is refused.
-    pub fn new(alloc: Global, terms: BTreeMap<Token, Terms>) -> Result<Riders, NoMemory>
+    pub(crate) fn new(alloc: Global, terms: BTreeMap<Token, Terms>) -> Result<Riders, NoMemory>
         requires { All Fits (keys_of terms.entries) }
         ensures { IfOk result (λ r. r ≡ by_bytes terms.entries) }
     {
@@ -58,7 +54,7 @@ impl Riders {
     }
 
     /// The terms of the rider with this token, if there is one.
-    pub fn terms_of(&self, token: &[u8]) -> Option<Terms>
+    pub(crate) fn terms_of(&self, token: &[u8]) -> Option<Terms>
         requires { length token.now ≡ 16 }
         ensures { result ≡ lookup (is_at (slice_cmp nat_cmp token.now)) self.now }
     {
@@ -70,68 +66,5 @@ impl Riders {
             Some(terms) => Some(*terms),
             None => None,
         }
-    }
-}
-
-/// The terms of the riders that the text names, by their tokens; none where it has no such key.
-#[tactic(auto, unfolding(crate::specs::Riders::riders_of))]
-pub fn riders_of(alloc: Global, classes: &Table, table: &Table) -> Result<Riders, TableFault>
-    ensures answer { Answers (λ r. r) result
-        (spec.riders_of (table_view classes.now) (table_view table.now)) }
-    ensures limits { IfOk result (λ r. All HasLimits (values_of r)) }
-{
-    let Some(value) = optional(table, "riders") else {
-        return Ok(Riders::new(alloc, BTreeMap::new(alloc))?);
-    };
-    let Some(riders) = value.as_table() else {
-        return Err(TableFault::Kind { key: Key::Riders });
-    };
-    if !hold_strings(riders) {
-        return Err(TableFault::Kind { key: Key::Riders });
-    }
-    let riders = riders_from(alloc, classes, riders)?;
-    Ok(Riders::new(alloc, riders)?)
-}
-
-fn riders_from(
-    alloc: Global,
-    classes: &Table,
-    members: &Table,
-) -> Result<BTreeMap<Token, Terms>, TableFault>
-    ensures answer { Answers (λ m. by_bytes m.entries) result
-        (spec.riders_from (table_view classes.now) [] (table_view members.now)) }
-    ensures fits { IfOk result (λ m. All Fits (keys_of m.entries)) }
-    ensures limits { IfOk result (λ m. All HasLimits (values_of (by_bytes m.entries))) }
-{
-    let mut riders = BTreeMap::new(alloc);
-    for (key, value) in members {
-        let (bytes, terms) = rider_of(classes, key.as_str(), value)?;
-        let token = Token::of(&bytes);
-        if riders.contains_key(&token) {
-            return Err(TableFault::Rider);
-        }
-        riders.insert(token, terms)?;
-    }
-    Ok(riders)
-}
-
-fn rider_of(classes: &Table, key: &str, value: &Value) -> Result<([u8; 16], Terms), TableFault>
-    ensures rider { result ≡ spec.rider_of (table_view classes.now) key.now (view value.now) }
-    ensures limits { IfOk result (λ rider. HasLimits rider.1) }
-{
-    let token = token_of(key)?;
-    let Some(name) = value.as_str() else {
-        return Err(TableFault::Kind { key: Key::Riders });
-    };
-    Ok((token, class_named(classes, name)?))
-}
-
-// The token of 32 hexadecimal digits of either case.
-fn token_of(digits: &str) -> Result<[u8; 16], TableFault>
-    ensures { result ≡ spec.token_of digits.now }
-{
-    match <[u8; 16] as FromHex>::from_hex(digits) {
-        Ok(token) => Ok(token),
-        Err(_) => Err(TableFault::Rider),
     }
 }

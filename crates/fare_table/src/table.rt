@@ -8,20 +8,24 @@ ghost use Rattle.fare_table.specs.Fares.{mode_at, is_permitted, terms_at};
 ghost use Rattle.fare_table.specs.Outcome.{Answers};
 ghost use Rattle.fare_table.specs.inside.PosixRule.{HasRule, rule_of};
 ghost use Rattle.fare_table.specs.declared.fault.TableFault.{TableFault};
-ghost use Rattle.fare_table.specs.Rules.{rules_in, rules_of};
+ghost use Rattle.fare_table.specs.Rules.{rules_in, rules_of_tree};
 ghost use Rattle.fare_table.specs.Zone.{IsZoneOf, zone_rule, zone_text};
 ghost use Rattle.fare_table.specs.Terms.{HasLimits};
 
-use crate::classes::{classes_of, default_of};
 use crate::clock::Clock;
 use crate::fault::{NoMemory, TableFault};
 use crate::mode::Mode;
-use crate::modes::modes_of;
-use crate::riders::{Riders, riders_of};
+use crate::read::classes::{classes_of, default_of};
+use crate::read::modes::modes_of;
+use crate::read::riders::riders_of;
+use crate::read::transfers::transfers_of;
+use crate::read::validators::ranges_of;
+use crate::read::zone::zone_of;
+use crate::riders::Riders;
 use crate::terms::Terms;
-use crate::transfers::{Transfers, transfers_of};
-use crate::validators::{Ranges, ranges_of};
-use crate::zone::{Zone, zone_of};
+use crate::transfers::Transfers;
+use crate::validators::Ranges;
+use crate::zone::Zone;
 use jiff::tz::TimeZone;
 use std::alloc::Global;
 use std::marker::Model;
@@ -32,7 +36,7 @@ use toml::Table;
 /// halves, which a guess or a mark mostly saves, that of a transfer reads one bit.
 #[derive(Drop)]
 pub struct FareTable {
-    // one for all clones, since each book has a clone and none changes it
+    /// One for all clones, since each book has a clone and none changes it.
     parts: Arc<Parts>,
 }
 
@@ -42,21 +46,27 @@ impl Model for FareTable {
 
     ghost Value = { Fares };
 
-    ghost use Rattle.fare_table.specs.inside.Table.{fares_of, IsSound};
+    ghost use Rattle.fare_table.specs.inside.Table.{fares_of, AreSound};
 
     ghost view = { λ t. fares_of (arc_value t.parts) };
 
-    ghost invariant = { λ t. IsSound (arc_value t.parts) };
+    ghost invariant = { λ t. AreSound (arc_value t.parts) };
 }
 
 /// What a table and its clones share.
 #[derive(Drop)]
 struct Parts {
+    /// The names of the modes by their places.
     modes: Vec<String>,
+    /// The permitted transfers.
     transfers: Transfers,
+    /// The terms of the default class.
     standard: Terms,
+    /// The ranges of validators and their modes.
     ranges: Ranges,
+    /// The terms of single riders.
     riders: Riders,
+    /// The zone, if the table names one.
     zone: Option<Zone>,
 }
 
@@ -153,10 +163,10 @@ impl FareTable {
     }
 }
 
-// Each key in its turn, up to the first fault.
-#[tactic(auto, unfolding(crate::specs::Rules::rules_of))]
+/// Reads each key in its turn, up to the first fault.
+#[tactic(auto, unfolding(crate::specs::Rules::rules_of_tree))]
 fn table_of(alloc: Global, table: &Table) -> Result<FareTable, TableFault>
-    ensures answer { Answers (λ t. t.rules) result (rules_of (table_view table.now)) }
+    ensures answer { Answers (λ t. t.rules) result (rules_of_tree (table_view table.now)) }
     ensures zone { IfOk result (λ t. IsZoneOf t.rules.zone t.zone) }
 {
     let modes = modes_of(alloc, table)?;
@@ -179,6 +189,7 @@ fn table_of(alloc: Global, table: &Table) -> Result<FareTable, TableFault>
     })
 }
 
+/// The rule of a zone, if there is one.
 fn rule(zone: &Option<Zone>) -> Option<TimeZone<'static>>
     ensures rule { rule_of result ≡ zone_rule zone.now }
     ensures has_rule { HasRule result }

@@ -1,4 +1,4 @@
-//! The key `zone`: a text, and the rule that it reads as.
+//! The zone of a fare table.
 ghost use Rattle.std.specs.Prelude.{IsSome};
 ghost use Rattle.jiff.specs.ZoneView.{plain_zone};
 ghost use Rattle.fare_table.specs.PosixRule.{posix_rule};
@@ -8,11 +8,9 @@ use jiff::tz::TimeZone;
 /// A zone that a POSIX rule gives.
 #[derive(Drop)]
 pub struct Zone {
+    /// The text of the rule, as the table has it.
     pub text: String,
+    /// The rule that the text reads as.
     pub rule: TimeZone<'static>,
     pub ghost by_rule: { IsSome (posix_rule (plain_zone rule)) },
 }
-
-mod steps;
-
-pub use steps::zone_of;

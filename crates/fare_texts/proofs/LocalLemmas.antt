@@ -11,15 +11,24 @@ use Rattle.jiff_tz.specs.declared.posix.TimeZone.{TimeZone as PosixRule}
 use Rattle.fare_table.specs.Until.{moment_nanos, seconds_ahead}
 use Rattle.fare_texts.specs.Local.{IsLocal}
 
-pub local_of : (zone : Option PosixRule) (offset : Offset) (words clock : List ℕ) (moment : ℕ) (date_time : DateTime)
-    → Some offset.seconds ≡ option_map (λ z. seconds_ahead z moment) zone → moment < 253_402_207_200_000
+pub local_of : (zone : Option PosixRule) (offset : Offset) (words clock : List ℕ) (moment : ℕ)
+    (date_time : DateTime)
+    → Some offset.seconds ≡ option_map (λ z. seconds_ahead z moment) zone
+    → moment < 253_402_207_200_000
     → civil_nanos date_time ≡ moment_nanos moment +ℤ nanos_of_seconds offset.seconds
-    → clock ≡ iso_datetime_text date_time ++ offset_text offset → IsLocal zone words moment (words ++ clock)
+    → clock ≡ iso_datetime_text date_time ++ offset_text offset
+    → IsLocal zone words moment (words ++ clock)
 local_of None offset words clock moment date_time ahead below shows shown = cc
 local_of (Some zone) offset words clock moment date_time ahead below shows shown = record {
   civil = λ _. (
     clock,
-    record { offset = offset; ahead = let same : offset.seconds ≡ seconds_ahead zone moment = cc in same; date_time = date_time; shows = shows; shown = shown },
+    record {
+      offset = offset;
+      ahead = let same : offset.seconds ≡ seconds_ahead zone moment = cc in same;
+      date_time = date_time;
+      shows = shows;
+      shown = shown;
+    },
     refl,
   );
   past = λ past. absurd (omega arith);

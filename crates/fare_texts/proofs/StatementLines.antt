@@ -11,28 +11,40 @@ use Rattle.fare_texts.specs.StatementText.{AreEntryLines, IsEntryLine, window_re
 
 -- one entry more
 entries_more : (fares : Fares) (entries : List Entry) (entry : Entry) (text line : List ℕ)
-    → AreEntryLines fares entries text → IsEntryLine fares entry line → AreEntryLines fares (entries ++ entry ∷ []) (text ++ line)
-entries_more fares [] entry text line empty is = (line, [], is, refl, ap (λ t. t ++ line) empty ∙ sym (append-nil line))
-entries_more fares (first ∷ entries) entry text line (start, rest, shown, are, whole) is =
-    (start, rest ++ line, shown, entries_more fares entries entry rest line are is, ap (λ t. t ++ line) whole ∙ append_assoc start rest line)
+    → AreEntryLines fares entries text → IsEntryLine fares entry line
+    → AreEntryLines fares (entries ++ entry ∷ []) (text ++ line)
+entries_more fares [] entry text line empty is =
+    (line, [], is, refl, ap (λ t. t ++ line) empty ∙ sym (append-nil line))
+entries_more fares (first ∷ entries) entry text line (start, rest, shown, are, whole) is = (
+  start,
+  rest ++ line,
+  shown,
+  entries_more fares entries entry rest line are is,
+  ap (λ t. t ++ line) whole ∙ append_assoc start rest line,
+)
 
 -- the lines before one, and that one
-pub next_line : (fares : Fares) (entries : List Entry) (i : ℕ) (entry : Entry) (text line : List ℕ) → slice_get entries i ≡ Some entry
-    → AreEntryLines fares (take i entries) text → IsEntryLine fares entry line → AreEntryLines fares (take (i + 1) entries) (text ++ line)
+pub next_line : (fares : Fares) (entries : List Entry) (i : ℕ) (entry : Entry) (text line : List ℕ)
+    → slice_get entries i ≡ Some entry
+    → AreEntryLines fares (take i entries) text → IsEntryLine fares entry line
+    → AreEntryLines fares (take (i + 1) entries) (text ++ line)
 next_line fares entries i entry text line at are is =
     let P : List Entry → Type 0 = λ es. AreEntryLines fares es (text ++ line) in
     subst P
-    (ap (λ e. take i entries ++ e ∷ []) (sym (get_or_from_slice_get entries i entry entry at)) ∙ sym (take_more entries i entry (slice_get_within entries i entry at)))
+    (ap (λ e. take i entries ++ e ∷ []) (sym (get_or_from_slice_get entries i entry entry at))
+    ∙ sym (take_more entries i entry (slice_get_within entries i entry at)))
     (entries_more fares (take i entries) entry text line are is)
 
 -- the three parts of the line of a window after its word
 pub in_window : (window : WindowView) (start one two three four done first until : List ℕ)
     → IsMomentText window.start first → IsMomentText window.until until → (word between : List ℕ)
-    → one ≡ start ++ word → two ≡ one ++ first → three ≡ two ++ between → four ≡ three ++ until → done ≡ four ++ window_rest window
+    → one ≡ start ++ word → two ≡ one ++ first → three ≡ two ++ between → four ≡ three ++ until
+    → done ≡ four ++ window_rest window
     → done ≡ start ++ (word ++ (first ++ (between ++ (until ++ window_rest window))))
 in_window window start one two three four done first until a b word between e1 e2 e3 e4 e5 =
     let last = window_rest window in
-    e5 ∙ ap (λ t. t ++ last) (e4 ∙ ap (λ t. t ++ until) (e3 ∙ ap (λ t. t ++ between) (e2 ∙ ap (λ t. t ++ first) e1)))
+    e5 ∙ ap (λ t. t ++ last) (e4
+    ∙ ap (λ t. t ++ until) (e3 ∙ ap (λ t. t ++ between) (e2 ∙ ap (λ t. t ++ first) e1)))
     ∙ append_assoc (((start ++ word) ++ first) ++ between) until last
     ∙ append_assoc ((start ++ word) ++ first) between (until ++ last)
     ∙ append_assoc (start ++ word) first (between ++ (until ++ last))

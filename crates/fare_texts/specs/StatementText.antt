@@ -16,6 +16,7 @@ use Rattle.shard_book.specs.declared.statement.Statement.{Statement}
 use Rattle.fare_texts.specs.Moments.{IsMomentText}
 use Rattle.fare_texts.specs.Counts.{totals_line}
 
+-- the word of an answer
 abbrev pub answer_text : Answer → List ℕ
 answer_text Paid = codes "paid"
 answer_text Transfer = codes "transfer"

@@ -27,6 +27,7 @@ pub fn write_counts(text: &mut String, totals: &Totals) -> Result<(), AllocError
     write_other_counts(text, totals)
 }
 
+/// Appends `taps 6 paid 3 transfers 2 capped 0`.
 #[tactic(auto, unfolding(crate::specs::Counts::live_counts))]
 fn write_live_counts(text: &mut String, totals: &Totals) -> Result<(), AllocError>
     ensures { OnOk result (string_bytes text.new ≡ string_bytes text.old
@@ -42,6 +43,7 @@ fn write_live_counts(text: &mut String, totals: &Totals) -> Result<(), AllocErro
     )
 }
 
+/// Appends ` stale 0 unknown 1 cents 900`, with the end of the line.
 #[tactic(auto, unfolding(crate::specs::Counts::other_counts))]
 fn write_other_counts(text: &mut String, totals: &Totals) -> Result<(), AllocError>
     ensures { OnOk result (string_bytes text.new ≡ string_bytes text.old

@@ -23,6 +23,7 @@ pub fn write_moment(text: &mut String, moment: u64) -> Result<(), AllocError>
     }
 }
 
+/// The moment as `2024-03-08T17:00:00.000Z`.
 fn civil_text(moment: u64) -> ArrayString<33>
     requires { moment < 253_402_207_200_000 }
     ensures { IsCivilText moment result.bytes }

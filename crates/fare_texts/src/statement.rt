@@ -32,6 +32,7 @@ pub fn statement_text(
     Ok(text)
 }
 
+/// Appends the head line, `statement` and the token.
 #[tactic(auto, unfolding(crate::specs::StatementText::statement_head))]
 fn write_head(text: &mut String, token: Token) -> Result<(), AllocError>
     ensures { OnOk result (string_bytes text.new ≡ string_bytes text.old ++ statement_head token) }
@@ -40,6 +41,7 @@ fn write_head(text: &mut String, token: Token) -> Result<(), AllocError>
     writeln!(text, "statement {digits}")
 }
 
+/// Appends a line for each entry.
 fn write_lines(text: &mut String, table: &FareTable, lines: &Lines) -> Result<(), AllocError>
     ensures { OnOk result ((written : List ℕ) × AreEntryLines table.now lines.now written
         × (string_bytes text.new ≡ string_bytes text.old ++ written)) }
@@ -50,6 +52,7 @@ fn write_lines(text: &mut String, table: &FareTable, lines: &Lines) -> Result<()
     Ok(())
 }
 
+/// Appends `2024-03-08T17:00:00.000Z subway 1000 paid 300`, with the end of the line.
 fn write_entry(text: &mut String, table: &FareTable, entry: &Entry) -> Result<(), AllocError>
     ensures { OnOk result ((line : List ℕ) × IsEntryLine table.now entry.now line
         × (string_bytes text.new ≡ string_bytes text.old ++ line)) }
@@ -59,6 +62,7 @@ fn write_entry(text: &mut String, table: &FareTable, entry: &Entry) -> Result<()
     Ok(())
 }
 
+/// Appends what an entry's line has behind its moment.
 #[tactic(auto, unfolding(crate::specs::StatementText::entry_rest))]
 fn write_entry_rest(text: &mut String, table: &FareTable, entry: &Entry) -> Result<(), AllocError>
     ensures { OnOk result (string_bytes text.new ≡ string_bytes text.old
@@ -71,6 +75,7 @@ fn write_entry_rest(text: &mut String, table: &FareTable, entry: &Entry) -> Resu
     writeln!(text, " {mode} {validator} {answer} {cents}")
 }
 
+/// Appends the line of the last window, or `window none`.
 fn write_window(text: &mut String, window: Option<WindowView>) -> Result<(), AllocError>
     ensures { OnOk result ((line : List ℕ) × IsWindowLine window line
         × (string_bytes text.new ≡ string_bytes text.old ++ line)) }
@@ -81,6 +86,7 @@ fn write_window(text: &mut String, window: Option<WindowView>) -> Result<(), All
     }
 }
 
+/// Appends the line of a window.
 fn write_last_window(text: &mut String, window: WindowView) -> Result<(), AllocError>
     ensures { OnOk result ((line : List ℕ) × IsLineOf window line
         × (string_bytes text.new ≡ string_bytes text.old ++ line)) }
@@ -93,6 +99,7 @@ fn write_last_window(text: &mut String, window: WindowView) -> Result<(), AllocE
     Ok(())
 }
 
+/// Appends what a window's line has behind its end.
 #[tactic(auto, unfolding(crate::specs::StatementText::window_rest))]
 fn write_window_rest(text: &mut String, window: WindowView) -> Result<(), AllocError>
     ensures { OnOk result (string_bytes text.new ≡ string_bytes text.old ++ window_rest window) }

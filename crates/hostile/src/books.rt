@@ -2,10 +2,11 @@
 
 ghost use Rattle.std.specs.Prelude.{◌≡◌, IfOk};
 
-use crate::sample::{BUS, START, SUBWAY, UNTIL, bytes_of, table, tap};
+use crate::sample::{UNTIL, table, tap};
 use crate::stop::{Case, Stop, again, ended, promise};
 use account_rule::Answer;
 use fare_table::Clock;
+use sample_table::{BUS, START, SUBWAY, bytes_of};
 use shard_book::{Ends, Entry, Replies, RunEnd, ShardBook, Token, TokenKeys};
 use std::alloc::Global;
 use std::random::RandomSource;

@@ -1,8 +1,9 @@
 //! Cases of the service: opening, a run, and the texts of what it gathered.
 
-use crate::sample::{REPORT, STATEMENT, bytes_of, table, uploads};
+use crate::sample::{STATEMENT, table, uploads};
 use crate::stop::{Case, Stop, again, promise};
 use fare_service::{Gate, Outcome, PrintFault, Service, UploadEnd};
+use sample_table::{REPORT, bytes_of};
 use shard_book::Token;
 use std::alloc::Global;
 use std::marker::Sync;

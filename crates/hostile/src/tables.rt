@@ -1,8 +1,9 @@
 //! Cases of encoding, and of fare tables and their clocks.
 
-use crate::sample::{BUS, START, SUBWAY, UNTIL, bytes_of, table, tap};
+use crate::sample::{UNTIL, table, tap};
 use crate::stop::{Case, Stop, again, promise};
 use fare_table::FareTable;
+use sample_table::{BUS, START, SUBWAY, bytes_of};
 use std::alloc::Global;
 use tap_views::{Batch, Tap2Fields, TapFields, encode, encode_tap2};
 

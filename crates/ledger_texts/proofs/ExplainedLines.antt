@@ -1,6 +1,7 @@
 -- The explained lines of a token, and the lines of its windows, with one line more.
 use Rattle.std.specs.Prelude.{codes}
-use Rattle.std.proofs.Common.{◌≡◌, ℕ, ◌+◌, ◌<◌, List, [], ◌∷◌, ◌++◌, length, get_or, take, Option, refl, sym, ap, subst, ◌∙◌, append_assoc, append-nil}
+use Rattle.std.proofs.Common.{◌≡◌, ℕ, ◌+◌, ◌<◌, List, [], ◌∷◌, ◌++◌, length, get_or, take, Option}
+use Rattle.std.proofs.Common.{refl, sym, ap, subst, ◌∙◌, append_assoc, append-nil}
 use Rattle.jiff_tz.specs.declared.posix.TimeZone.{TimeZone as PosixRule}
 use Rattle.account_rule.specs.declared.reason.Reason.{Reason}
 use Rattle.account_rule.specs.declared.window.WindowView.{WindowView}
@@ -9,32 +10,39 @@ use Rattle.shard_book.specs.declared.entry.Entry.{Entry}
 use Rattle.shard_book.specs.declared.token.Token.{Token}
 use Rattle.reason_texts.specs.Ledger.{reason_after}
 use Rattle.reason_texts.proofs.LineLists.{taken}
-use Rattle.ledger_texts.specs.Explained.{AreEarlierLines, AreExplainedAfter, IsExplainedLine, IsWindowLine}
+use Rattle.ledger_texts.specs.Explained.{AreEarlierLines, AreExplainedAfter, IsExplainedLine}
+use Rattle.ledger_texts.specs.Explained.{IsWindowLine}
 use Rattle.std.proofs.Math.Seq.{take-suc}
 use Rattle.std.proofs.Common.{add-one}
 
-lines-push : (fares : Fares) (token : Token) (earlier entries : List Entry) (entry : Entry) (text line : List ℕ)
+lines-push : (fares : Fares) (token : Token) (earlier entries : List Entry) (entry : Entry)
+    (text line : List ℕ)
     → AreExplainedAfter fares token earlier entries text
     → IsExplainedLine fares entry (reason_after fares token (earlier ++ entries) entry) line
     → AreExplainedAfter fares token earlier (entries ++ entry ∷ []) (text ++ line)
 lines-push fares token earlier [] entry text line empty is = (
   line,
   [],
-  subst (λ (es : List Entry). IsExplainedLine fares entry (reason_after fares token es entry) line) (append-nil earlier) is,
+  subst (λ (es : List Entry). IsExplainedLine fares entry (reason_after fares token es entry) line)
+      (append-nil earlier) is,
   refl,
   ap (λ t. t ++ line) empty ∙ sym (append-nil line),
 )
-lines-push fares token earlier (first ∷ entries) entry text line (start, rest, shown, are, whole) is = (
-  start,
-  rest ++ line,
-  shown,
-  lines-push fares token (earlier ++ first ∷ []) entries entry rest line are
-      (subst (λ (es : List Entry). IsExplainedLine fares entry (reason_after fares token es entry) line) (sym (append_assoc earlier (first ∷ []) entries)) is),
-  ap (λ t. t ++ line) whole ∙ append_assoc start rest line,
-)
+lines-push fares token earlier (first ∷ entries) entry text line (start, rest, shown, are, whole)
+    is = (
+      start,
+      rest ++ line,
+      shown,
+      lines-push fares token (earlier ++ first ∷ []) entries entry rest line are
+          (subst (λ (es : List Entry).
+          IsExplainedLine fares entry (reason_after fares token es entry) line)
+          (sym (append_assoc earlier (first ∷ []) entries)) is),
+      ap (λ t. t ++ line) whole ∙ append_assoc start rest line,
+    )
 
 -- the lines of the first entries, and the next one's
-pub next_explained : (fares : Fares) (token : Token) (entries : List Entry) (place : ℕ) (other : Entry)
+pub next_explained : (fares : Fares) (token : Token) (entries : List Entry) (place : ℕ)
+    (other : Entry)
     → place < length entries → (text line : List ℕ) (why : Reason)
     → why ≡ reason_after fares token (take place entries) (get_or entries place other)
     → AreExplainedAfter fares token [] (take place entries) text
@@ -43,20 +51,31 @@ pub next_explained : (fares : Fares) (token : Token) (entries : List Entry) (pla
 next_explained fares token entries place other within text line why is_why are is =
     let done = take place entries in
     let entry = get_or entries place other in
-    subst (λ (es : List Entry). AreExplainedAfter fares token [] es (text ++ line)) (sym (taken entries place other within))
+    subst (λ (es : List Entry). AreExplainedAfter fares token [] es (text ++ line))
+    (sym (taken entries place other within))
     (lines-push fares token [] done entry text line are
     (subst (λ (w : Reason). IsExplainedLine fares entry w line) is_why is))
 
-windows-push : (clocks : Option PosixRule) (windows : List WindowView) (window : WindowView) (text line : List ℕ)
-    → AreEarlierLines clocks windows text → IsWindowLine clocks (codes "earlier window ") window line
+windows-push : (clocks : Option PosixRule) (windows : List WindowView) (window : WindowView)
+    (text line : List ℕ)
+    → AreEarlierLines clocks windows text
+    → IsWindowLine clocks (codes "earlier window ") window line
     → AreEarlierLines clocks (windows ++ window ∷ []) (text ++ line)
-windows-push clocks [] window text line empty is = (line, [], is, refl, ap (λ t. t ++ line) empty ∙ sym (append-nil line))
-windows-push clocks (first ∷ windows) window text line (start, rest, shown, are, whole) is =
-    (start, rest ++ line, shown, windows-push clocks windows window rest line are is, ap (λ t. t ++ line) whole ∙ append_assoc start rest line)
+windows-push clocks [] window text line empty is =
+    (line, [], is, refl, ap (λ t. t ++ line) empty ∙ sym (append-nil line))
+windows-push clocks (first ∷ windows) window text line (start, rest, shown, are, whole) is = (
+  start,
+  rest ++ line,
+  shown,
+  windows-push clocks windows window rest line are is,
+  ap (λ t. t ++ line) whole ∙ append_assoc start rest line,
+)
 
 -- the lines of the first windows, and the next one's
-pub next_window : (clocks : Option PosixRule) (windows : List WindowView) (place : ℕ) (other : WindowView)
-    → place < length windows → (text line : List ℕ) → AreEarlierLines clocks (take place windows) text
+pub next_window : (clocks : Option PosixRule) (windows : List WindowView) (place : ℕ)
+    (other : WindowView)
+    → place < length windows → (text line : List ℕ)
+    → AreEarlierLines clocks (take place windows) text
     → IsWindowLine clocks (codes "earlier window ") (get_or windows place other) line
     → AreEarlierLines clocks (take (place + 1) windows) (text ++ line)
 next_window clocks windows place other within text line are is =

@@ -1,5 +1,6 @@
 -- The lines of entries in order of token are the lines of each token.
-use Rattle.std.proofs.Common.{◌≡◌, ℕ, ◌+◌, Bool, true, false, ◌||◌, List, [], ◌∷◌, ◌++◌, length, map, refl, sym, ap, subst, ◌∙◌, append_assoc, ⊎_elim}
+use Rattle.std.proofs.Common.{◌≡◌, ℕ, ◌+◌, Bool, true, false, ◌||◌, List, [], ◌∷◌, ◌++◌, length}
+use Rattle.std.proofs.Common.{map, refl, sym, ap, subst, ◌∙◌, append_assoc, ⊎_elim}
 use Rattle.std.specs.List.{AllByRecursion}
 use Rattle.std.specs.List.Sorted.{IsStrictlySortedBy}
 use Rattle.std.specs.Ordering.{eq_by_cmp}
@@ -19,8 +20,10 @@ use Rattle.shard_book.proofs.RisingLemmas.{rising-only}
 use Rattle.shard_book.proofs.TokenLemmas.{token_cmp-total, token_cmp-ties}
 use Rattle.reason_texts.specs.Ledger.{AreLinesAfter, AreTokenLines, IsLedgerLine, reason_after}
 use Rattle.ledger_texts.specs.Ledger.{AreLinesOfEach}
-use Rattle.ledger_texts.specs.inside.Lines.{AreLinesAlong, AreUpTo, IsByToken, IsLineAfter, IsUpTo, Rise, RiseFrom}
-use Rattle.ledger_texts.proofs.Rising.{none_above, none_below, own_both, own_here, own_none, own_not, own_push, up_apart, up_itself, up_push, up_weaker}
+use Rattle.ledger_texts.specs.inside.Lines.{AreLinesAlong, AreUpTo, IsByToken, IsLineAfter, IsUpTo}
+use Rattle.ledger_texts.specs.inside.Lines.{Rise, RiseFrom}
+use Rattle.ledger_texts.proofs.Rising.{none_above, none_below, own_both, own_here, own_none}
+use Rattle.ledger_texts.proofs.Rising.{own_not, own_push, up_apart, up_itself, up_push, up_weaker}
 
 -- whether a token is among those of a list
 abbrev among : List Token → Token → Bool
@@ -35,67 +38,89 @@ or_twice false b = refl
 
 -- What the text of entries is that follow those before, while the lines of a token are told: first
 -- the other lines of that token, and then those of each later token.
-record Grouped (fares : Fares) (whole : List Entry) (token : Token) (before rest : List Entry) (text : List ℕ) : Type 0 where
+record Grouped (fares : Fares) (whole : List Entry) (token : Token) (before rest : List Entry)
+    (text : List ℕ) : Type 0 where
   pub own_lines : List ℕ
   pub of_own : AreLinesAfter fares token (own token before) (own token rest) own_lines
   pub others : List Token
   pub rises : IsStrictlySortedBy token_cmp (token ∷ others)
-  pub members : (key : Token) → (ties key token || among others key) ≡ (ties key token || among (map token_of rest) key)
+  pub members : (key : Token)
+      → (ties key token || among others key) ≡ (ties key token || among (map token_of rest) key)
   pub other_lines : List ℕ
   pub of_others : AreLinesOfEach fares whole others other_lines
   pub shown : text ≡ own_lines ++ other_lines
 
 -- below the first of a rising list, below all of it
-below_all : (key first : Token) (keys : List Token) → token_cmp key first ≡ Less → AllByRecursion (λ z. token_cmp first z ≡ Less) keys → AllByRecursion (λ z. token_cmp key z ≡ Less) keys
+below_all : (key first : Token) (keys : List Token) → token_cmp key first ≡ Less
+    → AllByRecursion (λ z. token_cmp first z ≡ Less) keys
+    → AllByRecursion (λ z. token_cmp key z ≡ Less) keys
 below_all key first [] less above = tt
-below_all key first (z ∷ keys) less above = (token_cmp-total.trans key first z less above.0, below_all key first keys less above.1)
+below_all key first (z ∷ keys) less above =
+    (token_cmp-total.trans key first z less above.0, below_all key first keys less above.1)
 
-module _ (fares : Fares) (whole before : List Entry) (entry : Entry) (rest : List Entry) (line more text : List ℕ)
-    (is : whole ≡ before ++ entry ∷ rest) (told : IsLineAfter fares before entry line) (shown : text ≡ line ++ more) where
+module _ (fares : Fares) (whole before : List Entry) (entry : Entry) (rest : List Entry)
+    (line more text : List ℕ)
+    (is : whole ≡ before ++ entry ∷ rest) (told : IsLineAfter fares before entry line) (shown : text
+    ≡ line ++ more) where
   -- the entry is of the token whose lines are told
   same_case : (token : Token) → token_eq entry.token token ≡ true
-      → Grouped fares whole token (before ++ entry ∷ []) rest more → Grouped fares whole token before (entry ∷ rest) text
+      → Grouped fares whole token (before ++ entry ∷ []) rest more
+      → Grouped fares whole token before (entry ∷ rest) text
   same_case token here g =
       let same : entry.token ≡ token = same_token entry.token token here in
       record {
         own_lines = line ++ g.own_lines;
-        of_own = subst (λ (es : List Entry). AreLinesAfter fares token (own token before) es (line ++ g.own_lines)) (sym (own_here token entry rest here)) (
-          line,
-          g.own_lines,
-          subst (λ (t : Token). IsLedgerLine fares t (length (own t before) + 1) entry (reason_after fares t (own t before) entry) line) same told,
-          subst (λ (es : List Entry). AreLinesAfter fares token es (own token rest) g.own_lines) (own_push token before entry here) g.of_own,
-          refl,
-        );
+        of_own = subst (λ (es : List Entry).
+            AreLinesAfter fares token (own token before) es (line ++ g.own_lines))
+            (sym (own_here token entry rest here)) (
+              line,
+              g.own_lines,
+              subst (λ (t : Token).
+                  IsLedgerLine fares t (length (own t before) + 1) entry
+                  (reason_after fares t (own t before) entry) line) same told,
+              subst (λ (es : List Entry). AreLinesAfter fares token es (own token rest) g.own_lines)
+                  (own_push token before entry here) g.of_own,
+              refl,
+            );
         others = g.others;
         rises = g.rises;
         members = λ key.
             g.members key ∙ or_twice (ties key token) (among (map token_of rest) key)
-            ∙ ap (λ (t : Token). ties key token || (ties key t || among (map token_of rest) key)) (sym same);
+            ∙ ap (λ (t : Token). ties key token || (ties key t || among (map token_of rest) key))
+            (sym same);
         other_lines = g.other_lines;
         of_others = g.of_others;
-        shown = shown ∙ ap (λ t. line ++ t) g.shown ∙ sym (append_assoc line g.own_lines g.other_lines);
+        shown = shown ∙ ap (λ t. line ++ t) g.shown
+            ∙ sym (append_assoc line g.own_lines g.other_lines);
       }
 
   -- the entry is the first of its token: all lines of its token
-  all_lines : own entry.token before ≡ [] → (g : Grouped fares whole entry.token (before ++ entry ∷ []) rest more)
+  all_lines : own entry.token before ≡ []
+      → (g : Grouped fares whole entry.token (before ++ entry ∷ []) rest more)
       → AreTokenLines fares entry.token (own entry.token whole) (line ++ g.own_lines)
   all_lines none g =
       let here = token_eq-refl entry.token in
       let all : own entry.token whole ≡ entry ∷ own entry.token rest =
       ap (own entry.token) is ∙ own_both entry.token before (entry ∷ rest)
-      ∙ ap (λ (es : List Entry). es ++ own entry.token (entry ∷ rest)) none ∙ own_here entry.token entry rest here in
+      ∙ ap (λ (es : List Entry). es ++ own entry.token (entry ∷ rest)) none
+      ∙ own_here entry.token entry rest here in
       let pushed : own entry.token (before ++ entry ∷ []) ≡ entry ∷ [] =
       own_push entry.token before entry here ∙ ap (λ (es : List Entry). es ++ entry ∷ []) none in
-      subst (λ (es : List Entry). AreLinesAfter fares entry.token [] es (line ++ g.own_lines)) (sym all) (
+      subst (λ (es : List Entry). AreLinesAfter fares entry.token [] es (line ++ g.own_lines))
+      (sym all) (
         line,
         g.own_lines,
-        subst (λ (es : List Entry). IsLedgerLine fares entry.token (length es + 1) entry (reason_after fares entry.token es entry) line) none told,
-        subst (λ (es : List Entry). AreLinesAfter fares entry.token es (own entry.token rest) g.own_lines) pushed g.of_own,
+        subst (λ (es : List Entry).
+            IsLedgerLine fares entry.token (length es + 1) entry
+            (reason_after fares entry.token es entry) line) none told,
+        subst (λ (es : List Entry).
+            AreLinesAfter fares entry.token es (own entry.token rest) g.own_lines) pushed g.of_own,
         refl,
       )
 
   -- the entry is the first of its token: its token's lines, and those of each later token
-  each_lines : own entry.token before ≡ [] → (g : Grouped fares whole entry.token (before ++ entry ∷ []) rest more)
+  each_lines : own entry.token before ≡ []
+      → (g : Grouped fares whole entry.token (before ++ entry ∷ []) rest more)
       → AreLinesOfEach fares whole (entry.token ∷ g.others) text
   each_lines none g = (
     line ++ g.own_lines,
@@ -106,14 +131,19 @@ module _ (fares : Fares) (whole before : List Entry) (entry : Entry) (rest : Lis
   )
 
   -- the entry is of a later token than the one whose lines were told
-  next_case : (token : Token) → AreUpTo before token → IsUpTo token entry.token → RiseFrom entry.token rest → token_eq entry.token token ≡ false → token_eq token entry.token ≡ false
-      → Grouped fares whole entry.token (before ++ entry ∷ []) rest more → Grouped fares whole token before (entry ∷ rest) text
+  next_case : (token : Token) → AreUpTo before token → IsUpTo token entry.token
+      → RiseFrom entry.token rest → token_eq entry.token token ≡ false
+      → token_eq token entry.token ≡ false
+      → Grouped fares whole entry.token (before ++ entry ∷ []) rest more
+      → Grouped fares whole token before (entry ∷ rest) text
   unfolding IsStrictlySortedBy
   next_case token up to rise apart beyond g =
       let less = up_apart token entry.token to apart in
       record {
         own_lines = [];
-        of_own = subst (λ (es : List Entry). AreLinesAfter fares token (own token before) es []) (sym (own_not token entry rest apart ∙ none_above token entry.token rest to apart rise)) refl;
+        of_own = subst (λ (es : List Entry). AreLinesAfter fares token (own token before) es [])
+            (sym (own_not token entry rest apart ∙ none_above token entry.token rest to apart rise))
+            refl;
         others = entry.token ∷ g.others;
         rises = ((less, below_all token entry.token g.others less g.rises.0), g.rises);
         members = λ key. ap (λ (b : Bool). ties key token || b) (g.members key);
@@ -122,7 +152,8 @@ module _ (fares : Fares) (whole before : List Entry) (entry : Entry) (rest : Lis
         shown = refl;
       }
 
-no_more : (fares : Fares) (whole : List Entry) (token : Token) (before : List Entry) (text : List ℕ) → text ≡ [] → Grouped fares whole token before [] text
+no_more : (fares : Fares) (whole : List Entry) (token : Token) (before : List Entry) (text : List ℕ)
+    → text ≡ [] → Grouped fares whole token before [] text
 unfolding IsStrictlySortedBy own
 no_more fares whole token before text none = record {
   own_lines = [];
@@ -135,38 +166,48 @@ no_more fares whole token before text none = record {
   shown = none;
 }
 
-group : (fares : Fares) (whole : List Entry) (token : Token) (before rest : List Entry) (text : List ℕ) → whole ≡ before ++ rest → AreUpTo before token → RiseFrom token rest
+group : (fares : Fares) (whole : List Entry) (token : Token) (before rest : List Entry)
+    (text : List ℕ) → whole ≡ before ++ rest → AreUpTo before token → RiseFrom token rest
     → AreLinesAlong fares before rest text → Grouped fares whole token before rest text
 group fares whole token before [] text is up rise none = no_more fares whole token before text none
 group fares whole token before (entry ∷ rest) text is up rise (line, more, told, along, shown) =
-    let longer : whole ≡ (before ++ entry ∷ []) ++ rest = is ∙ sym (append_assoc before (entry ∷ []) rest) in
+    let longer : whole ≡ (before ++ entry ∷ []) ++ rest =
+    is ∙ sym (append_assoc before (entry ∷ []) rest) in
     ⊎_elim
     (λ (here : token_eq entry.token token ≡ true).
     let same : entry.token ≡ token = same_token entry.token token here in
     same_case fares whole before entry rest line more text is told shown token here
     (group fares whole token (before ++ entry ∷ []) rest more longer
-    (up_push before entry token up (subst (λ (t : Token). IsUpTo t token) (sym same) (up_itself token)))
+    (up_push before entry token up
+    (subst (λ (t : Token). IsUpTo t token) (sym same) (up_itself token)))
     (subst (λ (t : Token). RiseFrom t rest) same rise.1) along))
     (λ (apart : token_eq entry.token token ≡ false).
-    next_case fares whole before entry rest line more text is told shown token up rise.0 rise.1 apart (token_eq-sym token entry.token ∙ apart)
+    next_case fares whole before entry rest line more text is told shown token up rise.0 rise.1
+    apart (token_eq-sym token entry.token ∙ apart)
     (group fares whole entry.token (before ++ entry ∷ []) rest more longer
-    (up_push before entry entry.token (up_weaker before token entry.token up rise.0) (up_itself entry.token)) rise.1 along))
+    (up_push before entry entry.token (up_weaker before token entry.token up rise.0)
+    (up_itself entry.token)) rise.1 along))
     (cases_Bool (token_eq entry.token token))
 
 -- the lines along entries in order of token are those of each token, rising
-each_token : (fares : Fares) (entries : List Entry) (text : List ℕ) → Rise entries → AreLinesAlong fares [] entries text
-    → (order : List Token) × IsRising token_cmp (map token_of entries) order × AreLinesOfEach fares entries order text
+each_token : (fares : Fares) (entries : List Entry) (text : List ℕ) → Rise entries
+    → AreLinesAlong fares [] entries text
+    → (order : List Token) × IsRising token_cmp (map token_of entries) order
+    × AreLinesOfEach fares entries order text
 unfolding IsStrictlySortedBy
 each_token fares [] text rise none = ([], record { rises = tt; same = λ key. refl }, none)
 each_token fares (entry ∷ rest) text rise (line, more, told, along, shown) =
-    let g = group fares (entry ∷ rest) entry.token (entry ∷ []) rest more refl (up_itself entry.token, tt) rise along in (
+    let g = group fares (entry ∷ rest) entry.token (entry ∷ []) rest more refl
+    (up_itself entry.token, tt) rise along in (
       entry.token ∷ g.others,
       record { rises = g.rises; same = g.members },
-      each_lines fares (entry ∷ rest) [] entry rest line more text refl told shown (own_none entry.token) g,
+      each_lines fares (entry ∷ rest) [] entry rest line more text refl told shown
+          (own_none entry.token) g,
     )
 
 -- the same tokens' lines, where each token has the same entries
-pub each_same : (fares : Fares) (entries others : List Entry) (order : List Token) (text : List ℕ) → ((token : Token) → own token entries ≡ own token others)
+pub each_same : (fares : Fares) (entries others : List Entry) (order : List Token) (text : List ℕ)
+    → ((token : Token) → own token entries ≡ own token others)
     → AreLinesOfEach fares entries order text → AreLinesOfEach fares others order text
 each_same fares entries others [] text same none = none
 each_same fares entries others (token ∷ order) text same (lines, rest, are, each, shown) = (
@@ -177,13 +218,18 @@ each_same fares entries others (token ∷ order) text same (lines, rest, are, ea
   shown,
 )
 
-pub grouped : (fares : Fares) (entries list : List Entry) (text : List ℕ) → IsByToken entries list → AreLinesAlong fares [] list text
+pub grouped : (fares : Fares) (entries list : List Entry) (text : List ℕ) → IsByToken entries list
+    → AreLinesAlong fares [] list text
     → AreLinesOfEach fares entries (tokens entries) text
 unfolding tokens
 grouped fares entries list text is along =
     let (order, risen, each) = each_token fares list text is.rise along in
-    let same : order ≡ rising token_cmp (map token_of entries) = rising-only token_cmp-total token_cmp-ties (map token_of entries) order (record {
+    let same : order ≡ rising token_cmp (map token_of entries) =
+    rising-only token_cmp-total token_cmp-ties (map token_of entries) order (record {
       rises = risen.rises;
-      same = λ key. risen.same key ∙ sym (list_any-IsPermutation (eq_by_cmp token_cmp key) (map token_of entries) (map token_of list) (IsPermutation-map token_of entries list is.moved));
+      same = λ key. risen.same key
+          ∙ sym (list_any-IsPermutation (eq_by_cmp token_cmp key) (map token_of entries)
+          (map token_of list) (IsPermutation-map token_of entries list is.moved));
     }) in
-    subst (λ (ts : List Token). AreLinesOfEach fares entries ts text) same (each_same fares list entries order text is.kept each)
+    subst (λ (ts : List Token). AreLinesOfEach fares entries ts text) same
+    (each_same fares list entries order text is.kept each)

@@ -1,5 +1,6 @@
 -- The mode that gives a transfer is one of the table's.
-use Rattle.std.proofs.Common.{◌≡◌, ℕ, ◌<◌, true, false, not, List, [], ◌∷◌, length, Option, Some, None, refl, sym, ap, subst, ◌∙◌}
+use Rattle.std.proofs.Common.{◌≡◌, ℕ, ◌<◌, true, false, not, List, [], ◌∷◌, length, Option, Some}
+use Rattle.std.proofs.Common.{None, refl, sym, ap, subst, ◌∙◌}
 use Rattle.fare_table.specs.Fares.{Fares}
 use Rattle.fare_table.specs.declared.mode.Mode.{Mode}
 use Rattle.account_rule.specs.Chains.{chains, ends_in_transfer, is_even}
@@ -23,19 +24,23 @@ even-none [] none = refl
 even-none (tap ∷ []) none = cc
 even-none (_ ∷ _ ∷ chain) none = ap (λ v. not (not v)) (even-none chain none)
 
-same-mode : (giver : LiveTap) (moment : ℕ) (mode : Mode) → Some giver ≡ Some (live_at moment mode) → giver.mode ≡ mode
+same-mode : (giver : LiveTap) (moment : ℕ) (mode : Mode) → Some giver ≡ Some (live_at moment mode)
+    → giver.mode ≡ mode
 unfolding live_at
 same-mode giver moment mode same = cc
 
 -- the account's giver is the ride that gives the transfer
-within : (rules : Rules) (kept : Option State) (taps : List TapIn) (tap : TapIn) (moment : ℕ) (mode : Mode)
-    → KeepsOf rules kept taps → reason rules taps tap ≡ Transfer moment mode → mode.place < rules.modes
+within : (rules : Rules) (kept : Option State) (taps : List TapIn) (tap : TapIn) (moment : ℕ)
+    (mode : Mode)
+    → KeepsOf rules kept taps → reason rules taps tap ≡ Transfer moment mode
+    → mode.place < rules.modes
 unfolding ends_in_transfer
 within rules kept taps tap moment mode stands is =
     let given = giver-ride rules taps tap moment mode is in
     elim (kept_giver kept) as (λ giver. kept_giver kept ≡ giver → mode.place < rules.modes) [
       | None ↦ λ none.
-          let no : true ≡ false = sym (even-none (last_block (chains rules taps)) (sym stands.giver ∙ none)) ∙ given.1 in cc
+          let no : true ≡ false = sym (even-none (last_block (chains rules taps)) (sym stands.giver
+          ∙ none)) ∙ given.1 in cc
       | Some giver ↦ λ some.
           let same = same-mode giver moment mode
           (sym (giver-live rules taps giver (sym stands.giver ∙ some)) ∙ given.0) in
@@ -43,8 +48,10 @@ within rules kept taps tap moment mode stands is =
     ] refl
 
 -- the reason for a tap has a mode of the table, if it has one
-pub has_mode : (fares : Fares) (token : List ℕ) (account : Account) (taps : List TapIn) (tap : TapIn) (why : Reason)
-    → Stands (rules_of fares token) account taps → why ≡ reason (rules_of fares token) taps tap → HasModeOf fares why
+pub has_mode : (fares : Fares) (token : List ℕ) (account : Account) (taps : List TapIn)
+    (tap : TapIn) (why : Reason)
+    → Stands (rules_of fares token) account taps → why ≡ reason (rules_of fares token) taps tap
+    → HasModeOf fares why
 unfolding Stands rules_of
 has_mode fares token account taps tap Unknown stands is = tt
 has_mode fares token account taps tap (Stale latest) stands is = tt

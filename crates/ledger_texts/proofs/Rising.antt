@@ -1,5 +1,6 @@
 -- Tokens that rise, and the entries of one token among entries in order of token.
-use Rattle.std.proofs.Common.{◌≡◌, Bool, true, false, cond, List, [], ◌∷◌, ◌++◌, refl, sym, ap, subst, ◌∙◌}
+use Rattle.std.proofs.Common.{◌≡◌, Bool, true, false, cond, List, [], ◌∷◌, ◌++◌, refl, sym, ap}
+use Rattle.std.proofs.Common.{subst, ◌∙◌}
 use Rattle.std.specs.List.{filter}
 use Rattle.std.specs.Cmp.{IsStrictWeakOrder}
 use Rattle.std.specs.Ordering.{is_lt, ordering_reverse}
@@ -53,34 +54,46 @@ up_apart a b up apart = by (token_cmp a b) refl
     by Greater greater = absurd (not_greater a b up greater)
 
 -- ---- the entries of a token
-pub own_here : (token : Token) (entry : Entry) (entries : List Entry) → token_eq entry.token token ≡ true
+pub own_here : (token : Token) (entry : Entry) (entries : List Entry)
+    → token_eq entry.token token ≡ true
     → own token (entry ∷ entries) ≡ entry ∷ own token entries
 unfolding own
-own_here token entry entries is = ap (λ (b : Bool). cond b (entry ∷ filter (is_of token) entries) (filter (is_of token) entries)) is
+own_here token entry entries is =
+    ap (λ (b : Bool). cond b (entry ∷ filter (is_of token) entries) (filter (is_of token) entries))
+    is
 
-pub own_not : (token : Token) (entry : Entry) (entries : List Entry) → token_eq entry.token token ≡ false
+pub own_not : (token : Token) (entry : Entry) (entries : List Entry)
+    → token_eq entry.token token ≡ false
     → own token (entry ∷ entries) ≡ own token entries
 unfolding own
-own_not token entry entries is = ap (λ (b : Bool). cond b (entry ∷ filter (is_of token) entries) (filter (is_of token) entries)) is
+own_not token entry entries is =
+    ap (λ (b : Bool). cond b (entry ∷ filter (is_of token) entries) (filter (is_of token) entries))
+    is
 
 pub own_none : (token : Token) → own token [] ≡ []
 unfolding own
 own_none token = refl
 
-pub own_both : (token : Token) (entries more : List Entry) → own token (entries ++ more) ≡ own token entries ++ own token more
+pub own_both : (token : Token) (entries more : List Entry)
+    → own token (entries ++ more) ≡ own token entries ++ own token more
 unfolding own
 own_both token entries more = filter-append (is_of token) entries more
 
-pub own_push : (token : Token) (entries : List Entry) (entry : Entry) → token_eq entry.token token ≡ true
+pub own_push : (token : Token) (entries : List Entry) (entry : Entry)
+    → token_eq entry.token token ≡ true
     → own token (entries ++ entry ∷ []) ≡ own token entries ++ entry ∷ []
 own_push token entries entry is =
     own_both token entries (entry ∷ [])
-    ∙ ap (λ (es : List Entry). own token entries ++ es) (own_here token entry [] is ∙ ap (λ (es : List Entry). entry ∷ es) (own_none token))
+    ∙ ap (λ (es : List Entry). own token entries ++ es) (own_here token entry [] is
+    ∙ ap (λ (es : List Entry). entry ∷ es) (own_none token))
 
 -- entries whose tokens are not above one have none of a token beyond it
-pub none_below : (entries : List Entry) (a b : Token) → AreUpTo entries a → IsUpTo a b → token_eq a b ≡ false → own b entries ≡ []
+pub none_below : (entries : List Entry) (a b : Token) → AreUpTo entries a → IsUpTo a b
+    → token_eq a b ≡ false → own b entries ≡ []
 none_below [] a b up to apart = own_none b
-none_below (entry ∷ entries) a b up to apart = own_not b entry entries (by (token_eq entry.token b) refl) ∙ none_below entries a b up.1 to apart
+none_below (entry ∷ entries) a b up to apart =
+    own_not b entry entries (by (token_eq entry.token b) refl)
+    ∙ none_below entries a b up.1 to apart
   where
     by : (t : Bool) → token_eq entry.token b ≡ t → token_eq entry.token b ≡ false
     by false is = is
@@ -89,22 +102,29 @@ none_below (entry ∷ entries) a b up to apart = own_not b entry entries (by (to
         absurd (not_apart a b (up_both a b to (subst (λ (t : Token). IsUpTo t a) same up.0)) apart)
 
 -- entries that rise from one token on have none of a token before it
-pub none_above : (token from : Token) (entries : List Entry) → IsUpTo token from → token_eq from token ≡ false → RiseFrom from entries → own token entries ≡ []
+pub none_above : (token from : Token) (entries : List Entry) → IsUpTo token from
+    → token_eq from token ≡ false → RiseFrom from entries → own token entries ≡ []
 none_above token from [] to apart rise = own_none token
 none_above token from (entry ∷ entries) to apart rise =
     let beyond = by (token_eq entry.token token) refl in
-    own_not token entry entries beyond ∙ none_above token entry.token entries (up_chain token from entry.token to rise.0) beyond rise.1
+    own_not token entry entries beyond
+    ∙ none_above token entry.token entries (up_chain token from entry.token to rise.0) beyond
+    rise.1
   where
     by : (t : Bool) → token_eq entry.token token ≡ t → token_eq entry.token token ≡ false
     by false is = is
     by true is =
         let same : entry.token ≡ token = same_token entry.token token is in
-        absurd (not_apart from token (up_both from token (subst (λ (t : Token). IsUpTo from t) same rise.0) to) apart)
+        absurd (not_apart from token
+        (up_both from token (subst (λ (t : Token). IsUpTo from t) same rise.0) to) apart)
 
-pub up_weaker : (entries : List Entry) (a b : Token) → AreUpTo entries a → IsUpTo a b → AreUpTo entries b
+pub up_weaker : (entries : List Entry) (a b : Token) → AreUpTo entries a → IsUpTo a b
+    → AreUpTo entries b
 up_weaker [] a b up to = tt
-up_weaker (entry ∷ entries) a b up to = (up_chain entry.token a b up.0 to, up_weaker entries a b up.1 to)
+up_weaker (entry ∷ entries) a b up to =
+    (up_chain entry.token a b up.0 to, up_weaker entries a b up.1 to)
 
-pub up_push : (entries : List Entry) (entry : Entry) (token : Token) → AreUpTo entries token → IsUpTo entry.token token → AreUpTo (entries ++ entry ∷ []) token
+pub up_push : (entries : List Entry) (entry : Entry) (token : Token) → AreUpTo entries token
+    → IsUpTo entry.token token → AreUpTo (entries ++ entry ∷ []) token
 up_push [] entry token up to = (to, tt)
 up_push (first ∷ entries) entry token up to = (up.0, up_push entries entry token up.1 to)

@@ -1,5 +1,6 @@
 -- The whole ledger: its head line and the lines of each token.
-use Rattle.std.proofs.Common.{◌≡◌, ℕ, List, [], ◌++◌, Some, None, refl, sym, ap, subst, ◌∙◌, append-nil}
+use Rattle.std.proofs.Common.{◌≡◌, ℕ, List, [], ◌++◌, Some, None, refl, sym, ap, subst, ◌∙◌}
+use Rattle.std.proofs.Common.{append-nil}
 use Rattle.std.specs.Prelude.{slice_get}
 use Rattle.fare_table.specs.Fares.{Fares}
 use Rattle.shard_book.specs.Book.{Book}
@@ -12,8 +13,10 @@ use Rattle.ledger_texts.specs.Ledger.{AreLinesOfEach, IsLedgerOf}
 use Rattle.ledger_texts.specs.inside.Lines.{AreLinesAlong, IsByToken}
 use Rattle.ledger_texts.proofs.Grouping.{grouped}
 
-pub ledger_of_all : (books : List Book) (first : Book) (fares : Fares) (list : List Entry) (head lines : List ℕ) → slice_get books 0 ≡ Some first → fares ≡ first.table
-    → IsByToken (all_entries books) list → AreLinesAlong fares [] list lines → head ≡ head_text → IsLedgerOf books None (head ++ lines)
+pub ledger_of_all : (books : List Book) (first : Book) (fares : Fares) (list : List Entry)
+    (head lines : List ℕ) → slice_get books 0 ≡ Some first → fares ≡ first.table
+    → IsByToken (all_entries books) list → AreLinesAlong fares [] list lines → head ≡ head_text
+    → IsLedgerOf books None (head ++ lines)
 ledger_of_all books first fares list head lines there table by_token along is_head =
     let all = all_entries books in
     record {
@@ -21,26 +24,31 @@ ledger_of_all books first fares list head lines there table by_token along is_he
       stands_first = there;
       over = record {
         lines = lines;
-        of_each = subst (λ (f : Fares). AreLinesOfEach f all (tokens all) lines) table (grouped fares all list lines by_token along);
+        of_each = subst (λ (f : Fares). AreLinesOfEach f all (tokens all) lines) table
+            (grouped fares all list lines by_token along);
         whole = ap (λ h. h ++ lines) is_head;
       };
     }
 
-pub ledger_of_one : (books : List Book) (first : Book) (fares : Fares) (token : Token) (entries : List Entry) (head lines text : List ℕ) → slice_get books 0 ≡ Some first → fares ≡ first.table
-    → entries ≡ own token (all_entries books) → AreTokenLines fares token entries lines → head ≡ head_text → text ≡ head ++ lines → IsLedgerOf books (Some token) text
-ledger_of_one books first fares token entries head lines text there table is_own are is_head shown = record {
-  first = first;
-  stands_first = there;
-  over = record {
-    lines = lines;
-    of_each = (
-      lines,
-      [],
-      subst (λ (f : Fares). AreTokenLines f token (own token (all_entries books)) lines) table
-          (subst (λ (es : List Entry). AreTokenLines fares token es lines) is_own are),
-      refl,
-      sym (append-nil lines),
-    );
-    whole = shown ∙ ap (λ h. h ++ lines) is_head;
-  };
-}
+pub ledger_of_one : (books : List Book) (first : Book) (fares : Fares) (token : Token)
+    (entries : List Entry) (head lines text : List ℕ) → slice_get books 0 ≡ Some first
+    → fares ≡ first.table
+    → entries ≡ own token (all_entries books) → AreTokenLines fares token entries lines
+    → head ≡ head_text → text ≡ head ++ lines → IsLedgerOf books (Some token) text
+ledger_of_one books first fares token entries head lines text there table is_own are is_head shown =
+    record {
+      first = first;
+      stands_first = there;
+      over = record {
+        lines = lines;
+        of_each = (
+          lines,
+          [],
+          subst (λ (f : Fares). AreTokenLines f token (own token (all_entries books)) lines) table
+              (subst (λ (es : List Entry). AreTokenLines fares token es lines) is_own are),
+          refl,
+          sym (append-nil lines),
+        );
+        whole = shown ∙ ap (λ h. h ++ lines) is_head;
+      };
+    }

@@ -76,7 +76,8 @@ unfoldable pub window_words : WindowView → List ℕ
 window_words window =
     codes " paid " ++ (decimal window.paid ++ (codes " cents " ++ decimal window.cents))
 
--- the words, the window as `2024-03-08T17:00:00.000Z 2024-03-15T17:00:00.000Z paid 1 cents 300`, and
+-- the words, the window as `2024-03-08T17:00:00.000Z 2024-03-15T17:00:00.000Z paid 1 cents 300`,
+-- and
 -- under a zone what clocks show at its start and at its end
 pub record IsWindowLine (clocks : Option PosixRule) (word : List ℕ) (window : WindowView)
     (line : List ℕ) : Type 0 where

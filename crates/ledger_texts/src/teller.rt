@@ -14,7 +14,9 @@ use shard_book::{Entry, Token};
 /// The token whose lines are being written, with its account after the lines so far.
 #[derive(Clone, Copy)]
 pub(crate) struct Teller {
+    /// The token.
     pub(crate) token: Token,
+    /// Its account after the entries so far.
     pub(crate) account: Account,
     /// How many lines of the token were written.
     pub(crate) number: u64,

@@ -1,5 +1,6 @@
 -- The files that one part has of several groups of uploads.
-use Rattle.std.proofs.Common.{◌≡◌, ℕ, ◌==◌, List, [], ◌∷◌, ◌++◌, map, flat_map, All, sym, ap, subst, ◌∙◌}
+use Rattle.std.proofs.Common.{◌≡◌, ℕ, ◌==◌, List, [], ◌∷◌, ◌++◌, map, flat_map, All, sym, ap, subst}
+use Rattle.std.proofs.Common.{◌∙◌}
 use Rattle.std.specs.List.{AllZip}
 use Rattle.std.specs.List.Sorted.{IsPermutation}
 use Rattle.std.proofs.lemmas.List.{map-append}
@@ -13,7 +14,7 @@ use Rattle.tap_parts.specs.Parts.{part_of_token, of_part}
 use Rattle.upload_parts.specs.Split.{HasTaps, IsPartFile}
 use Rattle.fare_service.specs.Plain.{AreTapsOf, AreTapsOfEach, HasOneCut}
 use Rattle.fare_service.proofs.PlainRuns.{AllZip-append}
-use Rattle.settlement.specs.Settled.{joined}
+use Rattle.tap_parts.specs.Parts.{joined}
 use Rattle.settlement.proofs.Histories.{read_fields}
 use Rattle.settlement.proofs.Same.{one_list}
 
@@ -28,28 +29,44 @@ module _ (number parts : ℕ) where
 
   mine-append : (one other : List (List Tap)) → mine (one ++ other) ≡ mine one ++ mine other
   mine-append one other =
-      ap (λ taps. map fields_of (of_part number parts taps)) (flat_map-append (λ (upload : List Tap). upload) one other)
-      ∙ ap (map fields_of) (filter-append (λ (tap : Tap). part_of_token tap.token parts == number) (joined one) (joined other))
-      ∙ map-append fields_of (of_part number parts (joined one)) (of_part number parts (joined other))
+      ap (λ taps. map fields_of (of_part number parts taps))
+      (flat_map-append (λ (upload : List Tap). upload) one other)
+      ∙ ap (map fields_of)
+      (filter-append (λ (tap : Tap). part_of_token tap.token parts == number) (joined one)
+      (joined other))
+      ∙ map-append fields_of (of_part number parts (joined one))
+      (of_part number parts (joined other))
 
   -- taps of uploads that are told in the one way are told in the other
-  told : (uploads : List (List ℕ)) (taps : List (List Tap)) → AllZip HasTaps uploads taps → AreTapsOfEach uploads taps
+  told : (uploads : List (List ℕ)) (taps : List (List Tap)) → AllZip HasTaps uploads taps
+      → AreTapsOfEach uploads taps
   told [] [] zip = tt
   told [] (ts ∷ taps) zip = absurd zip
   told (u ∷ uploads) [] zip = absurd zip
-  told (u ∷ uploads) (ts ∷ taps) zip =
-      (record { batches = zip.0.batches; rest = zip.0.read.rest; is_file = zip.0.read.is_file; all = zip.0.all }, told uploads taps zip.1)
+  told (u ∷ uploads) (ts ∷ taps) zip = (
+    record {
+      batches = zip.0.batches;
+      rest = zip.0.read.rest;
+      is_file = zip.0.read.is_file;
+      all = zip.0.all;
+    },
+    told uploads taps zip.1,
+  )
 
   -- some taps of the uploads, of which the files have those of the part
   record Kept (uploads files : List (List ℕ)) : Type 0 where
     pub taps : List (List Tap)
     pub each : AreTapsOfEach uploads taps
-    pub own : (list : List (List Tap)) → All HasOneCut files → AreTapsOfEach files list → IsPermutation (mine taps) (map fields_of (joined list))
+    pub own : (list : List (List Tap)) → All HasOneCut files → AreTapsOfEach files list
+        → IsPermutation (mine taps) (map fields_of (joined list))
 
-  kept : (groups : List (List (List ℕ))) (files : List (List ℕ)) → AllZip (λ group file. IsPartFile group parts number file) groups files → Kept (all_of groups) files
+  kept : (groups : List (List (List ℕ))) (files : List (List ℕ))
+      → AllZip (λ group file. IsPartFile group parts number file) groups files
+      → Kept (all_of groups) files
   kept [] [] zip = record { taps = []; each = tt; own = none }
     where
-      none : (list : List (List Tap)) → All HasOneCut [] → AreTapsOfEach [] list → IsPermutation (mine []) (map fields_of (joined list))
+      none : (list : List (List Tap)) → All HasOneCut [] → AreTapsOfEach [] list
+          → IsPermutation (mine []) (map fields_of (joined list))
       none [] cuts each = IsPermutation-refl []
       none (ts ∷ list) cuts each = absurd each
   kept [] (file ∷ files) zip = absurd zip
@@ -59,27 +76,39 @@ module _ (number parts : ℕ) where
       let rest = kept groups files zip.1 in
       record {
         taps = p.taps ++ rest.taps;
-        each = AllZip-append AreTapsOf group p.taps (all_of groups) rest.taps (told group p.taps p.of_uploads) rest.each;
+        each = AllZip-append AreTapsOf group p.taps (all_of groups) rest.taps
+            (told group p.taps p.of_uploads) rest.each;
         own = first p rest;
       }
     where
-      first : (p : IsPartFile group parts number file) (rest : Kept (all_of groups) files) (list : List (List Tap)) → All HasOneCut (file ∷ files) → AreTapsOfEach (file ∷ files) list
+      first : (p : IsPartFile group parts number file) (rest : Kept (all_of groups) files)
+          (list : List (List Tap)) → All HasOneCut (file ∷ files)
+          → AreTapsOfEach (file ∷ files) list
           → IsPermutation (mine (p.taps ++ rest.taps)) (map fields_of (joined list))
       first p rest [] cuts each = absurd each
       first p rest (ts ∷ list) cuts each =
-          let read : map fields_of ts ≡ p.list = read_fields file ts p.list (All-head HasOneCut file files cuts) each.0 p.reads in
-          let here : IsPermutation (mine p.taps) (map fields_of ts) = subst (λ fs. IsPermutation (mine p.taps) fs) (sym read) p.canonical.moved in
+          let read : map fields_of ts ≡ p.list =
+          read_fields file ts p.list (All-head HasOneCut file files cuts) each.0 p.reads in
+          let here : IsPermutation (mine p.taps) (map fields_of ts) =
+          subst (λ fs. IsPermutation (mine p.taps) fs) (sym read) p.canonical.moved in
           let more = rest.own list (All-tail HasOneCut file files cuts) each.1 in
-          let both = IsPermutation-append (mine p.taps) (map fields_of ts) (mine rest.taps) (map fields_of (joined list)) here more in
-          subst (λ fs. IsPermutation fs (map fields_of (ts ++ joined list))) (sym (mine-append p.taps rest.taps))
-          (subst (λ fs. IsPermutation (mine p.taps ++ mine rest.taps) fs) (sym (map-append fields_of ts (joined list))) both)
+          let both = IsPermutation-append (mine p.taps) (map fields_of ts) (mine rest.taps)
+          (map fields_of (joined list)) here more in
+          subst (λ fs. IsPermutation fs (map fields_of (ts ++ joined list)))
+          (sym (mine-append p.taps rest.taps))
+          (subst (λ fs. IsPermutation (mine p.taps ++ mine rest.taps) fs)
+          (sym (map-append fields_of ts (joined list))) both)
 
-  pub own_taps : (groups : List (List (List ℕ))) (files : List (List ℕ)) → AllZip (λ group file. IsPartFile group parts number file) groups files
-      → (uploads : List (List ℕ)) → uploads ≡ all_of groups → All HasOneCut uploads → All HasOneCut files
+  pub own_taps : (groups : List (List (List ℕ))) (files : List (List ℕ))
+      → AllZip (λ group file. IsPartFile group parts number file) groups files
+      → (uploads : List (List ℕ)) → uploads ≡ all_of groups → All HasOneCut uploads
+      → All HasOneCut files
       → (taps list : List (List Tap)) → AreTapsOfEach uploads taps → AreTapsOfEach files list
-      → IsPermutation (map fields_of (of_part number parts (joined taps))) (map fields_of (joined list))
+      → IsPermutation (map fields_of (of_part number parts (joined taps)))
+      (map fields_of (joined list))
   own_taps groups files zip uploads whole cuts file_cuts taps list each is =
       let k = kept groups files zip in
       let E : List (List ℕ) → Type 0 = λ us. AreTapsOfEach us k.taps in
       let same = one_list uploads k.taps taps cuts (subst E (sym whole) k.each) each in
-      subst (λ ts. IsPermutation (map fields_of (of_part number parts (joined ts))) (map fields_of (joined list))) same (k.own list file_cuts is)
+      subst (λ ts. IsPermutation (map fields_of (of_part number parts (joined ts)))
+      (map fields_of (joined list))) same (k.own list file_cuts is)

@@ -28,32 +28,47 @@ module _ (law : SumsAdd) where
   added_at : (v : ℕ) (list : List Part) → sums (at v (entries_of list)) ≡ sums_at v list
   unfolding at
   added_at v [] = refl
-  added_at v (p ∷ list) = ap sums (filter-append (is_at v) p.history (entries_of list)) ∙ law (at v p.history) (at v (entries_of list)) ∙ ap (add_sums (sums (at v p.history))) (added_at v list)
+  added_at v (p ∷ list) = ap sums (filter-append (is_at v) p.history (entries_of list))
+      ∙ law (at v p.history) (at v (entries_of list))
+      ∙ ap (add_sums (sums (at v p.history))) (added_at v list)
 
-pairs_as : (entries : List Entry) (pairs : List (ℕ × Sums)) → All (λ pair. pair.1 ≡ sums (at pair.0 entries)) pairs → pairs ≡ map (λ v. (v, sums (at v entries))) (keys_of pairs)
+pairs_as : (entries : List Entry) (pairs : List (ℕ × Sums))
+    → All (λ pair. pair.1 ≡ sums (at pair.0 entries)) pairs
+    → pairs ≡ map (λ v. (v, sums (at v entries))) (keys_of pairs)
 pairs_as entries [] each = refl
 pairs_as entries (pair ∷ pairs) each =
-    ap (λ (s : Sums). (pair.0, s) ∷ pairs) (All-head (λ p. p.1 ≡ sums (at p.0 entries)) pair pairs each)
-    ∙ ap (λ (ps : List (ℕ × Sums)). (pair.0, sums (at pair.0 entries)) ∷ ps) (pairs_as entries pairs (All-tail (λ p. p.1 ≡ sums (at p.0 entries)) pair pairs each))
+    ap (λ (s : Sums). (pair.0, s) ∷ pairs)
+    (All-head (λ p. p.1 ≡ sums (at p.0 entries)) pair pairs each)
+    ∙ ap (λ (ps : List (ℕ × Sums)). (pair.0, sums (at pair.0 entries)) ∷ ps)
+    (pairs_as entries pairs (All-tail (λ p. p.1 ≡ sums (at p.0 entries)) pair pairs each))
 
-module _ (fares : Fares) (uploads : List (List ℕ)) (history : List Entry) (parts : List Part) (split : IsSplit fares uploads history parts) (law : SumsAdd) (risen : RisingNumbers) where
+module _ (fares : Fares) (uploads : List (List ℕ)) (history : List Entry) (parts : List Part)
+    (split : IsSplit fares uploads history parts) (law : SumsAdd) (risen : RisingNumbers) where
   pub merged_totals : add_all (map (λ p. sums p.history) parts) ≡ sums history
-  merged_totals = sym (added law parts) ∙ same_sums (entries_of parts) history (same_entries (entries_of parts) history (own_all fares uploads history parts split))
+  merged_totals = sym (added law parts)
+      ∙ same_sums (entries_of parts) history
+      (same_entries (entries_of parts) history (own_all fares uploads history parts split))
 
   at_history : (v : ℕ) → sums_at v parts ≡ sums (at v history)
   at_history v =
       sym (added_at law v parts) ∙ same_sums (at v (entries_of parts)) (at v history)
-      (same_entries (at v (entries_of parts)) (at v history) (same_at v (entries_of parts) history (own_all fares uploads history parts split)))
+      (same_entries (at v (entries_of parts)) (at v history)
+      (same_at v (entries_of parts) history (own_all fares uploads history parts split)))
 
   pub merged_validators : (merged : List (ℕ × Sums)) → IsStrictlySortedBy nat_cmp (keys_of merged)
-      → ((v : ℕ) → is_member (eq_by_cmp nat_cmp) (keys_of merged) v ≡ is_member (eq_by_cmp nat_cmp) (map validator_of (entries_of parts)) v)
+      → ((v : ℕ) → is_member (eq_by_cmp nat_cmp) (keys_of merged) v
+      ≡ is_member (eq_by_cmp nat_cmp) (map validator_of (entries_of parts)) v)
       → All (λ pair. pair.1 ≡ sums_at pair.0 parts) merged → merged ≡ sums_by_validator history
   unfolding sums_by_validator validators
   merged_validators merged rises members each =
-      let moved = IsPermutation-map validator_of (entries_of parts) history (same_entries (entries_of parts) history (own_all fares uploads history parts split)) in
-      let keys : keys_of merged ≡ rising nat_cmp (map validator_of history) = (risen (map validator_of history) (keys_of merged)).0 (record {
+      let moved = IsPermutation-map validator_of (entries_of parts) history
+      (same_entries (entries_of parts) history (own_all fares uploads history parts split)) in
+      let keys : keys_of merged ≡ rising nat_cmp (map validator_of history) =
+      (risen (map validator_of history) (keys_of merged)).0 (record {
         rises = rises;
-        same = λ v. members v ∙ list_any-IsPermutation (eq_by_cmp nat_cmp v) (map validator_of (entries_of parts)) (map validator_of history) moved;
+        same = λ v. members v
+            ∙ list_any-IsPermutation (eq_by_cmp nat_cmp v) (map validator_of (entries_of parts))
+            (map validator_of history) moved;
       }) in
       pairs_as history merged (λ k d within. each k d within ∙ at_history _)
       ∙ ap (map (λ (v : ℕ). (v, sums (at v history)))) keys

@@ -14,7 +14,8 @@ use Rattle.shard_book.specs.Sums.{Sums, sums}
 use Rattle.shard_book.specs.Token.{token_cmp}
 use Rattle.fare_service.specs.Adding.{add_all}
 use Rattle.tap_parts.specs.Parts.{of_part}
-use Rattle.settlement.specs.Settled.{joined, IsSettledHistory}
+use Rattle.settlement.specs.Settled.{IsSettledHistory}
+use Rattle.tap_parts.specs.Parts.{joined}
 
 -- the files of a part, and the history that settling them makes
 pub record Part : Type 0 where

@@ -17,7 +17,8 @@ ghost use Rattle.fare_service.specs.Plain.{ArePlainEnds, AreTapsOfEach, IsReport
 ghost use Rattle.fare_service.specs.Text.{report};
 ghost use Rattle.fare_service.specs.declared.upload_end.UploadEnd.{UploadEnd};
 ghost use Rattle.tap_parts.specs.Parts.{part_of_token};
-ghost use Rattle.settlement.specs.Settled.{IsSettledHistory, joined};
+ghost use Rattle.settlement.specs.Settled.{IsSettledHistory};
+ghost use Rattle.tap_parts.specs.Parts.{joined};
 ghost use Rattle.upload_parts.specs.Split.{IsPartFile};
 ghost use Rattle.part_laws.specs.Split.{AreTokensOf, AreValidatorsOf, IsPartOf, IsSplit, Part};
 ghost use Rattle.part_laws.specs.Split.{entries_of, part_of};

@@ -9,6 +9,7 @@ use std::io::BufRead;
 /// How the uploads ended, as lines that were written where the uploads were split.
 #[derive(Drop)]
 pub struct Ends {
+    /// Where memory is taken.
     alloc: Global,
     /// The lines, upload after upload.
     text: Vec<u8>,

@@ -10,6 +10,7 @@ use std::io::{BufRead, Write};
 /// The ledgers of parts, which are read as they are written.
 #[derive(Drop)]
 pub struct Ledgers<R: BufRead + Drop> {
+    /// Where memory is taken.
     alloc: Global,
     /// Each ledger behind its head line.
     sources: Vec<Source<R>>,

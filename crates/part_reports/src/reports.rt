@@ -16,6 +16,7 @@ use std::io::{BufRead, Write};
 /// as they are written.
 #[derive(Drop)]
 pub struct Reports<R: BufRead + Drop> {
+    /// Where memory is taken.
     alloc: Global,
     /// The sums of all totals.
     totals: Totals,

@@ -12,7 +12,8 @@ const MOST_TAPS: u128 = 1 << 95;
 
 /// Adds other totals. False where the sum is more than any run has, and then nothing was added.
 pub(crate) fn add(sum: &mut Totals, more: &Totals) -> bool
-    ensures added { result ≡ true → sums_of sum.new ≡ add_sums (sums_of sum.old) (sums_of more.now) }
+    ensures added { result ≡ true
+        → sums_of sum.new ≡ add_sums (sums_of sum.old) (sums_of more.now) }
     ensures kept { result ≡ false → sum.new ≡ sum.old }
 {
     match sum.taps.checked_add(more.taps) {

@@ -3,39 +3,12 @@ ghost use Rattle.std.specs.Prelude.{◌≡◌, ◌++◌, ◌∷◌, [], IfOk, On
 ghost use Rattle.std.specs.Prelude.{string_bytes};
 
 use fare_program::{Early, LoadFault, Source};
+pub use sample_table::SAMPLE;
 use std::alloc::{AllocError, Global};
 
 /// Two taps of one token: validator 1000 at 2024-03-08T17:00Z, validator 2000 two hours later.
 pub const FIRST: &str =
     "5441503100020000000000000000000000000000000000a1000003e80000018e1f01de80000000000000000000000000000000a1000007d00000018e1f6fbb80";
-
-/// The sample fare table.
-pub const SAMPLE: &str = "modes = [\"subway\", \"bus\"]
-transfers = [[\"subway\", \"bus\"], [\"bus\", \"subway\"], [\"bus\", \"bus\"]]
-default_class = \"full\"
-
-[classes.full]
-fare = 300
-rides = 12
-ceiling = 3500
-
-[classes.reduced]
-fare = 150
-rides = 12
-
-[[validators]]
-first = 1000
-last = 1999
-mode = \"subway\"
-
-[[validators]]
-first = 2000
-last = 2999
-mode = \"bus\"
-
-[riders]
-000000000000000000000000000000d4 = \"reduced\"
-";
 
 /// What a source has under a name.
 #[derive(Clone, Copy)]

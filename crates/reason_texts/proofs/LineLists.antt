@@ -1,5 +1,7 @@
 -- The lines of a token with one line more.
-use Rattle.std.proofs.Common.{◌≡◌, ℕ, ◌+◌, ◌<◌, List, [], ◌∷◌, ◌++◌, length, get_or, map, take, refl, sym, ap, subst, ◌∙◌, append_assoc, append-nil, add-one, length-take, arith}
+use Rattle.std.proofs.Common.{◌≡◌, ℕ, ◌+◌, ◌<◌, List, [], ◌∷◌, ◌++◌, length, get_or, map, take}
+use Rattle.std.proofs.Common.{refl, sym, ap, subst, ◌∙◌, append_assoc, append-nil, add-one}
+use Rattle.std.proofs.Common.{length-take, arith}
 use Rattle.std.proofs.lemmas.List.{map-append}
 use Rattle.std.proofs.Math.Seq.{take-suc}
 use Rattle.account_rule.specs.declared.tap.TapIn.{TapIn}
@@ -12,9 +14,11 @@ use Rattle.reason_texts.specs.Ledger.{AreLinesAfter, AreTokenLines, IsLedgerLine
 -- the line of an entry that follows these
 abbrev pub IsLineAfter : Fares → Token → List Entry → Entry → List ℕ → Type 0
 IsLineAfter fares token earlier entry line =
-    IsLedgerLine fares token (length earlier + 1) entry (reason_after fares token earlier entry) line
+    IsLedgerLine fares token (length earlier + 1) entry (reason_after fares token earlier entry)
+    line
 
-pub lines-push : (fares : Fares) (token : Token) (earlier entries : List Entry) (entry : Entry) (text line : List ℕ)
+pub lines-push : (fares : Fares) (token : Token) (earlier entries : List Entry) (entry : Entry)
+    (text line : List ℕ)
     → AreLinesAfter fares token earlier entries text
     → IsLineAfter fares token (earlier ++ entries) entry line
     → AreLinesAfter fares token earlier (entries ++ entry ∷ []) (text ++ line)
@@ -25,14 +29,16 @@ lines-push fares token earlier [] entry text line empty is = (
   refl,
   ap (λ t. t ++ line) empty ∙ sym (append-nil line),
 )
-lines-push fares token earlier (first ∷ entries) entry text line (start, rest, shown, are, whole) is = (
-  start,
-  rest ++ line,
-  shown,
-  lines-push fares token (earlier ++ first ∷ []) entries entry rest line are
-      (subst (λ (es : List Entry). IsLineAfter fares token es entry line) (sym (append_assoc earlier (first ∷ []) entries)) is),
-  ap (λ t. t ++ line) whole ∙ append_assoc start rest line,
-)
+lines-push fares token earlier (first ∷ entries) entry text line (start, rest, shown, are, whole)
+    is = (
+      start,
+      rest ++ line,
+      shown,
+      lines-push fares token (earlier ++ first ∷ []) entries entry rest line are
+          (subst (λ (es : List Entry). IsLineAfter fares token es entry line)
+          (sym (append_assoc earlier (first ∷ []) entries)) is),
+      ap (λ t. t ++ line) whole ∙ append_assoc start rest line,
+    )
 
 -- one more of the first entries
 pub taken : (entries : List Entry) (place : ℕ) (other : Entry) → place < length entries
@@ -41,7 +47,9 @@ taken entries place other within = rw (add-one) (take-suc entries place other wi
 
 pub more : {A : Type 0} (f : A → TapIn) (xs : List A) (place : ℕ) (other : A) → place < length xs
     → map f (take (place + 1) xs) ≡ map f (take place xs) ++ f (get_or xs place other) ∷ []
-more f xs place other within = rw (add-one, take-suc xs place other within) (map-append f (take place xs) (get_or xs place other ∷ []))
+more f xs place other within =
+    rw (add-one, take-suc xs place other within)
+    (map-append f (take place xs) (get_or xs place other ∷ []))
 
 -- the lines of the first entries, and the next one's
 pub next_lines : (fares : Fares) (token : Token) (entries : List Entry) (place : ℕ) (other : Entry)
@@ -53,8 +61,11 @@ pub next_lines : (fares : Fares) (token : Token) (entries : List Entry) (place :
 next_lines fares token entries place other within number same text line why is_why are is =
     let done = take place entries in
     let entry = get_or entries place other in
-    let count : number + 1 ≡ length done + 1 = omega (arith, same, length-take {A = Entry}, within) in
-    subst (λ (es : List Entry). AreTokenLines fares token es (text ++ line)) (sym (taken entries place other within))
+    let count : number + 1 ≡ length done + 1 =
+    omega (arith, same, length-take {A = Entry}, within) in
+    subst (λ (es : List Entry). AreTokenLines fares token es (text ++ line))
+    (sym (taken entries place other within))
     (lines-push fares token [] done entry text line are
-    (subst (λ (n : ℕ). IsLedgerLine fares token n entry (reason_after fares token done entry) line) count
+    (subst (λ (n : ℕ). IsLedgerLine fares token n entry (reason_after fares token done entry) line)
+    count
     (subst (λ (w : Reason). IsLedgerLine fares token (number + 1) entry w line) is_why is)))

@@ -20,12 +20,14 @@ HasModeOf fares (Ride start until charge) = Unit {0}
 unfoldable pub place_start : ℕ → List ℕ
 place_start place = codes " because it is ride " ++ (decimal (place + 1) ++ codes " of the window")
 
+-- the words of a charge before the window: ` because it is ride 3 of the window`
 unfoldable pub charge_start : Charge → List ℕ
 charge_start (Full place cents) = place_start place
 charge_start (CeilingCut place cents) = place_start place
 charge_start (CeilingReached place) = place_start place
 charge_start RideLimitReached = codes " because the ride limit of the window"
 
+-- the words of a charge behind the window: ` at full fare`
 abbrev pub charge_end : Charge → List ℕ
 charge_end (Full place cents) = codes " at full fare"
 charge_end (CeilingCut place cents) = codes " cut by the ceiling"
@@ -62,6 +64,7 @@ pub record IsRideText (start until : ℕ) (charge : Charge) (text : List ℕ) : 
   pub is : IsWindowText start until window
   pub shown : text ≡ charge_start charge ++ (window ++ charge_end charge)
 
+-- the text says the reason, by the names of the table
 abbrev pub IsWhy : Fares → Reason → List ℕ → Type 0
 IsWhy fares Unknown text = text ≡ codes " because the table has no such validator"
 IsWhy fares (Stale latest) text = IsStaleText latest text

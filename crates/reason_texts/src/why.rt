@@ -33,6 +33,7 @@ pub fn write_why(text: &mut String, table: &FareTable, reason: &Reason) -> Resul
     }
 }
 
+/// Appends ` because the subway ride of 2024-03-08T17:00:00.000Z gives it`.
 fn write_transfer(text: &mut String, mode: &str, moment: u64) -> Result<(), AllocError>
     ensures { OnOk result ((written : List ℕ) × IsTransferText mode.now moment written
         × (string_bytes text.new ≡ string_bytes text.old ++ written)) }
@@ -43,6 +44,7 @@ fn write_transfer(text: &mut String, mode: &str, moment: u64) -> Result<(), Allo
     Ok(())
 }
 
+/// Appends ` because the subway ride of `.
 #[tactic(auto, unfolding(crate::specs::Why::giver_start))]
 fn write_giver(text: &mut String, mode: &str) -> Result<(), AllocError>
     ensures { OnOk result (string_bytes text.new ≡ string_bytes text.old ++ giver_start mode.now) }
@@ -50,6 +52,7 @@ fn write_giver(text: &mut String, mode: &str) -> Result<(), AllocError>
     write!(text, " because the {mode} ride of ")
 }
 
+/// Appends ` because it is ride 3 of the window from .. until .. at full fare`.
 fn write_ride(text: &mut String, start: u64, until: u64, charge: Charge) -> Result<(), AllocError>
     ensures { OnOk result ((written : List ℕ) × IsRideText start until charge written
         × (string_bytes text.new ≡ string_bytes text.old ++ written)) }
@@ -60,6 +63,7 @@ fn write_ride(text: &mut String, start: u64, until: u64, charge: Charge) -> Resu
     Ok(())
 }
 
+/// Appends the words of a charge before its window.
 #[tactic(auto, unfolding(crate::specs::Why::charge_start))]
 fn write_start(text: &mut String, charge: Charge) -> Result<(), AllocError>
     ensures { OnOk result (string_bytes text.new ≡ string_bytes text.old ++ charge_start charge) }
@@ -72,6 +76,7 @@ fn write_start(text: &mut String, charge: Charge) -> Result<(), AllocError>
     }
 }
 
+/// Appends ` because it is ride 3 of the window`, for the place 2.
 #[tactic(auto, unfolding(crate::specs::Why::place_start))]
 fn write_place(text: &mut String, place: u32) -> Result<(), AllocError>
     ensures { OnOk result (string_bytes text.new ≡ string_bytes text.old ++ place_start place) }
@@ -80,6 +85,7 @@ fn write_place(text: &mut String, place: u32) -> Result<(), AllocError>
     write!(text, " because it is ride {ride} of the window")
 }
 
+/// Appends ` from 2024-03-08T17:00:00.000Z until 2024-03-15T17:00:00.000Z`.
 fn write_window(text: &mut String, start: u64, until: u64) -> Result<(), AllocError>
     ensures { OnOk result ((written : List ℕ) × IsWindowText start until written
         × (string_bytes text.new ≡ string_bytes text.old ++ written)) }
@@ -90,6 +96,7 @@ fn write_window(text: &mut String, start: u64, until: u64) -> Result<(), AllocEr
     write_moment(text, until)
 }
 
+/// The words of a charge behind its window.
 fn charge_end(charge: Charge) -> &'static str
     ensures { result.now ≡ charge_end charge }
 {

@@ -6,7 +6,7 @@ ghost use Rattle.fare_service.specs.Plain.{AreApart, IsPlain, IsReportOver, WasW
 ghost use Rattle.fare_service.specs.Printed.{report_of};
 ghost use Rattle.fare_service.specs.Shares.{IsShareOf};
 
-use crate::sample::{Open, TABLE, two_taps};
+use crate::sample::{Open, SAMPLE, two_taps};
 use fare_service::{Gate, Outcome, RunFault, Service, Share, laws};
 use fare_table::FareTable;
 use std::alloc::Global;
@@ -59,7 +59,7 @@ fn posted<R: Threads + Wait + RandomSource + Sync>(
     shards: u32,
     workers: u32,
 ) -> Result<Outcome, Fail> {
-    let table = FareTable::read(alloc, TABLE.as_bytes())?;
+    let table = FareTable::read(alloc, SAMPLE.as_bytes())?;
     let (service, share) = Service::open(rt, alloc, table, shards, uploads)?;
     Ok(run(service, uploads, rt, alloc, share, workers, &Open)?)
 }

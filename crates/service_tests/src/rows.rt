@@ -3,7 +3,7 @@
 ghost use Rattle.std.specs.Prelude.{All, IfOk};
 ghost use Rattle.fare_service.specs.Shares.{IsShareOf};
 
-use crate::sample::{Open, REPORT, TABLE, end_of, opened, run, two_taps, two_uploads, uploads_of};
+use crate::sample::{Open, REPORT, SAMPLE, end_of, opened, run, two_taps, two_uploads, uploads_of};
 use fare_service::{Gate, GatherFault, OpenFault, Outcome, RunFault, Service, Share, UploadEnd};
 use fare_table::FareTable;
 use shard_book::Totals;
@@ -276,7 +276,7 @@ fn opening_fault<R: RandomSource>(
     uploads: &[Vec<u8>],
     shards: u32,
 ) -> Result<Option<OpenFault>, Fail> {
-    let table = FareTable::read(alloc, TABLE.as_bytes())?;
+    let table = FareTable::read(alloc, SAMPLE.as_bytes())?;
     Ok(Service::open(rt, alloc, table, shards, uploads).err())
 }
 

@@ -5,6 +5,7 @@ ghost use Rattle.fare_service.specs.Shares.{IsShareOf};
 
 use fare_service::{Gate, Outcome, Service, Share, UploadEnd};
 use fare_table::FareTable;
+pub use sample_table::{BUS, REPORT, SAMPLE, START, SUBWAY, bytes_of};
 use std::alloc::Global;
 use std::marker::Sync;
 use std::random::RandomSource;
@@ -13,62 +14,9 @@ use std::test::Fail;
 use std::thread::Threads;
 use tap_views::{TapFields, encode};
 
-/// One class, two modes and their pairs.
-pub const TABLE: &str = r#"modes = ["subway", "bus"]
-transfers = [["subway", "bus"], ["bus", "subway"], ["bus", "bus"]]
-default_class = "full"
-
-[classes.full]
-fare = 300
-rides = 12
-ceiling = 3500
-
-[[validators]]
-first = 1000
-last = 1999
-mode = "subway"
-
-[[validators]]
-first = 2000
-last = 2999
-mode = "bus"
-"#;
-
-/// The report of the two uploads of `two_uploads`.
-pub const REPORT: &str = "uploads 2
-upload 0 posted 4
-upload 1 posted 2
-totals taps 6 paid 3 transfers 2 capped 0 stale 0 unknown 1 cents 900
-validators 3
-validator 9 taps 1 paid 0 transfers 0 capped 0 stale 0 unknown 1 cents 0
-validator 1000 taps 3 paid 2 transfers 1 capped 0 stale 0 unknown 0 cents 600
-validator 2000 taps 2 paid 1 transfers 1 capped 0 stale 0 unknown 0 cents 300
-tokens 2
-token 000000000000000000000000000000a1 taps 4 paid 2 transfers 2 capped 0 stale 0 unknown 0 cents 600
-token 000000000000000000000000000000b2 taps 2 paid 1 transfers 0 capped 0 stale 0 unknown 1 cents 300
-";
-
-/// When the taps' day begins: 2024-03-08T17:00:00.000Z.
-pub const START: u64 = 1_709_917_200_000;
-
-pub const SUBWAY: u32 = 1000;
-
-pub const BUS: u32 = 2000;
-
-/// The token whose last byte is the given one and whose other bytes are 0.
-pub fn bytes_of(last: u8) -> [u8; 16] {
-    let mut token = [0; 16];
-    token[15] = last;
-    token
-}
-
 /// A tap so many milliseconds after the start.
 pub fn tap(last: u8, validator: u32, after: u64) -> TapFields {
-    TapFields {
-        token: bytes_of(last),
-        validator,
-        moment: START.saturating_add(after),
-    }
+    sample_table::tap(last, validator, START.saturating_add(after))
 }
 
 /// Two uploads of one batch each.
@@ -127,7 +75,7 @@ pub fn opened<'a, R: RandomSource>(
 ) -> Result<(Service<'a>, Share), Fail>
     ensures { IfOk result (λ r. IsShareOf r.0 r.1) }
 {
-    let table = FareTable::read(alloc, TABLE.as_bytes())?;
+    let table = FareTable::read(alloc, SAMPLE.as_bytes())?;
     Ok(Service::open(rt, alloc, table, shards, uploads)?)
 }
 

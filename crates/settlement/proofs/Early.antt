@@ -8,7 +8,7 @@ use Rattle.tap_views.specs.Layout.{Tap, Layout, Tap1, Tap2, IsTapOf, num, moment
 use Rattle.tap_views.specs.declared.encoder.TapFields.{TapFields}
 use Rattle.tap_parts.specs.Parts.{part_of_token, of_part}
 use Rattle.fare_service.specs.Plain.{AreTapsOfEach}
-use Rattle.settlement.specs.Settled.{joined}
+use Rattle.tap_parts.specs.Parts.{joined}
 
 abbrev Early : Tap → Type 0
 Early tap = num tap.moment < moment_limit
@@ -17,25 +17,35 @@ tap_early : (layout : Layout) (tap : Tap) → IsTapOf layout tap → Early tap
 tap_early Tap1 tap is = is.early
 tap_early (Tap2 validator) tap is = is.0.early
 
-batch_early : (layout : Layout) (taps : List Tap) → AllByRecursion (IsTapOf layout) taps → All Early taps
+batch_early : (layout : Layout) (taps : List Tap) → AllByRecursion (IsTapOf layout) taps
+    → All Early taps
 batch_early layout [] all = All-nil Early
-batch_early layout (tap ∷ taps) all = All-cons Early tap taps (tap_early layout tap all.0) (batch_early layout taps all.1)
+batch_early layout (tap ∷ taps) all =
+    All-cons Early tap taps (tap_early layout tap all.0) (batch_early layout taps all.1)
 
-file_early : (file : List ℕ) (batches : List (List Tap)) (rest : List ℕ) → IsFile file batches rest → All Early (flat_map (λ batch. batch) batches)
+file_early : (file : List ℕ) (batches : List (List Tap)) (rest : List ℕ) → IsFile file batches rest
+    → All Early (flat_map (λ batch. batch) batches)
 file_early file [] rest is = All-nil Early
 file_early file (batch ∷ batches) rest is =
     let (front, back, one, spelt, more) = is in
-    All-append Early batch (flat_map (λ (b : List Tap). b) batches) (batch_early one.0 batch one.1.each) (file_early back batches rest more)
+    All-append Early batch (flat_map (λ (b : List Tap). b) batches)
+    (batch_early one.0 batch one.1.each) (file_early back batches rest more)
 
-uploads_early : (uploads : List (List ℕ)) (taps : List (List Tap)) → AreTapsOfEach uploads taps → All Early (joined taps)
+uploads_early : (uploads : List (List ℕ)) (taps : List (List Tap)) → AreTapsOfEach uploads taps
+    → All Early (joined taps)
 uploads_early [] [] each = All-nil Early
 uploads_early [] (t ∷ ts) each = absurd each
 uploads_early (u ∷ us) [] each = absurd each
 uploads_early (u ∷ us) (t ∷ ts) each =
-    All-append Early t (joined ts) (subst (λ taps. All Early taps) (sym each.0.all) (file_early u each.0.batches each.0.rest each.0.is_file)) (uploads_early us ts each.1)
+    All-append Early t (joined ts)
+    (subst (λ taps. All Early taps) (sym each.0.all)
+    (file_early u each.0.batches each.0.rest each.0.is_file)) (uploads_early us ts each.1)
 
-pub part_early : (part parts : ℕ) (uploads : List (List ℕ)) (taps : List (List Tap)) → AreTapsOfEach uploads taps
+pub part_early : (part parts : ℕ) (uploads : List (List ℕ)) (taps : List (List Tap))
+    → AreTapsOfEach uploads taps
     → AreEarly (λ (f : TapFields). f.moment) (map fields_of (of_part part parts (joined taps)))
 part_early part parts uploads taps each =
-    All-map (λ (f : TapFields). f.moment < moment_limit) fields_of (of_part part parts (joined taps))
-    (All-filter (λ (tap : Tap). part_of_token tap.token parts == part) Early (joined taps) (uploads_early uploads taps each))
+    All-map (λ (f : TapFields). f.moment < moment_limit) fields_of
+    (of_part part parts (joined taps))
+    (All-filter (λ (tap : Tap). part_of_token tap.token parts == part) Early (joined taps)
+    (uploads_early uploads taps each))

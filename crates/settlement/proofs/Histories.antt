@@ -1,5 +1,6 @@
 -- Files that read alike have the same plain history and the same ends.
-use Rattle.std.proofs.Common.{◌≡◌, ℕ, List, [], ◌∷◌, ◌++◌, length, map, flat_map, refl, ap, ◌∙◌, arith}
+use Rattle.std.proofs.Common.{◌≡◌, ℕ, List, [], ◌∷◌, ◌++◌, length, map, flat_map, refl, ap, ◌∙◌}
+use Rattle.std.proofs.Common.{arith}
 use Rattle.fare_table.specs.Fares.{Fares}
 use Rattle.tap_views.specs.Encoding.{fields_of}
 use Rattle.tap_views.specs.Layout.{Tap}
@@ -7,20 +8,30 @@ use Rattle.tap_views.specs.declared.encoder.TapFields.{TapFields}
 use Rattle.account_rule.specs.declared.reply.Answer.TheVariants.{Unknown}
 use Rattle.shard_book.specs.declared.entry.Entry.{Entry}
 use Rattle.tap_parts.specs.Parts.{IsFileOf}
-use Rattle.fare_service.specs.Plain.{AreTapsOf, HasOneCut, token_of, unanswered, answered, plain_after}
+use Rattle.fare_service.specs.Plain.{AreTapsOf, HasOneCut, token_of, unanswered, answered}
+use Rattle.fare_service.specs.Plain.{plain_after}
 
 -- a file's taps have the fields that it is read as
-pub read_fields : (file : List ℕ) (taps : List Tap) (list : List TapFields) → HasOneCut file → AreTapsOf file taps → IsFileOf file list → map fields_of taps ≡ list
+pub read_fields : (file : List ℕ) (taps : List Tap) (list : List TapFields) → HasOneCut file
+    → AreTapsOf file taps → IsFileOf file list → map fields_of taps ≡ list
 read_fields file taps list cut of reads =
     let same = cut of.batches reads.batches of.rest [] of.is_file reads.is_file in
     ap (map fields_of) (of.all ∙ ap (flat_map (λ (batch : List Tap). batch)) same.0) ∙ reads.read
 
 -- an entry with no reply, by the fields
 unfoldable pub entry_of : TapFields → Entry
-entry_of f = record { token = token_of f.token; validator = f.validator; moment = f.moment; answer = Unknown; cents = 0 }
+entry_of f = record {
+  token = token_of f.token;
+  validator = f.validator;
+  moment = f.moment;
+  answer = Unknown;
+  cents = 0;
+}
 
 -- plain histories of taps with the same fields
-pub same_after : (fares : Fares) (earlier : List Entry) (xs ys : List Tap) → map fields_of xs ≡ map fields_of ys → plain_after fares earlier xs ≡ plain_after fares earlier ys
+pub same_after : (fares : Fares) (earlier : List Entry) (xs ys : List Tap)
+    → map fields_of xs ≡ map fields_of ys
+    → plain_after fares earlier xs ≡ plain_after fares earlier ys
 unfolding plain_after entry_of
 same_after fares earlier [] [] e = refl
 same_after fares earlier [] (y ∷ ys) e = absurd (omega (arith, ap length e))
@@ -29,5 +40,7 @@ same_after fares earlier (x ∷ xs) (y ∷ ys) e =
     let head : fields_of x ≡ fields_of y = cc in
     let tail : map fields_of xs ≡ map fields_of ys = cc in
     let entry : unanswered x ≡ unanswered y = ap entry_of head in
-    ap (λ (n : Entry). answered fares earlier n ∷ plain_after fares (earlier ++ answered fares earlier n ∷ []) xs) entry
-    ∙ ap (λ es. answered fares earlier (unanswered y) ∷ es) (same_after fares (earlier ++ answered fares earlier (unanswered y) ∷ []) xs ys tail)
+    ap (λ (n : Entry). answered fares earlier n
+    ∷ plain_after fares (earlier ++ answered fares earlier n ∷ []) xs) entry
+    ∙ ap (λ es. answered fares earlier (unanswered y) ∷ es)
+    (same_after fares (earlier ++ answered fares earlier (unanswered y) ∷ []) xs ys tail)

@@ -11,27 +11,37 @@ use Rattle.fare_service.specs.Plain.{AreTapsOf, IsPlainEnd}
 use Rattle.fare_service.specs.declared.upload_end.UploadEnd.{UploadEnd}
 use Rattle.fare_service.proofs.PlainRuns.{AllZip-append}
 use Rattle.settlement.specs.inside.Dealt.{AreDealt, in_part}
-use Rattle.settlement.specs.Settled.{joined}
+use Rattle.tap_parts.specs.Parts.{joined}
 
 -- the taps of a part in two runs of uploads
 parts_joined : (part parts : ℕ) (one other : List (List Tap))
-    → map fields_of (of_part part parts (joined (one ++ other))) ≡ map fields_of (of_part part parts (joined one)) ++ map fields_of (of_part part parts (joined other))
+    → map fields_of (of_part part parts (joined (one ++ other)))
+    ≡ map fields_of (of_part part parts (joined one))
+    ++ map fields_of (of_part part parts (joined other))
 parts_joined part parts one other =
-    ap (λ taps. map fields_of (of_part part parts taps)) (flat_map-append (λ (upload : List Tap). upload) one other)
-    ∙ ap (map fields_of) (filter-append (λ (tap : Tap). part_of_token tap.token parts == part) (joined one) (joined other))
+    ap (λ taps. map fields_of (of_part part parts taps))
+    (flat_map-append (λ (upload : List Tap). upload) one other)
+    ∙ ap (map fields_of)
+    (filter-append (λ (tap : Tap). part_of_token tap.token parts == part) (joined one)
+    (joined other))
     ∙ map-append fields_of (of_part part parts (joined one)) (of_part part parts (joined other))
 
 -- a run of uploads, and then the next run
-pub both_dealt : (parts : ℕ) (one other : List (List ℕ)) (lists more : List (List (List TapFields))) (ends later : List UploadEnd)
-    → AreDealt parts one lists ends → AreDealt parts other more later → AreDealt parts (one ++ other) (lists ++ more) (ends ++ later)
+pub both_dealt : (parts : ℕ) (one other : List (List ℕ)) (lists more : List (List (List TapFields)))
+    (ends later : List UploadEnd)
+    → AreDealt parts one lists ends → AreDealt parts other more later
+    → AreDealt parts (one ++ other) (lists ++ more) (ends ++ later)
 both_dealt parts one other lists more ends later front back = record {
   taps = front.taps ++ back.taps;
-  of_uploads = AllZip-append AreTapsOf one front.taps other back.taps front.of_uploads back.of_uploads;
-  number = All-append (λ (list : List (List TapFields)). length list ≡ parts) lists more front.number back.number;
+  of_uploads = AllZip-append AreTapsOf one front.taps other back.taps front.of_uploads
+      back.of_uploads;
+  number = All-append (λ (list : List (List TapFields)). length list ≡ parts) lists more
+      front.number back.number;
   each = λ part within.
       flat_map-append (λ (list : List (List TapFields)). get_or list part []) lists more
       ∙ ap (λ taps. taps ++ in_part part more) (front.each part within)
-      ∙ ap (λ taps. map fields_of (of_part part parts (joined front.taps)) ++ taps) (back.each part within)
+      ∙ ap (λ taps. map fields_of (of_part part parts (joined front.taps)) ++ taps)
+      (back.each part within)
       ∙ sym (parts_joined part parts front.taps back.taps);
   ended = AllZip-append IsPlainEnd one ends other later front.ended back.ended;
 }

@@ -1,5 +1,6 @@
 -- Uploads with the same taps are settled as files that read alike.
-use Rattle.std.proofs.Common.{◌≡◌, ℕ, ◌+◌, ◌==◌, List, [], ◌∷◌, map, filter, flat_map, Bool, true, false, cond, refl, sym, ap, ◌∙◌, arith, All}
+use Rattle.std.proofs.Common.{◌≡◌, ℕ, ◌+◌, ◌==◌, List, [], ◌∷◌, map, filter, flat_map, Bool, true}
+use Rattle.std.proofs.Common.{false, cond, refl, sym, ap, ◌∙◌, arith, All}
 use Rattle.std.specs.List.{sum_by}
 use Rattle.std.proofs.lemmas.List.Elements.{All-head, All-tail}
 use Rattle.std.proofs.lemmas.List.Sums.{sum_by-cons}
@@ -9,38 +10,53 @@ use Rattle.tap_parts.specs.Parts.{part_of_token, of_part}
 use Rattle.fare_service.specs.Plain.{AreTapsOfEach, HasOneCut}
 
 -- ---- parts of lists
-pub sum_filter : {X : Type 0} (p : X → Bool) (f : X → ℕ) (xs : List X) → sum_by f (filter p xs) ≡ sum_by (λ x. cond (p x) (f x) 0) xs
+pub sum_filter : {X : Type 0} (p : X → Bool) (f : X → ℕ) (xs : List X)
+    → sum_by f (filter p xs) ≡ sum_by (λ x. cond (p x) (f x) 0) xs
 sum_filter p f [] = refl
 sum_filter {X} p f (x ∷ xs) = by_test (p x) refl (sum_filter p f xs)
   where
-    by_test : (b : Bool) → p x ≡ b → sum_by f (filter p xs) ≡ sum_by (λ y. cond (p y) (f y) 0) xs → sum_by f (filter p (x ∷ xs)) ≡ sum_by (λ y. cond (p y) (f y) 0) (x ∷ xs)
+    by_test : (b : Bool) → p x ≡ b → sum_by f (filter p xs) ≡ sum_by (λ y. cond (p y) (f y) 0) xs
+        → sum_by f (filter p (x ∷ xs)) ≡ sum_by (λ y. cond (p y) (f y) 0) (x ∷ xs)
     by_test b e rest =
         let here = ap (λ t. sum_by f (cond t (x ∷ filter p xs) (filter p xs))) e in
-        let there = sum_by-cons (λ (y : X). cond (p y) (f y) 0) x xs ∙ ap (λ t. cond t (f x) 0 + sum_by (λ y. cond (p y) (f y) 0) xs) e in
+        let there = sum_by-cons (λ (y : X). cond (p y) (f y) 0) x xs
+        ∙ ap (λ t. cond t (f x) 0 + sum_by (λ y. cond (p y) (f y) 0) xs) e in
         here ∙ chosen b ∙ ap (λ n. cond b (f x) 0 + n) rest ∙ sym there
       where
-        chosen : (b : Bool) → sum_by f (cond b (x ∷ filter p xs) (filter p xs)) ≡ cond b (f x) 0 + sum_by f (filter p xs)
+        chosen : (b : Bool) → sum_by f (cond b (x ∷ filter p xs) (filter p xs))
+            ≡ cond b (f x) 0 + sum_by f (filter p xs)
         chosen true = sum_by-cons f x (filter p xs)
         chosen false = omega arith
 
 -- a part, told by fields
-pub part_fields : (part parts : ℕ) (taps : List Tap) → map fields_of (of_part part parts taps) ≡ filter (λ f. part_of_token f.token parts == part) (map fields_of taps)
+pub part_fields : (part parts : ℕ) (taps : List Tap)
+    → map fields_of (of_part part parts taps)
+    ≡ filter (λ f. part_of_token f.token parts == part) (map fields_of taps)
 part_fields part parts [] = refl
-part_fields part parts (tap ∷ taps) = by_test (part_of_token tap.token parts == part) refl (part_fields part parts taps)
+part_fields part parts (tap ∷ taps) =
+    by_test (part_of_token tap.token parts == part) refl (part_fields part parts taps)
   where
-    by_test : (b : Bool) → (part_of_token tap.token parts == part) ≡ b → map fields_of (of_part part parts taps) ≡ filter (λ f. part_of_token f.token parts == part) (map fields_of taps)
-        → map fields_of (of_part part parts (tap ∷ taps)) ≡ filter (λ f. part_of_token f.token parts == part) (map fields_of (tap ∷ taps))
+    by_test : (b : Bool) → (part_of_token tap.token parts == part) ≡ b
+        → map fields_of (of_part part parts taps)
+        ≡ filter (λ f. part_of_token f.token parts == part) (map fields_of taps)
+        → map fields_of (of_part part parts (tap ∷ taps))
+        ≡ filter (λ f. part_of_token f.token parts == part) (map fields_of (tap ∷ taps))
     by_test true e rest = rw e (ap (λ fs. fields_of tap ∷ fs) rest)
     by_test false e rest = rw e rest
 
 -- ---- the files
-pub one_list : (files : List (List ℕ)) (taps others : List (List Tap)) → All HasOneCut files → AreTapsOfEach files taps → AreTapsOfEach files others → taps ≡ others
+pub one_list : (files : List (List ℕ)) (taps others : List (List Tap)) → All HasOneCut files
+    → AreTapsOfEach files taps → AreTapsOfEach files others → taps ≡ others
 one_list [] [] [] cuts each other = refl
 one_list [] [] (o ∷ others) cuts each other = absurd other
 one_list [] (t ∷ taps) others cuts each other = absurd each
 one_list (file ∷ files) [] others cuts each other = absurd each
 one_list (file ∷ files) (t ∷ taps) [] cuts each other = absurd other
 one_list (file ∷ files) (t ∷ taps) (o ∷ others) cuts each other =
-    let same = All-head HasOneCut file files cuts each.0.batches other.0.batches each.0.rest other.0.rest each.0.is_file other.0.is_file in
-    let here : t ≡ o = each.0.all ∙ ap (flat_map (λ (batch : List Tap). batch)) same.0 ∙ sym other.0.all in
-    ap (λ x. x ∷ taps) here ∙ ap (λ xs. o ∷ xs) (one_list files taps others (All-tail HasOneCut file files cuts) each.1 other.1)
+    let same = All-head HasOneCut file files cuts each.0.batches other.0.batches each.0.rest
+    other.0.rest each.0.is_file other.0.is_file in
+    let here : t ≡ o = each.0.all ∙ ap (flat_map (λ (batch : List Tap). batch)) same.0
+    ∙ sym other.0.all in
+    ap (λ x. x ∷ taps) here
+    ∙ ap (λ xs. o ∷ xs) (one_list files taps others (All-tail HasOneCut file files cuts) each.1
+    other.1)

@@ -14,13 +14,15 @@ use Rattle.shard_book.specs.Sums.{sums}
 use Rattle.shard_book.specs.Token.{bytes_of}
 use Rattle.shard_book.specs.Visits.{AreEntriesOf}
 use Rattle.shard_book.specs.declared.entry.Entry.{Entry}
-use Rattle.fare_service.specs.Plain.{HasOneCut, AreTapsOfEach, IsPlain, IsReportOver, plain, plain_after, answered, unanswered}
+use Rattle.fare_service.specs.Plain.{HasOneCut, AreTapsOfEach, IsPlain, IsReportOver, plain}
+use Rattle.fare_service.specs.Plain.{plain_after, answered, unanswered}
 use Rattle.fare_service.specs.Text.{report, validators_part, tokens_part}
 use Rattle.fare_texts.specs.Counts.{totals_line}
 use Rattle.fare_service.proofs.PlainReplies.{bare, plain_bare, plain_legal}
 use Rattle.settlement.specs.Alike.{DifferInUploads, HaveSameTaps}
-use Rattle.settlement.specs.Canonical.{tap_cmp}
-use Rattle.settlement.specs.Settled.{joined, IsSettledHistory}
+use Rattle.tap_parts.specs.Canonical.{tap_cmp}
+use Rattle.settlement.specs.Settled.{IsSettledHistory}
+use Rattle.tap_parts.specs.Parts.{joined}
 use Rattle.settlement.specs.Twins.{HasTwin, IsInTimeOrder}
 use Rattle.settlement.proofs.Histories.{same_after}
 use Rattle.settlement.proofs.Own.{IsNamedBy}
@@ -29,28 +31,40 @@ use Rattle.settlement.proofs.Same.{one_list}
 use Rattle.settlement.proofs.Sorting.{canonical_order}
 use Rattle.settlement.proofs.Stale.{before_rises, fields, has_twin, same_fields}
 use Rattle.settlement.proofs.Told.{fields_named}
-use Rattle.settlement.proofs.Total.{tap_cmp_total, tap_cmp_exact}
+use Rattle.tap_parts.proofs.Total.{tap_cmp_total, tap_cmp_exact}
 use Rattle.settlement.proofs.Unique.{same_sorted}
 
-pub same_history : (fares : Fares) (uploads others : List (List ℕ)) (history again : List Entry) → All HasOneCut uploads → All HasOneCut others → HaveSameTaps uploads others
+pub same_history : (fares : Fares) (uploads others : List (List ℕ)) (history again : List Entry)
+    → All HasOneCut uploads → All HasOneCut others → HaveSameTaps uploads others
     → IsSettledHistory fares uploads history → IsSettledHistory fares others again → history ≡ again
 same_history fares uploads others history again cuts other_cuts same one other =
     let here = one_list uploads same.taps one.taps cuts same.of_uploads one.of_uploads in
-    let there = one_list others same.other_taps other.taps other_cuts same.of_others other.of_uploads in
-    let P : List (List Tap) → Type 0 = λ ts. IsPermutation (map fields_of (joined ts)) (map fields_of (joined same.other_taps)) in
-    let Q : List (List Tap) → Type 0 = λ ts. IsPermutation (map fields_of (joined one.taps)) (map fields_of (joined ts)) in
-    let moved : IsPermutation (map fields_of (joined one.taps)) (map fields_of (joined other.taps)) = subst Q there (subst P here same.moved) in
-    let list = same_sorted tap_cmp tap_cmp_total tap_cmp_exact (map fields_of one.order) (map fields_of other.order) one.canonical.sorted other.canonical.sorted
-    (λ f. sum_by-IsPermutation f (map fields_of (joined one.taps)) (map fields_of one.order) one.canonical.moved
-    ∙ sym (sum_by-IsPermutation f (map fields_of (joined one.taps)) (map fields_of (joined other.taps)) moved)
-    ∙ sym (sum_by-IsPermutation f (map fields_of (joined other.taps)) (map fields_of other.order) other.canonical.moved)) in
+    let there = one_list others same.other_taps other.taps other_cuts same.of_others
+    other.of_uploads in
+    let P : List (List Tap) → Type 0 =
+    λ ts. IsPermutation (map fields_of (joined ts)) (map fields_of (joined same.other_taps)) in
+    let Q : List (List Tap) → Type 0 =
+    λ ts. IsPermutation (map fields_of (joined one.taps)) (map fields_of (joined ts)) in
+    let moved : IsPermutation (map fields_of (joined one.taps))
+    (map fields_of (joined other.taps)) = subst Q there (subst P here same.moved) in
+    let list = same_sorted tap_cmp tap_cmp_total tap_cmp_exact (map fields_of one.order)
+    (map fields_of other.order) one.canonical.sorted other.canonical.sorted
+    (λ f. sum_by-IsPermutation f (map fields_of (joined one.taps)) (map fields_of one.order)
+    one.canonical.moved
+    ∙ sym (sum_by-IsPermutation f (map fields_of (joined one.taps))
+    (map fields_of (joined other.taps)) moved)
+    ∙ sym (sum_by-IsPermutation f (map fields_of (joined other.taps)) (map fields_of other.order)
+    other.canonical.moved)) in
     one.entries ∙ same_after fares [] one.order other.order list ∙ sym other.entries
 
 rest_of : List Entry → List ℕ
-rest_of es = totals_line (sums es) ++ (validators_part (sums_by_validator es) ++ tokens_part (sums_by_token es))
+rest_of es = totals_line (sums es)
+    ++ (validators_part (sums_by_validator es) ++ tokens_part (sums_by_token es))
 
-pub same_reports : (uploads others : List (List ℕ)) (history again : List Entry) (text other : List ℕ) → history ≡ again
-    → IsReportOver uploads history text → IsReportOver others again other → DifferInUploads uploads others text other
+pub same_reports : (uploads others : List (List ℕ)) (history again : List Entry)
+    (text other : List ℕ) → history ≡ again
+    → IsReportOver uploads history text → IsReportOver others again other
+    → DifferInUploads uploads others text other
 unfolding rest_of
 same_reports uploads others history again text other same one two = record {
   ends = one.ends;
@@ -58,49 +72,81 @@ same_reports uploads others history again text other same one two = record {
   of_uploads = one.of_uploads;
   of_others = two.of_uploads;
   rest = rest_of again;
-  text_is = one.shown ∙ ap (λ es. report one.ends (sums es) (sums_by_validator es) (sums_by_token es)) same;
+  text_is = one.shown ∙ ap (λ es.
+      report one.ends (sums es) (sums_by_validator es) (sums_by_token es)) same;
   other_is = two.shown;
 }
 
-pub some_history : (fares : Fares) (uploads : List (List ℕ)) (taps : List (List Tap)) → AreTapsOfEach uploads taps → (history : List Entry) × IsSettledHistory fares uploads history
+pub some_history : (fares : Fares) (uploads : List (List ℕ)) (taps : List (List Tap))
+    → AreTapsOfEach uploads taps → (history : List Entry) × IsSettledHistory fares uploads history
 some_history fares uploads taps each =
-    let (order, canonical) = canonical_order (joined taps) in
-    (plain fares order, record { taps = taps; of_uploads = each; order = order; canonical = canonical; entries = refl })
+    let (order, canonical) = canonical_order (joined taps) in (
+      plain fares order,
+      record {
+        taps = taps;
+        of_uploads = each;
+        order = order;
+        canonical = canonical;
+        entries = refl;
+      },
+    )
 
-pub legal_history : (fares : Fares) (uploads : List (List ℕ)) (history : List Entry) → IsSettledHistory fares uploads history → IsLegal fares history
+pub legal_history : (fares : Fares) (uploads : List (List ℕ)) (history : List Entry)
+    → IsSettledHistory fares uploads history → IsLegal fares history
 legal_history fares uploads history is =
     let L : List Entry → Type 0 = λ es. IsLegal fares es in
     subst L (sym is.entries) (plain_legal fares is.order)
 
 -- the entries of named taps have the fields of the taps
-zip_after : (fares : Fares) (earlier : List Entry) (taps : List Tap) → All IsNamedBy (map fields_of taps) → AreEntriesOf taps (plain_after fares earlier taps)
+zip_after : (fares : Fares) (earlier : List Entry) (taps : List Tap)
+    → All IsNamedBy (map fields_of taps) → AreEntriesOf taps (plain_after fares earlier taps)
 unfolding plain_after answered
 zip_after fares earlier [] names = tt
 zip_after fares earlier (tap ∷ taps) names = (
-  record { token = All-head IsNamedBy (fields_of tap) (map fields_of taps) names; validator = refl; moment = refl },
-  zip_after fares (earlier ++ answered fares earlier (unanswered tap) ∷ []) taps (All-tail IsNamedBy (fields_of tap) (map fields_of taps) names),
+  record {
+    token = All-head IsNamedBy (fields_of tap) (map fields_of taps) names;
+    validator = refl;
+    moment = refl;
+  },
+  zip_after fares (earlier ++ answered fares earlier (unanswered tap) ∷ []) taps
+      (All-tail IsNamedBy (fields_of tap) (map fields_of taps) names),
 )
 
-module _ (fares : Fares) (uploads : List (List ℕ)) (cuts : All HasOneCut uploads) (later : List Entry) (p : IsPlain fares uploads later) (zip : AreEntriesOf (joined p.taps) later) where
+module _ (fares : Fares) (uploads : List (List ℕ)) (cuts : All HasOneCut uploads)
+    (later : List Entry) (p : IsPlain fares uploads later)
+    (zip : AreEntriesOf (joined p.taps) later) where
   -- the settled history has the fields of the taps in their order
-  in_order : (history : List Entry) (is : IsSettledHistory fares uploads history) → AreEntriesOf is.order history
+  in_order : (history : List Entry) (is : IsSettledHistory fares uploads history)
+      → AreEntriesOf is.order history
   in_order history is =
       let same = one_list uploads p.taps is.taps cuts p.each is.of_uploads in
       let N : List (List Tap) → Type 0 = λ ts. All IsNamedBy (map fields_of (joined ts)) in
-      let names = subst N same (fields_named (joined p.taps) later zip (ap (map bare) p.entries ∙ plain_bare fares [] (joined p.taps))) in
-      let moved = All-permutation IsNamedBy (map fields_of (joined is.taps)) (map fields_of is.order) is.canonical.moved names in
+      let names = subst N same (fields_named (joined p.taps) later zip (ap (map bare) p.entries
+      ∙ plain_bare fares [] (joined p.taps))) in
+      let moved = All-permutation IsNamedBy (map fields_of (joined is.taps))
+      (map fields_of is.order) is.canonical.moved names in
       let E : List Entry → Type 0 = λ es. AreEntriesOf is.order es in
       subst E (sym is.entries) (zip_after fares [] is.order moved)
 
-  pub time_order : (history : List Entry) → IsSettledHistory fares uploads history → IsInTimeOrder history
+  pub time_order : (history : List Entry) → IsSettledHistory fares uploads history
+      → IsInTimeOrder history
   time_order history is = λ before entry after whole other there same.
       let E : List Entry → Type 0 = λ es. AreEntriesOf is.order es in
       let zipped = subst E whole (in_order history is) in
       let R : List TapFields → Type 0 = λ fs. Pairs Rises fs in
-      let all = before_rises before entry after (subst R (same_fields is.order (before ++ entry ∷ after) zipped) (all_rising (map fields_of is.order) is.canonical.sorted)) in
+      let all = before_rises before entry after
+      (subst R (same_fields is.order (before ++ entry ∷ after) zipped)
+      (all_rising (map fields_of is.order) is.canonical.sorted)) in
       let tokens = ap bytes_of same in
-      no_earlier (fields other) (fields entry) (All-contains (λ (e : Entry). Rises (fields e) (fields entry)) before other all there tokens) tokens
+      no_earlier (fields other) (fields entry)
+      (All-contains (λ (e : Entry). Rises (fields e) (fields entry)) before other all there
+      tokens) tokens
 
-  pub stale : (before : List Entry) (entry : Entry) (after : List Entry) → IsSettledHistory fares uploads (before ++ entry ∷ after) → entry.answer ≡ Stale → HasTwin fares before entry
+  pub stale : (before : List Entry) (entry : Entry) (after : List Entry)
+      → IsSettledHistory fares uploads (before ++ entry ∷ after) → entry.answer ≡ Stale
+      → HasTwin fares before entry
   stale before entry after is answer =
-      has_twin fares is.order before entry after (all_rising (map fields_of is.order) is.canonical.sorted) (in_order (before ++ entry ∷ after) is) (legal_history fares uploads (before ++ entry ∷ after) is) answer
+      has_twin fares is.order before entry after
+      (all_rising (map fields_of is.order) is.canonical.sorted)
+      (in_order (before ++ entry ∷ after) is)
+      (legal_history fares uploads (before ++ entry ∷ after) is) answer

@@ -6,7 +6,7 @@ use Rattle.tap_views.specs.Layout.{Tap}
 use Rattle.fare_service.specs.Plain.{AreTapsOfEach, ArePlainEnds}
 use Rattle.fare_service.specs.Text.{uploads_part}
 use Rattle.fare_service.specs.declared.upload_end.UploadEnd.{UploadEnd}
-use Rattle.settlement.specs.Settled.{joined}
+use Rattle.tap_parts.specs.Parts.{joined}
 
 -- the posted taps of the uploads are those of the others, in some order
 pub record HaveSameTaps (uploads others : List (List ℕ)) : Type 0 where

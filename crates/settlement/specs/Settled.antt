@@ -1,18 +1,14 @@
 -- What uploads are settled as: the files of the parts, and the one history.
-use Rattle.std.specs.Prelude.{◌≡◌, ℕ, ◌≤◌, List, length, map, flat_map, Some, slice_get}
+use Rattle.std.specs.Prelude.{◌≡◌, ℕ, ◌≤◌, List, length, map, Some, slice_get}
 use Rattle.tap_views.specs.Encoding.{fields_of}
 use Rattle.tap_views.specs.Layout.{Tap}
 use Rattle.tap_views.specs.declared.encoder.TapFields.{TapFields}
 use Rattle.fare_table.specs.Fares.{Fares}
 use Rattle.shard_book.specs.declared.entry.Entry.{Entry}
-use Rattle.tap_parts.specs.Parts.{of_part, IsFileOf}
+use Rattle.tap_parts.specs.Parts.{of_part, IsFileOf, joined}
 use Rattle.fare_service.specs.Plain.{AreTapsOfEach, ArePlainEnds, plain}
 use Rattle.fare_service.specs.declared.upload_end.UploadEnd.{UploadEnd}
-use Rattle.settlement.specs.Canonical.{IsCanonical}
-
--- the taps of all uploads, one upload after the other
-abbrev pub joined : List (List Tap) → List Tap
-joined taps = flat_map (λ upload. upload) taps
+use Rattle.tap_parts.specs.Canonical.{IsCanonical}
 
 -- The settled history of uploads under a table: all posted taps of the uploads, in canonical order,
 -- each with the reply of the account rule for the earlier taps of its token.

@@ -9,10 +9,7 @@ use std::marker::Sync;
 use std::thread;
 use std::thread::Threads;
 use tap_parts::Parts;
-use tap_views::batches;
-
-/// The fewest bytes that a tap has in an upload.
-const LEAST_BYTES_A_TAP: usize = 24;
+use tap_views::{TAP2_TAP_BYTES, batches};
 
 /// What a run of uploads was dealt as.
 #[derive(Drop)]
@@ -25,10 +22,10 @@ pub(crate) struct Dealt {
 }
 
 /// The number of bytes.
-// proof: an upload has fewer than 2^64 bytes, so that its taps can be counted
 fn size(upload: &[u8]) -> u64
     ensures { result ≡ length upload.now }
 {
+    // proof: an upload has fewer than 2^64 bytes, so that its taps can be counted
     upload.len() as u64
 }
 
@@ -101,7 +98,7 @@ fn deal(alloc: Global, uploads: Vec<Vec<u8>>, parts: u32) -> Result<Dealt, Alloc
     ensures { IfOk result (λ dealt. AreDealt parts (map (λ upload. upload.items) uploads.items)
         dealt.lists.items dealt.ends.items) }
 {
-    let share = bytes_of(&uploads) / LEAST_BYTES_A_TAP / parts as usize;
+    let share = bytes_of(&uploads) / TAP2_TAP_BYTES / parts as usize;
     let mut list = Parts::with_room(alloc, parts, share + share / 2)?;
     let ends = add_all(alloc, &mut list, uploads)?;
     let mut lists = Vec::new(alloc);

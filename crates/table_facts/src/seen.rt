@@ -62,7 +62,7 @@ impl Seen {
     }
 
     /// Whether one lies from the one number to the other.
-    pub fn has_between(&self, first: u32, last: u32) -> bool
+    pub(crate) fn has_between(&self, first: u32, last: u32) -> bool
         ensures { result ≡ list_any (is_from_to first last) self.now }
     {
         is_any_between(&self.numbers, first, last)

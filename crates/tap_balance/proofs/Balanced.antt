@@ -1,5 +1,6 @@
 -- What a balance is after one tap more, and what it tells.
-use Rattle.std.proofs.Common.{◌≡◌, ℕ, ◌+◌, ◌<◌, Bool, true, false, List, [], ◌∷◌, ◌++◌, cond, Option, Some, None, is_some, refl, sym, ap, subst, ◌∙◌, arith}
+use Rattle.std.proofs.Common.{◌≡◌, ℕ, ◌+◌, ◌<◌, Bool, true, false, List, [], ◌∷◌, ◌++◌, cond}
+use Rattle.std.proofs.Common.{Option, Some, None, is_some, refl, sym, ap, subst, ◌∙◌, arith}
 use Rattle.std.specs.Prelude.{IfSome, MatchOption}
 use Rattle.std.specs.BTreeMap.{BTreeMap}
 use Rattle.std.specs.Option.{unwrap_or}
@@ -14,14 +15,17 @@ use Rattle.tap_balance.proofs.Times.{one, one_self, permutation_of_times, times_
 -- IsBalance, of a balance's two fields
 abbrev pub Balances : BTreeMap Key ℕ → Option TapFields → List TapFields → List TapFields → Type 0
 Balances left surplus posted struck =
-    MatchOption surplus ((tap : TapFields) → times tap posted ≡ left_at left (key_of tap) + times tap struck)
+    MatchOption surplus ((tap : TapFields)
+    → times tap posted ≡ left_at left (key_of tap) + times tap struck)
     (λ tap. times tap posted < times tap struck)
 
 -- in the one map one more is left of the tap than in the other
 abbrev pub HasOneMore : BTreeMap Key ℕ → BTreeMap Key ℕ → Key → Type 0
-HasOneMore more less key = (other : Key) → left_at more other ≡ left_at less other + cond (is_eq (key_cmp key other)) 1 0
+HasOneMore more less key =
+    (other : Key) → left_at more other ≡ left_at less other + cond (is_eq (key_cmp key other)) 1 0
 
-pub added : (old new : BTreeMap Key ℕ) (surplus : Option TapFields) (posted : List TapFields) (tap : TapFields) → HasOneMore new old (key_of tap)
+pub added : (old new : BTreeMap Key ℕ) (surplus : Option TapFields) (posted : List TapFields)
+    (tap : TapFields) → HasOneMore new old (key_of tap)
     → Balances old surplus posted [] → Balances new surplus (posted ++ tap ∷ []) []
 added old new None posted tap more is = λ t.
     let push = times_push t posted tap in
@@ -30,7 +34,8 @@ added old new None posted tap more is = λ t.
     omega (arith, push, here, before)
 added old new (Some s) posted tap more is = absurd (omega (arith, is))
 
-pub struck_out : (old new : BTreeMap Key ℕ) (posted struck : List TapFields) (tap : TapFields) → HasOneMore old new (key_of tap)
+pub struck_out : (old new : BTreeMap Key ℕ) (posted struck : List TapFields) (tap : TapFields)
+    → HasOneMore old new (key_of tap)
     → Balances old None posted struck → Balances new None posted (struck ++ tap ∷ [])
 struck_out old new posted struck tap more is = λ t.
     let push = times_push t struck tap in
@@ -38,7 +43,8 @@ struck_out old new posted struck tap more is = λ t.
     let before = is t in
     omega (arith, push, here, before)
 
-pub none_left : (left : BTreeMap Key ℕ) (posted struck : List TapFields) (tap : TapFields) → left_at left (key_of tap) ≡ 0
+pub none_left : (left : BTreeMap Key ℕ) (posted struck : List TapFields) (tap : TapFields)
+    → left_at left (key_of tap) ≡ 0
     → Balances left None posted struck → times tap posted < times tap (struck ++ tap ∷ [])
 none_left left posted struck tap none is =
     let push = times_push tap struck tap in
@@ -52,54 +58,79 @@ still_more left new posted struck tap s is =
     let push = times_push s struck tap in
     omega (arith, push, is)
 
-pub all_struck : (left : BTreeMap Key ℕ) (posted struck : List TapFields) → ((key : Key) → left_at left key ≡ 0)
+pub all_struck : (left : BTreeMap Key ℕ) (posted struck : List TapFields)
+    → ((key : Key) → left_at left key ≡ 0)
     → Balances left None posted struck → IsPermutation posted struck
-all_struck left posted struck none is = permutation_of_times posted struck (λ t. let here = none (key_of t) in let before = is t in omega (arith, here, before))
+all_struck left posted struck none is =
+    permutation_of_times posted struck (λ t.
+    let here = none (key_of t) in let before = is t in omega (arith, here, before))
 
-pub some_left : (left : BTreeMap Key ℕ) (posted struck : List TapFields) (tap : TapFields) (key : Key) → key_of tap ≡ key → 0 < left_at left key
+pub some_left : (left : BTreeMap Key ℕ) (posted struck : List TapFields) (tap : TapFields)
+    (key : Key) → key_of tap ≡ key → 0 < left_at left key
     → Balances left None posted struck → times tap struck < times tap posted
 some_left left posted struck tap key same some is =
     let here = subst (λ (k : Key). 0 < left_at left k) (sym same) some in
     let before = is tap in
     omega (arith, here, before)
 
-pub unfound : (left : BTreeMap Key ℕ) (surplus : Option TapFields) (posted struck : List TapFields) → is_some surplus ≡ false
+pub unfound : (left : BTreeMap Key ℕ) (surplus : Option TapFields) (posted struck : List TapFields)
+    → is_some surplus ≡ false
     → Balances left surplus posted struck → Balances left None posted struck
 unfound left None posted struck none is = is
 unfound left (Some s) posted struck none is = absurd cc
 
 -- a number was put at the key, or raised by one
-pub one_more : (new old : Key → Option ℕ) (key : Key) (count more : ℕ) → ((q : Key) → new q ≡ cond (is_eq (key_cmp key q)) (Some more) (old q))
+pub one_more : (new old : Key → Option ℕ) (key : Key) (count more : ℕ)
+    → ((q : Key) → new q ≡ cond (is_eq (key_cmp key q)) (Some more) (old q))
     → unwrap_or (old key) 0 ≡ count → more ≡ count + 1
-    → (other : Key) → unwrap_or (new other) 0 ≡ unwrap_or (old other) 0 + cond (is_eq (key_cmp key other)) 1 0
+    → (other : Key) → unwrap_or (new other) 0
+    ≡ unwrap_or (old other) 0 + cond (is_eq (key_cmp key other)) 1 0
 one_more new old key count more up was is other = by_test (is_eq (key_cmp key other)) refl
   where
-    by_test : (b : Bool) → is_eq (key_cmp key other) ≡ b → unwrap_or (new other) 0 ≡ unwrap_or (old other) 0 + cond (is_eq (key_cmp key other)) 1 0
+    by_test : (b : Bool) → is_eq (key_cmp key other) ≡ b
+        → unwrap_or (new other) 0 ≡ unwrap_or (old other) 0 + cond (is_eq (key_cmp key other)) 1 0
     by_test true e =
-        let now : unwrap_or (new other) 0 ≡ more = ap (λ (o : Option ℕ). unwrap_or o 0) (up other ∙ ap (λ (b : Bool). cond b (Some more) (old other)) e) in
-        let before : unwrap_or (old other) 0 ≡ count = ap (λ (k : Key). unwrap_or (old k) 0) (sym (key_exact key other e)) ∙ was in
-        let step : ◌≡◌ {A = ℕ} (cond (is_eq (key_cmp key other)) 1 0) 1 = ap (λ (b : Bool). cond b 1 0) e in
+        let now : unwrap_or (new other) 0 ≡ more =
+        ap (λ (o : Option ℕ). unwrap_or o 0) (up other
+        ∙ ap (λ (b : Bool). cond b (Some more) (old other)) e) in
+        let before : unwrap_or (old other) 0 ≡ count =
+        ap (λ (k : Key). unwrap_or (old k) 0) (sym (key_exact key other e)) ∙ was in
+        let step : ◌≡◌ {A = ℕ} (cond (is_eq (key_cmp key other)) 1 0) 1 =
+        ap (λ (b : Bool). cond b 1 0) e in
         omega (arith, now, before, step, is)
     by_test false e =
-        let now : unwrap_or (new other) 0 ≡ unwrap_or (old other) 0 = ap (λ (o : Option ℕ). unwrap_or o 0) (up other ∙ ap (λ (b : Bool). cond b (Some more) (old other)) e) in
-        let step : ◌≡◌ {A = ℕ} (cond (is_eq (key_cmp key other)) 1 0) 0 = ap (λ (b : Bool). cond b 1 0) e in
+        let now : unwrap_or (new other) 0 ≡ unwrap_or (old other) 0 =
+        ap (λ (o : Option ℕ). unwrap_or o 0) (up other
+        ∙ ap (λ (b : Bool). cond b (Some more) (old other)) e) in
+        let step : ◌≡◌ {A = ℕ} (cond (is_eq (key_cmp key other)) 1 0) 0 =
+        ap (λ (b : Bool). cond b 1 0) e in
         omega (arith, now, step)
 
 -- the number at the key was lowered by one
-pub one_fewer : (new old : Key → Option ℕ) (key : Key) (count less : ℕ) → ((q : Key) → new q ≡ cond (is_eq (key_cmp key q)) (Some less) (old q))
+pub one_fewer : (new old : Key → Option ℕ) (key : Key) (count less : ℕ)
+    → ((q : Key) → new q ≡ cond (is_eq (key_cmp key q)) (Some less) (old q))
     → unwrap_or (old key) 0 ≡ count → count ≡ less + 1
-    → (other : Key) → unwrap_or (old other) 0 ≡ unwrap_or (new other) 0 + cond (is_eq (key_cmp key other)) 1 0
+    → (other : Key) → unwrap_or (old other) 0
+    ≡ unwrap_or (new other) 0 + cond (is_eq (key_cmp key other)) 1 0
 one_fewer new old key count less up was is other = by_test (is_eq (key_cmp key other)) refl
   where
-    by_test : (b : Bool) → is_eq (key_cmp key other) ≡ b → unwrap_or (old other) 0 ≡ unwrap_or (new other) 0 + cond (is_eq (key_cmp key other)) 1 0
+    by_test : (b : Bool) → is_eq (key_cmp key other) ≡ b
+        → unwrap_or (old other) 0 ≡ unwrap_or (new other) 0 + cond (is_eq (key_cmp key other)) 1 0
     by_test true e =
-        let now : unwrap_or (new other) 0 ≡ less = ap (λ (o : Option ℕ). unwrap_or o 0) (up other ∙ ap (λ (b : Bool). cond b (Some less) (old other)) e) in
-        let before : unwrap_or (old other) 0 ≡ count = ap (λ (k : Key). unwrap_or (old k) 0) (sym (key_exact key other e)) ∙ was in
-        let step : ◌≡◌ {A = ℕ} (cond (is_eq (key_cmp key other)) 1 0) 1 = ap (λ (b : Bool). cond b 1 0) e in
+        let now : unwrap_or (new other) 0 ≡ less =
+        ap (λ (o : Option ℕ). unwrap_or o 0) (up other
+        ∙ ap (λ (b : Bool). cond b (Some less) (old other)) e) in
+        let before : unwrap_or (old other) 0 ≡ count =
+        ap (λ (k : Key). unwrap_or (old k) 0) (sym (key_exact key other e)) ∙ was in
+        let step : ◌≡◌ {A = ℕ} (cond (is_eq (key_cmp key other)) 1 0) 1 =
+        ap (λ (b : Bool). cond b 1 0) e in
         omega (arith, now, before, step, is)
     by_test false e =
-        let now : unwrap_or (new other) 0 ≡ unwrap_or (old other) 0 = ap (λ (o : Option ℕ). unwrap_or o 0) (up other ∙ ap (λ (b : Bool). cond b (Some less) (old other)) e) in
-        let step : ◌≡◌ {A = ℕ} (cond (is_eq (key_cmp key other)) 1 0) 0 = ap (λ (b : Bool). cond b 1 0) e in
+        let now : unwrap_or (new other) 0 ≡ unwrap_or (old other) 0 =
+        ap (λ (o : Option ℕ). unwrap_or o 0) (up other
+        ∙ ap (λ (b : Bool). cond b (Some less) (old other)) e) in
+        let step : ◌≡◌ {A = ℕ} (cond (is_eq (key_cmp key other)) 1 0) 0 =
+        ap (λ (b : Bool). cond b 1 0) e in
         omega (arith, now, step)
 
 pub zero_or_none : (found : Option ℕ) → IfSome found (λ n. n ≡ 0) → unwrap_or found 0 ≡ 0

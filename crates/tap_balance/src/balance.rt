@@ -11,7 +11,7 @@ ghost use Rattle.tap_balance.specs.declared.balance.Key.{Key};
 
 use std::alloc::{AllocError, Global};
 use std::collections::BTreeMap;
-use tap_views::{Batch, TapFields, TapView, batches};
+use tap_views::{Batch, TapFields, batches};
 
 /// A tap, in the order in which a balance keeps taps: by token, then by moment, then by validator.
 #[derive(Clone, Copy, PartialEq, Eq, PartialOrd, Ord)]
@@ -39,19 +39,6 @@ impl Difference {
         match self {
             Difference::Missing(tap) | Difference::Surplus(tap) => tap,
         }
-    }
-}
-
-/// The fields of a tap.
-fn fields(tap: &TapView<'_>) -> TapFields
-    ensures { result ≡ fields_of tap.now }
-{
-    let mut token = [0; 16];
-    token.copy_from_slice(tap.token());
-    TapFields {
-        token,
-        validator: tap.validator_number(),
-        moment: tap.moment_ms(),
     }
 }
 
@@ -160,7 +147,7 @@ impl Balance {
             → IsBalance self.new (posted ++ map fields_of batch.now) []) }
     {
         for tap in batch.taps() {
-            self.add(&fields(&tap))?;
+            self.add(&TapFields::of(&tap))?;
         }
         Ok(())
     }

@@ -1,3 +1,3 @@
-pub mod Batches
 pub mod Adding
 pub mod Texts
+pub mod Total

@@ -1,5 +1,6 @@
 -- Files that grow by a batch.
-use Rattle.std.proofs.Common.{◌≡◌, ◌≢◌, ℕ, List, [], ◌∷◌, ◌++◌, map, flat_map, refl, sym, ap, ◌∙◌, append-nil, append_assoc, length, arith}
+use Rattle.std.proofs.Common.{◌≡◌, ◌≢◌, ℕ, List, [], ◌∷◌, ◌++◌, map, flat_map, refl, sym, ap, ◌∙◌}
+use Rattle.std.proofs.Common.{append-nil, append_assoc, length, arith}
 use Rattle.std.proofs.lemmas.List.{map-append}
 use Rattle.std.proofs.lemmas.List.Concat.{flat_map-append}
 use Rattle.tap_views.specs.Encoding.{fields_of, Encodes}
@@ -8,16 +9,26 @@ use Rattle.tap_views.specs.Layout.{Tap, Layout, Tap1, Tap2, magic, IsBatch}
 use Rattle.tap_views.specs.declared.encoder.TapFields.{TapFields}
 use Rattle.tap_parts.specs.Parts.{IsFileOf}
 
-file_more : (text more : List ℕ) (batches : List (List Tap)) (taps : List Tap) → IsFile text batches [] → IsBatch more taps → IsFile (text ++ more) (batches ++ taps ∷ []) []
-file_more text more [] taps file batch = (more, [], batch, ap (λ t. t ++ more) file.0 ∙ sym (append-nil more), (refl, file.1))
+file_more : (text more : List ℕ) (batches : List (List Tap)) (taps : List Tap)
+    → IsFile text batches [] → IsBatch more taps → IsFile (text ++ more) (batches ++ taps ∷ []) []
+file_more text more [] taps file batch =
+    (more, [], batch, ap (λ t. t ++ more) file.0 ∙ sym (append-nil more), (refl, file.1))
 file_more text more (first ∷ batches) taps file batch =
-    let (front, back, is, spelt, rest) = file in
-    (front, back ++ more, is, ap (λ t. t ++ more) spelt ∙ append_assoc front back more, file_more back more batches taps rest batch)
+    let (front, back, is, spelt, rest) = file in (
+      front,
+      back ++ more,
+      is,
+      ap (λ t. t ++ more) spelt ∙ append_assoc front back more,
+      file_more back more batches taps rest batch,
+    )
 
 -- a batch has bytes
-not_empty : (front rest : List ℕ) (layout : Layout) (tail : List ℕ) → front ≡ magic layout ++ tail → [] ≢ front ++ rest
-not_empty front rest Tap1 tail spelt e = let s = ap (λ t. t ++ rest) spelt in absurd (omega (arith, ap length (e ∙ s)))
-not_empty front rest (Tap2 validator) tail spelt e = let s = ap (λ t. t ++ rest) spelt in absurd (omega (arith, ap length (e ∙ s)))
+not_empty : (front rest : List ℕ) (layout : Layout) (tail : List ℕ) → front ≡ magic layout ++ tail
+    → [] ≢ front ++ rest
+not_empty front rest Tap1 tail spelt e = let s = ap (λ t. t ++ rest) spelt in
+    absurd (omega (arith, ap length (e ∙ s)))
+not_empty front rest (Tap2 validator) tail spelt e = let s = ap (λ t. t ++ rest) spelt in
+    absurd (omega (arith, ap length (e ∙ s)))
 
 no_batch : HasNoBatch []
 no_batch front rest taps batch e = not_empty front rest batch.0 _ batch.1.spelt e
@@ -27,13 +38,16 @@ pub no_text : IsFileOf [] []
 no_text = record { batches = []; is_file = (refl, no_batch); read = refl }
 
 -- a batch more
-pub more_text : (text more : List ℕ) (fields new : List TapFields) → IsFileOf text fields → Encodes more new → IsFileOf (text ++ more) (fields ++ new)
+pub more_text : (text more : List ℕ) (fields new : List TapFields) → IsFileOf text fields
+    → Encodes more new → IsFileOf (text ++ more) (fields ++ new)
 more_text text more fields new file encoded =
     let id : List Tap → List Tap = λ batch. batch in
     record {
       batches = file.batches ++ encoded.taps ∷ [];
       is_file = file_more text more file.batches encoded.taps file.is_file (Tap1, encoded.batch);
-      read = ap (map fields_of) (flat_map-append id file.batches (encoded.taps ∷ []) ∙ ap (λ taps. flat_map id file.batches ++ taps) (append-nil encoded.taps))
+      read = ap (map fields_of) (flat_map-append id file.batches (encoded.taps ∷ [])
+          ∙ ap (λ taps. flat_map id file.batches ++ taps) (append-nil encoded.taps))
           ∙ map-append fields_of (flat_map id file.batches) encoded.taps
-          ∙ ap (λ xs. xs ++ map fields_of encoded.taps) file.read ∙ ap (λ xs. fields ++ xs) encoded.read;
+          ∙ ap (λ xs. xs ++ map fields_of encoded.taps) file.read
+          ∙ ap (λ xs. fields ++ xs) encoded.read;
     }

@@ -1,19 +1,23 @@
 -- Bytes begin with a batch or have a fault, and not two faults.
-use Rattle.std.proofs.Common.{◌≡◌, ◌⊎◌, ℕ, zero, suc, ◌*◌, ◌<◌, ◌≤◌, Bool, true, false, List, ◌++◌, length, take, drop, codes, refl, sym, ap, ◌∙◌, inl, inr, arith}
+use Rattle.std.proofs.Common.{◌≡◌, ◌⊎◌, ℕ, zero, suc, ◌*◌, ◌<◌, ◌≤◌, Bool, true, false, List, ◌++◌}
+use Rattle.std.proofs.Common.{length, take, drop, codes, refl, sym, ap, ◌∙◌, inl, inr, arith}
 use Rattle.std.proofs.lemmas.Bool.{cases_lt}
 use Rattle.std.proofs.lemmas.Slice.Eq.{bytes_eq-Decides}
 use Rattle.std.specs.Bool.{Decides}
 use Rattle.std.specs.Str.{bytes_eq}
 use Rattle.tap_views.specs.Layout.{moment_limit, Tap, IsBatch}
-use Rattle.tap_views.specs.Faults.{header, width, layout_in, count_in, flags_in, size_in, moment_in, Row, place, IsFault}
+use Rattle.tap_views.specs.Faults.{header, width, layout_in, count_in, flags_in, size_in, moment_in}
+use Rattle.tap_views.specs.Faults.{Row, place, IsFault}
 use Rattle.tap_views.specs.inside.Faults.{AllEarly, IsMeasured}
 use Rattle.tap_views.specs.declared.fault.LayoutFault.{LayoutFault}
-use Rattle.tap_views.specs.declared.fault.LayoutFault.TheVariants.{Short, Magic, Flags, TooMany, Length, Moment}
+use Rattle.tap_views.specs.declared.fault.LayoutFault.TheVariants.{Short, Magic, Flags, TooMany}
+use Rattle.tap_views.specs.declared.fault.LayoutFault.TheVariants.{Length, Moment}
 use Rattle.tap_views.specs.inside.Records.{taps_in}
 use Rattle.tap_views.proofs.Grammar.{found}
 
 -- ---- one fault
-same_place : (bytes : List ℕ) (f g : LayoutFault) → place f ≡ place g → Row f bytes → Row g bytes → f ≡ g
+same_place : (bytes : List ℕ) (f g : LayoutFault) → place f ≡ place g → Row f bytes → Row g bytes
+    → f ≡ g
 same_place bytes (Short a) (Short b) same r s = ap Short (r.0 ∙ sym s.0)
 same_place bytes Magic Magic same r s = refl
 same_place bytes Flags Flags same r s = refl
@@ -38,15 +42,21 @@ same_fault bytes f g one other =
 module _ (bytes : List ℕ) where
   -- no row before a place holds, if what those rows ask does not
   pub rows_before : (p : ℕ) → p ≤ 6 → (1 < p → header (layout_in bytes) ≤ length bytes)
-      → (2 < p → (take 4 bytes ≡ codes "TAP1") ⊎ (take 4 bytes ≡ codes "TAP2")) → (3 < p → flags_in bytes ≡ 0)
+      → (2 < p → (take 4 bytes ≡ codes "TAP1") ⊎ (take 4 bytes ≡ codes "TAP2"))
+      → (3 < p → flags_in bytes ≡ 0)
       → (4 < p → count_in bytes ≤ 4096) → (5 < p → size_in bytes ≤ length bytes)
       → (other : LayoutFault) → place other < p → ¬ (Row other bytes)
-  rows_before p last whole known plain few long (Short have) before row = omega (arith, whole before, row.1)
-  rows_before p last whole known plain few long Magic before row = elim (known before) [ inl is ↦ row.0 is | inr is ↦ row.1 is ]
+  rows_before p last whole known plain few long (Short have) before row =
+      omega (arith, whole before, row.1)
+  rows_before p last whole known plain few long Magic before row =
+      elim (known before) [ inl is ↦ row.0 is | inr is ↦ row.1 is ]
   rows_before p last whole known plain few long Flags before row = row (plain before)
-  rows_before p last whole known plain few long (TooMany count) before row = omega (arith, few before, row.0, row.1)
-  rows_before p last whole known plain few long (Length want have) before row = omega (arith, long before, row.0, row.1, row.2)
-  rows_before p last whole known plain few long (Moment index) before row = omega (arith, last, before)
+  rows_before p last whole known plain few long (TooMany count) before row =
+      omega (arith, few before, row.0, row.1)
+  rows_before p last whole known plain few long (Length want have) before row =
+      omega (arith, long before, row.0, row.1, row.2)
+  rows_before p last whole known plain few long (Moment index) before row =
+      omega (arith, last, before)
 
   abbrev Late : ℕ → Type 0
   Late n = (index : ℕ) × (index < n) × (moment_limit ≤ moment_in bytes index) × AllEarly bytes index
@@ -75,84 +85,118 @@ same_or_not xs ys = go (bytes_eq xs ys) (bytes_eq-Decides xs ys)
 
 -- what bytes are found to be
 abbrev pub Found : List ℕ → Type 0
-Found bytes = ((front : List ℕ) × (taps : List Tap) × (rest : List ℕ) × IsBatch front taps × (bytes ≡ front ++ rest)) ⊎ ((fault : LayoutFault) × IsFault bytes fault)
+Found bytes = ((front : List ℕ) × (taps : List Tap) × (rest : List ℕ) × IsBatch front taps
+    × (bytes ≡ front ++ rest)) ⊎ ((fault : LayoutFault) × IsFault bytes fault)
 
 module _ (bytes : List ℕ) where
   abbrev IsKnown : Type 0
   IsKnown = (take 4 bytes ≡ codes "TAP1") ⊎ (take 4 bytes ≡ codes "TAP2")
 
   measured : IsMeasured bytes (count_in bytes) → Found bytes
-  measured is = let (front, batch, whole) = found bytes (count_in bytes) is in inl (front, taps_in (layout_in bytes) (count_in bytes) (drop (header (layout_in bytes)) bytes), drop (width (layout_in bytes) * count_in bytes) (drop (header (layout_in bytes)) bytes), (layout_in bytes, batch), whole)
+  measured is = let (front, batch, whole) = found bytes (count_in bytes) is in
+      inl (
+        front,
+        taps_in (layout_in bytes) (count_in bytes)
+            (drop (header (layout_in bytes)) bytes),
+        drop (width (layout_in bytes) * count_in bytes)
+            (drop (header (layout_in bytes)) bytes),
+        (layout_in bytes, batch),
+        whole,
+      )
 
-  from_moments : header (layout_in bytes) ≤ length bytes → IsKnown → flags_in bytes ≡ 0 → count_in bytes ≤ 4096 → size_in bytes ≤ length bytes
+  from_moments : header (layout_in bytes) ≤ length bytes → IsKnown → flags_in bytes ≡ 0
+      → count_in bytes ≤ 4096 → size_in bytes ≤ length bytes
       → Late bytes (count_in bytes) ⊎ AllEarly bytes (count_in bytes) → Found bytes
   from_moments whole known plain few long (inl late) = inr (
     Moment late.0,
     record {
       holds = (late.1, late.2, late.3);
-      first = rows_before bytes 6 (omega arith) (λ _. whole) (λ _. known) (λ _. plain) (λ _. few) (λ _. long);
+      first = rows_before bytes 6 (omega arith) (λ _. whole) (λ _. known) (λ _. plain) (λ _.
+          few) (λ _. long);
     },
   )
   from_moments whole known plain few long (inr early) =
-      measured (record { sound = record { whole = whole; known = known; plain = plain; count = refl; most = few }; whole = long; early = early })
+      measured (record {
+        sound = record { whole = whole; known = known; plain = plain; count = refl; most = few };
+        whole = long;
+        early = early;
+      })
 
-  from_length : header (layout_in bytes) ≤ length bytes → IsKnown → flags_in bytes ≡ 0 → count_in bytes ≤ 4096
+  from_length : header (layout_in bytes) ≤ length bytes → IsKnown → flags_in bytes ≡ 0
+      → count_in bytes ≤ 4096
       → (length bytes < size_in bytes) ⊎ (size_in bytes ≤ length bytes) → Found bytes
   from_length whole known plain few (inl cut_off) = inr (
     Length (size_in bytes) (length bytes),
     record {
       holds = (refl, refl, cut_off);
-      first = rows_before bytes 5 (omega arith) (λ _. whole) (λ _. known) (λ _. plain) (λ _. few) (λ no. absurd (omega (arith, no)));
+      first = rows_before bytes 5 (omega arith) (λ _. whole) (λ _. known) (λ _. plain) (λ _.
+          few) (λ no. absurd (omega (arith, no)));
     },
   )
-  from_length whole known plain few (inr long) = from_moments whole known plain few long (late_or_early bytes (count_in bytes))
+  from_length whole known plain few (inr long) =
+      from_moments whole known plain few long (late_or_early bytes (count_in bytes))
 
-  from_count : header (layout_in bytes) ≤ length bytes → IsKnown → flags_in bytes ≡ 0 → (4096 < count_in bytes) ⊎ (count_in bytes ≤ 4096) → Found bytes
+  from_count : header (layout_in bytes) ≤ length bytes → IsKnown → flags_in bytes ≡ 0
+      → (4096 < count_in bytes) ⊎ (count_in bytes ≤ 4096) → Found bytes
   from_count whole known plain (inl many) = inr (
     TooMany (count_in bytes),
     record {
       holds = (refl, many);
-      first = rows_before bytes 4 (omega arith) (λ _. whole) (λ _. known) (λ _. plain) (λ no. absurd (omega (arith, no))) (λ no. absurd (omega (arith, no)));
+      first = rows_before bytes 4 (omega arith) (λ _. whole) (λ _. known) (λ _. plain) (λ no.
+          absurd (omega (arith, no))) (λ no. absurd (omega (arith, no)));
     },
   )
-  from_count whole known plain (inr few) = from_length whole known plain few (cases_lt (length bytes) (size_in bytes))
+  from_count whole known plain (inr few) =
+      from_length whole known plain few (cases_lt (length bytes) (size_in bytes))
 
-  from_flags : header (layout_in bytes) ≤ length bytes → IsKnown → (0 < flags_in bytes) ⊎ (flags_in bytes ≤ 0) → Found bytes
+  from_flags : header (layout_in bytes) ≤ length bytes → IsKnown → (0 < flags_in bytes)
+      ⊎ (flags_in bytes ≤ 0) → Found bytes
   from_flags whole known (inl flags) = inr (
     Flags,
     record {
       holds = λ none. omega (arith, none, flags);
-      first = rows_before bytes 3 (omega arith) (λ _. whole) (λ _. known) (λ no. absurd (omega (arith, no))) (λ no. absurd (omega (arith, no))) (λ no. absurd (omega (arith, no)));
+      first = rows_before bytes 3 (omega arith) (λ _. whole) (λ _. known) (λ no.
+          absurd (omega (arith, no))) (λ no. absurd (omega (arith, no))) (λ no.
+          absurd (omega (arith, no)));
     },
   )
-  from_flags whole known (inr none) = from_count whole known (omega (arith, none)) (cases_lt 4096 (count_in bytes))
+  from_flags whole known (inr none) =
+      from_count whole known (omega (arith, none)) (cases_lt 4096 (count_in bytes))
 
-  from_magic : header (layout_in bytes) ≤ length bytes → IsKnown ⊎ (¬ (take 4 bytes ≡ codes "TAP1") × ¬ (take 4 bytes ≡ codes "TAP2")) → Found bytes
+  from_magic : header (layout_in bytes) ≤ length bytes → IsKnown
+      ⊎ (¬ (take 4 bytes ≡ codes "TAP1") × ¬ (take 4 bytes ≡ codes "TAP2")) → Found bytes
   from_magic whole (inl known) = from_flags whole known (cases_lt 0 (flags_in bytes))
   from_magic whole (inr unknown) = inr (
     Magic,
     record {
       holds = unknown;
-      first = rows_before bytes 2 (omega arith) (λ _. whole) (λ no. absurd (omega (arith, no))) (λ no. absurd (omega (arith, no))) (λ no. absurd (omega (arith, no))) (λ no. absurd (omega (arith, no)));
+      first = rows_before bytes 2 (omega arith) (λ _. whole) (λ no. absurd (omega (arith, no)))
+          (λ no. absurd (omega (arith, no))) (λ no. absurd (omega (arith, no))) (λ no.
+          absurd (omega (arith, no)));
     },
   )
 
-  known_or_not : (take 4 bytes ≡ codes "TAP1") ⊎ (¬ (take 4 bytes ≡ codes "TAP1")) → (take 4 bytes ≡ codes "TAP2") ⊎ (¬ (take 4 bytes ≡ codes "TAP2"))
+  known_or_not : (take 4 bytes ≡ codes "TAP1") ⊎ (¬ (take 4 bytes ≡ codes "TAP1"))
+      → (take 4 bytes ≡ codes "TAP2") ⊎ (¬ (take 4 bytes ≡ codes "TAP2"))
       → IsKnown ⊎ (¬ (take 4 bytes ≡ codes "TAP1") × ¬ (take 4 bytes ≡ codes "TAP2"))
   known_or_not (inl one) other = inl (inl one)
   known_or_not (inr not_one) (inl two) = inl (inr two)
   known_or_not (inr not_one) (inr not_two) = inr (not_one, not_two)
 
-  from_header : (length bytes < header (layout_in bytes)) ⊎ (header (layout_in bytes) ≤ length bytes) → Found bytes
+  from_header : (length bytes < header (layout_in bytes))
+      ⊎ (header (layout_in bytes) ≤ length bytes) → Found bytes
   from_header (inl short) = inr (
     Short (length bytes),
     record {
       holds = (refl, short);
-      first = rows_before bytes 1 (omega arith) (λ no. absurd (omega (arith, no))) (λ no. absurd (omega (arith, no))) (λ no. absurd (omega (arith, no))) (λ no. absurd (omega (arith, no))) (λ no. absurd (omega (arith, no)));
+      first = rows_before bytes 1 (omega arith) (λ no. absurd (omega (arith, no))) (λ no.
+          absurd (omega (arith, no))) (λ no. absurd (omega (arith, no))) (λ no.
+          absurd (omega (arith, no))) (λ no. absurd (omega (arith, no)));
     },
   )
   from_header (inr whole) =
-      from_magic whole (known_or_not (same_or_not (take 4 bytes) (codes "TAP1")) (same_or_not (take 4 bytes) (codes "TAP2")))
+      from_magic whole (known_or_not (same_or_not (take 4 bytes) (codes "TAP1"))
+      (same_or_not (take 4 bytes) (codes "TAP2")))
 
 -- bytes begin with a batch, or a row of the table is the first that holds
 pub decided : (bytes : List ℕ) → Found bytes

@@ -12,6 +12,7 @@ use Rattle.tap_views.specs.declared.encoder.EncodeFault.TheVariants.{TooMany, Mo
 abbrev pub fields_of : Tap → TapFields
 fields_of tap = record { token = tap.token; validator = num tap.validator; moment = num tap.moment }
 
+-- the fields that a reader of a tap gets beside the validator of the whole batch
 abbrev pub fields_2_of : Tap → Tap2Fields
 fields_2_of tap = record { token = tap.token; moment = num tap.moment }
 
@@ -65,6 +66,7 @@ written fields =
       moment = big_bytes 8 fields.moment;
     }
 
+-- the tap that is written for these fields with the validator of its whole batch
 abbrev pub written_2 : ℕ → Tap2Fields → Tap
 written_2 validator fields =
     record {
@@ -78,5 +80,6 @@ pub record IsFields (fields : TapFields) : Type 0 where
   pub token : length fields.token ≡ 16
   pub validator : fields.validator < 2 ^ 32
 
+-- what the type of the fields says: a token has 16 bytes
 abbrev pub IsFields2 : Tap2Fields → Type 0
 IsFields2 fields = length fields.token ≡ 16

@@ -8,11 +8,12 @@ use Rattle.tap_views.specs.declared.fault.LayoutFault.{LayoutFault}
 use Rattle.tap_views.specs.declared.fault.LayoutFault.TheVariants.{Short, Magic, Flags, TooMany}
 use Rattle.tap_views.specs.declared.fault.LayoutFault.TheVariants.{Length, Moment}
 
--- bytes of the header, and of one tap
+-- the bytes of the header
 abbrev pub header : Layout → ℕ
 header Tap1 = 8
 header (Tap2 validator) = 12
 
+-- the bytes of one tap
 abbrev pub width : Layout → ℕ
 width Tap1 = 28
 width (Tap2 validator) = 24
@@ -22,9 +23,11 @@ abbrev pub layout_in : List ℕ → Layout
 layout_in bytes =
     if starts_with nat_eq bytes (codes "TAP2") then Tap2 (take 4 (drop 8 bytes)) else Tap1
 
+-- the count of the header: bytes 4 and 5
 abbrev pub count_in : List ℕ → ℕ
 count_in bytes = num (take 2 (drop 4 bytes))
 
+-- the flags of the header: bytes 6 and 7
 abbrev pub flags_in : List ℕ → ℕ
 flags_in bytes = num (take 2 (drop 6 bytes))
 

@@ -31,6 +31,7 @@ pub data Layout : Type 0 where
   Tap1 : Layout
   Tap2 : (validator : List ℕ) → Layout
 
+-- the four bytes that a batch in the layout begins with
 abbrev pub magic : Layout → List ℕ
 magic Tap1 = codes "TAP1"
 magic (Tap2 validator) = codes "TAP2"

@@ -16,6 +16,7 @@ pub record ShardRun : Type 0 where
   pub shard : ℕ
   pub shards : ℕ
 
+-- the taps of a run
 abbrev pub run_taps : ShardRun → List Tap
 run_taps run = run_of run.shard run.shards run.batch
 

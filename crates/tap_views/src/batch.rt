@@ -11,27 +11,24 @@ ghost use Rattle.tap_views.specs.Faults.{IsFault};
 ghost use Rattle.tap_views.specs.inside.Faults.{IsHeader, IsMeasured, AllEarly};
 
 use crate::fault::LayoutFault;
+use crate::layout::{
+    FIRST_MOMENT_OFFSET, MAX_TAPS, MOMENT_LIMIT_MS, has_magic, header_in, shared_in, width_in,
+    width_of,
+};
 use crate::run::Run;
-use crate::taps::{Taps, width_of};
+use crate::taps::Taps;
 use crate::view::TapView;
 use byteorder::{BigEndian, ByteOrder};
 use std::marker::Model;
 
-const TAP1: [u8; 4] = *b"TAP1";
-
-const TAP2: [u8; 4] = *b"TAP2";
-
-/// The most taps of one batch.
-pub(crate) const MOST: u64 = 4_096;
-
-/// 2100-01-01T00:00Z in milliseconds since 1970-01-01T00:00Z: every moment is below it.
-pub(crate) const LIMIT: u64 = 4_102_444_800_000;
-
 /// A batch of 0 to 4,096 taps, lent from an upload. It copies nothing.
 #[derive(Drop)]
 pub struct Batch<'a> {
+    /// The validator that all taps share, if the layout has one.
     shared: Option<&'a [u8]>,
+    /// The bytes of the taps.
     records: &'a [u8],
+    /// The number of taps.
     count: u32,
 }
 
@@ -44,7 +41,8 @@ impl<'a> Model for Batch<'a> {
 
     ghost view = { λ batch. taps_in (layout_of batch.shared) batch.count batch.records.now };
 
-    ghost invariant = { λ batch. AreRecords (layout_of batch.shared) batch.count batch.records.now };
+    ghost invariant = { λ batch.
+        AreRecords (layout_of batch.shared) batch.count batch.records.now };
 }
 
 impl<'a> Batch<'a> {
@@ -66,7 +64,7 @@ impl<'a> Batch<'a> {
     {
         let count = measured(bytes)?;
         let shared = shared_in(bytes);
-        let (records, rest) = bytes[header_of(bytes)..].split_at(width_of(shared) * count as usize);
+        let (records, rest) = bytes[header_in(bytes)..].split_at(width_of(shared) * count as usize);
         Ok((
             Batch {
                 shared,
@@ -142,56 +140,30 @@ impl<'a> Batch<'a> {
     }
 }
 
-// The bytes of the header that these bytes ask for.
-fn header_of(bytes: &[u8]) -> usize
-    ensures { result ≡ header (layout_in bytes.now) }
-{
-    if bytes.starts_with(&TAP2) { 12 } else { 8 }
-}
-
-// The validator that all taps of these bytes share, if their layout has one.
-fn shared_in(bytes: &[u8]) -> Option<&[u8]>
-    requires { header (layout_in bytes.now) ≤ length bytes.now }
-    ensures { layout_of result ≡ layout_in bytes.now }
-{
-    if bytes.starts_with(&TAP2) {
-        Some(&bytes[8..12])
-    } else {
-        None
-    }
-}
-
-// The bytes of one tap that these bytes ask for.
-fn width_in(bytes: &[u8]) -> usize
-    ensures { result ≡ width (layout_in bytes.now) }
-{
-    if bytes.starts_with(&TAP2) { 24 } else { 28 }
-}
-
-// The count of a sound header.
+/// The count of a sound header.
 fn count_of(bytes: &[u8]) -> Result<u32, LayoutFault>
     ensures count { IfOk result (λ count. IsHeader bytes.now count) }
     ensures fault { IfErr result (IsFault bytes.now) }
 {
-    if bytes.len() < header_of(bytes) {
+    if bytes.len() < header_in(bytes) {
         return Err(LayoutFault::Short {
             have: bytes.len() as u64,
         });
     }
-    if !bytes.starts_with(&TAP1) && !bytes.starts_with(&TAP2) {
+    if !has_magic(bytes) {
         return Err(LayoutFault::Magic);
     }
     if BigEndian::read_u16(&bytes[6..8]) != 0 {
         return Err(LayoutFault::Flags);
     }
     let count = BigEndian::read_u16(&bytes[4..6]) as u64;
-    if count > MOST {
+    if count > MAX_TAPS as u64 {
         return Err(LayoutFault::TooMany { count });
     }
     Ok(count as u32)
 }
 
-// The first of the batch's taps with a moment past the limit.
+/// The first of the batch's taps with a moment past the limit.
 fn first_late(bytes: &[u8], count: u32) -> Option<u32>
     requires { header (layout_in bytes.now) + width (layout_in bytes.now) * count
         ≤ length bytes.now }
@@ -200,21 +172,21 @@ fn first_late(bytes: &[u8], count: u32) -> Option<u32>
 {
     let width = width_in(bytes);
     for i in 0..count {
-        let at = 28 + width * i as usize;
-        if BigEndian::read_u64(&bytes[at..at + 8]) >= LIMIT {
+        let at = FIRST_MOMENT_OFFSET + width * i as usize;
+        if BigEndian::read_u64(&bytes[at..at + 8]) >= MOMENT_LIMIT_MS {
             return Some(i);
         }
     }
     None
 }
 
-// The count of the batch that the bytes begin with.
+/// The count of the batch that the bytes begin with.
 fn measured(bytes: &[u8]) -> Result<u32, LayoutFault>
     ensures count { IfOk result (λ count. IsMeasured bytes.now count) }
     ensures fault { IfErr result (IsFault bytes.now) }
 {
     let count = count_of(bytes)?;
-    let want = header_of(bytes) + width_in(bytes) * count as usize;
+    let want = header_in(bytes) + width_in(bytes) * count as usize;
     if bytes.len() < want {
         return Err(LayoutFault::Length {
             want: want as u64,

@@ -5,14 +5,16 @@ ghost use Rattle.std.specs.Prelude.{IfOk};
 ghost use Rattle.tap_views.specs.Cut.{IsCut};
 
 use crate::batch::Batch;
+use crate::layout::MAX_TAPS;
 use crate::run::Run;
 use crate::shard::shard_of;
 use std::alloc::{AllocError, Global};
 use std::marker::Model;
 
-// The places of one shard's taps.
+/// The places of one shard's taps, with room for those of any batch.
 #[derive(Drop)]
 pub(crate) struct Places {
+    /// The places, rising.
     list: Vec<u16>,
 }
 
@@ -27,21 +29,23 @@ impl Model for Places {
 }
 
 impl Places {
-    // No places, and room for those of any batch.
+    /// No places, and room for those of any batch.
     fn new(alloc: Global) -> Result<Self, AllocError>
         ensures { IfOk result (λ places. places ≡ []) }
     {
         Ok(Places {
-            list: Vec::with_capacity(alloc, 4096)?,
+            list: Vec::with_capacity(alloc, MAX_TAPS)?,
         })
     }
 
+    /// Leaves no place.
     fn clear(&mut self)
         ensures { self.new ≡ [] }
     {
         self.list.clear();
     }
 
+    /// Adds a place behind the others. It takes no memory.
     fn push(&mut self, place: u16)
         requires { length self.old < 4096 }
         ensures { self.new ≡ self.old ++ place ∷ [] }
@@ -49,6 +53,7 @@ impl Places {
         self.list.push_reserved(place);
     }
 
+    /// The places.
     fn as_slice(&self) -> &[u16]
         ensures { result.now ≡ self.now }
     {
@@ -56,7 +61,7 @@ impl Places {
     }
 }
 
-// Empties all lists.
+/// Empties all lists.
 fn clear_all(lists: &mut [Places])
     ensures empty { (shard : ℕ) → shard < length lists.new
         → slice_index_or lists.new shard [] ≡ [] }
@@ -67,7 +72,7 @@ fn clear_all(lists: &mut [Places])
     }
 }
 
-// Puts the place of each tap into the list of its shard.
+/// Puts the place of each tap into the list of its shard.
 fn sort_in(lists: &mut [Places], batch: &Batch<'_>)
     requires least { 1 ≤ length lists.old }
     requires most { length lists.old ≤ 64 }
@@ -77,7 +82,7 @@ fn sort_in(lists: &mut [Places], batch: &Batch<'_>)
     ensures number { length lists.new ≡ length lists.old }
 {
     let shards = lists.len() as u32;
-    // At most 4,096: each list has room for all places.
+    // proof: at most 4,096 taps, so each list has room for all places
     let _count = batch.len();
     let mut place = 0u16;
     for tap in batch.taps() {
@@ -94,6 +99,7 @@ fn sort_in(lists: &mut [Places], batch: &Batch<'_>)
 /// (8 KiB a shard), and fills it anew for each batch; what an earlier batch left is gone.
 #[derive(Drop)]
 pub struct Cut {
+    /// The places of each shard.
     lists: Vec<Places>,
 }
 

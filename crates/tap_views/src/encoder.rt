@@ -1,13 +1,17 @@
 //! Batches written from their fields.
 
-ghost use Rattle.std.specs.Prelude.{◌≡◌, ◌≤◌, ◌++◌, ◌∷◌, [], ℕ, length, All, IfOk, IfErr, OnOk};
-ghost use Rattle.std.specs.Prelude.{flat_map};
+ghost use Rattle.std.specs.Prelude.{◌≡◌, ◌≤◌, ◌++◌, ◌∷◌, [], ℕ, List, length, All, IfOk, IfErr};
+ghost use Rattle.std.specs.Prelude.{OnOk, flat_map};
 ghost use Rattle.byteorder.specs.Endian.{big_bytes};
 ghost use Rattle.tap_views.specs.Layout.{magic, Tap1, Tap2, spelling};
-ghost use Rattle.tap_views.specs.Encoding.{Encodes, Encodes2, AreEncodable, IsRefused, IsFields};
-ghost use Rattle.tap_views.specs.Encoding.{IsFields2, written, written_2};
+ghost use Rattle.tap_views.specs.Encoding.{AreEarly, AreEncodable, Encodes, Encodes2, IsFields};
+ghost use Rattle.tap_views.specs.Encoding.{IsFields2, IsRefused, fields_of, written, written_2};
 
-use crate::batch::{LIMIT, MOST};
+use crate::layout::{
+    MAX_TAPS, MOMENT_LIMIT_MS, TAP1, TAP1_HEADER_BYTES, TAP1_TAP_BYTES, TAP2, TAP2_HEADER_BYTES,
+    TAP2_TAP_BYTES,
+};
+use crate::view::TapView;
 use std::alloc::{AllocError, Global};
 use thiserror::Error;
 
@@ -20,6 +24,21 @@ pub struct TapFields {
     pub validator: u32,
     /// The moment in milliseconds since 1970-01-01T00:00Z, below 2100-01-01T00:00Z.
     pub moment: u64,
+}
+
+impl TapFields {
+    /// The fields of a tap.
+    pub fn of(tap: &TapView<'_>) -> TapFields
+        ensures { result ≡ fields_of tap.now }
+    {
+        let mut token = [0; 16];
+        token.copy_from_slice(tap.token());
+        TapFields {
+            token,
+            validator: tap.validator_number(),
+            moment: tap.moment_ms(),
+        }
+    }
 }
 
 /// What a tap is encoded from in a `TAP2` batch, where all taps share a validator.
@@ -67,7 +86,9 @@ pub fn encode(alloc: Global, taps: &[TapFields]) -> Result<Vec<u8>, EncodeFault>
     ensures fault { IfErr result (IsRefused (λ tap. tap.moment) taps.now) }
 {
     check(taps)?;
-    Ok(write(alloc, taps)?)
+    let mut bytes = Vec::with_capacity(alloc, TAP1_HEADER_BYTES + TAP1_TAP_BYTES * taps.len())?;
+    put_batch(&mut bytes, taps)?;
+    Ok(bytes)
 }
 
 /// The `TAP2` batch of these taps, which share this validator. With any bytes behind it,
@@ -85,10 +106,11 @@ pub fn encode_tap2(
     Ok(write_tap2(alloc, validator, taps)?)
 }
 
-// What the taps of both layouts are asked.
+/// What the taps of both layouts are asked.
 trait Timed {
     ghost moment_of: { Self → ℕ };
 
+    /// The moment in milliseconds since 1970-01-01T00:00Z.
     fn moment(&self) -> u64
         ensures { result ≡ moment_of self.now };
 }
@@ -109,41 +131,40 @@ impl Timed for Tap2Fields {
     }
 }
 
-// Whether the taps may stand in one batch.
+/// Whether the taps may stand in one batch.
 fn check<T: Timed>(taps: &[T]) -> Result<(), EncodeFault>
     ensures ok { OnOk result (AreEncodable T.moment_of taps.now) }
     ensures fault { IfErr result (IsRefused T.moment_of taps.now) }
 {
-    if taps.len() > MOST as usize {
+    if taps.len() > MAX_TAPS {
         return Err(EncodeFault::TooMany);
     }
     for (i, tap) in taps.iter().enumerate() {
-        if tap.moment() >= LIMIT {
+        if tap.moment() >= MOMENT_LIMIT_MS {
             return Err(EncodeFault::Moment { index: i as u64 });
         }
     }
     Ok(())
 }
 
-// The bytes of a batch, of taps that may stand in one.
-fn write(alloc: Global, taps: &[TapFields]) -> Result<Vec<u8>, AllocError>
-    requires { length taps.now ≤ 4096 }
-    ensures fields { OnOk result (All IsFields taps.now) }
-    ensures bytes { IfOk result
-        (λ bytes. bytes.items ≡ (magic Tap1 ++ big_bytes 2 (length taps.now) ++ 0 ∷ 0 ∷ [])
-        ++ flat_map (λ tap. spelling Tap1 (written tap)) taps.now) }
+/// Adds the `TAP1` batch of these taps, which may stand in one. After an error the bytes are of no
+/// use.
+pub fn put_batch(bytes: &mut Vec<u8>, taps: &[TapFields]) -> Result<(), AllocError>
+    requires most { length taps.now ≤ 4096 }
+    requires early { AreEarly (λ tap. tap.moment) taps.now }
+    ensures { OnOk result ((batch : List ℕ) × (bytes.new.items ≡ bytes.old.items ++ batch)
+        × Encodes batch taps.now) }
 {
-    let mut bytes = Vec::with_capacity(alloc, 8 + 28 * taps.len())?;
-    bytes.extend_from_slice(b"TAP1")?;
+    bytes.extend_from_slice(&TAP1)?;
     bytes.extend_from_slice(&(taps.len() as u16).to_be_bytes())?;
     bytes.extend_from_slice(&[0, 0])?;
     for tap in taps {
-        put_tap(&mut bytes, tap)?;
+        put_tap(bytes, tap)?;
     }
-    Ok(bytes)
+    Ok(())
 }
 
-// Adds one tap with its validator.
+/// Adds one tap with its validator.
 fn put_tap(bytes: &mut Vec<u8>, tap: &TapFields) -> Result<(), AllocError>
     ensures bytes { OnOk result
         (bytes.new.items ≡ bytes.old.items ++ spelling Tap1 (written tap.now)) }
@@ -155,7 +176,7 @@ fn put_tap(bytes: &mut Vec<u8>, tap: &TapFields) -> Result<(), AllocError>
     Ok(())
 }
 
-// The bytes of a batch with one validator, of taps that may stand in one.
+/// The bytes of a `TAP2` batch, of taps that may stand in one.
 fn write_tap2(alloc: Global, validator: u32, taps: &[Tap2Fields]) -> Result<Vec<u8>, AllocError>
     requires { length taps.now ≤ 4096 }
     ensures fields { OnOk result (All IsFields2 taps.now) }
@@ -164,8 +185,8 @@ fn write_tap2(alloc: Global, validator: u32, taps: &[Tap2Fields]) -> Result<Vec<
         ++ big_bytes 4 validator)
         ++ flat_map (λ tap. spelling (Tap2 []) (written_2 validator tap)) taps.now) }
 {
-    let mut bytes = Vec::with_capacity(alloc, 12 + 24 * taps.len())?;
-    bytes.extend_from_slice(b"TAP2")?;
+    let mut bytes = Vec::with_capacity(alloc, TAP2_HEADER_BYTES + TAP2_TAP_BYTES * taps.len())?;
+    bytes.extend_from_slice(&TAP2)?;
     bytes.extend_from_slice(&(taps.len() as u16).to_be_bytes())?;
     bytes.extend_from_slice(&[0, 0])?;
     bytes.extend_from_slice(&validator.to_be_bytes())?;
@@ -175,7 +196,7 @@ fn write_tap2(alloc: Global, validator: u32, taps: &[Tap2Fields]) -> Result<Vec<
     Ok(bytes)
 }
 
-// Adds one tap without its validator.
+/// Adds one tap without its validator.
 fn put_tap2(bytes: &mut Vec<u8>, bare: &Tap2Fields) -> Result<(), AllocError>
     ensures bytes { OnOk result ((validator : ℕ)
         → bytes.new.items ≡ bytes.old.items ++ spelling (Tap2 []) (written_2 validator bare.now)) }

@@ -14,11 +14,17 @@ use std::marker::Model;
 /// passes over the batch anew at each call, and one of a `Cut` over its own taps alone.
 #[derive(Drop)]
 pub struct Run<'a> {
+    /// The validator that all taps of the batch share, if its layout has one.
     pub(crate) shared: Option<&'a [u8]>,
+    /// The bytes of the batch's taps.
     pub(crate) records: &'a [u8],
+    /// The number of the batch's taps.
     pub(crate) count: u32,
+    /// The shard whose taps these are.
     pub(crate) shard: u32,
+    /// The number of shards.
     pub(crate) shards: u32,
+    /// The places of the shard's taps in the batch, where a cut knows them.
     pub(crate) places: Option<&'a [u16]>,
 }
 
@@ -27,7 +33,7 @@ impl<'a> Model for Run<'a> {
     ghost use Rattle.tap_views.specs.inside.Records.{layout_of, taps_in, AreRecords};
     ghost use Rattle.tap_views.specs.Shards.{ShardRun};
     ghost use Rattle.tap_views.specs.Cut.{places_from};
-    ghost use Rattle.tap_views.specs.inside.Cut.{AreKept};
+    ghost use Rattle.tap_views.specs.inside.Cut.{ArePlacesKept};
 
     ghost Value = { ShardRun };
 
@@ -39,7 +45,7 @@ impl<'a> Model for Run<'a> {
 
     ghost invariant = { λ run. AreRecords (layout_of run.shared) run.count run.records.now
         × (run.shard < run.shards) × (run.shards ≤ 64)
-        × AreKept run.places (places_from run.shard run.shards 0
+        × ArePlacesKept run.places (places_from run.shard run.shards 0
         (taps_in (layout_of run.shared) run.count run.records.now)) };
 }
 
@@ -102,24 +108,27 @@ impl<'a> Run<'a> {
 /// The taps of a run in their order.
 #[derive(Drop)]
 pub struct RunTaps<'a> {
-    // What is left of the batch; the whole batch where the places of the taps are known.
+    /// What is left of the batch; the whole batch where the places of the taps are known.
     taps: Taps<'a>,
+    /// The places that are left, where a cut knows them.
     places: Option<&'a [u16]>,
+    /// The shard whose taps these are.
     shard: u32,
+    /// The number of shards.
     shards: u32,
 }
 
 impl<'a> Model for RunTaps<'a> {
     ghost use Rattle.std.specs.Prelude.{List, ◌<◌, ◌≤◌, length};
     ghost use Rattle.tap_views.specs.Layout.{Tap};
-    ghost use Rattle.tap_views.specs.inside.Cut.{left_of, AreBelow};
+    ghost use Rattle.tap_views.specs.inside.Cut.{left_of, ArePlacesBelow};
 
     ghost Value = { List Tap };
 
     ghost view = { λ left. left_of left.places left.shard left.shards left.taps };
 
     ghost invariant = { λ left. (left.shard < left.shards) × (left.shards ≤ 64)
-        × AreBelow left.places (length left.taps) };
+        × ArePlacesBelow left.places (length left.taps) };
 }
 
 impl<'a> Iterator for RunTaps<'a> {
@@ -141,7 +150,7 @@ impl<'a> Iterator for RunTaps<'a> {
     }
 }
 
-// The next tap of the shard.
+/// The next tap of the shard.
 fn next_of<'a>(taps: &mut Taps<'a>, shard: u32, shards: u32) -> Option<TapView<'a>>
     requires below { shard < shards }
     requires most { shards ≤ 64 }

@@ -2,17 +2,19 @@
 
 ghost use Rattle.std.specs.Iterator.{YieldsFirst, YieldsLast, item_count};
 ghost use Rattle.std.specs.Prelude.{◌≡◌, ◌+◌, ◌*◌, ◌<◌, ◌≤◌, length, take, drop, slice_get, Some};
-ghost use Rattle.tap_views.specs.Faults.{width};
-ghost use Rattle.tap_views.specs.inside.Records.{layout_of};
 
+use crate::layout::width_of;
 use crate::view::TapView;
 use std::marker::Model;
 
 /// The taps of a batch in their order, from the front and from the back.
 #[derive(Drop)]
 pub struct Taps<'a> {
+    /// The validator that all taps share, if the layout has one.
     pub(crate) shared: Option<&'a [u8]>,
+    /// The bytes of the taps that are left.
     pub(crate) records: &'a [u8],
+    /// The number of taps that are left.
     pub(crate) left: u32,
 }
 
@@ -26,26 +28,6 @@ impl<'a> Model for Taps<'a> {
     ghost view = { λ taps. taps_in (layout_of taps.shared) taps.left taps.records.now };
 
     ghost invariant = { λ taps. AreRecords (layout_of taps.shared) taps.left taps.records.now };
-}
-
-/// The bytes of one tap.
-pub(crate) fn width_of(shared: Option<&[u8]>) -> usize
-    ensures { result ≡ width (layout_of shared.entry) }
-{
-    match shared {
-        None => 28,
-        Some(_) => 24,
-    }
-}
-
-/// The bytes of the tap at a place.
-pub(crate) fn record_at(records: &[u8], width: usize, i: usize) -> &[u8]
-    requires { width * i + width ≤ length records.now }
-    ensures bytes { result.now ≡ take width (drop (width * i) records.now) }
-    ensures whole { length result.now ≡ width }
-{
-    let at = width * i;
-    &records[at..at + width]
 }
 
 impl<'a> Taps<'a> {
@@ -92,4 +74,14 @@ impl<'a> DoubleEndedIterator for Taps<'a> {
         self.records = rest;
         Some(tap)
     }
+}
+
+/// The bytes of the tap at a place.
+pub(crate) fn record_at(records: &[u8], width: usize, i: usize) -> &[u8]
+    requires { width * i + width ≤ length records.now }
+    ensures bytes { result.now ≡ take width (drop (width * i) records.now) }
+    ensures whole { length result.now ≡ width }
+{
+    let at = width * i;
+    &records[at..at + width]
 }

@@ -5,14 +5,18 @@ ghost use Rattle.tap_views.specs.Layout.{num, moment_limit, IsTap};
 ghost use Rattle.tap_views.specs.Faults.{width};
 ghost use Rattle.tap_views.specs.inside.Records.{layout_of, tap_at};
 
+use crate::layout::{TAP1_TAP_BYTES, TAP2_TAP_BYTES};
 use byteorder::{BigEndian, ByteOrder};
 use std::marker::Model;
 
 /// One tap of an upload. It lends the upload's own bytes and copies nothing.
 #[derive(Drop)]
 pub struct TapView<'a> {
+    /// The 16 bytes of the token.
     token: &'a [u8],
+    /// The 4 bytes of the validator.
     validator: &'a [u8],
+    /// The 8 bytes of the moment.
     moment: &'a [u8],
 }
 
@@ -45,12 +49,12 @@ impl<'a> TapView<'a> {
             None => TapView {
                 token: &bytes[..16],
                 validator: &bytes[16..20],
-                moment: &bytes[20..28],
+                moment: &bytes[20..TAP1_TAP_BYTES],
             },
             Some(all) => TapView {
                 token: &bytes[..16],
                 validator: all,
-                moment: &bytes[16..24],
+                moment: &bytes[16..TAP2_TAP_BYTES],
             },
         }
     }

@@ -1,31 +1,45 @@
 -- What stands before the rest of an upload.
-use Rattle.std.proofs.Common.{◌≡◌, ℕ, ◌+◌, ◌-◌, List, [], ◌∷◌, ◌++◌, length, refl, sym, ap, subst, ◌∙◌, arith, append-nil, append_assoc, length-append}
+use Rattle.std.proofs.Common.{◌≡◌, ℕ, ◌+◌, ◌-◌, List, [], ◌∷◌, ◌++◌, length, refl, sym, ap, subst}
+use Rattle.std.proofs.Common.{◌∙◌, arith, append-nil, append_assoc, length-append}
 use Rattle.std.specs.Prelude.{take}
 use Rattle.tap_views.specs.Layout.{Tap, Layout, Tap1, Tap2, magic, IsBatch}
 use Rattle.tap_views.specs.Files.{IsFile, HasNoBatch}
 use Rattle.upload_facts.specs.Facts.{IsGoodPart}
 
 -- a batch has bytes
-not_empty : (front rest : List ℕ) (layout : Layout) (tail : List ℕ) → front ≡ magic layout ++ tail → ¬ ([] ≡ front ++ rest)
-not_empty front rest Tap1 tail spelt e = let s = ap (λ t. t ++ rest) spelt in absurd (omega (arith, ap length (e ∙ s)))
-not_empty front rest (Tap2 validator) tail spelt e = let s = ap (λ t. t ++ rest) spelt in absurd (omega (arith, ap length (e ∙ s)))
+not_empty : (front rest : List ℕ) (layout : Layout) (tail : List ℕ) → front ≡ magic layout ++ tail
+    → ¬ ([] ≡ front ++ rest)
+not_empty front rest Tap1 tail spelt e = let s = ap (λ t. t ++ rest) spelt in
+    absurd (omega (arith, ap length (e ∙ s)))
+not_empty front rest (Tap2 validator) tail spelt e = let s = ap (λ t. t ++ rest) spelt in
+    absurd (omega (arith, ap length (e ∙ s)))
 
 no_batch : HasNoBatch []
 no_batch front rest taps batch e = not_empty front rest batch.0 _ batch.1.spelt e
 
 -- the front of an upload: its batches
-front_of : (upload : List ℕ) (batches : List (List Tap)) (rest : List ℕ) → IsFile upload batches rest → (front : List ℕ) × IsFile front batches [] × (upload ≡ front ++ rest)
+front_of : (upload : List ℕ) (batches : List (List Tap)) (rest : List ℕ)
+    → IsFile upload batches rest → (front : List ℕ) × IsFile front batches []
+    × (upload ≡ front ++ rest)
 front_of upload [] rest is = ([], (refl, no_batch), is.0)
 front_of upload (batch ∷ batches) rest (first, back, is_batch, joined, is) =
-    let (front, is_front, more) = front_of back batches rest is in
-    (first ++ front, (first, front, is_batch, refl, is_front), joined ∙ ap (λ bytes. first ++ bytes) more ∙ sym (append_assoc first front rest))
+    let (front, is_front, more) = front_of back batches rest is in (
+      first ++ front,
+      (first, front, is_batch, refl, is_front),
+      joined ∙ ap (λ bytes. first ++ bytes) more ∙ sym (append_assoc first front rest),
+    )
 
 -- the bytes up to an offset are the front where the rest begins there
-pub is_front : (upload : List ℕ) (batches : List (List Tap)) (rest : List ℕ) (offset : ℕ) → IsFile upload batches rest → offset + length rest ≡ length upload → IsGoodPart upload (take offset upload)
+pub is_front : (upload : List ℕ) (batches : List (List Tap)) (rest : List ℕ) (offset : ℕ)
+    → IsFile upload batches rest → offset + length rest ≡ length upload
+    → IsGoodPart upload (take offset upload)
 is_front upload batches rest offset is place =
     let (front, is_front, joined) = front_of upload batches rest is in
-    let sizes : offset ≡ length front = omega (arith, place, ap length joined, length-append front rest) in
-    let same : take offset upload ≡ front = ap (λ n. take n upload) sizes ∙ (ap (λ bytes. take (length front) bytes) joined ∙ take_front front rest) in
+    let sizes : offset ≡ length front =
+    omega (arith, place, ap length joined, length-append front rest) in
+    let same : take offset upload ≡ front =
+    ap (λ n. take n upload) sizes
+    ∙ (ap (λ bytes. take (length front) bytes) joined ∙ take_front front rest) in
     record {
       batches = batches;
       rest = rest;
@@ -39,7 +53,8 @@ is_front upload batches rest offset is place =
     take_front (x ∷ front) rest = ap (λ bytes. x ∷ bytes) (take_front front rest)
 
 -- an upload without a fault is its own front
-pub whole_front : (upload : List ℕ) (batches : List (List Tap)) (rest : List ℕ) → IsFile upload batches rest → rest ≡ [] → IsGoodPart upload upload
+pub whole_front : (upload : List ℕ) (batches : List (List Tap)) (rest : List ℕ)
+    → IsFile upload batches rest → rest ≡ [] → IsGoodPart upload upload
 whole_front upload batches rest is none = record {
   batches = batches;
   rest = rest;

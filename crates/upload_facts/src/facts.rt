@@ -20,10 +20,10 @@ pub struct Facts {
 }
 
 /// The number of bytes.
-// proof: an upload has fewer than 2^64 bytes, so that its batches and taps can be counted
 fn size(upload: &[u8]) -> u64
     ensures { result ≡ length upload.now }
 {
+    // proof: an upload has fewer than 2^64 bytes, so that its batches and taps can be counted
     upload.len() as u64
 }
 

@@ -1,2 +1,1 @@
 mod SplitLemmas
-mod Total

@@ -1,15 +1,18 @@
 -- Taps of uploads, split into parts.
-use Rattle.std.proofs.Common.{◌≡◌, ℕ, ◌<◌, ◌==◌, List, [], ◌∷◌, ◌++◌, length, get_or, map, flat_map, sym, ap, ◌∙◌, subst, All}
+use Rattle.std.proofs.Common.{◌≡◌, ℕ, ◌<◌, ◌==◌, List, [], ◌∷◌, ◌++◌, length, get_or, map, flat_map}
+use Rattle.std.proofs.Common.{sym, ap, ◌∙◌, subst, All}
 use Rattle.std.specs.List.{AllByRecursion, AllZip}
 use Rattle.std.proofs.lemmas.List.{map-append, get_or_default}
-use Rattle.std.proofs.lemmas.List.Elements.{All-nil, All-cons, All-append, All-filter, All-map, filter-append}
+use Rattle.std.proofs.lemmas.List.Elements.{All-nil, All-cons, All-append, All-filter, All-map}
+use Rattle.std.proofs.lemmas.List.Elements.{filter-append}
 use Rattle.tap_views.specs.Encoding.{fields_of, AreEarly}
 use Rattle.tap_views.specs.Files.{IsFile}
 use Rattle.tap_views.specs.Layout.{Tap, Layout, Tap1, Tap2, IsTapOf, num, moment_limit}
 use Rattle.tap_views.specs.declared.encoder.TapFields.{TapFields}
 use Rattle.tap_parts.specs.Parts.{part_of_token, of_part}
 use Rattle.upload_facts.proofs.ReadingLemmas.{taps_more}
-use Rattle.upload_parts.specs.Split.{AreSplit, AreAllEarly, HasTaps, IsAdded, joined}
+use Rattle.upload_parts.specs.Split.{AreSplit, AreAllEarly, HasTaps, IsAdded}
+use Rattle.tap_parts.specs.Parts.{joined}
 
 abbrev Early : Tap → Type 0
 Early tap = num tap.moment < moment_limit
@@ -21,45 +24,61 @@ tap_early : (layout : Layout) (tap : Tap) → IsTapOf layout tap → Early tap
 tap_early Tap1 tap is = is.early
 tap_early (Tap2 validator) tap is = is.0.early
 
-batch_early : (layout : Layout) (taps : List Tap) → AllByRecursion (IsTapOf layout) taps → All Early taps
+batch_early : (layout : Layout) (taps : List Tap) → AllByRecursion (IsTapOf layout) taps
+    → All Early taps
 batch_early layout [] all = All-nil Early
-batch_early layout (tap ∷ taps) all = All-cons Early tap taps (tap_early layout tap all.0) (batch_early layout taps all.1)
+batch_early layout (tap ∷ taps) all =
+    All-cons Early tap taps (tap_early layout tap all.0) (batch_early layout taps all.1)
 
-file_early : (file : List ℕ) (batches : List (List Tap)) (rest : List ℕ) → IsFile file batches rest → All Early (flat_map (λ batch. batch) batches)
+file_early : (file : List ℕ) (batches : List (List Tap)) (rest : List ℕ) → IsFile file batches rest
+    → All Early (flat_map (λ batch. batch) batches)
 file_early file [] rest is = All-nil Early
 file_early file (batch ∷ batches) rest is =
     let (front, back, one, spelt, more) = is in
-    All-append Early batch (flat_map (λ (b : List Tap). b) batches) (batch_early one.0 batch one.1.each) (file_early back batches rest more)
+    All-append Early batch (flat_map (λ (b : List Tap). b) batches)
+    (batch_early one.0 batch one.1.each) (file_early back batches rest more)
 
 upload_early : (upload : List ℕ) (taps : List Tap) → HasTaps upload taps → All Early taps
 upload_early upload taps has =
-    subst (λ ts. All Early ts) (sym has.all) (file_early upload has.batches has.read.rest has.read.is_file)
+    subst (λ ts. All Early ts) (sym has.all)
+    (file_early upload has.batches has.read.rest has.read.is_file)
 
-part_early : (part parts : ℕ) (taps : List Tap) → All Early taps → AreFieldsEarly (map fields_of (of_part part parts taps))
+part_early : (part parts : ℕ) (taps : List Tap) → All Early taps
+    → AreFieldsEarly (map fields_of (of_part part parts taps))
 part_early part parts taps early =
     All-map (λ (f : TapFields). f.moment < moment_limit) fields_of (of_part part parts taps)
     (All-filter (λ (tap : Tap). part_of_token tap.token parts == part) Early taps early)
 
 -- parts stay early as an upload is added
-pub added_early : (upload : List ℕ) (old new : List (List TapFields)) → IsAdded upload old new → AreAllEarly old → AreAllEarly new
+pub added_early : (upload : List ℕ) (old new : List (List TapFields)) → IsAdded upload old new
+    → AreAllEarly old → AreAllEarly new
 added_early upload old new is all = λ k d within.
     let here : k < length old = subst (λ n. k < n) is.added.number within in
     let early = part_early k (length old) is.taps (upload_early upload is.taps is.of_upload) in
     subst AreFieldsEarly (sym (get_or_default new k d [] within ∙ is.added.each k here))
-    (All-append (λ (f : TapFields). f.moment < moment_limit) (get_or old k []) (map fields_of (of_part k (length old) is.taps)) (all k [] here) early)
+    (All-append (λ (f : TapFields). f.moment < moment_limit) (get_or old k [])
+    (map fields_of (of_part k (length old) is.taps)) (all k [] here) early)
 
-fields-append : (part parts : ℕ) (xs ys : List Tap) → map fields_of (of_part part parts (xs ++ ys)) ≡ map fields_of (of_part part parts xs) ++ map fields_of (of_part part parts ys)
+fields-append : (part parts : ℕ) (xs ys : List Tap)
+    → map fields_of (of_part part parts (xs ++ ys)) ≡ map fields_of (of_part part parts xs)
+    ++ map fields_of (of_part part parts ys)
 fields-append part parts xs ys =
-    ap (map fields_of) (filter-append (λ tap. part_of_token tap.token parts == part) xs ys) ∙ map-append fields_of (of_part part parts xs) (of_part part parts ys)
+    ap (map fields_of) (filter-append (λ tap. part_of_token tap.token parts == part) xs ys)
+    ∙ map-append fields_of (of_part part parts xs) (of_part part parts ys)
 
-zip_more : (uploads : List (List ℕ)) (taps : List (List Tap)) (upload : List ℕ) (more : List Tap) → AllZip HasTaps uploads taps → HasTaps upload more → AllZip HasTaps (uploads ++ upload ∷ []) (taps ++ more ∷ [])
+zip_more : (uploads : List (List ℕ)) (taps : List (List Tap)) (upload : List ℕ) (more : List Tap)
+    → AllZip HasTaps uploads taps → HasTaps upload more
+    → AllZip HasTaps (uploads ++ upload ∷ []) (taps ++ more ∷ [])
 zip_more [] [] upload more zip has = (has, tt)
 zip_more [] (ts ∷ taps) upload more zip has = absurd zip
 zip_more (u ∷ uploads) [] upload more zip has = absurd zip
-zip_more (u ∷ uploads) (ts ∷ taps) upload more zip has = (zip.0, zip_more uploads taps upload more zip.1 has)
+zip_more (u ∷ uploads) (ts ∷ taps) upload more zip has =
+    (zip.0, zip_more uploads taps upload more zip.1 has)
 
 -- one upload more
-pub more_split : (upload : List ℕ) (old new : List (List TapFields)) → IsAdded upload old new → (parts : ℕ) (uploads : List (List ℕ)) → AreSplit parts uploads old → AreSplit parts (uploads ++ upload ∷ []) new
+pub more_split : (upload : List ℕ) (old new : List (List TapFields)) → IsAdded upload old new
+    → (parts : ℕ) (uploads : List (List ℕ)) → AreSplit parts uploads old
+    → AreSplit parts (uploads ++ upload ∷ []) new
 more_split upload old new is parts uploads split = record {
   taps = split.taps ++ is.taps ∷ [];
   of_uploads = zip_more uploads split.taps upload is.taps split.of_uploads is.of_upload;

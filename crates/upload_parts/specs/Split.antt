@@ -1,14 +1,14 @@
 -- Uploads that are split by token into parts.
-use Rattle.std.specs.Prelude.{◌≡◌, ℕ, ◌<◌, List, [], length, map, flat_map, All, Option}
+use Rattle.std.specs.Prelude.{◌≡◌, ℕ, ◌<◌, List, [], length, map, All, Option}
 use Rattle.std.specs.Prelude.{slice_index_or}
 use Rattle.std.specs.List.{AllZip}
 use Rattle.tap_views.specs.Encoding.{fields_of, AreEarly}
 use Rattle.tap_views.specs.Layout.{Tap}
 use Rattle.tap_views.specs.declared.encoder.TapFields.{TapFields}
 use Rattle.tap_views.specs.declared.fault.LayoutFault.{LayoutFault}
-use Rattle.tap_parts.specs.Parts.{AreAdded, IsFileOf, of_part}
+use Rattle.tap_parts.specs.Parts.{AreAdded, IsFileOf, of_part, joined}
 use Rattle.upload_facts.specs.Facts.{IsReadAs, taps_of}
-use Rattle.upload_parts.specs.Order.{IsCanonical}
+use Rattle.tap_parts.specs.Canonical.{IsCanonical}
 
 -- the upload has these taps before its first layout fault
 pub record HasTaps (upload : List ℕ) (taps : List Tap) : Type 0 where
@@ -16,10 +16,6 @@ pub record HasTaps (upload : List ℕ) (taps : List Tap) : Type 0 where
   pub fault : Option (ℕ × LayoutFault)
   pub read : IsReadAs upload batches fault
   pub all : taps ≡ taps_of batches
-
--- the taps of all uploads, one upload after the other
-abbrev pub joined : List (List Tap) → List Tap
-joined taps = flat_map (λ upload. upload) taps
 
 -- each of so many parts has exactly the uploads' taps that fall to it, in their order
 pub record AreSplit (parts : ℕ) (uploads : List (List ℕ)) (lists : List (List TapFields))

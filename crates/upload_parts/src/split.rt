@@ -3,7 +3,7 @@
 ghost use Rattle.std.specs.Prelude.{◌≡◌, ◌<◌, ◌≤◌, ◌++◌, ◌∷◌, [], ℕ, List, IfOk, OnOk, length};
 ghost use Rattle.std.specs.Prelude.{slice_index_or};
 ghost use Rattle.tap_views.specs.Encoding.{AreEarly};
-ghost use Rattle.upload_parts.specs.Order.{IsCanonical};
+ghost use Rattle.tap_parts.specs.Canonical.{IsCanonical};
 ghost use Rattle.upload_parts.specs.Split.{AreSplit, IsAdded, IsPartFile};
 
 use crate::order::sort;

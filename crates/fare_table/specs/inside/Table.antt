@@ -7,6 +7,7 @@ use Rattle.fare_table.specs.Zone.{zone_rule, zone_text}
 use Rattle.fare_table.specs.declared.table.Parts.{Parts}
 use Rattle.fare_table.specs.Validators.{are_modes_below}
 
+-- what contracts see of the parts of a table
 abbrev pub fares_of : Parts → Fares
 fares_of parts = record {
   rules = record {
@@ -21,7 +22,7 @@ fares_of parts = record {
 }
 
 -- at most 32 modes, ranges of modes of the table, and terms within their limits
-pub record IsSound (parts : Parts) : Type 0 where
+pub record AreSound (parts : Parts) : Type 0 where
   pub few : length parts.modes.items ≤ 32
   pub known : are_modes_below (length parts.modes.items) parts.ranges ≡ true
   pub standard : HasLimits parts.standard

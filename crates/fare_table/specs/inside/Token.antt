@@ -1,7 +1,7 @@
 -- Token: what private functions alone cite.
 use Rattle.std.specs.Ordering.{nat_cmp, ordering_then}
 use Rattle.std.specs.declared.cmp.Ordering.{Ordering}
-use Rattle.fare_table.specs.declared.token.Token.{Token}
+use Rattle.fare_table.specs.declared.riders.token.Token.{Token}
 
 -- the order of tokens
 abbrev pub token_cmp : Token → Token → Ordering

@@ -26,6 +26,6 @@ pub record AreSearchable (ranges : List (ℕ × Span)) (firsts : List ℕ) : Typ
 
 -- each number before the index is not above `number`, and each from `size` places after the index
 -- on is
-pub record IsSplit (number : ℕ) (firsts : List ℕ) (index size : ℕ) : Type 0 where
+pub record IsSplitAt (number : ℕ) (firsts : List ℕ) (index size : ℕ) : Type 0 where
   pub front : AllWithin (λ first. nat_le first number ≡ true) firsts 0 index
   pub back : AllWithin (λ first. nat_le first number ≡ false) firsts (index + size) (length firsts)

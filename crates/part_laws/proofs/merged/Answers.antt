@@ -2,7 +2,9 @@ use Rattle.part_laws.proofs.Merging.{merged, own_there}
 use Rattle.part_laws.proofs.merged.Goals as goal
 
 pub returns-clause-entries : goal.returns-clause-entries
-returns-clause-entries c = λ fares uploads history parts split. own_there fares uploads history parts split
+returns-clause-entries c =
+    λ fares uploads history parts split. own_there fares uploads history parts split
 
 pub returns-clause-sums : goal.returns-clause-sums
-returns-clause-sums c = λ fares uploads history parts split. merged fares uploads history parts split c.rising.ensures.numbers c.rising.ensures.tokens
+returns-clause-sums c = λ fares uploads history parts split. merged fares uploads history parts
+    split c.rising.ensures.numbers c.rising.ensures.tokens

@@ -7,7 +7,7 @@ use Rattle.tap_views.specs.declared.encoder.TapFields.{TapFields}
 use Rattle.tap_parts.specs.Parts.{AreAdded, of_part}
 use Rattle.fare_service.specs.Plain.{AreTapsOf, AreTapsOfEach, IsPlainEnd, ArePlainEnds}
 use Rattle.fare_service.specs.declared.upload_end.UploadEnd.{UploadEnd}
-use Rattle.settlement.specs.Settled.{joined}
+use Rattle.tap_parts.specs.Parts.{joined}
 
 -- the taps that a part has in several lists of parts, list after list
 abbrev pub in_part : ℕ → List (List (List TapFields)) → List TapFields

@@ -7,9 +7,9 @@ use Rattle.tap_views.specs.Layout.{Tap}
 use Rattle.tap_views.specs.Shards.{run_of}
 
 -- where a run keeps its places, they are these
-abbrev pub AreKept : Option (Bor (List ℕ)) → List ℕ → Type 0
-AreKept None places = Unit {0}
-AreKept (Some kept) places = kept.now ≡ places
+abbrev pub ArePlacesKept : Option (Bor (List ℕ)) → List ℕ → Type 0
+ArePlacesKept None places = Unit {0}
+ArePlacesKept (Some kept) places = kept.now ≡ places
 
 -- the taps that a run still has to give: of a shard, or at the places that are kept
 abbrev pub left_of : Option (Bor (List ℕ)) → ℕ → ℕ → List Tap → List Tap
@@ -17,6 +17,7 @@ left_of None shard shards taps = run_of shard shards taps
 left_of (Some places) shard shards taps =
     flat_map (λ place. option_to_list (slice_get taps place)) places.now
 
-abbrev pub AreBelow : Option (Bor (List ℕ)) → ℕ → Type 0
-AreBelow None count = Unit {0}
-AreBelow (Some places) count = AllByRecursion (λ place. place < count) places.now
+-- where a run keeps its places, each is below the count
+abbrev pub ArePlacesBelow : Option (Bor (List ℕ)) → ℕ → Type 0
+ArePlacesBelow None count = Unit {0}
+ArePlacesBelow (Some places) count = AllByRecursion (λ place. place < count) places.now

@@ -28,8 +28,9 @@ is_row bytes (TooMany count) = nat_lt 4096 (count_in bytes)
 is_row bytes (Length want have) = nat_lt (length bytes) (size_in bytes)
 is_row bytes (Moment index) = not (nat_lt (moment_in bytes index) moment_limit)
 
-abbrev pub first_fault : List ℕ → Option LayoutFault
-first_fault bytes = find (is_row bytes) (rows_of bytes)
+-- the first row that holds of the bytes, if one does
+abbrev pub found_fault : List ℕ → Option LayoutFault
+found_fault bytes = find (is_row bytes) (rows_of bytes)
 
 -- the taps of bytes that begin with a batch
 abbrev pub first_taps : List ℕ → List Tap
@@ -46,7 +47,7 @@ abbrev pub items_within : ℕ → ℕ → List ℕ → List Item
 items_within zero offset bytes = []
 items_within (suc fuel) offset [] = []
 items_within (suc fuel) offset (byte ∷ more) =
-    given_at offset (byte ∷ more) (first_fault (byte ∷ more))
+    given_at offset (byte ∷ more) (found_fault (byte ∷ more))
     (items_within fuel (offset + size_in (byte ∷ more))
     (drop (size_in (byte ∷ more)) (byte ∷ more)))
 

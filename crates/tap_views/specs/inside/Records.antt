@@ -25,13 +25,13 @@ tap_at (Tap2 validator) bytes =
 
 module _ (wide : ℕ) (tap_of : List ℕ → Tap) where
   -- the taps of the first n records
-  abbrev pub cut : ℕ → List ℕ → List Tap
-  cut zero bytes = []
-  cut (suc n) bytes = tap_of (take wide bytes) ∷ cut n (drop wide bytes)
+  abbrev pub first_records : ℕ → List ℕ → List Tap
+  first_records zero bytes = []
+  first_records (suc n) bytes = tap_of (take wide bytes) ∷ first_records n (drop wide bytes)
 
 -- the taps of n records in a layout
 abbrev pub taps_in : Layout → ℕ → List ℕ → List Tap
-taps_in layout n bytes = cut (width layout) (tap_at layout) n bytes
+taps_in layout n bytes = first_records (width layout) (tap_at layout) n bytes
 
 -- the bytes are n records, and each is a tap
 pub record AreRecords (layout : Layout) (n : ℕ) (bytes : List ℕ) : Type 0 where

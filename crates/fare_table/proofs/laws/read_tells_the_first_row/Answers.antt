@@ -3,10 +3,13 @@ use Rattle.fare_table.proofs.RowLemmas.{first-of-err, none-of-ok, first-row}
 use Rattle.fare_table.proofs.laws.read_tells_the_first_row.Goals as goal
 
 pub returns-clause-told : goal.returns-clause-told
-returns-clause-told c utf8 fault is = c.read.ensures.refused utf8 fault ((first-row c.args.text.now fault).1 is)
+returns-clause-told c utf8 fault is =
+    c.read.ensures.refused utf8 fault ((first-row c.args.text.now fault).1 is)
 
 pub returns-clause-first : goal.returns-clause-first
-returns-clause-first c = first-of-err (IsUtf8 c.args.text.now) c.args.text.now c.read.result c.read.ensures.fault
+returns-clause-first c = first-of-err (IsUtf8 c.args.text.now) c.args.text.now c.read.result
+    c.read.ensures.fault
 
 pub returns-clause-none : goal.returns-clause-none
-returns-clause-none c = none-of-ok (IsUtf8 c.args.text.now) c.args.text.now c.read.result (λ t. t.rules) c.read.ensures.ok
+returns-clause-none c = none-of-ok (IsUtf8 c.args.text.now) c.args.text.now c.read.result (λ t.
+    t.rules) c.read.ensures.ok

@@ -1,10 +1,10 @@
 use Rattle.std.proofs.Common.{◌+◌, ◌<◌, ◌≤◌, length}
-use Rattle.fare_table.specs.inside.Validators.{IsSplit}
+use Rattle.fare_table.specs.inside.Validators.{IsSplitAt}
 use Rattle.fare_table.proofs.validators.begun_by_halves.Given as goal
 
 abbrev pub invariant-loop-size : goal.invariant-loop-size
 invariant-loop-size l = record {
-  split : IsSplit l.number l.firsts l.base l.size;
+  split : IsSplitAt l.number l.firsts l.base l.size;
   some : 0 < l.size;
   inside : l.base + l.size ≤ length l.firsts;
 }

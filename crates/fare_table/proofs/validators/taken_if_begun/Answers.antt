@@ -5,7 +5,8 @@ use Rattle.fare_table.proofs.validators.taken_if_begun.Goals as goal
 
 pub returns : goal.returns
 returns c =
-    let mask = (c.from.result + (18446744073709551616 - (c.from-2.result + 1))) % 18446744073709551616 / 4294967296 in
+    let mask = (c.from.result + (18446744073709551616 - (c.from-2.result + 1))) %
+    18446744073709551616 / 4294967296 in
     elim (leb_tells c.args.first c.args.number) [
       | inl a ↦
           let whole : mask ≡ 2 ^ 32 - 1 = omega (arith, c.from.ensures, c.from-2.ensures, a.1) in

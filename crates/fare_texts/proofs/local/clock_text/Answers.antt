@@ -9,5 +9,6 @@ pub returns : goal.returns
 returns c =
     let shown = c.display_with_offset.ensures in
     let value = rw c.unwrap-instant.ensures at c.from_millisecond.ensures.value in
-    let at : c.unwrap-instant.result.nanosecond ≡ moment_nanos c.args.moment = omega (arith, ints, signed_arith, value) in
+    let at : c.unwrap-instant.result.nanosecond ≡ moment_nanos c.args.moment =
+    omega (arith, ints, signed_arith, value) in
     (shown.0, shown.1 ∙ ap (λ n. n +ℤ nanos_of_seconds c.args.offset.seconds) at, shown.2)

@@ -12,7 +12,10 @@ returns c =
     let dt = shown.0 in
     let value = rw c.unwrap-instant.ensures at c.from_millisecond.ensures.value in
     let same = ap (λ t. t.nanosecond) c.to_plain.ensures in
-    let at : civil_nanos dt ≡ pos c.args.moment *ℤ pos 1_000_000 = omega (arith, ints, signed_arith, shown.1) in
-    let options = c.precision.ensures ∙ ap (λ (o : Bool × ℕ × Option ℕ). (o.0, o.1, Some 3)) c.new.ensures in
+    let at : civil_nanos dt ≡ pos c.args.moment *ℤ pos 1_000_000 =
+    omega (arith, ints, signed_arith, shown.1) in
+    let options = c.precision.ensures
+    ∙ ap (λ (o : Bool × ℕ × Option ℕ). (o.0, o.1, Some 3)) c.new.ensures in
     civil_shown c.args.moment c.timestamp_text.result.bytes dt at
-    (shown.2 ∙ ap (λ (o : Bool × ℕ × Option ℕ). datetime_text o.0 o.1 o.2 dt ++ zulu_text o.0) options)
+    (shown.2 ∙ ap (λ (o : Bool × ℕ × Option ℕ). datetime_text o.0 o.1 o.2 dt ++ zulu_text o.0)
+    options)

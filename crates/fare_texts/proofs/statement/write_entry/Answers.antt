@@ -9,6 +9,7 @@ returns c =
     let rest = entry_rest c.args.table.now c.args.entry.now in (
       moment.0 ++ rest,
       record { moment = moment.0; is = moment.1; shown = refl },
-      in_parts (string_bytes c.args.text.now) (string_bytes c.write_moment.new.text) (string_bytes c.write_entry_rest.new.text) moment.0 rest
+      in_parts (string_bytes c.args.text.now) (string_bytes c.write_moment.new.text)
+          (string_bytes c.write_entry_rest.new.text) moment.0 rest
           moment.2 c.in_ok-write_entry_rest.ensures,
     )

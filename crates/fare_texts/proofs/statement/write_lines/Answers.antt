@@ -8,6 +8,8 @@ loop-place-preserved c =
     let before = c.loop-place.invariant in
     let line = c.in_ok-write_entry.ensures in (
       before.0 ++ line.0,
-      next_line c.args.table.now c.args.lines.now c.loop-place.place c.get.result.now before.0 line.0 c.get.ensures before.1 line.1,
-      in_parts (string_bytes c.args.text.now) (string_bytes c.loop-place.text) (string_bytes c.write_entry.new.text) before.0 line.0 before.2 line.2,
+      next_line c.args.table.now c.args.lines.now c.loop-place.place c.get.result.now before.0
+          line.0 c.get.ensures before.1 line.1,
+      in_parts (string_bytes c.args.text.now) (string_bytes c.loop-place.text)
+          (string_bytes c.write_entry.new.text) before.0 line.0 before.2 line.2,
     )

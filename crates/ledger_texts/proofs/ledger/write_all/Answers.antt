@@ -8,9 +8,13 @@ pub returns-clause-ok : goal.returns-clause-ok
 returns-clause-ok g c =
     let first = c.table_of-table.ensures in
     let done = c.in_ok-write_lines.ensures.ok in
-    let along = subst (λ (es : List (Bor Entry)). AreLinesAlong c.table_of-table.result.now [] (seen es) done.0) c.as_slice.ensures.value done.1 in (
+    let along = subst (λ (es : List (Bor Entry)).
+    AreLinesAlong c.table_of-table.result.now [] (seen es) done.0) c.as_slice.ensures.value
+    done.1 in (
       string_bytes c.in-Ok-begun.text ++ done.0,
-      ledger_of_all c.args.books.now first.0 c.table_of-table.result.now (seen c.in-Ok-begun.entries.items) (string_bytes c.in-Ok-begun.text) done.0 first.1 first.2
+      ledger_of_all c.args.books.now first.0 c.table_of-table.result.now
+          (seen c.in-Ok-begun.entries.items) (string_bytes c.in-Ok-begun.text) done.0 first.1
+          first.2
           c.in-Ok-begun.ensures.entries along c.in-Ok-begun.ensures.head,
       done.2,
     )

@@ -10,5 +10,6 @@ returns-clause-kept g c =
     let after = g.W.Write.contents c.write_out.new.out in
     let waits = string_bytes c.args.text.now in
     append_known-moved before after waits (string_bytes c.clear.new.self) waits
-    (subst (λ (bytes : List ℕ). Appends before after bytes) c.as_bytes.ensures.value c.in_ok-write_out.ensures.ok)
+    (subst (λ (bytes : List ℕ). Appends before after bytes) c.as_bytes.ensures.value
+    c.in_ok-write_out.ensures.ok)
     (sym (ap (λ (rest : List ℕ). waits ++ rest) c.clear.ensures.bytes ∙ append-nil waits))

@@ -5,5 +5,7 @@ use Rattle.reason_texts.proofs.ledger.tap_of.Goals as goal
 
 pub returns-clause-tap : goal.returns-clause-tap
 returns-clause-tap c =
-    let limit = c.in_ok-until.ensures.value ∙ ap (λ zone. limit_in zone c.args.entry.now.moment) c.requires in
-    sym (tap_of-post c.args.table.now c.args.entry.now c.mode_of.result _ c.mode_of.ensures.mode limit)
+    let limit = c.in_ok-until.ensures.value
+    ∙ ap (λ zone. limit_in zone c.args.entry.now.moment) c.requires in
+    sym (tap_of-post c.args.table.now c.args.entry.now c.mode_of.result _ c.mode_of.ensures.mode
+    limit)

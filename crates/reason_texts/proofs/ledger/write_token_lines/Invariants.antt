@@ -9,7 +9,8 @@ use Rattle.reason_texts.proofs.ledger.write_token_lines.Given as goal
 -- the account stands for the entries so far, which are counted, and their lines were written
 abbrev pub invariant-loop-entry : goal.invariant-loop-entry
 invariant-loop-entry l = record {
-  stands : Stands (rules_of l.table (bytes_of l.fn.token)) l.account (map (tap_of l.table) (take l.entry-index l.entries));
+  stands : Stands (rules_of l.table (bytes_of l.fn.token)) l.account
+      (map (tap_of l.table) (take l.entry-index l.entries));
   counted : l.number ≡ l.entry-index;
   written : List ℕ;
   are : AreTokenLines l.table l.fn.token (take l.entry-index l.entries) written;

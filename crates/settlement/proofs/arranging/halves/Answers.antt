@@ -13,11 +13,13 @@ returns-clause-front c =
     let parts = c.args.parts.items in
     let middle = c.len-middle.result / 2 in
     let whole = subst (All Early) (sym (take-append-drop middle parts)) c.requires in
-    subst (All Early) (sym c.in_ok-back.ensures.items) (all_front Early (take middle parts) (drop middle parts) whole)
+    subst (All Early) (sym c.in_ok-back.ensures.items)
+    (all_front Early (take middle parts) (drop middle parts) whole)
 
 pub returns-clause-back : goal.returns-clause-back
 returns-clause-back c =
     let parts = c.args.parts.items in
     let middle = c.len-middle.result / 2 in
     let whole = subst (All Early) (sym (take-append-drop middle parts)) c.requires in
-    subst (All Early) (sym c.in_ok-back.ensures.tail) (all_back Early (take middle parts) (drop middle parts) whole)
+    subst (All Early) (sym c.in_ok-back.ensures.tail)
+    (all_back Early (take middle parts) (drop middle parts) whole)

@@ -1,4 +1,5 @@
-use Rattle.std.proofs.Common.{◌≡◌, refl, ℕ, List, [], ◌∷◌, ◌++◌, Vec, Global, length, map, sym, ap, ◌∙◌, subst, arith, append_assoc, append-nil}
+use Rattle.std.proofs.Common.{◌≡◌, refl, ℕ, List, [], ◌∷◌, ◌++◌, Vec, Global, length, map, sym, ap}
+use Rattle.std.proofs.Common.{◌∙◌, subst, arith, append_assoc, append-nil}
 use Rattle.std.proofs.lemmas.List.{map-append}
 use Rattle.std.specs.Vec.Iter.{into_iter_items}
 use Rattle.fare_service.specs.declared.upload_end.UploadEnd.{UploadEnd}
@@ -24,7 +25,12 @@ loop-upload-init c =
       ends = tt;
       left = gives.0;
       left_len = gives.1 ∙ (c.args.uploads.ok.0 ∙ ap length (sym gives.0));
-      made = ([], tt, none_added c.args.parts.now, subst (λ ends. ArePlainEnds [] ends) (sym c.new-ends.ensures.items) tt);
+      made = (
+        [],
+        tt,
+        none_added c.args.parts.now,
+        subst (λ ends. ArePlainEnds [] ends) (sym c.new-ends.ensures.items) tt,
+      );
     }
 
 pub loop-upload-preserved : goal.loop-upload-preserved
@@ -35,7 +41,8 @@ loop-upload-preserved c =
     let (taps, each, added, ended) = c.loop-upload.invariant.made in
     let end = c.in_ok-add_upload.field-0 in
     let one : IsAdded upload.items c.loop-upload.parts c.add_upload.new.parts end =
-    subst (λ bytes. IsAdded bytes c.loop-upload.parts c.add_upload.new.parts end) c.as_slice.ensures.value c.in_ok-add_upload.ensures in
+    subst (λ bytes. IsAdded bytes c.loop-upload.parts c.add_upload.new.parts end)
+    c.as_slice.ensures.value c.in_ok-add_upload.ensures in
     let files = map bytes_in yielded in
     let all = map-append bytes_in yielded (upload ∷ []) in
     let T : List (List ℕ) → Type 0 = λ fs. AreTapsOfEach fs (taps ++ one.taps ∷ []) in
@@ -44,13 +51,17 @@ loop-upload-preserved c =
     record {
       may = tt;
       ends = tt;
-      left = append_assoc yielded (upload ∷ []) (into_iter_items c.next.new.self) ∙ ap (λ us. yielded ++ us) (sym steps.0) ∙ c.loop-upload.invariant.left;
+      left = append_assoc yielded (upload ∷ []) (into_iter_items c.next.new.self)
+          ∙ ap (λ us. yielded ++ us) (sym steps.0) ∙ c.loop-upload.invariant.left;
       left_len = omega (arith, steps.1, c.loop-upload.invariant.left_len, ap length steps.0);
       made = (
         taps ++ one.taps ∷ [],
         subst T (sym all) (each_more files taps upload.items one.taps each one.of_upload),
-        batch_added taps one.taps c.args.parts.now c.loop-upload.parts c.add_upload.new.parts added one.added,
-        subst E (sym all) (subst F (sym c.in_ok-push.ensures.items) (AllZip-append IsPlainEnd files c.loop-upload.ends.items (upload.items ∷ []) (end ∷ []) ended (one.ended, tt))),
+        batch_added taps one.taps c.args.parts.now c.loop-upload.parts c.add_upload.new.parts added
+            one.added,
+        subst E (sym all) (subst F (sym c.in_ok-push.ensures.items)
+            (AllZip-append IsPlainEnd files c.loop-upload.ends.items (upload.items ∷ []) (end ∷ [])
+            ended (one.ended, tt))),
       );
     }
 
@@ -58,8 +69,11 @@ pub returns : goal.returns
 returns c =
     let (taps, each, added, ended) = c.loop-upload.invariant.made in
     let left = into_iter_items c.loop-upload.upload-iterator in
-    let none : left ≡ [] = nothing left (omega (arith, c.in-None.ensures.steps.0, c.loop-upload.invariant.left_len)) in
-    let all = sym (append-nil c.loop-upload.yielded) ∙ (ap (λ us. c.loop-upload.yielded ++ us) (sym none) ∙ c.loop-upload.invariant.left) in
+    let none : left ≡ [] = nothing left
+    (omega (arith, c.in-None.ensures.steps.0, c.loop-upload.invariant.left_len)) in
+    let all = sym (append-nil c.loop-upload.yielded)
+    ∙ (ap (λ us. c.loop-upload.yielded ++ us) (sym none) ∙ c.loop-upload.invariant.left) in
     let T : List (Vec ℕ Global) → Type 0 = λ uploads. AreTapsOfEach (map bytes_in uploads) taps in
-    let E : List (Vec ℕ Global) → Type 0 = λ uploads. ArePlainEnds (map bytes_in uploads) c.loop-upload.ends.items in
+    let E : List (Vec ℕ Global) → Type 0 =
+    λ uploads. ArePlainEnds (map bytes_in uploads) c.loop-upload.ends.items in
     record { taps = taps; of_uploads = subst T all each; added = added; ended = subst E all ended }

@@ -9,5 +9,7 @@ invariant-loop-item l = record {
   may : (goal.iterator-loop-item).can_next l.item-iterator;
   ends : (goal.iterator-loop-item).is_finite l.item-iterator;
   reading : IsReading l.upload (l.yielded ++ l.item-iterator);
-  made : (done : List (List Tap)) × (l.yielded ≡ map Ok done) × AreAdded (flat_map (λ b. b) done) l.fn.parts l.parts × (l.taps ≡ length (flat_map (λ b. b) done));
+  made : (done : List (List Tap)) × (l.yielded ≡ map Ok done)
+      × AreAdded (flat_map (λ b. b) done) l.fn.parts l.parts
+      × (l.taps ≡ length (flat_map (λ b. b) done));
 }

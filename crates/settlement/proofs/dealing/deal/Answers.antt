@@ -1,10 +1,11 @@
-use Rattle.std.proofs.Common.{◌≡◌, ℕ, List, [], ◌∷◌, ◌++◌, ◌<◌, length, map, sym, ap, ◌∙◌, subst, append-nil}
+use Rattle.std.proofs.Common.{◌≡◌, ℕ, List, [], ◌∷◌, ◌++◌, ◌<◌, length, map, sym, ap, ◌∙◌, subst}
+use Rattle.std.proofs.Common.{append-nil}
 use Rattle.std.proofs.lemmas.List.Elements.{All-nil, All-cons}
 use Rattle.tap_views.specs.Encoding.{fields_of}
 use Rattle.tap_views.specs.declared.encoder.TapFields.{TapFields}
 use Rattle.tap_parts.specs.Parts.{of_part}
 use Rattle.settlement.specs.inside.Dealt.{AreDealt}
-use Rattle.settlement.specs.Settled.{joined}
+use Rattle.tap_parts.specs.Parts.{joined}
 use Rattle.settlement.proofs.Files.{bytes_in}
 use Rattle.settlement.proofs.dealing.deal.Goals as goal
 
@@ -16,14 +17,16 @@ returns c =
     let list = c.add_all.new.parts in
     let P : List (List TapFields) → Type 0 = λ l. length l ≡ parts in
     let lists = c.in_ok-push.ensures.items ∙ ap (λ ls. ls ++ list ∷ []) c.new-lists.ensures.items in
-    subst (λ ls. AreDealt parts (map bytes_in c.args.uploads.items) ls c.in_ok-ends.ends.items) (sym lists) (record {
+    subst (λ ls. AreDealt parts (map bytes_in c.args.uploads.items) ls c.in_ok-ends.ends.items)
+    (sym lists) (record {
       taps = all.taps;
       of_uploads = all.of_uploads;
       number = All-cons P list [] (all.added.number ∙ made.number) (All-nil P);
       each = λ part within.
           append-nil _
           ∙ all.added.each part (subst (λ n. part < n) (sym made.number) within)
-          ∙ ap (λ taps. taps ++ map fields_of (of_part part (length c.in_ok-list.list) (joined all.taps))) (made.empty part within)
+          ∙ ap (λ taps. taps ++ map fields_of
+          (of_part part (length c.in_ok-list.list) (joined all.taps))) (made.empty part within)
           ∙ ap (λ n. map fields_of (of_part part n (joined all.taps))) made.number;
       ended = all.ended;
     })

@@ -15,11 +15,18 @@ returns g c =
     let made = c.in_ok-dealt.dealt in
     let more = c.in_ok-more.more in
     let all : map bytes_in c.args.uploads.items ≡ front ++ back =
-    ap (map bytes_in) c.in_ok-front.ensures ∙ map-append bytes_in c.in_ok-front.front.items c.in_ok-front.back.items in
-    let U : List (List ℕ) → Type 0 = λ us. AreDealt parts us c.append.new.self.items c.append-2.new.self.items in
-    let L : List (List (List TapFields)) → Type 0 = λ ls. AreDealt parts (front ++ back) ls c.append-2.new.self.items in
-    let E : List UploadEnd → Type 0 = λ es. AreDealt parts (front ++ back) (made.lists.items ++ more.lists.items) es in
-    subst U (sym all) (subst L (sym c.in_ok-append.ensures.items) (subst E (sym c.in_ok-append-2.ensures.items)
+    ap (map bytes_in) c.in_ok-front.ensures
+    ∙ map-append bytes_in c.in_ok-front.front.items c.in_ok-front.back.items in
+    let U : List (List ℕ) → Type 0 =
+    λ us. AreDealt parts us c.append.new.self.items c.append-2.new.self.items in
+    let L : List (List (List TapFields)) → Type 0 =
+    λ ls. AreDealt parts (front ++ back) ls c.append-2.new.self.items in
+    let E : List UploadEnd → Type 0 =
+    λ es. AreDealt parts (front ++ back) (made.lists.items ++ more.lists.items) es in
+    subst U (sym all) (subst L (sym c.in_ok-append.ensures.items)
+    (subst E (sym c.in_ok-append-2.ensures.items)
     (both_dealt parts front back made.lists.items more.lists.items made.ends.items more.ends.items
-    (subst (λ r. IfOk r (λ dealt. AreDealt parts front dealt.lists.items dealt.ends.items)) c.in_ok-dealt.was c.join-dealt.ensures.first)
-    (subst (λ r. IfOk r (λ dealt. AreDealt parts back dealt.lists.items dealt.ends.items)) c.in_ok-more.was c.join-dealt.ensures.second))))
+    (subst (λ r. IfOk r (λ dealt. AreDealt parts front dealt.lists.items dealt.ends.items))
+    c.in_ok-dealt.was c.join-dealt.ensures.first)
+    (subst (λ r. IfOk r (λ dealt. AreDealt parts back dealt.lists.items dealt.ends.items))
+    c.in_ok-more.was c.join-dealt.ensures.second))))

@@ -12,18 +12,25 @@ pub text_of-requires : goal.text_of-requires
 text_of-requires c =
     let taps = c.args.pieces in
     let (lists, zip, items) = c.in_ok-arrange.ensures.lists in
-    let spread = subst (λ ts. AreSpread ts c.args.buckets.now c.gather.new.buckets) c.as_slice.ensures c.in_ok-gather.ensures in
-    let is = canonical taps c.args.buckets.now c.gather.new.buckets lists c.requires.empty spread zip in
-    let early = All-permutation (λ (tap : TapFields). tap.moment < moment_limit) taps _ is.moved c.requires.early in
-    subst (λ ts. AreEarly (λ (tap : TapFields). tap.moment) ts) (sym (c.deref.ensures.value ∙ items)) early
+    let spread = subst (λ ts. AreSpread ts c.args.buckets.now c.gather.new.buckets)
+    c.as_slice.ensures c.in_ok-gather.ensures in
+    let is = canonical taps c.args.buckets.now c.gather.new.buckets lists c.requires.empty spread
+    zip in
+    let early = All-permutation (λ (tap : TapFields). tap.moment < moment_limit) taps _ is.moved
+    c.requires.early in
+    subst (λ ts. AreEarly (λ (tap : TapFields). tap.moment) ts) (sym (c.deref.ensures.value
+    ∙ items)) early
 
 pub returns-clause-file : goal.returns-clause-file
 returns-clause-file c =
     let taps = c.args.pieces in
     let (lists, zip, items) = c.in_ok-arrange.ensures.lists in
-    let spread = subst (λ ts. AreSpread ts c.args.buckets.now c.gather.new.buckets) c.as_slice.ensures c.in_ok-gather.ensures in
+    let spread = subst (λ ts. AreSpread ts c.args.buckets.now c.gather.new.buckets)
+    c.as_slice.ensures c.in_ok-gather.ensures in
     record {
       list = flat_map (λ (list : List TapFields). list) lists;
-      canonical = canonical taps c.args.buckets.now c.gather.new.buckets lists c.requires.empty spread zip;
-      reads = subst (λ ts. IsFileOf c.in_ok-file.file.items ts) (c.deref.ensures.value ∙ items) c.in_ok-file.ensures;
+      canonical = canonical taps c.args.buckets.now c.gather.new.buckets lists c.requires.empty
+          spread zip;
+      reads = subst (λ ts. IsFileOf c.in_ok-file.file.items ts) (c.deref.ensures.value
+          ∙ items) c.in_ok-file.ensures;
     }

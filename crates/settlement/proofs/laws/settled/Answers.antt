@@ -5,7 +5,13 @@ use Rattle.settlement.proofs.laws.settled.Goals as goal
 pub returns : goal.returns
 returns c = λ fares shards uploads ends works settled headline whole.
     let files = map (λ (u : Vec ℕ Global). u.items) c.args.files.now in
-    let some : 0 < length c.args.outcome.now.books = omega (arith, c.shards.ensures.some, c.shards.ensures.number) in
+    let some : 0 < length c.args.outcome.now.books =
+    omega (arith, c.shards.ensures.some, c.shards.ensures.number) in
     let (history, is) = c.plain_history.ensures.some fares in
-    tells (record { table = fares; shards = shards; uploads = files }) works c.args.outcome.now uploads ends history some c.names.ensures.named c.names.ensures.here
-    c.cuts.ensures c.rising.ensures.numbers c.rising.ensures.tokens is (c.plain_history.ensures.fields fares history is) settled headline whole
+    tells (record {
+      table = fares;
+      shards = shards;
+      uploads = files;
+    }) works c.args.outcome.now uploads ends history some c.names.ensures.named c.names.ensures.here
+    c.cuts.ensures c.rising.ensures.numbers c.rising.ensures.tokens is
+    (c.plain_history.ensures.fields fares history is) settled headline whole

@@ -11,14 +11,17 @@ returns-clause-some c = λ fares.
     some_history fares (map bytes_in c.args.uploads.now) plain.taps plain.each
 
 pub returns-clause-legal : goal.returns-clause-legal
-returns-clause-legal c = λ fares history is. legal_history fares (map bytes_in c.args.uploads.now) history is
+returns-clause-legal c = λ fares history is. legal_history fares (map bytes_in c.args.uploads.now)
+    history is
 
 pub returns-clause-rises : goal.returns-clause-rises
 returns-clause-rises c = λ fares history is.
     let (later, plain) = c.plain_history.ensures.some fares in
-    time_order fares (map bytes_in c.args.uploads.now) c.cuts.ensures later plain (c.plain_history.ensures.fields fares later plain) history is
+    time_order fares (map bytes_in c.args.uploads.now) c.cuts.ensures later plain
+    (c.plain_history.ensures.fields fares later plain) history is
 
 pub returns-clause-stale : goal.returns-clause-stale
 returns-clause-stale c = λ fares before after entry is answer.
     let (later, plain) = c.plain_history.ensures.some fares in
-    stale fares (map bytes_in c.args.uploads.now) c.cuts.ensures later plain (c.plain_history.ensures.fields fares later plain) before entry after is answer
+    stale fares (map bytes_in c.args.uploads.now) c.cuts.ensures later plain
+    (c.plain_history.ensures.fields fares later plain) before entry after is answer

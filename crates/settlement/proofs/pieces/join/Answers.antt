@@ -1,8 +1,10 @@
-use Rattle.std.proofs.Common.{◌≡◌, ℕ, ◌<◌, ◌≤◌, ◌+◌, List, [], ◌∷◌, ◌++◌, length, get_or, set, sym, ap, ◌∙◌, arith, append_assoc, inl, inr, length-append}
+use Rattle.std.proofs.Common.{◌≡◌, ℕ, ◌<◌, ◌≤◌, ◌+◌, List, [], ◌∷◌, ◌++◌, length, get_or, set, sym}
+use Rattle.std.proofs.Common.{ap, ◌∙◌, arith, append_assoc, inl, inr, length-append}
 use Rattle.std.specs.Prelude.{◌⊎◌}
 use Rattle.std.specs.Vec.Iter.{into_iter_items}
 use Rattle.std.proofs.lemmas.Bool.{cases_lt}
-use Rattle.std.proofs.lemmas.List.{get_or_default, get_or-set_same, get_or-set_other, length-set, get_or_append_left, get_or-append-add}
+use Rattle.std.proofs.lemmas.List.{get_or_default, get_or-set_same, get_or-set_other, length-set}
+use Rattle.std.proofs.lemmas.List.{get_or_append_left, get_or-append-add}
 use Rattle.tap_views.specs.declared.encoder.TapFields.{TapFields}
 use Rattle.settlement.proofs.pieces.join.Goals as goal
 
@@ -17,35 +19,59 @@ loop-piece-preserved c =
     let at = c.loop-piece.place in
     let pushed = c.push.new.self in
     let target = c.index-parts-place.result in
-    let within : at < length now = omega (arith, inv.number, c.requires, inv.place, ap length inv.left, ap length (sym steps.0), length-append yielded (into_iter_items c.loop-piece.piece-iterator)) in
-    let was : get_or now at target ≡ get_or old at [] = get_or_default now at target [] within ∙ inv.rest at (omega arith) in
+    let within : at < length now =
+    omega (
+      arith,
+      inv.number,
+      c.requires,
+      inv.place,
+      ap length inv.left,
+      ap length (sym steps.0),
+      length-append yielded
+          (into_iter_items c.loop-piece.piece-iterator),
+    ) in
+    let was : get_or now at target ≡ get_or old at [] =
+    get_or_default now at target [] within ∙ inv.rest at (omega arith) in
     let of_piece : get_or (yielded ++ piece ∷ []) at [] ≡ piece =
-    ap (λ n. get_or (yielded ++ piece ∷ []) n []) (let e : at ≡ length yielded + 0 = omega (arith, inv.place) in e) ∙ get_or-append-add yielded (piece ∷ []) 0 [] in
+    ap (λ n. get_or (yielded ++ piece ∷ []) n []) (let e : at
+    ≡ length yielded + 0 = omega (arith, inv.place) in
+    e) ∙ get_or-append-add yielded (piece ∷ []) 0 [] in
     record {
       may = tt;
       ends = tt;
-      left = append_assoc yielded (piece ∷ []) (into_iter_items c.next.new.self) ∙ ap (λ us. yielded ++ us) (sym steps.0) ∙ inv.left;
+      left = append_assoc yielded (piece ∷ []) (into_iter_items c.next.new.self)
+          ∙ ap (λ us. yielded ++ us) (sym steps.0) ∙ inv.left;
       left_len = omega (arith, steps.1, inv.left_len, ap length steps.0);
       place = omega (arith, inv.place, length-append yielded (piece ∷ []));
       number = length-set now at pushed ∙ inv.number;
       joined = λ part below.
           by_place part (cases_lt part at) below (get_or-set_same now at pushed [] within)
           (c.in_ok-push.ensures ∙ ap (λ ts. ts ++ piece) was) of_piece;
-      rest = λ part above. get_or-set_other now at part pushed [] (λ e. omega (arith, e, above)) ∙ inv.rest part (omega (arith, above));
+      rest = λ part above. get_or-set_other now at part pushed [] (λ e. omega (arith, e, above))
+          ∙ inv.rest part (omega (arith, above));
     }
   where
-    by_place : (part : ℕ) → (part < c.loop-piece.place) ⊎ (c.loop-piece.place ≤ part) → part < c.loop-piece.place + 1
-        → get_or (set c.loop-piece.parts c.loop-piece.place c.push.new.self) c.loop-piece.place [] ≡ c.push.new.self
+    by_place : (part : ℕ) → (part < c.loop-piece.place) ⊎ (c.loop-piece.place ≤ part)
+        → part < c.loop-piece.place + 1
+        → get_or (set c.loop-piece.parts c.loop-piece.place c.push.new.self) c.loop-piece.place []
+        ≡ c.push.new.self
         → c.push.new.self ≡ get_or c.args.parts.now c.loop-piece.place [] ++ c.in-Some.piece
-        → get_or (c.loop-piece.yielded ++ c.in-Some.piece ∷ []) c.loop-piece.place [] ≡ c.in-Some.piece
-        → get_or (set c.loop-piece.parts c.loop-piece.place c.push.new.self) part [] ≡ get_or c.args.parts.now part [] ++ get_or (c.loop-piece.yielded ++ c.in-Some.piece ∷ []) part []
+        → get_or (c.loop-piece.yielded ++ c.in-Some.piece ∷ []) c.loop-piece.place []
+        ≡ c.in-Some.piece
+        → get_or (set c.loop-piece.parts c.loop-piece.place c.push.new.self) part []
+        ≡ get_or c.args.parts.now part []
+        ++ get_or (c.loop-piece.yielded ++ c.in-Some.piece ∷ []) part []
     by_place part (inl less) below there pushed of_piece =
-        get_or-set_other c.loop-piece.parts c.loop-piece.place part c.push.new.self [] (λ e. omega (arith, e, less))
+        get_or-set_other c.loop-piece.parts c.loop-piece.place part c.push.new.self [] (λ e.
+        omega (arith, e, less))
         ∙ c.loop-piece.invariant.joined part less
-        ∙ ap (λ ts. get_or c.args.parts.now part [] ++ ts) (sym (get_or_append_left c.loop-piece.yielded (c.in-Some.piece ∷ []) [] part (omega (arith, less, c.loop-piece.invariant.place))))
+        ∙ ap (λ ts. get_or c.args.parts.now part [] ++ ts)
+        (sym (get_or_append_left c.loop-piece.yielded (c.in-Some.piece ∷ []) [] part
+        (omega (arith, less, c.loop-piece.invariant.place))))
     by_place part (inr above) below there pushed of_piece =
         let e : part ≡ c.loop-piece.place = omega (arith, above, below) in
         ap (λ n. get_or (set c.loop-piece.parts c.loop-piece.place c.push.new.self) n []) e
         ∙ there ∙ pushed
         ∙ ap (λ ts. get_or c.args.parts.now c.loop-piece.place [] ++ ts) (sym of_piece)
-        ∙ ap (λ n. get_or c.args.parts.now n [] ++ get_or (c.loop-piece.yielded ++ c.in-Some.piece ∷ []) n []) (sym e)
+        ∙ ap (λ n. get_or c.args.parts.now n []
+        ++ get_or (c.loop-piece.yielded ++ c.in-Some.piece ∷ []) n []) (sym e)

@@ -10,6 +10,7 @@ invariant-loop-piece l = record {
   left_len : into_iter_len l.piece-iterator ≡ length (into_iter_items l.piece-iterator);
   place : l.place ≡ length l.yielded;
   number : length l.parts ≡ length l.fn.parts;
-  joined : (part : ℕ) → part < l.place → get_or l.parts part [] ≡ get_or l.fn.parts part [] ++ get_or l.yielded part [];
+  joined : (part : ℕ) → part < l.place
+      → get_or l.parts part [] ≡ get_or l.fn.parts part [] ++ get_or l.yielded part [];
   rest : (part : ℕ) → l.place ≤ part → get_or l.parts part [] ≡ get_or l.fn.parts part [];
 }

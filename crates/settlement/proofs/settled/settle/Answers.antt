@@ -1,10 +1,12 @@
-use Rattle.std.proofs.Common.{◌≡◌, ℕ, ◌<◌, List, [], length, map, get_or, sym, ap, ◌∙◌, subst, arith}
+use Rattle.std.proofs.Common.{◌≡◌, ℕ, ◌<◌, List, [], length, map, get_or, sym, ap, ◌∙◌, subst}
+use Rattle.std.proofs.Common.{arith}
 use Rattle.std.proofs.lemmas.List.{get_or_default}
 use Rattle.tap_views.specs.Encoding.{fields_of, AreEarly}
 use Rattle.tap_views.specs.declared.encoder.TapFields.{TapFields}
 use Rattle.tap_parts.specs.Parts.{of_part}
 use Rattle.settlement.specs.inside.Dealt.{in_part}
-use Rattle.settlement.specs.Settled.{IsPartFile, joined}
+use Rattle.settlement.specs.Settled.{IsPartFile}
+use Rattle.tap_parts.specs.Parts.{joined}
 use Rattle.settlement.proofs.Early.{part_early}
 use Rattle.settlement.proofs.Files.{bytes_in, there_below, zip_length, zip_there}
 use Rattle.settlement.proofs.Placed.{all_by}
@@ -18,8 +20,10 @@ files_by_four-requires-clause-early g c =
     let E : List TapFields → Type 0 = λ taps. AreEarly (λ (tap : TapFields). tap.moment) taps in
     λ _ _. all_by E c.in_ok-pieces.pieces.items (λ part d there.
     let within : part < parts = omega (arith, there, pieces.number) in
-    let early = part_early part parts (map bytes_in c.args.uploads.items) dealt.taps dealt.of_uploads in
-    subst E (sym (get_or_default c.in_ok-pieces.pieces.items part d [] there ∙ pieces.each part within ∙ dealt.each part within)) early)
+    let early = part_early part parts (map bytes_in c.args.uploads.items) dealt.taps
+    dealt.of_uploads in
+    subst E (sym (get_or_default c.in_ok-pieces.pieces.items part d [] there
+    ∙ pieces.each part within ∙ dealt.each part within)) early)
 
 pub returns : goal.returns
 returns g c =
@@ -29,7 +33,8 @@ returns g c =
     let pieces = c.in_ok-pieces.pieces.items in
     let bytes = map bytes_in c.in_ok-files.files.items in
     let zip = c.in_ok-files.ensures in
-    let number : parts ≡ length bytes = omega (arith, c.in_ok-pieces.ensures.number, zip_length IsPartFile pieces bytes zip) in
+    let number : parts ≡ length bytes =
+    omega (arith, c.in_ok-pieces.ensures.number, zip_length IsPartFile pieces bytes zip) in
     record {
       ended = dealt.ended;
       taps = dealt.taps;
@@ -38,9 +43,11 @@ returns g c =
       few_parts = omega (arith, number, c.parts_for-parts.ensures.most);
       each = λ part file there.
           let within : part < parts = omega (arith, number, there_below bytes part file there) in
-          let here : get_or pieces part [] ≡ map fields_of (of_part part parts (joined dealt.taps)) =
+          let here : get_or pieces part []
+          ≡ map fields_of (of_part part parts (joined dealt.taps)) =
           c.in_ok-pieces.ensures.each part within ∙ dealt.each part within in
           let Q : List TapFields → Type 0 = λ taps. IsPartFile taps file in
-          let N : ℕ → Type 0 = λ n. IsPartFile (map fields_of (of_part part n (joined dealt.taps))) file in
+          let N : ℕ → Type 0 = λ n. IsPartFile (map fields_of (of_part part n (joined dealt.taps)))
+          file in
           subst N number (subst Q here (zip_there IsPartFile pieces bytes [] zip part file there));
     }

@@ -8,5 +8,8 @@ use Rattle.table_facts.proofs.ignored.add_ignored_of_classes.Given as goal
 abbrev pub invariant-loop-place : goal.invariant-loop-place
 invariant-loop-place l = record {
   few : l.place + (goal.iterator-loop-place).remaining l._name-iterator < 2 ^ 64;
-  same : ignored_of_classes 0 (map (λ k. (k.0, k.1.now)) l.fn.found.items) (members_view l.classes.entries) ≡ ignored_of_classes l.place (map (λ k. (k.0, k.1.now)) l.found.items) (members_view l._name-iterator);
+  same : ignored_of_classes 0 (map (λ k. (k.0, k.1.now)) l.fn.found.items)
+      (members_view l.classes.entries)
+      ≡ ignored_of_classes l.place (map (λ k. (k.0, k.1.now)) l.found.items)
+      (members_view l._name-iterator);
 }

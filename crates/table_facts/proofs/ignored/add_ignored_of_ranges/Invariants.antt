@@ -5,4 +5,7 @@ use Rattle.table_facts.proofs.ignored.add_ignored_of_ranges.Given as goal
 
 -- the keys of the whole are those found and those of what is left
 abbrev pub invariant-loop-place : goal.invariant-loop-place
-invariant-loop-place l = ignored_of_ranges 0 (map (λ k. (k.0, k.1.now)) l.fn.found.items) (items_view l.entries.items) ≡ ignored_of_ranges l.place (map (λ k. (k.0, k.1.now)) l.found.items) (items_view (drop l.place l.entries.items))
+invariant-loop-place l = ignored_of_ranges 0 (map (λ k. (k.0, k.1.now)) l.fn.found.items)
+    (items_view l.entries.items)
+    ≡ ignored_of_ranges l.place (map (λ k. (k.0, k.1.now)) l.found.items)
+    (items_view (drop l.place l.entries.items))

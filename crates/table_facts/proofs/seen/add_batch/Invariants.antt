@@ -7,5 +7,7 @@ invariant-loop-tap l = record {
   may : (goal.iterator-loop-tap).can_next l.tap-iterator;
   ends : (goal.iterator-loop-tap).is_finite l.tap-iterator;
   all : l.yielded ++ l.tap-iterator ≡ l.batch;
-  same : (validator : ℕ) → is_among l.numbers.keys validator ≡ (is_among l.fn.numbers.keys validator || has_tap_at l.yielded validator);
+  same : (validator : ℕ)
+      → is_among l.numbers.keys validator
+      ≡ (is_among l.fn.numbers.keys validator || has_tap_at l.yielded validator);
 }

@@ -1,7 +1,9 @@
-use Rattle.std.proofs.Common.{◌≡◌, ◌||◌, ℕ, List, [], ◌++◌, ◌∷◌, Ok, Err, ap, ◌∙◌, sym, refl, subst, append_assoc, append-nil}
+use Rattle.std.proofs.Common.{◌≡◌, ◌||◌, ℕ, List, [], ◌++◌, ◌∷◌, Ok, Err, ap, ◌∙◌, sym, refl, subst}
+use Rattle.std.proofs.Common.{append_assoc, append-nil}
 use Rattle.tap_views.specs.Files.{Item, IsReading}
 use Rattle.upload_facts.specs.Facts.{taps_of}
-use Rattle.upload_facts.proofs.ReadingLemmas.{same_items, read_all, read_fault, taps_more, yielded_more}
+use Rattle.upload_facts.proofs.ReadingLemmas.{same_items, read_all, read_fault, taps_more}
+use Rattle.upload_facts.proofs.ReadingLemmas.{yielded_more}
 use Rattle.table_facts.proofs.SeenLemmas.{no_tap, one_batch}
 use Rattle.table_facts.specs.Seen.{has_tap_at, is_among}
 use Rattle.table_facts.proofs.seen.add_upload.Goals as goal
@@ -12,7 +14,8 @@ loop-item-init c =
     record {
       may = tt;
       ends = tt;
-      reading = subst P (sym c.into_iter-item-iterator.ensures.into_iter_gives) c.batches-item-items.ensures;
+      reading = subst P (sym c.into_iter-item-iterator.ensures.into_iter_gives)
+          c.batches-item-items.ensures;
       made = ([], refl, λ v. no_tap (is_among c.args.numbers.now.keys v));
     }
 
@@ -23,11 +26,15 @@ loop-item-preserved c =
     record {
       may = tt;
       ends = tt;
-      reading = subst P (ap (λ left. c.loop-item.yielded ++ left) c.in-Some.ensures.steps ∙ sym (append_assoc c.loop-item.yielded (c.in-Some.item ∷ []) c.next.new.self)) c.loop-item.invariant.reading;
+      reading = subst P (ap (λ left. c.loop-item.yielded ++ left) c.in-Some.ensures.steps
+          ∙ sym (append_assoc c.loop-item.yielded (c.in-Some.item ∷ []) c.next.new.self))
+          c.loop-item.invariant.reading;
       made = (
         made.0 ++ c.in-Ok.batch ∷ [],
         yielded_more c.loop-item.yielded made.0 c.in-Some.item c.in-Ok.batch made.1 c.in-Ok.is,
-        one_batch c.args.numbers.now.keys c.loop-item.numbers.keys c.add_batch.new.numbers.keys (taps_of made.0) c.in-Ok.batch (taps_of (made.0 ++ c.in-Ok.batch ∷ [])) (taps_more made.0 c.in-Ok.batch) c.in_ok-add_batch-in-Ok.ensures made.2,
+        one_batch c.args.numbers.now.keys c.loop-item.numbers.keys c.add_batch.new.numbers.keys
+            (taps_of made.0) c.in-Ok.batch (taps_of (made.0 ++ c.in-Ok.batch ∷ []))
+            (taps_more made.0 c.in-Ok.batch) c.in_ok-add_batch-in-Ok.ensures made.2,
       );
     }
 
@@ -36,12 +43,17 @@ returns-in-Err c =
     let made = c.loop-item.invariant.made in
     let P : List Item → Type 0 = IsReading c.args.upload.now in
     let step = c.in-Some.ensures.steps ∙ ap (λ i. i ∷ c.next.new.self) c.in-Err.is in
-    let read = read_fault c.args.upload.now made.0 c.in-Err.field-0.0 c.in-Err.field-0.1 c.next.new.self (same_items c.args.upload.now c.loop-item.yielded c.next.new.self made.0 (Err (c.in-Err.field-0.0, c.in-Err.field-0.1)) c.loop-item.item-iterator c.loop-item.invariant.reading made.1 step) in
+    let read = read_fault c.args.upload.now made.0 c.in-Err.field-0.0 c.in-Err.field-0.1
+    c.next.new.self (same_items c.args.upload.now c.loop-item.yielded c.next.new.self made.0
+    (Err (c.in-Err.field-0.0, c.in-Err.field-0.1)) c.loop-item.item-iterator
+    c.loop-item.invariant.reading made.1 step) in
     record { batches = made.0; rest = read.0; is_file = read.1; same = made.2 }
 
 pub returns : goal.returns
 returns c =
     let made = c.loop-item.invariant.made in
     let P : List Item → Type 0 = IsReading c.args.upload.now in
-    let read = read_all c.args.upload.now made.0 (subst P (ap (λ left. c.loop-item.yielded ++ left) c.in-None.ensures.steps.0 ∙ (append-nil c.loop-item.yielded ∙ made.1)) c.loop-item.invariant.reading) in
+    let read = read_all c.args.upload.now made.0
+    (subst P (ap (λ left. c.loop-item.yielded ++ left) c.in-None.ensures.steps.0
+    ∙ (append-nil c.loop-item.yielded ∙ made.1)) c.loop-item.invariant.reading) in
     record { batches = made.0; rest = read.0; is_file = read.1; same = made.2 }

@@ -10,5 +10,7 @@ invariant-loop-item l = record {
   may : (goal.iterator-loop-item).can_next l.item-iterator;
   ends : (goal.iterator-loop-item).is_finite l.item-iterator;
   reading : IsReading l.upload (l.yielded ++ l.item-iterator);
-  made : (done : List (List Tap)) × (l.yielded ≡ map Ok done) × ((validator : ℕ) → is_among l.numbers.keys validator ≡ (is_among l.fn.numbers.keys validator || has_tap_at (taps_of done) validator));
+  made : (done : List (List Tap)) × (l.yielded ≡ map Ok done)
+      × ((validator : ℕ) → is_among l.numbers.keys validator
+      ≡ (is_among l.fn.numbers.keys validator || has_tap_at (taps_of done) validator));
 }

@@ -20,13 +20,16 @@ loop-key-preserved c = record {
   ends = tt;
   zero = λ rest. c.loop-key.invariant.zero
       (subst (All Zero) (sym c.in-Some.ensures.steps)
-      (All-cons Zero (c.in-Some.key.now, c.in-Some.count.now) c.next.new.self (omega (arith, c.if-count-gt0.false)) rest));
+      (All-cons Zero (c.in-Some.key.now, c.in-Some.count.now) c.next.new.self
+      (omega (arith, c.if-count-gt0.false)) rest));
 }
 
 pub returns-then-count-gt0-clause-found : goal.returns-then-count-gt0-clause-found
 returns-then-count-gt0-clause-found c =
-    let turn = btree_map_turn deref_pair c.loop-key.yielded c.into_iter-key-iterator.result c.loop-key.key-iterator c.next.new.self c.next.result
-    (c.in-Some.key, c.in-Some.count) c.loop-key.yielded_by c.in-Some.is c.next.ensures.steps key_cmp_total c.args.left.now (search rules) (search rules) in
+    let turn = btree_map_turn deref_pair c.loop-key.yielded c.into_iter-key-iterator.result
+    c.loop-key.key-iterator c.next.new.self c.next.result
+    (c.in-Some.key, c.in-Some.count) c.loop-key.yielded_by c.in-Some.is c.next.ensures.steps
+    key_cmp_total c.args.left.now (search rules) (search rules) in
     subst (λ (o : Option ℕ). 0 < unwrap_or o 0) (sym turn.1) c.if-count-gt0.true
 
 pub returns-clause-none : goal.returns-clause-none

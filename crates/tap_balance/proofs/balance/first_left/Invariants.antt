@@ -7,5 +7,6 @@ abbrev pub invariant-loop-key : goal.invariant-loop-key
 invariant-loop-key l = record {
   may : (goal.iterator-loop-key).can_next l.key-iterator;
   ends : (goal.iterator-loop-key).is_finite l.key-iterator;
-  zero : All (λ (e : Key × ℕ). e.1 ≡ 0) l.key-iterator → All (λ (e : Key × ℕ). e.1 ≡ 0) l.left.entries;
+  zero : All (λ (e : Key × ℕ). e.1 ≡ 0) l.key-iterator
+      → All (λ (e : Key × ℕ). e.1 ≡ 0) l.left.entries;
 }

@@ -5,7 +5,8 @@ use Rattle.tap_parts.specs.Parts.{IsFileOf}
 use Rattle.tap_parts.proofs.text.text_of.Given as goal
 
 abbrev pub invariant-loop-left : goal.invariant-loop-left
-invariant-loop-left l = (done : List TapFields) × IsFileOf l.text.items done × (done ++ l.left ≡ l.fn.taps) × AreEarly (λ tap. tap.moment) l.left
+invariant-loop-left l = (done : List TapFields) × IsFileOf l.text.items done
+    × (done ++ l.left ≡ l.fn.taps) × AreEarly (λ tap. tap.moment) l.left
 
 abbrev pub decreases-loop-left : goal.decreases-loop-left
 decreases-loop-left l = length l.left

@@ -9,5 +9,6 @@ invariant-loop-tap l = record {
   all : l.yielded ++ l.tap-iterator ≡ l.fn.batch;
   place : l.place ≡ length l.yielded;
   number : length l.lists ≡ l.shards;
-  cut : (shard : ℕ) → shard < l.shards → slice_index_or l.lists shard [] ≡ places_from shard l.shards 0 l.yielded;
+  cut : (shard : ℕ) → shard < l.shards
+      → slice_index_or l.lists shard [] ≡ places_from shard l.shards 0 l.yielded;
 }

@@ -3,4 +3,5 @@ use Rattle.tap_views.proofs.Numbers.{number_behind}
 use Rattle.tap_views.proofs.shard.shard_of.Goals as goal
 
 pub returns-clause-value : goal.returns-clause-value
-returns-clause-value c = ap (λ number. number % c.args.shards) (c.read_u16.ensures ∙ number_behind 2 14 c.args.token.now c.requires.token)
+returns-clause-value c = ap (λ number. number % c.args.shards) (c.read_u16.ensures
+    ∙ number_behind 2 14 c.args.token.now c.requires.token)

@@ -1,26 +1,41 @@
-use Rattle.std.proofs.Common.{◌≡◌, ℕ, ◌+◌, ◌*◌, ◌≤◌, List, [], ◌++◌, ◌∷◌, length, map, flat_map, Ok, Err, Some, None, ap, ◌∙◌, sym, refl, subst, append_assoc, append-nil, arith, length-append}
+use Rattle.std.proofs.Common.{◌≡◌, ℕ, ◌+◌, ◌*◌, ◌≤◌, List, [], ◌++◌, ◌∷◌, length, map, flat_map, Ok}
+use Rattle.std.proofs.Common.{Err, Some, None, ap, ◌∙◌, sym, refl, subst, append_assoc, append-nil}
+use Rattle.std.proofs.Common.{arith, length-append}
 use Rattle.std.proofs.lemmas.List.{map-append}
 use Rattle.tap_views.specs.Layout.{Tap}
 use Rattle.tap_views.specs.Files.{Item, IsReading}
 use Rattle.upload_facts.specs.Facts.{IsSpan, moment_of, taps_of}
-use Rattle.upload_facts.proofs.ReadingLemmas.{same_items, read_all, read_fault, read_batch, few, taps_more, yielded_more}
+use Rattle.upload_facts.proofs.ReadingLemmas.{same_items, read_all, read_fault, read_batch, few}
+use Rattle.upload_facts.proofs.ReadingLemmas.{taps_more, yielded_more}
 use Rattle.upload_facts.proofs.facts.facts_of.Goals as goal
 
 -- the room that is left for a batch, and for its taps
-room : (file : List ℕ) (done more : List (List Tap)) (rest : List ℕ) (batch : List Tap) → length (taps_of ((done ++ batch ∷ []) ++ more)) + 2 * length ((done ++ batch ∷ []) ++ more) ≤ length file
+room : (file : List ℕ) (done more : List (List Tap)) (rest : List ℕ) (batch : List Tap)
+    → length (taps_of ((done ++ batch ∷ []) ++ more)) + 2 * length ((done ++ batch ∷ []) ++ more)
+    ≤ length file
     → (length (taps_of done) + length batch ≤ length file) × (length done + 1 ≤ length file)
-room file [] more rest batch fits = (omega (arith, fits, length-append batch (taps_of more)), omega (arith, fits))
+room file [] more rest batch fits =
+    (omega (arith, fits, length-append batch (taps_of more)), omega (arith, fits))
 room file (first ∷ done) more rest batch fits =
     let all = length-append first (taps_of ((done ++ batch ∷ []) ++ more)) in
     let some = length-append first (taps_of done) in
     let tail = counts done more batch in
     (omega (arith, fits, all, some, tail.0), omega (arith, fits, tail.1))
   where
-    counts : (done more : List (List Tap)) (batch : List Tap) → (length (taps_of done) + length batch ≤ length (taps_of ((done ++ batch ∷ []) ++ more))) × (length done + 1 ≤ length ((done ++ batch ∷ []) ++ more))
+    counts : (done more : List (List Tap)) (batch : List Tap)
+        → (length (taps_of done) + length batch ≤ length (taps_of ((done ++ batch ∷ []) ++ more)))
+        × (length done + 1 ≤ length ((done ++ batch ∷ []) ++ more))
     counts [] more batch = (omega (arith, length-append batch (taps_of more)), omega arith)
     counts (first ∷ done) more batch =
-        let tail = counts done more batch in
-        (omega (arith, tail.0, length-append first (taps_of done), length-append first (taps_of ((done ++ batch ∷ []) ++ more))), omega (arith, tail.1))
+        let tail = counts done more batch in (
+          omega (
+            arith,
+            tail.0,
+            length-append first (taps_of done),
+            length-append first (taps_of ((done ++ batch ∷ []) ++ more)),
+          ),
+          omega (arith, tail.1),
+        )
 
 pub loop-item-init : goal.loop-item-init
 loop-item-init c =
@@ -28,7 +43,8 @@ loop-item-init c =
     record {
       may = tt;
       ends = tt;
-      reading = subst P (sym c.into_iter-item-iterator.ensures.into_iter_gives) c.batches-item-items.ensures;
+      reading = subst P (sym c.into_iter-item-iterator.ensures.into_iter_gives)
+          c.batches-item-items.ensures;
       made = ([], refl, refl, refl, refl);
     }
 
@@ -41,13 +57,23 @@ loop-item-preserved c =
     record {
       may = tt;
       ends = tt;
-      reading = subst P (ap (λ left. c.loop-item.yielded ++ left) c.in-Some.ensures.steps ∙ sym (append_assoc c.loop-item.yielded (c.in-Some.item ∷ []) c.next.new.self)) c.loop-item.invariant.reading;
+      reading = subst P (ap (λ left. c.loop-item.yielded ++ left) c.in-Some.ensures.steps
+          ∙ sym (append_assoc c.loop-item.yielded (c.in-Some.item ∷ []) c.next.new.self))
+          c.loop-item.invariant.reading;
       made = (
         made.0 ++ c.in-Ok.batch ∷ [],
         yielded_more c.loop-item.yielded made.0 c.in-Some.item c.in-Ok.batch made.1 c.in-Ok.is,
         omega (arith, made.2, length-append made.0 (c.in-Ok.batch ∷ [])),
-        omega (arith, made.3, ap length all, length-append (taps_of made.0) c.in-Ok.batch, c.len.ensures.number),
-        subst Q (sym (map-append moment_of (taps_of made.0) c.in-Ok.batch) ∙ ap (map moment_of) (sym all)) (c.over_batch-span.ensures (map moment_of (taps_of made.0)) made.4),
+        omega (
+          arith,
+          made.3,
+          ap length all,
+          length-append (taps_of made.0) c.in-Ok.batch,
+          c.len.ensures.number,
+        ),
+        subst Q (sym (map-append moment_of (taps_of made.0) c.in-Ok.batch)
+            ∙ ap (map moment_of) (sym all))
+            (c.over_batch-span.ensures (map moment_of (taps_of made.0)) made.4),
       );
     }
 
@@ -55,7 +81,9 @@ pub overflow_add-taps : goal.overflow_add-taps
 overflow_add-taps c =
     let made = c.loop-item.invariant.made in
     let step = c.in-Some.ensures.steps ∙ ap (λ i. i ∷ c.next.new.self) c.in-Ok.is in
-    let read = read_batch c.args.upload.now made.0 c.in-Ok.batch c.next.new.self (same_items c.args.upload.now c.loop-item.yielded c.next.new.self made.0 (Ok c.in-Ok.batch) c.loop-item.item-iterator c.loop-item.invariant.reading made.1 step) in
+    let read = read_batch c.args.upload.now made.0 c.in-Ok.batch c.next.new.self
+    (same_items c.args.upload.now c.loop-item.yielded c.next.new.self made.0 (Ok c.in-Ok.batch)
+    c.loop-item.item-iterator c.loop-item.invariant.reading made.1 step) in
     let fits = few c.args.upload.now ((made.0 ++ c.in-Ok.batch ∷ []) ++ read.1) read.0 read.2 in
     let left = room c.args.upload.now made.0 read.1 read.0 c.in-Ok.batch fits in
     omega (arith, left.0, made.3, c.len.ensures.number, c.size.type_inv, c.size.ensures)
@@ -64,7 +92,9 @@ pub overflow_add-count : goal.overflow_add-count
 overflow_add-count c =
     let made = c.loop-item.invariant.made in
     let step = c.in-Some.ensures.steps ∙ ap (λ i. i ∷ c.next.new.self) c.in-Ok.is in
-    let read = read_batch c.args.upload.now made.0 c.in-Ok.batch c.next.new.self (same_items c.args.upload.now c.loop-item.yielded c.next.new.self made.0 (Ok c.in-Ok.batch) c.loop-item.item-iterator c.loop-item.invariant.reading made.1 step) in
+    let read = read_batch c.args.upload.now made.0 c.in-Ok.batch c.next.new.self
+    (same_items c.args.upload.now c.loop-item.yielded c.next.new.self made.0 (Ok c.in-Ok.batch)
+    c.loop-item.item-iterator c.loop-item.invariant.reading made.1 step) in
     let fits = few c.args.upload.now ((made.0 ++ c.in-Ok.batch ∷ []) ++ read.1) read.0 read.2 in
     let left = room c.args.upload.now made.0 read.1 read.0 c.in-Ok.batch fits in
     omega (arith, left.1, made.2, c.size.type_inv, c.size.ensures)
@@ -73,7 +103,10 @@ pub returns-in-Err : goal.returns-in-Err
 returns-in-Err c =
     let made = c.loop-item.invariant.made in
     let step = c.in-Some.ensures.steps ∙ ap (λ i. i ∷ c.next.new.self) c.in-Err.is in
-    let read = read_fault c.args.upload.now made.0 c.in-Err.offset c.in-Err.fault c.next.new.self (same_items c.args.upload.now c.loop-item.yielded c.next.new.self made.0 (Err (c.in-Err.offset, c.in-Err.fault)) c.loop-item.item-iterator c.loop-item.invariant.reading made.1 step) in
+    let read = read_fault c.args.upload.now made.0 c.in-Err.offset c.in-Err.fault c.next.new.self
+    (same_items c.args.upload.now c.loop-item.yielded c.next.new.self made.0
+    (Err (c.in-Err.offset, c.in-Err.fault)) c.loop-item.item-iterator
+    c.loop-item.invariant.reading made.1 step) in
     record {
       read_batches = made.0;
       read = record { rest = read.0; is_file = read.1; is_end = read.2 };
@@ -86,7 +119,9 @@ pub returns : goal.returns
 returns c =
     let made = c.loop-item.invariant.made in
     let P : List Item → Type 0 = IsReading c.args.upload.now in
-    let read = read_all c.args.upload.now made.0 (subst P (ap (λ left. c.loop-item.yielded ++ left) c.in-None.ensures.steps.0 ∙ (append-nil c.loop-item.yielded ∙ made.1)) c.loop-item.invariant.reading) in
+    let read = read_all c.args.upload.now made.0
+    (subst P (ap (λ left. c.loop-item.yielded ++ left) c.in-None.ensures.steps.0
+    ∙ (append-nil c.loop-item.yielded ∙ made.1)) c.loop-item.invariant.reading) in
     record {
       read_batches = made.0;
       read = record { rest = read.0; is_file = read.1; is_end = read.2 };

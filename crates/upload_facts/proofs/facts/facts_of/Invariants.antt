@@ -9,5 +9,6 @@ invariant-loop-item l = record {
   may : (goal.iterator-loop-item).can_next l.item-iterator;
   ends : (goal.iterator-loop-item).is_finite l.item-iterator;
   reading : IsReading l.upload (l.yielded ++ l.item-iterator);
-  made : (done : List (List Tap)) × (l.yielded ≡ map Ok done) × (l.count ≡ length done) × (l.taps ≡ length (taps_of done)) × IsSpan (map moment_of (taps_of done)) l.span;
+  made : (done : List (List Tap)) × (l.yielded ≡ map Ok done) × (l.count ≡ length done)
+      × (l.taps ≡ length (taps_of done)) × IsSpan (map moment_of (taps_of done)) l.span;
 }

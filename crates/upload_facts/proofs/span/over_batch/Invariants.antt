@@ -7,5 +7,6 @@ invariant-loop-tap l = record {
   may : (goal.iterator-loop-tap).can_next l.tap-iterator;
   ends : (goal.iterator-loop-tap).is_finite l.tap-iterator;
   all : l.yielded ++ l.tap-iterator ≡ l.batch;
-  wide : (moments : List ℕ) → IsSpan moments l.fn.span → IsSpan (moments ++ map moment_of l.yielded) l.wide;
+  wide : (moments : List ℕ) → IsSpan moments l.fn.span
+      → IsSpan (moments ++ map moment_of l.yielded) l.wide;
 }

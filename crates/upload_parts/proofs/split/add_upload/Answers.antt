@@ -1,4 +1,5 @@
-use Rattle.std.proofs.Common.{List, [], ◌++◌, ◌∷◌, Err, Some, None, ap, ◌∙◌, sym, refl, subst, append_assoc, append-nil}
+use Rattle.std.proofs.Common.{List, [], ◌++◌, ◌∷◌, Err, Some, None, ap, ◌∙◌, sym, refl, subst}
+use Rattle.std.proofs.Common.{append_assoc, append-nil}
 use Rattle.tap_views.specs.Files.{Item, IsReading}
 use Rattle.tap_parts.proofs.Adding.{none_added, batch_added}
 use Rattle.upload_facts.specs.Facts.{taps_of}
@@ -11,7 +12,8 @@ loop-item-init c =
     record {
       may = tt;
       ends = tt;
-      reading = subst P (sym c.into_iter-item-iterator.ensures.into_iter_gives) c.batches-item-items.ensures;
+      reading = subst P (sym c.into_iter-item-iterator.ensures.into_iter_gives)
+          c.batches-item-items.ensures;
       made = ([], refl, none_added c.args.parts.now);
     }
 
@@ -22,11 +24,14 @@ loop-item-preserved c =
     record {
       may = tt;
       ends = tt;
-      reading = subst P (ap (λ left. c.loop-item.yielded ++ left) c.in-Some.ensures.steps ∙ sym (append_assoc c.loop-item.yielded (c.in-Some.item ∷ []) c.next.new.self)) c.loop-item.invariant.reading;
+      reading = subst P (ap (λ left. c.loop-item.yielded ++ left) c.in-Some.ensures.steps
+          ∙ sym (append_assoc c.loop-item.yielded (c.in-Some.item ∷ []) c.next.new.self))
+          c.loop-item.invariant.reading;
       made = (
         made.0 ++ c.in-Ok.batch ∷ [],
         yielded_more c.loop-item.yielded made.0 c.in-Some.item c.in-Ok.batch made.1 c.in-Ok.is,
-        batch_added made.0 c.in-Ok.batch c.args.parts.now c.loop-item.parts c.add.new.self made.2 c.in_ok-add-in-Ok.ensures,
+        batch_added made.0 c.in-Ok.batch c.args.parts.now c.loop-item.parts c.add.new.self made.2
+            c.in_ok-add-in-Ok.ensures,
       );
     }
 
@@ -35,10 +40,17 @@ returns-in-Err c =
     let made = c.loop-item.invariant.made in
     let fault = c.in-Err.field-0 in
     let step = c.in-Some.ensures.steps ∙ ap (λ i. i ∷ c.next.new.self) c.in-Err.is in
-    let read = read_fault c.args.upload.now made.0 fault.0 fault.1 c.next.new.self (same_items c.args.upload.now c.loop-item.yielded c.next.new.self made.0 (Err fault) c.loop-item.item-iterator c.loop-item.invariant.reading made.1 step) in
+    let read = read_fault c.args.upload.now made.0 fault.0 fault.1 c.next.new.self
+    (same_items c.args.upload.now c.loop-item.yielded c.next.new.self made.0 (Err fault)
+    c.loop-item.item-iterator c.loop-item.invariant.reading made.1 step) in
     record {
       taps = taps_of made.0;
-      of_upload = record { batches = made.0; fault = Some fault; read = record { rest = read.0; is_file = read.1; is_end = read.2 }; all = refl };
+      of_upload = record {
+        batches = made.0;
+        fault = Some fault;
+        read = record { rest = read.0; is_file = read.1; is_end = read.2 };
+        all = refl;
+      };
       added = made.2;
     }
 
@@ -46,9 +58,16 @@ pub returns : goal.returns
 returns c =
     let made = c.loop-item.invariant.made in
     let P : List Item → Type 0 = IsReading c.args.upload.now in
-    let read = read_all c.args.upload.now made.0 (subst P (ap (λ left. c.loop-item.yielded ++ left) c.in-None.ensures.steps.0 ∙ (append-nil c.loop-item.yielded ∙ made.1)) c.loop-item.invariant.reading) in
+    let read = read_all c.args.upload.now made.0
+    (subst P (ap (λ left. c.loop-item.yielded ++ left) c.in-None.ensures.steps.0
+    ∙ (append-nil c.loop-item.yielded ∙ made.1)) c.loop-item.invariant.reading) in
     record {
       taps = taps_of made.0;
-      of_upload = record { batches = made.0; fault = None; read = record { rest = read.0; is_file = read.1; is_end = read.2 }; all = refl };
+      of_upload = record {
+        batches = made.0;
+        fault = None;
+        read = record { rest = read.0; is_file = read.1; is_end = read.2 };
+        all = refl;
+      };
       added = made.2;
     }

@@ -10,5 +10,6 @@ invariant-loop-item l = record {
   may : (goal.iterator-loop-item).can_next l.item-iterator;
   ends : (goal.iterator-loop-item).is_finite l.item-iterator;
   reading : IsReading l.upload (l.yielded ++ l.item-iterator);
-  made : (done : List (List Tap)) × (l.yielded ≡ map Ok done) × AreAdded (taps_of done) l.fn.parts l.parts;
+  made : (done : List (List Tap)) × (l.yielded ≡ map Ok done)
+      × AreAdded (taps_of done) l.fn.parts l.parts;
 }

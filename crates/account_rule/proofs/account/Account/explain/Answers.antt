@@ -5,7 +5,8 @@ use Rattle.account_rule.specs.Rules.{rules_of}
 use Rattle.account_rule.specs.Stands.{Stands, StandsForSome}
 use Rattle.account_rule.specs.Taps.{live_at}
 use Rattle.account_rule.proofs.ReasonLemmas.{reason_unknown, why_ride, why_stale, why_transfer}
-use Rattle.account_rule.proofs.StepLemmas.{at_fresh, at_kept, gives_none-fresh, gives_none-state, kept-fresh, kept-open, kept_terms, room}
+use Rattle.account_rule.proofs.StepLemmas.{at_fresh, at_kept, gives_none-fresh, gives_none-state}
+use Rattle.account_rule.proofs.StepLemmas.{kept-fresh, kept-open, kept_terms, room}
 use Rattle.account_rule.proofs.account.Account.explain.Goals as goal
 
 pub returns-in_default : goal.returns-in_default
@@ -16,36 +17,44 @@ returns-in_default c = λ taps stands. sym (reason_unknown _ taps c.args.tap c.i
 pub next_reason-requires-clause-room : goal.next_reason-requires-clause-room
 unfolding StandsForSome Stands rules_of
 next_reason-requires-clause-room c =
-    room (rules_of c.args.table.now c.args.token.now) (kept_of c.args.self.now) c.requires.stands.0 c.args.tap _ _ c.requires.stands.1
-    (c.open.ensures ∙ at_fresh _ c.args.tap.moment c.args.tap.until (kept-fresh _ c.if-not-self.true)) c.terms_of.ensures.terms c.terms_of.ensures.limits
+    room (rules_of c.args.table.now c.args.token.now) (kept_of c.args.self.now) c.requires.stands.0
+    c.args.tap _ _ c.requires.stands.1
+    (c.open.ensures ∙ at_fresh _ c.args.tap.moment c.args.tap.until
+    (kept-fresh _ c.if-not-self.true)) c.terms_of.ensures.terms c.terms_of.ensures.limits
 
 pub returns-then-not-self : goal.returns-then-not-self
 unfolding Stands rules_of
 returns-then-not-self c =
     λ taps stands. c.next_reason.ensures
-    ∙ why_ride (rules_of c.args.table.now c.args.token.now) (kept_of c.args.self.now) taps c.args.tap c.in-Some.mode _ _ stands c.in-Some.is c.requires.until
-    (gives_none-fresh _ _ c.args.tap c.in-Some.mode (kept-fresh _ c.if-not-self.true)) c.terms_of.ensures.terms
-    (c.open.ensures ∙ at_fresh _ c.args.tap.moment c.args.tap.until (kept-fresh _ c.if-not-self.true))
+    ∙ why_ride (rules_of c.args.table.now c.args.token.now) (kept_of c.args.self.now) taps
+    c.args.tap c.in-Some.mode _ _ stands c.in-Some.is c.requires.until
+    (gives_none-fresh _ _ c.args.tap c.in-Some.mode (kept-fresh _ c.if-not-self.true))
+    c.terms_of.ensures.terms
+    (c.open.ensures ∙ at_fresh _ c.args.tap.moment c.args.tap.until
+    (kept-fresh _ c.if-not-self.true))
 
 -- a tap that is not later
 
 pub returns-then-tap-self : goal.returns-then-tap-self
 unfolding Stands
 returns-then-tap-self c =
-    λ taps stands. why_stale _ _ _ taps c.args.tap _ (kept-open _ c.if-not-self.false) stands c.in-Some.is c.if-tap-self.true
+    λ taps stands. why_stale _ _ _ taps c.args.tap _ (kept-open _ c.if-not-self.false) stands
+    c.in-Some.is c.if-tap-self.true
 
 -- a transfer
 
 pub gives_transfer-requires-clause-giver : goal.gives_transfer-requires-clause-giver
 unfolding StandsForSome Stands kept_giver rules_of live_at
 gives_transfer-requires-clause-giver c =
-    λ giver kept. c.requires.stands.1.mode (live_at c.args.self.now.last giver) (rw (kept-open c.args.self.now c.if-not-self.false, kept) refl)
+    λ giver kept. c.requires.stands.1.mode (live_at c.args.self.now.last giver)
+    (rw (kept-open c.args.self.now c.if-not-self.false, kept) refl)
 
 pub returns-then-gives_transfer : goal.returns-then-gives_transfer
 unfolding rules_of Stands
 returns-then-gives_transfer c =
     λ taps stands. c.given.ensures
-    ∙ why_transfer (rules_of c.args.table.now c.args.token.now) _ _ taps c.args.tap c.in-Some.mode (kept-open _ c.if-not-self.false) stands c.in-Some.is
+    ∙ why_transfer (rules_of c.args.table.now c.args.token.now) _ _ taps c.args.tap c.in-Some.mode
+    (kept-open _ c.if-not-self.false) stands c.in-Some.is
     c.if-tap-self.false (sym c.gives_transfer.ensures ∙ c.if-gives_transfer.true)
 
 -- a later ride
@@ -53,20 +62,28 @@ returns-then-gives_transfer c =
 pub next_reason-requires-2-clause-limits : goal.next_reason-requires-2-clause-limits
 unfolding StandsForSome Stands
 next_reason-requires-2-clause-limits c =
-    (kept_terms _ (kept_of c.args.self.now) _ c.requires.stands.0 (kept-open _ c.if-not-self.false) c.requires.stands.1).limits
+    (kept_terms _ (kept_of c.args.self.now) _ c.requires.stands.0 (kept-open _ c.if-not-self.false)
+    c.requires.stands.1).limits
 
 pub next_reason-requires-2-clause-room : goal.next_reason-requires-2-clause-room
 unfolding StandsForSome Stands rules_of
 next_reason-requires-2-clause-room c =
-    let kept = kept_terms _ (kept_of c.args.self.now) _ c.requires.stands.0 (kept-open _ c.if-not-self.false) c.requires.stands.1 in
-    room (rules_of c.args.table.now c.args.token.now) (kept_of c.args.self.now) c.requires.stands.0 c.args.tap _ _ c.requires.stands.1
-    (c.window_at.ensures ∙ at_kept _ _ c.args.tap.moment c.args.tap.until (kept-open _ c.if-not-self.false)) kept.same kept.limits
+    let kept = kept_terms _ (kept_of c.args.self.now) _ c.requires.stands.0
+    (kept-open _ c.if-not-self.false) c.requires.stands.1 in
+    room (rules_of c.args.table.now c.args.token.now) (kept_of c.args.self.now) c.requires.stands.0
+    c.args.tap _ _ c.requires.stands.1
+    (c.window_at.ensures
+    ∙ at_kept _ _ c.args.tap.moment c.args.tap.until (kept-open _ c.if-not-self.false))
+    kept.same kept.limits
 
 pub returns : goal.returns
 unfolding rules_of Stands
 returns c =
     λ taps stands. c.next_reason-2.ensures
-    ∙ why_ride (rules_of c.args.table.now c.args.token.now) (kept_of c.args.self.now) taps c.args.tap c.in-Some.mode _ _ stands c.in-Some.is c.requires.until
-    (gives_none-state _ _ _ c.args.tap _ (kept-open _ c.if-not-self.false) c.if-tap-self.false (sym c.gives_transfer.ensures ∙ c.if-gives_transfer.false))
+    ∙ why_ride (rules_of c.args.table.now c.args.token.now) (kept_of c.args.self.now) taps
+    c.args.tap c.in-Some.mode _ _ stands c.in-Some.is c.requires.until
+    (gives_none-state _ _ _ c.args.tap _ (kept-open _ c.if-not-self.false) c.if-tap-self.false
+    (sym c.gives_transfer.ensures ∙ c.if-gives_transfer.false))
     (kept_terms _ (kept_of c.args.self.now) _ taps (kept-open _ c.if-not-self.false) stands).same
-    (c.window_at.ensures ∙ at_kept _ _ c.args.tap.moment c.args.tap.until (kept-open _ c.if-not-self.false))
+    (c.window_at.ensures
+    ∙ at_kept _ _ c.args.tap.moment c.args.tap.until (kept-open _ c.if-not-self.false))

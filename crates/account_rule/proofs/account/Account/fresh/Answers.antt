@@ -9,7 +9,8 @@ use Rattle.account_rule.specs.Windows.{windows}
 use Rattle.account_rule.proofs.account.Account.fresh.Goals as goal
 
 pub returns-clause-stands : goal.returns-clause-stands
-unfolding Stands is_after is_later kept_of kept_giver giver_of kept_window window_of windows rides chains live live_after cut last_block
+unfolding Stands is_after is_later kept_of kept_giver giver_of kept_window window_of windows rides
+    chains live live_after cut last_block
 returns-clause-stands c = λ rules. record {
   last = λ moment. refl;
   giver = refl;

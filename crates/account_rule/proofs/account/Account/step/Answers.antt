@@ -2,11 +2,13 @@
 use Rattle.std.proofs.Common.{List, [], ◌∷◌, ◌++◌, Some, refl, sym, ◌∙◌}
 use Rattle.account_rule.specs.Replies.{ride_reply}
 use Rattle.account_rule.specs.Rules.{rules_of}
-use Rattle.account_rule.specs.Kept.{fields_of, kept_giver, kept_of}
+use Rattle.account_rule.specs.Kept.{state_of, kept_giver, kept_of}
 use Rattle.account_rule.specs.Stands.{StandsForSome, Stands}
 use Rattle.account_rule.specs.Taps.{live_at}
 use Rattle.account_rule.specs.declared.tap.TapIn.{TapIn}
-use Rattle.account_rule.proofs.StepLemmas.{IsStep, at_kept, first_ride, gives_none-state, kept-fresh, kept-open, kept_terms, next_ride, room, stale, stands-open, transfer, unknown}
+use Rattle.account_rule.proofs.StepLemmas.{IsStep, at_kept, first_ride, gives_none-state}
+use Rattle.account_rule.proofs.StepLemmas.{kept-fresh, kept-open, kept_terms, next_ride, room}
+use Rattle.account_rule.proofs.StepLemmas.{stale, stands-open, transfer, unknown}
 use Rattle.account_rule.proofs.account.Account.step.Goals as goal
 use Rattle.account_rule.proofs.account.Account.step.Goals.{After-first_ride, After-to_ride}
 
@@ -15,21 +17,27 @@ use Rattle.account_rule.proofs.account.Account.step.Goals.{After-first_ride, Aft
 pub returns-in_default-clause-reply : goal.returns-in_default-clause-reply
 unfolding Stands
 returns-in_default-clause-reply c =
-    λ taps stands. c.free.ensures ∙ (unknown _ (kept_of c.args.self.now) taps c.args.tap stands c.in_default.is).reply
+    λ taps stands. c.free.ensures
+    ∙ (unknown _ (kept_of c.args.self.now) taps c.args.tap stands c.in_default.is).reply
 
 pub returns-in_default-clause-stands : goal.returns-in_default-clause-stands
 unfolding Stands
 returns-in_default-clause-stands c =
-    λ taps stands. (unknown _ (kept_of c.args.self.now) taps c.args.tap stands c.in_default.is).stands
+    λ taps stands. (unknown _ (kept_of c.args.self.now) taps c.args.tap stands
+    c.in_default.is).stands
 
 -- the tap is the first ride
 
-is_first_ride : (c : After-first_ride) (taps : List TapIn) → Stands (rules_of c.args.table.now c.args.token.now) c.args.self.now taps
-    → IsStep (rules_of c.args.table.now c.args.token.now) taps c.args.tap c.first_ride.result (kept_of c.first_ride.new.self)
+is_first_ride : (c : After-first_ride) (taps : List TapIn)
+    → Stands (rules_of c.args.table.now c.args.token.now) c.args.self.now taps
+    → IsStep (rules_of c.args.table.now c.args.token.now) taps c.args.tap c.first_ride.result
+    (kept_of c.first_ride.new.self)
 unfolding rules_of Stands
 is_first_ride c taps stands =
-    first_ride (rules_of c.args.table.now c.args.token.now) (kept_of c.args.self.now) _ taps c.args.tap c.in-Some.mode _ (kept-fresh _ c.if-not-self.true) stands c.in-Some.is
-    (c.requires.mode _ c.in-Some.is) c.requires.until c.first_ride.ensures.limits c.first_ride.ensures.reply c.first_ride.ensures.state
+    first_ride (rules_of c.args.table.now c.args.token.now) (kept_of c.args.self.now) _ taps
+    c.args.tap c.in-Some.mode _ (kept-fresh _ c.if-not-self.true) stands c.in-Some.is
+    (c.requires.mode _ c.in-Some.is) c.requires.until c.first_ride.ensures.limits
+    c.first_ride.ensures.reply c.first_ride.ensures.state
 
 pub returns-then-not-self-clause-reply : goal.returns-then-not-self-clause-reply
 returns-then-not-self-clause-reply c = λ taps stands. (is_first_ride c taps stands).reply
@@ -40,8 +48,10 @@ returns-then-not-self-clause-stands c = λ taps stands. (is_first_ride c taps st
 
 pub returns-then-not-self-clause-some : goal.returns-then-not-self-clause-some
 unfolding StandsForSome
-returns-then-not-self-clause-some c =
-    (c.requires.stands.0 ++ c.args.tap ∷ [], returns-then-not-self-clause-stands c c.requires.stands.0 c.requires.stands.1)
+returns-then-not-self-clause-some c = (
+  c.requires.stands.0 ++ c.args.tap ∷ [],
+  returns-then-not-self-clause-stands c c.requires.stands.0 c.requires.stands.1,
+)
 
 -- the tap is not later than the last
 
@@ -49,70 +59,90 @@ pub returns-then-tap-self-clause-reply : goal.returns-then-tap-self-clause-reply
 unfolding Stands
 returns-then-tap-self-clause-reply c =
     λ taps stands. c.free-then-tap-self.ensures
-    ∙ (stale _ _ _ taps c.args.tap _ (kept-open _ c.if-not-self.false) stands c.in-Some.is c.if-tap-self.true).reply
+    ∙ (stale _ _ _ taps c.args.tap _ (kept-open _ c.if-not-self.false) stands c.in-Some.is
+    c.if-tap-self.true).reply
 
 pub returns-then-tap-self-clause-stands : goal.returns-then-tap-self-clause-stands
 unfolding Stands
 returns-then-tap-self-clause-stands c =
     λ taps stands. stands-open _ _ _ c.if-not-self.false
-    (stale _ _ _ taps c.args.tap _ (kept-open _ c.if-not-self.false) stands c.in-Some.is c.if-tap-self.true).stands
+    (stale _ _ _ taps c.args.tap _ (kept-open _ c.if-not-self.false) stands c.in-Some.is
+    c.if-tap-self.true).stands
 
 -- the last tap gives a transfer
 
 pub gives_transfer-requires-clause-giver : goal.gives_transfer-requires-clause-giver
 unfolding StandsForSome Stands kept_giver rules_of live_at
 gives_transfer-requires-clause-giver c =
-    λ giver kept. c.requires.stands.1.mode (live_at c.args.self.now.last giver) (rw (kept-open c.args.self.now c.if-not-self.false, kept) refl)
+    λ giver kept. c.requires.stands.1.mode (live_at c.args.self.now.last giver)
+    (rw (kept-open c.args.self.now c.if-not-self.false, kept) refl)
 
 pub returns-then-gives_transfer-clause-reply : goal.returns-then-gives_transfer-clause-reply
 unfolding rules_of Stands
 returns-then-gives_transfer-clause-reply c =
     λ taps stands. c.free-then-gives_transfer.ensures
-    ∙ (transfer (rules_of c.args.table.now c.args.token.now) _ _ taps c.args.tap c.in-Some.mode (kept-open _ c.if-not-self.false) stands c.in-Some.is
+    ∙ (transfer (rules_of c.args.table.now c.args.token.now) _ _ taps c.args.tap c.in-Some.mode
+    (kept-open _ c.if-not-self.false) stands c.in-Some.is
     c.if-tap-self.false (sym c.gives_transfer.ensures ∙ c.if-gives_transfer.true)).reply
 
 pub returns-then-gives_transfer-clause-stands : goal.returns-then-gives_transfer-clause-stands
 unfolding rules_of Stands
 returns-then-gives_transfer-clause-stands c =
     λ taps stands. stands-open _ _ _ c.if-not-self.false
-    (transfer (rules_of c.args.table.now c.args.token.now) _ _ taps c.args.tap c.in-Some.mode (kept-open _ c.if-not-self.false) stands c.in-Some.is
+    (transfer (rules_of c.args.table.now c.args.token.now) _ _ taps c.args.tap c.in-Some.mode
+    (kept-open _ c.if-not-self.false) stands c.in-Some.is
     c.if-tap-self.false (sym c.gives_transfer.ensures ∙ c.if-gives_transfer.true)).stands
 
 pub returns-then-gives_transfer-clause-some : goal.returns-then-gives_transfer-clause-some
 unfolding StandsForSome
-returns-then-gives_transfer-clause-some c =
-    (c.requires.stands.0 ++ c.args.tap ∷ [], returns-then-gives_transfer-clause-stands c c.requires.stands.0 c.requires.stands.1)
+returns-then-gives_transfer-clause-some c = (
+  c.requires.stands.0 ++ c.args.tap ∷ [],
+  returns-then-gives_transfer-clause-stands c c.requires.stands.0 c.requires.stands.1,
+)
 
 -- the tap is a later ride
 
 pub take_ride-requires-clause-limits : goal.take_ride-requires-clause-limits
 unfolding StandsForSome Stands
 take_ride-requires-clause-limits c =
-    (kept_terms _ (kept_of c.args.self.now) _ c.requires.stands.0 (kept-open _ c.if-not-self.false) c.requires.stands.1).limits
+    (kept_terms _ (kept_of c.args.self.now) _ c.requires.stands.0 (kept-open _ c.if-not-self.false)
+    c.requires.stands.1).limits
 
 pub take_ride-requires-clause-room : goal.take_ride-requires-clause-room
 unfolding StandsForSome Stands rules_of
 take_ride-requires-clause-room c =
-    let kept = kept_terms _ (kept_of c.args.self.now) _ c.requires.stands.0 (kept-open _ c.if-not-self.false) c.requires.stands.1 in
-    room (rules_of c.args.table.now c.args.token.now) (kept_of c.args.self.now) c.requires.stands.0 c.args.tap _ _ c.requires.stands.1
-    (at_kept _ _ c.args.tap.moment c.args.tap.until (kept-open _ c.if-not-self.false)) kept.same kept.limits
+    let kept = kept_terms _ (kept_of c.args.self.now) _ c.requires.stands.0
+    (kept-open _ c.if-not-self.false) c.requires.stands.1 in
+    room (rules_of c.args.table.now c.args.token.now) (kept_of c.args.self.now) c.requires.stands.0
+    c.args.tap _ _ c.requires.stands.1
+    (at_kept _ _ c.args.tap.moment c.args.tap.until (kept-open _ c.if-not-self.false)) kept.same
+    kept.limits
 
-is_next_ride : (c : After-to_ride) (taps : List TapIn) → Stands (rules_of c.args.table.now c.args.token.now) c.args.self.now taps
-    → IsStep (rules_of c.args.table.now c.args.token.now) taps c.args.tap (ride_reply c.take_ride.result) (Some (fields_of c.take_ride.new.self))
+is_next_ride : (c : After-to_ride) (taps : List TapIn)
+    → Stands (rules_of c.args.table.now c.args.token.now) c.args.self.now taps
+    → IsStep (rules_of c.args.table.now c.args.token.now) taps c.args.tap
+    (ride_reply c.take_ride.result) (Some (state_of c.take_ride.new.self))
 unfolding rules_of Stands
 is_next_ride c taps stands =
-    next_ride (rules_of c.args.table.now c.args.token.now) (kept_of c.args.self.now) _ _ taps c.args.tap c.in-Some.mode _ (kept-open _ c.if-not-self.false) stands c.in-Some.is
+    next_ride (rules_of c.args.table.now c.args.token.now) (kept_of c.args.self.now) _ _ taps
+    c.args.tap c.in-Some.mode _ (kept-open _ c.if-not-self.false) stands c.in-Some.is
     (c.requires.mode _ c.in-Some.is) c.requires.until
-    (gives_none-state _ _ _ c.args.tap _ (kept-open _ c.if-not-self.false) c.if-tap-self.false (sym c.gives_transfer.ensures ∙ c.if-gives_transfer.false))
-    c.take_ride.ensures.cost c.take_ride.ensures.last c.take_ride.ensures.giver c.take_ride.ensures.terms c.take_ride.ensures.window
+    (gives_none-state _ _ _ c.args.tap _ (kept-open _ c.if-not-self.false) c.if-tap-self.false
+    (sym c.gives_transfer.ensures ∙ c.if-gives_transfer.false))
+    c.take_ride.ensures.cost c.take_ride.ensures.last c.take_ride.ensures.giver
+    c.take_ride.ensures.terms c.take_ride.ensures.window
 
 pub returns-clause-reply : goal.returns-clause-reply
 returns-clause-reply c = λ taps stands. c.to_ride.ensures ∙ (is_next_ride c taps stands).reply
 
 pub returns-clause-stands : goal.returns-clause-stands
 returns-clause-stands c =
-    λ taps stands. stands-open _ _ _ (c.take_ride.ensures.has_window ∙ c.if-not-self.false) (is_next_ride c taps stands).stands
+    λ taps stands. stands-open _ _ _ (c.take_ride.ensures.has_window
+    ∙ c.if-not-self.false) (is_next_ride c taps stands).stands
 
 pub returns-clause-some : goal.returns-clause-some
 unfolding StandsForSome
-returns-clause-some c = (c.requires.stands.0 ++ c.args.tap ∷ [], returns-clause-stands c c.requires.stands.0 c.requires.stands.1)
+returns-clause-some c = (
+  c.requires.stands.0 ++ c.args.tap ∷ [],
+  returns-clause-stands c c.requires.stands.0 c.requires.stands.1,
+)

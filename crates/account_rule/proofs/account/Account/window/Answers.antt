@@ -14,31 +14,39 @@ use Rattle.account_rule.proofs.StepLemmas.{kept-fresh, kept-open}
 use Rattle.account_rule.proofs.WindowLemmas.{cents-shown, paid-shown, shown_window-of}
 use Rattle.account_rule.proofs.account.Account.window.Goals as goal
 
-seen : (rules : Rules) (account : Account) (taps : List TapIn) (shown : Option WindowView) → Stands rules account taps
+seen : (rules : Rules) (account : Account) (taps : List TapIn) (shown : Option WindowView)
+    → Stands rules account taps
     → shown ≡ option_map shown_of (kept_window (kept_of account)) → shown ≡ last_window rules taps
 unfolding Stands last_window
-seen rules account taps shown stands same = same ∙ rw stands.window (shown_window-of rules (last_block (windows rules taps)))
+seen rules account taps shown stands same =
+    same ∙ rw stands.window (shown_window-of rules (last_block (windows rules taps)))
 
 -- with a window
 
 pub returns-then-self-clause-window : goal.returns-then-self-clause-window
 unfolding kept_window
-returns-then-self-clause-window c = λ of taps stands. seen of c.args.self.now taps _ stands (rw (kept-open c.args.self.now c.if-self.true, c.shown.ensures) refl)
+returns-then-self-clause-window c =
+    λ of taps stands. seen of c.args.self.now taps _ stands
+    (rw (kept-open c.args.self.now c.if-self.true, c.shown.ensures) refl)
 
 pub returns-then-self-clause-paid : goal.returns-then-self-clause-paid
 unfolding last_window
 returns-then-self-clause-paid c =
-    λ of taps stands. subst (λ shown. IfSome shown (λ window. window.paid ≤ of.terms.rides)) (sym (returns-then-self-clause-window c of taps stands))
+    λ of taps stands. subst (λ shown. IfSome shown (λ window. window.paid ≤ of.terms.rides))
+    (sym (returns-then-self-clause-window c of taps stands))
     (paid-shown of (last_block (windows of taps)))
 
 pub returns-then-self-clause-cents : goal.returns-then-self-clause-cents
 unfolding last_window
 returns-then-self-clause-cents c =
-    λ of taps stands. subst (λ shown. IfSome shown (λ window. window.cents ≤ of.terms.ceiling)) (sym (returns-then-self-clause-window c of taps stands))
+    λ of taps stands. subst (λ shown. IfSome shown (λ window. window.cents ≤ of.terms.ceiling))
+    (sym (returns-then-self-clause-window c of taps stands))
     (cents-shown of (last_block (windows of taps)))
 
 -- with none
 
 pub returns-else-self-clause-window : goal.returns-else-self-clause-window
 unfolding kept_window
-returns-else-self-clause-window c = λ of taps stands. seen of c.args.self.now taps _ stands (rw (kept-fresh c.args.self.now c.if-self.false) refl)
+returns-else-self-clause-window c =
+    λ of taps stands. seen of c.args.self.now taps _ stands
+    (rw (kept-fresh c.args.self.now c.if-self.false) refl)

@@ -9,7 +9,8 @@ use Rattle.fare_table.specs.inside.PosixRule.{HasRule, rule_of}
 use Rattle.fare_table.specs.Until.{IsCivilLimit, limit_in}
 use Rattle.fare_table.proofs.clock.Clock.until.Goals as goal
 
-by_rule : (zone : TimeZone) (start limit : ℕ) → IsSome (posix_rule zone) → IsCivilLimit zone start limit → limit ≡ limit_in (posix_rule zone) start
+by_rule : (zone : TimeZone) (start limit : ℕ) → IsSome (posix_rule zone)
+    → IsCivilLimit zone start limit → limit ≡ limit_in (posix_rule zone) start
 by_rule UTC start limit rule is = absurd (false≢true rule)
 by_rule Unknown start limit rule is = absurd (false≢true rule)
 by_rule (Fixed offset) start limit rule is = absurd (false≢true rule)
@@ -19,6 +20,8 @@ by_rule (Tzif zone) start limit rule is = absurd (false≢true rule)
 pub returns-in-Some-clause-value : goal.returns-in-Some-clause-value
 returns-in-Some-clause-value c =
     let P : Option Zone → Type 0 = HasRule in
-    let rule : IsSome (posix_rule (plain_zone c.in-Some.zone)) = subst P c.in-Some.is c.self.invariant in
-    by_rule (plain_zone c.in-Some.zone) c.args.moment c.civil_limit.result rule c.civil_limit.ensures.limit
+    let rule : IsSome (posix_rule (plain_zone c.in-Some.zone)) =
+    subst P c.in-Some.is c.self.invariant in
+    by_rule (plain_zone c.in-Some.zone) c.args.moment c.civil_limit.result rule
+    c.civil_limit.ensures.limit
     ∙ ap (λ zone. limit_in zone c.args.moment) (ap rule_of (sym c.in-Some.is) ∙ c.self.view_is)

@@ -1,4 +1,5 @@
-use Rattle.std.proofs.Common.{◌≡◌, ℕ, true, Option, Some, None, IfSome, option_map, subst, sym, length, leb-true}
+use Rattle.std.proofs.Common.{◌≡◌, ℕ, true, Option, Some, None, IfSome, option_map, subst, sym}
+use Rattle.std.proofs.Common.{length, leb-true}
 use Rattle.std.proofs.lemmas.List.{length-map}
 use Rattle.std.specs.Arc.{arc_value}
 use Rattle.std.specs.Prelude.{nat_lt}
@@ -7,7 +8,9 @@ use Rattle.fare_table.specs.Fares.{has_number}
 use Rattle.fare_table.specs.declared.validators.Span.{Span}
 use Rattle.fare_table.proofs.table.FareTable.mode_of.Goals as goal
 
-span-below : (count : ℕ) (range : Option (ℕ × Span)) → IfSome range (λ r. nat_lt r.1.mode count ≡ true) → IfSome (option_map (λ (r : ℕ × Span). r.1) range) (λ span. nat_lt span.mode count ≡ true)
+span-below : (count : ℕ) (range : Option (ℕ × Span))
+    → IfSome range (λ r. nat_lt r.1.mode count ≡ true)
+    → IfSome (option_map (λ (r : ℕ × Span). r.1) range) (λ span. nat_lt span.mode count ≡ true)
 span-below count None below = tt
 span-below count (Some range) below = below
 
@@ -18,5 +21,7 @@ returns-clause-within c =
     let P : Option Span → Type 0 = λ o. IfSome o (λ span. nat_lt span.mode count ≡ true) in
     let ranges = c.deref.result.now.ranges in
     let below : nat_lt c.in_ok-span.span.mode count ≡ true =
-    subst P (sym c.in_ok-span.ensures) (span-below count _ (find-all (λ range. nat_lt range.1.mode count) (has_number c.args.validator) ranges (rw c.deref.ensures c.self.invariant.known))) in
+    subst P (sym c.in_ok-span.ensures)
+    (span-below count _ (find-all (λ range. nat_lt range.1.mode count)
+    (has_number c.args.validator) ranges (rw c.deref.ensures c.self.invariant.known))) in
     rw (← c.self.view_is, length-map) (leb-true _ _ below)

@@ -8,5 +8,6 @@ use Rattle.fare_table.proofs.table.FareTable.terms_of.Goals as goal
 pub returns-in-Some-clause-limits : goal.returns-in-Some-clause-limits
 returns-in-Some-clause-limits c =
     let P : Option Terms → Type 0 = λ o. IfSome o HasLimits in
-    let limits : All HasLimits (values_of c.deref.result.now.riders) = rw c.deref.ensures c.self.invariant.riders in
+    let limits : All HasLimits (values_of c.deref.result.now.riders) =
+    rw c.deref.ensures c.self.invariant.riders in
     subst P (sym c.in-Some.ensures) (IfSome-lookup_from_All HasLimits _ _ limits)

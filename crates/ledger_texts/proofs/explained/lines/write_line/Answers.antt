@@ -14,9 +14,21 @@ returns c =
     let done = string_bytes c.push_str.new.self in
     let last = codes "\n" in (
       moment.0 ++ (words ++ (because.0 ++ (local.0 ++ last))),
-      record { moment = moment.0; is = moment.1; because = because.0; told = because.1; local = local.0; at = local.1; shown = refl },
-      in_parts (string_bytes c.args.text.now) (string_bytes c.write_moment.new.text) done moment.0 (words ++ (because.0 ++ (local.0 ++ last))) moment.2
-          (in_parts (string_bytes c.write_moment.new.text) (string_bytes c.write_words.new.text) done words (because.0 ++ (local.0 ++ last)) c.in_ok-write_words.ensures
-          (in_parts (string_bytes c.write_words.new.text) (string_bytes c.write_why.new.text) done because.0 (local.0 ++ last) because.2
-          (in_parts (string_bytes c.write_why.new.text) (string_bytes c.write_local.new.text) done local.0 last local.2 c.in_ok-push_str.ensures.bytes))),
+      record {
+        moment = moment.0;
+        is = moment.1;
+        because = because.0;
+        told = because.1;
+        local = local.0;
+        at = local.1;
+        shown = refl;
+      },
+      in_parts (string_bytes c.args.text.now) (string_bytes c.write_moment.new.text) done moment.0
+          (words ++ (because.0 ++ (local.0 ++ last))) moment.2
+          (in_parts (string_bytes c.write_moment.new.text) (string_bytes c.write_words.new.text)
+          done words (because.0 ++ (local.0 ++ last)) c.in_ok-write_words.ensures
+          (in_parts (string_bytes c.write_words.new.text) (string_bytes c.write_why.new.text) done
+          because.0 (local.0 ++ last) because.2
+          (in_parts (string_bytes c.write_why.new.text) (string_bytes c.write_local.new.text) done
+          local.0 last local.2 c.in_ok-push_str.ensures.bytes))),
     )

@@ -14,7 +14,9 @@ loop-window-preserved c =
     let line = c.in_ok-write_line.ensures in
     record {
       written = c.loop-window.invariant.written ++ line.0;
-      are = next_window c.args.clock.now c.args.windows.now c.loop-window.window-index _ c.loop-window-test.true
+      are = next_window c.args.clock.now c.args.windows.now c.loop-window.window-index _
+          c.loop-window-test.true
           c.loop-window.invariant.written line.0 c.loop-window.invariant.are line.1;
-      whole = line.2 ∙ ap (λ t. t ++ line.0) c.loop-window.invariant.whole ∙ append_assoc (string_bytes c.args.text.now) c.loop-window.invariant.written line.0;
+      whole = line.2 ∙ ap (λ t. t ++ line.0) c.loop-window.invariant.whole
+          ∙ append_assoc (string_bytes c.args.text.now) c.loop-window.invariant.written line.0;
     }

@@ -9,6 +9,9 @@ use Rattle.ledger_texts.proofs.explained.windows.windows_of.Given as goal
 -- the account stands for the entries so far, and the windows before its last one are kept
 abbrev pub invariant-loop-entry : goal.invariant-loop-entry
 invariant-loop-entry l = record {
-  stands : Stands (rules_of l.table (bytes_of l.fn.token)) l.account (map (tap_of l.table) (take l.entry-index l.entries));
-  earlier : l.earlier.items ≡ earlier_windows (rules_of l.table (bytes_of l.fn.token)) (map (tap_of l.table) (take l.entry-index l.entries));
+  stands : Stands (rules_of l.table (bytes_of l.fn.token)) l.account
+      (map (tap_of l.table) (take l.entry-index l.entries));
+  earlier : l.earlier.items
+      ≡ earlier_windows (rules_of l.table (bytes_of l.fn.token))
+      (map (tap_of l.table) (take l.entry-index l.entries));
 }

@@ -14,7 +14,9 @@ not_false false is = refl
 pub returns-then-ne-clause-come : goal.returns-then-ne-clause-come
 returns-then-ne-clause-come c = λ fares earlier come to.
     let old = c.args.self.now in
-    let apart : token_eq old.token c.args.token ≡ false = not_false (token_eq old.token c.args.token) (sym c.ne.ensures ∙ c.if-ne.true) in
+    let apart : token_eq old.token c.args.token ≡ false =
+    not_false (token_eq old.token c.args.token) (sym c.ne.ensures ∙ c.if-ne.true) in
     let same = sym c.of.ensures.token in
-    come_turned fares old c.of.result earlier come (subst (λ (t : Token). IsUpTo old.token t) same to)
+    come_turned fares old c.of.result earlier come
+    (subst (λ (t : Token). IsUpTo old.token t) same to)
     (subst (λ (t : Token). token_eq old.token t ≡ false) same apart) (c.of.ensures.come fares)

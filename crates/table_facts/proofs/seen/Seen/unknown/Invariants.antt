@@ -5,4 +5,6 @@ use Rattle.table_facts.proofs.seen.Seen.unknown.Given as goal
 
 -- the unknown ones of the whole are those found and those of what is left
 abbrev pub invariant-loop-number : goal.invariant-loop-number
-invariant-loop-number l = filter (is_unknown l.table) l.self ≡ l.found.items ++ filter (is_unknown l.table) l.number-iterator
+invariant-loop-number l =
+    filter (is_unknown l.table) l.self ≡ l.found.items
+    ++ filter (is_unknown l.table) l.number-iterator

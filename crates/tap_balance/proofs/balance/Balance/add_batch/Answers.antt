@@ -1,4 +1,5 @@
-use Rattle.std.proofs.Common.{◌≡◌, List, [], ◌++◌, ◌∷◌, map, ap, ◌∙◌, sym, refl, subst, append_assoc, append-nil}
+use Rattle.std.proofs.Common.{◌≡◌, List, [], ◌++◌, ◌∷◌, map, ap, ◌∙◌, sym, refl, subst}
+use Rattle.std.proofs.Common.{append_assoc, append-nil}
 use Rattle.std.proofs.lemmas.List.{map-append}
 use Rattle.tap_views.specs.Encoding.{fields_of}
 use Rattle.tap_views.specs.Layout.{Tap}
@@ -11,24 +12,32 @@ loop-tap-init c = record {
   may = tt;
   ends = tt;
   all = c.into_iter-tap-iterator.ensures.into_iter_gives ∙ c.taps-tap-items.ensures;
-  added = λ posted is. subst (λ (ts : List TapFields). IsBalance c.args.self.now ts []) (sym (append-nil posted)) is;
+  added = λ posted is. subst (λ (ts : List TapFields). IsBalance c.args.self.now ts [])
+      (sym (append-nil posted)) is;
 }
 
 pub loop-tap-preserved : goal.loop-tap-preserved
 loop-tap-preserved c = record {
   may = tt;
   ends = tt;
-  all = append_assoc c.loop-tap.yielded (c.in-Some.tap ∷ []) c.next.new.self ∙ sym (ap (λ (left : List Tap). c.loop-tap.yielded ++ left) c.in-Some.ensures.steps) ∙ c.loop-tap.invariant.all;
+  all = append_assoc c.loop-tap.yielded (c.in-Some.tap ∷ []) c.next.new.self
+      ∙ sym (ap (λ (left : List Tap). c.loop-tap.yielded ++ left) c.in-Some.ensures.steps)
+      ∙ c.loop-tap.invariant.all;
   added = λ posted is.
       let before = map fields_of c.loop-tap.yielded in
       let more = c.in_ok-add.ensures (posted ++ before) (c.loop-tap.invariant.added posted is) in
       subst (λ (ts : List TapFields). IsBalance c.add.new.self ts [])
-      (append_assoc posted before (c.fields.result ∷ []) ∙ ap (λ (t : TapFields). posted ++ (before ++ t ∷ [])) c.fields.ensures
-      ∙ ap (λ (ts : List TapFields). posted ++ ts) (sym (map-append fields_of c.loop-tap.yielded (c.in-Some.tap ∷ [])))) more;
+      (append_assoc posted before (c.of.result ∷ [])
+      ∙ ap (λ (t : TapFields). posted ++ (before ++ t ∷ [])) c.of.ensures
+      ∙ ap (λ (ts : List TapFields).
+      posted ++ ts) (sym (map-append fields_of c.loop-tap.yielded (c.in-Some.tap ∷ [])))) more;
 }
 
 pub returns : goal.returns
 returns c = λ posted is.
     let all : c.loop-tap.yielded ≡ c.args.batch.now =
-    sym (append-nil c.loop-tap.yielded) ∙ sym (ap (λ (left : List Tap). c.loop-tap.yielded ++ left) c.in-None.ensures.steps.0) ∙ c.loop-tap.invariant.all in
-    subst (λ (ts : List Tap). IsBalance c.loop-tap.self (posted ++ map fields_of ts) []) all (c.loop-tap.invariant.added posted is)
+    sym (append-nil c.loop-tap.yielded)
+    ∙ sym (ap (λ (left : List Tap). c.loop-tap.yielded ++ left) c.in-None.ensures.steps.0)
+    ∙ c.loop-tap.invariant.all in
+    subst (λ (ts : List Tap). IsBalance c.loop-tap.self (posted ++ map fields_of ts) []) all
+    (c.loop-tap.invariant.added posted is)

@@ -1,11 +1,13 @@
-use Rattle.std.proofs.Common.{◌≡◌, ℕ, List, [], ◌++◌, ◌∷◌, map, Ok, Err, Some, None, ap, ◌∙◌, sym, refl, subst, append_assoc, append-nil}
+use Rattle.std.proofs.Common.{◌≡◌, ℕ, List, [], ◌++◌, ◌∷◌, map, Ok, Err, Some, None, ap, ◌∙◌, sym}
+use Rattle.std.proofs.Common.{refl, subst, append_assoc, append-nil}
 use Rattle.std.proofs.lemmas.List.{map-append}
 use Rattle.tap_views.specs.Encoding.{fields_of}
 use Rattle.tap_views.specs.Files.{Item, IsReading}
 use Rattle.tap_views.specs.Layout.{Tap}
 use Rattle.tap_views.specs.declared.encoder.TapFields.{TapFields}
 use Rattle.upload_facts.specs.Facts.{taps_of}
-use Rattle.upload_facts.proofs.ReadingLemmas.{read_all, read_fault, same_items, taps_more, yielded_more}
+use Rattle.upload_facts.proofs.ReadingLemmas.{read_all, read_fault, same_items, taps_more}
+use Rattle.upload_facts.proofs.ReadingLemmas.{yielded_more}
 use Rattle.tap_balance.specs.Balances.{IsBalance}
 use Rattle.tap_balance.proofs.balance.Balance.add_upload.Goals as goal
 
@@ -15,8 +17,16 @@ loop-item-init c =
     record {
       may = tt;
       ends = tt;
-      reading = subst P (sym c.into_iter-item-iterator.ensures.into_iter_gives) c.batches-item-items.ensures;
-      made = ([], refl, λ posted is. subst (λ (ts : List TapFields). IsBalance c.args.self.now ts []) (sym (append-nil posted)) is);
+      reading = subst P (sym c.into_iter-item-iterator.ensures.into_iter_gives)
+          c.batches-item-items.ensures;
+      made = (
+        [],
+        refl,
+        λ posted is.
+            subst (λ (ts : List TapFields). IsBalance c.args.self.now ts [])
+            (sym (append-nil posted))
+            is,
+      );
     }
 
 pub loop-item-preserved : goal.loop-item-preserved
@@ -26,7 +36,10 @@ loop-item-preserved c =
     record {
       may = tt;
       ends = tt;
-      reading = subst P (ap (λ (left : List Item). c.loop-item.yielded ++ left) c.in-Some.ensures.steps ∙ sym (append_assoc c.loop-item.yielded (c.in-Some.item ∷ []) c.next.new.self)) c.loop-item.invariant.reading;
+      reading = subst P (ap (λ (left : List Item). c.loop-item.yielded ++ left)
+          c.in-Some.ensures.steps
+          ∙ sym (append_assoc c.loop-item.yielded (c.in-Some.item ∷ []) c.next.new.self))
+          c.loop-item.invariant.reading;
       made = (
         made.0 ++ c.in-Ok.batch ∷ [],
         yielded_more c.loop-item.yielded made.0 c.in-Some.item c.in-Ok.batch made.1 c.in-Ok.is,
@@ -34,8 +47,11 @@ loop-item-preserved c =
             let before = map fields_of (taps_of made.0) in
             let more = c.in_ok-add_batch-in-Ok.ensures (posted ++ before) (made.2 posted is) in
             subst (λ (ts : List TapFields). IsBalance c.add_batch.new.self ts [])
-            (append_assoc posted before (map fields_of c.in-Ok.batch) ∙ ap (λ (ts : List TapFields). posted ++ ts) (sym (map-append fields_of (taps_of made.0) c.in-Ok.batch))
-            ∙ ap (λ (ts : List Tap). posted ++ map fields_of ts) (sym (taps_more made.0 c.in-Ok.batch))) more,
+            (append_assoc posted before (map fields_of c.in-Ok.batch)
+            ∙ ap (λ (ts : List TapFields).
+            posted ++ ts) (sym (map-append fields_of (taps_of made.0) c.in-Ok.batch))
+            ∙ ap (λ (ts : List Tap). posted ++ map fields_of ts)
+            (sym (taps_more made.0 c.in-Ok.batch))) more,
       );
     }
 
@@ -43,9 +59,17 @@ pub returns-in-Err : goal.returns-in-Err
 returns-in-Err c =
     let made = c.loop-item.invariant.made in
     let step = c.in-Some.ensures.steps ∙ ap (λ (i : Item). i ∷ c.next.new.self) c.in-Err.is in
-    let read = read_fault c.args.upload.now made.0 c.in-Err.field-0.0 c.in-Err.field-0.1 c.next.new.self (same_items c.args.upload.now c.loop-item.yielded c.next.new.self made.0 (Err c.in-Err.field-0) c.loop-item.item-iterator c.loop-item.invariant.reading made.1 step) in (
+    let read = read_fault c.args.upload.now made.0 c.in-Err.field-0.0 c.in-Err.field-0.1
+    c.next.new.self (same_items c.args.upload.now c.loop-item.yielded c.next.new.self made.0
+    (Err c.in-Err.field-0) c.loop-item.item-iterator c.loop-item.invariant.reading made.1
+    step) in (
       map fields_of (taps_of made.0),
-      record { batches = made.0; fault = Some c.in-Err.field-0; read = record { rest = read.0; is_file = read.1; is_end = read.2 }; all = refl },
+      record {
+        batches = made.0;
+        fault = Some c.in-Err.field-0;
+        read = record { rest = read.0; is_file = read.1; is_end = read.2 };
+        all = refl;
+      },
       made.2,
     )
 
@@ -53,8 +77,15 @@ pub returns : goal.returns
 returns c =
     let made = c.loop-item.invariant.made in
     let P : List Item → Type 0 = IsReading c.args.upload.now in
-    let read = read_all c.args.upload.now made.0 (subst P (ap (λ (left : List Item). c.loop-item.yielded ++ left) c.in-None.ensures.steps.0 ∙ (append-nil c.loop-item.yielded ∙ made.1)) c.loop-item.invariant.reading) in (
+    let read = read_all c.args.upload.now made.0
+    (subst P (ap (λ (left : List Item). c.loop-item.yielded ++ left) c.in-None.ensures.steps.0
+    ∙ (append-nil c.loop-item.yielded ∙ made.1)) c.loop-item.invariant.reading) in (
       map fields_of (taps_of made.0),
-      record { batches = made.0; fault = None; read = record { rest = read.0; is_file = read.1; is_end = read.2 }; all = refl },
+      record {
+        batches = made.0;
+        fault = None;
+        read = record { rest = read.0; is_file = read.1; is_end = read.2 };
+        all = refl;
+      },
       made.2,
     )

@@ -9,5 +9,7 @@ returns-then-not-take_one c = λ posted struck is.
     let balance = c.args.self.now in
     let none : c.take_one.result ≡ false = first_of (cc, search (rules, tests)) in
     none_left balance.left posted struck c.args.tap.now
-    (subst (λ (k : Key). left_at balance.left k ≡ 0) c.key_for.ensures (c.take_one.ensures.none none))
-    (unfound balance.left balance.surplus posted struck (sym c.is_some.ensures ∙ c.if-is_some.false) is)
+    (subst (λ (k : Key). left_at balance.left k ≡ 0) c.key_for.ensures
+    (c.take_one.ensures.none none))
+    (unfound balance.left balance.surplus posted struck (sym c.is_some.ensures
+    ∙ c.if-is_some.false) is)

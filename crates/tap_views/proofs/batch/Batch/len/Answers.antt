@@ -5,4 +5,6 @@ use Rattle.tap_views.proofs.batch.Batch.len.Goals as goal
 use Rattle.std.proofs.Common.{sym}
 
 pub returns-clause-number : goal.returns-clause-number
-returns-clause-number c = let layout = layout_of c.self.inside.shared in rw (← c.self.view_is) (sym (length-cut (width layout) (tap_at layout) c.self.inside.count c.self.inside.records.now))
+returns-clause-number c = let layout = layout_of c.self.inside.shared in
+    rw (← c.self.view_is)
+    (sym (length-cut (width layout) (tap_at layout) c.self.inside.count c.self.inside.records.now))

@@ -8,5 +8,8 @@ run_at-requires-clause-places c =
     let lists = c.self.inside.lists.items in
     let shards : c.len.result ≡ length lists = omega arith in
     let within : c.args.shard < length lists = rw c.self.view_is c.requires.below in
-    let each : get_or lists c.args.shard [] ≡ places_from c.args.shard (length lists) 0 c.args.batch.now = rw c.self.view_is (c.requires.cut.each c.args.shard c.requires.below) in
-    rw shards (c.as_slice.ensures ∙ c.index.ensures ∙ get_or_default lists c.args.shard c.index.result.now [] within ∙ each)
+    let each : get_or lists c.args.shard []
+    ≡ places_from c.args.shard (length lists) 0 c.args.batch.now =
+    rw c.self.view_is (c.requires.cut.each c.args.shard c.requires.below) in
+    rw shards (c.as_slice.ensures ∙ c.index.ensures
+    ∙ get_or_default lists c.args.shard c.index.result.now [] within ∙ each)

@@ -10,7 +10,11 @@ record_at-requires c =
     let layout = layout_of c.self.inside.shared in
     let bytes = c.self.inside.records.now in
     let below : c.args.i < c.self.inside.left =
-    omega (arith, ap length c.self.view_is, length-cut (width layout) (tap_at layout) c.self.inside.left bytes) in
+    omega (
+      arith,
+      ap length c.self.view_is,
+      length-cut (width layout) (tap_at layout) c.self.inside.left bytes,
+    ) in
     rw c.width_of-width.ensures (room layout _ _ bytes below c.self.invariant)
 
 pub of-requires-clause-tap : goal.of-requires-clause-tap
@@ -18,13 +22,23 @@ of-requires-clause-tap c =
     let layout = layout_of c.self.inside.shared in
     let bytes = c.self.inside.records.now in
     let below : c.args.i < c.self.inside.left =
-    omega (arith, ap length c.self.view_is, length-cut (width layout) (tap_at layout) c.self.inside.left bytes) in
-    rw (c.record_at.ensures.bytes, c.width_of-width.ensures) (all-cut (width layout) (tap_at layout) IsTap _ _ bytes below c.self.invariant.each)
+    omega (
+      arith,
+      ap length c.self.view_is,
+      length-cut (width layout) (tap_at layout) c.self.inside.left bytes,
+    ) in
+    rw (c.record_at.ensures.bytes, c.width_of-width.ensures)
+    (all-cut (width layout) (tap_at layout) IsTap _ _ bytes below c.self.invariant.each)
 
 pub returns : goal.returns
 returns c =
     let layout = layout_of c.self.inside.shared in
     let bytes = c.self.inside.records.now in
     let below : c.args.i < c.self.inside.left =
-    omega (arith, ap length c.self.view_is, length-cut (width layout) (tap_at layout) c.self.inside.left bytes) in
-    rw (← c.self.view_is, c.of.ensures, c.record_at.ensures.bytes, c.width_of-width.ensures) (slice_get-cut (width layout) (tap_at layout) _ _ bytes below)
+    omega (
+      arith,
+      ap length c.self.view_is,
+      length-cut (width layout) (tap_at layout) c.self.inside.left bytes,
+    ) in
+    rw (← c.self.view_is, c.of.ensures, c.record_at.ensures.bytes, c.width_of-width.ensures)
+    (slice_get-cut (width layout) (tap_at layout) _ _ bytes below)

@@ -4,29 +4,37 @@ use Rattle.tap_views.specs.Encoding.{AreEarly, fields_of}
 use Rattle.tap_views.specs.Layout.{moment_limit}
 use Rattle.tap_views.specs.declared.encoder.TapFields.{TapFields}
 use Rattle.tap_parts.specs.Parts.{IsFileOf, of_part}
-use Rattle.upload_parts.specs.Order.{IsCanonical}
-use Rattle.upload_parts.specs.Split.{joined}
+use Rattle.tap_parts.specs.Canonical.{IsCanonical}
+use Rattle.tap_parts.specs.Parts.{joined}
 use Rattle.upload_parts.proofs.split.Split.file.Goals as goal
 
 pub text_of-requires : goal.text_of-requires
 text_of-requires c =
     let lists = c.self.inside.parts in
     let E : List TapFields → Type 0 = λ taps. AreEarly (λ (tap : TapFields). tap.moment) taps in
-    let within : c.args.part < length lists = subst (λ (ls : List (List TapFields)). c.args.part < length ls) (sym c.self.view_is) c.requires in
-    let early : E c.part.result.now = subst E (sym c.part.ensures) (c.self.invariant c.args.part [] within) in
+    let within : c.args.part < length lists =
+    subst (λ (ls : List (List TapFields)). c.args.part < length ls) (sym c.self.view_is)
+    c.requires in
+    let early : E c.part.result.now =
+    subst E (sym c.part.ensures) (c.self.invariant c.args.part [] within) in
     let moved = c.in_ok-taps.ensures.moved in
-    subst E (sym c.deref.ensures.value) (All-permutation (λ (tap : TapFields). tap.moment < moment_limit) c.part.result.now c.in_ok-taps.taps.items moved early)
+    subst E (sym c.deref.ensures.value)
+    (All-permutation (λ (tap : TapFields). tap.moment < moment_limit) c.part.result.now
+    c.in_ok-taps.taps.items moved early)
 
 pub returns : goal.returns
 returns c = λ parts uploads split.
     let list = c.in_ok-taps.taps.items in
     let own : List TapFields = map fields_of (of_part c.args.part parts (joined split.taps)) in
     let within : c.args.part < parts = subst (λ n. c.args.part < n) split.number c.requires in
-    let same : c.part.result.now ≡ own = c.part.ensures ∙ ap (λ (ls : List (List TapFields)). get_or ls c.args.part []) c.self.view_is ∙ split.each c.args.part within in
+    let same : c.part.result.now ≡ own =
+    c.part.ensures ∙ ap (λ (ls : List (List TapFields)). get_or ls c.args.part [])
+    c.self.view_is ∙ split.each c.args.part within in
     record {
       taps = split.taps;
       of_uploads = split.of_uploads;
       list = list;
       canonical = subst (λ taps. IsCanonical taps list) same c.in_ok-taps.ensures;
-      reads = subst (λ taps. IsFileOf c.in_ok-file.file.items taps) c.deref.ensures.value c.in_ok-file.ensures;
+      reads = subst (λ taps. IsFileOf c.in_ok-file.file.items taps) c.deref.ensures.value
+          c.in_ok-file.ensures;
     }

@@ -5,9 +5,11 @@ use Rattle.upload_parts.proofs.SplitLemmas.{more_split, added_early}
 use Rattle.upload_parts.proofs.split.Split.with.Goals as goal
 
 pub invariant_of-result : goal.invariant_of-result
-invariant_of-result c = added_early c.args.upload.now c.self.inside.parts c.add_upload.new.parts c.in_ok-add_upload.ensures c.self.invariant
+invariant_of-result c = added_early c.args.upload.now c.self.inside.parts c.add_upload.new.parts
+    c.in_ok-add_upload.ensures c.self.invariant
 
 pub returns : goal.returns
 returns c = λ parts uploads split.
     let P : List (List TapFields) → Type 0 = λ lists. AreSplit parts uploads lists in
-    more_split c.args.upload.now c.self.inside.parts c.add_upload.new.parts c.in_ok-add_upload.ensures parts uploads (subst P (sym c.self.view_is) split)
+    more_split c.args.upload.now c.self.inside.parts c.add_upload.new.parts
+    c.in_ok-add_upload.ensures parts uploads (subst P (sym c.self.view_is) split)

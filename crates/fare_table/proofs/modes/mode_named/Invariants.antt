@@ -1,8 +1,0 @@
-use Rattle.std.proofs.Common.{◌≡◌, ◌+◌, drop, map, string_bytes}
-use Rattle.std.specs.List.{position_or_len}
-use Rattle.fare_table.specs.Modes.{same_name}
-use Rattle.fare_table.proofs.modes.mode_named.Given as goal
-
--- the first mode of the name is the first one among those that are left
-abbrev pub invariant-loop-place : goal.invariant-loop-place
-invariant-loop-place l = position_or_len (same_name l.name) (map string_bytes l.modes) ≡ l.place + position_or_len (same_name l.name) (map string_bytes (drop l.place l.modes))

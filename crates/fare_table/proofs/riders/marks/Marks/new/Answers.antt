@@ -1,0 +1,53 @@
+use Rattle.std.proofs.Common.{◌≡◌, ◌∙◌, ◌<◌, true, All, Bor, arith, length, ap, slice_set, subst}
+use Rattle.std.proofs.lemmas.List.{length-map, length-set}
+use Rattle.std.proofs.lemmas.List.Elements.{All-map, All-push, All-weaker}
+use Rattle.std.proofs.lemmas.Map.Iter.{iter_end, iter_turn}
+use Rattle.std.specs.Map.{keys_of}
+use Rattle.std.specs.Map.Iter.{deref}
+use Rattle.fare_table.proofs.TokenMarks.{marked-more, marked-new}
+use Rattle.fare_table.specs.Marks.{is_marked, slot as slot_among}
+use Rattle.fare_table.specs.declared.riders.token.Token.{Token}
+use Rattle.fare_table.proofs.riders.marks.Marks.new.Goals as goal
+
+pub slot-slot-requires : goal.slot-slot-requires
+slot-slot-requires c =
+    let entries = c.args.terms.now.entries in
+    let turn = iter_turn (deref {X = Token}) (keys_of entries) c.loop-token.yielded _ _ _ _
+    (c.into_iter-token-iterator.ensures.into_iter_gives ∙ c.keys-token-items.ensures.rest)
+    c.loop-token.yielded_by c.in-Some.token c.in-Some.is c.next.ensures.steps in
+    let some = c.loop-token.invariant.some
+    (omega (arith, turn.0, length-map entries (λ entry. entry.0))) in
+    omega (arith, some)
+
+pub loop-token-preserved : goal.loop-token-preserved
+loop-token-preserved c =
+    let marks = c.loop-token.marks.items in
+    let slot = c.slot-slot.result in
+    let Old : Bor Token → Type 0 = λ token. is_marked marks token.now ≡ true in
+    let New : Bor Token → Type 0 =
+    λ token. is_marked (slice_set marks slot true) token.now ≡ true in
+    let long : c.len-in-loop-token.result ≡ length marks = omega arith in
+    let inside : slot < length marks = omega arith in
+    record {
+      marked =
+          All-push New c.loop-token.yielded c.in-Some.token
+          (All-weaker Old New (λ token was. marked-more marks slot token.now inside was)
+          c.loop-token.yielded c.loop-token.invariant.marked)
+          (marked-new marks slot c.in-Some.token.now (c.slot-slot.ensures.slot
+          ∙ ap (slot_among c.in-Some.token.now) long) inside);
+      some = λ any. let some = c.loop-token.invariant.some any in
+          omega (arith, some, length-set marks slot true);
+      few = let few = c.loop-token.invariant.few in omega (arith, few, length-set marks slot true);
+    }
+
+pub returns-clause-few : goal.returns-clause-few
+returns-clause-few c = c.loop-token.invariant.few
+
+pub returns-clause-marked : goal.returns-clause-marked
+returns-clause-marked c =
+    let P : Token → Type 0 = λ token. is_marked c.loop-token.marks.items token ≡ true in
+    let whole = iter_end (deref {X = Token}) _ c.loop-token.yielded _ _ _ _
+    (c.into_iter-token-iterator.ensures.into_iter_gives ∙ c.keys-token-items.ensures.rest)
+    c.loop-token.yielded_by c.in-None.is c.next.ensures.steps in
+    subst (All P) whole.0
+    (All-map P (deref {X = Token}) c.loop-token.yielded c.loop-token.invariant.marked)

@@ -1,0 +1,10 @@
+use Rattle.std.proofs.Common.{◌≡◌, ◌*◌, ◌<◌, ◌≤◌, true, All, length}
+use Rattle.fare_table.specs.Marks.{is_marked}
+use Rattle.fare_table.proofs.riders.marks.Marks.new.Given as goal
+
+abbrev pub invariant-loop-token : goal.invariant-loop-token
+invariant-loop-token l = record {
+  marked : All (λ token. is_marked l.marks.items token.now ≡ true) l.yielded;
+  few : length l.marks.items ≤ 16 * length l.terms.entries;
+  some : 0 < length l.terms.entries → 0 < length l.marks.items;
+}

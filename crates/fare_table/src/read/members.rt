@@ -1,0 +1,134 @@
+//! The values at the keys of a TOML table.
+ghost use Rattle.std.specs.Prelude.{◌≡◌, ◌&&◌, ◌≤◌, pos, int_le, IfOk, option_map};
+ghost use Rattle.toml.specs.Data.{get_member};
+ghost use Rattle.toml.specs.View.{view, array_view, table_view};
+ghost use Rattle.fare_table.specs.Members as spec;
+ghost use Rattle.fare_table.specs.Outcome.{seen_through};
+
+use crate::fault::{Key, TableFault};
+use toml::value::Array;
+use toml::{Table, Value};
+
+/// The value at a key, if there is one.
+pub(crate) fn optional<'a>(table: &'a Table, name: &str) -> Option<&'a Value>
+    ensures { option_map (λ v. view v.now) result ≡ get_member name.now (table_view table.now) }
+{
+    table.get(name)
+}
+
+/// The value at a key that has to be there.
+pub(crate) fn needed<'a>(table: &'a Table, name: &str, key: Key) -> Result<&'a Value, TableFault>
+    ensures { seen_through (λ v. view v.now) result
+        ≡ spec.needed name.now key (table_view table.now) }
+{
+    match optional(table, name) {
+        Some(value) => Ok(value),
+        None => Err(TableFault::Missing { key }),
+    }
+}
+
+/// The string at a key.
+pub(crate) fn text_at<'a>(table: &'a Table, name: &str, key: Key) -> Result<&'a str, TableFault>
+    ensures { seen_through (λ s. s.now) result ≡ spec.text_at name.now key (table_view table.now) }
+{
+    match needed(table, name, key)?.as_str() {
+        Some(text) => Ok(text),
+        None => Err(TableFault::Kind { key }),
+    }
+}
+
+/// The array at a key.
+pub(crate) fn array_at<'a>(table: &'a Table, name: &str, key: Key) -> Result<&'a Array, TableFault>
+    ensures { seen_through (λ v. array_view v.now) result
+        ≡ spec.array_at name.now key (table_view table.now) }
+{
+    match needed(table, name, key)?.as_array() {
+        Some(array) => Ok(array),
+        None => Err(TableFault::Kind { key }),
+    }
+}
+
+/// The table at a key.
+pub(crate) fn table_at<'a>(table: &'a Table, name: &str, key: Key) -> Result<&'a Table, TableFault>
+    ensures { seen_through (λ m. table_view m.now) result
+        ≡ spec.table_at name.now key (table_view table.now) }
+{
+    match needed(table, name, key)?.as_table() {
+        Some(members) => Ok(members),
+        None => Err(TableFault::Kind { key }),
+    }
+}
+
+/// Whether the number is from `low` to `high`.
+fn is_within(low: u32, number: i64, high: u32) -> bool
+    ensures { result ≡ (int_le (pos low) number && int_le number (pos high)) }
+{
+    i64::from(low) <= number && number <= i64::from(high)
+}
+
+/// The value as a number from `low` to `high`.
+pub(crate) fn number_in(value: &Value, key: Key, low: u32, high: u32) -> Result<u32, TableFault>
+    ensures number { result ≡ spec.number_in key low high (view value.now) }
+    ensures low { IfOk result (λ n. low ≤ n) }
+    ensures high { IfOk result (λ n. n ≤ high) }
+{
+    let Some(number) = value.as_integer() else {
+        return Err(TableFault::Kind { key });
+    };
+    if is_within(low, number, high) {
+        Ok(number as u32)
+    } else {
+        Err(TableFault::Range { key })
+    }
+}
+
+/// The number at a key, from `low` to `high`.
+pub(crate) fn number_at(
+    table: &Table,
+    name: &str,
+    key: Key,
+    low: u32,
+    high: u32,
+) -> Result<u32, TableFault>
+    ensures number { result ≡ spec.number_at name.now key low high (table_view table.now) }
+    ensures low { IfOk result (λ n. low ≤ n) }
+    ensures high { IfOk result (λ n. n ≤ high) }
+{
+    number_in(needed(table, name, key)?, key, low, high)
+}
+
+/// Whether each value of an array is a table.
+pub(crate) fn are_tables(array: &Array) -> bool
+    ensures { result ≡ spec.are_tables (array_view array.now) }
+{
+    for value in array {
+        if value.as_table().is_none() {
+            return false;
+        }
+    }
+    true
+}
+
+/// Whether each value of a table is a table.
+pub(crate) fn hold_tables(table: &Table) -> bool
+    ensures { result ≡ spec.hold_tables (table_view table.now) }
+{
+    for (_key, value) in table {
+        if value.as_table().is_none() {
+            return false;
+        }
+    }
+    true
+}
+
+/// Whether each value of a table is a string.
+pub(crate) fn hold_strings(table: &Table) -> bool
+    ensures { result ≡ spec.hold_strings (table_view table.now) }
+{
+    for (_key, value) in table {
+        if value.as_str().is_none() {
+            return false;
+        }
+    }
+    true
+}

@@ -1,0 +1,124 @@
+//! The key `modes`: the names of the modes by their places.
+ghost use Rattle.std.specs.Prelude.{◌≡◌, ◌<◌, ◌≤◌, ◌&&◌, [], IfOk, IsTrue, length, map, nat_le};
+ghost use Rattle.std.specs.Prelude.{string_bytes, vec_len};
+ghost use Rattle.std.specs.List.{list_all, list_any};
+ghost use Rattle.std.specs.Char.{is_ascii_lowercase};
+ghost use Rattle.toml.specs.View.{array_view, table_view};
+ghost use Rattle.fare_table.specs.Modes as spec;
+ghost use Rattle.fare_table.specs.Outcome.{Answers};
+
+use super::members::array_at;
+use crate::fault::{Key, TableFault};
+use crate::mode::MAX_MODES;
+use std::alloc::Global;
+use toml::Table;
+use toml::value::Array;
+
+/// The names of the modes, 1 to 32 of 1 to 16 letters `a` to `z`, none twice.
+#[tactic(auto, unfolding(crate::specs::Modes::modes_of))]
+pub(crate) fn modes_of(alloc: Global, table: &Table) -> Result<Vec<String>, TableFault>
+    ensures answer { Answers (λ v. map string_bytes v.items) result
+        (spec.modes_of (table_view table.now)) }
+    ensures few { IfOk result (λ v. vec_len v ≤ 32) }
+{
+    let names = strings_of(alloc, array_at(table, "modes", Key::Modes)?)?;
+    if are_mode_names(&names) {
+        Ok(names)
+    } else {
+        Err(TableFault::Range { key: Key::Modes })
+    }
+}
+
+/// The strings of an array, in its order.
+fn strings_of(alloc: Global, array: &Array) -> Result<Vec<String>, TableFault>
+    ensures { Answers (λ v. map string_bytes v.items) result
+        (spec.strings_from [] (array_view array.now)) }
+{
+    let mut names = Vec::new(alloc);
+    for value in array {
+        let Some(name) = value.as_str() else {
+            return Err(TableFault::Kind { key: Key::Modes });
+        };
+        names.push(String::from_str(alloc, name)?)?;
+    }
+    Ok(names)
+}
+
+/// Whether these are the names of the modes of a table.
+fn are_mode_names(names: &[String]) -> bool
+    ensures names { result ≡ spec.are_mode_names (map string_bytes names.now) }
+    ensures few { IsTrue result → length names.now ≤ 32 }
+{
+    is_count(names.len()) && are_short_words(names) && are_distinct(names)
+}
+
+/// Whether a table may have so many modes.
+fn is_count(modes: usize) -> bool
+    ensures { result ≡ (nat_le 1 modes && nat_le modes 32) }
+{
+    1 <= modes && modes <= MAX_MODES
+}
+
+/// Whether each name may be that of a mode.
+fn are_short_words(names: &[String]) -> bool
+    ensures { result ≡ list_all spec.is_mode_name (map string_bytes names.now) }
+{
+    for name in names {
+        if !is_mode_name(name.as_str()) {
+            return false;
+        }
+    }
+    true
+}
+
+/// Whether the name has 1 to 16 letters `a` to `z`.
+fn is_mode_name(name: &str) -> bool
+    ensures { result ≡ spec.is_mode_name name.now }
+{
+    1 <= name.len() && name.len() <= 16 && are_letters(name.as_bytes())
+}
+
+/// Whether each byte is a letter `a` to `z`.
+fn are_letters(bytes: &[u8]) -> bool
+    ensures { result ≡ list_all is_ascii_lowercase bytes.now }
+{
+    bytes.iter().all(|byte| byte.is_ascii_lowercase())
+}
+
+/// Whether no name comes twice.
+fn are_distinct(names: &[String]) -> bool
+    ensures { result ≡ spec.are_distinct (map string_bytes names.now) }
+{
+    for (i, name) in names.iter().enumerate() {
+        if has_name(&names[i + 1..], name.as_str()) {
+            return false;
+        }
+    }
+    true
+}
+
+/// Whether the name is among these.
+fn has_name(names: &[String], name: &str) -> bool
+    ensures { result ≡ list_any (spec.same_name name.now) (map string_bytes names.now) }
+{
+    for other in names {
+        if name == other.as_str() {
+            return true;
+        }
+    }
+    false
+}
+
+/// The place of the mode of this name.
+pub(crate) fn mode_named(modes: &[String], name: &str) -> Result<u8, TableFault>
+    requires { length modes.now ≤ 32 }
+    ensures mode { result ≡ spec.mode_named (map string_bytes modes.now) name.now }
+    ensures within { IfOk result (λ place. place < length modes.now) }
+{
+    for (place, mode) in modes.iter().enumerate() {
+        if name == mode.as_str() {
+            return Ok(place as u8);
+        }
+    }
+    Err(TableFault::Mode)
+}

@@ -1,0 +1,84 @@
+//! The key `riders`: the terms of single riders by their tokens.
+ghost use Rattle.std.specs.Prelude.{◌≡◌, [], All, IfOk};
+ghost use Rattle.std.specs.Map.{keys_of, values_of};
+ghost use Rattle.toml.specs.View.{view, table_view};
+ghost use Rattle.fare_table.specs.Outcome.{Answers};
+ghost use Rattle.fare_table.specs.Riders as spec;
+ghost use Rattle.fare_table.specs.Terms.{HasLimits};
+ghost use Rattle.fare_table.specs.Token.{Fits, by_bytes};
+
+use super::classes::class_named;
+use super::members::{hold_strings, optional};
+use crate::fault::{Key, TableFault};
+use crate::riders::Riders;
+use crate::riders::token::Token;
+use crate::terms::Terms;
+use hex::FromHex;
+use std::alloc::Global;
+use std::collections::BTreeMap;
+use toml::{Table, Value};
+
+/// The terms of the riders that the text names, by their tokens; none where it has no such key.
+#[tactic(auto, unfolding(crate::specs::Riders::riders_of))]
+pub(crate) fn riders_of(alloc: Global, classes: &Table, table: &Table) -> Result<Riders, TableFault>
+    ensures answer { Answers (λ r. r) result
+        (spec.riders_of (table_view classes.now) (table_view table.now)) }
+    ensures limits { IfOk result (λ r. All HasLimits (values_of r)) }
+{
+    let Some(value) = optional(table, "riders") else {
+        return Ok(Riders::new(alloc, BTreeMap::new(alloc))?);
+    };
+    let Some(riders) = value.as_table() else {
+        return Err(TableFault::Kind { key: Key::Riders });
+    };
+    if !hold_strings(riders) {
+        return Err(TableFault::Kind { key: Key::Riders });
+    }
+    let riders = riders_from(alloc, classes, riders)?;
+    Ok(Riders::new(alloc, riders)?)
+}
+
+/// The terms of the riders of these members, each a token in hexadecimal digits and a class.
+fn riders_from(
+    alloc: Global,
+    classes: &Table,
+    members: &Table,
+) -> Result<BTreeMap<Token, Terms>, TableFault>
+    ensures answer { Answers (λ m. by_bytes m.entries) result
+        (spec.riders_from (table_view classes.now) [] (table_view members.now)) }
+    ensures fits { IfOk result (λ m. All Fits (keys_of m.entries)) }
+    ensures limits { IfOk result (λ m. All HasLimits (values_of (by_bytes m.entries))) }
+{
+    let mut riders = BTreeMap::new(alloc);
+    for (key, value) in members {
+        let (bytes, terms) = rider_of(classes, key.as_str(), value)?;
+        let token = Token::of(&bytes);
+        if riders.contains_key(&token) {
+            return Err(TableFault::Rider);
+        }
+        riders.insert(token, terms)?;
+    }
+    Ok(riders)
+}
+
+/// The token of a rider and the terms of the class that the value names.
+fn rider_of(classes: &Table, key: &str, value: &Value) -> Result<([u8; 16], Terms), TableFault>
+    ensures rider { result ≡ spec.rider_of (table_view classes.now) key.now (view value.now) }
+    ensures limits { IfOk result (λ rider. HasLimits rider.1) }
+{
+    let token = token_of_digits(key)?;
+    let Some(name) = value.as_str() else {
+        return Err(TableFault::Kind { key: Key::Riders });
+    };
+    Ok((token, class_named(classes, name)?))
+}
+
+/// The token of 32 hexadecimal digits of either case.
+fn token_of_digits(digits: &str) -> Result<[u8; 16], TableFault>
+    ensures { result ≡ spec.token_of_digits digits.now }
+{
+    match <[u8; 16] as FromHex>::from_hex(digits) {
+        Ok(token) => Ok(token),
+        Err(_) => Err(TableFault::Rider),
+    }
+}

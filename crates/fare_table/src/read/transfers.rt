@@ -1,0 +1,88 @@
+//! The key `transfers`: the pairs of modes between which a ride includes a transfer.
+ghost use Rattle.std.specs.Prelude.{◌≡◌, ◌<◌, ◌≤◌, [], IfOk, length, map, option_map, string_bytes};
+ghost use Rattle.toml.specs.View.{view, array_view, table_view};
+ghost use Rattle.fare_table.specs.Outcome.{Answers};
+ghost use Rattle.fare_table.specs.Transfers as spec;
+
+use super::members::array_at;
+use super::modes::mode_named;
+use crate::fault::{Key, TableFault};
+use crate::transfers::Transfers;
+use std::alloc::Global;
+use toml::value::Array;
+use toml::{Table, Value};
+
+/// The pairs of places of modes that the text permits.
+#[tactic(auto, unfolding(crate::specs::Transfers::transfers_of))]
+pub(crate) fn transfers_of(
+    alloc: Global,
+    modes: &[String],
+    table: &Table,
+) -> Result<Transfers, TableFault>
+    requires { length modes.now ≤ 32 }
+    ensures { Answers (λ t. t) result
+        (spec.transfers_of (map string_bytes modes.now) (table_view table.now)) }
+{
+    let pairs = pairs_of(alloc, array_at(table, "transfers", Key::Transfers)?)?;
+    transfers_from(alloc, modes, &pairs)
+}
+
+/// The names of each pair, so that a pair of another kind is found before a name that is no mode.
+fn pairs_of(alloc: Global, array: &Array) -> Result<Vec<(&str, &str)>, TableFault>
+    ensures { Answers (λ v. map (λ pair. (pair.0.now, pair.1.now)) v.items) result
+        (spec.pairs_from [] (array_view array.now)) }
+{
+    let mut pairs = Vec::new(alloc);
+    for value in array {
+        let Some(pair) = name_pair(value) else {
+            return Err(TableFault::Kind {
+                key: Key::Transfers,
+            });
+        };
+        pairs.push(pair)?;
+    }
+    Ok(pairs)
+}
+
+/// The two names of a value, where it is an array of two strings.
+fn name_pair(value: &Value) -> Option<(&str, &str)>
+    ensures { option_map (λ pair. (pair.0.now, pair.1.now)) result
+        ≡ spec.name_pair (view value.now) }
+{
+    let array = value.as_array()?;
+    if array.len() != 2 {
+        return None;
+    }
+    Some((array[0].as_str()?, array[1].as_str()?))
+}
+
+/// The pairs of places of these pairs of names.
+fn transfers_from(
+    alloc: Global,
+    modes: &[String],
+    pairs: &[(&str, &str)],
+) -> Result<Transfers, TableFault>
+    requires { length modes.now ≤ 32 }
+    ensures { Answers (λ t. t) result
+        (spec.transfers_from (map string_bytes modes.now) []
+        (map (λ pair. (pair.0.now, pair.1.now)) pairs.now)) }
+{
+    let mut transfers = Transfers::new(alloc);
+    for pair in pairs {
+        let (from, to) = places_of(modes, pair.0, pair.1)?;
+        transfers.add(from, to)?;
+    }
+    Ok(transfers)
+}
+
+/// The places of the modes of these two names.
+fn places_of(modes: &[String], from: &str, to: &str) -> Result<(u8, u8), TableFault>
+    requires { length modes.now ≤ 32 }
+    ensures places { result ≡ spec.places_of (map string_bytes modes.now) (from.now, to.now) }
+    ensures from { IfOk result (λ places. places.0 < 32) }
+    ensures to { IfOk result (λ places. places.1 < 32) }
+{
+    let from = mode_named(modes, from)?;
+    let to = mode_named(modes, to)?;
+    Ok((from, to))
+}

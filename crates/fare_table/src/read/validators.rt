@@ -1,0 +1,116 @@
+//! The key `validators`: ranges of validators and their modes.
+ghost use Rattle.std.specs.Prelude.{◌≡◌, ◌<◌, ◌≤◌, [], true, IfOk, length, map, option_map};
+ghost use Rattle.std.specs.Prelude.{string_bytes};
+ghost use Rattle.std.specs.List.{list_any};
+ghost use Rattle.toml.specs.View.{view, array_view, table_view};
+ghost use Rattle.fare_table.specs.Outcome.{Answers};
+ghost use Rattle.fare_table.specs.Validators.{is_chain, are_modes_below, share_number};
+ghost use Rattle.fare_table.specs.Validators as spec;
+ghost use Rattle.fare_table.specs.inside.Validators.{last_begun};
+
+use super::members::{are_tables, array_at, number_at, text_at};
+use super::modes::mode_named;
+use crate::fault::{Key, TableFault};
+use crate::validators::{Ranges, Span};
+use std::alloc::Global;
+use std::collections::BTreeMap;
+use toml::value::Array;
+use toml::{Table, Value};
+
+/// The ranges of the text by their first numbers, rising.
+#[tactic(auto, unfolding(crate::specs::Validators::ranges_of))]
+pub(crate) fn ranges_of(
+    alloc: Global,
+    modes: &[String],
+    table: &Table,
+) -> Result<Ranges, TableFault>
+    requires { length modes.now ≤ 32 }
+    ensures answer { Answers (λ r. r) result
+        (spec.ranges_of (map string_bytes modes.now) (table_view table.now)) }
+    ensures known { IfOk result (λ r. are_modes_below (length modes.now) r ≡ true) }
+{
+    let array = array_at(table, "validators", Key::Validators)?;
+    if !are_tables(array) {
+        return Err(TableFault::Kind {
+            key: Key::Validators,
+        });
+    }
+    let ranges = ranges_from(alloc, modes, array)?;
+    Ok(Ranges::new(alloc, ranges)?)
+}
+
+/// The ranges of these entries by their first numbers.
+fn ranges_from(
+    alloc: Global,
+    modes: &[String],
+    array: &Array,
+) -> Result<BTreeMap<u32, Span>, TableFault>
+    requires { length modes.now ≤ 32 }
+    ensures answer { Answers (λ m. m.entries) result
+        (spec.ranges_from (map string_bytes modes.now) [] (array_view array.now)) }
+    ensures apart { IfOk result (λ m. is_chain m.entries ≡ true) }
+    ensures known { IfOk result (λ m. are_modes_below (length modes.now) m.entries ≡ true) }
+{
+    let mut ranges = BTreeMap::new(alloc);
+    for value in array {
+        let (first, span) = range_in(modes, value)?;
+        if shares_number(&ranges, first, span) {
+            return Err(TableFault::Overlap);
+        }
+        ranges.insert(first, span)?;
+    }
+    Ok(ranges)
+}
+
+/// Whether an earlier range shares a number with this one. The last range that begins no later than
+/// this one ends is the only one that can share a number.
+fn shares_number(ranges: &BTreeMap<u32, Span>, first: u32, span: Span) -> bool
+    requires apart { is_chain ranges.now.entries ≡ true }
+    requires order { first ≤ span.last }
+    ensures { result ≡ list_any (share_number (first, span)) ranges.now.entries }
+{
+    match last_upto(ranges, span.last) {
+        Some(last) => first <= last,
+        None => false,
+    }
+}
+
+/// The last number of the last range that begins at the number or before it.
+fn last_upto(ranges: &BTreeMap<u32, Span>, number: u32) -> Option<u32>
+    requires { is_chain ranges.now.entries ≡ true }
+    ensures { result ≡ option_map (λ range. range.1.last) (last_begun number ranges.now.entries) }
+{
+    match ranges.range(..=number).next_back() {
+        Some((_first, span)) => Some(span.last),
+        None => None,
+    }
+}
+
+/// The range of a value, where it is a table.
+fn range_in(modes: &[String], value: &Value) -> Result<(u32, Span), TableFault>
+    requires { length modes.now ≤ 32 }
+    ensures range { result ≡ spec.range_in (map string_bytes modes.now) (view value.now) }
+    ensures order { IfOk result (λ range. range.0 ≤ range.1.last) }
+    ensures known { IfOk result (λ range. range.1.mode < length modes.now) }
+{
+    let Some(entry) = value.as_table() else {
+        return Err(TableFault::Kind {
+            key: Key::Validators,
+        });
+    };
+    range_of(modes, entry)
+}
+
+/// The range of an entry: its first number, its last one and its mode.
+#[tactic(auto, unfolding(crate::specs::Validators::range_of))]
+fn range_of(modes: &[String], entry: &Table) -> Result<(u32, Span), TableFault>
+    requires { length modes.now ≤ 32 }
+    ensures range { result ≡ spec.range_of (map string_bytes modes.now) (table_view entry.now) }
+    ensures order { IfOk result (λ range. range.0 ≤ range.1.last) }
+    ensures known { IfOk result (λ range. range.1.mode < length modes.now) }
+{
+    let first = number_at(entry, "first", Key::First, 0, u32::MAX)?;
+    let last = number_at(entry, "last", Key::Last, first, u32::MAX)?;
+    let mode = mode_named(modes, text_at(entry, "mode", Key::ModeName)?)?;
+    Ok((first, Span { last, mode }))
+}

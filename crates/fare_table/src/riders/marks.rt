@@ -1,0 +1,72 @@
+//! Marks by which most tokens are told from some named ones.
+
+ghost use Rattle.std.specs.Prelude.{◌≡◌, ◌<◌, ◌≤◌, ◌*◌, true, All, IfOk, length};
+ghost use Rattle.std.specs.Map.{keys_of};
+ghost use Rattle.fare_table.specs.Marks.{is_marked};
+
+use crate::fault::NoMemory;
+use crate::riders::token::Token;
+use crate::terms::Terms;
+use std::alloc::Global;
+use std::collections::BTreeMap;
+use std::marker::Model;
+
+/// The least number of marks for each token. With so many, most other tokens' slots have none.
+const MARKS_FOR_EACH: usize = 8;
+
+/// A mark for each of some tokens, at the slot that its last bits tell.
+///
+/// A token whose slot has no mark is none of them. One whose slot has a mark may be, since tokens
+/// share slots: who asks looks further then. So slots that many tokens share cost time alone.
+#[derive(Drop)]
+pub(crate) struct Marks {
+    /// A power of two of them, so that a slot is found without a division. None where there is no
+    /// token.
+    marks: Vec<bool>,
+}
+
+impl Model for Marks {
+    ghost use Rattle.std.specs.Prelude.{Bool, List};
+
+    ghost Value = { List Bool };
+
+    ghost view = { λ m. m.marks.items };
+}
+
+impl Marks {
+    /// The marks of a map's tokens. `NoMemory` is answered where a growth is refused.
+    pub(crate) fn new(alloc: Global, terms: &BTreeMap<Token, Terms>) -> Result<Marks, NoMemory>
+        ensures marked { IfOk result
+            (λ marks. All (λ token. is_marked marks token ≡ true) (keys_of terms.now.entries)) }
+        ensures few { IfOk result (λ marks. length marks ≤ 16 * length terms.now.entries) }
+    {
+        let mut marks = vec![in alloc; false; marks_for(terms.len())?]?;
+        for token in terms.keys() {
+            let slot = token.slot(marks.len());
+            marks[slot] = true;
+        }
+        Ok(Marks { marks })
+    }
+
+    /// Whether the token's slot is marked.
+    pub(crate) fn has(&self, token: Token) -> bool
+        ensures { result ≡ is_marked self.now token }
+    {
+        !self.marks.is_empty() && self.marks[token.slot(self.marks.len())]
+    }
+}
+
+/// How many marks so many tokens have. A number that `usize` does not hold is also more than memory
+/// holds, so it is answered as refused memory.
+fn marks_for(tokens: usize) -> Result<usize, NoMemory>
+    ensures some { IfOk result (λ marks. 0 < tokens → 0 < marks) }
+    ensures few { IfOk result (λ marks. marks ≤ 16 * tokens) }
+{
+    if tokens == 0 {
+        return Ok(0);
+    }
+    tokens
+        .saturating_mul(MARKS_FOR_EACH)
+        .checked_next_power_of_two()
+        .ok_or(NoMemory)
+}

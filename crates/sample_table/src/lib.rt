@@ -1,0 +1,89 @@
+//! The sample fare table of the tests, its variants, and taps of its day.
+//!
+//! The tests of all libraries read this one text, so that a row of one test can be followed in
+//! another.
+#![tactic(auto)]
+
+use tap_views::TapFields;
+
+/// The sample after a first line: two modes, three kinds of transfer, the classes `full` and
+/// `reduced`, and one rider.
+macro_rules! sample {
+    ($first_line:literal) => {
+        concat!(
+            $first_line,
+            r#"modes = ["subway", "bus"]
+transfers = [["subway", "bus"], ["bus", "subway"], ["bus", "bus"]]
+default_class = "full"
+
+[classes.full]
+fare = 300
+rides = 12
+ceiling = 3500
+
+[classes.reduced]
+fare = 150
+rides = 12
+
+[[validators]]
+first = 1000
+last = 1999
+mode = "subway"
+
+[[validators]]
+first = 2000
+last = 2999
+mode = "bus"
+
+[riders]
+000000000000000000000000000000d4 = "reduced"
+"#
+        )
+    };
+}
+
+/// The sample: windows end seven days after their start.
+pub const SAMPLE: &str = sample!("");
+
+/// The sample under New York's civil time.
+pub const NEW_YORK: &str = sample!("zone = \"EST5EDT,M3.2.0,M11.1.0\"\n");
+
+/// A validator of the mode `subway`.
+pub const SUBWAY: u32 = 1000;
+
+/// A validator of the mode `bus`.
+pub const BUS: u32 = 2000;
+
+/// When the taps' day begins: 2024-03-08T17:00:00.000Z, in milliseconds since 1970-01-01T00:00Z.
+pub const START: u64 = 1_709_917_200_000;
+
+/// The report of two uploads: subway, bus, bus, subway of one token within an hour; of another token
+/// a tap that no validator of the table made, and then an earlier one.
+pub const REPORT: &str = "uploads 2
+upload 0 posted 4
+upload 1 posted 2
+totals taps 6 paid 3 transfers 2 capped 0 stale 0 unknown 1 cents 900
+validators 3
+validator 9 taps 1 paid 0 transfers 0 capped 0 stale 0 unknown 1 cents 0
+validator 1000 taps 3 paid 2 transfers 1 capped 0 stale 0 unknown 0 cents 600
+validator 2000 taps 2 paid 1 transfers 1 capped 0 stale 0 unknown 0 cents 300
+tokens 2
+token 000000000000000000000000000000a1 taps 4 paid 2 transfers 2 capped 0 stale 0 unknown 0 cents 600
+token 000000000000000000000000000000b2 taps 2 paid 1 transfers 0 capped 0 stale 0 unknown 1 cents 300
+";
+
+/// The token whose last byte is the given one and whose other bytes are 0.
+pub fn bytes_of(last: u8) -> [u8; 16] {
+    let mut token = [0; 16];
+    token[15] = last;
+    token
+}
+
+/// The tap of this token at a validator and a moment.
+pub fn tap(last: u8, validator: u32, moment: u64) -> TapFields {
+    TapFields {
+        token: bytes_of(last),
+        validator,
+        moment,
+    }
+}
