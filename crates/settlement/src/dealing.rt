@@ -3,6 +3,7 @@
 ghost use Rattle.std.specs.Prelude.{◌≡◌, ◌≤◌, ◌++◌, length, IfOk, map};
 ghost use Rattle.settlement.specs.inside.Dealt.{AreAllAdded, AreDealt, IsAdded};
 
+use crate::memory::release;
 use fare_service::UploadEnd;
 use std::alloc::{AllocError, Global};
 use std::marker::Sync;
@@ -61,15 +62,6 @@ fn add_upload(parts: &mut Parts, upload: &[u8]) -> Result<UploadEnd, AllocError>
         }
     }
     Ok(UploadEnd::Posted { taps })
-}
-
-/// Gives an upload's memory back. It is cut short before: the C library keeps larger blocks in its
-/// own heap once it was given back a large one, and the lists that grow there later take more room.
-fn release(upload: Vec<u8>) {
-    let mut upload = upload;
-    upload.truncate(1);
-    upload.shrink_to_fit();
-    drop(upload);
 }
 
 /// Adds the taps of each upload, and returns how each ends. An upload's memory is given back as

@@ -7,6 +7,7 @@ ghost use Rattle.settlement.specs.Settled.{IsPartFile};
 ghost use Rattle.settlement.specs.inside.Spread.{AreEmpty, AreSpread};
 
 use crate::buckets::{Bucket, arrange, empty_buckets, spread};
+use crate::memory::release;
 use crate::pieces::Pieces;
 use std::alloc::{AllocError, Global};
 use tap_parts::{PartTaps, text_of};
@@ -58,5 +59,6 @@ pub(crate) fn files_of(alloc: Global, parts: Vec<Pieces>) -> Result<Vec<Vec<u8>>
     for pieces in parts {
         files.push(file_of(alloc, buckets, &mut taps, pieces)?)?;
     }
+    release(taps);
     Ok(files)
 }
