@@ -177,23 +177,25 @@ fn ends_with_its_status_where_the_fault_cannot_be_told(rt: HostRuntime) -> Resul
     Ok(())
 }
 
-/// What is said of words that cannot be read for this reason, and the status.
-fn unread(alloc: Global, kind: io::ErrorKind) -> (Vec<u8>, u8) {
+/// Whether words that cannot be read for this reason are told by this line, with this status.
+fn is_told(alloc: Global, kind: io::ErrorKind, line: &[u8], status: u8) -> bool {
     let mut err = Complaints::new(Vec::new(alloc));
-    let status = unread_words(&io::Error::from(kind), &mut err);
-    (err.into_writer(), status)
+    let ended = unread_words(&io::Error::from(kind), &mut err);
+    let said = err.into_writer();
+    ended == status && said.as_slice() == line
 }
 
 #[test]
 fn tells_of_words_that_cannot_be_had(rt: HostRuntime) {
-    let (said, status) = unread(rt.alloc(), io::ErrorKind::OutOfMemory);
-    assert_eq!(rt;
-        (said.as_slice(), status),
-        (b"fault: out of memory\n".as_slice(), 1)
+    let alloc = rt.alloc();
+    assert!(rt;
+        is_told(
+            alloc,
+            io::ErrorKind::OutOfMemory,
+            b"fault: out of memory\n",
+            1
+        )
     );
-    let (said, status) = unread(rt.alloc(), io::ErrorKind::InvalidData);
-    assert_eq!(rt;
-        (said.as_slice(), status),
-        (b"error: an argument is not UTF-8\n".as_slice(), 2)
-    );
+    let line = b"error: an argument is not UTF-8\n";
+    assert!(rt; is_told(alloc, io::ErrorKind::InvalidData, line, 2));
 }
