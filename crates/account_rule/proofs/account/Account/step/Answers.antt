@@ -1,5 +1,5 @@
 -- Each way out of the step is one of the rule's four cases: unknown, stale, transfer, ride.
-use Rattle.std.proofs.Common.{List, [], ◌∷◌, ◌++◌, Some, refl, sym, ◌∙◌}
+use Rattle.std.proofs.Common.{List, [], ◌∷◌, ◌++◌, Some, refl, sym, ap, ◌∙◌}
 use Rattle.account_rule.specs.Replies.{ride_reply}
 use Rattle.account_rule.specs.Rules.{rules_of}
 use Rattle.account_rule.specs.Kept.{fields_of, kept_giver, kept_of}
@@ -7,6 +7,7 @@ use Rattle.account_rule.specs.Stands.{StandsForSome, Stands}
 use Rattle.account_rule.specs.Taps.{live_at}
 use Rattle.account_rule.specs.declared.tap.TapIn.{TapIn}
 use Rattle.account_rule.proofs.StepLemmas.{IsStep, at_kept, first_ride, gives_none-state, kept-fresh, kept-open, kept_terms, next_ride, room, stale, stands-open, transfer, unknown}
+use Rattle.account_rule.proofs.FareLemmas.{free-few, ride-few}
 use Rattle.account_rule.proofs.account.Account.step.Goals as goal
 use Rattle.account_rule.proofs.account.Account.step.Goals.{After-first_ride, After-to_ride}
 
@@ -116,3 +117,23 @@ returns-clause-stands c =
 pub returns-clause-some : goal.returns-clause-some
 unfolding StandsForSome
 returns-clause-some c = (c.requires.stands.0 ++ c.args.tap ∷ [], returns-clause-stands c c.requires.stands.0 c.requires.stands.1)
+
+-- no reply costs more than the greatest fare
+
+pub returns-in_default-clause-few : goal.returns-in_default-clause-few
+returns-in_default-clause-few c = free-few _ _ c.free.ensures
+
+pub returns-then-not-self-clause-few : goal.returns-then-not-self-clause-few
+returns-then-not-self-clause-few c = ride-few _ _ _ c.first_ride.ensures.limits c.first_ride.ensures.reply
+
+pub returns-then-tap-self-clause-few : goal.returns-then-tap-self-clause-few
+returns-then-tap-self-clause-few c = free-few _ _ c.free-then-tap-self.ensures
+
+pub returns-then-gives_transfer-clause-few : goal.returns-then-gives_transfer-clause-few
+returns-then-gives_transfer-clause-few c = free-few _ _ c.free-then-gives_transfer.ensures
+
+pub returns-clause-few : goal.returns-clause-few
+unfolding StandsForSome Stands
+returns-clause-few c =
+    let limits = (kept_terms _ (kept_of c.args.self.now) _ c.requires.stands.0 (kept-open _ c.if-not-self.false) c.requires.stands.1).limits in
+    ride-few c.args.self.now.terms _ _ limits (c.to_ride.ensures ∙ ap ride_reply c.take_ride.ensures.cost)
