@@ -1,5 +1,5 @@
 -- What is kept of one token changes, the rest stays.
-use Rattle.std.proofs.Common.{◌≡◌, ℕ, suc, ◌+◌, arith, List, [], ◌∷◌, ◌++◌, length, refl, Option, Some, None, slice_get, sym, ap, subst, ◌∙◌, Bool, true, false, cond, is_some, ⊎_elim}
+use Rattle.std.proofs.Common.{◌≡◌, ℕ, suc, ◌+◌, ◌<◌, arith, List, [], ◌∷◌, ◌++◌, length, refl, Option, Some, None, slice_get, sym, ap, subst, ◌∙◌, Bool, true, false, cond, is_some, ⊎_elim}
 use Rattle.std.specs.Map.{keys_of, lookup}
 use Rattle.std.specs.List.{position_or_len}
 use Rattle.indexmap.specs.IndexMap.{IsUnique, Updates, get, insert_entry, insert_index, with_value_at}
@@ -17,6 +17,7 @@ use Rattle.shard_book.specs.declared.token.Token.{Token}
 use Rattle.shard_book.proofs.Histories.{same_token}
 use Rattle.shard_book.proofs.TokenLemmas.{token_eq-laws}
 use Rattle.std.proofs.lemmas.Bool.{cases_Bool, false≢true}
+use Rattle.std.proofs.lemmas.Option.{slice_get_within}
 
 -- the kept account, or else a fresh one, stands for the taps
 pub stands_or : (rules : Rules) (kept : Option Kept) (here : Kept) (taps : List TapIn) → IsKeptOrFresh kept here → IsKept rules kept taps → Stands rules here.account taps
@@ -100,6 +101,13 @@ made_found old new token place same some index =
       is = subst (λ (o : Option Kept). IsKeptOrFresh o there.kept) (sym there.is) refl;
       now = ap (λ (es : List (Token × Kept)). lookup (token_eq token) es) same ∙ there.is;
     }
+
+-- so its index is below the number of accounts
+pub index-within : (accounts : Accounts) (token : Token) → is_some (kept_at accounts token) ≡ true → insert_index token_eq accounts.map token < length accounts.map.entries
+unfolding kept_at
+index-within accounts token some =
+    let there : IsAt token accounts.map.entries (insert_index token_eq accounts.map token) = at_index token accounts.map.entries some in
+    slice_get_within accounts.map.entries (insert_index token_eq accounts.map token) (token, there.kept) there.at
 
 -- what is kept stands on where it stayed
 pub on-same : {old new : Option Kept} → new ≡ old → StandsOn old new

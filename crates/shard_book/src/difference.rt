@@ -11,23 +11,16 @@ use crate::entry::Entry;
 pub fn first_difference(book: &ShardBook, list: &[Entry]) -> Option<u64>
     ensures { IsFirstDifference book.now.entries list.now result }
 {
-    first_difference_of(book.entries(), list)
-}
-
-/// The first place at which the lists differ, the end of the shorter among them. `None` where they
-/// are equal.
-fn first_difference_of(left: &[Entry], right: &[Entry]) -> Option<u64>
-    ensures { IsFirstDifference left.now right.now result }
-{
-    let shorter = left.len().min(right.len());
+    let len = book.len();
+    let shorter = len.min(list.len() as u64);
     for i in 0..shorter {
-        if left[i] != right[i] {
-            return Some(i as u64);
+        if book.entry(i) != list[i as usize] {
+            return Some(i);
         }
     }
-    if left.len() == right.len() {
+    if len == list.len() as u64 {
         None
     } else {
-        Some(shorter as u64)
+        Some(shorter)
     }
 }

@@ -13,7 +13,7 @@ use Rattle.shard_book.proofs.book.ShardBook.post_at.Goals.{After-push_reserved}
 
 pub step-requires-clause-kept : goal.step-requires-clause-kept
 unfolding AreKept
-step-requires-clause-kept c = (_, c.self.invariant.kept c.of-token.result)
+step-requires-clause-kept c = (_, c.self.invariant.sound.kept c.of-token.result)
 
 pub invariant_of-self-in_err-reply : goal.invariant_of-self-in_err-reply
 invariant_of-self-in_err-reply c = sound-same c.reserve.ensures.items c.in_err-reply.ensures.err c.in_err-reply.ensures.counting c.self.invariant
