@@ -1,6 +1,5 @@
 -- One line after another: what the teller has come to, and what was written.
 use Rattle.std.proofs.Common.{◌≡◌, ℕ, ◌+◌, ◌<◌, true, false, List, [], ◌∷◌, ◌++◌, Option, Some, None, length, map, take, drop, get_or, refl, sym, ap, subst, ◌∙◌, append_assoc, append-nil, add-one, drop-cons, arith}
-use Rattle.std.specs.Borrow.{Bor}
 use Rattle.std.specs.Prelude.{slice_get}
 use Rattle.std.specs.Io.KnownBytes.{Appends, Keeps, append_known}
 use Rattle.std.proofs.lemmas.List.{get_or-map, length-append, length-map, map-append}
@@ -16,7 +15,10 @@ use Rattle.shard_book.specs.declared.entry.Entry.{Entry}
 use Rattle.shard_book.specs.declared.token.Token.{Token}
 use Rattle.shard_book.proofs.Histories.{token_eq-refl}
 use Rattle.reason_texts.specs.Ledger.{IsLedgerLine, reason_after}
-use Rattle.ledger_texts.specs.inside.Lines.{AreLinesAlong, AreUpTo, HasCome, IsLineAfter, IsUpTo, Rise, RiseFrom, seen}
+use Rattle.ledger_texts.specs.inside.Lines.{AreLinesAlong, AreUpTo, HasCome, IsLineAfter, IsUpTo, Rise, RiseFrom}
+use Rattle.ledger_texts.specs.inside.Spots.{entry_of, seen}
+use Rattle.ledger_texts.specs.declared.spot.Spot.{Spot}
+use Rattle.shard_book.specs.Book.{Book}
 use Rattle.ledger_texts.specs.declared.teller.Teller.{Teller}
 use Rattle.ledger_texts.proofs.Rising.{none_below, own_none, own_push, up_itself, up_push, up_weaker}
 
@@ -87,39 +89,39 @@ along_push fares earlier (first ∷ entries) entry text line (start, rest, told,
   ap (λ t. t ++ line) whole ∙ append_assoc start rest line,
 )
 
--- what stands before, at and from a place of what references show
-pub seen_taken : (list : List (Bor Entry)) (place : ℕ) (other : Bor Entry) → place < length list
-    → take (place + 1) (seen list) ≡ take place (seen list) ++ (get_or list place other).now ∷ []
-seen_taken list place other within =
-    let inside : place < length (seen list) = omega (arith, length-map list (λ (entry : Bor Entry). entry.now), within) in
-    (rw (add-one) (take-suc (seen list) place other.now inside))
-    ∙ ap (λ (entry : Entry). take place (seen list) ++ entry ∷ []) (get_or-map (λ (entry : Bor Entry). entry.now) list place other other.now within)
+-- what stands before, at and from a place of what stands at spots
+pub seen_taken : (books : List Book) (list : List Spot) (place : ℕ) (other : Spot) → place < length list
+    → take (place + 1) (seen books list) ≡ take place (seen books list) ++ entry_of books (get_or list place other) ∷ []
+seen_taken books list place other within =
+    let inside : place < length (seen books list) = omega (arith, length-map list (entry_of books), within) in
+    (rw (add-one) (take-suc (seen books list) place (entry_of books other) inside))
+    ∙ ap (λ (entry : Entry). take place (seen books list) ++ entry ∷ []) (get_or-map (entry_of books) list place other (entry_of books other) within)
 
-seen_left : (list : List (Bor Entry)) (place : ℕ) (other : Bor Entry) → place < length list
-    → drop place (seen list) ≡ (get_or list place other).now ∷ drop (place + 1) (seen list)
-seen_left list place other within =
-    let inside : place < length (seen list) = omega (arith, length-map list (λ (entry : Bor Entry). entry.now), within) in
-    (rw (add-one) (drop-cons (seen list) place other.now inside))
-    ∙ ap (λ (entry : Entry). entry ∷ drop (place + 1) (seen list)) (get_or-map (λ (entry : Bor Entry). entry.now) list place other other.now within)
+seen_left : (books : List Book) (list : List Spot) (place : ℕ) (other : Spot) → place < length list
+    → drop place (seen books list) ≡ entry_of books (get_or list place other) ∷ drop (place + 1) (seen books list)
+seen_left books list place other within =
+    let inside : place < length (seen books list) = omega (arith, length-map list (entry_of books), within) in
+    (rw (add-one) (drop-cons (seen books list) place (entry_of books other) inside))
+    ∙ ap (λ (entry : Entry). entry ∷ drop (place + 1) (seen books list)) (get_or-map (entry_of books) list place other (entry_of books other) within)
 
-pub rise_here : (list : List (Bor Entry)) (place : ℕ) (other : Bor Entry) (token : Token) → place < length list → RiseFrom token (drop place (seen list))
-    → IsUpTo token (get_or list place other).now.token
-rise_here list place other token within rise =
-    let both : RiseFrom token ((get_or list place other).now ∷ drop (place + 1) (seen list)) = subst (λ (es : List Entry). RiseFrom token es) (seen_left list place other within) rise in
+pub rise_here : (books : List Book) (list : List Spot) (place : ℕ) (other : Spot) (token : Token) → place < length list → RiseFrom token (drop place (seen books list))
+    → IsUpTo token (entry_of books (get_or list place other)).token
+rise_here books list place other token within rise =
+    let both : RiseFrom token (entry_of books (get_or list place other) ∷ drop (place + 1) (seen books list)) = subst (λ (es : List Entry). RiseFrom token es) (seen_left books list place other within) rise in
     both.0
 
-pub rise_on : (list : List (Bor Entry)) (place : ℕ) (other : Bor Entry) (token : Token) → place < length list → RiseFrom token (drop place (seen list))
-    → RiseFrom (get_or list place other).now.token (drop (place + 1) (seen list))
-rise_on list place other token within rise =
-    let both : RiseFrom token ((get_or list place other).now ∷ drop (place + 1) (seen list)) = subst (λ (es : List Entry). RiseFrom token es) (seen_left list place other within) rise in
+pub rise_on : (books : List Book) (list : List Spot) (place : ℕ) (other : Spot) (token : Token) → place < length list → RiseFrom token (drop place (seen books list))
+    → RiseFrom (entry_of books (get_or list place other)).token (drop (place + 1) (seen books list))
+rise_on books list place other token within rise =
+    let both : RiseFrom token (entry_of books (get_or list place other) ∷ drop (place + 1) (seen books list)) = subst (λ (es : List Entry). RiseFrom token es) (seen_left books list place other within) rise in
     both.1
 
 -- entries in order of token rise from the first one's token
-pub rise_first : (list : List (Bor Entry)) (first : Bor Entry) → slice_get list 0 ≡ Some first → Rise (seen list) → RiseFrom first.now.token (seen list)
-rise_first [] first is rise = tt
-rise_first (one ∷ list) first is rise =
+pub rise_first : (books : List Book) (list : List Spot) (first : Spot) → slice_get list 0 ≡ Some first → Rise (seen books list) → RiseFrom (entry_of books first).token (seen books list)
+rise_first books [] first is rise = tt
+rise_first books (one ∷ list) first is rise =
     let same : one ≡ first = cc in
-    subst (λ (x : Bor Entry). RiseFrom x.now.token (seen (one ∷ list))) same (up_itself one.now.token, rise)
+    subst (λ (x : Spot). RiseFrom (entry_of books x).token (seen books (one ∷ list))) same (up_itself (entry_of books one).token, rise)
 
 -- ---- the bytes
 pub grown : (a b : Option (List ℕ)) (text longer written line : List ℕ) → Appends a (append_known b text) written → longer ≡ text ++ line → Appends a (append_known b longer) (written ++ line)
