@@ -217,7 +217,7 @@ fn replies_of(alloc: Global, out: &Replies) -> Result<Vec<Reply>, Fail> {
 fn entries_of(alloc: Global, book: &ShardBook) -> Result<Vec<Entry>, Fail> {
     let mut entries = Vec::new(alloc);
     for i in 0..book.len() {
-        entries.push(*book.entry(i))?;
+        entries.push(book.entry(i))?;
     }
     Ok(entries)
 }
