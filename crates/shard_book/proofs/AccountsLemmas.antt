@@ -11,10 +11,12 @@ use Rattle.shard_book.specs.declared.accounts.Accounts.{Accounts}
 use Rattle.shard_book.specs.declared.accounts.Kept.{Kept}
 use Rattle.shard_book.specs.inside.Accounts.{IsKept, IsKeptOrFresh, IsMade, IsPlace, StandsOn, counted, kept_at}
 use Rattle.shard_book.specs.Counts.{sums_of_counts}
+use Rattle.shard_book.specs.inside.Packed.{KeepPlaces, tokens_of}
 use Rattle.shard_book.specs.Sums.{sums_of_replies}
 use Rattle.shard_book.specs.Token.{token_eq}
 use Rattle.shard_book.specs.declared.token.Token.{Token}
 use Rattle.shard_book.proofs.Histories.{same_token}
+use Rattle.shard_book.proofs.PackedLemmas.{keep_entries, keep_same}
 use Rattle.shard_book.proofs.TokenLemmas.{token_eq-laws}
 use Rattle.std.proofs.lemmas.Bool.{cases_Bool, false≢true}
 use Rattle.std.proofs.lemmas.Option.{slice_get_within}
@@ -130,3 +132,12 @@ on-all {old} {new} {token} made others other =
     (λ (here : token_eq token other ≡ true). subst (λ (t : Token). StandsOn (kept_at old t) (kept_at new t)) (same_token token other here) (on-made made))
     (λ (apart : token_eq token other ≡ false). on-same (others other apart))
     (cases_Bool (token_eq token other))
+
+-- no account moves where the accounts stayed
+pub keep_found : (old new : Accounts) → new.map.entries ≡ old.map.entries → KeepPlaces (tokens_of old) (tokens_of new)
+keep_found old new same = keep_same (ap (λ (es : List (Token × Kept)). keys_of es) same)
+
+-- nor where one is opened
+pub keep_opened : (old new : Accounts) (token : Token) (fresh : Kept) → kept_at old token ≡ None → new.map.entries ≡ insert_entry token_eq old.map.entries token fresh → KeepPlaces (tokens_of old) (tokens_of new)
+unfolding kept_at
+keep_opened old new token fresh none entries = keep_entries old.map.entries new.map.entries (token, fresh) (entries ∙ insert_entry-new token_eq old.map token fresh none)

@@ -7,12 +7,13 @@ use Rattle.std.proofs.lemmas.Option.{get_or_from_slice_get, slice_get-map, slice
 use Rattle.std.specs.Map.{keys_of}
 use Rattle.std.specs.Option.{option_map}
 use Rattle.account_rule.specs.declared.reply.Answer.{Answer}
+use Rattle.account_rule.specs.declared.reply.Reply.{Reply}
 use Rattle.account_rule.specs.declared.reply.Answer.TheVariants.{Paid, Transfer, Capped, Stale, Unknown}
 use Rattle.shard_book.specs.declared.accounts.Kept.{Kept}
 use Rattle.shard_book.specs.declared.entry.Entry.{Entry}
 use Rattle.shard_book.specs.declared.packed.PackedEntry.{PackedEntry}
 use Rattle.shard_book.specs.declared.token.Token.{Token}
-use Rattle.shard_book.specs.inside.Packed.{ArePlaced, HasToken, KeepPlaces, answer_at, entry_of, history_of, no_token, word_answer, word_cents, word_moment}
+use Rattle.shard_book.specs.inside.Packed.{ArePlaced, HasToken, KeepPlaces, answer_at, entry_of, entry_with, history_of, no_token, word_answer, word_cents, word_moment}
 use Rattle.shard_book.specs.inside.Places.{place}
 
 -- the answer with the number of an answer is that answer
@@ -50,8 +51,17 @@ cents-in_word cents moment answer early =
     ap (λ (upper : ℕ). upper / 8) (upper-back (cents * 8 + place answer) moment early)
     ∙ div-mul-add cents 8 (place answer) (place-below answer)
 
+abbrev pub record_of : Token → ℕ → ℕ → Answer → ℕ → Entry
+record_of token validator moment answer cents = record {
+  token = token;
+  validator = validator;
+  moment = moment;
+  answer = answer;
+  cents = cents;
+}
+
 -- the packed entry's fields, with a token
-abbrev with_token : PackedEntry → Token → Entry
+abbrev pub with_token : PackedEntry → Token → Entry
 with_token packed token = record {
   token = token;
   validator = packed.validator;
@@ -59,6 +69,19 @@ with_token packed token = record {
   answer = word_answer packed.word;
   cents = word_cents packed.word;
 }
+
+-- an entry by its parts
+pub parts-same : (token : Token) (validator word moment : ℕ) (reply : Reply) → word_moment word ≡ moment → word_answer word ≡ reply.answer → word_cents word ≡ reply.cents
+    → record_of token validator (word_moment word) (word_answer word) (word_cents word) ≡ entry_with token validator moment reply
+parts-same token validator word moment reply is_moment is_answer is_cents =
+    ap (λ (m : ℕ). record_of token validator m (word_answer word) (word_cents word)) is_moment
+    ∙ ap (λ (a : Answer). record_of token validator moment a (word_cents word)) is_answer
+    ∙ ap (λ (cents : ℕ). record_of token validator moment reply.answer cents) is_cents
+
+-- the entry that is read of a packed one, with its answer
+pub answer-same : (packed : PackedEntry) (token : Token) (answer : Answer) → answer ≡ word_answer packed.word
+    → record_of token packed.validator (word_moment packed.word) answer (word_cents packed.word) ≡ with_token packed token
+answer-same packed token answer is = ap (λ (a : Answer). record_of token packed.validator (word_moment packed.word) a (word_cents packed.word)) is
 
 -- a packed entry stands for the entry of the token at its place
 pub entry-at : (tokens : List Token) (packed : PackedEntry) (token : Token) → slice_get tokens packed.place ≡ Some token → entry_of tokens packed ≡ with_token packed token

@@ -82,7 +82,8 @@ impl ShardBook {
     /// Posts one tap: the account rule answers it, and one entry is appended to the history.
     ///
     /// `until` is the table's limit of a window that starts at the tap. On want of memory the book
-    /// stays as it was: all room is taken first.
+    /// stays as it was: all room is taken first. A book has room for fewer than 2^32 accounts, and
+    /// tells want of memory for what is beyond.
     pub fn post(&mut self, tap: &TapView, until: u64) -> Result<Reply, NoMemory>
         requires here { shard_of_token tap.now.token self.old.shards ≡ self.old.shard }
         requires until { until ≡ limit_of self.old.table tap.now }
