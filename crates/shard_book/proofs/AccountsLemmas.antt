@@ -133,11 +133,11 @@ on-all {old} {new} {token} made others other =
     (λ (apart : token_eq token other ≡ false). on-same (others other apart))
     (cases_Bool (token_eq token other))
 
--- no account moves where the accounts stayed
-pub keep_found : (old new : Accounts) → new.map.entries ≡ old.map.entries → KeepPlaces (tokens_of old) (tokens_of new)
+-- no account moves where the entries stayed
+pub keep_found : (old new : List (Token × Kept)) → new ≡ old → KeepPlaces (keys_of old) (keys_of new)
 keep_found old new same = keep_same (ap (λ (es : List (Token × Kept)). keys_of es) same)
 
--- nor where one is opened
-pub keep_opened : (old new : Accounts) (token : Token) (fresh : Kept) → kept_at old token ≡ None → new.map.entries ≡ insert_entry token_eq old.map.entries token fresh → KeepPlaces (tokens_of old) (tokens_of new)
+-- nor where an account is opened
+pub keep_opened : (old : Accounts) (new : List (Token × Kept)) (token : Token) (fresh : Kept) → kept_at old token ≡ None → new ≡ insert_entry token_eq old.map.entries token fresh → KeepPlaces (tokens_of old) (keys_of new)
 unfolding kept_at
-keep_opened old new token fresh none entries = keep_entries old.map.entries new.map.entries (token, fresh) (entries ∙ insert_entry-new token_eq old.map token fresh none)
+keep_opened old new token fresh none entries = keep_entries old.map.entries new (token, fresh) (entries ∙ insert_entry-new token_eq old.map token fresh none)

@@ -1,14 +1,13 @@
 -- A history that is read entry by entry.
-use Rattle.std.proofs.Common.{◌≡◌, ℕ, ◌+◌, List, [], ◌∷◌, ◌++◌, Some, take, slice_get, get_or, sym, ap, subst, ◌∙◌}
+use Rattle.std.proofs.Common.{◌≡◌, ℕ, ◌+◌, ◌<◌, ◌≤◌, List, [], ◌∷◌, ◌++◌, Some, None, length, take, slice_get, get_or, min, refl, sym, ap, ◌∙◌, ⊎_elim, arith}
 use Rattle.std.proofs.lemmas.List.{append_assoc, take_more}
 use Rattle.std.proofs.lemmas.List.Elements.{filter-append}
-use Rattle.std.proofs.lemmas.Option.{slice_get_within, get_or_from_slice_get}
+use Rattle.std.proofs.lemmas.Bool.{cases_lt}
+use Rattle.std.proofs.lemmas.Option.{slice_get-get_or, slice_get_past, slice_get_within, get_or_from_slice_get}
 use Rattle.account_rule.specs.declared.reply.Reply.{Reply}
 use Rattle.shard_book.specs.declared.entry.Entry.{Entry}
-use Rattle.shard_book.specs.declared.sums.tally.Tally.{Tally}
 use Rattle.shard_book.specs.declared.token.Token.{Token}
 use Rattle.shard_book.specs.Entry.{is_of, own, reply_of}
-use Rattle.shard_book.specs.inside.Grouping.{IsGrouped}
 use Rattle.shard_book.specs.Sums.{Sums, sums, sums_of_replies, add_sums}
 use Rattle.shard_book.proofs.SumsLemmas.{sums-more}
 
@@ -44,3 +43,28 @@ same-read left right i here there at other same before =
     ∙ ap (λ (e : Entry). take i left ++ e ∷ []) same
     ∙ ap (λ (es : List Entry). es ++ there ∷ []) before
     ∙ taken_at right i there other
+
+pub agree-more : (left right : List Entry) (i : ℕ) → i < length left → slice_get left i ≡ slice_get right i → take i left ≡ take i right → take (i + 1) left ≡ take (i + 1) right
+agree-more [] right i within same before = absurd (omega arith)
+agree-more (first ∷ left) right i within same before =
+    let at : slice_get (first ∷ left) i ≡ Some (get_or (first ∷ left) i first) = slice_get-get_or (first ∷ left) i first within in
+    same-read (first ∷ left) right i (get_or (first ∷ left) i first) (get_or (first ∷ left) i first) at (sym same ∙ at) refl before
+
+-- where one list has ended and the other has not, they differ
+ended : (left right : List Entry) (place : ℕ) → length left ≤ place → place < length right → slice_get left place ≡ slice_get right place → ⊥
+ended left [] place past within same = omega arith
+ended left (first ∷ right) place past within same =
+    let some : slice_get (first ∷ right) place ≡ Some (get_or (first ∷ right) place first) = slice_get-get_or (first ∷ right) place first within in
+    let none : slice_get left place ≡ None = slice_get_past left place past in
+    cc
+
+-- so lists of two lengths differ at the end of the shorter
+pub ends-apart : (left right : List Entry) (place : ℕ) → (length left ≡ length right → ⊥) → place ≡ min (length left) (length right) → slice_get left place ≡ slice_get right place → ⊥
+ends-apart left right place apart is same =
+    ⊎_elim
+    (λ (shorter : length left < length right). ended left right place (omega arith) (omega arith) same)
+    (λ (other : length right ≤ length left). ⊎_elim
+    (λ (longer : length right < length left). ended right left place (omega arith) (omega arith) (sym same))
+    (λ (back : length left ≤ length right). apart (omega arith))
+    (cases_lt (length right) (length left)))
+    (cases_lt (length left) (length right))

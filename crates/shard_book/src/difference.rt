@@ -1,6 +1,6 @@
 //! The first place where two lists of entries differ.
 
-ghost use Rattle.std.specs.Prelude.{◌≡◌};
+ghost use Rattle.std.specs.Prelude.{◌≡◌, ◌<◌, ◌↔◌, IsTrue, length, slice_get};
 ghost use Rattle.shard_book.specs.Difference.{IsFirstDifference};
 
 use crate::book::ShardBook;
@@ -14,7 +14,7 @@ pub fn first_difference(book: &ShardBook, list: &[Entry]) -> Option<u64>
     let len = book.len();
     let shorter = len.min(list.len() as u64);
     for i in 0..shorter {
-        if book.entry(i) != list[i as usize] {
+        if !agree(book, list, i) {
             return Some(i);
         }
     }
@@ -23,4 +23,14 @@ pub fn first_difference(book: &ShardBook, list: &[Entry]) -> Option<u64>
     } else {
         Some(shorter)
     }
+}
+
+/// Whether the history and the list have the same entry at the place.
+#[inline(always)]
+fn agree(book: &ShardBook, list: &[Entry], i: u64) -> bool
+    requires within { i < length book.now.entries }
+    requires there { i < length list.now }
+    ensures { IsTrue result ↔ (slice_get book.now.entries i ≡ slice_get list.now i) }
+{
+    book.entry(i) == list[i as usize]
 }

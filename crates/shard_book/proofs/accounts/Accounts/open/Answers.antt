@@ -6,9 +6,9 @@ use Rattle.shard_book.specs.declared.accounts.Kept.{Kept}
 use Rattle.shard_book.proofs.AccountsLemmas.{index-within, keep_found, keep_opened, made_found, made_last}
 use Rattle.shard_book.proofs.accounts.Accounts.open.Goals as goal
 
-pub overflow_cast-index : goal.overflow_cast-index
+pub overflow_cast-result : goal.overflow_cast-result
 unfolding kept_at
-overflow_cast-index c =
+overflow_cast-result c =
     let within : insert_index token_eq c.args.self.now.map c.args.token < length c.args.self.now.map.entries =
     index-within c.args.self.now c.args.token (rw c.in-Occupied.is at c.in_ok-kept.ensures.found).0 in
     let index = c.index.ensures ∙ (rw c.in-Occupied.is at c.in_ok-kept.ensures.index) in
@@ -20,7 +20,7 @@ returns-in-Occupied-clause-made c =
     made_found c.args.self.now _ c.args.token _ (search rules) (rw c.in-Occupied.is at c.in_ok-kept.ensures.found).0 (c.index.ensures ∙ (rw c.in-Occupied.is at c.in_ok-kept.ensures.index))
 
 pub returns-in-Occupied-clause-places : goal.returns-in-Occupied-clause-places
-returns-in-Occupied-clause-places c = keep_found c.args.self.now _ (search rules)
+returns-in-Occupied-clause-places c = keep_found c.args.self.now.map.entries _ (search rules)
 
 pub returns-in-Vacant-clause-made : goal.returns-in-Vacant-clause-made
 unfolding kept_at
