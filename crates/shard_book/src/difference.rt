@@ -1,6 +1,6 @@
 //! The first place where two lists of entries differ.
 
-ghost use Rattle.std.specs.Prelude.{◌≡◌, ◌<◌, ◌↔◌, IsTrue, length, slice_get};
+ghost use Rattle.std.specs.Prelude.{◌≡◌, ◌<◌, ◌↔◌, IsTrue, Some, length, slice_get};
 ghost use Rattle.shard_book.specs.Difference.{IsFirstDifference};
 
 use crate::book::ShardBook;
@@ -32,5 +32,22 @@ fn agree(book: &ShardBook, list: &[Entry], i: u64) -> bool
     requires there { i < length list.now }
     ensures { IsTrue result ↔ (slice_get book.now.entries i ≡ slice_get list.now i) }
 {
-    book.entry(i) == list[i as usize]
+    same(&book.entry(i), listed(list, i))
+}
+
+/// The entry of the list at the place.
+#[inline(always)]
+fn listed(list: &[Entry], i: u64) -> &Entry
+    requires { i < length list.now }
+    ensures { slice_get list.now i ≡ Some result.now }
+{
+    &list[i as usize]
+}
+
+/// Whether the entries are equal.
+#[inline(always)]
+fn same(left: &Entry, right: &Entry) -> bool
+    ensures { IsTrue result ↔ (left.now ≡ right.now) }
+{
+    left == right
 }

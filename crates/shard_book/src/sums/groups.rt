@@ -132,6 +132,8 @@ pub(crate) fn tallies_of<K: GroupKey>(
 {
     let mut tallies = HashMap::with_hasher(alloc, keys);
     for book in books {
+        // proof: book.len() < 2^64, so the tallies have room
+        let _ = book.len();
         add_entries::<K>(&mut tallies, book)?;
     }
     Ok(tallies)

@@ -1,4 +1,4 @@
-use Rattle.std.proofs.Common.{◌≡◌, ◌<◌, rules, sym, ◌∙◌, length, arith}
+use Rattle.std.proofs.Common.{◌<◌, rules, ◌∙◌, length, arith}
 use Rattle.indexmap.specs.IndexMap.{insert_index}
 use Rattle.shard_book.specs.inside.Accounts.{kept_at}
 use Rattle.shard_book.specs.Token.{token_eq}

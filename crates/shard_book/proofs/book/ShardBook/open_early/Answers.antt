@@ -1,4 +1,4 @@
-use Rattle.std.proofs.Common.{refl, sym, ap, ◌∙◌, ℕ, List, ◌≡◌}
+use Rattle.std.proofs.Common.{refl, ap, ◌∙◌, ℕ, List}
 use Rattle.fare_table.specs.Fares.{Fares}
 use Rattle.shard_book.specs.Book.{Book}
 use Rattle.shard_book.specs.declared.entry.Entry.{Entry}

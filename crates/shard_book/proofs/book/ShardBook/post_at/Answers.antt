@@ -6,8 +6,8 @@ use Rattle.shard_book.specs.Book.{Book, with_entries}
 use Rattle.tap_views.specs.Shards.{shard_of_token}
 use Rattle.shard_book.specs.declared.entry.Entry.{Entry}
 use Rattle.shard_book.specs.declared.packed.PackedEntry.{PackedEntry}
-use Rattle.shard_book.specs.inside.Packed.{HasToken, entry_of, history_of, tokens_of}
-use Rattle.shard_book.specs.inside.Sound.{AreKept, IsBook, IsSound}
+use Rattle.shard_book.specs.inside.Packed.{history_of, tokens_of}
+use Rattle.shard_book.specs.inside.Sound.{AreKept, IsSound}
 use Rattle.shard_book.specs.Token.{bytes_of}
 use Rattle.shard_book.proofs.PackedLemmas.{history-push, history-same, placed-push}
 use Rattle.shard_book.proofs.SoundLemmas.{book-same, sound-post}

@@ -1,4 +1,4 @@
-use Rattle.std.proofs.Common.{◌≡◌, sym, ap, ◌∙◌, ◌/◌, ◌%◌}
+use Rattle.std.proofs.Common.{sym, ◌∙◌}
 use Rattle.shard_book.proofs.PackedLemmas.{entry-at, answer-same}
 use Rattle.shard_book.proofs.packed.PackedEntry.entry.Goals as goal
 
