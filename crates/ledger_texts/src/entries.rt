@@ -32,7 +32,8 @@ fn push_book(
         (seen books.now list.new.items ≡ seen books.now list.old.items ++ book.now.entries) }
 {
     for place in 0..book.len() {
-        list.push(Spot::of(index, place)?)?;
+        let spot = Spot::of(index, place)?;
+        list.push(spot)?;
     }
     Ok(())
 }
@@ -42,8 +43,10 @@ fn all_of(alloc: Global, books: &[ShardBook]) -> Result<Vec<Spot>, NoMemory>
     ensures { IfOk result (λ list. seen books.now list.items ≡ all_entries books.now) }
 {
     let mut list = Vec::with_capacity(alloc, count(books))?;
-    for index in 0..books.len() {
-        push_book(&mut list, books, index, &books[index])?;
+    let mut index = 0;
+    for book in books {
+        push_book(&mut list, books, index, book)?;
+        index += 1;
     }
     Ok(list)
 }

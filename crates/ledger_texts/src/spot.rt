@@ -1,7 +1,7 @@
 //! Where an entry stands among the entries of several books, in eight bytes.
 
 ghost use Rattle.std.specs.Prelude.{◌≡◌, IfOk};
-ghost use Rattle.ledger_texts.specs.inside.Spots.{book_at, entry_of, no_entry, place_at};
+ghost use Rattle.ledger_texts.specs.inside.Spots.{book_at, entry_in, entry_of, no_entry, place_at};
 
 use account_rule::Answer;
 use fare_table::NoMemory;
@@ -24,9 +24,11 @@ pub(crate) struct Spot {
 fn nothing() -> Entry
     ensures { result ≡ no_entry }
 {
+    // proof: the token of 16 zero bytes is that of two zero numbers
     shard_book::laws::same_bytes();
+    let token = Token::of(&[0; 16]);
     Entry {
-        token: Token::of(&[0; 16]),
+        token,
         validator: 0,
         moment: 0,
         answer: Answer::Unknown,
@@ -55,10 +57,22 @@ impl Spot {
     pub(crate) fn entry(self, books: &[ShardBook]) -> Entry
         ensures { result ≡ entry_of books.now self }
     {
-        let place = self.word / BOOKS;
-        match books.get((self.word % BOOKS) as usize) {
-            Some(book) if place < book.len() => book.entry(place),
-            _ => nothing(),
+        match entry_at(books, (self.word % BOOKS) as usize, self.word / BOOKS) {
+            Some(entry) => entry,
+            None => nothing(),
         }
+    }
+}
+
+/// The entry at a place of a book, if there is one.
+#[inline(always)]
+fn entry_at(books: &[ShardBook], index: usize, place: u64) -> Option<Entry>
+    ensures { result ≡ entry_in books.now index place }
+{
+    let book = books.get(index)?;
+    if place < book.len() {
+        Some(book.entry(place))
+    } else {
+        None
     }
 }

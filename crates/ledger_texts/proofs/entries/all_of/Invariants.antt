@@ -3,5 +3,5 @@ use Rattle.shard_book.specs.Groups.{all_entries}
 use Rattle.ledger_texts.specs.inside.Spots.{seen}
 use Rattle.ledger_texts.proofs.entries.all_of.Given as goal
 
-abbrev pub invariant-loop-index : goal.invariant-loop-index
-invariant-loop-index l = seen l.books l.list.items ≡ all_entries (take l.index l.books)
+abbrev pub invariant-loop-book : goal.invariant-loop-book
+invariant-loop-book l = (l.index ≡ l.book-index) × (seen l.books l.list.items ≡ all_entries (take l.book-index l.books))
