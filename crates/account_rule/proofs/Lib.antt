@@ -1,6 +1,7 @@
 pub mod CutLemmas
 pub mod CutUnique
 pub mod TapLemmas
+pub mod FareLemmas
 pub mod LimitLemmas
 pub mod WindowLemmas
 pub mod StepLemmas

@@ -68,7 +68,8 @@ impl Account {
     /// The table and the token are the same in all calls on an account, the tap's mode is one of
     /// the table's, and its `until` is the table's limit for its moment. There is no order of
     /// moments to keep: a tap that comes too late is stale. The step takes no memory, and asks the
-    /// table for the token's terms at the first ride alone.
+    /// table for the token's terms at the first ride alone. No reply costs more than the greatest
+    /// fare of a table.
     #[inline(always)]
     pub fn step(&mut self, table: &FareTable, token: &[u8], tap: TapIn) -> Reply
         requires token { length token.now ≡ 16 }
@@ -82,6 +83,7 @@ impl Account {
         ensures stands { (taps : List TapIn) → Stands (rules_of table.now token.now) self.old taps
             → Stands (rules_of table.now token.now) self.new (taps ++ tap ∷ []) }
         ensures some { StandsForSome (rules_of table.now token.now) self.new }
+        ensures few { result.cents ≤ 100_000 }
     {
         let Some(mode) = tap.mode else {
             return Reply::free(Answer::Unknown);

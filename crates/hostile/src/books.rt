@@ -47,7 +47,7 @@ fn has_rides(book: &ShardBook, count: u64) -> Case {
     promise(book.len() == count, "another number of entries")?;
     for last in 0..40u8 {
         if u64::from(last) < book.len() {
-            promise(is_ride(book.entry(u64::from(last)), last), "another entry")?;
+            promise(is_ride(&book.entry(u64::from(last)), last), "another entry")?;
         }
     }
     Ok(())

@@ -1,10 +1,12 @@
 //! The entries of all books, in order of token.
 
-ghost use Rattle.std.specs.Prelude.{◌≡◌, ◌∷◌, [], ◌++◌, IfOk, OnOk};
+ghost use Rattle.std.specs.Prelude.{◌≡◌, ◌∷◌, [], ◌++◌, IfOk, OnOk, Some, slice_get};
 ghost use Rattle.shard_book.specs.Entry.{own};
 ghost use Rattle.shard_book.specs.Groups.{all_entries};
-ghost use Rattle.ledger_texts.specs.inside.Lines.{IsByToken, seen};
+ghost use Rattle.ledger_texts.specs.inside.Lines.{IsByToken};
+ghost use Rattle.ledger_texts.specs.inside.Spots.{seen};
 
+use crate::spot::Spot;
 use fare_table::NoMemory;
 use shard_book::{Entry, ShardBook, Token};
 use std::alloc::Global;
@@ -18,52 +20,64 @@ fn count(books: &[ShardBook]) -> usize {
     count as usize
 }
 
-/// Appends the entries of a book, in history order.
-fn push_book<'a>(list: &mut Vec<&'a Entry>, book: &'a ShardBook) -> Result<(), NoMemory>
-    ensures { OnOk result (seen list.new.items ≡ seen list.old.items ++ book.now.entries) }
+/// Appends the spots of a book's entries, in history order.
+fn push_book(
+    list: &mut Vec<Spot>,
+    books: &[ShardBook],
+    index: usize,
+    book: &ShardBook,
+) -> Result<(), NoMemory>
+    requires { slice_get books.now index ≡ Some book.now }
+    ensures { OnOk result
+        (seen books.now list.new.items ≡ seen books.now list.old.items ++ book.now.entries) }
 {
     for place in 0..book.len() {
-        list.push(book.entry(place))?;
+        let spot = Spot::of(index, place)?;
+        list.push(spot)?;
     }
     Ok(())
 }
 
-/// The entries of all books, book by book, in eight bytes each.
-fn all_of(alloc: Global, books: &[ShardBook]) -> Result<Vec<&Entry>, NoMemory>
-    ensures { IfOk result (λ list. seen list.items ≡ all_entries books.now) }
+/// The spots of the entries of all books, book by book, in eight bytes each.
+fn all_of(alloc: Global, books: &[ShardBook]) -> Result<Vec<Spot>, NoMemory>
+    ensures { IfOk result (λ list. seen books.now list.items ≡ all_entries books.now) }
 {
     let mut list = Vec::with_capacity(alloc, count(books))?;
+    let mut index = 0;
     for book in books {
-        push_book(&mut list, book)?;
+        push_book(&mut list, books, index, book)?;
+        index += 1;
     }
     Ok(list)
 }
 
-/// Puts the entries in order of token: those of one token stay in their order.
-fn sort(list: &mut Vec<&Entry>) -> Result<(), NoMemory>
-    ensures { OnOk result (IsByToken (seen list.old.items) (seen list.new.items)) }
+/// Puts the spots in order of their entries' tokens: those of one token stay in their order.
+fn sort(list: &mut Vec<Spot>, books: &[ShardBook]) -> Result<(), NoMemory>
+    ensures { OnOk result
+        (IsByToken (seen books.now list.old.items) (seen books.now list.new.items)) }
 {
-    list.sort_by_key(|entry| entry.token)?;
+    list.sort_by_key(|spot| spot.entry(books).token)?;
     Ok(())
 }
 
-/// The entries of all books in order of token, those of a token in history order. While they are
-/// sorted they take sixteen bytes each, and eight from then on.
-pub(crate) fn by_token(alloc: Global, books: &[ShardBook]) -> Result<Vec<&Entry>, NoMemory>
-    ensures { IfOk result (λ list. IsByToken (all_entries books.now) (seen list.items)) }
+/// The spots of the entries of all books in order of token, those of a token in history order.
+/// While they are sorted they take sixteen bytes each, and eight from then on.
+pub(crate) fn by_token(alloc: Global, books: &[ShardBook]) -> Result<Vec<Spot>, NoMemory>
+    ensures { IfOk result
+        (λ list. IsByToken (all_entries books.now) (seen books.now list.items)) }
 {
     let mut list = all_of(alloc, books)?;
-    sort(&mut list)?;
+    sort(&mut list, books)?;
     Ok(list)
 }
 
 /// Appends the entry, where it is the token's.
 #[tactic(auto, unfolding(shard_book::specs::Entry::own))]
-fn push_if_own(list: &mut Vec<Entry>, entry: &Entry, token: Token) -> Result<(), NoMemory>
-    ensures { OnOk result (list.new.items ≡ list.old.items ++ own token (entry.now ∷ [])) }
+fn push_if_own(list: &mut Vec<Entry>, entry: Entry, token: Token) -> Result<(), NoMemory>
+    ensures { OnOk result (list.new.items ≡ list.old.items ++ own token (entry ∷ [])) }
 {
     if entry.token == token {
-        list.push(*entry)?;
+        list.push(entry)?;
     }
     Ok(())
 }

@@ -8,14 +8,16 @@ ghost use Rattle.shard_book.specs.Book.{Book};
 ghost use Rattle.shard_book.specs.Groups.{all_entries};
 ghost use Rattle.reason_texts.specs.Ledger.{head_text};
 ghost use Rattle.ledger_texts.specs.Ledger.{IsLedgerOf};
-ghost use Rattle.ledger_texts.specs.inside.Lines.{IsByToken, seen};
+ghost use Rattle.ledger_texts.specs.inside.Lines.{IsByToken};
+ghost use Rattle.ledger_texts.specs.inside.Spots.{seen};
 
 use crate::entries::{by_token, own_of};
 use crate::fault::LedgerFault;
 use crate::lines::{PIECE, pass_on, write_lines};
+use crate::spot::Spot;
 use fare_table::{FareTable, NoMemory};
 use reason_texts::{head_line, write_token_lines};
-use shard_book::{Entry, ShardBook, Token};
+use shard_book::{ShardBook, Token};
 use std::alloc::Global;
 use std::io::Write;
 
@@ -30,18 +32,18 @@ pub(crate) fn table_of(books: &[ShardBook]) -> &FareTable
     books[0].table()
 }
 
-/// The head line in a text with room for a piece and a line more, and the entries of all books in
-/// order of token.
-fn begun(alloc: Global, books: &[ShardBook]) -> Result<(String, Vec<&Entry>), NoMemory>
+/// The head line in a text with room for a piece and a line more, and the spots of the entries of
+/// all books in order of token.
+fn begun(alloc: Global, books: &[ShardBook]) -> Result<(String, Vec<Spot>), NoMemory>
     ensures head { IfOk result (λ begun. string_bytes begun.0 ≡ head_text) }
     ensures entries { IfOk result
-        (λ begun. IsByToken (all_entries books.now) (seen begun.1.items)) }
+        (λ begun. IsByToken (all_entries books.now) (seen books.now begun.1.items)) }
 {
-    let entries = by_token(alloc, books)?;
+    let spots = by_token(alloc, books)?;
     let mut text = String::new(alloc);
     text.reserve(PIECE + LINE)?;
     text.push_str(head_line())?;
-    Ok((text, entries))
+    Ok((text, spots))
 }
 
 /// Writes the ledger of all tokens.
@@ -55,10 +57,10 @@ fn write_all<W: Write>(alloc: Global, books: &[ShardBook], out: &mut W) -> Resul
     let Ok(clock) = table.clock(alloc) else {
         return Err(LedgerFault::NoMemory);
     };
-    let Ok((mut text, entries)) = begun(alloc, books) else {
+    let Ok((mut text, spots)) = begun(alloc, books) else {
         return Err(LedgerFault::NoMemory);
     };
-    write_lines(&mut text, table, &clock, entries.as_slice(), out)?;
+    write_lines(&mut text, table, &clock, books, spots.as_slice(), out)?;
     Ok(())
 }
 

@@ -7,6 +7,7 @@ mod explained;
 mod fault;
 mod ledger;
 mod lines;
+mod spot;
 mod teller;
 
 pub use explained::write_explained;

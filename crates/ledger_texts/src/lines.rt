@@ -3,12 +3,15 @@
 ghost use Rattle.std.specs.Prelude.{◌≡◌, ℕ, List, [], ◌++◌, IfErr, OnOk, string_bytes};
 ghost use Rattle.std.specs.Io.KnownBytes.{Appends, Keeps, append_known};
 ghost use Rattle.ledger_texts.specs.declared.fault.LedgerFault.TheVariants.{Write as ForWrite};
-ghost use Rattle.ledger_texts.specs.inside.Lines.{AreLinesAlong, Rise, RiseFrom, seen};
+ghost use Rattle.ledger_texts.specs.inside.Lines.{AreLinesAlong, Rise, RiseFrom};
+ghost use Rattle.ledger_texts.specs.inside.Spots.{seen};
+ghost use Rattle.shard_book.specs.declared.token.Token.{Token};
 
 use crate::fault::LedgerFault;
+use crate::spot::Spot;
 use crate::teller::Teller;
 use fare_table::{Clock, FareTable};
-use shard_book::Entry;
+use shard_book::{ShardBook, Token};
 use std::io::Write;
 
 /// How many bytes wait at least before they are written out: so many that a write is little beside
@@ -50,28 +53,31 @@ fn pass_piece<W: Write>(text: &mut String, out: &mut W) -> Result<(), LedgerFaul
     pass_on(text, out)
 }
 
-/// Appends the lines of the entries to the text, of which what stands there may go out first.
+/// Appends the lines of the entries at the spots to the text, of which what stands there may go out
+/// first.
 fn write_pieces<W: Write>(
     text: &mut String,
     table: &FareTable,
     clock: &Clock,
-    first: &Entry,
-    entries: &[&Entry],
+    first: Token,
+    books: &[ShardBook],
+    spots: &[Spot],
     out: &mut W,
 ) -> Result<(), LedgerFault>
     requires clock { clock.now ≡ table.now.zone }
-    requires rise { RiseFrom first.now.token (seen entries.now) }
+    requires rise { RiseFrom first (seen books.now spots.now) }
     ensures lines { OnOk result ((lines : List ℕ)
-        × AreLinesAlong table.now [] (seen entries.now) lines
+        × AreLinesAlong table.now [] (seen books.now spots.now) lines
         × Appends (append_known (W.contents out.old) (string_bytes text.old))
         (append_known (W.contents out.new) (string_bytes text.new)) lines) }
     ensures fault { IfErr result (λ fault. fault ≡ ForWrite) }
 {
-    let mut teller = Teller::of(first.token);
-    for entry in entries {
+    let mut teller = Teller::of(first);
+    for spot in spots {
+        let entry = spot.entry(books);
         teller.turn_to(entry.token);
         // The text has room for a line, so that none is refused.
-        let Ok(()) = teller.write_next(text, table, clock, entry) else {
+        let Ok(()) = teller.write_next(text, table, clock, &entry) else {
             return Err(LedgerFault::Write);
         };
         pass_piece(text, out)?;
@@ -79,43 +85,49 @@ fn write_pieces<W: Write>(
     Ok(())
 }
 
-/// Appends the lines of the entries, of which there may be none, as `write_pieces` does.
+/// Appends the lines of the entries at the spots, of which there may be none, as `write_pieces`
+/// does.
 fn write_some<W: Write>(
     text: &mut String,
     table: &FareTable,
     clock: &Clock,
-    entries: &[&Entry],
+    books: &[ShardBook],
+    spots: &[Spot],
     out: &mut W,
 ) -> Result<(), LedgerFault>
     requires clock { clock.now ≡ table.now.zone }
-    requires rise { Rise (seen entries.now) }
+    requires rise { Rise (seen books.now spots.now) }
     ensures lines { OnOk result ((lines : List ℕ)
-        × AreLinesAlong table.now [] (seen entries.now) lines
+        × AreLinesAlong table.now [] (seen books.now spots.now) lines
         × Appends (append_known (W.contents out.old) (string_bytes text.old))
         (append_known (W.contents out.new) (string_bytes text.new)) lines) }
     ensures fault { IfErr result (λ fault. fault ≡ ForWrite) }
 {
-    match entries.first() {
-        Some(first) => write_pieces(text, table, clock, *first, entries, out),
+    match spots.first() {
+        Some(first) => {
+            let token = first.entry(books).token;
+            write_pieces(text, table, clock, token, books, spots, out)
+        }
         None => Ok(()),
     }
 }
 
-/// Writes the text, and after it the lines of the entries.
+/// Writes the text, and after it the lines of the entries at the spots.
 pub(crate) fn write_lines<W: Write>(
     text: &mut String,
     table: &FareTable,
     clock: &Clock,
-    entries: &[&Entry],
+    books: &[ShardBook],
+    spots: &[Spot],
     out: &mut W,
 ) -> Result<(), LedgerFault>
     requires clock { clock.now ≡ table.now.zone }
-    requires rise { Rise (seen entries.now) }
-    ensures ok { OnOk result ((lines : List ℕ) × AreLinesAlong table.now [] (seen entries.now) lines
+    requires rise { Rise (seen books.now spots.now) }
+    ensures ok { OnOk result ((lines : List ℕ) × AreLinesAlong table.now [] (seen books.now spots.now) lines
         × Appends (W.contents out.old) (W.contents out.new) (string_bytes text.old ++ lines)) }
     ensures fault { IfErr result (λ fault. fault ≡ ForWrite) }
 {
-    write_some(text, table, clock, entries, out)?;
+    write_some(text, table, clock, books, spots, out)?;
     pass_on(text, out)?;
     Ok(())
 }

@@ -1,5 +1,5 @@
 -- What is kept of one token changes, the rest stays.
-use Rattle.std.proofs.Common.{◌≡◌, ℕ, suc, ◌+◌, arith, List, [], ◌∷◌, ◌++◌, length, refl, Option, Some, None, slice_get, sym, ap, subst, ◌∙◌, Bool, true, false, cond, is_some, ⊎_elim}
+use Rattle.std.proofs.Common.{◌≡◌, ℕ, suc, ◌+◌, ◌<◌, arith, List, [], ◌∷◌, ◌++◌, length, refl, Option, Some, None, slice_get, sym, ap, subst, ◌∙◌, Bool, true, false, cond, is_some, ⊎_elim}
 use Rattle.std.specs.Map.{keys_of, lookup}
 use Rattle.std.specs.List.{position_or_len}
 use Rattle.indexmap.specs.IndexMap.{IsUnique, Updates, get, insert_entry, insert_index, with_value_at}
@@ -11,12 +11,15 @@ use Rattle.shard_book.specs.declared.accounts.Accounts.{Accounts}
 use Rattle.shard_book.specs.declared.accounts.Kept.{Kept}
 use Rattle.shard_book.specs.inside.Accounts.{IsKept, IsKeptOrFresh, IsMade, IsPlace, StandsOn, counted, kept_at}
 use Rattle.shard_book.specs.Counts.{sums_of_counts}
+use Rattle.shard_book.specs.inside.Packed.{KeepPlaces, tokens_of}
 use Rattle.shard_book.specs.Sums.{sums_of_replies}
 use Rattle.shard_book.specs.Token.{token_eq}
 use Rattle.shard_book.specs.declared.token.Token.{Token}
 use Rattle.shard_book.proofs.Histories.{same_token}
+use Rattle.shard_book.proofs.PackedLemmas.{keep_entries, keep_same}
 use Rattle.shard_book.proofs.TokenLemmas.{token_eq-laws}
 use Rattle.std.proofs.lemmas.Bool.{cases_Bool, false≢true}
+use Rattle.std.proofs.lemmas.Option.{slice_get_within}
 
 -- the kept account, or else a fresh one, stands for the taps
 pub stands_or : (rules : Rules) (kept : Option Kept) (here : Kept) (taps : List TapIn) → IsKeptOrFresh kept here → IsKept rules kept taps → Stands rules here.account taps
@@ -101,6 +104,13 @@ made_found old new token place same some index =
       now = ap (λ (es : List (Token × Kept)). lookup (token_eq token) es) same ∙ there.is;
     }
 
+-- so its index is below the number of accounts
+pub index-within : (accounts : Accounts) (token : Token) → is_some (kept_at accounts token) ≡ true → insert_index token_eq accounts.map token < length accounts.map.entries
+unfolding kept_at
+index-within accounts token some =
+    let there : IsAt token accounts.map.entries (insert_index token_eq accounts.map token) = at_index token accounts.map.entries some in
+    slice_get_within accounts.map.entries (insert_index token_eq accounts.map token) (token, there.kept) there.at
+
 -- what is kept stands on where it stayed
 pub on-same : {old new : Option Kept} → new ≡ old → StandsOn old new
 on-same {old} {new} same = record {
@@ -122,3 +132,12 @@ on-all {old} {new} {token} made others other =
     (λ (here : token_eq token other ≡ true). subst (λ (t : Token). StandsOn (kept_at old t) (kept_at new t)) (same_token token other here) (on-made made))
     (λ (apart : token_eq token other ≡ false). on-same (others other apart))
     (cases_Bool (token_eq token other))
+
+-- no account moves where the entries stayed
+pub keep_found : (old new : List (Token × Kept)) → new ≡ old → KeepPlaces (keys_of old) (keys_of new)
+keep_found old new same = keep_same (ap (λ (es : List (Token × Kept)). keys_of es) same)
+
+-- nor where an account is opened
+pub keep_opened : (old : Accounts) (new : List (Token × Kept)) (token : Token) (fresh : Kept) → kept_at old token ≡ None → new ≡ insert_entry token_eq old.map.entries token fresh → KeepPlaces (tokens_of old) (keys_of new)
+unfolding kept_at
+keep_opened old new token fresh none entries = keep_entries old.map.entries new (token, fresh) (entries ∙ insert_entry-new token_eq old.map token fresh none)

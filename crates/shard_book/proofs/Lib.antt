@@ -3,7 +3,9 @@ pub mod Bytes
 pub mod CountingLemmas
 pub mod GroupingLemmas
 pub mod Histories
+pub mod HistoryLemmas
 pub mod MergeLemmas
+pub mod PackedLemmas
 pub mod RisingLemmas
 pub mod RunLemmas
 pub mod SoundLemmas

@@ -17,12 +17,15 @@ use Rattle.shard_book.specs.declared.token.Token.{Token}
 use Rattle.shard_book.specs.inside.Accounts.{kept_at, counted, IsCounting, IsKept, StandsOn}
 use Rattle.shard_book.specs.Entry.{own, tap_of, taps_of, reply_of}
 use Rattle.shard_book.specs.History.{IsReplied}
-use Rattle.shard_book.specs.inside.Sound.{IsSound, AreKept}
+use Rattle.shard_book.specs.inside.Sound.{IsBook, IsSound, AreKept}
 use Rattle.shard_book.specs.Token.{Fits, bytes_of, token_eq}
 use Rattle.shard_book.specs.Sums.{sums_of_replies, add_sums}
+use Rattle.shard_book.specs.declared.packed.PackedEntry.{PackedEntry}
+use Rattle.shard_book.specs.inside.Packed.{KeepPlaces, history_of, tokens_of}
 use Rattle.shard_book.proofs.AccountsLemmas.{on-same}
 use Rattle.shard_book.proofs.CountingLemmas.{counted-same, counted-push, counted-none}
 use Rattle.shard_book.proofs.Histories.{legal-none, legal-push, kept-push, tap_of-post}
+use Rattle.shard_book.proofs.PackedLemmas.{history-same, placed-kept, placed-none}
 
 -- nothing was posted: the entries are the same, and what is kept of the tokens stands on
 pub sound-on : {table : Fares} {shard shards : ℕ} {accounts after : Accounts} {entries items : List Entry} → items ≡ entries → ((other : Token) → StandsOn (kept_at accounts other) (kept_at after other)) → (IsCounting after → IsCounting accounts) → IsSound table shard shards accounts entries → IsSound table shard shards after items
@@ -101,3 +104,21 @@ sound-none {table} {shard} {shards} {accounts} {items} empty within few none =
       kept = λ token. subst (λ (a : Option Kept). IsKept (rules_of table (bytes_of token)) a []) (sym (none token)) refl;
       counted = λ _. counted-none accounts none;
     })
+
+-- nothing was posted, and no account moved: the parts are still those of a book
+pub book-on : {table : Fares} {shard shards : ℕ} {accounts after : Accounts} {packed next : List PackedEntry} → next ≡ packed → KeepPlaces (tokens_of accounts) (tokens_of after) → ((other : Token) → StandsOn (kept_at accounts other) (kept_at after other)) → (IsCounting after → IsCounting accounts) → IsBook table shard shards accounts packed → IsBook table shard shards after next
+book-on {table} {shard} {shards} {accounts} {after} {packed} {next} same keep others counting book = record {
+  sound = sound-on (history-same (tokens_of accounts) (tokens_of after) packed next same book.placed keep) others counting book.sound;
+  placed = placed-kept (tokens_of accounts) (tokens_of after) packed next same book.placed keep;
+}
+
+-- likewise where all that is kept stayed
+pub book-same : {table : Fares} {shard shards : ℕ} {accounts after : Accounts} {packed next : List PackedEntry} → next ≡ packed → KeepPlaces (tokens_of accounts) (tokens_of after) → ((other : Token) → kept_at after other ≡ kept_at accounts other) → (IsCounting after → IsCounting accounts) → IsBook table shard shards accounts packed → IsBook table shard shards after next
+book-same same keep others counting book = book-on same keep (λ other. on-same (others other)) counting book
+
+-- what a new book is made of are the parts of a book
+pub book-none : {table : Fares} {shard shards : ℕ} {accounts : Accounts} {packed : List PackedEntry} → packed ≡ [] → shard < shards → shards ≤ 64 → ((token : Token) → kept_at accounts token ≡ None) → IsBook table shard shards accounts packed
+book-none {table} {shard} {shards} {accounts} {packed} empty within few none = record {
+  sound = sound-none (ap (history_of (tokens_of accounts)) empty) within few none;
+  placed = placed-none (tokens_of accounts) packed empty;
+}

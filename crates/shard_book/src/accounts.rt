@@ -1,7 +1,8 @@
 //! The accounts of a book, by token: the one place that knows in which kind of map they stand.
 
-ghost use Rattle.std.specs.Prelude.{◌≡◌, ◌<◌, List, [], ◌∷◌, ◌++◌, length, map, is_some, IfOk};
-ghost use Rattle.std.specs.Prelude.{IfNone, IfSome, OnOk, OnErr, None, true, false, IsTrue};
+ghost use Rattle.std.specs.Prelude.{◌≡◌, ◌<◌, ◌≤◌, List, [], ◌∷◌, ◌++◌, length, map, is_some, IfOk};
+ghost use Rattle.std.specs.Prelude.{IfNone, IfSome, OnOk, OnErr, None, Some, true, false, IsTrue};
+ghost use Rattle.std.specs.Prelude.{slice_get};
 ghost use Rattle.std.specs.Option.{ForSome};
 ghost use Rattle.fare_table.specs.Until.{until};
 ghost use Rattle.account_rule.specs.Replies.{reply};
@@ -11,6 +12,7 @@ ghost use Rattle.account_rule.specs.declared.tap.TapIn.{TapIn};
 ghost use Rattle.shard_book.specs.inside.Accounts.{kept_at, counted, pairs_of, IsCounting, IsKept};
 ghost use Rattle.shard_book.specs.inside.Accounts.{IsMade, IsPlace, StandsOn};
 ghost use Rattle.shard_book.specs.inside.Counting.{AreCounted, AreSummed};
+ghost use Rattle.shard_book.specs.inside.Packed.{HasToken, KeepPlaces, tokens_of};
 ghost use Rattle.shard_book.specs.Counts.{token_counts};
 ghost use Rattle.shard_book.specs.declared.entry.Entry.{Entry};
 ghost use Rattle.shard_book.specs.Sums.{sums_of_replies, add_sums};
@@ -25,6 +27,10 @@ use fare_table::{FareTable, NoMemory};
 use indexmap::IndexMap;
 use indexmap::map::Entry as Place;
 use std::alloc::Global;
+
+/// The most accounts that a book keeps, below 2^32: an entry of the history has 32 bits for the place
+/// of its token's account.
+const MOST_ACCOUNTS: usize = 4_294_967_295;
 
 /// What is kept of one token: its account, and the counts of its entries.
 #[derive(Clone, Copy, Debug, PartialEq, Eq)]
@@ -72,26 +78,31 @@ impl Accounts {
     }
 
     /// The place of the token's account, which is opened where there is none: the one look-up that
-    /// a tap takes. On want of memory all that is kept stays.
+    /// a tap takes. On want of memory all that is kept stays. A book with the most accounts has no
+    /// room for the place of one more, which is told as want of memory at every look-up.
     #[inline(always)]
     #[tactic(auto, unfolding(crate::specs::inside::Accounts::kept_at))]
-    pub(crate) fn open(&mut self, token: Token) -> Result<usize, NoMemory>
+    pub(crate) fn open(&mut self, token: Token) -> Result<u32, NoMemory>
         ensures made { IfOk result (IsMade self.old self.new token) }
         ensures others { OnOk result ((other : Token) → token_eq token other ≡ false
             → kept_at self.new other ≡ kept_at self.old other) }
         ensures counting { self.new.counting ≡ self.old.counting }
+        ensures places { KeepPlaces (tokens_of self.old) (tokens_of self.new) }
         ensures err { OnErr result ((other : Token)
             → kept_at self.new other ≡ kept_at self.old other) }
     {
         let last = self.map.len();
+        if last >= MOST_ACCOUNTS {
+            return Err(NoMemory);
+        }
         match self.map.entry(token)? {
-            Place::Occupied(kept) => Ok(kept.index()),
+            Place::Occupied(kept) => Ok(kept.index() as u32),
             Place::Vacant(place) => {
                 place.insert(Kept {
                     account: Account::fresh(),
                     counts: Counts::new(),
                 });
-                Ok(last)
+                Ok(last as u32)
             }
         }
     }
@@ -99,10 +110,10 @@ impl Accounts {
     // Whether the token's account is at this place.
     #[inline(always)]
     #[tactic(auto, unfolding(crate::specs::inside::Accounts::kept_at))]
-    fn is_at(&self, place: usize, token: Token) -> bool
+    fn is_at(&self, place: u32, token: Token) -> bool
         ensures { IsTrue result → IsPlace self.now token place }
     {
-        match self.map.get_index(place) {
+        match self.map.get_index(place as usize) {
             Some((there, _)) => *there == token,
             None => false,
         }
@@ -111,11 +122,12 @@ impl Accounts {
     // The place of the token's account, which is opened where there is none. No look-up is needed
     // where it is at `known`.
     #[inline(always)]
-    fn place(&mut self, token: Token, known: usize) -> Result<usize, NoMemory>
+    fn place(&mut self, token: Token, known: u32) -> Result<u32, NoMemory>
         ensures made { IfOk result (IsMade self.old self.new token) }
         ensures others { OnOk result ((other : Token) → token_eq token other ≡ false
             → kept_at self.new other ≡ kept_at self.old other) }
         ensures counting { self.new.counting ≡ self.old.counting }
+        ensures places { KeepPlaces (tokens_of self.old) (tokens_of self.new) }
         ensures err { OnErr result ((other : Token)
             → kept_at self.new other ≡ kept_at self.old other) }
     {
@@ -127,43 +139,58 @@ impl Accounts {
     }
 
     /// The account rule's step of the token's account, whose reply is then counted. Where the
-    /// account is at the known place no look-up is needed; another place costs time alone. On want
-    /// of memory all that is kept stays.
+    /// account is at the known place no look-up is needed; another place costs time alone. The
+    /// account's place comes with the reply. On want of memory all that is kept stays.
     #[tactic(auto, unfolding(crate::specs::inside::Accounts::kept_at))]
     pub(crate) fn step(
         &mut self,
         table: &FareTable,
         token: Token,
         tap: TapIn,
-        known: usize,
-    ) -> Result<Reply, NoMemory>
+        known: u32,
+    ) -> Result<(u32, Reply), NoMemory>
         requires mode { ForSome tap.mode (λ mode. mode.place < length table.now.rules.modes) }
         requires until { tap.until ≡ until table.now tap.moment }
         requires kept { (taps : List TapIn)
             × IsKept (rules_of table.now (bytes_of token)) (kept_at self.old token) taps }
 
-        ensures reply { IfOk result (λ answered. (taps : List TapIn)
+        ensures reply { IfOk result (λ done. (taps : List TapIn)
             → IsKept (rules_of table.now (bytes_of token)) (kept_at self.old token) taps
-            → answered ≡ reply (rules_of table.now (bytes_of token)) taps tap) }
+            → done.1 ≡ reply (rules_of table.now (bytes_of token)) taps tap) }
         ensures kept { OnOk result ((taps : List TapIn)
             → IsKept (rules_of table.now (bytes_of token)) (kept_at self.old token) taps
             → IsKept (rules_of table.now (bytes_of token)) (kept_at self.new token)
             (taps ++ tap ∷ [])) }
-        ensures counted { IfOk result (λ answered. IsCounting self.new
+        ensures counted { IfOk result (λ done. IsCounting self.new
             → counted (kept_at self.new token)
-            ≡ add_sums (counted (kept_at self.old token)) (sums_of_replies (answered ∷ []))) }
+            ≡ add_sums (counted (kept_at self.old token)) (sums_of_replies (done.1 ∷ []))) }
         ensures counting { IsCounting self.new → IsCounting self.old }
+        ensures few { IfOk result (λ done. done.1.cents ≤ 100_000) }
+        ensures place { IfOk result (λ done. slice_get (tokens_of self.new) done.0 ≡ Some token) }
+        ensures places { KeepPlaces (tokens_of self.old) (tokens_of self.new) }
         ensures others { OnOk result ((other : Token) → token_eq token other ≡ false
             → kept_at self.new other ≡ kept_at self.old other) }
         ensures err { OnErr result ((other : Token)
             → kept_at self.new other ≡ kept_at self.old other) }
     {
         let place = self.place(token, known)?;
-        let (_, kept) = self.map.pair_mut(place);
+        let (_, kept) = self.map.pair_mut(place as usize);
         let reply = kept.account.step(table, &token.bytes(), tap);
         let was_counted = kept.counts.add(reply);
         self.counting = self.counting & was_counted;
-        Ok(reply)
+        Ok((place, reply))
+    }
+
+    /// The token whose account is at the place.
+    #[inline(always)]
+    pub(crate) fn token_at(&self, place: u32) -> Token
+        requires { HasToken (tokens_of self.now) place }
+        ensures { slice_get (tokens_of self.now) place ≡ Some result }
+    {
+        match self.map.get_index(place as usize) {
+            Some((token, _)) => *token,
+            None => Token::of(&[0; 16]),
+        }
     }
 
     /// Whether the counts are right.

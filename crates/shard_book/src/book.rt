@@ -15,6 +15,7 @@ ghost use Rattle.shard_book.specs.History.{IsLegal};
 use crate::accounts::Accounts;
 use crate::entry::Entry;
 use crate::keys::TokenKeys;
+use crate::packed::PackedEntry;
 use crate::prefetch::NO_PLACE;
 use crate::sums::counts::TokenCounts;
 use crate::token::Token;
@@ -34,12 +35,13 @@ pub struct ShardBook {
     shard: u32,
     shards: u32,
     pub(crate) accounts: Accounts,
-    history: Vec<Entry>,
+    history: Vec<PackedEntry>,
 }
 
 impl Model for ShardBook {
     ghost use Rattle.shard_book.specs.Book.{Book};
-    ghost use Rattle.shard_book.specs.inside.Sound.{IsSound};
+    ghost use Rattle.shard_book.specs.inside.Packed.{history_of, tokens_of};
+    ghost use Rattle.shard_book.specs.inside.Sound.{IsBook};
 
     ghost Value = { Book };
 
@@ -47,10 +49,10 @@ impl Model for ShardBook {
       table = b.table;
       shard = b.shard;
       shards = b.shards;
-      entries = b.history.items;
+      entries = history_of (tokens_of b.accounts) b.history.items;
     } };
 
-    ghost invariant = { λ b. IsSound b.table b.shard b.shards b.accounts b.history.items };
+    ghost invariant = { λ b. IsBook b.table b.shard b.shards b.accounts b.history.items };
 }
 
 impl ShardBook {
@@ -80,7 +82,8 @@ impl ShardBook {
     /// Posts one tap: the account rule answers it, and one entry is appended to the history.
     ///
     /// `until` is the table's limit of a window that starts at the tap. On want of memory the book
-    /// stays as it was: all room is taken first.
+    /// stays as it was: all room is taken first. A book has room for fewer than 2^32 accounts, and
+    /// tells want of memory for what is beyond.
     pub fn post(&mut self, tap: &TapView, until: u64) -> Result<Reply, NoMemory>
         requires here { shard_of_token tap.now.token self.old.shards ≡ self.old.shard }
         requires until { until ≡ limit_of self.old.table tap.now }
@@ -98,7 +101,7 @@ impl ShardBook {
         &mut self,
         tap: &TapView,
         until: u64,
-        known: usize,
+        known: u32,
     ) -> Result<Reply, NoMemory>
         requires here { shard_of_token tap.now.token self.old.shards ≡ self.old.shard }
         requires until { until ≡ limit_of self.old.table tap.now }
@@ -116,14 +119,9 @@ impl ShardBook {
             mode,
             until,
         };
-        let reply = self.accounts.step(&self.table, token, tap_in, known)?;
-        self.history.push_reserved(Entry {
-            token,
-            validator,
-            moment,
-            answer: reply.answer,
-            cents: reply.cents,
-        });
+        let (place, reply) = self.accounts.step(&self.table, token, tap_in, known)?;
+        let packed = PackedEntry::of(place, validator, moment, reply);
+        self.history.push_reserved(packed);
         Ok(reply)
     }
 
@@ -168,18 +166,13 @@ impl ShardBook {
     }
 
     /// The entry at place `i` of the history, from 0.
-    pub fn entry(&self, i: u64) -> &Entry
+    #[inline(always)]
+    pub fn entry(&self, i: u64) -> Entry
         requires { i < length self.now.entries }
-        ensures { slice_get self.now.entries i ≡ Some result.now }
+        ensures { slice_get self.now.entries i ≡ Some result }
     {
-        &self.history[i as usize]
-    }
-
-    /// The whole history, in order.
-    pub(crate) fn entries(&self) -> &[Entry]
-        ensures { result.now ≡ self.now.entries }
-    {
-        self.history.as_slice()
+        let packed = self.history[i as usize];
+        packed.entry(self.accounts.token_at(packed.place()))
     }
 
     /// The seed under which the book hashes tokens.

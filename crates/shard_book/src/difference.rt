@@ -1,6 +1,6 @@
 //! The first place where two lists of entries differ.
 
-ghost use Rattle.std.specs.Prelude.{◌≡◌};
+ghost use Rattle.std.specs.Prelude.{◌≡◌, ◌<◌, ◌↔◌, IsTrue, Some, length, slice_get};
 ghost use Rattle.shard_book.specs.Difference.{IsFirstDifference};
 
 use crate::book::ShardBook;
@@ -11,23 +11,43 @@ use crate::entry::Entry;
 pub fn first_difference(book: &ShardBook, list: &[Entry]) -> Option<u64>
     ensures { IsFirstDifference book.now.entries list.now result }
 {
-    first_difference_of(book.entries(), list)
-}
-
-/// The first place at which the lists differ, the end of the shorter among them. `None` where they
-/// are equal.
-fn first_difference_of(left: &[Entry], right: &[Entry]) -> Option<u64>
-    ensures { IsFirstDifference left.now right.now result }
-{
-    let shorter = left.len().min(right.len());
+    let len = book.len();
+    let shorter = len.min(list.len() as u64);
     for i in 0..shorter {
-        if left[i] != right[i] {
-            return Some(i as u64);
+        if !agree(book, list, i) {
+            return Some(i);
         }
     }
-    if left.len() == right.len() {
+    if len == list.len() as u64 {
         None
     } else {
-        Some(shorter as u64)
+        Some(shorter)
     }
+}
+
+/// Whether the history and the list have the same entry at the place.
+#[inline(always)]
+fn agree(book: &ShardBook, list: &[Entry], i: u64) -> bool
+    requires within { i < length book.now.entries }
+    requires there { i < length list.now }
+    ensures { IsTrue result ↔ (slice_get book.now.entries i ≡ slice_get list.now i) }
+{
+    same(&book.entry(i), listed(list, i))
+}
+
+/// The entry of the list at the place.
+#[inline(always)]
+fn listed(list: &[Entry], i: u64) -> &Entry
+    requires { i < length list.now }
+    ensures { slice_get list.now i ≡ Some result.now }
+{
+    &list[i as usize]
+}
+
+/// Whether the entries are equal.
+#[inline(always)]
+fn same(left: &Entry, right: &Entry) -> bool
+    ensures { IsTrue result ↔ (left.now ≡ right.now) }
+{
+    left == right
 }

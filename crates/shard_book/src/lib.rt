@@ -12,6 +12,7 @@ mod entry;
 mod keys;
 pub mod laws;
 mod lines;
+mod packed;
 mod post_run;
 mod prefetch;
 mod replies;

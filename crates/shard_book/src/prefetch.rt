@@ -5,6 +5,7 @@
 
 ghost use Rattle.std.specs.Prelude.{◌≡◌};
 ghost use Rattle.shard_book.specs.inside.Accounts.{kept_at, StandsOn};
+ghost use Rattle.shard_book.specs.inside.Packed.{KeepPlaces, tokens_of};
 
 use crate::accounts::{Accounts, Kept};
 use crate::book::ShardBook;
@@ -17,7 +18,7 @@ use tap_views::RunTaps;
 pub(crate) const AT_ONCE: usize = 16;
 
 /// A place at which no account is.
-pub(crate) const NO_PLACE: usize = usize::MAX;
+pub(crate) const NO_PLACE: u32 = u32::MAX;
 
 impl Counts {
     /// Prefetch: reads the cents. True unless no cent more can be counted, so nearly always.
@@ -44,18 +45,19 @@ impl Accounts {
     /// The place of the token's account, for `step`. If there is none, an account without taps is
     /// opened. If memory is refused, all that is kept stays.
     #[inline(always)]
-    pub(crate) fn open_early(&mut self, token: Token) -> Result<usize, NoMemory>
+    pub(crate) fn open_early(&mut self, token: Token) -> Result<u32, NoMemory>
         ensures stays { (other : Token)
             → StandsOn (kept_at self.old other) (kept_at self.new other) }
         ensures counting { self.new.counting ≡ self.old.counting }
+        ensures places { KeepPlaces (tokens_of self.old) (tokens_of self.new) }
     {
         self.open(token)
     }
 
     /// Prefetch: reads what is kept at the place, and returns the place, or `NO_PLACE`.
     #[inline(always)]
-    pub(crate) fn prefetch(&self, place: usize) -> usize {
-        match self.map.get_index(place) {
+    pub(crate) fn prefetch(&self, place: u32) -> u32 {
+        match self.map.get_index(place as usize) {
             Some((_, kept)) if kept.prefetch() => place,
             _ => NO_PLACE,
         }
@@ -66,7 +68,7 @@ impl ShardBook {
     /// The place of the token's account, for `post_at`. If there is none, an account without taps
     /// is opened: the book stays as it is.
     #[inline(always)]
-    pub(crate) fn open_early(&mut self, token: Token) -> Result<usize, NoMemory>
+    pub(crate) fn open_early(&mut self, token: Token) -> Result<u32, NoMemory>
         ensures { self.new ≡ self.old }
     {
         self.accounts.open_early(token)
@@ -78,7 +80,7 @@ impl ShardBook {
         &mut self,
         turn: usize,
         ahead: &mut RunTaps,
-        places: &mut [usize; AT_ONCE],
+        places: &mut [u32; AT_ONCE],
     ) -> Result<(), NoMemory>
         ensures { self.new ≡ self.old }
     {
@@ -93,7 +95,7 @@ impl ShardBook {
     fn prefetch(
         &mut self,
         ahead: &mut RunTaps,
-        places: &mut [usize; AT_ONCE],
+        places: &mut [u32; AT_ONCE],
     ) -> Result<(), NoMemory>
         ensures { self.new ≡ self.old }
     {

@@ -1,6 +1,6 @@
 //! The statement of one token.
 
-ghost use Rattle.std.specs.Prelude.{◌≡◌, IfOk};
+ghost use Rattle.std.specs.Prelude.{◌≡◌, ◌∷◌, [], ◌++◌, IfOk, OnOk};
 ghost use Rattle.shard_book.specs.Entry.{own};
 ghost use Rattle.shard_book.specs.Statement.{IsStatement};
 
@@ -27,16 +27,26 @@ pub struct Statement {
     pub window: Option<WindowView>,
 }
 
-/// The token's entries, in order.
+/// Appends the entry, where it is the token's.
+#[inline(always)]
 #[tactic(auto, unfolding(crate::specs::Entry::own))]
-fn own_entries(alloc: Global, entries: &[Entry], token: Token) -> Result<Vec<Entry>, NoMemory>
-    ensures { IfOk result (λ list. list.items ≡ own token entries.now) }
+fn push_if_own(list: &mut Vec<Entry>, entry: Entry, token: Token) -> Result<(), NoMemory>
+    ensures { OnOk result (list.new.items ≡ list.old.items ++ own token (entry ∷ [])) }
 {
-    let list = entries
-        .iter()
-        .copied()
-        .filter(|entry| entry.token == token)
-        .collect(alloc)?;
+    if entry.token == token {
+        list.push(entry)?;
+    }
+    Ok(())
+}
+
+/// The token's entries, in order.
+fn own_entries(alloc: Global, book: &ShardBook, token: Token) -> Result<Vec<Entry>, NoMemory>
+    ensures { IfOk result (λ list. list.items ≡ own token book.now.entries) }
+{
+    let mut list = Vec::new(alloc);
+    for i in 0..book.len() {
+        push_if_own(&mut list, book.entry(i), token)?;
+    }
     Ok(list)
 }
 
@@ -47,7 +57,7 @@ impl ShardBook {
         ensures { IfOk result (IsStatement self.now.table self.now.entries token.now) }
     {
         let token = *token;
-        let entries = own_entries(alloc, self.entries(), token)?;
+        let entries = own_entries(alloc, self, token)?;
         let totals = totals_of_entries(&entries);
         let window = self.account_of(token).window();
         Ok(Statement {

@@ -190,7 +190,11 @@ impl ShardBook {
         ensures sums { sums_of result ≡ sums self.now.entries }
         ensures few { result.taps < 2 ^ 64 }
     {
-        totals_of_entries(self.entries())
+        let mut tally = Tally::new();
+        for i in 0..self.len() {
+            tally.add(self.entry(i).reply());
+        }
+        tally.totals()
     }
 
     /// The validators of the history, rising, each with the totals of its entries: one pass over

@@ -1,6 +1,5 @@
 -- The lines of entries in order of token. Private functions alone cite this.
 use Rattle.std.specs.Prelude.{◌≡◌, ℕ, ◌+◌, false, List, [], ◌∷◌, ◌++◌, length, map}
-use Rattle.std.specs.Borrow.{Bor}
 use Rattle.std.specs.List.Sorted.{IsPermutation}
 use Rattle.std.specs.Ordering.{is_lt}
 use Rattle.fare_table.specs.Fares.{Fares}
@@ -12,10 +11,6 @@ use Rattle.shard_book.specs.declared.entry.Entry.{Entry}
 use Rattle.shard_book.specs.declared.token.Token.{Token}
 use Rattle.reason_texts.specs.Ledger.{IsLedgerLine, reason_after}
 use Rattle.ledger_texts.specs.declared.teller.Teller.{Teller}
-
--- the entries behind references
-abbrev pub seen : List (Bor Entry) → List Entry
-seen list = map (λ entry. entry.now) list
 
 -- the first token is not above the second
 abbrev pub IsUpTo : Token → Token → Type 0

@@ -4,12 +4,14 @@ use Rattle.fare_table.specs.Fares.{Fares}
 use Rattle.account_rule.specs.Rules.{rules_of}
 use Rattle.shard_book.specs.declared.accounts.Accounts.{Accounts}
 use Rattle.shard_book.specs.declared.entry.Entry.{Entry}
+use Rattle.shard_book.specs.declared.packed.PackedEntry.{PackedEntry}
 use Rattle.shard_book.specs.declared.token.Token.{Token}
 use Rattle.shard_book.specs.inside.Accounts.{kept_at, IsCounting, IsKept}
 use Rattle.shard_book.specs.Book.{AreOfShard}
 use Rattle.shard_book.specs.inside.Counting.{AreCounted}
 use Rattle.shard_book.specs.Entry.{TokensFit, taps_of}
 use Rattle.shard_book.specs.History.{IsLegal}
+use Rattle.shard_book.specs.inside.Packed.{ArePlaced, history_of, tokens_of}
 use Rattle.shard_book.specs.Token.{bytes_of}
 
 -- the accounts stand for the taps of their tokens
@@ -29,3 +31,9 @@ pub record IsSound (table : Fares) (shard shards : ℕ) (accounts : Accounts) (e
   pub fits : TokensFit entries
   pub kept : AreKept table accounts entries
   pub counted : IsCounting accounts → AreCounted accounts entries
+
+-- the packed history stands for a sound one, and each of its entries has the place of an account
+pub record IsBook (table : Fares) (shard shards : ℕ) (accounts : Accounts)
+    (packed : List PackedEntry) : Type 0 where
+  pub sound : IsSound table shard shards accounts (history_of (tokens_of accounts) packed)
+  pub placed : ArePlaced (tokens_of accounts) packed

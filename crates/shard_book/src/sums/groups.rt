@@ -1,6 +1,6 @@
 //! Sums of entries by a key, in one pass over the entries and a sort of the keys.
 
-ghost use Rattle.std.specs.Prelude.{◌≡◌, ◌+◌, ◌*◌, ◌≤◌, ◌^◌, List, [], ◌∷◌, ◌++◌, length, map};
+ghost use Rattle.std.specs.Prelude.{◌≡◌, ◌+◌, ◌*◌, ◌<◌, ◌≤◌, ◌^◌, List, [], ◌∷◌, ◌++◌, length, map};
 ghost use Rattle.std.specs.Prelude.{true, IfOk, OnOk};
 ghost use Rattle.shard_book.specs.declared.entry.Entry.{Entry};
 ghost use Rattle.shard_book.specs.Groups.{all_entries};
@@ -58,18 +58,20 @@ fn add_entry<K: GroupKey>(
     Ok(())
 }
 
-/// Adds entries to the tallies of their keys.
+/// Adds the entries of a book to the tallies of their keys.
 fn add_entries<K: GroupKey>(
     tallies: &mut HashMap<K, Tally, TokenKeys>,
-    entries: &[Entry],
+    book: &ShardBook,
 ) -> Result<(), NoMemory>
-    requires { HasRoom K.eq K.key_of tallies.old.entries (length entries.now) }
-    ensures { OnOk result ((before : List Entry)
+    requires { HasRoom K.eq K.key_of tallies.old.entries (length book.now.entries) }
+    ensures grouped { OnOk result ((before : List Entry)
         → IsGrouped K.eq K.key_of before tallies.old.entries
-        → IsGrouped K.eq K.key_of (before ++ entries.now) tallies.new.entries) }
+        → IsGrouped K.eq K.key_of (before ++ book.now.entries) tallies.new.entries) }
+    ensures few { length book.now.entries < 2 ^ 64 }
 {
-    for entry in entries {
-        add_entry(tallies, entry)?;
+    for i in 0..book.len() {
+        let entry = book.entry(i);
+        add_entry(tallies, &entry)?;
     }
     Ok(())
 }
@@ -130,7 +132,9 @@ pub(crate) fn tallies_of<K: GroupKey>(
 {
     let mut tallies = HashMap::with_hasher(alloc, keys);
     for book in books {
-        add_entries::<K>(&mut tallies, book.entries())?;
+        // proof: book.len() < 2^64, so the tallies have room
+        let _ = book.len();
+        add_entries::<K>(&mut tallies, book)?;
     }
     Ok(tallies)
 }

@@ -18,7 +18,7 @@ pub struct Tally {
 }
 
 /// The place of the answer's count.
-fn place_of(answer: Answer) -> usize
+pub(crate) fn place_of(answer: Answer) -> usize
     ensures place { result ≡ place answer }
     ensures within { result < 5 }
 {

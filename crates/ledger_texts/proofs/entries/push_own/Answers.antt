@@ -6,6 +6,4 @@ loop-place-init c = own_first c.args.list.now.items c.args.token
 
 pub loop-place-preserved : goal.loop-place-preserved
 loop-place-preserved c =
-    own_more c.args.list.now.items c.loop-place.list.items _ c.args.token c.args.book.now.entries
-    c.loop-place.place c.entry.result.now c.in_ok-push_if_own.ensures c.loop-place.invariant
-    c.entry.ensures
+    own_more c.args.list.now.items c.loop-place.list.items _ c.args.token c.args.book.now.entries c.loop-place.place c.entry.result c.in_ok-push_if_own.ensures c.loop-place.invariant c.entry.ensures

@@ -1,6 +1,7 @@
-use Rattle.std.proofs.Common.{List, [], ◌++◌, Bor, subst, string_bytes}
-use Rattle.shard_book.specs.declared.entry.Entry.{Entry}
-use Rattle.ledger_texts.specs.inside.Lines.{AreLinesAlong, seen}
+use Rattle.std.proofs.Common.{List, [], ◌++◌, subst, string_bytes}
+use Rattle.ledger_texts.specs.inside.Lines.{AreLinesAlong}
+use Rattle.ledger_texts.specs.inside.Spots.{seen}
+use Rattle.ledger_texts.specs.declared.spot.Spot.{Spot}
 use Rattle.ledger_texts.proofs.Whole.{ledger_of_all}
 use Rattle.ledger_texts.proofs.ledger.write_all.Goals as goal
 
@@ -8,13 +9,9 @@ pub returns-clause-ok : goal.returns-clause-ok
 returns-clause-ok g c =
     let first = c.table_of-table.ensures in
     let done = c.in_ok-write_lines.ensures.ok in
-    let along = subst (λ (es : List (Bor Entry)).
-    AreLinesAlong c.table_of-table.result.now [] (seen es) done.0) c.as_slice.ensures.value
-    done.1 in (
+    let along = subst (λ (spots : List Spot). AreLinesAlong c.table_of-table.result.now [] (seen c.args.books.now spots) done.0) c.as_slice.ensures.value done.1 in (
       string_bytes c.in-Ok-begun.text ++ done.0,
-      ledger_of_all c.args.books.now first.0 c.table_of-table.result.now
-          (seen c.in-Ok-begun.entries.items) (string_bytes c.in-Ok-begun.text) done.0 first.1
-          first.2
+      ledger_of_all c.args.books.now first.0 c.table_of-table.result.now (seen c.args.books.now c.in-Ok-begun.spots.items) (string_bytes c.in-Ok-begun.text) done.0 first.1 first.2
           c.in-Ok-begun.ensures.entries along c.in-Ok-begun.ensures.head,
       done.2,
     )

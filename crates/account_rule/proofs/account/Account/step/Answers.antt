@@ -1,5 +1,5 @@
 -- Each way out of the step is one of the rule's four cases: unknown, stale, transfer, ride.
-use Rattle.std.proofs.Common.{List, [], ◌∷◌, ◌++◌, Some, refl, sym, ◌∙◌}
+use Rattle.std.proofs.Common.{List, [], ◌∷◌, ◌++◌, Some, refl, sym, ap, ◌∙◌}
 use Rattle.account_rule.specs.Replies.{ride_reply}
 use Rattle.account_rule.specs.Rules.{rules_of}
 use Rattle.account_rule.specs.Kept.{state_of, kept_giver, kept_of}
@@ -9,6 +9,7 @@ use Rattle.account_rule.specs.declared.tap.TapIn.{TapIn}
 use Rattle.account_rule.proofs.StepLemmas.{IsStep, at_kept, first_ride, gives_none-state}
 use Rattle.account_rule.proofs.StepLemmas.{kept-fresh, kept-open, kept_terms, next_ride, room}
 use Rattle.account_rule.proofs.StepLemmas.{stale, stands-open, transfer, unknown}
+use Rattle.account_rule.proofs.FareLemmas.{free-few, ride-few}
 use Rattle.account_rule.proofs.account.Account.step.Goals as goal
 use Rattle.account_rule.proofs.account.Account.step.Goals.{After-first_ride, After-to_ride}
 
@@ -146,3 +147,23 @@ returns-clause-some c = (
   c.requires.stands.0 ++ c.args.tap ∷ [],
   returns-clause-stands c c.requires.stands.0 c.requires.stands.1,
 )
+
+-- no reply costs more than the greatest fare
+
+pub returns-in_default-clause-few : goal.returns-in_default-clause-few
+returns-in_default-clause-few c = free-few _ _ c.free.ensures
+
+pub returns-then-not-self-clause-few : goal.returns-then-not-self-clause-few
+returns-then-not-self-clause-few c = ride-few _ _ _ c.first_ride.ensures.limits c.first_ride.ensures.reply
+
+pub returns-then-tap-self-clause-few : goal.returns-then-tap-self-clause-few
+returns-then-tap-self-clause-few c = free-few _ _ c.free-then-tap-self.ensures
+
+pub returns-then-gives_transfer-clause-few : goal.returns-then-gives_transfer-clause-few
+returns-then-gives_transfer-clause-few c = free-few _ _ c.free-then-gives_transfer.ensures
+
+pub returns-clause-few : goal.returns-clause-few
+unfolding StandsForSome Stands
+returns-clause-few c =
+    let limits = (kept_terms _ (kept_of c.args.self.now) _ c.requires.stands.0 (kept-open _ c.if-not-self.false) c.requires.stands.1).limits in
+    ride-few c.args.self.now.terms _ _ limits (c.to_ride.ensures ∙ ap ride_reply c.take_ride.ensures.cost)

@@ -1,12 +1,15 @@
 -- The step is taken on what stands at the token's place, and written there.
-use Rattle.std.proofs.Common.{arith, [], ◌∷◌, ◌++◌, Option, subst, sym, ap, ◌∙◌}
+use Rattle.std.proofs.Common.{arith, List, [], ◌∷◌, ◌++◌, Option, slice_get, subst, sym, ap, ◌∙◌}
+use Rattle.indexmap.proofs.CallerLemmas.{keys-with_value_at}
 use Rattle.account_rule.specs.Rules.{rules_of}
 use Rattle.account_rule.specs.Stands.{Stands, StandsForSome}
 use Rattle.shard_book.specs.declared.accounts.Kept.{Kept}
+use Rattle.shard_book.specs.declared.token.Token.{Token}
 use Rattle.shard_book.specs.inside.Accounts.{kept_at, counted, IsKept}
 use Rattle.shard_book.specs.Sums.{Sums, add_sums, sums_of_replies}
 use Rattle.shard_book.specs.Token.{bytes_of}
 use Rattle.shard_book.proofs.AccountsLemmas.{stands_or, counted_or, found, written}
+use Rattle.shard_book.proofs.PackedLemmas.{keep_same, keep_then, token-at}
 use Rattle.shard_book.proofs.accounts.Accounts.step.Goals as goal
 
 pub step-reply-requires-clause-stands : goal.step-reply-requires-clause-stands
@@ -32,3 +35,14 @@ returns-clause-counted c = λ counting.
 pub returns-clause-others : goal.returns-clause-others
 unfolding kept_at
 returns-clause-others c = λ other apart. (written c.place.new.self c.in_ok-place.place c.args.token _ (record { account = c.step-reply.new.self; counts = c.add-was_counted.new.self }) c.pair_mut-kept.ensures.unique c.in_ok-place.ensures.made.at).2 other apart ∙ c.in_ok-place.ensures.others other apart
+
+pub returns-clause-place : goal.returns-clause-place
+returns-clause-place c =
+    ap (λ (tokens : List Token). slice_get tokens c.in_ok-place.place)
+    (keys-with_value_at c.place.new.self.map c.in_ok-place.place (record { account = c.step-reply.new.self; counts = c.add-was_counted.new.self }))
+    ∙ token-at c.place.new.self.map.entries c.in_ok-place.place c.args.token _ c.in_ok-place.ensures.made.at
+
+pub returns-clause-places : goal.returns-clause-places
+returns-clause-places c =
+    keep_then c.in_ok-place.ensures.places
+    (keep_same (keys-with_value_at c.place.new.self.map c.in_ok-place.place (record { account = c.step-reply.new.self; counts = c.add-was_counted.new.self })))

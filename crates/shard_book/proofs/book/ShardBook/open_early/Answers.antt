@@ -1,6 +1,20 @@
-use Rattle.std.proofs.Common.{refl}
-use Rattle.shard_book.proofs.SoundLemmas.{sound-on}
+use Rattle.std.proofs.Common.{refl, ap, ◌∙◌, ℕ, List}
+use Rattle.fare_table.specs.Fares.{Fares}
+use Rattle.shard_book.specs.Book.{Book}
+use Rattle.shard_book.specs.declared.entry.Entry.{Entry}
+use Rattle.shard_book.specs.inside.Packed.{tokens_of}
+use Rattle.shard_book.proofs.PackedLemmas.{history-kept}
+use Rattle.shard_book.proofs.SoundLemmas.{book-on}
 use Rattle.shard_book.proofs.book.ShardBook.open_early.Goals as goal
 
 pub invariant_of-self : goal.invariant_of-self
-invariant_of-self c = sound-on refl c.open_early.ensures.stays (λ counting. rw c.open_early.ensures.counting at counting) c.self.invariant
+invariant_of-self c = book-on refl c.open_early.ensures.places c.open_early.ensures.stays (λ counting. rw c.open_early.ensures.counting at counting) c.self.invariant
+
+abbrev book_of : Fares → ℕ → ℕ → List Entry → Book
+book_of table shard shards entries = record { table = table; shard = shard; shards = shards; entries = entries }
+
+pub returns : goal.returns
+returns c =
+    ap (λ (entries : List Entry). book_of c.self.inside.table c.self.inside.shard c.self.inside.shards entries)
+    (history-kept (tokens_of c.self.inside.accounts) (tokens_of c.open_early.new.self) c.self.inside.history.items c.self.invariant.placed c.open_early.ensures.places)
+    ∙ c.self.view_is

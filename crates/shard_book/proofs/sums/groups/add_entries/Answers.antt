@@ -1,12 +1,20 @@
-use Rattle.std.proofs.Common.{◌++◌, take, arith}
+use Rattle.std.proofs.Common.{◌++◌, take, List, subst, arith}
 use Rattle.std.proofs.lemmas.List.{length-append, length-take-le}
-use Rattle.shard_book.specs.inside.Grouping.{HasRoom}
+use Rattle.shard_book.specs.declared.entry.Entry.{Entry}
+use Rattle.shard_book.specs.inside.Grouping.{HasRoom, IsGrouped}
+use Rattle.shard_book.proofs.HistoryLemmas.{grown-read}
 use Rattle.shard_book.proofs.sums.groups.add_entries.Goals as goal
 
 pub add_entry-requires : goal.add_entry-requires
 unfolding HasRoom
 add_entry-requires g c = (
-  c.requires.0 ++ take c.loop-entry.entry-index c.args.entries.now,
-  c.loop-entry.invariant c.requires.0 c.requires.1,
-  omega (arith, length-append c.requires.0 (take c.loop-entry.entry-index c.args.entries.now), length-take-le c.loop-entry.entry-index c.args.entries.now (omega arith), c.requires.2),
+  c.requires.0 ++ take c.loop-i.i c.args.book.now.entries,
+  c.loop-i.invariant c.requires.0 c.requires.1,
+  omega (arith, length-append c.requires.0 (take c.loop-i.i c.args.book.now.entries), length-take-le c.loop-i.i c.args.book.now.entries (omega arith), c.requires.2),
 )
+
+pub loop-i-preserved : goal.loop-i-preserved
+loop-i-preserved g c = λ before grouped.
+    subst (λ (entries : List Entry). IsGrouped g.K.PartialEq.eq g.K.GroupKey.key_of entries c.add_entry.new.tallies.entries)
+    (grown-read before c.args.book.now.entries c.loop-i.i c.entry-entry.result c.entry-entry.ensures)
+    (c.in_ok-add_entry.ensures (before ++ take c.loop-i.i c.args.book.now.entries) (c.loop-i.invariant before grouped))

@@ -1,0 +1,18 @@
+use Rattle.std.proofs.Common.{ap, ◌+◌, ◌*◌, ◌∙◌}
+use Rattle.shard_book.specs.inside.Packed.{word_answer, word_cents, word_moment}
+use Rattle.shard_book.proofs.PackedLemmas.{moment-back, answer-in_word, cents-in_word}
+use Rattle.shard_book.proofs.packed.word_of.Goals as goal
+
+pub returns-clause-moment : goal.returns-clause-moment
+returns-clause-moment c = moment-back c.from.result c.place_of-number.result c.args.moment c.requires.early
+
+pub returns-clause-answer : goal.returns-clause-answer
+returns-clause-answer c =
+    ap (λ number. word_answer ((c.from.result * 8 + number) * 4398046511104 + c.args.moment)) c.place_of-number.ensures.place
+    ∙ answer-in_word c.from.result c.args.moment c.args.reply.answer c.requires.early
+
+pub returns-clause-cents : goal.returns-clause-cents
+returns-clause-cents c =
+    ap (λ number. word_cents ((c.from.result * 8 + number) * 4398046511104 + c.args.moment)) c.place_of-number.ensures.place
+    ∙ cents-in_word c.from.result c.args.moment c.args.reply.answer c.requires.early
+    ∙ c.from.ensures

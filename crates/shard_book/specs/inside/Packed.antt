@@ -1,0 +1,75 @@
+-- What a book's entries of 16 bytes stand for.
+use Rattle.std.specs.Prelude.{◌≡◌, ℕ, ◌/◌, ◌%◌, ◌^◌, ◌==◌, if◌then◌else◌, List, Some, map, All}
+use Rattle.std.specs.Prelude.{slice_get, unwrap_or}
+use Rattle.std.specs.Map.{keys_of}
+use Rattle.account_rule.specs.declared.reply.Answer.{Answer}
+use Rattle.account_rule.specs.declared.reply.Answer.TheVariants.{Paid, Transfer, Capped, Stale}
+use Rattle.account_rule.specs.declared.reply.Answer.TheVariants.{Unknown}
+use Rattle.account_rule.specs.declared.reply.Reply.{Reply}
+use Rattle.shard_book.specs.declared.accounts.Accounts.{Accounts}
+use Rattle.shard_book.specs.declared.entry.Entry.{Entry}
+use Rattle.shard_book.specs.declared.packed.PackedEntry.{PackedEntry}
+use Rattle.shard_book.specs.declared.token.Token.{Token}
+
+-- the answer with the number, which is the place of its count
+abbrev pub answer_at : ℕ → Answer
+answer_at number =
+    if number == 0 then Paid else (if number == 1 then Transfer
+    else (if number == 2 then Capped else (if number == 3 then Stale else Unknown)))
+
+-- the moment in a word: its lowest 42 bits
+abbrev pub word_moment : ℕ → ℕ
+word_moment word = word % 2 ^ 42
+
+-- the answer in a word: the three bits above
+abbrev pub word_answer : ℕ → Answer
+word_answer word = answer_at (word / 2 ^ 42 % 8)
+
+-- the cents in a word: all that is above
+abbrev pub word_cents : ℕ → ℕ
+word_cents word = word / 2 ^ 42 / 8
+
+-- the tokens of the accounts, by their places
+abbrev pub tokens_of : Accounts → List Token
+tokens_of accounts = keys_of accounts.map.entries
+
+-- the token that is read where there is none
+abbrev pub no_token : Token
+no_token = record { high = 0; low = 0 }
+
+-- the entry of a tap with the reply
+abbrev pub entry_with : Token → ℕ → ℕ → Reply → Entry
+entry_with token validator moment reply = record {
+  token = token;
+  validator = validator;
+  moment = moment;
+  answer = reply.answer;
+  cents = reply.cents;
+}
+
+-- the entry for which a packed one stands, where the accounts have these tokens
+unfoldable pub entry_of : List Token → PackedEntry → Entry
+entry_of tokens packed = record {
+  token = unwrap_or (slice_get tokens packed.place) no_token;
+  validator = packed.validator;
+  moment = word_moment packed.word;
+  answer = word_answer packed.word;
+  cents = word_cents packed.word;
+}
+
+-- the entries for which a packed history stands
+abbrev pub history_of : List Token → List PackedEntry → List Entry
+history_of tokens packed = map (entry_of tokens) packed
+
+-- there is a token at the place
+abbrev pub HasToken : List Token → ℕ → Type 0
+HasToken tokens place = (token : Token) × (slice_get tokens place ≡ Some token)
+
+-- each packed entry has the place of an account
+pub record ArePlaced (tokens : List Token) (packed : List PackedEntry) : Type 0 where
+  pub each : All (λ entry. HasToken tokens entry.place) packed
+
+-- no account moved: a token that had a place has it still
+pub record KeepPlaces (before after : List Token) : Type 0 where
+  pub each : (place : ℕ) (token : Token) → slice_get before place ≡ Some token
+      → slice_get after place ≡ Some token

@@ -1,0 +1,102 @@
+//! An entry in 16 bytes, as a book keeps it.
+
+ghost use Rattle.std.specs.Prelude.{◌≡◌, ◌/◌, ◌%◌, ◌<◌, ◌≤◌, ◌^◌, List, Some, slice_get};
+ghost use Rattle.account_rule.specs.declared.reply.Reply.{Reply};
+ghost use Rattle.shard_book.specs.declared.entry.Entry.{Entry};
+ghost use Rattle.shard_book.specs.declared.token.Token.{Token};
+ghost use Rattle.shard_book.specs.inside.Packed.{answer_at, entry_of, entry_with};
+ghost use Rattle.shard_book.specs.inside.Packed.{word_answer, word_cents, word_moment};
+
+use crate::entry::Entry;
+use crate::sums::tally::place_of;
+use crate::token::Token;
+use account_rule::{Answer, Reply};
+
+/// 2^42, above every moment: a word's moment is what is left when it is divided by it.
+const MOMENTS: u64 = 4_398_046_511_104;
+
+/// From 8 answers on a word counts cents: five are needed.
+const ANSWERS: u64 = 8;
+
+/// An entry of the history. The accounts know its token, by the place of the token's account.
+#[derive(Clone, Copy, Debug, PartialEq, Eq)]
+pub(crate) struct PackedEntry {
+    /// The place of the token's account.
+    place: u32,
+    /// The number of the validator.
+    validator: u32,
+    /// The moment in the lowest 42 bits, the answer's number in three, and the cents in 19.
+    word: u64,
+}
+
+/// The word of a moment and a reply.
+#[inline(always)]
+fn word_of(moment: u64, reply: Reply) -> u64
+    requires early { moment < 2 ^ 42 }
+    requires few { reply.cents ≤ 100_000 }
+    ensures moment { word_moment result ≡ moment }
+    ensures answer { word_answer result ≡ reply.answer }
+    ensures cents { word_cents result ≡ reply.cents }
+{
+    let number = place_of(reply.answer) as u64;
+    (u64::from(reply.cents) * ANSWERS + number) * MOMENTS + moment
+}
+
+/// The answer with the number.
+#[inline(always)]
+fn answer_of(number: u64) -> Answer
+    ensures { result ≡ answer_at number }
+{
+    match number {
+        0 => Answer::Paid,
+        1 => Answer::Transfer,
+        2 => Answer::Capped,
+        3 => Answer::Stale,
+        _ => Answer::Unknown,
+    }
+}
+
+impl PackedEntry {
+    /// The entry of a tap whose token's account is at the place.
+    #[inline(always)]
+    pub(crate) fn of(place: u32, validator: u32, moment: u64, reply: Reply) -> Self
+        requires early { moment < 2 ^ 42 }
+        requires few { reply.cents ≤ 100_000 }
+        ensures place { result.place ≡ place }
+        ensures stands { (tokens : List Token) (token : Token)
+            → slice_get tokens place ≡ Some token
+            → entry_of tokens result ≡ entry_with token validator moment reply }
+    {
+        PackedEntry {
+            place,
+            validator,
+            word: word_of(moment, reply),
+        }
+    }
+
+    /// The place of its token's account.
+    #[inline(always)]
+    pub(crate) fn place(&self) -> u32
+        ensures { result ≡ self.now.place }
+    {
+        self.place
+    }
+
+    /// The entry, of the token whose account is at its place.
+    #[inline(always)]
+    pub(crate) fn entry(&self, token: Token) -> Entry
+        ensures { (tokens : List Token) → slice_get tokens self.now.place ≡ Some token
+            → result ≡ entry_of tokens self.now }
+    {
+        let upper = self.word / MOMENTS;
+        Entry {
+            token,
+            validator: self.validator,
+            moment: self.word % MOMENTS,
+            answer: answer_of(upper % ANSWERS),
+            cents: (upper / ANSWERS) as u32,
+        }
+    }
+}
+
+const _: () = prove!(size_of::<PackedEntry>() == 16);
