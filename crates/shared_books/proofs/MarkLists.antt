@@ -97,7 +97,7 @@ pub made_few : (n : ℕ) (ms : List Mark) → length (made_from n ms) ≤ length
 made_few n [] = omega arith
 made_few n (m ∷ ms) = few_step m.mine (n, m.visit) (made_from (n + 1) ms) (length ms) (made_few (n + 1) ms)
 
-many_step : (b : Bool) (x : ℕ × List Entry) (made : List (ℕ × List Entry)) (k : ℕ) → cond b 1 0 ≡ 1 → k ≤ length made → suc k ≤ length (cond b (x ∷ made) made)
+many_step : (b : Bool) (x : ℕ × List Entry) (made : List (ℕ × List Entry)) (k : ℕ) → 1 ≤ cond b 1 0 → k ≤ length made → suc k ≤ length (cond b (x ∷ made) made)
 many_step true x made k own le = omega arith
 many_step false x made k own le = absurd (omega arith)
 
@@ -106,7 +106,7 @@ pub made_many : (n : ℕ) (ms : List Mark) (k : ℕ) → ((i : ℕ) → i < k �
 made_many n ms zero own = omega arith
 made_many n [] (suc k) own = let one = own 0 (omega arith) in absurd (omega arith)
 made_many n (m ∷ ms) (suc k) own =
-    many_step m.mine (n, m.visit) (made_from (n + 1) ms) k (own 0 (omega arith)) (made_many (n + 1) ms k (λ i lt. own (suc i) (omega arith)))
+    many_step m.mine (n, m.visit) (made_from (n + 1) ms) k (let o = own 0 (omega arith) in omega arith) (made_many (n + 1) ms k (λ i lt. own (suc i) (omega arith)))
 
 all_step : (b : Bool) (x : ℕ × List Entry) (made all : List (ℕ × List Entry)) (k : ℕ) → length made ≤ k → suc k ≤ length (cond b (x ∷ made) made) → (k ≤ length made → made ≡ all) → cond b (x ∷ made) made ≡ x ∷ all
 all_step true x made all k few most e = let same = e (omega arith) in λ i. x ∷ same i
