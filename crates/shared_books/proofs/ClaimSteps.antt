@@ -46,19 +46,19 @@ module _ {V : Type 0} (claims : V → ℕ) (Spent : V → Type 0) where
       ⊎_elim
       (λ less. inl (omega arith))
       (λ (all : (sum_by claims views ≡ all_claims) × ((i : ℕ) (u : V) → get_elem? views i ≡ some u → claims u ≡ 0 → Spent u)). let s = all.0 in dite (dec_le (claims v) 1)
-          (λ few. dite (ℕ_discrete (claims v) 0)
-              (λ none. absurd (acts (all.1 j v at none)))
-              (λ some_claim. let lost = one_is_lost (claims v) few some_claim in inl (omega arith)))
-          (λ many. let h = halves (claims v) (lt_of_not-le many) in let left_some = h.0 in let new_some = h.1 in let both = h.2 in inr (
-            omega arith,
-            λ i u e none. ⊎_elim
-                (λ (here : get_elem? (set views j left) i ≡ some u). ⊎_elim
-                    (λ (p : (i ≡ j) × (left ≡ u)). let z = ap claims p.1 in absurd (omega arith))
-                    (λ (p : (i ≢ j) × (get_elem? views i ≡ some u)). all.1 i u p.1 none)
-                    (at_set views j i left u here))
-                (λ (p : new ≡ u). let z = ap claims p in absurd (omega arith))
-                (at_snoc (set views j left) new u i e),
-          )))
+      (λ few. dite (ℕ_discrete (claims v) 0)
+      (λ none. absurd (acts (all.1 j v at none)))
+      (λ some_claim. let lost = one_is_lost (claims v) few some_claim in inl (omega arith)))
+      (λ many. let h = halves (claims v) (lt_of_not-le many) in let left_some = h.0 in let new_some = h.1 in let both = h.2 in inr (
+        omega arith,
+        λ i u e none. ⊎_elim
+            (λ (here : get_elem? (set views j left) i ≡ some u). ⊎_elim
+            (λ (p : (i ≡ j) × (left ≡ u)). let z = ap claims p.1 in absurd (omega arith))
+            (λ (p : (i ≢ j) × (get_elem? views i ≡ some u)). all.1 i u p.1 none)
+            (at_set views j i left u here))
+            (λ (p : new ≡ u). let z = ap claims p in absurd (omega arith))
+            (at_snoc (set views j left) new u i e),
+      )))
       c
 
   -- one view takes over another's claims
@@ -74,9 +74,9 @@ module _ {V : Type 0} (claims : V → ℕ) (Spent : V → Type 0) where
         λ i z e none. ⊎_elim
             (λ (p : (i ≡ other) × (spent ≡ z)). subst Spent p.1 is_spent)
             (λ (p : (i ≢ other) × (get_elem? (set views j both) i ≡ some z)). ⊎_elim
-                (λ (q : (i ≡ j) × (both ≡ z)). let same = ap claims q.1 in absurd (acts (all.1 j v at (omega arith))))
-                (λ (q : (i ≢ j) × (get_elem? views i ≡ some z)). all.1 i z q.1 none)
-                (at_set views j i both z p.1))
+            (λ (q : (i ≡ j) × (both ≡ z)). let same = ap claims q.1 in absurd (acts (all.1 j v at (omega arith))))
+            (λ (q : (i ≢ j) × (get_elem? views i ≡ some z)). all.1 i z q.1 none)
+            (at_set views j i both z p.1))
             (at_set (set views j both) other i spent z e),
       ))
       c

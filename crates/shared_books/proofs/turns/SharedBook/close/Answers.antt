@@ -21,4 +21,4 @@ returns-clause-ok c =
 pub returns-then-held-kept-clause-claims : goal.returns-then-held-kept-clause-claims
 returns-then-held-kept-clause-claims c =
     let t = closes _ _ _ _ _ _ _ c.close_with-closed.ensures.values.2 c.word-word.ensures c.take-slot.ensures.value c.pass.invariant.free.live c.pass.invariant.free.turn c.pass.invariant.free.met in
-    subst (λ p. p.claims < all_claims) c.pass.view_is (lacks_claims _ _ _ _ _ _ c.pass.invariant t (omega (arith, c.if-held-kept.true, c.self.invariant.0)))
+    subst (λ p. p.claims < all_claims) c.pass.view_is (lacks_claims c.pass.inside.seat.table_id _ _ _ _ _ c.pass.invariant t (omega (arith, c.if-held-kept.true, c.self.invariant.0)))
