@@ -1,7 +1,7 @@
 -- Books and the drawing are closed.
-use Rattle.std.specs.Prelude.{ℕ, zero, suc, ◌≡◌, ◌⊎◌, ◌+◌, ◌<◌, ◌≤◌, List, [], ◌∷◌, length, slice_get, Some, option_map}
+use Rattle.std.specs.Prelude.{ℕ, zero, suc, ◌≡◌, ◌⊎◌, ◌+◌, ◌<◌, ◌≤◌, List, [], ◌∷◌, length, slice_get, Some, option_map, sum_by}
 use Rattle.std.specs.List.{flat_map}
-use Rattle.std.specs.Prelude.{remove, Result, Ok, Err, OnOk, Bool, true, false, ◌==◌}
+use Rattle.std.specs.Prelude.{remove, Result, Ok, Err, OnOk, IfErr, Bool, true, false, ◌==◌}
 use Rattle.std.proofs.Common.{refl, sym, ◌∙◌, ap, inl, inr, subst, arith, get_or, eqb-true}
 use Rattle.std.proofs.lemmas.Bool.{cases_lt}
 use Rattle.std.proofs.lemmas.List.Elements.{All-nil, All-weaker}
@@ -9,13 +9,15 @@ use Rattle.std.proofs.lemmas.List.Concat.{length-flat_map}
 use Rattle.std.proofs.lemmas.Option.{slice_get-map}
 use Rattle.shard_book.specs.Book.{Book}
 use Rattle.shared_books.specs.declared.turns.rule.Mark.{Mark}
+use Rattle.shared_books.specs.Claims.{all_claims}
+use Rattle.fare_service.specs.Claims.{HaveAllClaims}
 use Rattle.shared_books.specs.Drawing.{Drawing, DrawerView, HasAll, IsCount, times}
 use Rattle.shared_books.specs.Marks.{joined}
 use Rattle.shared_books.specs.Passes.{SharedBookView, PassView}
 use Rattle.fare_service.specs.declared.faults.GatherFault.{GatherFault}
 use Rattle.fare_service.specs.declared.faults.GatherFault.TheVariants.{NoMemory, Missing, Drawn}
 use Rattle.fare_service.specs.Closing.{IsHistoryOf, IsWhole, IsFirst}
-use Rattle.fare_service.specs.inside.Closing.{AreClosed, AreUnseen, IsClosedBy, IsUnseen, IsClosedWork, IsFirstMissing, IsFirstUnseen}
+use Rattle.fare_service.specs.inside.Closing.{AreClosed, AreUnseen, IsClosedBy, IsUnseen, IsClosedWork, IsFirstMissing, IsFirstUnseen, LacksClaims}
 use Rattle.fare_service.specs.Faults.{uploads_held}
 use Rattle.fare_service.specs.ShareView.{ShareView}
 use Rattle.fare_service.specs.inside.Joining.{AreSigns, IsJoinedOf, IsSign}
@@ -184,6 +186,10 @@ pub any_ok : {T E : Type 0} (r : Result T E) (P : Type 0) → P → OnOk r P
 any_ok (Ok x) P p = p
 any_ok (Err e) P p = tt
 
+pub any_err : {T E : Type 0} (r : Result T E) (P : Type 0) → P → IfErr r (λ _. P)
+any_err (Ok x) P p = tt
+any_err (Err e) P p = p
+
 pub no_shares : (shares : List ShareView) → length shares ≡ 0 → shares ≡ []
 no_shares [] none = refl
 no_shares (s ∷ shares) none = absurd (omega (arith, none))
@@ -195,3 +201,23 @@ some_shares none (suc number) tells is = omega arith
 pub none_there : (none : Bool) (number : ℕ) → none ≡ (number == 0) → none ≡ true → number ≡ 0
 none_there none zero tells is = refl
 none_there none (suc number) tells is = eqb-true (suc number) 0 (sym tells ∙ is)
+
+-- where there is no share, there is no claim
+pub none_whole : (shards : ℕ) (shares : List ShareView) → shares ≡ [] → HaveAllClaims shards shares → ⊥
+none_whole shards shares none h =
+    let P : List ShareView → Type 0 = HaveAllClaims shards in
+    let all = (subst P none h).drawing in
+    let zero_is : sum_by (λ (share : ShareView). share.drawer.claims) [] ≡ 0 = refl in
+    omega arith
+
+-- a pass that lacks claims is not of shares that have them all
+pub lacks_whole : (drawing : Drawing) (books : List SharedBookView) (nobody : ℕ) (shares : List ShareView) (drawer : DrawerView) (passes : List PassView) (fault : GatherFault)
+    → IsJoinedOf drawing books nobody shares drawer passes → LacksClaims (length books) passes fault → HaveAllClaims (length books) shares → ⊥
+lacks_whole drawing books nobody shares drawer passes NoMemory is lacks h = lacks
+lacks_whole drawing books nobody shares drawer passes (Missing shard held kept) is lacks h = omega (arith, lacks.1, is.pass_claims shard, h.books shard lacks.0)
+lacks_whole drawing books nobody shares drawer passes (Drawn held drawn) is lacks h = lacks
+
+-- and neither is a drawer
+pub drawer_whole : (drawing : Drawing) (books : List SharedBookView) (nobody : ℕ) (shares : List ShareView) (drawer : DrawerView) (passes : List PassView)
+    → IsJoinedOf drawing books nobody shares drawer passes → drawer.claims < all_claims → HaveAllClaims (length books) shares → ⊥
+drawer_whole drawing books nobody shares drawer passes is lacks h = omega (arith, lacks, is.claims, h.drawing)

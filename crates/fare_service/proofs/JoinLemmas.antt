@@ -1,5 +1,5 @@
 -- Passes that are joined, one shard after another.
-use Rattle.std.specs.Prelude.{ℕ, zero, suc, ◌≡◌, ◌≢◌, ◌⊎◌, ◌<◌, ◌≤◌, ◌==◌, true, false, List, [], ◌∷◌, ◌++◌, length, slice_get, Some}
+use Rattle.std.specs.Prelude.{ℕ, zero, suc, ◌≡◌, ◌≢◌, ◌⊎◌, ◌+◌, ◌<◌, ◌≤◌, ◌==◌, true, false, List, [], ◌∷◌, ◌++◌, length, slice_get, Some}
 use Rattle.std.specs.List.{flat_map}
 use Rattle.std.proofs.Common.{refl, sym, ◌∙◌, ap, inl, inr, subst, arith, get_or, set, append-nil, length-append}
 use Rattle.std.proofs.lemmas.List.{map-append}
@@ -12,6 +12,7 @@ use Rattle.shared_books.specs.declared.turns.rule.Mark.{Mark}
 use Rattle.shared_books.specs.Drawing.{Drawing, DrawerView, HasMet}
 use Rattle.shared_books.specs.Marks.{visits_of, merged}
 use Rattle.shared_books.specs.Passes.{SharedBookView, PassView, IsJoined}
+use Rattle.fare_service.specs.Claims.{claims_at}
 use Rattle.fare_service.specs.Headline.{by_worker}
 use Rattle.fare_service.specs.ShareView.{ShareView}
 use Rattle.fare_service.specs.inside.Joining.{AreSigns, AreJoined, AreJoinedAt, AreSignedAt, Belongs, IsJoinedOf}
@@ -92,9 +93,12 @@ merged_longer (x ∷ xs) (y ∷ ys) = let rest = merged_longer xs ys in (omega (
 -- one share more was joined
 pub joined_more : (drawing : Drawing) (books : List SharedBookView) (nobody : ℕ) (shares : List ShareView) (share : ShareView) (drawer drawer' : DrawerView) (passes passes' : List PassView) → length shares < nobody
     → IsJoinedOf drawing books nobody shares drawer passes → HasMet drawer share.drawer drawer' → books_of passes' ≡ books → ((shard : ℕ) → AreJoinedAt shard passes share.passes passes')
+    → ((shard : ℕ) → claims_at shard passes' ≡ claims_at shard passes + claims_at shard share.passes)
     → IsJoinedOf drawing books nobody (shares ++ share ∷ []) drawer' passes'
-joined_more drawing books nobody shares share drawer drawer' passes passes' below all met of_books joined = record {
+joined_more drawing books nobody shares share drawer drawer' passes passes' below all met of_books joined claims = record {
   source = met.source ∙ all.source;
+  claims = omega (arith, met.claims, all.claims, sum_by-append (λ (s : ShareView). s.drawer.claims) shares (share ∷ []), sum_by-cons (λ (s : ShareView). s.drawer.claims) share []);
+  pass_claims = λ shard. omega (arith, claims shard, all.pass_claims shard, sum_by-append (λ (s : ShareView). claims_at shard s.passes) shares (share ∷ []), sum_by-cons (λ (s : ShareView). claims_at shard s.passes) share []);
   drawn = met.drawn ∙ (ap (λ ds. ds ++ share.drawer.drawn) all.drawn ∙ sym (flat_map-append (λ s. s.drawer.drawn) shares (share ∷ []) ∙ ap (λ ds. flat_map (λ s. s.drawer.drawn) shares ++ ds) (append-nil share.drawer.drawn)));
   seen = All-push (λ s. s.drawer.seen ≤ drawer'.seen) shares share (All-weaker (λ s. s.drawer.seen ≤ drawer.seen) (λ s. s.drawer.seen ≤ drawer'.seen) (λ s h. omega (arith, h, met.later)) shares all.seen) met.later_too;
   of_books = of_books;
@@ -110,6 +114,8 @@ joined_more drawing books nobody shares share drawer drawer' passes passes' belo
 pub joined_first : (drawing : Drawing) (books : List SharedBookView) (nobody : ℕ) (share : ShareView) → 0 < nobody → Belongs drawing books share → IsJoinedOf drawing books nobody (share ∷ []) share.drawer share.passes
 joined_first drawing books nobody share some is = record {
   source = is.source;
+  claims = omega (arith, sum_by-cons (λ (s : ShareView). s.drawer.claims) share []);
+  pass_claims = λ shard. omega (arith, sum_by-cons (λ (s : ShareView). claims_at shard s.passes) share []);
   drawn = sym (append-nil share.drawer.drawn);
   seen = All-cons (λ s. s.drawer.seen ≤ share.drawer.seen) share [] (omega arith) (All-nil (λ s. s.drawer.seen ≤ share.drawer.seen));
   of_books = is.of_books;

@@ -1,5 +1,6 @@
 pub mod AddingLemmas
 pub mod BatchLemmas
+pub mod ClaimLemmas
 pub mod CloseLemmas
 pub mod FullLemmas
 pub mod GatherLemmas
@@ -18,6 +19,7 @@ pub mod ShareLemmas
 pub mod Signing
 pub mod StoppingLemmas
 pub mod TapCounts
+pub mod ThreadLemmas
 pub mod UploadLemmas
 pub mod VisitLemmas
 pub mod PlainBooks

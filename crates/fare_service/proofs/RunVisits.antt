@@ -96,12 +96,15 @@ pub made_visit : (shards shard : ℕ) (passes : List PassView) (old new : PassVi
     → Made shards passes (set passes shard new) totals totals' (visit ∷ [])
 made_visit shards shard passes old new number visit totals totals' within is at v counted entered =
     let none : (other : ℕ) → other ≢ shard → entries_to other (visit ∷ []) ≡ [] = λ other ne. elsewhere other (eqb_tells visit.shard other) ne in
-    made_by_pass shards passes shard old new totals totals' (visit ∷ []) within book own none
+    made_by_pass shards passes shard old new totals totals' (visit ∷ []) within book claims own none
     (counted ∙ ap (λ es. add_sums totals (sums es)) (sym (append-nil visit.entries)))
     (All-cons (IsEntered shards) visit [] entered (All-nil (IsEntered shards)))
   where
     book : new.book ≡ (get_or passes shard old).book
     book = v.book ∙ ap (λ p. p.book) is
+
+    claims : new.claims ≡ (get_or passes shard old).claims
+    claims = v.claims ∙ ap (λ p. p.claims) is
 
     here : entries_to shard (visit ∷ []) ≡ visit.entries ∷ []
     here = ap (λ b. map (λ v. v.entries) (cond b (visit ∷ []) [])) (eq-eqb visit.shard shard at)
@@ -117,7 +120,7 @@ made_visit shards shard passes old new number visit totals totals' within is at 
 pub made_look : (shards shard : ℕ) (passes : List PassView) (old new : PassView) (totals : Sums) → shard < length passes
     → old ≡ get_or passes shard old → IsLater old new → Made shards passes (set passes shard new) totals totals []
 made_look shards shard passes old new totals within is later =
-    made_by_pass shards passes shard old new totals totals [] within (later.book ∙ ap (λ p. p.book) is) (own-later old new later ∙ ap (λ ms. own_visits ms ++ []) (sym (marks_here passes shard old within is)))
+    made_by_pass shards passes shard old new totals totals [] within (later.book ∙ ap (λ p. p.book) is) (later.claims ∙ ap (λ p. p.claims) is) (own-later old new later ∙ ap (λ ms. own_visits ms ++ []) (sym (marks_here passes shard old within is)))
     (λ other ne. refl) (sym (add_none totals)) (All-nil (IsEntered shards))
 
 -- the book of a shard

@@ -6,9 +6,11 @@ use Rattle.std.proofs.lemmas.List.Elements.{All-nil, All-cons, All-append}
 use Rattle.std.proofs.lemmas.Grind.{flat_map-append}
 use Rattle.shard_book.specs.Sums.{Sums, sums, add_sums}
 use Rattle.shared_books.specs.Drawing.{DrawerView}
-use Rattle.shared_books.specs.Passes.{PassView, SharedBookView, new_pass, fresh_pass, seen_by}
+use Rattle.shared_books.specs.Claims.{all_claims, claims_given, claims_left}
+use Rattle.shared_books.specs.Passes.{PassView, SharedBookView, new_pass, fresh_pass, left_pass, seen_by}
 use Rattle.fare_service.specs.declared.share.Done.{Done}
 use Rattle.fare_service.specs.declared.upload_end.UploadEnd.{UploadEnd}
+use Rattle.fare_service.specs.Claims.{claims_at, left_share}
 use Rattle.fare_service.specs.ServiceView.{ServiceView, shards_of}
 use Rattle.fare_service.specs.ShareView.{ShareView}
 use Rattle.fare_service.specs.Runs.{Visit, entries_to, entries_of}
@@ -20,24 +22,26 @@ pub all_visits-append : (xs ys : List Worked) → all_visits (xs ++ ys) ≡ all_
 all_visits-append xs ys = flat_map-append (λ w. w.visits) xs ys
 
 -- nothing was done with the share
-pub worked_none : (service : ServiceView) (old new : ShareView) → new.drawer.drawn ≡ old.drawer.drawn → new.done ≡ old.done → new.passes ≡ old.passes → new.totals ≡ old.totals → HasWorked service old new []
-worked_none service old new drawn done passes totals =
+pub worked_none : (service : ServiceView) (old new : ShareView) → new.drawer.claims ≡ old.drawer.claims → new.drawer.drawn ≡ old.drawer.drawn → new.done ≡ old.done → new.passes ≡ old.passes → new.totals ≡ old.totals → HasWorked service old new []
+worked_none service old new claims drawn done passes totals =
     let P : List PassView → Type 0 = λ ps. Made (shards_of service) old.passes ps old.totals new.totals [] in
     let T : Sums → Type 0 = λ t. Made (shards_of service) old.passes old.passes old.totals t [] in
     record {
       each = All-nil (IsWorked service);
+      claims = claims;
       drawn = drawn ∙ sym (append-nil old.drawer.drawn);
       done = done ∙ sym (append-nil old.done);
       made = subst P (sym passes) (subst T (sym totals) (made_none (shards_of service) old.passes old.totals));
     }
 
 -- one upload was drawn and posted
-pub worked_one : (service : ServiceView) (old new : ShareView) (w : Worked) → IsWorked service w → new.drawer.drawn ≡ old.drawer.drawn ++ w.upload ∷ [] → new.done ≡ old.done ++ done_of w ∷ []
+pub worked_one : (service : ServiceView) (old new : ShareView) (w : Worked) → IsWorked service w → new.drawer.claims ≡ old.drawer.claims → new.drawer.drawn ≡ old.drawer.drawn ++ w.upload ∷ [] → new.done ≡ old.done ++ done_of w ∷ []
     → Made (shards_of service) old.passes new.passes old.totals new.totals w.visits → HasWorked service old new (w ∷ [])
-worked_one service old new w is drawn done made =
+worked_one service old new w is claims drawn done made =
     let P : List Visit → Type 0 = λ vs. Made (shards_of service) old.passes new.passes old.totals new.totals vs in
     record {
       each = All-cons (IsWorked service) w [] is (All-nil (IsWorked service));
+      claims = claims;
       drawn = drawn;
       done = done;
       made = subst P (sym (append-nil w.visits)) made;
@@ -49,6 +53,7 @@ worked_more service a b c xs ys p q =
     let P : List Visit → Type 0 = λ vs. Made (shards_of service) a.passes c.passes a.totals c.totals vs in
     record {
       each = All-append (IsWorked service) xs ys p.each q.each;
+      claims = q.claims ∙ p.claims;
       drawn = q.drawn ∙ (ap (λ ds. ds ++ map (λ w. w.upload) ys) p.drawn ∙ append_assoc a.drawer.drawn (map (λ w. w.upload) xs) (map (λ w. w.upload) ys)
           ∙ ap (λ ds. a.drawer.drawn ++ ds) (sym (map-append (λ w. w.upload) xs ys)));
       done = q.done ∙ (ap (λ ds. ds ++ map done_of ys) p.done ∙ append_assoc a.done (map done_of xs) (map done_of ys) ∙ ap (λ ds. a.done ++ ds) (sym (map-append done_of xs ys)));
@@ -87,18 +92,18 @@ holding drawer passes totals done = record { drawer = drawer; passes = passes; t
 
 -- a worker that drew an upload and posted it
 pub next_done : (service : ServiceView) (drawer drawer' : DrawerView) (passes passes' : List PassView) (totals totals' : Sums) (done done' : List Done) (upload : ℕ) (end : UploadEnd) (visits : List Visit)
-    → drawer'.drawn ≡ drawer.drawn ++ upload ∷ [] → done' ≡ done ++ record { upload = upload; end = end } ∷ [] → Made (shards_of service) passes passes' totals totals' visits → IsWorked service (worked upload end visits)
+    → drawer'.claims ≡ drawer.claims → drawer'.drawn ≡ drawer.drawn ++ upload ∷ [] → done' ≡ done ++ record { upload = upload; end = end } ∷ [] → Made (shards_of service) passes passes' totals totals' visits → IsWorked service (worked upload end visits)
     → HasWorked service (holding drawer passes totals done) (holding drawer' passes' totals' done') (worked upload end visits ∷ [])
-next_done service drawer drawer' passes passes' totals totals' done done' upload end visits drawn more made is =
-    worked_one service (holding drawer passes totals done) (holding drawer' passes' totals' done') (worked upload end visits) is drawn more made
+next_done service drawer drawer' passes passes' totals totals' done done' upload end visits claims drawn more made is =
+    worked_one service (holding drawer passes totals done) (holding drawer' passes' totals' done') (worked upload end visits) is claims drawn more made
 
 pub next_share : (service : ServiceView) (drawer drawer' : DrawerView) (passes passes' : List PassView) (totals totals' : Sums) (done done' : List Done) (upload : ℕ) (end : UploadEnd) (old : ShareView)
-    → holding drawer passes totals done ≡ old → IsShareOf service old → drawer'.drawn ≡ drawer.drawn ++ upload ∷ [] → drawer'.source ≡ drawer.source → done' ≡ done ++ record { upload = upload; end = end } ∷ []
+    → holding drawer passes totals done ≡ old → IsShareOf service old → drawer'.claims ≡ drawer.claims → drawer'.drawn ≡ drawer.drawn ++ upload ∷ [] → drawer'.source ≡ drawer.source → done' ≡ done ++ record { upload = upload; end = end } ∷ []
     → ((visits : List Visit) × Made (shards_of service) passes passes' totals totals' visits × IsWorked service (worked upload end visits)) → totals'.taps ≤ totals.taps + 2 ^ 60 → IsShareOf service (holding drawer' passes' totals' done')
-next_share service drawer drawer' passes passes' totals totals' done done' upload end old is share drawn source more (visits, made, did) few =
+next_share service drawer drawer' passes passes' totals totals' done done' upload end old is share claims drawn source more (visits, made, did) few =
     let P : ShareView → Type 0 = IsShareOf service in
     share_more service (holding drawer passes totals done) (holding drawer' passes' totals' done') (worked upload end visits ∷ []) (subst P (sym is) share)
-    (next_done service drawer drawer' passes passes' totals totals' done done' upload end visits drawn more made did) source (omega (arith, few))
+    (next_done service drawer drawer' passes passes' totals totals' done done' upload end visits claims drawn more made did) source (omega (arith, few))
 
 -- the totals of a share have room for another upload
 pub has_room : (service : ServiceView) (share : ShareView) → IsShareOf service share → length share.drawer.drawn < 2 ^ 32 → share.totals.taps + 2 ^ 60 ≤ 2 ^ 94
@@ -119,6 +124,40 @@ own_split shard passes = own_none fresh_pass (λ p. own-others (seen_by p)) shar
 pub books_new : (books : List SharedBookView) → books_of (map new_pass books) ≡ books
 books_new [] = refl
 books_new (b ∷ bs) = ap (λ xs. b ∷ xs) (books_new bs)
+
+pub own_left : (shard : ℕ) (passes : List PassView) → own_at shard (map left_pass passes) ≡ own_at shard passes
+own_left shard [] = refl
+own_left zero (p ∷ ps) = refl
+own_left (suc shard) (p ∷ ps) = own_left shard ps
+
+pub books_left : (passes : List PassView) → books_of (map left_pass passes) ≡ books_of passes
+books_left [] = refl
+books_left (p ∷ ps) = ap (λ xs. p.book ∷ xs) (books_left ps)
+
+-- the share that a split leaves is a share still
+pub share_left : (service : ServiceView) (share : ShareView) → IsShareOf service share → IsShareOf service (left_share share)
+share_left service share is = record {
+  drawer = is.drawer;
+  passes = books_left share.passes ∙ is.passes;
+  works = is.works;
+  keeps = record { each = is.keeps.each; drawn = is.keeps.drawn; done = is.keeps.done; visits = λ s. own_left s share.passes ∙ is.keeps.visits s; totals = is.keeps.totals };
+  room = is.room;
+}
+
+pub claims_left_at : (shard : ℕ) (passes : List PassView) → claims_at shard (map left_pass passes) ≡ claims_left (claims_at shard passes)
+claims_left_at shard [] = refl
+claims_left_at zero (p ∷ ps) = refl
+claims_left_at (suc shard) (p ∷ ps) = claims_left_at shard ps
+
+pub claims_given_at : (shard : ℕ) (passes : List PassView) → claims_at shard (map fresh_pass passes) ≡ claims_given (claims_at shard passes)
+claims_given_at shard [] = refl
+claims_given_at zero (p ∷ ps) = refl
+claims_given_at (suc shard) (p ∷ ps) = claims_given_at shard ps
+
+pub claims_new_at : (shard : ℕ) (books : List SharedBookView) → shard < length books → claims_at shard (map new_pass books) ≡ all_claims
+claims_new_at shard [] within = absurd (omega arith)
+claims_new_at zero (b ∷ bs) within = refl
+claims_new_at (suc shard) (b ∷ bs) within = claims_new_at shard bs (omega arith)
 
 pub books_split : (passes : List PassView) → books_of (map fresh_pass passes) ≡ books_of passes
 books_split [] = refl

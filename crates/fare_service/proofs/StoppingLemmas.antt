@@ -62,15 +62,15 @@ pub stopped_went_on : (service : ServiceView) (old new : ShareView) → StoppedW
 stopped_went_on service old new s = (s.before ++ option_to_list s.last, s.worked)
 
 pub going_start : (service : ServiceView) (share : ShareView) → Going service share share
-going_start service share = ([], worked_none service share share refl refl refl refl, All-nil (MayGoOn share.passes))
+going_start service share = ([], worked_none service share share refl refl refl refl refl, All-nil (MayGoOn share.passes))
 
 -- an upload that was drawn and posted
 module _ (service : ServiceView) (old : ShareView) (drawer drawer' : DrawerView) (passes passes' : List PassView) (totals totals' : Sums) (done done' : List Done) (next : Done)
-    (going : Going service old (holding drawer passes totals done)) (drawn : drawer'.drawn ≡ drawer.drawn ++ next.upload ∷ []) (more : done' ≡ done ++ next ∷ [])
+    (going : Going service old (holding drawer passes totals done)) (claims : drawer'.claims ≡ drawer.claims) (drawn : drawer'.drawn ≡ drawer.drawn ++ next.upload ∷ []) (more : done' ≡ done ++ next ∷ [])
     (did : (visits : List Visit) × Made (shards_of service) passes passes' totals totals' visits × IsWorked service (worked next.upload next.end visits))
     (full : SomeFull passes → SomeFull passes') where
   one : HasWorked service (holding drawer passes totals done) (holding drawer' passes' totals' done') (worked next.upload next.end did.0 ∷ [])
-  one = next_done service drawer drawer' passes passes' totals totals' done done' next.upload next.end did.0 drawn more did.1 did.2
+  one = next_done service drawer drawer' passes passes' totals totals' done done' next.upload next.end did.0 claims drawn more did.1 did.2
 
   pub going_next : WasWhole next.end ⊎ SomeFull passes' → Going service old (holding drawer' passes' totals' done')
   going_next goes = going_more service old (holding drawer passes totals done) (holding drawer' passes' totals' done') (worked next.upload next.end did.0) going one full goes
@@ -79,9 +79,9 @@ module _ (service : ServiceView) (old : ShareView) (drawer drawer' : DrawerView)
   cut_next cut = stopped_cut service old (holding drawer passes totals done) (holding drawer' passes' totals' done') (worked next.upload next.end did.0) going one full cut
 
 -- no upload was left to draw
-module _ (service : ServiceView) (drawer drawer' : DrawerView) (passes : List PassView) (totals : Sums) (done : List Done) (same : drawer'.drawn ≡ drawer.drawn) where
+module _ (service : ServiceView) (drawer drawer' : DrawerView) (passes : List PassView) (totals : Sums) (done : List Done) (claims : drawer'.claims ≡ drawer.claims) (same : drawer'.drawn ≡ drawer.drawn) where
   stays : HasWorked service (holding drawer passes totals done) (holding drawer' passes totals done) []
-  stays = worked_none service (holding drawer passes totals done) (holding drawer' passes totals done) same refl refl refl
+  stays = worked_none service (holding drawer passes totals done) (holding drawer' passes totals done) claims same refl refl refl
 
   pub share_stays : IsShareOf service (holding drawer passes totals done) → drawer'.source ≡ drawer.source → IsShareOf service (holding drawer' passes totals done)
   share_stays share source = share_more service (holding drawer passes totals done) (holding drawer' passes totals done) [] share stays source (omega arith)

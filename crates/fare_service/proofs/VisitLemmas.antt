@@ -86,12 +86,13 @@ marks-set_other passes shard other new ne =
 
 -- what one visit changed, or a look
 pub made_by_pass : (shards : ℕ) (passes : List PassView) (shard : ℕ) (old new : PassView) (totals totals' : Sums) (more : List Visit) → shard < length passes
-    → new.book ≡ (get_or passes shard old).book → own_visits new.marks ≡ own_at shard passes ++ entries_to shard more
+    → new.book ≡ (get_or passes shard old).book → new.claims ≡ (get_or passes shard old).claims → own_visits new.marks ≡ own_at shard passes ++ entries_to shard more
     → ((other : ℕ) → other ≢ shard → entries_to other more ≡ [])
     → totals' ≡ add_sums totals (sums (entries_of more)) → All (IsEntered shards) more
     → Made shards passes (set passes shard new) totals totals' more
-made_by_pass shards passes shard old new totals totals' more within book own others_none counted entered = record {
+made_by_pass shards passes shard old new totals totals' more within book claims own others_none counted entered = record {
   books = map-set_same (λ p. p.book) passes shard new old book;
+  claims = map-set_same (λ p. p.claims) passes shard new old claims;
   visits = λ s. visits_at s (eqb_tells s shard);
   counted = counted;
   entered = entered;
@@ -108,6 +109,7 @@ made_by_pass shards passes shard old new totals totals' more within book own oth
 pub made_none : (shards : ℕ) (passes : List PassView) (totals : Sums) → Made shards passes passes totals totals []
 made_none shards passes totals = record {
   books = refl;
+  claims = refl;
   visits = λ s. sym (append-nil (own_at s passes));
   counted = sym (add_none totals);
   entered = All-nil (IsEntered shards);
@@ -121,6 +123,7 @@ entries_to-append shard xs ys =
 pub made_more : (shards : ℕ) (p q r : List PassView) (s t u : Sums) (xs ys : List Visit) → Made shards p q s t xs → Made shards q r t u ys → Made shards p r s u (xs ++ ys)
 made_more shards p q r s t u xs ys a b = record {
   books = b.books ∙ a.books;
+  claims = b.claims ∙ a.claims;
   visits = λ n. b.visits n ∙ (ap (λ vs. vs ++ entries_to n ys) (a.visits n) ∙ append_assoc (own_at n p) (entries_to n xs) (entries_to n ys)
       ∙ ap (λ vs. own_at n p ++ vs) (sym (entries_to-append n xs ys)));
   counted = b.counted ∙ ap (λ c. add_sums c (sums (entries_of ys))) a.counted ∙ add_add s (sums (entries_of xs)) (sums (entries_of ys))

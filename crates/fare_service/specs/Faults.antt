@@ -32,6 +32,18 @@ IsGatherFault shards shares (Missing shard held kept) =
     (shard < shards) × (held ≡ visits_held shard shares) × (held < kept)
 IsGatherFault shards shares (Drawn held drawn) = (held ≡ uploads_held shares) × (held < drawn)
 
+-- a gathering that misses nothing is refused for memory alone
+abbrev pub IsForMemory : GatherFault → Type 0
+IsForMemory NoRoom = Unit {0}
+IsForMemory (Missing shard held kept) = ⊥
+IsForMemory (Drawn held drawn) = ⊥
+
+-- and so is a run whose first share has all claims, but for the number of its workers
+abbrev pub MissesNothing : RunFault → Type 0
+MissesNothing Workers = Unit {0}
+MissesNothing NoThread = Unit {0}
+MissesNothing (Gather fault) = IsForMemory fault
+
 -- the number of workers is refused first
 abbrev pub IsRunFault : ℕ → RunFault → Type 0
 IsRunFault workers Workers = (workers ≡ 0) ⊎ (16 < workers)

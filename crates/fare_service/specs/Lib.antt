@@ -1,4 +1,5 @@
 pub mod Adding
+pub mod Claims
 pub mod Closing
 pub mod Ends
 pub mod Faults

@@ -15,6 +15,7 @@ use Rattle.fare_service.specs.declared.upload_end.UploadEnd.{UploadEnd}
 use Rattle.fare_service.specs.declared.upload_end.UploadEnd.TheVariants.{Posted, Refused, Cut}
 use Rattle.fare_service.specs.declared.upload_end.UploadEnd.TheVariants.{Undrawn}
 use Rattle.fare_service.specs.declared.share.Done.{Done}
+use Rattle.fare_service.specs.Claims.{claims_of}
 use Rattle.fare_service.specs.ServiceView.{ServiceView, shards_of}
 use Rattle.fare_service.specs.ShareView.{ShareView}
 use Rattle.fare_service.specs.Runs.{Visit, IsEntered, ArePosted, AreCut, runs_of, entries_to}
@@ -114,18 +115,21 @@ pub record IsFresh (share : ShareView) : Type 0 where
   pub visits : (shard : ℕ) → own_at shard share.passes ≡ []
   pub totals : share.totals ≡ sums []
 
--- what a worker's visits changed: the passes have made them, and the totals count their replies
+-- what a worker's visits changed: the passes have made them and keep their claims, and the totals
+-- count their replies
 pub record Made (shards : ℕ) (passes passes' : List PassView) (totals totals' : Sums)
     (more : List Visit) : Type 0 where
   pub books : books_of passes' ≡ books_of passes
+  pub claims : claims_of passes' ≡ claims_of passes
   pub visits : (shard : ℕ) → own_at shard passes' ≡ own_at shard passes ++ entries_to shard more
   pub counted : totals' ≡ add_sums totals (sums (entries_of more))
   pub entered : All (IsEntered shards) more
 
--- the share drew these uploads more, and did this for them
+-- the share drew these uploads more and did this for them, and keeps its claims
 pub record HasWorked (service : ServiceView) (old new : ShareView) (more : List Worked)
     : Type 0 where
   pub each : All (IsWorked service) more
+  pub claims : new.drawer.claims ≡ old.drawer.claims
   pub drawn : new.drawer.drawn ≡ old.drawer.drawn ++ map (λ w. w.upload) more
   pub done : new.done ≡ old.done ++ map done_of more
   pub made : Made (shards_of service) old.passes new.passes old.totals new.totals (all_visits more)

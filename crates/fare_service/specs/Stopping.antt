@@ -6,7 +6,7 @@ use Rattle.shared_books.specs.Passes.{PassView, seen_by}
 use Rattle.fare_service.specs.ServiceView.{ServiceView}
 use Rattle.fare_service.specs.ShareView.{ShareView}
 use Rattle.fare_service.specs.Plain.{WasWhole}
-use Rattle.fare_service.specs.Shares.{Worked, HasWorked}
+use Rattle.fare_service.specs.Shares.{Worked, HasWorked, WentOn}
 use Rattle.fare_service.specs.declared.upload_end.UploadEnd.{UploadEnd}
 use Rattle.fare_service.specs.declared.upload_end.UploadEnd.TheVariants.{Cut}
 
@@ -36,3 +36,9 @@ pub record StoppedWell (service : ServiceView) (old new : ShareView) : Type 0 wh
   pub worked : HasWorked service old new (before ++ option_to_list last)
   pub went_on : All (MayGoOn new.passes) before
   pub stopped : MatchOption last (new.drawer.seen ≡ length service.uploads) (λ w. WasCut w.end)
+
+-- What a worker gives back of its share: the share as it was, or what it did with it until it
+-- stopped. It keeps the share's claims.
+pub record WorkedOn (service : ServiceView) (old new : ShareView) : Type 0 where
+  pub went_on : WentOn service old new
+  pub stopped : (new ≡ old) ⊎ StoppedWell service old new

@@ -5,13 +5,14 @@ ghost use Rattle.std.specs.Prelude.{map, slice_get, Some, [], ◌∷◌, replica
 ghost use Rattle.std.specs.List.{flat_map};
 ghost use Rattle.shard_book.specs.Sums.{sums_of};
 ghost use Rattle.shared_books.specs.Passes.{PassView};
+ghost use Rattle.fare_service.specs.Claims.{claims_at, HaveAllClaims};
 ghost use Rattle.fare_service.specs.Closing.{IsFirst};
 ghost use Rattle.fare_service.specs.inside.Closing.{AreClosed, AreUnseen, IsClosedWork};
 ghost use Rattle.fare_service.specs.inside.Closing.{IsFirstMissing, IsFirstUnseen, IsMissing};
-ghost use Rattle.fare_service.specs.inside.Closing.{NoneMissing};
+ghost use Rattle.fare_service.specs.inside.Closing.{LacksClaims, NoneMissing};
 ghost use Rattle.fare_service.specs.inside.Joining.{AreJoinedAt, Belongs, IsJoinedOf, told};
 ghost use Rattle.fare_service.specs.inside.Joining.{told_all};
-ghost use Rattle.fare_service.specs.Faults.{IsGatherFault};
+ghost use Rattle.fare_service.specs.Faults.{IsForMemory, IsGatherFault};
 ghost use Rattle.fare_service.specs.Shares.{books_of, own_at};
 
 use crate::adding::{added, entries_in};
@@ -67,6 +68,8 @@ fn join_passes(books: &[SharedBook], into: &mut Vec<Pass>, other: Vec<Pass>)
     requires other { books_of other.items ≡ books.now }
     ensures books { books_of into.new.items ≡ books.now }
     ensures joined { (shard : ℕ) → AreJoinedAt shard into.old.items other.items into.new.items }
+    ensures claims { (shard : ℕ) → claims_at shard into.new.items
+        ≡ claims_at shard into.old.items + claims_at shard other.items }
 {
     let mut shard = 0;
     for pass in other {
@@ -121,6 +124,7 @@ fn close_all(
     ensures ok { OnOk result (AreClosed passes.items closed.new.items) }
     ensures number { OnOk result (length closed.new.items ≡ length books.items) }
     ensures missing { IfErr result (IsMissing (length books.items) passes.items) }
+    ensures claims { IfErr result (LacksClaims (length books.items) passes.items) }
     ensures first { IfErr result (IsFirstMissing passes.items closed.new.items) }
 {
     let mut passes = passes.into_iter();
@@ -193,6 +197,7 @@ fn close_with(
     ensures ok { OnOk result (IsClosedWork books.items shares.items closed.new.items) }
     ensures fault { IfErr result (IsGatherFault (length books.items) shares.items) }
     ensures first { IfErr result (IsFirst books.items draw.numbers shares.items) }
+    ensures claims { IfErr result (λ _. HaveAllClaims (length books.items) shares.items → ⊥) }
 {
     if shares.is_empty() {
         if let Err(fault) = close_unseen(books, closed) {
@@ -228,7 +233,8 @@ impl<'a> Service<'a> {
     /// Gathers shares: joins what their workers did, closes the shards' books, and gives these with
     /// the end of each upload and the totals of each share, in the order of the shares. All memory
     /// is taken first; then missing visits are told, of the first shard that misses some, and then
-    /// missing uploads. On a fault service and shares are dropped.
+    /// missing uploads. Shares that have all claims together miss nothing. On a fault service and
+    /// shares are dropped.
     pub fn gather(self, alloc: Global, shares: Vec<Share>) -> Result<Outcome, GatherFault>
         requires { All (IsShareOf self) shares.items }
         ensures headline { IfOk result (HasOutcome self.entry shares.items) }
@@ -236,6 +242,8 @@ impl<'a> Service<'a> {
         ensures fault { IfErr result (IsGatherFault (shards_of self.entry) shares.items) }
         ensures first { IfErr result
             (IsFirst self.entry.books (length self.entry.uploads) shares.items) }
+        ensures claims { HaveAllClaims (shards_of self.entry) shares.items
+            → IfErr result IsForMemory }
     {
         let mut closed = Vec::with_capacity(alloc, self.books.len())?;
         let ends = ends_of(alloc, self.uploads.len(), shares.as_slice())?;

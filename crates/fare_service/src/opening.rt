@@ -1,6 +1,6 @@
 //! Opening the shards' books, and splitting the passes to them.
 
-ghost use Rattle.std.specs.Prelude.{◌≡◌, ℕ, ◌<◌, ◌≤◌, IfOk, OnOk, length, map, [], slice_get, Some};
+ghost use Rattle.std.specs.Prelude.{◌≡◌, ℕ, ◌<◌, ◌≤◌, IfOk, IsOk, OnOk, length, map, [], slice_get, Some};
 ghost use Rattle.std.specs.Prelude.{vec_len, vec_capacity};
 ghost use Rattle.shared_books.specs.Passes.{new_pass};
 ghost use Rattle.fare_service.specs.inside.ServiceView.{AreOpened};
@@ -36,10 +36,10 @@ pub(crate) fn open_books(
 }
 
 impl<'a> Service<'a> {
-    ghost use Rattle.shared_books.specs.Passes.{fresh_pass};
+    ghost use Rattle.shared_books.specs.Passes.{fresh_pass, left_pass};
     ghost use Rattle.fare_service.specs.Shares.{books_of};
 
-    /// Splits a new pass from each of the old ones.
+    /// Splits a new pass from each of the old ones. No split is refused.
     pub(crate) fn split_passes(
         &self,
         old: &mut Vec<Pass>,
@@ -49,7 +49,8 @@ impl<'a> Service<'a> {
         requires empty { new.old.items ≡ [] }
         requires room { length self.now.books ≤ vec_capacity new.old }
         ensures new { OnOk result (new.new.items ≡ map fresh_pass old.old.items) }
-        ensures old { old.new.items ≡ old.old.items }
+        ensures old { OnOk result (old.new.items ≡ map left_pass old.old.items) }
+        ensures done { IsOk result }
     {
         for shard in 0..self.books.len() {
             let pass = self.books[shard].split(&mut old[shard])?;

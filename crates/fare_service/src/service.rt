@@ -49,14 +49,15 @@ impl<'a> Model for Service<'a> {
 }
 
 impl<'a> Service<'a> {
-    ghost use Rattle.std.specs.Prelude.{◌≡◌, ◌<◌, ◌≤◌, IfOk, IfErr, length, map};
+    ghost use Rattle.std.specs.Prelude.{◌≡◌, ◌<◌, ◌≤◌, IfOk, IfErr, MatchResult, length, map};
+    ghost use Rattle.fare_service.specs.Claims.{HasAllClaims, HasHalf, left_share};
     ghost use Rattle.fare_service.specs.ServiceView.{shards_of};
     ghost use Rattle.fare_service.specs.Faults.{IsOpenFault};
     ghost use Rattle.fare_service.specs.Shares.{IsFresh, IsShareOf};
 
     /// Opens a service of so many shards, 1 to 64, over at most 65,535 uploads, none of them drawn,
-    /// and gives its first share. Every shard's visits are numbered from 0. On a fault what was
-    /// handed in is dropped.
+    /// and gives its first share, which has all claims. Every shard's visits are numbered from 0.
+    /// On a fault what was handed in is dropped.
     pub fn open<R: RandomSource>(
         rt: &R,
         alloc: Global,
@@ -70,6 +71,7 @@ impl<'a> Service<'a> {
             (λ r. r.0.uploads ≡ map (λ upload. upload.items) uploads.now) }
         ensures share { IfOk result (λ r. IsShareOf r.0 r.1) }
         ensures fresh { IfOk result (λ r. IsFresh r.1) }
+        ensures claims { IfOk result (λ r. HasAllClaims shards r.1) }
         ensures fault { IfErr result (IsOpenFault shards (length uploads.now)) }
     {
         if shards == 0 || shards > MOST_SHARDS {
@@ -98,12 +100,16 @@ impl<'a> Service<'a> {
         Ok((service, share))
     }
 
-    /// A new share, with no uploads and no visits. The old one keeps all that it has.
+    /// A new share, with no uploads and no visits, and half of the claims. The old one keeps all
+    /// that it has but these.
     pub fn share(&self, alloc: Global, old: &mut Share) -> Result<Share, NoMemory>
         requires { IsShareOf self.now old.old }
         ensures new { IfOk result (λ new. IsShareOf self.now new) }
         ensures fresh { IfOk result (λ new. IsFresh new) }
-        ensures old { old.new ≡ old.old }
+        ensures half { IfOk result (λ new. HasHalf old.old new) }
+        ensures old { MatchResult result
+            (λ _. old.new ≡ left_share old.old) (λ _. old.new ≡ old.old) }
+        ensures kept { IsShareOf self.now old.new }
     {
         let mut passes = Vec::with_capacity(alloc, self.books.len())?;
         let drawer = self.draw.split(&mut old.drawer)?;

@@ -1,5 +1,5 @@
 -- Each step of drawing keeps its rule.
-use Rattle.std.proofs.Common.{◌≡◌, ℕ, ◌+◌, ◌<◌, ◌≤◌, ◌≢◌, zero, suc, eqb, true, List, [], ◌∷◌, ◌++◌, set, get_or, refl, sym, ap, ◌∙◌, subst, arith, ⊎_elim, max, length-set, get_or-set_same, lt_of_not-le, true≢false}
+use Rattle.std.proofs.Common.{◌≡◌, ℕ, ◌+◌, ◌<◌, ◌≤◌, ◌≢◌, zero, suc, eqb, true, false, length, List, [], ◌∷◌, ◌++◌, set, get_or, refl, sym, ap, ◌∙◌, subst, arith, inl, inr, ⊎_elim, max, length-set, get_or-set_same, lt_of_not-le, true≢false}
 use Rattle.std.proofs.lemmas.List.{set-get_or}
 use Rattle.std.proofs.lemmas.List.Sums.{sum_by-append}
 use mathlib.Core.Option.{some, none, some-ne-none, some-injective}
@@ -10,13 +10,18 @@ use lib.ListN.{get_elem?}
 use Rattle.atomic_table.specs.Table.{State, Me, step, keeps, Allows, Splits, Joins, opening, Seen, Final}
 use Rattle.atomic_table.proofs.Lists.{at_set, at_snoc, set_again, set_else, exchanged}
 use Rattle.shared_books.specs.declared.drawing.rule.Hand.{Hand}
-use Rattle.shared_books.specs.Drawing.{times, NoneTwice, AllBelow, times_drawn, IsDrawn}
-use Rattle.shared_books.specs.Hands.{hand, empty_hand, spent_hand, both_hands, HasTried, HasLooked}
-use Rattle.shared_books.proofs.Changed.{sum_set, sum_part}
-use Rattle.shared_books.proofs.Numbers.{times-append, times-same, times-other}
+use Rattle.shared_books.specs.Claims.{all_claims}
+use Rattle.shared_books.specs.Drawing.{times, NoneTwice, AllBelow, HasAll, IsSpent, times_drawn, IsDrawn}
+use Rattle.shared_books.specs.Hands.{hand, empty_hand, left_hand, new_hand, spent_hand, both_hands, HasTried, HasLooked}
+use Rattle.shared_books.proofs.Changed.{sum_set, sum_part, sum_only}
+use Rattle.shared_books.proofs.ClaimSteps.{claims_set, claims_split, claims_join, claims_most, others_spent}
+use Rattle.shared_books.proofs.Numbers.{times-append, times-same, times-other, as_many}
 
 abbrev S : Type 0
 S = State (Unit {0}) Hand
+
+acts : (h : Hand) → h.live ≡ true → IsSpent h → ⊥
+acts h live spent = true≢false (sym live ∙ spent.0)
 
 -- what a drawer drew is below the word, and nothing twice
 pub drawn_once : (n : ℕ) (s : S) (j : ℕ) (h : Hand) → IsDrawn n s → get_elem? s.views j ≡ some h → NoneTwice h.drawn × AllBelow (get_or s.words 0 0) h.drawn
@@ -27,22 +32,23 @@ drawn_once n s j h r at = (
 
 -- where one hand changes, and not its numbers
 same_drawn : (n : ℕ) (s : S) (j : ℕ) (h : Hand) (d : ℕ) → IsDrawn n s → get_elem? s.views j ≡ some h → h.live ≡ true → d ≤ get_or s.words 0 0
-    → IsDrawn n record { words = s.words; homes = s.homes; views = set s.views j (hand h.numbers d h.drawn) }
+    → IsDrawn n record { words = s.words; homes = s.homes; views = set s.views j (hand h.claims h.numbers d h.drawn) }
 same_drawn n s j h d r at live le =
-    let w = hand h.numbers d h.drawn in record {
+    let w = hand h.claims h.numbers d h.drawn in record {
       one_word = r.one_word;
       within = r.within;
       once = λ x lt. (let t = sum_set (λ v. times x v.drawn) s.views j h w at in let o = r.once x lt in omega arith);
       no_other = λ x ge. (let t = sum_set (λ v. times x v.drawn) s.views j h w at in let o = r.no_other x ge in omega arith);
       each = λ i v e l. ⊎_elim (λ t. subst (λ (u : Hand). (u.numbers ≡ n) × (u.seen ≤ get_or s.words 0 0)) t.1 ((r.each j h at live).0, le)) (λ t. r.each i v t.1 l) (at_set s.views j i w v e);
+      claims = claims_set (λ u. u.claims) IsSpent s.views j h w at refl (acts h live) r.claims;
     }
 
 -- the draw that was won
 drawn_next : (n : ℕ) (s : S) (j : ℕ) (h : Hand) → IsDrawn n s → get_elem? s.views j ≡ some h → h.live ≡ true → get_or s.words 0 0 < n
-    → IsDrawn n record { words = set s.words 0 (get_or s.words 0 0 + 1); homes = s.homes; views = set s.views j (hand h.numbers (get_or s.words 0 0 + 1) (h.drawn ++ get_or s.words 0 0 ∷ [])) }
+    → IsDrawn n record { words = set s.words 0 (get_or s.words 0 0 + 1); homes = s.homes; views = set s.views j (hand h.claims h.numbers (get_or s.words 0 0 + 1) (h.drawn ++ get_or s.words 0 0 ∷ [])) }
 drawn_next n s j h r at live lt =
     let d : ℕ = get_or s.words 0 0 in
-    let w = hand h.numbers (d + 1) (h.drawn ++ d ∷ []) in
+    let w = hand h.claims h.numbers (d + 1) (h.drawn ++ d ∷ []) in
     let word : get_or (set s.words 0 (d + 1)) 0 0 ≡ d + 1 = get_or-set_same s.words 0 (d + 1) 0 (let o = r.one_word in omega arith) in
     let count : (x : ℕ) → times_drawn x (set s.views j w) + times x h.drawn ≡ times_drawn x s.views + (times x h.drawn + times x (d ∷ [])) = λ x. sum_set (λ v. times x v.drawn) s.views j h w at ∙ ap (λ k. times_drawn x s.views + k) (times-append x h.drawn (d ∷ [])) in record {
       one_word = length-set s.words 0 (d + 1) ∙ r.one_word;
@@ -53,18 +59,24 @@ drawn_next n s j h r at live lt =
       no_other = λ x ge. (let c = count x in let above : d + 1 ≤ x = subst (λ (k : ℕ). k ≤ x) word ge in let z = r.no_other x (omega arith) in let o = times-other x d (λ e. omega arith) in omega arith);
       each = λ i v e l. ⊎_elim (λ t. subst (λ (u : Hand). (u.numbers ≡ n) × (u.seen ≤ get_or (set s.words 0 (d + 1)) 0 0)) t.1 ((r.each j h at live).0, rw word (omega arith)))
           (λ (t : (i ≢ j) × (get_elem? s.views i ≡ some v)). let p = r.each i v t.1 l in (p.0, rw word (omega (arith, p.1)))) (at_set s.views j i w v e);
+      claims = claims_set (λ u. u.claims) IsSpent s.views j h w at refl (acts h live) r.claims;
     }
 
-pub opens : (n : ℕ) → IsDrawn n (opening (0 ∷ []) [] (empty_hand n 0))
+pub opens : (n : ℕ) → IsDrawn n (opening (0 ∷ []) [] (empty_hand all_claims n 0))
 opens n = record {
   one_word = refl;
   within = omega arith;
   once = λ x lt. absurd (omega arith);
   no_other = λ x ge. refl;
   each = λ j h e l. go j h e;
+  claims = inr (refl, λ j h e gone. absurd (some_claim j h e gone));
 }
   where
-    go : (j : ℕ) (h : Hand) → get_elem? (empty_hand n 0 ∷ []) j ≡ some h → (h.numbers ≡ n) × (h.seen ≤ 0)
+    some_claim : (j : ℕ) (h : Hand) → get_elem? (empty_hand all_claims n 0 ∷ []) j ≡ some h → h.claims ≡ 0 → ⊥
+    some_claim zero h e gone = let same = ap (λ (u : Hand). u.claims) (some-injective _ h e) in omega arith
+    some_claim (suc j) h e gone = some-ne-none h (sym e)
+
+    go : (j : ℕ) (h : Hand) → get_elem? (empty_hand all_claims n 0 ∷ []) j ≡ some h → (h.numbers ≡ n) × (h.seen ≤ 0)
     go zero h e = subst (λ (u : Hand). (u.numbers ≡ n) × (u.seen ≤ 0)) (some-injective _ h e) (refl, omega arith)
     go (suc j) h e = absurd (some-ne-none h (sym e))
 
@@ -75,14 +87,14 @@ draws n slots id me old live seen more s r count at fits =
     let d : ℕ = get_or s.words 0 0 in
     let part = r.each id me.0 at live in
     dite (ℕ_discrete d old)
-    (λ e. let w = hand me.0.numbers (d + 1) (me.0.drawn ++ d ∷ []) in (
+    (λ e. let w = hand me.0.claims me.0.numbers (d + 1) (me.0.drawn ++ d ∷ []) in (
       w,
       keeps,
       tt,
       subst (λ k. IsDrawn n record { words = set s.words 0 k; homes = s.homes; views = set s.views id w }) (exchange_won d old e) (drawn_next n s id me.0 r at live (omega arith)),
       record { won = λ _. refl; lost = λ ne. absurd (ne e); later = omega arith; within = omega arith; carries = refl },
     ))
-    (λ ne. let w = hand me.0.numbers d me.0.drawn in (
+    (λ ne. let w = hand me.0.claims me.0.numbers d me.0.drawn in (
       w,
       keeps,
       tt,
@@ -103,7 +115,7 @@ looks n slots id me live s r count at fits =
     let d : ℕ = get_or s.words 0 0 in
     let part = r.each id me.0 at live in
     let once = drawn_once n s id me.0 r at in
-    let w = hand me.0.numbers d me.0.drawn in (
+    let w = hand me.0.claims me.0.numbers d me.0.drawn in (
       w,
       keeps,
       tt,
@@ -112,16 +124,26 @@ looks n slots id me live s r count at fits =
     )
 
 -- a new drawer, which drew nothing
-pub parts : (n id : ℕ) (h : Hand) → h.live ≡ true → Splits (IsDrawn n) id h h (empty_hand h.numbers h.seen)
+pub parts : (n id : ℕ) (h : Hand) → h.live ≡ true → Splits (IsDrawn n) id h (left_hand h) (new_hand h)
 parts n id h live s r at =
-    let w = empty_hand h.numbers h.seen in
-    let same : set s.views id h ≡ s.views = set_again s.views id h at in
-    let sum : (x : ℕ) → times_drawn x (set s.views id h ++ w ∷ []) ≡ times_drawn x s.views = λ x. ap (λ vs. times_drawn x (vs ++ w ∷ [])) same ∙ (let e = sum_by-append (λ v. times x v.drawn) s.views (w ∷ []) in omega arith) in record {
+    let l = left_hand h in
+    let w = new_hand h in
+    let sum : (x : ℕ) → times_drawn x (set s.views id l ++ w ∷ []) ≡ times_drawn x s.views = λ x. (
+    let t = sum_set (λ v. times x v.drawn) s.views id h l at in
+    let e = sum_by-append (λ v. times x v.drawn) (set s.views id l) (w ∷ []) in
+    omega arith) in record {
       one_word = r.one_word;
       within = r.within;
       once = λ x lt. sum x ∙ r.once x lt;
       no_other = λ x ge. sum x ∙ r.no_other x ge;
-      each = λ j v e l. ⊎_elim (λ t. r.each j v (subst (λ vs. get_elem? vs j ≡ some v) same t) l) (λ t. subst (λ (u : Hand). (u.numbers ≡ n) × (u.seen ≤ get_or s.words 0 0)) t (r.each id h at live)) (at_snoc (set s.views id h) w v j e);
+      each = λ j v e live_too. ⊎_elim
+          (λ t. ⊎_elim
+          (λ u. subst (λ (z : Hand). (z.numbers ≡ n) × (z.seen ≤ get_or s.words 0 0)) u.1 (r.each id h at live))
+          (λ u. r.each j v u.1 live_too)
+          (at_set s.views id j l v t))
+          (λ t. subst (λ (u : Hand). (u.numbers ≡ n) × (u.seen ≤ get_or s.words 0 0)) t (r.each id h at live))
+          (at_snoc (set s.views id l) w v j e);
+      claims = claims_split (λ u. u.claims) IsSpent s.views id h l w at refl refl (acts h live) r.claims;
     }
 
 -- one drawer takes over what another holds
@@ -147,14 +169,22 @@ meets n id h other k live lives s r at apart there =
           (λ u. r.each j v u.1 l)
           (at_set s.views id j b v t.1))
           (at_set (set s.views id b) other j spent_hand v e);
+      claims = claims_join (λ u. u.claims) IsSpent s.views id h other k b spent_hand at there refl refl (refl, refl) (acts h live) r.claims;
     }
   where
     least : {a b c : ℕ} → a ≤ c → b ≤ c → max a b ≤ c
     least p q = omega arith
 
+-- who has all claims drew all that was drawn
+drew_all : (n : ℕ) (s : S) (j : ℕ) (h : Hand) → IsDrawn n s → get_elem? s.views j ≡ some h → all_claims ≤ h.claims → HasAll (get_or s.words 0 0) h.drawn
+drew_all n s j h r at whole x lt =
+    let nothing : (i : ℕ) (k : Hand) → i ≢ j → get_elem? s.views i ≡ some k → times x k.drawn ≡ 0 =
+    λ i k ne there. ap (λ xs. times x xs) (others_spent (λ u. u.claims) IsSpent s.views j h at whole r.claims i k ne there).1 in
+    sym (sum_only (λ v. times x v.drawn) s.views j h at nothing) ∙ r.once x lt
+
 -- what the closing shows of a drawer
 pub ends : (n id : ℕ) (h : Hand) (ws : List ℕ) (xs : List (Unit {0})) (count : ℕ) → Final (Seen (IsDrawn n) id h) ws xs → get_elem? ws 0 ≡ some count → h.live ≡ true
-    → (h.seen ≤ count) × (count ≤ n) × (h.numbers ≡ n) × AllBelow count h.drawn × NoneTwice h.drawn
+    → (h.seen ≤ count) × (count ≤ n) × (h.numbers ≡ n) × AllBelow count h.drawn × NoneTwice h.drawn × (h.claims ≤ all_claims) × (all_claims ≤ h.claims → count ≤ length h.drawn)
 ends n id h ws xs count f at live =
     let s = f.0 in
     let r = f.1.0 in
@@ -162,7 +192,15 @@ ends n id h ws xs count f at live =
     let here : get_or s.words 0 0 ≡ count = ap (λ us. get_or us 0 0) words ∙ first ws count at in
     let each = r.each id h f.1.1 live in
     let once = drawn_once n s id h r f.1.1 in
-    (subst (λ k. h.seen ≤ k) here each.1, subst (λ k. k ≤ n) here r.within, each.0, subst (λ k. AllBelow k h.drawn) here once.1, once.0)
+    let below : AllBelow count h.drawn = subst (λ k. AllBelow k h.drawn) here once.1 in (
+      subst (λ k. h.seen ≤ k) here each.1,
+      subst (λ k. k ≤ n) here r.within,
+      each.0,
+      below,
+      once.0,
+      claims_most (λ u. u.claims) IsSpent s.views id h f.1.1 r.claims,
+      λ whole. as_many count h.drawn below (subst (λ k. HasAll k h.drawn) here (drew_all n s id h r f.1.1 whole)),
+    )
   where
     first : (us : List ℕ) (k : ℕ) → get_elem? us 0 ≡ some k → get_or us 0 0 ≡ k
     first [] k e = absurd (some-ne-none k (sym e))

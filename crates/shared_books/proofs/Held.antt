@@ -5,7 +5,7 @@ use native.Mathlib.Decide.{ℕ_discrete}
 use Rattle.atomic_table.specs.Table.{Me, Step}
 use Rattle.shared_books.specs.declared.drawing.rule.Hand.{Hand}
 use Rattle.shared_books.specs.Drawing.{NoneTwice, AllBelow}
-use Rattle.shared_books.specs.Hands.{hand, both_hands, HasLooked}
+use Rattle.shared_books.specs.Hands.{hand, left_hand, both_hands, HasLooked}
 use Rattle.shared_books.specs.inside.Hands.{IsHeld}
 use Rattle.shared_books.proofs.Numbers.{times-append, times-same, times-other, few}
 
@@ -17,7 +17,7 @@ pub held_few : (held seen : ℕ) (me : Seat) → IsHeld held seen me → (held �
 held_few held seen me h = let e = few me.0.seen me.0.drawn h.below h.none_twice in (omega (arith, h.held_is, h.seen_is), omega (arith, h.seen_is, h.within), h.small)
 
 -- a number more, which is above all that it had
-pub held_won : (held seen : ℕ) (me after : Seat) → IsHeld held seen me → seen < me.0.numbers → after ≡ (hand me.0.numbers (seen + 1) (me.0.drawn ++ seen ∷ []), me.1) → IsHeld (held + 1) (seen + 1) after
+pub held_won : (held seen : ℕ) (me after : Seat) → IsHeld held seen me → seen < me.0.numbers → after ≡ (hand me.0.claims me.0.numbers (seen + 1) (me.0.drawn ++ seen ∷ []), me.1) → IsHeld (held + 1) (seen + 1) after
 held_won held seen me after h more e = subst (λ (m : Seat). IsHeld (held + 1) (seen + 1) m) (sym e) record {
   live = refl;
   carries = h.carries;
@@ -32,7 +32,7 @@ held_won held seen me after h more e = subst (λ (m : Seat). IsHeld (held + 1) (
 }
 
 -- nothing more, and more was seen drawn
-pub held_lost : (held seen found : ℕ) (me after : Seat) → IsHeld held seen me → seen ≤ found → found ≤ me.0.numbers → after ≡ (hand me.0.numbers found me.0.drawn, me.1) → IsHeld held found after
+pub held_lost : (held seen found : ℕ) (me after : Seat) → IsHeld held seen me → seen ≤ found → found ≤ me.0.numbers → after ≡ (hand me.0.claims me.0.numbers found me.0.drawn, me.1) → IsHeld held found after
 held_lost held seen found me after h later within e = subst (λ (m : Seat). IsHeld held found m) (sym e) record {
   live = refl;
   carries = h.carries;
@@ -48,9 +48,7 @@ held_lost held seen found me after h later within e = subst (λ (m : Seat). IsHe
 pub held_met : (held more seen other found : ℕ) (me them met after : Seat) (st : Step (Unit {0})) → IsHeld held seen me → IsHeld more other them → met ≡ (both_hands me.0 them.0, me.1) → HasLooked st met found after
     → IsHeld (held + more) found after
 held_met held more seen other found me them met after st h k e looked =
-    let numbers : met.0.numbers ≡ me.0.numbers = ap (λ m. m.0.numbers) e in
-    let drawn : met.0.drawn ≡ me.0.drawn ++ them.0.drawn = ap (λ m. m.0.drawn) e in
-    let is : after.0 ≡ hand me.0.numbers found (me.0.drawn ++ them.0.drawn) = looked.seen ∙ (ap (λ n. hand n found met.0.drawn) numbers ∙ ap (λ xs. hand me.0.numbers found xs) drawn) in
+    let is : after.0 ≡ hand (me.0.claims + them.0.claims) me.0.numbers found (me.0.drawn ++ them.0.drawn) = looked.seen ∙ ap (λ m. hand m.0.claims m.0.numbers found m.0.drawn) e in
     record {
       live = ap (λ v. v.live) is;
       carries = looked.carries ∙ (ap (λ m. m.1) e ∙ h.carries);
@@ -58,6 +56,19 @@ held_met held more seen other found me them met after st h k e looked =
       held_is = (let l : length after.0.drawn ≡ length (me.0.drawn ++ them.0.drawn) = ap (λ v. length v.drawn) is in let a = length-append me.0.drawn them.0.drawn in omega (arith, h.held_is, k.held_is));
       none_twice = subst (λ xs. NoneTwice xs) (ap (λ v. v.drawn) (sym looked.seen)) looked.none_twice;
       below = let P : Hand → Type 0 = λ v. AllBelow v.seen v.drawn in subst P (sym looked.seen) looked.below;
-      within = (let w = looked.within in let s = ap (λ (v : Hand). v.seen) is in let n = ap (λ (v : Hand). v.numbers) is in omega arith);
+      within = (let m = ap (λ m. m.0.numbers) e in let w = looked.within in let s = ap (λ (v : Hand). v.seen) is in let n = ap (λ (v : Hand). v.numbers) is in omega arith);
       small = (let n = ap (λ (v : Hand). v.numbers) is in omega (arith, h.small));
     }
+
+-- what it keeps after a split
+pub held_left : (held seen : ℕ) (me after : Seat) → IsHeld held seen me → after ≡ (left_hand me.0, me.1) → IsHeld held seen after
+held_left held seen me after h e = subst (λ (m : Seat). IsHeld held seen m) (sym e) record {
+  live = refl;
+  carries = h.carries;
+  seen_is = h.seen_is;
+  held_is = h.held_is;
+  none_twice = h.none_twice;
+  below = h.below;
+  within = h.within;
+  small = h.small;
+}

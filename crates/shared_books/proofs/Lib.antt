@@ -1,4 +1,5 @@
 pub mod Changed
+pub mod ClaimSteps
 pub mod Numbers
 pub mod DrawSteps
 pub mod Held

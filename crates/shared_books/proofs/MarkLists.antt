@@ -1,5 +1,5 @@
 -- Marks: the visits that they show, and those of them that are own.
-use Rattle.std.proofs.Common.{◌≡◌, ℕ, ◌+◌, ◌≤◌, ◌≢◌, ◌⊎◌, zero, suc, Bool, true, false, cond, ◌||◌, List, [], ◌∷◌, ◌++◌, length, drop, get_or, refl, sym, ap, ◌∙◌, arith, inl, inr, ⊎_elim, append_assoc, append-nil, length-append}
+use Rattle.std.proofs.Common.{◌≡◌, ℕ, ◌+◌, ◌<◌, ◌≤◌, ◌≢◌, ◌⊎◌, zero, suc, Bool, true, false, cond, ◌||◌, List, [], ◌∷◌, ◌++◌, length, drop, get_or, refl, sym, ap, ◌∙◌, arith, inl, inr, ⊎_elim, append_assoc, append-nil, length-append}
 use Rattle.std.proofs.lemmas.List.{length-map}
 use Rattle.shard_book.specs.declared.entry.Entry.{Entry}
 use Rattle.shared_books.specs.declared.turns.rule.Mark.{Mark}
@@ -96,6 +96,17 @@ few_step false x made k le = omega arith
 pub made_few : (n : ℕ) (ms : List Mark) → length (made_from n ms) ≤ length ms
 made_few n [] = omega arith
 made_few n (m ∷ ms) = few_step m.mine (n, m.visit) (made_from (n + 1) ms) (length ms) (made_few (n + 1) ms)
+
+many_step : (b : Bool) (x : ℕ × List Entry) (made : List (ℕ × List Entry)) (k : ℕ) → 1 ≤ cond b 1 0 → k ≤ length made → suc k ≤ length (cond b (x ∷ made) made)
+many_step true x made k own le = omega arith
+many_step false x made k own le = absurd (omega arith)
+
+-- where the first k marks are own
+pub made_many : (n : ℕ) (ms : List Mark) (k : ℕ) → ((i : ℕ) → i < k → made_at i ms ≡ 1) → k ≤ length (made_from n ms)
+made_many n ms zero own = omega arith
+made_many n [] (suc k) own = let one = own 0 (omega arith) in absurd (omega arith)
+made_many n (m ∷ ms) (suc k) own =
+    many_step m.mine (n, m.visit) (made_from (n + 1) ms) k (let o = own 0 (omega arith) in omega arith) (made_many (n + 1) ms k (λ i lt. own (suc i) (omega arith)))
 
 all_step : (b : Bool) (x : ℕ × List Entry) (made all : List (ℕ × List Entry)) (k : ℕ) → length made ≤ k → suc k ≤ length (cond b (x ∷ made) made) → (k ≤ length made → made ≡ all) → cond b (x ∷ made) made ≡ x ∷ all
 all_step true x made all k few most e = let same = e (omega arith) in λ i. x ∷ same i

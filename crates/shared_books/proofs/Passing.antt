@@ -1,5 +1,5 @@
 -- What the calls of a shared book make of a pass.
-use Rattle.std.proofs.Common.{◌≡◌, ℕ, ◌+◌, ◌-◌, ◌*◌, ◌/◌, ◌%◌, ◌^◌, ◌≤◌, ◌⊎◌, true, false, List, [], ◌∷◌, ◌++◌, length, refl, sym, ap, ◌∙◌, subst, arith, ⊎_elim, Option, Some, unwrap_or, append_assoc, append-nil, length-append}
+use Rattle.std.proofs.Common.{◌≡◌, ℕ, ◌+◌, ◌-◌, ◌*◌, ◌/◌, ◌%◌, ◌^◌, ◌<◌, ◌≤◌, ◌⊎◌, true, false, List, [], ◌∷◌, ◌++◌, length, refl, sym, ap, ◌∙◌, subst, arith, ⊎_elim, Option, Some, unwrap_or, append_assoc, append-nil, length-append, lt_of_not-le}
 use Rattle.atomic_table.specs.Seated.{TableId}
 use Rattle.shard_book.specs.declared.entry.Entry.{Entry}
 use Rattle.shard_book.specs.Book.{Book, with_entries}
@@ -7,18 +7,19 @@ use Rattle.shard_book.specs.History.{IsLegal}
 use Rattle.shared_books.specs.declared.turns.rule.Opening.{Opening}
 use Rattle.shared_books.specs.declared.turns.rule.Mark.{Mark}
 use Rattle.shared_books.specs.declared.turns.rule.View.{View}
+use Rattle.shared_books.specs.Claims.{all_claims}
 use Rattle.shared_books.specs.Marks.{mark, others, visits_of, joined, made_from, numbered, merged, Apart}
 use Rattle.shared_books.specs.Passes.{PassView, seen_by, book_of, IsLater, Visits, IsFull, IsJoined, HasMadeAll}
 use Rattle.shared_books.specs.inside.Passes.{opened_of}
 use Rattle.shared_books.specs.Turns.{Boxed, book_after}
-use Rattle.shared_books.specs.Views.{Seat, view, fresh, both_views, HasSeen, HasSettled}
+use Rattle.shared_books.specs.Views.{Seat, view, fresh, left_view, both_views, HasSeen, HasSettled}
 use Rattle.shared_books.specs.inside.Views.{IsFree, GoesOn, HasBookOut, FindsFull, BringsVisit, IsPass}
 use Rattle.shared_books.proofs.MarkLists.{visits-caught, visits-append, visits-others, length-visits, others-append, joined-snoc, made-others, made-caught, made-snoc, made_few, made_all, length-made-merged}
 use Rattle.shared_books.proofs.TurnSteps.{Closes}
 
 -- a pass, as contracts see it
 abbrev pub knows : TableId → Seat → PassView
-knows home me = record { book = opened_of home me.0.opened; marks = me.0.marks }
+knows home me = record { book = opened_of home me.0.opened; claims = me.0.claims; marks = me.0.marks }
 
 -- going on
 pub goes_nowhere : (me : Seat) → IsFree me → GoesOn me me
@@ -26,7 +27,7 @@ goes_nowhere me f =
     let same : me.0.marks ≡ me.0.marks ++ [] = sym (append-nil me.0.marks) in
     record {
       between = [];
-      view_is = λ k. record { live = f.live k; opened = me.0.opened; turn = me.0.turn; marks = same k; met = me.0.met };
+      view_is = λ k. record { live = f.live k; opened = me.0.opened; claims = me.0.claims; turn = me.0.turn; marks = same k; met = me.0.met };
       carries = refl;
     }
 
@@ -36,7 +37,7 @@ goes_on a b c g h =
     ap (λ v. v.marks ++ others h.between) g.view_is ∙ (append_assoc a.0.marks (others g.between) (others h.between) ∙ ap (λ ms. a.0.marks ++ ms) (sym (others-append g.between h.between))) in
     record {
       between = g.between ++ h.between;
-      view_is = h.view_is ∙ (ap (λ ms. view b.0.opened b.0.turn ms b.0.met) marks ∙ ap (λ v. view v.opened v.turn (a.0.marks ++ others (g.between ++ h.between)) v.met) g.view_is);
+      view_is = h.view_is ∙ (ap (λ ms. view b.0.opened b.0.claims b.0.turn ms b.0.met) marks ∙ ap (λ v. view v.opened v.claims v.turn (a.0.marks ++ others (g.between ++ h.between)) v.met) g.view_is);
       carries = h.carries ∙ g.carries;
     }
 
@@ -58,7 +59,7 @@ out_later a b c number book g h =
     let opened : b.0.opened ≡ a.0.opened = ap (λ v. v.opened) g.view_is in
     record {
       between = g.between ++ h.between;
-      view_is = h.view_is ∙ (ap (λ ms. view b.0.opened true ms []) marks ∙ ap (λ o. view o true (a.0.marks ++ others (g.between ++ h.between)) []) opened);
+      view_is = h.view_is ∙ (ap (λ ms. view b.0.opened b.0.claims true ms []) marks ∙ ap (λ v. view v.opened v.claims true (a.0.marks ++ others (g.between ++ h.between)) []) g.view_is);
       number_is = h.number_is ∙ (ap (λ (ms : List Mark). b.0.opened.first + length ms) marks ∙ ap (λ (o : Opening). o.first + length (a.0.marks ++ others (g.between ++ h.between))) opened);
       few = h.few;
       legal = subst (λ (o : Opening). IsLegal o.book.value.table (joined (visits_of (a.0.marks ++ others (g.between ++ h.between))))) opened (subst (λ ms. IsLegal b.0.opened.book.value.table (joined (visits_of ms))) marks h.legal);
@@ -120,6 +121,7 @@ pub later_of : (home : TableId) (a b : Seat) → GoesOn a b → IsLegal b.0.open
 later_of home a b g legal = record {
   between = g.between;
   book = ap (λ v. opened_of home v.opened) g.view_is;
+  claims = ap (λ v. v.claims) g.view_is;
   marks = ap (λ v. v.marks) g.view_is;
   made = ap (λ v. made_from v.opened.first v.marks) g.view_is ∙ made-caught a.0.opened.first a.0.marks g.between;
   legal = legal;
@@ -140,6 +142,14 @@ new_pass_is held a b p e = subst (λ (me : Seat). IsPass 0 me) (sym e) record {
   free = record { live = refl; turn = refl; met = refl; carries = refl };
   held_is = sym (ap (λ (made : List (ℕ × List Entry)). length made) (made-others a.0.opened.first (visits_of a.0.marks)));
   small = (let l = sym (length-visits (others (visits_of a.0.marks))) ∙ (ap (λ (vs : List (List Entry)). length vs) (visits-others (visits_of a.0.marks)) ∙ length-visits a.0.marks) in let s = p.small in omega arith);
+}
+
+-- and the old one after it was split off
+pub left_pass_is : (held : ℕ) (a : Seat) (b : Seat) → IsPass held a → b ≡ (left_view a.0, a.1) → IsPass held b
+left_pass_is held a b p e = subst (λ (me : Seat). IsPass held me) (sym e) record {
+  free = record { live = refl; turn = p.free.turn; met = p.free.met; carries = p.free.carries };
+  held_is = p.held_is;
+  small = p.small;
 }
 
 -- the book has gained a visit
@@ -178,7 +188,7 @@ nothing_more book = λ i. record { table = book.table; shard = book.shard; shard
 
 -- the seat after the turn was given back
 abbrev pub gave_back : Seat → List Entry → Seat
-gave_back b visit = (view b.0.opened false (b.0.marks ++ mark true visit ∷ []) b.0.met, [])
+gave_back b visit = (view b.0.opened b.0.claims false (b.0.marks ++ mark true visit ∷ []) b.0.met, [])
 
 pub pass_visits : (held : ℕ) (a b c : Seat) (number : ℕ) (book : Book) (visit : List Entry) → IsPass held a → HasBookOut a b number book → c ≡ gave_back b visit → IsPass (held + 1) c
 pass_visits held a b c number book visit p h e =
@@ -204,6 +214,7 @@ visits_made home a b c number book visit h e legal =
     record {
       between = h.between;
       book = ap (λ me. opened_of home me.0.opened) e ∙ ap (λ o. opened_of home o) opened;
+      claims = ap (λ me. me.0.claims) e ∙ ap (λ v. v.claims) h.view_is;
       marks = ap (λ me. me.0.marks) e ∙ ap (λ ms. ms ++ mark true visit ∷ []) marks;
       number_is = h.number_is ∙ ap (λ n. a.0.opened.first + n) size;
       few = h.few;
@@ -214,7 +225,7 @@ visits_made home a b c number book visit h e legal =
 -- two passes meet
 pub pass_joins : (held more : ℕ) (a b met c : Seat) → IsPass held a → IsPass more b → met ≡ (both_views a.0 b.0, a.1) → HasSettled met c → a.0.opened.first ≡ b.0.opened.first → IsPass (held + more) c
 pass_joins held more a b met c p q e h first =
-    let now : c.0 ≡ view a.0.opened a.0.turn (merged a.0.marks b.0.marks) [] = h.view_is ∙ ap (λ (me : Seat). view me.0.opened me.0.turn (merged me.0.marks me.0.met) []) e in
+    let now : c.0 ≡ view a.0.opened (a.0.claims + b.0.claims) a.0.turn (merged a.0.marks b.0.marks) [] = h.view_is ∙ ap (λ (me : Seat). view me.0.opened me.0.claims me.0.turn (merged me.0.marks me.0.met) []) e in
     let apart : Apart a.0.marks b.0.marks = subst (λ (me : Seat). Apart me.0.marks me.0.met) e h.apart in
     record {
       free = record { live = ap (λ v. v.live) now; turn = ap (λ v. v.turn) now ∙ p.free.turn; met = ap (λ v. v.met) now; carries = h.carries ∙ (ap (λ me. me.1) e ∙ p.free.carries) };
@@ -231,10 +242,11 @@ pass_joins held more a b met c p q e h first =
 
 pub joined_of : (home : TableId) (a b met c : Seat) → met ≡ (both_views a.0 b.0, a.1) → HasSettled met c → a.0.opened.first ≡ b.0.opened.first → IsJoined (knows home a) (knows home b) (knows home c)
 joined_of home a b met c e h first =
-    let now : c.0 ≡ view a.0.opened a.0.turn (merged a.0.marks b.0.marks) [] = h.view_is ∙ ap (λ (me : Seat). view me.0.opened me.0.turn (merged me.0.marks me.0.met) []) e in
+    let now : c.0 ≡ view a.0.opened (a.0.claims + b.0.claims) a.0.turn (merged a.0.marks b.0.marks) [] = h.view_is ∙ ap (λ (me : Seat). view me.0.opened me.0.claims me.0.turn (merged me.0.marks me.0.met) []) e in
     let apart : Apart a.0.marks b.0.marks = subst (λ (me : Seat). Apart me.0.marks me.0.met) e h.apart in
     record {
       book = ap (λ v. opened_of home v.opened) now;
+      claims = ap (λ v. v.claims) now;
       marks = ap (λ v. v.marks) now;
       held = (
           let l = ap (λ (v : View). length (made_from v.opened.first v.marks)) now in
@@ -256,6 +268,14 @@ made_whole home k held me word slot book closed p c le is out =
       made = made_all me.0.opened.first me.0.marks (let h = p.held_is in let s = c.seen in omega arith);
       book = out ∙ (ap (λ b. b.value) same ∙ (whole.2 ∙ ap (λ o. book_of (opened_of home o) (visits_of me.0.marks)) (sym c.opened)));
     }
+
+-- where the pass holds fewer visits than are kept, some claim is not its own
+pub lacks_claims : (home : TableId) (k : Opening) (held : ℕ) (me : Seat) (word : ℕ) (slot : Option Boxed) → IsPass held me → Closes k me.0 word slot → held < word / 2 + word % 2 - k.first → (knows home me).claims < all_claims
+lacks_claims home k held me word slot p c less = lt_of_not-le (λ whole. absurd (
+    let many = c.all whole in
+    let own : length (made_from me.0.opened.first me.0.marks) ≡ length (made_from k.first me.0.marks) = ap (λ (o : Opening). length (made_from o.first me.0.marks)) c.opened in
+    let h = p.held_is in
+    omega arith))
 
 -- the same, of a pass as contracts saw it before
 pub full_told : (home there : TableId) (old : PassView) (a b : Seat) → knows home a ≡ old → there ≡ home → FindsFull a b → IsLater old (knows there b) × IsFull (knows there b)

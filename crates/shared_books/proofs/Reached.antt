@@ -77,8 +77,8 @@ gives_are k s seat v t at live on visit book is legal =
       record {
         events = t.events ++ given seat visit ∷ [];
         schedule = schedule_snoc (start k.first) t.events (given seat visit) t.schedule holds;
-        shows = subst (λ w. Shows k (after (start k.first) (t.events ++ given seat visit ∷ [])) record { words = set s.words 0 w; homes = set s.homes 0 (some (Some book)); views = set s.views seat (view v.opened false (v.marks ++ mark true visit ∷ []) v.met) }) more
-            (subst (λ (x : Machine). Shows k x record { words = set s.words 0 (2 * m.count + 2); homes = set s.homes 0 (some (Some book)); views = set s.views seat (view v.opened false (v.marks ++ mark true visit ∷ []) v.met) }) (sym (after-snoc (start k.first) t.events (given seat visit)))
+        shows = subst (λ w. Shows k (after (start k.first) (t.events ++ given seat visit ∷ [])) record { words = set s.words 0 w; homes = set s.homes 0 (some (Some book)); views = set s.views seat (view v.opened v.claims false (v.marks ++ mark true visit ∷ []) v.met) }) more
+            (subst (λ (x : Machine). Shows k x record { words = set s.words 0 (2 * m.count + 2); homes = set s.homes 0 (some (Some book)); views = set s.views seat (view v.opened v.claims false (v.marks ++ mark true visit ∷ []) v.met) }) (sym (after-snoc (start k.first) t.events (given seat visit)))
             (gave k m s seat v visit book sh at live holds all (omega arith) (is ∙ ap (λ vs. book_after k (vs ++ visit ∷ [])) all) (subst (λ vs. IsLegal k.book.value.table (joined (vs ++ visit ∷ []))) all legal)));
       },
       refl,

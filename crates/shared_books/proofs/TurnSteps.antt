@@ -15,15 +15,20 @@ use Rattle.shard_book.specs.History.{IsLegal}
 use Rattle.shared_books.specs.declared.turns.rule.Opening.{Opening}
 use Rattle.shared_books.specs.declared.turns.rule.Mark.{Mark}
 use Rattle.shared_books.specs.declared.turns.rule.View.{View}
+use Rattle.shared_books.specs.Claims.{all_claims}
 use Rattle.shared_books.specs.Machine.{Machine, Event, taken, given, start, May, next, after, IsSchedule}
-use Rattle.shared_books.specs.Marks.{mark, others, visits_of, joined, made_at, Apart, Begins, merged}
-use Rattle.shared_books.specs.Turns.{Boxed, book_after, makers, Fits, Shows, IsTurn}
-use Rattle.shared_books.specs.Views.{Seat, view, nobody, fresh, both_views, HasSeen, HasTriedTurn, given_back, HasSettled}
-use Rattle.shared_books.proofs.Changed.{sum_set, sum_part, at_less}
-use Rattle.shared_books.proofs.MarkLists.{visits-caught, visits-append, visits-others, length-visits, joined-snoc, drop_all, made_at-others, made_at-caught, made_at-here, made_at-else, made_at-beyond, made_at-merged, begins_merged, begins_either, begins_whole, begins_shorter}
+use Rattle.shared_books.specs.Marks.{mark, others, visits_of, joined, made_at, made_from, Apart, Begins, merged}
+use Rattle.shared_books.specs.Turns.{Boxed, book_after, makers, Fits, IsNobody, Shows, IsTurn}
+use Rattle.shared_books.specs.Views.{Seat, view, nobody, fresh, left_view, both_views, HasSeen, HasTriedTurn, given_back, HasSettled}
+use Rattle.shared_books.proofs.Changed.{sum_set, sum_part, sum_only, at_less}
+use Rattle.shared_books.proofs.ClaimSteps.{claims_set, claims_split, claims_join, claims_most, others_spent}
+use Rattle.shared_books.proofs.MarkLists.{visits-caught, visits-append, visits-others, length-visits, joined-snoc, drop_all, made_at-others, made_at-caught, made_at-here, made_at-else, made_at-beyond, made_at-merged, made_many, begins_merged, begins_either, begins_whole, begins_shorter}
 
 abbrev S : Type 0
 S = State (Option Boxed) View
+
+acts : (v : View) → v.live ≡ true → IsNobody v → ⊥
+acts v live gone = true≢false (sym live ∙ gone.0)
 
 -- the schedule and the machine, one event longer
 pub schedule_snoc : (m : Machine) (es : List Event) (e : Event) → IsSchedule m es → May (after m es) e → IsSchedule m (es ++ e ∷ [])
@@ -56,9 +61,9 @@ turn_set views id v w seat at live same t = dite (ℕ_discrete seat id)
 seen_set : (k : Opening) (m : Machine) (s : S) (id : ℕ) (v : View) (marks met : List Mark) → Shows k m s → get_elem? s.views id ≡ some v → v.live ≡ true
     → Begins (visits_of marks) m.visits → Begins (visits_of met) m.visits → (v.turn ≡ true → visits_of marks ≡ m.visits)
     → ((i : ℕ) → made_at i marks + made_at i met ≡ made_at i v.marks + made_at i v.met)
-    → Shows k m record { words = s.words; homes = s.homes; views = set s.views id (view v.opened v.turn marks met) }
+    → Shows k m record { words = s.words; homes = s.homes; views = set s.views id (view v.opened v.claims v.turn marks met) }
 seen_set k m s id v marks met r at live seen other turn counts =
-    let w = view v.opened v.turn marks met in
+    let w = view v.opened v.claims v.turn marks met in
     let f = r.each id v at live in
     let same : (i : ℕ) → makers i (set s.views id w) ≡ makers i s.views = λ i. (let t = sum_set (λ u. made_at i u.marks + made_at i u.met) s.views id v w at in let c = counts i in omega arith) in
     let fits : Fits k m id w = record { opened = f.opened; seen = seen; met = other; turn = λ on. ((f.turn on).0, turn on) } in record {
@@ -75,6 +80,7 @@ seen_set k m s id v marks met r at live seen other turn counts =
           (at_set s.views id j w u e);
       once = λ i lt. same i ∙ r.once i lt;
       no_other = λ i ge. same i ∙ r.no_other i ge;
+      claims = claims_set (λ u. u.claims) IsNobody s.views id v w at refl (acts v live) r.claims;
     }
 
 -- a pass that has seen what is counted
@@ -111,7 +117,7 @@ looks k slots id me live s r count at fits =
     let f = sh.each id v at live in
     let c = caught_up k m s id v sh f in
     let marks : List Mark = v.marks ++ others c.more in
-    let w = view v.opened v.turn marks v.met in (
+    let w = view v.opened v.claims v.turn marks v.met in (
       w,
       keeps,
       tt,
@@ -134,9 +140,9 @@ looks k slots id me live s r count at fits =
 -- the turn is taken
 pub took : (k : Opening) (m : Machine) (s : S) (id : ℕ) (v : View) (marks : List Mark) → Shows k m s → get_elem? s.views id ≡ some v → v.live ≡ true → m.holder ≡ none
     → visits_of marks ≡ m.visits → get_or s.words 0 0 < 2 ^ 63 → ((i : ℕ) → made_at i marks ≡ made_at i v.marks)
-    → Shows k (next m (taken id)) record { words = set s.words 0 (get_or s.words 0 0 + 1); homes = set s.homes 0 none; views = set s.views id (view v.opened true marks v.met) }
+    → Shows k (next m (taken id)) record { words = set s.words 0 (get_or s.words 0 0 + 1); homes = set s.homes 0 none; views = set s.views id (view v.opened v.claims true marks v.met) }
 took k m s id v marks r at live nobody_has all few counts =
-    let w = view v.opened true marks v.met in
+    let w = view v.opened v.claims true marks v.met in
     let f = r.each id v at live in
     let free = r.free nobody_has in
     let word : get_or (set s.words 0 (get_or s.words 0 0 + 1)) 0 0 ≡ 2 * m.count + 1 = get_or-set_same s.words 0 _ 0 (let o = r.one_word in omega arith) ∙ ap (λ n. n + 1) free.0 in
@@ -159,6 +165,7 @@ took k m s id v marks r at live nobody_has all few counts =
           (at_set s.views id j w u e);
       once = λ i lt. same i ∙ r.once i lt;
       no_other = λ i ge. same i ∙ r.no_other i ge;
+      claims = claims_set (λ u. u.claims) IsNobody s.views id v w at refl (acts v live) r.claims;
     }
 
 -- a try to take the turn, at an even word
@@ -174,7 +181,7 @@ takes_turn k slots id me old half live off even few s r count at fits = dite (�
     let marks : List Mark = v.marks ++ others c.more in
     let nobody_has : m.holder ≡ none = ⊎_elim (λ t. t.0) (λ t. let odd = t.2 in absurd (omega arith)) (word_of k m s sh) in
     let free = sh.free nobody_has in
-    let w = view v.opened true marks v.met in
+    let w = view v.opened v.claims true marks v.met in
     let b = free.1.0 in
     let value : b.value ≡ book_after v.opened (visits_of marks) = free.1.2 ∙ (ap (λ vs. book_after k vs) (sym c.all) ∙ ap (λ o. book_after o (visits_of marks)) (sym f.opened)) in
     let one : get_or s.words 0 0 + 1 ≡ either (eqb (get_or s.words 0 0) old) (old + 1) (get_or s.words 0 0) = exchanged (get_or s.words 0 0) old (old + 1) (λ n. get_or s.words 0 0 + 1 ≡ n) (λ _. ap (λ n. n + 1) e) (λ ne. absurd (ne e)) in (
@@ -206,10 +213,10 @@ takes_turn k slots id me old half live off even few s r count at fits = dite (�
 -- the turn is given back with a visit
 pub gave : (k : Opening) (m : Machine) (s : S) (id : ℕ) (v : View) (visit : List Entry) (b : Boxed) → Shows k m s → get_elem? s.views id ≡ some v → v.live ≡ true → m.holder ≡ some id
     → visits_of v.marks ≡ m.visits → m.count < 2 ^ 62 → b.value ≡ book_after k (m.visits ++ visit ∷ []) → IsLegal k.book.value.table (joined (m.visits ++ visit ∷ []))
-    → Shows k (next m (given id visit)) record { words = set s.words 0 (2 * m.count + 2); homes = set s.homes 0 (some (Some b)); views = set s.views id (view v.opened false (v.marks ++ mark true visit ∷ []) v.met) }
+    → Shows k (next m (given id visit)) record { words = set s.words 0 (2 * m.count + 2); homes = set s.homes 0 (some (Some b)); views = set s.views id (view v.opened v.claims false (v.marks ++ mark true visit ∷ []) v.met) }
 gave k m s id v visit b r at live holds all few book legal =
     let marks : List Mark = v.marks ++ mark true visit ∷ [] in
-    let w = view v.opened false marks v.met in
+    let w = view v.opened v.claims false marks v.met in
     let f = r.each id v at live in
     let word : get_or (set s.words 0 (2 * m.count + 2)) 0 0 ≡ 2 * m.count + 2 = get_or-set_same s.words 0 _ 0 (let o = r.one_word in omega arith) in
     let longer : length (m.visits ++ visit ∷ []) ≡ length m.visits + 1 = length-append m.visits (visit ∷ []) in
@@ -235,6 +242,7 @@ gave k m s id v visit b r at live holds all few book legal =
           (λ e. (let t = sum i in let z = r.no_other i (omega arith) in let here : made_at i marks ≡ 1 = ap (λ n. made_at n marks) e ∙ made_at-here v.marks visit in let none_yet = made_at-beyond i v.marks (omega arith) in omega arith))
           (λ ne. (let t = sum i in let o = r.once i (omega (arith, ne)) in let else_same = made_at-else i v.marks visit ne in omega arith));
       no_other = λ i ge. (let t = sum i in let z = r.no_other i (omega arith) in let else_same = made_at-else i v.marks visit (λ e. omega arith) in omega arith);
+      claims = claims_set (λ u. u.claims) IsNobody s.views id v w at refl (acts v live) r.claims;
     }
 
 pub gives_turn : (k : Opening) (slots id : ℕ) (v : View) (b : Boxed) (visit : List Entry) (new : ℕ) → v.live ≡ true → v.turn ≡ true → new ≡ 2 * (v.opened.first + length v.marks) + 2 → v.opened.first + length v.marks < 2 ^ 62
@@ -247,7 +255,7 @@ gives_turn k slots id v b visit new live on is few book legal s r count at fits 
     let all : visits_of v.marks ≡ m.visits = (f.turn on).1 in
     let size : length v.marks ≡ length m.visits = sym (length-visits v.marks) ∙ ap (λ (vs : List (List Entry)). length vs) all in
     let number : v.opened.first + length v.marks ≡ m.count = let c = sh.count in let first : v.opened.first ≡ k.first = ap (λ o. o.first) f.opened in omega arith in
-    let w = view v.opened false (v.marks ++ mark true visit ∷ []) v.met in
+    let w = view v.opened v.claims false (v.marks ++ mark true visit ∷ []) v.met in
     let entries : b.value.entries ≡ joined (visits_of v.marks) ++ visit = ap (λ x. x.entries) book ∙ joined-snoc (visits_of v.marks) visit in
     let gained : drop (length (joined (visits_of v.marks))) b.value.entries ≡ visit = ap (λ es. drop (length (joined (visits_of v.marks))) es) entries ∙ drop_all (joined (visits_of v.marks)) visit in
     let book_now : b.value ≡ book_after k (m.visits ++ visit ∷ []) = book ∙ (ap (λ vs. book_after v.opened (vs ++ visit ∷ [])) all ∙ ap (λ o. book_after o (m.visits ++ visit ∷ [])) f.opened) in
@@ -262,20 +270,25 @@ gives_turn k slots id v b visit new live on is few book legal s r count at fits 
             (subst (λ n. Shows k n record { words = set s.words 0 (2 * m.count + 2); homes = set s.homes 0 (some (Some b)); views = set s.views id w }) (sym (after-snoc (start k.first) r.events (given id visit)))
             (gave k m s id v visit b sh at live (f.turn on).0 all (omega arith) book_now legal_now));
       },
-      (λ i. (view v.opened false (v.marks ++ mark true (sym gained i) ∷ []) v.met, [])),
+      (λ i. (view v.opened v.claims false (v.marks ++ mark true (sym gained i) ∷ []) v.met, [])),
     )
 
 -- a new pass
-pub parts : (k : Opening) (id : ℕ) (v : View) → v.live ≡ true → Splits (IsTurn k) id v v (fresh v)
+pub parts : (k : Opening) (id : ℕ) (v : View) → v.live ≡ true → Splits (IsTurn k) id v (left_view v) (fresh v)
 parts k id v live s r at =
     let m : Machine = after (start k.first) r.events in
     let sh = r.shows in
+    let l = left_view v in
     let w = fresh v in
     let f = sh.each id v at live in
-    let same : set s.views id v ≡ s.views = set_again s.views id v at in
-    let nothing : (i : ℕ) → made_at i w.marks + 0 ≡ 0 = λ i. (let z = made_at-others i (visits_of v.marks) in omega arith) in
-    let sum : (i : ℕ) → makers i (set s.views id v ++ w ∷ []) ≡ makers i s.views = λ i. ap (λ vs. makers i (vs ++ w ∷ [])) same ∙ (let e = sum_by-append (λ u. made_at i u.marks + made_at i u.met) s.views (w ∷ []) in let z = made_at-others i (visits_of v.marks) in omega arith) in
-    let fits : Fits k m (length s.views) w = record { opened = f.opened; seen = subst (λ vs. Begins vs m.visits) (sym (visits-others (visits_of v.marks))) f.seen; met = (m.visits, refl); turn = λ on. absurd (true≢false (sym on)) } in
+    let nothing : (i : ℕ) → made_at i w.marks ≡ 0 = λ i. made_at-others i (visits_of v.marks) in
+    let sum : (i : ℕ) → makers i (set s.views id l ++ w ∷ []) ≡ makers i s.views = λ i. (
+    let t = sum_set (λ u. made_at i u.marks + made_at i u.met) s.views id v l at in
+    let e = sum_by-append (λ u. made_at i u.marks + made_at i u.met) (set s.views id l) (w ∷ []) in
+    let z = nothing i in
+    omega arith) in
+    let old : Fits k m id l = record { opened = f.opened; seen = f.seen; met = f.met; turn = f.turn } in
+    let new : (j : ℕ) → Fits k m j w = λ j. record { opened = f.opened; seen = subst (λ vs. Begins vs m.visits) (sym (visits-others (visits_of v.marks))) f.seen; met = (m.visits, refl); turn = λ on. absurd (true≢false (sym on)) } in
     record {
       events = r.events;
       schedule = r.schedule;
@@ -285,14 +298,21 @@ parts k id v live s r at =
         most = sh.most;
         count = sh.count;
         free = sh.free;
-        held = λ seat e. (let p = sh.held seat e in (p.0, p.1, (p.2.0, subst (λ vs. get_elem? (vs ++ w ∷ []) seat ≡ some p.2.0) (sym same) (at_longer s.views (w ∷ []) seat p.2.0 p.2.1), p.2.2, p.2.3)));
+        held = λ seat e. (
+            let p = sh.held seat e in
+            let q = turn_set s.views id v l seat at refl refl p.2 in
+            (p.0, p.1, (q.0, at_longer (set s.views id l) (w ∷ []) seat q.0 q.1, q.2, q.3)));
         legal = sh.legal;
-        each = λ j u e l. ⊎_elim
-            (λ t. sh.each j u (subst (λ vs. get_elem? vs j ≡ some u) same t) l)
-            (λ t. subst (λ (z : View). Fits k m j z) t record { opened = f.opened; seen = fits.seen; met = fits.met; turn = λ on. absurd (true≢false (sym on)) })
-            (at_snoc (set s.views id v) w u j e);
+        each = λ j u e alive. ⊎_elim
+            (λ (here : get_elem? (set s.views id l) j ≡ some u). ⊎_elim
+            (λ (t : (j ≡ id) × (l ≡ u)). subst (λ (z : View). Fits k m j z) t.1 (subst (λ i. Fits k m i l) (sym t.0) old))
+            (λ (t : (j ≢ id) × (get_elem? s.views j ≡ some u)). sh.each j u t.1 alive)
+            (at_set s.views id j l u here))
+            (λ (t : w ≡ u). subst (λ (z : View). Fits k m j z) t (new j))
+            (at_snoc (set s.views id l) w u j e);
         once = λ i lt. sum i ∙ sh.once i lt;
         no_other = λ i ge. sum i ∙ sh.no_other i ge;
+        claims = claims_split (λ u. u.claims) IsNobody s.views id v l w at refl refl (acts v live) sh.claims;
       };
     }
 
@@ -336,6 +356,7 @@ meets k id v other u live lives met met_too off s r at apart there =
             (at_set (set s.views id w) other j nobody z e);
         once = λ i lt. sum i ∙ sh.once i lt;
         no_other = λ i ge. sum i ∙ sh.no_other i ge;
+        claims = claims_join (λ z. z.claims) IsNobody s.views id v other u w nobody at there refl refl (refl, refl, refl) (acts v live) sh.claims;
       };
     }
 
@@ -358,7 +379,7 @@ settles k slots id me live off s r count at fits =
     let apart = apart_of k m s id v sh at in
     let marks : List Mark = merged v.marks v.met in
     let seen = begins_merged v.marks v.met m.visits f.seen f.met in
-    let w = view v.opened v.turn marks [] in (
+    let w = view v.opened v.claims v.turn marks [] in (
       w,
       keeps,
       tt,
@@ -391,9 +412,8 @@ settles k slots id me live off s r count at fits =
     few_held n c e le = omega arith
 
 -- the table at the start
-pub opens : (first : ℕ) (o : Opening) (b : Book) (x : Boxed) → x.value ≡ b → o.first ≡ first → o.book.value ≡ b → b.entries ≡ [] → IsLegal b.table b.entries → first ≤ 2 ^ 62 → IsTurn o (opening (2 * first ∷ []) (Some x ∷ []) (view o false [] []))
+pub opens : (first : ℕ) (o : Opening) (b : Book) (x : Boxed) → x.value ≡ b → o.first ≡ first → o.book.value ≡ b → b.entries ≡ [] → IsLegal b.table b.entries → first ≤ 2 ^ 62 → IsTurn o (opening (2 * first ∷ []) (Some x ∷ []) (view o all_claims false [] []))
 opens first o b x holds is book empty legal small =
-    let w = view o false [] [] in
     let whole : b ≡ book_after o [] = (λ i. record { table = b.table; shard = b.shard; shards = b.shards; entries = empty i }) ∙ ap (λ x. record { table = x.table; shard = x.shard; shards = x.shards; entries = [] }) (sym book) in
     record {
       events = [];
@@ -409,10 +429,15 @@ opens first o b x holds is book empty legal small =
         each = λ j u e l. first_view o j u e;
         once = λ i lt. absurd (omega arith);
         no_other = λ i ge. refl;
+        claims = inr (refl, λ j u e gone. absurd (some_claim o j u e gone));
       };
     }
   where
-    first_view : (o : Opening) (j : ℕ) (u : View) → get_elem? (view o false [] [] ∷ []) j ≡ some u → Fits o (start o.first) j u
+    some_claim : (o : Opening) (j : ℕ) (u : View) → get_elem? (view o all_claims false [] [] ∷ []) j ≡ some u → u.claims ≡ 0 → ⊥
+    some_claim o zero u e gone = let same = ap (λ (z : View). z.claims) (some-injective _ u e) in omega arith
+    some_claim o (suc j) u e gone = some-ne-none u (sym e)
+
+    first_view : (o : Opening) (j : ℕ) (u : View) → get_elem? (view o all_claims false [] [] ∷ []) j ≡ some u → Fits o (start o.first) j u
     first_view o zero u e = subst (λ (z : View). Fits o (start o.first) 0 z) (some-injective _ u e) record { opened = refl; seen = ([], refl); met = ([], refl); turn = λ on. absurd (true≢false (sym on)) }
     first_view o (suc j) u e = absurd (some-ne-none u (sym e))
 
@@ -421,6 +446,8 @@ pub record Closes (k : Opening) (v : View) (word : ℕ) (slot : Option Boxed) : 
   pub opened : v.opened ≡ k
   pub seen : k.first + length v.marks ≤ word / 2 + word % 2
   pub whole : word / 2 + word % 2 ≤ k.first + length v.marks → (b : Boxed) × (slot ≡ Some b) × (b.value ≡ book_after k (visits_of v.marks))
+  pub most : v.claims ≤ all_claims
+  pub all : all_claims ≤ v.claims → word / 2 + word % 2 ≤ k.first + length (made_from k.first v.marks)
 
 half_even : (n c : ℕ) → n ≡ 2 * c → n / 2 + n % 2 ≡ c
 half_even n c e = omega arith
@@ -432,8 +459,33 @@ first_word : (us : List ℕ) (n : ℕ) → get_elem? us 0 ≡ some n → get_or 
 first_word [] n e = absurd (some-ne-none n (sym e))
 first_word (u ∷ us) n e = some-injective u n e
 
-pub closes : (k : Opening) (id : ℕ) (v : View) (ws : List ℕ) (xs : List (Option Boxed)) (word : ℕ) (slot : Option Boxed) → Final (Seen (IsTurn k) id v) ws xs → get_elem? ws 0 ≡ some word → get_elem? xs 0 ≡ some slot → v.live ≡ true → Closes k v word slot
-closes k id v ws xs word slot final at home live =
+-- who has all claims has the turn, where somebody has it
+nobody_else : (k : Opening) (m : Machine) (s : S) (id : ℕ) (v : View) → Shows k m s → get_elem? s.views id ≡ some v → v.turn ≡ false → all_claims ≤ v.claims → (seat : ℕ) → m.holder ≡ some seat → ⊥
+nobody_else k m s id v r at off whole seat holds =
+    let t = (r.held seat holds).2 in
+    dite (ℕ_discrete seat id)
+    (λ e.
+    let here : get_elem? s.views id ≡ some t.0 = subst (λ j. get_elem? s.views j ≡ some t.0) e t.1 in
+    let one : t.0 ≡ v = some-injective t.0 v (sym here ∙ at) in
+    true≢false (sym t.3 ∙ (ap (λ z. z.turn) one ∙ off)))
+    (λ ne. true≢false (sym t.2 ∙ (others_spent (λ u. u.claims) IsNobody s.views id v at whole r.claims seat t.0 ne t.1).0))
+
+-- and has made all visits
+made_each : (k : Opening) (m : Machine) (s : S) (id : ℕ) (v : View) → Shows k m s → get_elem? s.views id ≡ some v → v.met ≡ [] → all_claims ≤ v.claims → (i : ℕ) → i < length m.visits → made_at i v.marks ≡ 1
+made_each k m s id v r at met whole i lt =
+    let nothing : (j : ℕ) (u : View) → j ≢ id → get_elem? s.views j ≡ some u → made_at i u.marks + made_at i u.met ≡ 0 =
+    λ j u ne there. (
+    let gone = others_spent (λ z. z.claims) IsNobody s.views id v at whole r.claims j u ne there in
+    let marks : made_at i u.marks ≡ 0 = ap (λ (ms : List Mark). made_at i ms) gone.1 in
+    let others_met : made_at i u.met ≡ 0 = ap (λ (ms : List Mark). made_at i ms) gone.2 in
+    omega arith) in
+    let only = sum_only (λ u. made_at i u.marks + made_at i u.met) s.views id v at nothing in
+    let mine : made_at i v.met ≡ 0 = ap (λ (ms : List Mark). made_at i ms) met in
+    let one = r.once i lt in
+    omega arith
+
+pub closes : (k : Opening) (id : ℕ) (v : View) (ws : List ℕ) (xs : List (Option Boxed)) (word : ℕ) (slot : Option Boxed) → Final (Seen (IsTurn k) id v) ws xs → get_elem? ws 0 ≡ some word → get_elem? xs 0 ≡ some slot → v.live ≡ true → v.turn ≡ false → v.met ≡ [] → Closes k v word slot
+closes k id v ws xs word slot final at home live off met =
     let s = final.0 in
     let r = final.1.0 in
     let m : Machine = after (start k.first) r.events in
@@ -443,6 +495,7 @@ closes k id v ws xs word slot final at home live =
     let size = length-visits v.marks in
     let shorter = begins_shorter (visits_of v.marks) m.visits f.seen in
     let c = sh.count in
+    let most = claims_most (λ u. u.claims) IsNobody s.views id v final.1.1 sh.claims in
     ⊎_elim
     (λ (t : (m.holder ≡ none) × (get_or s.words 0 0 ≡ 2 * m.count)).
     let half = half_even word m.count (sym here ∙ t.1) in
@@ -453,10 +506,12 @@ closes k id v ws xs word slot final at home live =
           let same : m.visits ≡ visits_of v.marks = begins_whole (visits_of v.marks) m.visits f.seen (omega arith) in
           let b = (sh.free t.0).1 in
           (b.0, some-injective slot _ (sym home ∙ final.4 0 _ b.1), b.2 ∙ ap (λ vs. book_after k vs) same));
+      most = most;
+      all = λ claims. (let many = made_many k.first v.marks (length m.visits) (made_each k m s id v sh final.1.1 met claims) in omega arith);
     })
     (λ (t : (seat : ℕ) × (m.holder ≡ some seat) × (get_or s.words 0 0 ≡ 2 * m.count + 1)).
     let half = half_odd word m.count (sym here ∙ t.2) in
-    record { opened = f.opened; seen = omega arith; whole = λ le. absurd (omega arith) })
+    record { opened = f.opened; seen = omega arith; whole = λ le. absurd (omega arith); most = most; all = λ claims. absurd (nobody_else k m s id v sh final.1.1 off claims t.0 t.1) })
     (word_of k m s sh)
 
 -- and of the table alone: where no more visits are kept than the first number says, the opened book is there

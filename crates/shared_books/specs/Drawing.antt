@@ -1,12 +1,13 @@
 -- Drawing: the uploads are numbered 0, 1, 2, .., and each is drawn once. One word says how many are
 -- drawn.
-use Rattle.std.specs.Prelude.{◌≡◌, ℕ, ◌≤◌, ◌<◌, ◌==◌, List, ◌++◌, length, true, sum_by, count_by}
-use Rattle.std.specs.Prelude.{slice_index}
+use Rattle.std.specs.Prelude.{◌≡◌, ℕ, ◌+◌, ◌≤◌, ◌<◌, ◌==◌, List, [], ◌++◌, length, true, false}
+use Rattle.std.specs.Prelude.{sum_by, count_by, slice_index}
 use mathlib.Core.Option.{some}
 use lib.ListN.{get_elem?}
 use Rattle.atomic_table.specs.Table.{State}
 use Rattle.atomic_table.specs.Seated.{TableId}
 use Rattle.shared_books.specs.declared.drawing.rule.Hand.{Hand}
+use Rattle.shared_books.specs.Claims.{AreClaims}
 
 -- how often a number stands in a list
 abbrev pub times : ℕ → List ℕ → ℕ
@@ -29,10 +30,11 @@ pub record Drawing : Type 0 where
   pub home : TableId
   pub numbers : ℕ
 
--- what contracts see of a drawer: the drawing that it belongs to, how many numbers it has seen
--- drawn, and those that it drew
+-- what contracts see of a drawer: the drawing that it belongs to, its claims, how many numbers it
+-- has seen drawn, and those that it drew
 pub record DrawerView : Type 0 where
   pub source : Drawing
+  pub claims : ℕ
   pub seen : ℕ
   pub drawn : List ℕ
 
@@ -40,6 +42,7 @@ pub record DrawerView : Type 0 where
 -- common
 pub record HasMet (old other new : DrawerView) : Type 0 where
   pub source : new.source ≡ old.source
+  pub claims : new.claims ≡ old.claims + other.claims
   pub drawn : new.drawn ≡ old.drawn ++ other.drawn
   pub apart : NoneTwice new.drawn
   pub later : old.seen ≤ new.seen
@@ -56,8 +59,12 @@ pub record IsCount (count : ℕ) (drawer : DrawerView) : Type 0 where
 abbrev pub times_drawn : ℕ → List Hand → ℕ
 times_drawn x hands = sum_by (λ h. times x h.drawn) hands
 
+-- a drawer that was joined into another holds nothing
+abbrev pub IsSpent : Hand → Type 0
+IsSpent h = (h.live ≡ false) × (h.drawn ≡ [])
+
 -- between any two steps: each number below the word was drawn by one drawer and once, no other
--- number was, and no drawer has seen more than the word
+-- number was, no drawer has seen more than the word, and no claim is there twice
 pub record IsDrawn (numbers : ℕ) (s : State (Unit {0}) Hand) : Type 0 where
   pub one_word : length s.words ≡ 1
   pub within : slice_index s.words 0 ≤ numbers
@@ -65,3 +72,4 @@ pub record IsDrawn (numbers : ℕ) (s : State (Unit {0}) Hand) : Type 0 where
   pub no_other : (x : ℕ) → slice_index s.words 0 ≤ x → times_drawn x s.views ≡ 0
   pub each : (j : ℕ) (h : Hand) → get_elem? s.views j ≡ some h → h.live ≡ true
       → (h.numbers ≡ numbers) × (h.seen ≤ slice_index s.words 0)
+  pub claims : AreClaims (λ h. h.claims) IsSpent s.views

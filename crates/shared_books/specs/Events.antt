@@ -58,7 +58,7 @@ abbrev pub taken_by : State (Option Boxed) View → ℕ → View → List (List 
 taken_by s seat v between = record {
   words = slice_set s.words 0 (slice_index s.words 0 + 1);
   homes = slice_set s.homes 0 none;
-  views = slice_set s.views seat (view v.opened true (v.marks ++ others between) v.met);
+  views = slice_set s.views seat (view v.opened v.claims true (v.marks ++ others between) v.met);
 }
 
 -- the state after a seat gave the turn back with a visit: the word is one more, and the book is in
@@ -68,7 +68,7 @@ abbrev pub given_by : State (Option Boxed) View → ℕ → View → List Entry 
 given_by s seat v visit book = record {
   words = slice_set s.words 0 (slice_index s.words 0 + 1);
   homes = slice_set s.homes 0 (some (Some book));
-  views = slice_set s.views seat (view v.opened false (v.marks ++ mark true visit ∷ []) v.met);
+  views = slice_set s.views seat (view v.opened v.claims false (v.marks ++ mark true visit ∷ []) v.met);
 }
 
 -- a take at an even word is the event of its seat

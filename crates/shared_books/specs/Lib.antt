@@ -1,4 +1,5 @@
 pub mod Answers
+pub mod Claims
 pub mod Drawing
 pub mod Events
 pub mod Hands

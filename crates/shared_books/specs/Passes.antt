@@ -6,6 +6,7 @@ use Rattle.shard_book.specs.declared.entry.Entry.{Entry}
 use Rattle.shard_book.specs.Book.{Book}
 use Rattle.shard_book.specs.History.{IsLegal}
 use Rattle.shared_books.specs.declared.turns.rule.Mark.{Mark}
+use Rattle.shared_books.specs.Claims.{all_claims, claims_given, claims_left}
 use Rattle.shared_books.specs.Marks.{mark, others, visits_of, joined, made_from, numbered, merged}
 use Rattle.shared_books.specs.Marks.{Apart, Begins}
 
@@ -18,10 +19,11 @@ pub record SharedBookView : Type 0 where
   pub shard : ℕ
   pub shards : ℕ
 
--- a pass: the book that it belongs to, and the visits that it has seen, each marked with whether it
--- made it
+-- a pass: the book that it belongs to, its claims, and the visits that it has seen, each marked with
+-- whether it made it
 pub record PassView : Type 0 where
   pub book : SharedBookView
+  pub claims : ℕ
   pub marks : List Mark
 
 -- the visits that a pass has seen
@@ -32,13 +34,23 @@ seen_by pass = visits_of pass.marks
 abbrev pub made_by : PassView → List (ℕ × List Entry)
 made_by pass = made_from pass.book.first pass.marks
 
--- a pass that has seen nothing
+-- a pass that has seen nothing and has all claims
 abbrev pub new_pass : SharedBookView → PassView
-new_pass book = record { book = book; marks = [] }
+new_pass book = record { book = book; claims = all_claims; marks = [] }
 
--- a pass that has seen as much, and made nothing
+-- a pass that has seen as much and gets half of the claims, and made nothing
 abbrev pub fresh_pass : PassView → PassView
-fresh_pass pass = record { book = pass.book; marks = others (seen_by pass) }
+fresh_pass pass =
+    record {
+      book = pass.book;
+      claims = claims_given pass.claims;
+      marks = others (seen_by pass);
+    }
+
+-- the pass that such a one was split off keeps the other claims, and all that it has seen and made
+abbrev pub left_pass : PassView → PassView
+left_pass pass =
+    record { book = pass.book; claims = claims_left pass.claims; marks = pass.marks }
 
 -- the book after these visits
 abbrev pub book_of : SharedBookView → List (List Entry) → Book
@@ -49,6 +61,7 @@ book_of o visits =
 pub record IsLater (old new : PassView) : Type 0 where
   pub between : List (List Entry)
   pub book : new.book ≡ old.book
+  pub claims : new.claims ≡ old.claims
   pub marks : new.marks ≡ old.marks ++ others between
   pub made : made_by new ≡ made_by old
   pub legal : IsLegal new.book.table (joined (seen_by new))
@@ -58,6 +71,7 @@ pub record IsLater (old new : PassView) : Type 0 where
 pub record Visits (old new : PassView) (number : ℕ) (visit : List Entry) : Type 0 where
   pub between : List (List Entry)
   pub book : new.book ≡ old.book
+  pub claims : new.claims ≡ old.claims
   pub marks : new.marks ≡ (old.marks ++ others between) ++ mark true visit ∷ []
   pub number_is : number ≡ old.book.first + length (seen_by old ++ between)
   pub few : number < 2 ^ 62
@@ -72,6 +86,7 @@ pub record IsFull (pass : PassView) : Type 0 where
 -- both
 pub record IsJoined (old other new : PassView) : Type 0 where
   pub book : new.book ≡ old.book
+  pub claims : new.claims ≡ old.claims + other.claims
   pub marks : new.marks ≡ merged old.marks other.marks
   pub held : length (made_by new) ≡ length (made_by old) + length (made_by other)
   pub apart : Apart old.marks other.marks

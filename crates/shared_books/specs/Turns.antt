@@ -1,7 +1,7 @@
 -- The rule of a shared book: between any two steps, word, slot and all views show a state of the
 -- turn machine.
-use Rattle.std.specs.Prelude.{◌≡◌, ℕ, ◌+◌, ◌*◌, ◌^◌, ◌<◌, ◌≤◌, true, List, length, slice_index}
-use Rattle.std.specs.Prelude.{sum_by, Option, Some}
+use Rattle.std.specs.Prelude.{◌≡◌, ℕ, ◌+◌, ◌*◌, ◌^◌, ◌<◌, ◌≤◌, true, false, List, [], length}
+use Rattle.std.specs.Prelude.{slice_index, sum_by, Option, Some}
 use mathlib.Core.Option.{none, some}
 use lib.ListN.{get_elem?}
 use Rattle.atomic_table.specs.Table.{State}
@@ -12,6 +12,7 @@ use Rattle.shard_book.specs.Book.{Book}
 use Rattle.shard_book.specs.History.{IsLegal}
 use Rattle.shared_books.specs.declared.turns.rule.Opening.{Opening}
 use Rattle.shared_books.specs.declared.turns.rule.View.{View}
+use Rattle.shared_books.specs.Claims.{AreClaims}
 use Rattle.shared_books.specs.Machine.{Machine, Event, start, after, IsSchedule}
 use Rattle.shared_books.specs.Marks.{visits_of, joined, made_at, Begins}
 
@@ -51,7 +52,11 @@ abbrev pub HoldsTurn : State (Option Boxed) View → ℕ → Type 0
 HoldsTurn s seat =
     (v : View) × (get_elem? s.views seat ≡ some v) × (v.live ≡ true) × (v.turn ≡ true)
 
--- word, slot and views show this state of the machine
+-- a pass that was joined into another has nothing
+abbrev pub IsNobody : View → Type 0
+IsNobody v = (v.live ≡ false) × (v.marks ≡ []) × (v.met ≡ [])
+
+-- word, slot and views show this state of the machine, and no claim is there twice
 pub record Shows (k : Opening) (m : Machine) (s : State (Option Boxed) View) : Type 0 where
   pub one_word : length s.words ≡ 1
   pub one_slot : length s.homes ≡ 1
@@ -65,6 +70,7 @@ pub record Shows (k : Opening) (m : Machine) (s : State (Option Boxed) View) : T
       → Fits k m seat v
   pub once : (i : ℕ) → i < length m.visits → makers i s.views ≡ 1
   pub no_other : (i : ℕ) → length m.visits ≤ i → makers i s.views ≡ 0
+  pub claims : AreClaims (λ v. v.claims) IsNobody s.views
 
 -- what is shown is a state that some schedule of takes and gives reaches
 pub record IsTurn (k : Opening) (s : State (Option Boxed) View) : Type 0 where

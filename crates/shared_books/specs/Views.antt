@@ -8,14 +8,16 @@ use Rattle.shared_books.specs.declared.turns.rule.Opening.{Opening}
 use Rattle.shared_books.specs.declared.turns.rule.Mark.{Mark}
 use Rattle.shared_books.specs.declared.turns.rule.View.{View}
 use Rattle.shared_books.specs.Marks.{mark, others, visits_of, joined, merged, Apart, Begins}
+use Rattle.shared_books.specs.Claims.{claims_given, claims_left}
 use Rattle.shared_books.specs.Turns.{Boxed, book_after}
 use Rattle.shared_books.specs.Nobody.{no_book}
 
 abbrev pub Seat : Type 0
 Seat = Me (Option Boxed) View
 
-abbrev pub view : Opening → Bool → List Mark → List Mark → View
-view o turn marks met = record { live = true; opened = o; turn = turn; marks = marks; met = met }
+abbrev pub view : Opening → ℕ → Bool → List Mark → List Mark → View
+view o claims turn marks met =
+    record { live = true; opened = o; claims = claims; turn = turn; marks = marks; met = met }
 
 -- what is left of a pass that was joined into another
 abbrev pub nobody : View
@@ -26,18 +28,23 @@ nobody =
         first = 0;
         book = record { marker = record {}; value = no_book };
       };
+      claims = 0;
       turn = false;
       marks = [];
       met = [];
     }
 
--- a new pass has seen as much, and made nothing
+-- a new pass has seen as much and half of the claims, and made nothing
 abbrev pub fresh : View → View
-fresh v = view v.opened false (others (visits_of v.marks)) []
+fresh v = view v.opened (claims_given v.claims) false (others (visits_of v.marks)) []
+
+-- the old pass keeps the other claims, and what it has seen and made
+abbrev pub left_view : View → View
+left_view v = view v.opened (claims_left v.claims) v.turn v.marks v.met
 
 -- the marks of another pass, before a look shows how they lie beside the own ones
 abbrev pub both_views : View → View → View
-both_views v w = view v.opened v.turn v.marks w.marks
+both_views v w = view v.opened (v.claims + w.claims) v.turn v.marks w.marks
 
 -- the word found is twice the count of visits seen, and one more where a pass holds the turn
 abbrev pub IsWord : ℕ → Opening → List Mark → Type 0
@@ -47,7 +54,7 @@ IsWord found o marks =
 -- a look at the word: the pass has seen all visits that are counted
 pub record HasSeen (before : Seat) (found : ℕ) (after : Seat) : Type 0 where
   pub between : List (List Entry)
-  pub view_is : after.0 ≡ view before.0.opened before.0.turn
+  pub view_is : after.0 ≡ view before.0.opened before.0.claims before.0.turn
       (before.0.marks ++ others between) before.0.met
   pub word : IsWord found before.0.opened (before.0.marks ++ others between)
   pub most : found ≤ 2 ^ 63
@@ -59,7 +66,7 @@ pub record HasSeen (before : Seat) (found : ℕ) (after : Seat) : Type 0 where
 -- is out with it
 pub record HasTaken (s : Step (Option Boxed)) (before after : Seat) : Type 0 where
   pub between : List (List Entry)
-  pub view_is : after.0 ≡ view before.0.opened true (before.0.marks ++ others between) before.0.met
+  pub view_is : after.0 ≡ view before.0.opened before.0.claims true (before.0.marks ++ others between) before.0.met
   pub word : s.first ≡ 2 * (before.0.opened.first + length (before.0.marks ++ others between))
   pub legal : IsLegal before.0.opened.book.value.table
       (joined (visits_of (before.0.marks ++ others between)))
@@ -79,14 +86,14 @@ abbrev pub given_back : Seat → Seat
 given_back (v, []) = (v, [])
 given_back (v, (slot, None) ∷ out) = (v, out)
 given_back (v, (slot, Some b) ∷ out) = (
-  view v.opened false (v.marks
+  view v.opened v.claims false (v.marks
       ++ mark true (drop (length (joined (visits_of v.marks))) b.value.entries) ∷ []) v.met,
   out,
 )
 
 -- the look that ends a join: the marks of both passes lie beside one another
 pub record HasSettled (before after : Seat) : Type 0 where
-  pub view_is : after.0 ≡ view before.0.opened before.0.turn (merged before.0.marks before.0.met) []
+  pub view_is : after.0 ≡ view before.0.opened before.0.claims before.0.turn (merged before.0.marks before.0.met) []
   pub apart : Apart before.0.marks before.0.met
   pub begins : Begins (visits_of before.0.marks) (visits_of before.0.met)
       ⊎ Begins (visits_of before.0.met) (visits_of before.0.marks)

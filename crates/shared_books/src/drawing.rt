@@ -46,6 +46,7 @@ impl Model for Drawer {
 
     ghost view = { λ d. record {
       source = record { home = d.seat.table_id; numbers = d.seat.me.0.numbers };
+      claims = d.seat.me.0.claims;
       seen = d.seat.me.0.seen;
       drawn = d.seat.me.0.drawn;
     } };
@@ -64,12 +65,15 @@ pub struct DrawMissing {
 impl Draw {
     ghost use Rattle.std.specs.Prelude.{◌≡◌, ◌+◌, ◌≤◌, ◌<◌, ◌++◌, ◌∷◌, [], length, IfOk, IfErr};
     ghost use Rattle.std.specs.Prelude.{IfSome, IfNone, IsOkAnd};
+    ghost use Rattle.shared_books.specs.Claims.{all_claims, claims_given, claims_left};
     ghost use Rattle.shared_books.specs.Drawing.{HasAll, HasMet, IsCount};
 
-    /// The numbers below `numbers`, none of them drawn, and a drawer that holds none.
+    /// The numbers below `numbers`, none of them drawn, and a drawer that holds none and has all
+    /// claims.
     pub fn new(alloc: Global, numbers: u32) -> Result<(Draw, Drawer), NoMemory>
         ensures draw { IfOk result (λ r. r.0.numbers ≡ numbers) }
-        ensures drawer { IfOk result (λ r. r.1 ≡ record { source = r.0; seen = 0; drawn = [] }) }
+        ensures drawer { IfOk result (λ r. r.1
+            ≡ record { source = r.0; claims = all_claims; seen = 0; drawn = [] }) }
     {
         let (table, seat) = Table::<(), Hand, u32, DrawRule, Global>::of_words(
             alloc,
@@ -115,11 +119,14 @@ impl Draw {
         None
     }
 
-    /// A new drawer, which holds no number. The old one keeps all that it holds.
+    /// A new drawer, which holds no number and gets half of the claims. The old one keeps all that
+    /// it holds. A single claim is lost.
     pub fn split(&self, drawer: &mut Drawer) -> Result<Drawer, NoMemory>
         requires own { drawer.old.source ≡ self.now }
-        ensures new { IsOkAnd result (λ new. new ≡ record drawer.old { drawn = [] }) }
-        ensures old { drawer.new ≡ drawer.old }
+        ensures new { IsOkAnd result (λ new. new
+            ≡ record drawer.old { claims = claims_given drawer.old.claims; drawn = [] }) }
+        ensures old { drawer.new
+            ≡ record drawer.old { claims = claims_left drawer.old.claims } }
     {
         let seat = self.table.shared.split_seat::<Parts>(&mut drawer.seat);
         Ok(Drawer {
@@ -146,13 +153,15 @@ impl Draw {
         *held += more;
     }
 
-    /// How many numbers were drawn, where the drawer holds them all.
+    /// How many numbers were drawn, where the drawer holds them all. So it is where it has all
+    /// claims.
     pub fn finish(self, drawer: Drawer) -> Result<u32, DrawMissing>
         requires own { drawer.source ≡ self }
         ensures ok { IfOk result (λ drawn. HasAll drawn drawer.drawn × (drawn ≡ length drawer.drawn)
             × IsCount drawn drawer) }
         ensures err { IfErr result (λ missing. (missing.held ≡ length drawer.drawn)
             × (missing.held < missing.drawn) × IsCount missing.drawn drawer) }
+        ensures claims { IfErr result (λ _. drawer.claims < all_claims) }
     {
         let Draw { table, numbers: _ } = self;
         let Drawer {

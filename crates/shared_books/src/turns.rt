@@ -71,6 +71,7 @@ impl Model for Pass {
 
     ghost view = { λ p. record {
       book = opened_of p.seat.table_id p.seat.me.0.opened;
+      claims = p.seat.me.0.claims;
       marks = p.seat.me.0.marks;
     } };
 
@@ -140,7 +141,7 @@ impl SharedBook {
         ensures given { (visit : List Entry)
             → book.value.entries ≡ joined (visits_of seat.old.me.0.marks) ++ visit
             → seat.new.me ≡ (
-              view seat.old.me.0.opened false
+              view seat.old.me.0.opened seat.old.me.0.claims false
                   (seat.old.me.0.marks ++ mark true visit ∷ []) seat.old.me.0.met,
               [],
             ) }
@@ -187,13 +188,15 @@ impl SharedBook {
     ghost use Rattle.shard_book.specs.Visits.{limits_of};
     ghost use Rattle.shard_book.specs.Statement.{IsStatement};
     ghost use Rattle.shared_books.specs.Marks.{joined};
-    ghost use Rattle.shared_books.specs.Passes.{new_pass, fresh_pass, seen_by, book_of, IsLater};
-    ghost use Rattle.shared_books.specs.Passes.{Visits, IsFull, IsJoined, HasMadeAll, LacksVisits};
+    ghost use Rattle.shared_books.specs.Claims.{all_claims};
+    ghost use Rattle.shared_books.specs.Passes.{new_pass, fresh_pass, left_pass, seen_by, book_of};
+    ghost use Rattle.shared_books.specs.Passes.{IsLater, Visits, IsFull, IsJoined, HasMadeAll};
+    ghost use Rattle.shared_books.specs.Passes.{LacksVisits};
     ghost use Rattle.shared_books.specs.Answers.{MakesVisit, IsOpenedAs, IsReadFault};
     ghost use Rattle.shared_books.specs.inside.Views.{IsFree, HasBookOut, FindsFull};
 
-    /// Shares a book that has no entries, and gives the first pass to it. Visits are numbered from
-    /// `first`. On want of memory the book is dropped.
+    /// Shares a book that has no entries, and gives the first pass to it, which has all claims.
+    /// Visits are numbered from `first`. On want of memory the book is dropped.
     pub fn open(alloc: Global, first: u64, book: ShardBook) -> Result<(SharedBook, Pass), NoMemory>
         requires first { first ≤ 2 ^ 62 }
         requires empty { book.entries ≡ [] }
@@ -349,18 +352,19 @@ impl SharedBook {
         self.look(&mut pass.seat) / 2
     }
 
-    /// A new pass, which has seen as much and made no visit. The old one keeps all.
+    /// A new pass, which has seen as much and made no visit, and gets half of the claims. The old
+    /// one keeps all that it has seen and made. A single claim is lost.
     pub fn split(&self, pass: &mut Pass) -> Result<Pass, NoMemory>
         requires own { pass.old.book ≡ self.now }
         ensures new { IsOkAnd result (λ new. new ≡ fresh_pass pass.old) }
-        ensures old { pass.new ≡ pass.old }
+        ensures old { pass.new ≡ left_pass pass.old }
     {
         let seat = self.table.shared.split_seat::<Parts>(&mut pass.seat);
         let (held, next) = (0, pass.next);
         Ok(Pass { seat, held, next })
     }
 
-    /// The pass takes over what another one has seen and made.
+    /// The pass takes over what another one has seen and made, and its claims.
     pub fn join(&self, pass: &mut Pass, other: Pass)
         requires own { pass.old.book ≡ self.now }
         requires other { other.book ≡ self.now }
@@ -377,12 +381,13 @@ impl SharedBook {
         *held += more;
     }
 
-    /// The book, where the pass made all visits; otherwise both are dropped. A turn that was taken
-    /// and not given back counts as a visit.
+    /// The book, where the pass made all visits; otherwise both are dropped. So it is where the pass
+    /// has all claims. A turn that was taken and not given back counts as a visit.
     pub fn close(self, pass: Pass) -> Result<ShardBook, Missing>
         requires own { pass.book ≡ self }
         ensures ok { IfOk result (HasMadeAll pass) }
         ensures err { IfErr result (λ missing. LacksVisits pass missing.held missing.kept) }
+        ensures claims { IfErr result (λ _. pass.claims < all_claims) }
     {
         let SharedBook {
             table,

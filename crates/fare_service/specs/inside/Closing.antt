@@ -7,6 +7,8 @@ use Rattle.shared_books.specs.Passes.{SharedBookView, PassView, HasMadeAll, book
 use Rattle.fare_service.specs.declared.faults.GatherFault.{GatherFault}
 use Rattle.fare_service.specs.declared.faults.GatherFault.TheVariants.{NoMemory, Missing, Drawn}
 use Rattle.shared_books.specs.Drawing.{AllBelow, NoneTwice, times}
+use Rattle.shared_books.specs.Claims.{all_claims}
+use Rattle.fare_service.specs.Claims.{claims_at}
 use Rattle.fare_service.specs.Limits.{KeepsLimits}
 use Rattle.fare_service.specs.ShareView.{ShareView}
 use Rattle.fare_service.specs.Shares.{marks_at, own_at}
@@ -42,6 +44,13 @@ IsMissing shards passes (Missing shard held kept) =
     (shard < shards) × (held ≡ length (own_at shard passes)) × (held < kept)
 IsMissing shards passes NoMemory = ⊥
 IsMissing shards passes (Drawn held drawn) = ⊥
+
+-- visits to a shard are missing, and so are claims
+abbrev pub LacksClaims : ℕ → List PassView → GatherFault → Type 0
+LacksClaims shards passes (Missing shard held kept) =
+    (shard < shards) × (claims_at shard passes < all_claims)
+LacksClaims shards passes NoMemory = ⊥
+LacksClaims shards passes (Drawn held drawn) = ⊥
 
 -- visits to a shard are missing, of which none are held
 abbrev pub NoneMissing : ℕ → GatherFault → Type 0

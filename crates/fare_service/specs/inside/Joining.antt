@@ -1,6 +1,6 @@
 -- Shares that are joined into one.
 use Rattle.std.specs.Prelude.{◌≡◌, ◌⊎◌, ℕ, ◌+◌, ◌≤◌, nat_lt, false, List, [], ◌∷◌, length, All}
-use Rattle.std.specs.Prelude.{slice_get, Some, slice_set}
+use Rattle.std.specs.Prelude.{slice_get, Some, slice_set, sum_by}
 use Rattle.std.specs.List.{flat_map}
 use Rattle.shared_books.specs.declared.turns.rule.Mark.{Mark}
 use Rattle.shared_books.specs.Drawing.{Drawing, DrawerView}
@@ -8,6 +8,7 @@ use Rattle.shared_books.specs.Marks.{visits_of, merged, Apart, Begins}
 use Rattle.shared_books.specs.Passes.{SharedBookView, PassView}
 use Rattle.fare_service.specs.declared.share.Done.{Done}
 use Rattle.fare_service.specs.declared.upload_end.UploadEnd.{UploadEnd}
+use Rattle.fare_service.specs.Claims.{claims_at}
 use Rattle.fare_service.specs.Faults.{visits_held}
 use Rattle.fare_service.specs.Headline.{Signed, by_worker}
 use Rattle.fare_service.specs.ShareView.{ShareView}
@@ -62,6 +63,9 @@ pub record Belongs (drawing : Drawing) (books : List SharedBookView) (share : Sh
 pub record IsJoinedOf (drawing : Drawing) (books : List SharedBookView) (nobody : ℕ)
     (shares : List ShareView) (drawer : DrawerView) (passes : List PassView) : Type 0 where
   pub source : drawer.source ≡ drawing
+  pub claims : drawer.claims ≡ sum_by (λ share. share.drawer.claims) shares
+  pub pass_claims : (shard : ℕ)
+      → claims_at shard passes ≡ sum_by (λ share. claims_at shard share.passes) shares
   pub drawn : drawer.drawn ≡ flat_map (λ share. share.drawer.drawn) shares
   pub seen : All (λ share. share.drawer.seen ≤ drawer.seen) shares
   pub of_books : books_of passes ≡ books

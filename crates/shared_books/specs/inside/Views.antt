@@ -18,7 +18,7 @@ pub record IsFree (me : Seat) : Type 0 where
 -- the seat has seen visits of others more, and all else is as it was
 pub record GoesOn (before after : Seat) : Type 0 where
   pub between : List (List Entry)
-  pub view_is : after.0 ≡ view before.0.opened before.0.turn
+  pub view_is : after.0 ≡ view before.0.opened before.0.claims before.0.turn
       (before.0.marks ++ others between) before.0.met
   pub carries : after.1 ≡ before.1
 
@@ -26,7 +26,7 @@ pub record GoesOn (before after : Seat) : Type 0 where
 -- empty
 pub record HasBookOut (before after : Seat) (number : ℕ) (book : Book) : Type 0 where
   pub between : List (List Entry)
-  pub view_is : after.0 ≡ view before.0.opened true (before.0.marks ++ others between) []
+  pub view_is : after.0 ≡ view before.0.opened before.0.claims true (before.0.marks ++ others between) []
   pub number_is : number ≡ before.0.opened.first + length (before.0.marks ++ others between)
   pub few : number < 2 ^ 62
   pub legal : IsLegal before.0.opened.book.value.table

@@ -6,6 +6,7 @@ use std::collections::LinkedList;
 pub struct Hand {
     // whether it was not joined into another
     pub live: bool,
+    pub claims: u64,
     pub numbers: u64,
     pub seen: u64,
     pub drawn: LinkedList<u64>,
@@ -15,12 +16,13 @@ pub struct Hand {
 pub struct DrawRule;
 
 impl TableRule<(), Hand, u32> for DrawRule {
+    ghost use Rattle.shared_books.specs.Claims.{all_claims};
     ghost use Rattle.shared_books.specs.Drawing.{IsDrawn};
     ghost use Rattle.shared_books.specs.Hands.{empty_hand};
 
     ghost holds = { IsDrawn };
 
-    ghost first = { λ numbers. empty_hand numbers 0 };
+    ghost first = { λ numbers. empty_hand all_claims numbers 0 };
 }
 
 /// A try to draw.
@@ -41,15 +43,15 @@ impl Play<(), Hand> for Looks {
     ghost then = { HasLooked };
 }
 
-/// A new drawer has seen as much, and drew nothing.
+/// A new drawer has seen as much and half of the claims, and drew nothing.
 pub struct Parts;
 
 impl Split<Hand> for Parts {
-    ghost use Rattle.shared_books.specs.Hands.{empty_hand};
+    ghost use Rattle.shared_books.specs.Hands.{left_hand, new_hand};
 
-    ghost left = { λ h. h };
+    ghost left = { left_hand };
 
-    ghost right = { λ h. empty_hand h.numbers h.seen };
+    ghost right = { new_hand };
 }
 
 /// One drawer has what both drew.

@@ -25,6 +25,7 @@ pub struct View {
     // whether the pass was not joined into another
     pub live: bool,
     pub opened: Opening,
+    pub claims: u64,
     pub turn: bool,
     pub marks: LinkedList<Mark>,
     // the marks of a pass that is being joined into this one
@@ -36,12 +37,13 @@ pub struct TurnRule;
 
 impl TableRule<Slot, View, Opening> for TurnRule {
     ghost use Rattle.std.specs.Prelude.{false, []};
+    ghost use Rattle.shared_books.specs.Claims.{all_claims};
     ghost use Rattle.shared_books.specs.Turns.{IsTurn};
     ghost use Rattle.shared_books.specs.Views.{view};
 
     ghost holds = { IsTurn };
 
-    ghost first = { λ k. view k false [] [] };
+    ghost first = { λ k. view k all_claims false [] [] };
 }
 
 /// A look at the word.
@@ -72,13 +74,13 @@ impl Play<Slot, View> for Gives {
     ghost then = { λ _ before _ after. after ≡ given_back before };
 }
 
-/// A new pass, which has seen as much and made nothing.
+/// A new pass, which has seen as much and half of the claims, and made nothing.
 pub struct Parts;
 
 impl Split<View> for Parts {
-    ghost use Rattle.shared_books.specs.Views.{fresh};
+    ghost use Rattle.shared_books.specs.Views.{fresh, left_view};
 
-    ghost left = { λ v. v };
+    ghost left = { left_view };
 
     ghost right = { fresh };
 }

@@ -1,12 +1,15 @@
-use Rattle.std.proofs.Common.{ℕ, ◌≡◌, List, ◌∷◌, [], ◌++◌, length, sym, ◌∙◌, ap, subst, arith, append_assoc, length-append}
+use Rattle.std.proofs.Common.{ℕ, ◌≡◌, ◌<◌, List, ◌∷◌, [], ◌++◌, length, sym, ◌∙◌, ap, subst, arith, append_assoc, length-append}
 use Rattle.std.specs.Prelude.{slice_get, Some}
 use Rattle.std.proofs.lemmas.List.{length-map, map-append}
 use Rattle.std.specs.Vec.Iter.{into_iter_items}
 use Rattle.shard_book.specs.Book.{Book}
 use Rattle.shared_books.specs.declared.turns.rule.Mark.{Mark}
 use Rattle.shared_books.specs.Passes.{PassView}
+use Rattle.shared_books.specs.Claims.{all_claims}
+use Rattle.fare_service.specs.Claims.{claims_at}
 use Rattle.fare_service.specs.inside.Closing.{AreClosed, IsClosedBy}
 use Rattle.fare_service.specs.Shares.{marks_at, own_visits}
+use Rattle.fare_service.proofs.ClaimLemmas.{claims_mid}
 use Rattle.fare_service.proofs.PlaceLemmas.{place_more}
 use Rattle.fare_service.proofs.Signing.{made_own}
 use Rattle.fare_service.proofs.JoinLemmas.{next_book, at_end, marks_mid}
@@ -39,6 +42,19 @@ returns-in-Err-clause-first c =
       c.loop-book.invariant.shard ∙ sym c.loop-book.invariant.number,
       c.loop-book.invariant.closed,
       omega (arith, missing.seen, length-map c.in-Some-next.pass.marks (λ (m : Mark). m.visit), ap length marks),
+    )
+
+pub returns-in-Err-clause-claims : goal.returns-in-Err-clause-claims
+returns-in-Err-clause-claims c =
+    let steps = c.in-Some.ensures.steps in
+    let p = c.loop-book.invariant.passes in
+    let rest = into_iter_items c.next-in-loop-book.new.self in
+    let all : p.0 ++ c.in-Some-next.pass ∷ rest ≡ c.args.passes.items = ap (λ ps. p.0 ++ ps) (sym c.in-Some-next.ensures.items) ∙ p.1 in
+    let place : length p.0 ≡ c.loop-book.shard = omega (arith, ap length p.2, length-map p.0 (λ (k : PassView). k.book), c.loop-book.invariant.shard) in
+    let claims : claims_at c.loop-book.shard c.args.passes.items ≡ c.in-Some-next.pass.claims =
+    ap (λ s. claims_at s c.args.passes.items) (sym place) ∙ ap (claims_at (length p.0)) (sym all) ∙ claims_mid p.0 c.in-Some-next.pass rest in (
+      omega (arith, c.loop-book.invariant.shard, ap length c.loop-book.invariant.left, length-append c.loop-book.yielded (into_iter_items c.loop-book.book-iterator), ap length steps.0),
+      subst (λ n. n < all_claims) (sym claims) c.in-Err.ensures.claims,
     )
 
 pub loop-book-preserved : goal.loop-book-preserved

@@ -6,7 +6,8 @@ use Rattle.fare_service.specs.declared.faults.GatherFault.{GatherFault}
 use Rattle.fare_service.specs.Closing.{IsFirst}
 use Rattle.fare_service.specs.inside.Closing.{IsClosedWork}
 use Rattle.fare_service.specs.inside.Joining.{IsJoinedOf}
-use Rattle.fare_service.proofs.CloseLemmas.{split_first, closed_none, closed_all, held_drawn, joined_whole, any_ok, no_shares, some_shares, none_there, first_missing, first_unseen, first_drawn, first_undrawn}
+use Rattle.fare_service.proofs.CloseLemmas.{split_first, closed_none, closed_all, held_drawn, joined_whole, any_ok, no_shares, some_shares, none_there, first_missing, first_unseen, first_drawn, first_undrawn, any_err, none_whole, lacks_whole, drawer_whole}
+use Rattle.fare_service.specs.Claims.{HaveAllClaims}
 use Rattle.fare_service.proofs.gathering.close_with.Goals as goal
 use Rattle.fare_service.proofs.gathering.close_with.Goals.{in-Ok, in-Err-finish_unseen}
 
@@ -68,3 +69,27 @@ returns-in-Err-finish-clause-first c =
     let all = joined_whole c.args.draw c.args.books.items c.args.shares.items c.remove-first.result c.remove-first.new.self.items c.join_shares-drawer.result.0 c.join_shares-drawer.result.1.items split (subst B c.as_slice.ensures.value c.join_shares-drawer.ensures) in
     first_drawn c.args.draw c.args.books.items c.args.shares.items c.join_shares-drawer.result.0 c.join_shares-drawer.result.1.items c.close_all.new.closed.items c.in-Err-finish.missing.held c.in-Err-finish.missing.drawn
     all ok.ok ok.number missing.2
+
+pub returns-in-Err-clause-claims : goal.returns-in-Err-clause-claims
+returns-in-Err-clause-claims c =
+    none_whole (length c.args.books.items) c.args.shares.items (no_shares c.args.shares.items (sym c.args.shares.ok.0 ∙ none_there c.is_empty.result (vec_len c.args.shares) c.is_empty.ensures c.if-is_empty.true))
+
+pub returns-then-is_empty-clause-claims : goal.returns-then-is_empty-clause-claims
+returns-then-is_empty-clause-claims c =
+    let none = no_shares c.args.shares.items (sym c.args.shares.ok.0 ∙ none_there c.is_empty.result (vec_len c.args.shares) c.is_empty.ensures c.if-is_empty.true) in
+    any_err c.match-finish_unseen.result (HaveAllClaims (length c.args.books.items) c.args.shares.items → ⊥) (none_whole (length c.args.books.items) c.args.shares.items none)
+
+pub returns-in-Err-close_all-clause-claims : goal.returns-in-Err-close_all-clause-claims
+returns-in-Err-close_all-clause-claims c =
+    let split = split_first c.args.shares.items c.remove-first.result c.remove-first.new.self.items (omega (arith, c.args.shares.ok.0, some_shares c.is_empty.result (vec_len c.args.shares) c.is_empty.ensures c.if-is_empty.false)) c.remove-first.ensures.value c.remove-first.ensures.items in
+    let B : List SharedBookView → Type 0 = λ bs. IsJoinedOf c.args.draw bs (length c.remove-first.new.self.items + 1) (c.remove-first.result ∷ c.remove-first.new.self.items) c.join_shares-drawer.result.0 c.join_shares-drawer.result.1.items in
+    let all = joined_whole c.args.draw c.args.books.items c.args.shares.items c.remove-first.result c.remove-first.new.self.items c.join_shares-drawer.result.0 c.join_shares-drawer.result.1.items split (subst B c.as_slice.ensures.value c.join_shares-drawer.ensures) in
+    lacks_whole c.args.draw c.args.books.items (length c.args.shares.items) c.args.shares.items c.join_shares-drawer.result.0 c.join_shares-drawer.result.1.items c.in-Err-close_all.fault all c.in-Err-close_all.ensures.claims
+
+pub returns-in-Err-finish-clause-claims : goal.returns-in-Err-finish-clause-claims
+returns-in-Err-finish-clause-claims c =
+    let missing = (c.in-Err-finish.ensures).claims in
+    let split = split_first c.args.shares.items c.remove-first.result c.remove-first.new.self.items (omega (arith, c.args.shares.ok.0, some_shares c.is_empty.result (vec_len c.args.shares) c.is_empty.ensures c.if-is_empty.false)) c.remove-first.ensures.value c.remove-first.ensures.items in
+    let B : List SharedBookView → Type 0 = λ bs. IsJoinedOf c.args.draw bs (length c.remove-first.new.self.items + 1) (c.remove-first.result ∷ c.remove-first.new.self.items) c.join_shares-drawer.result.0 c.join_shares-drawer.result.1.items in
+    let all = joined_whole c.args.draw c.args.books.items c.args.shares.items c.remove-first.result c.remove-first.new.self.items c.join_shares-drawer.result.0 c.join_shares-drawer.result.1.items split (subst B c.as_slice.ensures.value c.join_shares-drawer.ensures) in
+    drawer_whole c.args.draw c.args.books.items (length c.args.shares.items) c.args.shares.items c.join_shares-drawer.result.0 c.join_shares-drawer.result.1.items all missing

@@ -5,6 +5,7 @@ use Rattle.std.specs.Vec.Iter.{into_iter_items}
 use Rattle.shared_books.specs.Passes.{PassView}
 use Rattle.fare_service.specs.Shares.{marks_at}
 use Rattle.fare_service.proofs.Signing.{joined_none}
+use Rattle.fare_service.proofs.ClaimLemmas.{claims_step}
 use Rattle.fare_service.proofs.JoinLemmas.{join_step}
 use Rattle.fare_service.proofs.gathering.join_passes.Goals as goal
 
@@ -18,6 +19,7 @@ loop-pass-init c =
       left_len = gives.1 ∙ (c.args.other.ok.0 ∙ ap length (sym gives.0));
       place = refl;
       books = c.requires.into;
+      claims = λ shard. (omega arith);
       joined = λ shard. joined_none (marks_at shard c.args.into.now.items);
     }
 
@@ -43,6 +45,8 @@ loop-pass-preserved c =
       left_len = omega (arith, steps.1, c.loop-pass.invariant.left_len, ap length steps.0);
       place = omega (arith, c.loop-pass.invariant.place, length-append c.loop-pass.yielded (c.in-Some.pass ∷ []));
       books = map-set_same (λ p. p.book) c.loop-pass.into.items c.loop-pass.shard c.join.new.pass c.index_mut.result.now (c.join.ensures.book ∙ ap (λ p. p.book) c.index_mut.ensures.value) ∙ c.loop-pass.invariant.books;
+      claims = λ shard. claims_step c.args.into.now.items c.loop-pass.yielded c.loop-pass.into.items c.loop-pass.shard c.index_mut.result.now c.in-Some.pass c.join.new.pass shard
+          (c.loop-pass.invariant.claims shard) c.loop-pass.invariant.place within c.index_mut.ensures.value c.join.ensures.claims;
       joined = λ shard. join_step c.args.into.now.items c.loop-pass.yielded c.loop-pass.into.items c.loop-pass.shard c.index_mut.result.now c.in-Some.pass c.join.new.pass shard
           (c.loop-pass.invariant.joined shard) c.loop-pass.invariant.place within c.index_mut.ensures.value c.join.ensures;
     }

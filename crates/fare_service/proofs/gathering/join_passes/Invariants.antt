@@ -1,6 +1,7 @@
-use Rattle.std.proofs.Common.{◌≡◌, ◌++◌, ℕ, length}
+use Rattle.std.proofs.Common.{◌≡◌, ◌+◌, ◌++◌, ℕ, length}
 use Rattle.std.specs.Vec.Iter.{into_iter_items, into_iter_len}
 use Rattle.fare_service.specs.inside.Joining.{AreJoinedAt}
+use Rattle.fare_service.specs.Claims.{claims_at}
 use Rattle.fare_service.specs.Shares.{books_of}
 use Rattle.fare_service.proofs.gathering.join_passes.Given as goal
 
@@ -12,5 +13,6 @@ invariant-loop-pass l = record {
   left_len : into_iter_len l.pass-iterator ≡ length (into_iter_items l.pass-iterator);
   place : l.shard ≡ length l.yielded;
   books : books_of l.into.items ≡ l.books;
+  claims : (shard : ℕ) → claims_at shard l.into.items ≡ claims_at shard l.fn.into.items + claims_at shard l.yielded;
   joined : (shard : ℕ) → AreJoinedAt shard l.fn.into.items l.yielded l.into.items;
 }

@@ -34,5 +34,5 @@ loop-share-preserved c =
       left = append_assoc c.loop-share.yielded (c.in-Some.share ∷ []) (into_iter_items c.next.new.self) ∙ ap (λ ss. c.loop-share.yielded ++ ss) (sym steps.0) ∙ c.loop-share.invariant.left;
       left_len = omega (arith, steps.1, c.loop-share.invariant.left_len, ap length steps.0);
       joined = subst P c.share.view_is (joined_more c.args.draw.now c.args.books.now (length c.args.others.items + 1) (c.args.first ∷ c.loop-share.yielded) inside c.loop-share.drawer c.join.new.drawer
-          c.loop-share.passes.items c.join_passes.new.into.items below c.loop-share.invariant.joined c.join.ensures.met c.join_passes.ensures.books c.join_passes.ensures.joined);
+          c.loop-share.passes.items c.join_passes.new.into.items below c.loop-share.invariant.joined c.join.ensures.met c.join_passes.ensures.books c.join_passes.ensures.joined c.join_passes.ensures.claims);
     }

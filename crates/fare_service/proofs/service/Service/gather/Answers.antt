@@ -5,9 +5,11 @@ use Rattle.shard_book.specs.Sums.{sums, sums_of}
 use Rattle.shard_book.specs.Groups.{all_entries}
 use Rattle.fare_service.specs.declared.upload_end.UploadEnd.TheVariants.{Undrawn}
 use Rattle.fare_service.specs.declared.faults.GatherFault.{GatherFault}
+use Rattle.fare_service.specs.Claims.{HaveAllClaims}
 use Rattle.fare_service.specs.Closing.{IsFirst}
+use Rattle.fare_service.specs.Faults.{IsForMemory}
 use Rattle.fare_service.specs.inside.Joining.{told_all}
-use Rattle.fare_service.specs.ServiceView.{ServiceView}
+use Rattle.fare_service.specs.ServiceView.{ServiceView, shards_of}
 use Rattle.fare_service.specs.ShareView.{ShareView}
 use Rattle.fare_service.specs.Shares.{IsShareOf}
 use Rattle.fare_service.specs.Headline.{HasOutcome}
@@ -113,3 +115,10 @@ returns-in_err-close_with-clause-first c =
     let H : ServiceView → Type 0 = λ h. IsFirst h.books (length h.uploads) c.args.shares.items fault in
     handed_on c.from_residual-in_err-close_with.result fault (IsFirst c.args.self.books (length c.args.self.uploads) c.args.shares.items) c.from_residual-in_err-close_with.ensures.1
     (subst H c.self.view_is (subst F c.self.invariant.numbers c.in_err-close_with.ensures.first))
+
+pub returns-in_err-close_with-clause-claims : goal.returns-in_err-close_with-clause-claims
+returns-in_err-close_with-clause-claims c whole =
+    let fault : GatherFault = c.in_err-close_with.field-0.0 in
+    let N : ℕ → Type 0 = λ n. HaveAllClaims n c.args.shares.items in
+    handed_on c.from_residual-in_err-close_with.result fault IsForMemory c.from_residual-in_err-close_with.ensures.1
+    (absurd (c.in_err-close_with.ensures.claims (subst N (sym (ap shards_of c.self.view_is)) whole)))

@@ -1,11 +1,13 @@
-use Rattle.std.proofs.Common.{ℕ, ◌≡◌, List, [], map, sym, ◌∙◌, ap, subst, arith}
+use Rattle.std.proofs.Common.{ℕ, ◌≡◌, ◌<◌, ◌+◌, List, [], map, sym, ◌∙◌, ap, subst, arith}
 use Rattle.std.proofs.lemmas.List.{length-map}
 use Rattle.shard_book.specs.Sums.{sums_of}
+use Rattle.shared_books.specs.Claims.{all_claims}
 use Rattle.shared_books.specs.Passes.{PassView}
+use Rattle.fare_service.specs.Claims.{claims_at}
 use Rattle.fare_service.specs.ServiceView.{ServiceView}
 use Rattle.fare_service.specs.inside.ServiceView.{AreOpened}
 use Rattle.fare_service.specs.Shares.{own_at, books_of}
-use Rattle.fare_service.proofs.ShareLemmas.{fresh_share, fresh, own_new, books_new}
+use Rattle.fare_service.proofs.ShareLemmas.{fresh_share, fresh, own_new, books_new, claims_new_at}
 use Rattle.fare_service.proofs.service.Service.open.Goals as goal
 
 pub invariant_of-service : goal.invariant_of-service
@@ -32,3 +34,11 @@ returns-clause-fresh g c =
     let P : List PassView → Type 0 = λ ps. (shard : ℕ) → own_at shard ps ≡ [] in
     fresh c.in_ok-draw.drawer c.in_ok-books.passes.items (sums_of c.new-3.result) c.new-4.result.items (ap (λ d. d.drawn) c.in_ok-draw.ensures.drawer)
     (subst P (sym c.in_ok-books.ensures.passes) (λ shard. own_new shard c.in_ok-books.books.items)) c.new-3.ensures c.new-4.ensures.items
+
+pub returns-clause-claims : goal.returns-clause-claims
+returns-clause-claims g c =
+    let P : List PassView → Type 0 = λ ps. (shard : ℕ) → shard < c.args.shards → claims_at shard ps ≡ all_claims in
+    record {
+      drawing = ap (λ d. 0 + d.claims) c.in_ok-draw.ensures.drawer;
+      books = λ shard within. ap (λ n. 0 + n) (subst P (sym c.in_ok-books.ensures.passes) (λ s w. claims_new_at s c.in_ok-books.books.items (omega (arith, w, c.in_ok-books.ensures.number))) shard within);
+    }

@@ -1,8 +1,23 @@
-use Rattle.std.proofs.Common.{List, [], ◌∷◌, All, length, length-append, sym, ap, subst, arith}
+use Rattle.std.proofs.Common.{◌<◌, List, [], ◌∷◌, All, length, length-append, sym, ap, subst, arith}
 use Rattle.std.proofs.lemmas.List.Elements.{All-nil, All-cons, All-append}
+use Rattle.fare_service.specs.Claims.{HaveAllClaims}
+use Rattle.fare_service.specs.ServiceView.{shards_of}
 use Rattle.fare_service.specs.ShareView.{ShareView}
 use Rattle.fare_service.specs.Shares.{IsShareOf}
+use Rattle.fare_service.proofs.ClaimLemmas.{AreSplit, split_none, split_more, split_all}
 use Rattle.fare_service.proofs.service.Service.share_out.Goals as goal
+
+pub loop-init : goal.loop-init
+loop-init c =
+    let S : ShareView → Type 0 = IsShareOf c.args.self.now in
+    let P : List ShareView → Type 0 = All S in
+    let nothing = c.new-shares.ensures.items in
+    record {
+      first = c.requires.first;
+      each = subst P (sym nothing) (All-nil S);
+      number = omega (arith, ap length nothing);
+      claims = λ whole. subst (λ ss. AreSplit (shards_of c.args.self.now) c.args.first ss) (sym nothing) (split_none (shards_of c.args.self.now) c.args.first whole);
+    }
 
 pub loop-preserved : goal.loop-preserved
 loop-preserved c =
@@ -10,9 +25,13 @@ loop-preserved c =
     let P : List ShareView → Type 0 = All S in
     let share = c.in_ok-share.share in
     record {
-      first = subst S (sym c.share.ensures.old) c.loop.invariant.first;
+      first = c.share.ensures.kept;
       each = subst P (sym c.in_ok-push.ensures.items) (All-append S c.loop.shares.items (share ∷ []) c.loop.invariant.each (All-cons S share [] c.in_ok-share.ensures.new (All-nil S)));
       number = omega (arith, c.loop.invariant.number, ap length c.in_ok-push.ensures.items, length-append c.loop.shares.items (share ∷ []));
+      claims = λ whole. (
+          let few : length c.loop.shares.items < 15 = omega (arith, c.loop.invariant.number, c.requires.few) in
+          subst (λ ss. AreSplit (shards_of c.args.self.now) c.share.new.old ss) (sym c.in_ok-push.ensures.items)
+          (split_more (shards_of c.args.self.now) c.loop.first c.share.new.old share c.loop.shares.items few c.in_ok-share.ensures.old c.in_ok-share.ensures.half (c.loop.invariant.claims whole)));
     }
 
 pub returns-clause-shares : goal.returns-clause-shares
@@ -23,3 +42,8 @@ returns-clause-shares c =
 
 pub returns-clause-number : goal.returns-clause-number
 returns-clause-number c = omega (arith, ap length c.in_ok-insert.ensures.items, c.loop.invariant.number)
+
+pub returns-clause-claims : goal.returns-clause-claims
+returns-clause-claims c whole =
+    subst (λ (ss : List ShareView). HaveAllClaims (shards_of c.args.self.now) ss) (sym {A = List ShareView} c.in_ok-insert.ensures.items)
+    (split_all (shards_of c.args.self.now) c.loop.first c.loop.shares.items (c.loop.invariant.claims whole))

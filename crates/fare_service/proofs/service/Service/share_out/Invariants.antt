@@ -1,5 +1,8 @@
 use Rattle.std.proofs.Common.{◌≡◌, All, length, ◌+◌}
+use Rattle.fare_service.specs.Claims.{HasAllClaims}
+use Rattle.fare_service.specs.ServiceView.{shards_of}
 use Rattle.fare_service.specs.Shares.{IsShareOf}
+use Rattle.fare_service.proofs.ClaimLemmas.{AreSplit}
 use Rattle.fare_service.proofs.service.Service.share_out.Given as goal
 
 abbrev pub invariant-loop : goal.invariant-loop
@@ -7,4 +10,5 @@ invariant-loop l = record {
   first : IsShareOf l.self l.first;
   each : All (IsShareOf l.self) l.shares.items;
   number : length l.shares.items + 1 ≡ l.counter;
+  claims : HasAllClaims (shards_of l.self) l.fn.first → AreSplit (shards_of l.self) l.first l.shares.items;
 }

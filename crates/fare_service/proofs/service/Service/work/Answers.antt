@@ -18,18 +18,18 @@ ok_holds (Err e) good holds = absurd (cc)
 pub returns-in_default-clause-went_on : goal.returns-in_default-clause-went_on
 returns-in_default-clause-went_on g c =
     let W : ShareView → Type 0 = WentOn c.args.self.now c.args.share in
-    subst W (sym c.share.view_is) ([], worked_none c.args.self.now c.args.share c.args.share refl refl refl refl)
+    subst W (sym c.share.view_is) ([], worked_none c.args.self.now c.args.share c.args.share refl refl refl refl refl)
 
 pub returns-in_default-new-clause-went_on : goal.returns-in_default-new-clause-went_on
 returns-in_default-new-clause-went_on g c =
     let W : ShareView → Type 0 = WentOn c.args.self.now c.args.share in
-    subst W (sym c.share.view_is) ([], worked_none c.args.self.now c.args.share c.args.share refl refl refl refl)
+    subst W (sym c.share.view_is) ([], worked_none c.args.self.now c.args.share c.args.share refl refl refl refl refl)
 
 pub returns-then-is_err-clause-went_on : goal.returns-then-is_err-clause-went_on
 returns-then-is_err-clause-went_on g c =
     let start = ap (holding c.share.inside.drawer c.share.inside.posting.passes.items (sums_of c.share.inside.posting.totals)) c.reserve.ensures.items ∙ c.share.view_is in
     let W : ShareView → Type 0 = WentOn c.args.self.now c.args.share in
-    subst W (sym start) ([], worked_none c.args.self.now c.args.share c.args.share refl refl refl refl)
+    subst W (sym start) ([], worked_none c.args.self.now c.args.share c.args.share refl refl refl refl refl)
 
 -- room for the results of all uploads was taken
 pub loop-init : goal.loop-init
@@ -55,10 +55,10 @@ loop-preserved g c =
       share = next_share c.args.self.now c.loop.drawer c.next_upload.new.drawer c.loop.posting.passes.items c.next_upload.new.posting.passes.items
           (sums_of c.loop.posting.totals) (sums_of c.next_upload.new.posting.totals) c.loop.done.items c.push_reserved.new.self.items next.upload next.end
           (holding c.loop.drawer c.loop.posting.passes.items (sums_of c.loop.posting.totals) c.loop.done.items) refl c.loop.invariant.share
-          (ap (λ d. d.drawn) e.drawn.2) (ap (λ d. d.source) e.drawn.2) c.push_reserved.ensures.items e.worked c.next_upload.ensures.few;
+          (ap (λ d. d.claims) e.drawn.2) (ap (λ d. d.drawn) e.drawn.2) (ap (λ d. d.source) e.drawn.2) c.push_reserved.ensures.items e.worked c.next_upload.ensures.few;
       going = going_next c.args.self.now c.args.share c.loop.drawer c.next_upload.new.drawer c.loop.posting.passes.items c.next_upload.new.posting.passes.items
           (sums_of c.loop.posting.totals) (sums_of c.next_upload.new.posting.totals) c.loop.done.items c.push_reserved.new.self.items next
-          c.loop.invariant.going (ap (λ d. d.drawn) e.drawn.2) c.push_reserved.ensures.items e.worked c.next_upload.ensures.full (e.goes_on c.if-not-goes_on.false);
+          c.loop.invariant.going (ap (λ d. d.claims) e.drawn.2) (ap (λ d. d.drawn) e.drawn.2) c.push_reserved.ensures.items e.worked c.next_upload.ensures.full (e.goes_on c.if-not-goes_on.false);
       clock = c.next_upload.ensures.clock ∙ c.loop.invariant.clock;
       cut = c.next_upload.ensures.cut ∙ c.loop.invariant.cut;
       room = omega (arith, c.push_reserved.ensures.len, c.push_reserved.ensures.capacity, c.loop.invariant.room, e.drawn.0, e.drawn.1, ap (λ d. d.seen) e.drawn.2);
@@ -70,7 +70,7 @@ returns-in_default-next_upload-clause-stopped g c =
     let none = c.in_default-next_upload.ensures.none in
     let P : Posting → Type 0 = λ p. StoppedWell c.args.self.now c.args.share (holding c.next_upload.new.drawer p.passes.items (sums_of p.totals) c.loop.done.items) in
     inr (subst P (sym none.1) (none_next c.args.self.now c.loop.drawer c.next_upload.new.drawer c.loop.posting.passes.items (sums_of c.loop.posting.totals) c.loop.done.items
-    (ap (λ d. d.drawn) none.0) c.args.share c.loop.invariant.going (ap (λ d. d.seen) none.0)))
+    (ap (λ d. d.claims) none.0) (ap (λ d. d.drawn) none.0) c.args.share c.loop.invariant.going (ap (λ d. d.seen) none.0)))
 
 -- the last upload was cut
 pub returns-then-not-goes_on-clause-share : goal.returns-then-not-goes_on-clause-share
@@ -80,7 +80,7 @@ returns-then-not-goes_on-clause-share g c =
     next_share c.args.self.now c.loop.drawer c.next_upload.new.drawer c.loop.posting.passes.items c.next_upload.new.posting.passes.items
     (sums_of c.loop.posting.totals) (sums_of c.next_upload.new.posting.totals) c.loop.done.items c.push_reserved.new.self.items next.upload next.end
     (holding c.loop.drawer c.loop.posting.passes.items (sums_of c.loop.posting.totals) c.loop.done.items) refl c.loop.invariant.share
-    (ap (λ d. d.drawn) e.drawn.2) (ap (λ d. d.source) e.drawn.2) c.push_reserved.ensures.items e.worked c.next_upload.ensures.few
+    (ap (λ d. d.claims) e.drawn.2) (ap (λ d. d.drawn) e.drawn.2) (ap (λ d. d.source) e.drawn.2) c.push_reserved.ensures.items e.worked c.next_upload.ensures.few
 
 pub returns-then-not-goes_on-clause-went_on : goal.returns-then-not-goes_on-clause-went_on
 returns-then-not-goes_on-clause-went_on g c =
@@ -89,7 +89,7 @@ returns-then-not-goes_on-clause-went_on g c =
     stopped_went_on c.args.self.now c.args.share _
     (cut_next c.args.self.now c.args.share c.loop.drawer c.next_upload.new.drawer c.loop.posting.passes.items c.next_upload.new.posting.passes.items
     (sums_of c.loop.posting.totals) (sums_of c.next_upload.new.posting.totals) c.loop.done.items c.push_reserved.new.self.items next
-    c.loop.invariant.going (ap (λ d. d.drawn) e.drawn.2) c.push_reserved.ensures.items e.worked c.next_upload.ensures.full (e.stops c.if-not-goes_on.true))
+    c.loop.invariant.going (ap (λ d. d.claims) e.drawn.2) (ap (λ d. d.drawn) e.drawn.2) c.push_reserved.ensures.items e.worked c.next_upload.ensures.full (e.stops c.if-not-goes_on.true))
 
 pub returns-then-not-goes_on-clause-stopped : goal.returns-then-not-goes_on-clause-stopped
 returns-then-not-goes_on-clause-stopped g c =
@@ -98,4 +98,4 @@ returns-then-not-goes_on-clause-stopped g c =
     inr
     (cut_next c.args.self.now c.args.share c.loop.drawer c.next_upload.new.drawer c.loop.posting.passes.items c.next_upload.new.posting.passes.items
     (sums_of c.loop.posting.totals) (sums_of c.next_upload.new.posting.totals) c.loop.done.items c.push_reserved.new.self.items next
-    c.loop.invariant.going (ap (λ d. d.drawn) e.drawn.2) c.push_reserved.ensures.items e.worked c.next_upload.ensures.full (e.stops c.if-not-goes_on.true))
+    c.loop.invariant.going (ap (λ d. d.claims) e.drawn.2) (ap (λ d. d.drawn) e.drawn.2) c.push_reserved.ensures.items e.worked c.next_upload.ensures.full (e.stops c.if-not-goes_on.true))

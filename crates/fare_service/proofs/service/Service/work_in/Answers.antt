@@ -1,21 +1,28 @@
-use Rattle.std.proofs.Common.{◌≡◌, List, [], ◌∷◌, ◌++◌, All, length, length-append, append_assoc, sym, ◌∙◌, ap, subst, arith}
+use Rattle.std.proofs.Common.{◌≡◌, List, [], ◌∷◌, ◌++◌, All, length, map, length-append, append_assoc, sym, ◌∙◌, ap, subst, arith}
+use Rattle.std.proofs.lemmas.List.{map-append}
 use Rattle.std.proofs.lemmas.List.Elements.{All-nil, All-cons, All-append}
 use Rattle.std.specs.Vec.Iter.{into_iter_items}
 use Rattle.std.specs.declared.thread.PromisedHandle.{PromisedHandle}
-use Rattle.fare_service.specs.declared.running.OfService.{OfService}
+use Rattle.fare_service.specs.declared.running.OfShare.{OfShare}
 use Rattle.fare_service.specs.declared.share.Share.{Share}
+use Rattle.fare_service.specs.ShareView.{ShareView}
 use Rattle.fare_service.proofs.service.Service.work_in.Goals as goal
+
+abbrev began_with : PromisedHandle Share OfShare → ShareView
+began_with h = h.promise.began.value
 
 pub loop-share-preserved : goal.loop-share-preserved
 loop-share-preserved g c =
     let steps = c.in-Some.ensures.steps in
-    let H : PromisedHandle Share OfService → Type 0 = λ h. h.promise.0.now ≡ c.args.self.now in
-    let P : List (PromisedHandle Share OfService) → Type 0 = All H in
+    let H : PromisedHandle Share OfShare → Type 0 = λ h. h.promise.service.now ≡ c.args.self.now in
+    let P : List (PromisedHandle Share OfShare) → Type 0 = All H in
     let items = c.in_ok-push.ensures.items in
-    let mine : H c.in-Ok.thread = ap (λ (p : OfService). p.0.now) c.in-Ok.ensures.ok in
+    let mine : H c.in-Ok.thread = ap (λ (p : OfShare). p.service.now) c.in-Ok.ensures.ok in
     record {
       left = append_assoc c.loop-share.yielded (c.in-Some.share ∷ []) (into_iter_items c.next.new.self) ∙ ap (λ ss. c.loop-share.yielded ++ ss) (sym steps.0) ∙ c.loop-share.invariant.left;
       left_len = omega (arith, steps.1, c.loop-share.invariant.left_len, ap length steps.0);
       held = subst P (sym items) (All-append H c.loop-share.threads.items (c.in-Ok.thread ∷ []) c.loop-share.invariant.held (All-cons H c.in-Ok.thread [] mine (All-nil H)));
+      began = ap (λ hs. map began_with hs) items ∙ (map-append began_with c.loop-share.threads.items (c.in-Ok.thread ∷ [])
+          ∙ (ap (λ ss. ss ++ began_with c.in-Ok.thread ∷ []) c.loop-share.invariant.began ∙ ap (λ s. c.loop-share.yielded ++ s ∷ []) (ap (λ (p : OfShare). p.began.value) c.in-Ok.ensures.ok ∙ c.of-began.ensures)));
       number = omega (arith, c.loop-share.invariant.number, ap length items, length-append c.loop-share.threads.items (c.in-Ok.thread ∷ []), length-append c.loop-share.yielded (c.in-Some.share ∷ []));
     }

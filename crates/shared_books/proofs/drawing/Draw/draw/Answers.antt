@@ -29,8 +29,8 @@ invariant_of-drawer-then-found-number c =
     let numbers : c.loop-drawer.drawer-inside.seat.me.0.numbers ≡ c.args.self.now.numbers = i.numbers ∙ ap (λ d. d.numbers) c.requires.own in
     let same : c.self.inside.numbers ≡ c.args.self.now.numbers = ap (λ (d : Drawing). d.numbers) c.self.view_is in
     let me = c.loop-drawer.drawer-inside.seat.me in
-    let won : c.compare_exchange-found.new.seat.me.0 ≡ hand me.0.numbers (c.loop-drawer.drawer-inside.seen + 1) (me.0.drawn ++ c.loop-drawer.drawer-inside.seen ∷ []) =
-    tried.won c.if-found-number.true ∙ ap (λ n. hand me.0.numbers (n + 1) (me.0.drawn ++ n ∷ [])) c.if-found-number.true in
+    let won : c.compare_exchange-found.new.seat.me.0 ≡ hand me.0.claims me.0.numbers (c.loop-drawer.drawer-inside.seen + 1) (me.0.drawn ++ c.loop-drawer.drawer-inside.seen ∷ []) =
+    tried.won c.if-found-number.true ∙ ap (λ n. hand me.0.claims me.0.numbers (n + 1) (me.0.drawn ++ n ∷ [])) c.if-found-number.true in
     held_won _ _ me _ i.held (omega (arith, c.loop-drawer-test.true)) (λ k. (won k, tried.carries k))
 
 pub loop-drawer-preserved : goal.loop-drawer-preserved
@@ -42,6 +42,7 @@ loop-drawer-preserved c =
     record {
       held = held_lost _ _ _ _ _ i.held later tried.within (λ k. (lost k, tried.carries k));
       home = c.compare_exchange-found.ensures.0 ∙ i.home;
+      claims = ap (λ v. v.claims) lost ∙ i.claims;
       numbers = ap (λ v. v.numbers) lost ∙ i.numbers;
       drawn = ap (λ v. v.drawn) lost ∙ i.drawn;
       later = omega (arith, i.later);

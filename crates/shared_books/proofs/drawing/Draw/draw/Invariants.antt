@@ -6,6 +6,7 @@ abbrev pub invariant-loop-drawer : goal.invariant-loop-drawer
 invariant-loop-drawer l = record {
   held : IsHeld l.drawer-inside.held l.drawer-inside.seen l.drawer-inside.seat.me;
   home : l.drawer-inside.seat.table_id ≡ l.fn.drawer.source.home;
+  claims : l.drawer-inside.seat.me.0.claims ≡ l.fn.drawer.claims;
   numbers : l.drawer-inside.seat.me.0.numbers ≡ l.fn.drawer.source.numbers;
   drawn : l.drawer-inside.seat.me.0.drawn ≡ l.fn.drawer.drawn;
   later : l.fn.drawer.seen ≤ l.drawer-inside.seen;

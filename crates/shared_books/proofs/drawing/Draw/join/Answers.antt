@@ -1,4 +1,4 @@
-use Rattle.std.proofs.Common.{◌≡◌, ◌<◌, ◌++◌, ap, sym, ◌∙◌, subst, arith}
+use Rattle.std.proofs.Common.{◌≡◌, ◌<◌, ◌+◌, ◌++◌, ap, sym, ◌∙◌, subst, arith}
 use Rattle.shared_books.specs.Drawing.{DrawerView, NoneTwice}
 use Rattle.shared_books.proofs.Held.{held_few, held_met}
 use Rattle.shared_books.proofs.DrawSteps.{meets, looks}
@@ -35,6 +35,7 @@ returns c =
     record {
       met = record {
         source = (λ k. record { home = home k; numbers = numbers k }) ∙ ap (λ d. d.source) c.drawer.view_is;
+        claims = ap (λ v. v.claims) looked.seen ∙ (ap (λ m. m.0.claims) met ∙ (ap (λ (d : DrawerView). d.claims + c.other.inside.seat.me.0.claims) c.drawer.view_is ∙ ap (λ (d : DrawerView). c.args.drawer.now.claims + d.claims) c.other.view_is));
         drawn = ap (λ v. v.drawn) looked.seen ∙ (ap (λ m. m.0.drawn) met ∙ (ap (λ (d : DrawerView). d.drawn ++ c.other.inside.seat.me.0.drawn) c.drawer.view_is ∙ ap (λ (d : DrawerView). c.args.drawer.now.drawn ++ d.drawn) c.other.view_is));
         apart = subst (λ xs. NoneTwice xs) (ap (λ v. v.drawn) (sym looked.seen)) looked.none_twice;
         later = (let a = ap (λ (d : DrawerView). d.seen) c.drawer.view_is in let b = ap (λ m. m.0.seen) met in let l = looked.later in let s = ap (λ v. v.seen) looked.seen in omega arith);

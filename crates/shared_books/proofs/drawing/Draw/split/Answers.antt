@@ -1,4 +1,5 @@
 use Rattle.std.proofs.Common.{◌≡◌, ◌<◌, ap, sym, ◌∙◌, arith}
+use Rattle.shared_books.proofs.Held.{held_left}
 use Rattle.shared_books.proofs.DrawSteps.{parts}
 use Rattle.shared_books.proofs.drawing.Draw.split.Goals as goal
 
@@ -7,3 +8,6 @@ split_seat-seat-requires c =
     let home : c.drawer.inside.seat.table_id ≡ c.self.inside.table.shared.table_id = ap (λ d. d.source.home) c.drawer.view_is ∙ (ap (λ d. d.home) c.requires.own ∙ sym (ap (λ d. d.home) c.self.view_is)) in
     let word : 0 < c.self.inside.table.shared.table_id.words = omega (arith, c.self.invariant.1) in
     (home, word, parts _ _ _ c.drawer.invariant.live)
+
+pub invariant_of-drawer : goal.invariant_of-drawer
+invariant_of-drawer c = held_left _ _ _ _ c.drawer.invariant c.split_seat-seat.ensures.2

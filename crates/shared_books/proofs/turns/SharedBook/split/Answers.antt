@@ -1,6 +1,6 @@
 use Rattle.std.proofs.Common.{◌≡◌, ◌<◌, ap, sym, ◌∙◌, arith}
 use Rattle.shared_books.proofs.TurnSteps.{parts}
-use Rattle.shared_books.proofs.Passing.{new_pass_is}
+use Rattle.shared_books.proofs.Passing.{new_pass_is, left_pass_is}
 use Rattle.shared_books.proofs.turns.SharedBook.split.Goals as goal
 
 pub split_seat-seat-requires : goal.split_seat-seat-requires
@@ -11,3 +11,6 @@ split_seat-seat-requires c =
 
 pub invariant_of-result : goal.invariant_of-result
 invariant_of-result c = new_pass_is _ _ _ c.pass.invariant c.split_seat-seat.ensures.4
+
+pub invariant_of-pass : goal.invariant_of-pass
+invariant_of-pass c = left_pass_is _ _ _ c.pass.invariant c.split_seat-seat.ensures.2
