@@ -123,7 +123,8 @@ pub(crate) fn write_lines<W: Write>(
 ) -> Result<(), LedgerFault>
     requires clock { clock.now ≡ table.now.zone }
     requires rise { Rise (seen books.now spots.now) }
-    ensures ok { OnOk result ((lines : List ℕ) × AreLinesAlong table.now [] (seen books.now spots.now) lines
+    ensures ok { OnOk result ((lines : List ℕ)
+        × AreLinesAlong table.now [] (seen books.now spots.now) lines
         × Appends (W.contents out.old) (W.contents out.new) (string_bytes text.old ++ lines)) }
     ensures fault { IfErr result (λ fault. fault ≡ ForWrite) }
 {

@@ -28,8 +28,8 @@ use indexmap::IndexMap;
 use indexmap::map::Entry as Place;
 use std::alloc::Global;
 
-/// The most accounts that a book keeps, below 2^32: an entry of the history has 32 bits for the place
-/// of its token's account.
+/// The most accounts that a book keeps, below 2^32: an entry of the history has 32 bits for the
+/// place of its token's account.
 const MOST_ACCOUNTS: usize = 4_294_967_295;
 
 /// What is kept of one token: its account, and the counts of its entries.

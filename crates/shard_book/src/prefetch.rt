@@ -92,11 +92,7 @@ impl ShardBook {
     }
 
     /// Looks up the accounts of the next taps, and opens those that are missing. Nothing is posted.
-    fn prefetch(
-        &mut self,
-        ahead: &mut RunTaps,
-        places: &mut [u32; AT_ONCE],
-    ) -> Result<(), NoMemory>
+    fn prefetch(&mut self, ahead: &mut RunTaps, places: &mut [u32; AT_ONCE]) -> Result<(), NoMemory>
         ensures { self.new ≡ self.old }
     {
         for place in places.iter_mut() {

@@ -1,5 +1,5 @@
 use Rattle.std.proofs.Common.{ap, ◌+◌, ◌*◌, ◌∙◌}
-use Rattle.shard_book.specs.inside.Packed.{word_answer, word_cents, word_moment}
+use Rattle.shard_book.specs.inside.Packed.{word_answer, word_cents}
 use Rattle.shard_book.proofs.PackedLemmas.{moment-back, answer-in_word, cents-in_word}
 use Rattle.shard_book.proofs.packed.word_of.Goals as goal
 

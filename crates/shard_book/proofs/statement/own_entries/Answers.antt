@@ -1,4 +1,3 @@
-use Rattle.std.proofs.Common.{◌∙◌}
 use Rattle.shard_book.specs.Entry.{own}
 use Rattle.shard_book.proofs.HistoryLemmas.{own-read}
 use Rattle.shard_book.proofs.statement.own_entries.Goals as goal
