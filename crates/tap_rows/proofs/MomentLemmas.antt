@@ -1,6 +1,6 @@
 -- A text tells at most one moment.
-use Rattle.std.proofs.Common.{◌≡◌, ℕ, zero, suc, ◌*◌, ◌+◌, ◌-◌, ◌<◌, ◌≤◌, List, [], ◌∷◌, length, refl, sym, ap, ◌∙◌, arith, Ok, pos}
-use Rattle.std.specs.Prelude.{◌⊎◌, inl, inr, slice_index, MatchOption, None, Some, Option, ◌^◌}
+use Rattle.std.proofs.Common.{◌≡◌, ℕ, zero, suc, ◌*◌, ◌<◌, List, [], ◌∷◌, length, sym, ◌∙◌, arith, Ok, pos, inl, inr}
+use Rattle.std.specs.Prelude.{slice_index, MatchOption, None, Some, Option, ◌^◌}
 use Rattle.jiff_fmt.specs.Temporal.{parse_timestamp}
 use Rattle.std.specs.Str.Parse.{AllDigits}
 use Rattle.std.proofs.lemmas.Str.Parse.{digit_from_value}

@@ -1,9 +1,9 @@
 -- A line has at most one cut into three fields, and is the row of at most one tap.
-use Rattle.std.proofs.Common.{◌≡◌, ℕ, suc, ◌+◌, ◌<◌, ◌^◌, List, [], ◌∷◌, ◌++◌, length, refl, sym, ap, subst, ◌∙◌, arith, append-nil, append_assoc, length-append, All, Ok}
+use Rattle.std.proofs.Common.{◌≡◌, ℕ, suc, ◌<◌, ◌^◌, List, [], ◌∷◌, ◌++◌, length, refl, sym, ap, subst, ◌∙◌, arith, append-nil, append_assoc, length-append, Ok}
 use Rattle.tap_views.specs.declared.encoder.TapFields.{TapFields}
 use Rattle.tap_rows.specs.Moments.{IsDecimal, IsTime}
 use Rattle.tap_rows.proofs.MomentLemmas.{one_time}
-use Rattle.tap_rows.specs.Rows.{HasNoComma, AreFields, IsToken, IsRow, IsNoRow, row_text, rows_text, HasNoToken, HasNoValidator, HasNoMoment}
+use Rattle.tap_rows.specs.Rows.{HasNoComma, AreFields, IsToken, IsRow, IsNoRow, row_text, rows_text}
 use Rattle.tap_rows.specs.declared.column.Column.{Column}
 use Rattle.tap_rows.specs.declared.column.Column.TheVariants.{Fields, Token, Validator, Moment}
 

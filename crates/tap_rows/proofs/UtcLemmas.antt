@@ -1,5 +1,5 @@
 -- A moment's text in UTC is read as the moment.
-use Rattle.std.proofs.Common.{◌≡◌, ◌-ℤ◌, ℕ, ℤ, pos, negsuc, zero, suc, ◌+◌, ◌-◌, ◌*◌, ◌/◌, ◌%◌, ◌^◌, ◌<◌, ◌≤◌, ◌==◌, ◌<ℤ◌, ◌≤ℤ◌, min, Bool, true, false, List, [], ◌∷◌, ◌++◌, Option, Some, None, Ok, refl, sym, ap, subst, ◌∙◌, arith}
+use Rattle.std.proofs.Common.{◌≡◌, ◌-ℤ◌, ℕ, ℤ, pos, negsuc, ◌+◌, ◌-◌, ◌*◌, ◌/◌, ◌%◌, ◌^◌, ◌<◌, ◌==◌, ◌<ℤ◌, ◌≤ℤ◌, true, false, List, [], ◌∷◌, ◌++◌, Option, Some, None, Ok, refl, sym, subst, arith, inr}
 use Rattle.std.proofs.lemmas.Bool.Decides.{nat_tests}
 use Rattle.std.proofs.lemmas.Int.{by_lt_z}
 use Rattle.std.specs.Char.{is_ascii_digit}
@@ -16,9 +16,8 @@ use Rattle.jiff_fmt.specs.Temporal.{date_parts, fraction_or_zero, parse_timestam
 use Rattle.jiff_fmt.specs.Text.{date_text, pad2, year_text}
 use Rattle.jiff_fmt.proofs.RoundTrip.{annotations-empty, date_spec-text, field-pad2, offset-zulu}
 use Rattle.jiff_fmt.proofs.TemporalLemmas.{instant-ok}
-use Rattle.fare_texts.specs.Moments.{IsCivilText, clock_text, pad3}
-use Rattle.tap_rows.specs.Moments.{HasUtcMarks, IsMoment, IsSecondText, IsUtc, seconds_text}
-use Rattle.std.specs.Prelude.{inr}
+use Rattle.fare_texts.specs.Moments.{IsCivilText, pad3}
+use Rattle.tap_rows.specs.Moments.{HasUtcMarks, IsMoment, IsSecondText, IsUtc}
 
 -- ---- the time of day
 -- what a clock shows
@@ -73,7 +72,7 @@ instant_read date moment hour minute second o fraction day early h m s read valu
     let first = date_spec-text date (84 ∷ clock hour minute second fraction) in
     let time = clock_read hour minute second o fraction h m s read in
     let nanos : parts_nanos (date_parts date) (shown hour minute second (fraction_or_zero o)) -ℤ nanos_of_seconds (pos 0) ≡ pos (moment * 1_000_000)
-        = omega (arith, signed_arith, day, value) in
+    = omega (arith, signed_arith, day, value) in
     let range : IsTimestampNanos (pos (moment * 1_000_000)) = (omega (arith, signed_arith), omega (arith, signed_arith)) in
     rw (first, time, offset-zulu, annotations-empty, nanos, instant-ok (pos (moment * 1_000_000)) range)
 
