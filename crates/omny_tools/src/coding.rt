@@ -1,7 +1,7 @@
 //! `encode` and `decode`.
 
 use crate::fault::{Fault, say};
-use crate::input::{is_plain_file, load, load_upload, open_in_pieces};
+use crate::input::{load, load_upload, plain_bytes, watch};
 use crate::names::Name;
 use crate::output::Output;
 use crate::progress::Progress;
@@ -39,10 +39,13 @@ pub(crate) fn encode<'a, W: Write + Drop>(
     name: Name<'a>,
     out: &mut Output<W>,
 ) -> Result<(), Fault<'a>> {
-    if is_plain_file(rt, name) {
-        let mut table = open_in_pieces(rt, name)?;
-        let mut again = open_in_pieces(rt, name)?;
-        return encode_table(rt.alloc(), name, &mut table, &mut again, out);
+    if let Some(bytes) = plain_bytes(rt, name) {
+        let mut table = watch(rt, name, bytes, "checked")?;
+        let mut again = watch(rt, name, bytes, "encoded")?;
+        let done = encode_table(rt.alloc(), name, &mut table, &mut again, out);
+        table.get_mut().end();
+        again.get_mut().end();
+        return done;
     }
     let text = load(rt, name)?;
     let mut table = text.as_slice();
@@ -79,7 +82,7 @@ pub(crate) fn decode<'a, W: Write + Drop, E: Write>(
     let mut progress = Progress::beside_text(rt);
     let mut is_well = true;
     for (number, name) in names.iter().enumerate() {
-        progress.tell(number, names.len());
+        progress.tell(number, names.len(), "uploads");
         match decode_one(rt, *name, out) {
             Ok(()) => {}
             Err(fault) => {

@@ -2,6 +2,7 @@
 
 use crate::fault::Fault;
 use crate::names::Name;
+use crate::progress::{Progress, Watched};
 use std::alloc::Global;
 use std::io::{BufReader, Read};
 use std::{fs, io};
@@ -58,23 +59,52 @@ pub(crate) fn open_in_pieces<'a>(
     }
 }
 
-/// Whether the same bytes can be read twice: not from standard input, and not from a pipe.
-pub(crate) fn is_plain_file(rt: &HostRuntime, name: Name<'_>) -> bool {
+/// A file of so many bytes, read in pieces, that tells how far it was read, and what is done with
+/// the bytes.
+pub(crate) fn watch<'a, 'r>(
+    rt: &'r HostRuntime,
+    name: Name<'a>,
+    bytes: u64,
+    verb: &'static str,
+) -> Result<BufReader<Watched<'r, fs::File>>, Fault<'a>> {
+    let progress = Progress::beside_text(rt);
+    let watched = Watched::new(open(rt, name)?, progress, Some(bytes), verb);
+    match BufReader::with_capacity(rt.alloc(), READ_BYTES, watched) {
+        Ok(reader) => Ok(reader),
+        Err(_) => Err(Fault::NoMemory),
+    }
+}
+
+/// The number of bytes where the same ones can be read twice: not of standard input, and not of a
+/// pipe.
+pub(crate) fn plain_bytes(rt: &HostRuntime, name: Name<'_>) -> Option<u64> {
     if name.is_input() {
-        return false;
+        return None;
     }
     match fs::metadata(rt, name.0) {
-        Ok(about) => about.is_file(),
-        Err(_) => false,
+        Ok(about) if about.is_file() => Some(about.len()),
+        Ok(_) | Err(_) => None,
     }
+}
+
+/// All bytes that the reader has left; tells how many are read.
+fn load_from<'a, R: Read + Drop>(
+    rt: &HostRuntime,
+    name: Name<'a>,
+    from: R,
+) -> Result<Vec<u8>, Fault<'a>> {
+    let mut watched = Watched::new(from, Progress::beside_text(rt), None, "read");
+    let bytes = read_whole(rt.alloc(), name, &mut watched);
+    watched.end();
+    bytes
 }
 
 /// All bytes of a file or of standard input.
 pub(crate) fn load<'a>(rt: &HostRuntime, name: Name<'a>) -> Result<Vec<u8>, Fault<'a>> {
     if name.is_input() {
-        return read_whole(rt.alloc(), name, &mut rt.reader());
+        return load_from(rt, name, rt.reader());
     }
-    read_whole(rt.alloc(), name, &mut open(rt, name)?)
+    load_from(rt, name, open(rt, name)?)
 }
 
 /// All bytes of an upload, from a file or from standard input.

@@ -4,11 +4,17 @@
 use arrayvec::ArrayString;
 use std::fmt::Write as _;
 use std::io;
-use std::io::{IsTerminal, Write};
+use std::io::{IsTerminal, Read, Write};
 use std::time::Instant;
 
-/// After how many seconds the line is shown.
-const QUIET_SECONDS: u64 = 1;
+/// After how many milliseconds the line is shown first.
+const QUIET_MS: u128 = 1_000;
+
+/// How many milliseconds a line stands before the next one.
+const PACE_MS: u128 = 200;
+
+/// A MiB in bytes.
+const MIB: u64 = 1_048_576;
 
 /// How far a run is. It is told by one write a line, so that no other writer stands within it.
 #[derive(Drop)]
@@ -19,6 +25,8 @@ pub(crate) struct Progress<'r> {
     err: io::Stderr,
     /// When the run began; none where nothing is shown.
     begun: Option<Instant>,
+    /// After how many milliseconds of the run the next line is due.
+    due_ms: u128,
     /// Whether a line stands on the terminal.
     is_shown: bool,
 }
@@ -36,6 +44,18 @@ impl<'r> Progress<'r> {
             rt,
             err,
             begun,
+            due_ms: QUIET_MS,
+            is_shown: false,
+        }
+    }
+
+    /// A run of which nothing is shown.
+    pub(crate) fn hidden(rt: &'r HostRuntime) -> Progress<'r> {
+        Progress {
+            rt,
+            err: rt.stderr(),
+            begun: None,
+            due_ms: QUIET_MS,
             is_shown: false,
         }
     }
@@ -50,24 +70,55 @@ impl<'r> Progress<'r> {
         progress
     }
 
-    /// Whether the line is to be shown.
-    fn is_due(&self) -> bool {
-        match &self.begun {
-            Some(begun) => match begun.elapsed(self.rt) {
-                Ok(passed) => passed.as_secs() >= QUIET_SECONDS,
-                Err(_) => false,
-            },
-            None => false,
+    /// For how many milliseconds the run goes on; none where nothing is shown.
+    fn passed_ms(&self) -> Option<u128> {
+        match self.begun.as_ref()?.elapsed(self.rt) {
+            Ok(passed) => Some(passed.as_millis()),
+            Err(_) => None,
         }
     }
 
-    /// Tells that so many of all are done.
-    pub(crate) fn tell(&mut self, done: usize, all: usize) {
+    /// Whether a line is to be shown. Then the next one is due a while later.
+    fn is_due(&mut self) -> bool {
+        let Some(passed) = self.passed_ms() else {
+            return false;
+        };
+        let is_due = passed >= self.due_ms;
+        if is_due {
+            self.due_ms = passed.saturating_add(PACE_MS);
+        }
+        is_due
+    }
+
+    /// Shows a line in place of the one that stands there.
+    fn show(&mut self, line: &ArrayString<80>) {
+        let _ = self.err.write(line.as_bytes());
+        self.is_shown = true;
+    }
+
+    /// Tells that so many of all these things are done.
+    pub(crate) fn tell(&mut self, done: usize, all: usize, things: &str) {
         if self.is_due() {
             let mut line: ArrayString<80> = ArrayString::new();
-            let _ = write!(line, "\r{done} of {all} uploads");
-            let _ = self.err.write(line.as_bytes());
-            self.is_shown = true;
+            let _ = write!(line, "\r{done} of {all} {things}");
+            self.show(&line);
+        }
+    }
+
+    /// Tells what is done with so many bytes of all, or that it is with so many where their number
+    /// is not known.
+    pub(crate) fn tell_bytes(&mut self, done: u64, all: Option<u64>, verb: &str) {
+        if self.is_due() {
+            let mut line: ArrayString<80> = ArrayString::new();
+            let done = done / MIB;
+            let _ = match all {
+                Some(all) => {
+                    let all = all / MIB;
+                    write!(line, "\r{done} of {all} MiB {verb}")
+                }
+                None => write!(line, "\r{done} MiB {verb}"),
+            };
+            self.show(&line);
         }
     }
 
@@ -77,5 +128,96 @@ impl<'r> Progress<'r> {
             let _ = self.err.write(b"\r\x1b[K");
             self.is_shown = false;
         }
+    }
+}
+
+/// A reader that tells how far it was read.
+#[derive(Drop)]
+pub(crate) struct Watched<'r, R: Read + Drop> {
+    /// What is read.
+    from: R,
+    progress: Progress<'r>,
+    /// How many bytes were read.
+    done: u64,
+    /// How many there are, where that is known.
+    all: Option<u64>,
+    /// What is done with them.
+    verb: &'static str,
+}
+
+impl<'r, R: Read + Drop> Watched<'r, R> {
+    /// A reader of which nothing was read.
+    pub(crate) fn new(
+        from: R,
+        progress: Progress<'r>,
+        all: Option<u64>,
+        verb: &'static str,
+    ) -> Watched<'r, R> {
+        Watched {
+            from,
+            progress,
+            done: 0,
+            all,
+            verb,
+        }
+    }
+
+    /// Takes the line away.
+    pub(crate) fn end(&mut self) {
+        self.progress.end();
+    }
+}
+
+impl<'r, R: Read + Drop> Read for Watched<'r, R> {
+    fn read(&mut self, buf: &mut [u8]) -> io::Result<usize> {
+        self.progress.tell_bytes(self.done, self.all, self.verb);
+        let count = self.from.read(buf)?;
+        self.done = self.done.saturating_add(count as u64);
+        if count == 0 {
+            self.progress.end();
+        }
+        Ok(count)
+    }
+}
+
+/// A writer that tells how much was written.
+#[derive(Drop)]
+pub(crate) struct Watching<'r, W: Write + Drop> {
+    /// Where the bytes go.
+    to: W,
+    progress: Progress<'r>,
+    /// How many bytes were written.
+    done: u64,
+}
+
+impl<'r, W: Write + Drop> Watching<'r, W> {
+    /// A writer to which nothing was written.
+    pub(crate) fn new(to: W, progress: Progress<'r>) -> Watching<'r, W> {
+        Watching {
+            to,
+            progress,
+            done: 0,
+        }
+    }
+}
+
+impl<'r, W: Write + Drop> Write for Watching<'r, W> {
+    fn write(&mut self, bytes: &[u8]) -> io::Result<usize> {
+        match self.to.write(bytes) {
+            Ok(count) => {
+                self.done = self.done.saturating_add(count as u64);
+                self.progress.tell_bytes(self.done, None, "written");
+                Ok(count)
+            }
+            Err(error) => {
+                self.progress.end();
+                Err(error)
+            }
+        }
+    }
+
+    fn flush(&mut self) -> io::Result<()> {
+        self.progress.end();
+        self.to.flush()
     }
 }

@@ -4,6 +4,7 @@ use crate::fault::Fault;
 use crate::input::load_upload;
 use crate::names::Name;
 use crate::output::Output;
+use crate::progress::Progress;
 use std::alloc::{AllocError, Global};
 use std::io::Write;
 use std::{fmt, fs, io};
@@ -61,11 +62,13 @@ fn split_all<'a>(
     rt: &HostRuntime,
     words: &SplitWords<'a>,
     ends: &mut String,
+    progress: &mut Progress<'_>,
 ) -> Result<Split, Fault<'a>> {
     let Ok(mut split) = Split::new(rt.alloc(), words.parts.clamp(1, MOST_PARTS)) else {
         return Err(Fault::NoMemory);
     };
     for (number, name) in words.uploads.iter().enumerate() {
+        progress.tell(number, words.uploads.len(), "uploads");
         let upload = load_upload(rt, *name)?;
         let facts = facts_of(&upload);
         if push_end(ends, u128::from(words.first) + number as u128, &facts).is_err() {
@@ -124,8 +127,14 @@ fn make_part<'a>(
 }
 
 /// Makes the files of all parts.
-fn make_parts<'a>(rt: &HostRuntime, folder: Name<'a>, split: &Split) -> Result<(), Fault<'a>> {
+fn make_parts<'a>(
+    rt: &HostRuntime,
+    folder: Name<'a>,
+    split: &Split,
+    progress: &mut Progress<'_>,
+) -> Result<(), Fault<'a>> {
     for part in 0..split.len() {
+        progress.tell(part as usize, split.len() as usize, "parts");
         let Ok(bytes) = split.file(rt.alloc(), part) else {
             return Err(Fault::NoMemory);
         };
@@ -134,15 +143,28 @@ fn make_parts<'a>(rt: &HostRuntime, folder: Name<'a>, split: &Split) -> Result<(
     Ok(())
 }
 
+/// Splits the uploads and makes the files of all parts. Gives a line for each upload.
+fn split_and_make<'a>(
+    rt: &HostRuntime,
+    words: &SplitWords<'a>,
+    progress: &mut Progress<'_>,
+) -> Result<String, Fault<'a>> {
+    let mut ends = String::new(rt.alloc());
+    let split = split_all(rt, words, &mut ends, progress)?;
+    make_parts(rt, words.folder, &split, progress)?;
+    Ok(ends)
+}
+
 /// Splits uploads by token: makes a file of each part's taps, and then writes how each upload ends.
 pub(crate) fn split<'a, W: Write + Drop>(
     rt: &HostRuntime,
     words: &SplitWords<'a>,
     out: &mut Output<W>,
 ) -> Result<(), Fault<'a>> {
-    let mut ends = String::new(rt.alloc());
-    let split = split_all(rt, words, &mut ends)?;
-    make_parts(rt, words.folder, &split)?;
+    let mut progress = Progress::new(rt);
+    let made = split_and_make(rt, words, &mut progress);
+    progress.end();
+    let ends = made?;
     if out.write_all(ends.as_bytes()).is_err() {
         return Err(out.failed());
     }

@@ -101,6 +101,7 @@ fn add_upload<'a, E: Write>(
     rt: &HostRuntime,
     name: Name<'a>,
     seen: &mut Seen,
+    progress: &mut Progress<'_>,
     err: &mut E,
 ) -> Result<bool, Fault<'a>> {
     let upload = load_upload(rt, name)?;
@@ -109,11 +110,28 @@ fn add_upload<'a, E: Write>(
     }
     match facts_of(&upload).fault {
         Some((offset, fault)) => {
+            progress.end();
             say(err, &Fault::Layout(name, offset, fault));
             Ok(false)
         }
         None => Ok(true),
     }
+}
+
+/// Adds the validators of all uploads. Says whether none has a layout fault.
+fn add_uploads<'a, E: Write>(
+    rt: &HostRuntime,
+    names: &[Name<'a>],
+    seen: &mut Seen,
+    progress: &mut Progress<'_>,
+    err: &mut E,
+) -> Result<bool, Fault<'a>> {
+    let mut is_well = true;
+    for (number, name) in names.iter().enumerate() {
+        progress.tell(number, names.len(), "uploads");
+        is_well &= add_upload(rt, *name, seen, progress, err)?;
+    }
+    Ok(is_well)
 }
 
 /// Writes the lines of a table that has no fault, and the warnings.
@@ -132,13 +150,10 @@ fn understood<'a, W: Write + Drop, E: Write>(
         None => Timestamp::now(rt).unwrap_or(Timestamp::UNIX_EPOCH),
     };
     let mut seen = Seen::new(alloc);
-    let mut is_well = true;
     let mut progress = Progress::new(rt);
-    for (number, upload) in question.uploads.iter().enumerate() {
-        progress.tell(number, question.uploads.len());
-        is_well &= add_upload(rt, *upload, &mut seen, err)?;
-    }
+    let added = add_uploads(rt, &question.uploads, &mut seen, &mut progress, err);
     progress.end();
+    let is_well = added?;
     let told = Told {
         name: question.table,
         text,

@@ -7,6 +7,7 @@ use crate::fault::{Fault, say};
 use crate::merging::{merge, merge_ledgers};
 use crate::names::Escaped;
 use crate::output::Output;
+use crate::progress::{Progress, Watching};
 use crate::splitting::split;
 use crate::table::tell_table;
 use crate::telling::{tell, tell_and_keep};
@@ -101,7 +102,11 @@ fn perform<'a, W: Write + Drop, E: Write>(
 
 /// Does what is asked for, and brings what is written through.
 fn finish<'a, E: Write>(rt: &HostRuntime, task: &Task<'a>, err: &mut E) -> Result<bool, Fault<'a>> {
-    let mut out = Output::new(rt.alloc(), io::writer(rt))?;
+    let progress = match task {
+        Task::Merge(_) | Task::MergeLedgers(_) => Progress::beside_text(rt),
+        _ => Progress::hidden(rt),
+    };
+    let mut out = Output::new(rt.alloc(), Watching::new(io::writer(rt), progress))?;
     let done = perform(rt, task, &mut out, err);
     out.finish()?;
     done

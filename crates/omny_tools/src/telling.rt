@@ -86,7 +86,7 @@ fn tell_each<'a, W: Write + Drop>(
 ) -> Result<bool, Fault<'a>> {
     let mut is_well = true;
     for (number, name) in names.iter().enumerate() {
-        progress.tell(number, names.len());
+        progress.tell(number, names.len(), "uploads");
         let (upload, is_whole) = tell_one(rt, number, *name, out)?;
         is_well &= is_whole;
         if let Some(sharing) = sharing {

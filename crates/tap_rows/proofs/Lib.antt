@@ -1,3 +1,5 @@
+pub mod MomentLemmas
 mod RowLemmas
 mod TableLemmas
+pub mod UtcLemmas
 mod WrittenLemmas

@@ -1,7 +1,9 @@
 -- A line has at most one cut into three fields, and is the row of at most one tap.
-use Rattle.std.proofs.Common.{◌≡◌, ℕ, suc, ◌+◌, ◌<◌, ◌^◌, List, [], ◌∷◌, ◌++◌, length, refl, sym, ap, subst, ◌∙◌, arith, append-nil, append_assoc, length-append, All, Ok}
+use Rattle.std.proofs.Common.{◌≡◌, ℕ, suc, ◌<◌, ◌^◌, List, [], ◌∷◌, ◌++◌, length, refl, sym, ap, subst, ◌∙◌, arith, append-nil, append_assoc, length-append, Ok}
 use Rattle.tap_views.specs.declared.encoder.TapFields.{TapFields}
-use Rattle.tap_rows.specs.Rows.{HasNoComma, AreFields, IsToken, IsDecimal, IsRow, IsNoRow, row_text, rows_text, HasNoToken, HasNoValidator, HasNoMoment}
+use Rattle.tap_rows.specs.Moments.{IsDecimal, IsTime}
+use Rattle.tap_rows.proofs.MomentLemmas.{one_time}
+use Rattle.tap_rows.specs.Rows.{HasNoComma, AreFields, IsToken, IsRow, IsNoRow, row_text, rows_text}
 use Rattle.tap_rows.specs.declared.column.Column.{Column}
 use Rattle.tap_rows.specs.declared.column.Column.TheVariants.{Fields, Token, Validator, Moment}
 
@@ -60,7 +62,7 @@ one_row line tap other is also =
     let tokens : Ok tap.token ≡ Ok other.token = sym is.token ∙ subst (λ text. IsToken text other.token) (sym t) also.token in
     let token : tap.token ≡ other.token = cc in
     let validator : tap.validator ≡ other.validator = cc (is.validator.0.value, also.validator.0.value, v) in
-    let moment : tap.moment ≡ other.moment = cc (is.moment.0.value, also.moment.0.value, m) in
+    let moment : tap.moment ≡ other.moment = one_time is.moment_text tap.moment other.moment is.moment.0 (subst (λ text. IsTime text other.moment) (sym m) also.moment.0) in
     let first : tap ≡ tap_with other.token tap.validator tap.moment = ap (λ t. tap_with t tap.validator tap.moment) token in
     let second : tap_with other.token tap.validator tap.moment ≡ tap_with other.token other.validator tap.moment = ap (λ v. tap_with other.token v tap.moment) validator in
     let third : tap_with other.token other.validator tap.moment ≡ other = ap (λ m. tap_with other.token other.validator m) moment in
@@ -77,7 +79,7 @@ no_bad_row line tap Validator is bad =
     bad.wrong tap.validator (subst (λ text. IsDecimal text tap.validator × (tap.validator < 2 ^ 32)) v is.validator)
 no_bad_row line tap Moment is bad =
     let (t, v, m) = one_fields line is.token_text is.validator_text is.moment_text bad.token_text bad.validator_text bad.moment_text is.fields bad.fields in
-    bad.wrong tap.moment (subst (λ text. IsDecimal text tap.moment × (tap.moment < 4102444800000)) m is.moment)
+    bad.wrong tap.moment (subst (λ text. IsTime text tap.moment × (tap.moment < 4102444800000)) m is.moment)
 
 -- no bytes are the row of no tap
 pub not_empty : (tap : TapFields) → ¬ (IsRow [] tap)

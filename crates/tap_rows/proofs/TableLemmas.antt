@@ -16,7 +16,7 @@ use Rattle.tap_views.specs.Layout.{Tap}
 use Rattle.tap_parts.specs.Parts.{IsFileOf}
 use Rattle.tap_parts.proofs.Texts.{no_text}
 use Rattle.tap_rows.specs.Rows.{IsRow, IsNoRow}
-use Rattle.tap_rows.specs.Tables.{head, BeginsWithRows, IsTable, IsTableOf, IsBadRow, IsRefused, IsEncoded, IsOfTable}
+use Rattle.tap_rows.specs.Tables.{head, BeginsWithRows, IsTable, IsTableOf, IsRefused, IsEncoded, IsOfTable}
 use Rattle.tap_rows.specs.inside.Tables.{IsEncodedAs, IsNextRow}
 use Rattle.tap_rows.specs.declared.column.Column.{Column}
 use Rattle.tap_rows.specs.declared.fault.RowsFault.{RowsFault}

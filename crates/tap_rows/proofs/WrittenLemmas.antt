@@ -1,21 +1,20 @@
 -- The table that is written is read as the taps that it was written for.
-use Rattle.std.proofs.Common.{◌≡◌, ℕ, zero, suc, ◌+◌, ◌-◌, ◌<◌, ◌≤◌, ◌^◌, List, [], ◌∷◌, ◌++◌, length, take, refl, sym, ap, subst, ◌∙◌, arith, append-nil, append_assoc, length-append, All, Ok, true, false, Bool, Some, None, ◌==◌, ◌&&◌, codes}
-use Rattle.std.specs.Prelude.{slice_index, slice_index_or, nat_lt, nat_le, IsOk, if◌then◌else◌, is_some}
+use Rattle.std.proofs.Common.{inl, ◌≡◌, ℕ, zero, suc, ◌+◌, ◌-◌, ◌<◌, ◌≤◌, ◌^◌, List, [], ◌∷◌, ◌++◌, length, take, refl, sym, ap, subst, ◌∙◌, arith, append_assoc, length-append, true, false, Bool, ◌==◌, ◌&&◌}
+use Rattle.std.specs.Prelude.{slice_index, slice_index_or, nat_lt, IsOk, if◌then◌else◌}
 use Rattle.std.specs.List.{AllByRecursion, AllPass}
-use Rattle.std.specs.Char.{digit_value}
-use Rattle.std.specs.Int.{IsInRange}
 use Rattle.std.specs.Fmt.{decimal}
-use Rattle.std.specs.Str.Parse.{IsNumeral, AllDigits, digits_value}
+use Rattle.std.specs.Str.Parse.{AllDigits}
 use Rattle.std.specs.Io.BufRead.{first_line, take_through, drop_through, ends_with_byte, strip_last}
 use Rattle.std.proofs.lemmas.Bool.{lt-ltb, ltb-true}
 use Rattle.std.proofs.lemmas.Bool.Decides.{nat_tests}
 use Rattle.std.proofs.lemmas.Fmt.{decimal_is_IsNumeral}
 use Rattle.std.proofs.lemmas.Str.Parse.{digit_from_value}
 use Rattle.std.proofs.Math.Seq.{get_or-append_seam}
-use Rattle.hex.specs.Hex.{encode_lower, decode_sized, is_hex_digit, hex_digit_value, IsBytes}
+use Rattle.hex.specs.Hex.{encode_lower, decode_sized, is_hex_digit}
 use Rattle.hex.proofs.HexLemmas.{decode_sized-encode_lower, IsOk-decode_sized}
 use Rattle.tap_views.specs.declared.encoder.TapFields.{TapFields}
-use Rattle.tap_rows.specs.Rows.{HasNoComma, AreFields, IsDecimal, IsRow, IsTapFields, row_text, rows_text}
+use Rattle.tap_rows.specs.Moments.{IsDecimal}
+use Rattle.tap_rows.specs.Rows.{IsRow, IsTapFields, row_text, rows_text}
 use Rattle.tap_rows.specs.Tables.{head, BeginsWithRows, IsTable, table_text}
 
 -- each byte is a digit or comes after them
@@ -175,7 +174,7 @@ row_back tap is = record {
   };
   token = decode_sized-encode_lower tap.token 16 is.token is.bytes;
   validator = (number_back tap.validator (omega (arith, is.validator)), is.validator);
-  moment = (number_back tap.moment (omega (arith, is.moment)), is.moment);
+  moment = (inl (number_back tap.moment (omega (arith, is.moment))), is.moment);
 }
 
 -- the text of a row is its line and a line feed

@@ -1,10 +1,10 @@
 -- A tap as a row of CSV: three fields, with commas between them.
 use Rattle.std.specs.Prelude.{◌≡◌, ℕ, ◌<◌, ◌^◌, List, [], ◌∷◌, ◌++◌, length, All, Ok, flat_map}
 use Rattle.std.specs.Fmt.{decimal}
-use Rattle.std.specs.Str.Parse.{IsNumeral, digits_value}
 use Rattle.hex.specs.Hex.{decode_sized, encode_lower, IsBytes}
 use Rattle.tap_views.specs.Layout.{moment_limit}
 use Rattle.tap_views.specs.declared.encoder.TapFields.{TapFields}
+use Rattle.tap_rows.specs.Moments.{IsDecimal, IsMoment}
 use Rattle.tap_rows.specs.declared.column.Column.{Column}
 use Rattle.tap_rows.specs.declared.column.Column.TheVariants.{Fields, Token, Validator, Moment}
 
@@ -23,18 +23,9 @@ pub record AreFields (line token validator moment : List ℕ) : Type 0 where
 abbrev pub IsToken : List ℕ → List ℕ → Type 0
 IsToken text token = decode_sized text 16 ≡ Ok token
 
--- the text is one decimal digit or more, and they write this number
-pub record IsDecimal (text : List ℕ) (number : ℕ) : Type 0 where
-  pub digits : IsNumeral 10 text
-  pub value : number ≡ digits_value 10 text
-
 -- the text writes a validator's number
 abbrev pub IsValidator : List ℕ → ℕ → Type 0
 IsValidator text number = IsDecimal text number × (number < 2 ^ 32)
-
--- the text writes a moment in milliseconds, below the limit of moments
-abbrev pub IsMoment : List ℕ → ℕ → Type 0
-IsMoment text number = IsDecimal text number × (number < moment_limit)
 
 -- the line is a row of this tap
 pub record IsRow (line : List ℕ) (tap : TapFields) : Type 0 where

@@ -1,14 +1,16 @@
 //! What tables and uploads promise each other. Each law is the contract of a function, which does
 //! nothing at run time.
 
-ghost use Rattle.std.specs.Prelude.{◌≡◌, ℕ, List, None, Option};
+ghost use Rattle.std.specs.Prelude.{◌≡◌, ◌<◌, ℕ, List, None, Option};
 ghost use Rattle.std.specs.List.{AllByRecursion};
+ghost use Rattle.fare_texts.specs.Moments.{IsCivilText};
 ghost use Rattle.tap_parts.specs.Parts.{IsFileOf};
 ghost use Rattle.tap_rows.specs.Decoded.{fields_in};
+ghost use Rattle.tap_rows.specs.Moments.{IsMoment, IsSecondText};
 ghost use Rattle.tap_rows.specs.Rows.{IsNoRow, IsRow, IsTapFields};
 ghost use Rattle.tap_rows.specs.Tables.{IsBadRow, IsTable, table_text};
 ghost use Rattle.tap_rows.specs.declared.column.Column.{Column};
-ghost use Rattle.tap_views.specs.Layout.{Tap};
+ghost use Rattle.tap_views.specs.Layout.{Tap, moment_limit};
 ghost use Rattle.tap_views.specs.declared.encoder.TapFields.{TapFields};
 ghost use Rattle.tap_views.specs.declared.fault.LayoutFault.{LayoutFault};
 ghost use Rattle.upload_facts.specs.Facts.{IsReadAs};
@@ -33,6 +35,15 @@ pub fn one_table()
 pub fn reads_back()
     ensures { (taps : List TapFields) → AllByRecursion IsTapFields taps
         → IsTable (table_text taps) taps }
+{}
+
+/// The moment's text in UTC is read as this moment: with three places of a second, as ledgers have
+/// it, and without them, where it is a whole number of seconds.
+pub fn reads_utc()
+    ensures civil { (moment : ℕ) (text : List ℕ) → moment < moment_limit → IsCivilText moment text
+        → IsMoment text moment }
+    ensures seconds { (moment : ℕ) (text : List ℕ) → moment < moment_limit
+        → IsSecondText moment text → IsMoment text moment }
 {}
 
 /// What an upload of some taps is read as, when it is decoded: these taps, in their order, and no

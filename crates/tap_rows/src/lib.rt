@@ -7,6 +7,7 @@ mod fault;
 mod into_table;
 mod into_upload;
 pub mod laws;
+mod moment;
 mod read;
 mod row;
 

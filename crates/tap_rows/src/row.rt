@@ -1,15 +1,11 @@
 //! One row: read as a tap, and written for one.
 
-ghost use Rattle.std.specs.Prelude.{◌≡◌, ◌<◌, ◌^◌, ◌++◌, ◌∷◌, ℕ, List, IfErr, IfOk, MatchOption};
-ghost use Rattle.std.specs.Str.Parse.{IsNumeral, digits_value};
-ghost use Rattle.tap_rows.specs.Rows.{HasNoComma, IsDecimal, IsMoment, IsNoRow, IsRow, IsToken};
-ghost use Rattle.tap_rows.specs.Rows.{IsValidator};
+ghost use Rattle.std.specs.Prelude.{◌≡◌, ◌++◌, ◌∷◌, ℕ, List, IfErr, IfOk, MatchOption};
+ghost use Rattle.tap_rows.specs.Rows.{HasNoComma, IsNoRow, IsRow, IsToken, IsValidator};
 
 use crate::column::Column;
+use crate::moment::{moment_of, number_of};
 use tap_views::TapFields;
-
-/// 2100-01-01T00:00Z in milliseconds since 1970-01-01T00:00Z: every moment is below it.
-const MOMENT_LIMIT: u64 = 4_102_444_800_000;
 
 /// What stands before the first comma and behind it, or nothing where there is no comma.
 fn cut(line: &[u8]) -> Option<(&[u8], &[u8])>
@@ -32,20 +28,6 @@ fn token_of(field: &[u8]) -> Option<[u8; 16]>
     }
 }
 
-/// The number that decimal digits write, where it has 64 bits at most.
-fn number_of(field: &[u8]) -> Option<u64>
-    ensures { MatchOption result ((number : ℕ) → number < 2 ^ 64
-        → ¬ (IsDecimal field.now number)) (λ number. IsDecimal field.now number) }
-{
-    if field.starts_with(b"+") {
-        return None;
-    }
-    match str::from_utf8(field) {
-        Ok(text) => text.parse::<u64>().ok(),
-        Err(_) => None,
-    }
-}
-
 /// The validator's number that a field writes.
 fn validator_of(field: &[u8]) -> Option<u32>
     ensures { MatchOption result ((number : ℕ)
@@ -53,19 +35,6 @@ fn validator_of(field: &[u8]) -> Option<u32>
 {
     let number = number_of(field)?;
     u32::try_from(number).ok()
-}
-
-/// The moment that a field tells, in milliseconds since 1970-01-01T00:00Z.
-fn moment_of(field: &[u8]) -> Option<u64>
-    ensures { MatchOption result ((number : ℕ)
-        → ¬ (IsMoment field.now number)) (λ number. IsMoment field.now number) }
-{
-    let number = number_of(field)?;
-    if number < MOMENT_LIMIT {
-        Some(number)
-    } else {
-        None
-    }
 }
 
 /// The tap of a row, which is given without its line feed; else its first column that is wrong.

@@ -1,4 +1,4 @@
-use Rattle.std.proofs.Common.{◌≡◌, ◌∙◌, sym}
+use Rattle.std.proofs.Common.{◌≡◌}
 use Rattle.tap_rows.proofs.TableLemmas.{same_count, no_change}
 use Rattle.tap_rows.specs.declared.fault.RowsFault.TheVariants.{Changed}
 use Rattle.tap_rows.proofs.into_upload.encode.Goals as goal

@@ -1,5 +1,4 @@
-use Rattle.std.proofs.Common.{◌≡◌, ◌<◌, ◌≤◌, List, length, All, IfSome}
-use Rattle.tap_views.specs.declared.encoder.TapFields.{TapFields}
+use Rattle.std.proofs.Common.{◌<◌, ◌≤◌, length, All, IfSome}
 use Rattle.tap_rows.proofs.TableLemmas.{Writing}
 use Rattle.tap_rows.proofs.into_upload.write_taps.Given as goal
 

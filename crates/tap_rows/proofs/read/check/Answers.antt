@@ -1,10 +1,6 @@
-use Rattle.std.proofs.Common.{◌≡◌, ◌∙◌, ◌+◌, ℕ, List, [], ◌++◌, ◌∷◌, Some, None, Ok, Err, sym, refl, ap, subst, arith, length, length-append}
-use Rattle.std.specs.Prelude.{IfSome}
+use Rattle.std.proofs.Common.{◌∙◌, ◌+◌, [], ◌++◌, ◌∷◌, Some, Ok, Err, ap, arith, length-append}
 use Rattle.std.proofs.lemmas.Result.{err_from_is_err_and}
-use Rattle.tap_views.specs.declared.encoder.TapFields.{TapFields}
-use Rattle.tap_rows.specs.Tables.{IsTableOf, IsRefused}
-use Rattle.tap_rows.specs.inside.Tables.{IsNextRow}
-use Rattle.tap_rows.proofs.TableLemmas.{Reached, weaker, next_of, reached_more, reached_end, reached_fault}
+use Rattle.tap_rows.proofs.TableLemmas.{weaker, next_of, reached_more, reached_fault}
 use Rattle.tap_rows.proofs.read.check.Goals as goal
 
 pub returns-in_err-next_row-clause-refused : goal.returns-in_err-next_row-clause-refused

@@ -1,6 +1,4 @@
-use Rattle.std.proofs.Common.{◌≡◌, ◌∙◌, ℕ, List, sym, subst}
 use Rattle.std.proofs.lemmas.Bool.{eqb-true}
-use Rattle.tap_rows.specs.Rows.{HasNoComma, AreFields}
 use Rattle.tap_rows.proofs.RowLemmas.{no_first, no_second, no_third}
 use Rattle.tap_rows.proofs.row.tap_of.Goals as goal
 

@@ -1,0 +1,48 @@
+-- The moment of a tap, as the field of a row tells it: in milliseconds, or by RFC 3339 in UTC.
+use Rattle.std.specs.Prelude.{◌≡◌, ℕ, ◌-◌, ◌*◌, ◌/◌, ◌%◌, ◌<◌, ◌≤◌, ◌⊎◌, pos, List, ◌++◌}
+use Rattle.std.specs.Prelude.{codes, length, slice_index, Ok}
+use Rattle.std.specs.Str.Parse.{IsNumeral, digits_value}
+use Rattle.jiff_core.specs.declared.civil.date.Date.{Date}
+use Rattle.jiff_core.specs.Date.{epoch_day}
+use Rattle.jiff_fmt.specs.Temporal.{parse_timestamp}
+use Rattle.jiff_fmt.specs.Text.{date_text, pad2}
+use Rattle.tap_views.specs.Layout.{moment_limit}
+
+-- the text is one decimal digit or more, and they write this number
+pub record IsDecimal (text : List ℕ) (number : ℕ) : Type 0 where
+  pub digits : IsNumeral 10 text
+  pub value : number ≡ digits_value 10 text
+
+-- where `2024-03-08T17:00:00Z` has its `T`, its colons and its `Z`, this text has them too; what
+-- stands before the `Z` may be longer, as a fraction makes it
+abbrev pub HasUtcMarks : List ℕ → Type 0
+HasUtcMarks text =
+    (20 ≤ length text) × (slice_index text 10 ≡ 84) × (slice_index text 13 ≡ 58)
+    × (slice_index text 16 ≡ 58) × (slice_index text (length text - 1) ≡ 90)
+
+-- the text has these marks, and tells an instant by the grammar of RFC 3339: so many milliseconds
+-- after 1970-01-01T00:00Z, and no fraction of one
+pub record IsUtc (text : List ℕ) (number : ℕ) : Type 0 where
+  pub marks : HasUtcMarks text
+  pub instant : parse_timestamp text ≡ Ok (pos (number * 1_000_000))
+
+-- the text tells a moment in one of the two ways
+abbrev pub IsTime : List ℕ → ℕ → Type 0
+IsTime text number = IsDecimal text number ⊎ IsUtc text number
+
+-- it is below the limit of moments, too
+abbrev pub IsMoment : List ℕ → ℕ → Type 0
+IsMoment text number = IsTime text number × (number < moment_limit)
+
+-- the time of day that is so many milliseconds after midnight, as `T17:30:05Z`
+abbrev pub seconds_text : ℕ → List ℕ
+seconds_text ms =
+    codes "T" ++ (pad2 (ms / 3_600_000) ++ (codes ":" ++ (pad2 (ms / 60_000 % 60) ++ (codes ":"
+    ++ (pad2 (ms / 1_000 % 60) ++ codes "Z")))))
+
+-- the text of a moment that is a whole number of seconds, as `2024-03-08T17:00:00Z`
+pub record IsSecondText (moment : ℕ) (text : List ℕ) : Type 0 where
+  pub date : Date
+  pub day : epoch_day date ≡ pos (moment / 86_400_000)
+  pub whole : moment % 1_000 ≡ 0
+  pub shown : text ≡ date_text date ++ seconds_text (moment % 86_400_000)

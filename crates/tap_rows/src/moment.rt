@@ -1,0 +1,91 @@
+//! The moment that a field tells: in milliseconds, or by RFC 3339 in UTC.
+
+ghost use Rattle.std.specs.Prelude.{◌≡◌, ◌<◌, ◌^◌, ◌*◌, ◌↔◌, ℕ, Ok, pos, IsTrue, MatchOption};
+ghost use Rattle.jiff_fmt.specs.Temporal.{parse_timestamp};
+ghost use Rattle.tap_rows.specs.Moments.{HasUtcMarks, IsDecimal, IsMoment, IsTime};
+
+use jiff_fmt::temporal::parse_timestamp;
+
+/// 2100-01-01T00:00Z in milliseconds since 1970-01-01T00:00Z: every moment is below it.
+const MOMENT_LIMIT: u64 = 4_102_444_800_000;
+
+/// A millisecond in nanoseconds.
+const MILLISECOND: u128 = 1_000_000;
+
+/// The number that decimal digits write, where it has 64 bits at most.
+pub(crate) fn number_of(field: &[u8]) -> Option<u64>
+    ensures { MatchOption result ((number : ℕ) → number < 2 ^ 64
+        → ¬ (IsDecimal field.now number)) (λ number. IsDecimal field.now number) }
+{
+    if field.starts_with(b"+") {
+        return None;
+    }
+    match str::from_utf8(field) {
+        Ok(text) => text.parse::<u64>().ok(),
+        Err(_) => None,
+    }
+}
+
+/// Whether a text has the marks of `2024-03-08T17:00:00Z` in their places.
+fn has_utc_marks(text: &[u8]) -> bool
+    ensures { IsTrue result ↔ HasUtcMarks text.now }
+{
+    text.len() >= 20
+        && text[10] == b'T'
+        && text[13] == b':'
+        && text[16] == b':'
+        && text[text.len() - 1] == b'Z'
+}
+
+/// Nanoseconds as milliseconds, where they are a whole number of them.
+fn whole_milliseconds(nanoseconds: i128) -> Option<u64>
+    ensures { MatchOption result ((number : ℕ) → number < 2 ^ 64
+        → ¬ (nanoseconds ≡ pos (number * 1_000_000)))
+        (λ number. nanoseconds ≡ pos (number * 1_000_000)) }
+{
+    let nanoseconds = u128::try_from(nanoseconds).ok()?;
+    if nanoseconds % MILLISECOND == 0 {
+        u64::try_from(nanoseconds / MILLISECOND).ok()
+    } else {
+        None
+    }
+}
+
+/// The milliseconds of the instant that a text tells, where they are a whole number.
+fn instant_of(text: &[u8]) -> Option<u64>
+    ensures { MatchOption result ((number : ℕ) → number < 2 ^ 64
+        → ¬ (parse_timestamp text.now ≡ Ok (pos (number * 1_000_000))))
+        (λ number. parse_timestamp text.now ≡ Ok (pos (number * 1_000_000))) }
+{
+    match parse_timestamp(text) {
+        Ok(instant) => whole_milliseconds(instant.nanosecond),
+        Err(_) => None,
+    }
+}
+
+/// The milliseconds that a field tells in one of the two ways.
+fn time_of(field: &[u8]) -> Option<u64>
+    ensures { MatchOption result ((number : ℕ) → number < 2 ^ 64
+        → ¬ (IsTime field.now number)) (λ number. IsTime field.now number) }
+{
+    if has_utc_marks(field) {
+        instant_of(field)
+    } else {
+        number_of(field)
+    }
+}
+
+/// The moment that a field tells, in milliseconds since 1970-01-01T00:00Z.
+pub(crate) fn moment_of(field: &[u8]) -> Option<u64>
+    ensures { MatchOption result ((number : ℕ)
+        → ¬ (IsMoment field.now number)) (λ number. IsMoment field.now number) }
+{
+    let Some(number) = time_of(field) else {
+        return None;
+    };
+    if number < MOMENT_LIMIT {
+        Some(number)
+    } else {
+        None
+    }
+}
