@@ -85,7 +85,7 @@ impl<'a> Service<'a> {
                 move || -> Share
                     requires { IsShareOf self.now share }
                     ensures { IsShareOf self.entry.now result
-                        × WorkedOn self.entry.now share.entry result }
+                        × WorkedOn self.entry.now share result }
                 { self.work(rt, alloc, share, gate) },
             );
             let Ok(thread) = started else {
