@@ -1,11 +1,14 @@
-use Rattle.std.proofs.Common.{◌≡◌, List, [], ◌∷◌, ◌++◌, All, length, map, length-append, append_assoc, sym, ◌∙◌, ap, subst, arith}
+use Rattle.std.proofs.Common.{◌≡◌, List, [], ◌∷◌, ◌++◌, All, length, map, length-append, append_assoc, append-nil, refl, sym, ◌∙◌, ap, subst, arith}
 use Rattle.std.proofs.lemmas.List.{map-append}
 use Rattle.std.proofs.lemmas.List.Elements.{All-nil, All-cons, All-append}
 use Rattle.std.specs.Vec.Iter.{into_iter_items}
 use Rattle.std.specs.declared.thread.PromisedHandle.{PromisedHandle}
 use Rattle.fare_service.specs.declared.running.OfShare.{OfShare}
 use Rattle.fare_service.specs.declared.share.Share.{Share}
+use Rattle.std.specs.List.{AllZip}
 use Rattle.fare_service.specs.ShareView.{ShareView}
+use Rattle.fare_service.specs.Stopping.{WorkedOn}
+use Rattle.fare_service.proofs.ThreadLemmas.{kept_zip}
 use Rattle.fare_service.proofs.service.Service.work_in.Goals as goal
 
 abbrev began_with : PromisedHandle Share OfShare → ShareView
@@ -26,3 +29,20 @@ loop-share-preserved g c =
           ∙ (ap (λ ss. ss ++ began_with c.in-Ok.thread ∷ []) c.loop-share.invariant.began ∙ ap (λ s. c.loop-share.yielded ++ s ∷ []) (ap (λ (p : OfShare). p.began.value) c.in-Ok.ensures.ok ∙ c.of-began.ensures)));
       number = omega (arith, c.loop-share.invariant.number, ap length items, length-append c.loop-share.threads.items (c.in-Ok.thread ∷ []), length-append c.loop-share.yielded (c.in-Some.share ∷ []));
     }
+
+nothing : (ss : List ShareView) → length ss ≡ 0 → ss ≡ []
+nothing [] none = refl
+nothing (s ∷ ss) none = absurd (omega arith)
+
+pub returns-clause-worked : goal.returns-clause-worked
+returns-clause-worked g c =
+    let inv = c.loop-share.invariant in
+    let left = into_iter_items c.loop-share.share-iterator in
+    let none : left ≡ [] = nothing left (omega (arith, c.in-None.ensures.steps.0, inv.left_len)) in
+    let all : c.loop-share.yielded ≡ c.args.shares.items = sym (append-nil c.loop-share.yielded) ∙ (ap (λ ss. c.loop-share.yielded ++ ss) (sym none) ∙ inv.left) in
+    let rs = c.in-Ok-join_promised.worked.items in
+    let P : List ShareView → Type 0 = λ ss. AllZip (WorkedOn c.args.self.now) ss rs in
+    subst P (inv.began ∙ all)
+    (kept_zip _ c.loop-share.threads.items rs _ (omega (arith, c.loop-share.threads.ok.0)) (omega (arith, c.loop-share.threads.ok.0, c.in-Ok-join_promised.worked.ok.0, c.in-Ok-join_promised.ensures.len)) c.in-Ok-join_promised.ensures.each
+    (WorkedOn c.args.self.now) (λ (p : OfShare). p.began.value) (λ (p : OfShare). p.service.now ≡ c.args.self.now) inv.held
+    (λ p r own kept. subst (λ s. WorkedOn s p.began.value r) own kept.1))
