@@ -54,22 +54,20 @@ own_seen books token (first ∷ list) = by (token_eq (key books first) token) (o
 -- one of a list that passes a test, where some element does
 some_passes : {X : Type 0} (test : X → Bool) (list : List X) → list_any test list ≡ true → (x : X) × (test x ≡ true)
 some_passes test [] is = absurd (false≢true is)
-some_passes {X} test (x ∷ list) is = by (test x) refl
+some_passes {X} test (x ∷ list) is = by (test x) refl (λ not_here. some_passes test list (ap (λ (b : Bool). b || list_any test list) (sym not_here) ∙ is))
   where
-    by : (b : Bool) → test x ≡ b → (y : X) × (test y ≡ true)
-    by true here = (x, here)
-    by false not_here = some_passes test list (ap (λ (b : Bool). b || list_any test list) (sym not_here) ∙ is)
+    by : (b : Bool) → test x ≡ b → (test x ≡ false → (y : X) × (test y ≡ true)) → (y : X) × (test y ≡ true)
+    by true here rest = (x, here)
+    by false not_here rest = rest not_here
 
 -- nothing is kept where no element passes
 none_pass : {X : Type 0} (test : X → Bool) (list : List X) → list_any test list ≡ false → filter test list ≡ []
 none_pass test [] none = refl
-none_pass {X} test (x ∷ list) none = by (test x) refl
+none_pass {X} test (x ∷ list) none = by (test x) refl (λ not_here. none_pass test list (ap (λ (b : Bool). b || list_any test list) (sym not_here) ∙ none))
   where
-    by : (b : Bool) → test x ≡ b → cond (test x) (x ∷ filter test list) (filter test list) ≡ []
-    by true here = absurd (false≢true (sym none ∙ ap (λ (b : Bool). b || list_any test list) here))
-    by false not_here =
-        ap (λ (b : Bool). cond b (x ∷ filter test list) (filter test list)) not_here
-        ∙ none_pass test list (ap (λ (b : Bool). b || list_any test list) (sym not_here) ∙ none)
+    by : (b : Bool) → test x ≡ b → (test x ≡ false → filter test list ≡ []) → cond (test x) (x ∷ filter test list) (filter test list) ≡ []
+    by true here rest = absurd (false≢true (sym none ∙ ap (λ (b : Bool). b || list_any test list) here))
+    by false not_here rest = ap (λ (b : Bool). cond b (x ∷ filter test list) (filter test list)) not_here ∙ rest not_here
 
 -- where a spot has an entry of the token, the sort keeps the order of the token's
 kept_some : (books : List Book) (token : Token) (old new : List Spot) (one : Spot) → key books one ≡ token → IsStableByKey (key books) token_cmp old new → filter (is_at books token) new ≡ filter (is_at books token) old
