@@ -99,9 +99,10 @@ class Run:
             except (OSError, ValueError):
                 yield part, f"{name} is missing"
                 continue
+            number = re.fullmatch(b".{24}([0-9a-f]{8})", first)
             if size != wanted:
                 yield part, f"{name} has {size} bytes, not {wanted}"
-            elif first and self.part_of(int(first[24:], 16)) != part:
+            elif first and not (number and self.part_of(int(number[1], 16)) == part):
                 yield part, f"{name} is of another part"
 
     def sized_taps(self, group):
