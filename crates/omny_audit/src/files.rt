@@ -6,6 +6,7 @@ use std::io::{ErrorKind, Input, Read, StdinLock};
 use std::{fs, io};
 
 /// Loads from the system's files and standard input. It does not keep what it loaded.
+#[derive(Drop)]
 pub struct Host<'a> {
     rt: &'a HostRuntime,
 }

@@ -1,0 +1,26 @@
+//! The ledger that is written and the ledger that is read: what a run prints is legal.
+#![tactic(auto)]
+
+ghost use Rattle.std.specs.Prelude.{ℕ, List, Option};
+ghost use Rattle.fare_table.specs.Fares.{Fares};
+ghost use Rattle.shard_book.specs.declared.entry.Entry.{Entry};
+ghost use Rattle.shard_book.specs.declared.token.Token.{Token};
+ghost use Rattle.shard_book.specs.Entry.{own};
+ghost use Rattle.shard_book.specs.History.{IsLegal};
+ghost use Rattle.ledger_check.specs.Ledger.{IsLedgerOf};
+ghost use Rattle.ledger_texts.specs.Ledger.{IsLedgerOver};
+ghost use Rattle.ledger_laws.specs.Written.{AreShort, CanBeTold, told_entries};
+
+/// The written ledger of a history, or of one of its tokens, is a ledger as the check of ledgers
+/// reads it, of the same entries token by token, where no line is too long for one.
+pub fn written()
+    ensures { (fares : Fares) (only : Option Token) (history : List Entry) (text : List ℕ)
+        → CanBeTold fares only history → AreShort text → IsLedgerOver fares history only text
+        → IsLedgerOf fares (told_entries only history) text }
+{}
+
+/// In a legal history each token's own entries are one.
+pub fn own_legal()
+    ensures { (fares : Fares) (history : List Entry) (token : Token) → IsLegal fares history
+        → IsLegal fares (own token history) }
+{}
