@@ -43,11 +43,11 @@ own_here : (token : Token) (entry : Entry) (entries : List Entry) → is_of toke
 unfolding own
 own_here token entry entries is = ap (λ (b : Bool). cond b (entry ∷ filter (is_of token) entries) (filter (is_of token) entries)) is
 
-own_not : (token : Token) (entry : Entry) (entries : List Entry) → is_of token entry ≡ false → own token (entry ∷ entries) ≡ own token entries
+pub own_not : (token : Token) (entry : Entry) (entries : List Entry) → is_of token entry ≡ false → own token (entry ∷ entries) ≡ own token entries
 unfolding own
 own_not token entry entries is = ap (λ (b : Bool). cond b (entry ∷ filter (is_of token) entries) (filter (is_of token) entries)) is
 
-own_none : (token : Token) → own token [] ≡ []
+pub own_none : (token : Token) → own token [] ≡ []
 unfolding own
 own_none token = refl
 
