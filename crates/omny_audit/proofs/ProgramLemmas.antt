@@ -1,9 +1,13 @@
 -- What was loaded, one more each time, and what the program compares.
-use Rattle.std.proofs.Common.{◌≡◌, ◌∙◌, ℕ, Bool, not, List, [], ◌∷◌, ◌++◌, length, map, refl, sym, ap, subst, append-nil, append_assoc, nat_eq, Option, Some, None, if◌then◌else◌, Bor}
+use Rattle.std.proofs.Common.{◌≡◌, ◌∙◌, ℕ, Bool, not, List, [], ◌∷◌, ◌++◌, length, map, refl, sym, ap, subst, append-nil, append_assoc, nat_eq, Option, Some, None, if◌then◌else◌, Bor, ◌<◌, zero, suc, get_or, inl, inr, arith, codes}
+use Rattle.std.specs.Prelude.{IfSome, unwrap_or}
 use Rattle.std.proofs.lemmas.List.{map-append}
 use Rattle.clap.specs.Words.{Text}
 use Rattle.tap_balance.specs.Balances.{ArePosted}
 use Rattle.tap_views.specs.declared.encoder.TapFields.{TapFields}
+use Rattle.omny_audit.specs.Fault.{IsOneOf, NamesOneOf, named_by}
+use Rattle.omny_audit.specs.Options.{Asked, files_of}
+use Rattle.omny_audit.specs.declared.fault.Fault.{Fault}
 use Rattle.omny_audit.specs.Program.{ArePostedOfAll, LoadsFiles, compared}
 use Rattle.omny_audit.specs.Source.{IsAllOf, Loaded, OpensOne, Tells, TellsOne}
 
@@ -52,3 +56,43 @@ pub compared_is : (names : List (Bor Text)) (posted : List TapFields) (has : Boo
     → (if has then Some posted else None) ≡ compared (map (λ n. n.now) names) posted
 compared_is [] posted has is = rw is refl
 compared_is (name ∷ names) posted has is = rw is refl
+
+-- a name at a place is one of the names
+pub is_one_at : (names : List (Bor Text)) (k : ℕ) (d : Bor Text) (name : Text) → k < length names → name ≡ (get_or names k d).now → IsOneOf name (map (λ n. n.now) names)
+is_one_at [] k d name within is = absurd (omega arith)
+is_one_at (n ∷ names) zero d name within is = inl is
+is_one_at (n ∷ names) (suc k) d name within is = inr (is_one_at names k d name (omega arith) is)
+
+is_one_left : (name : Text) (names more : List Text) → IsOneOf name names → IsOneOf name (names ++ more)
+is_one_left name [] more one = absurd one
+is_one_left name (n ∷ names) more one = elim one [ | inl is ↦ inl is | inr rest ↦ inr (is_one_left name names more rest) ]
+
+is_one_last : (name : Text) (names : List Text) (last : Text) → name ≡ last → IsOneOf name (names ++ last ∷ [])
+is_one_last name [] last is = inl is
+is_one_last name (n ∷ names) last is = inr (is_one_last name names last is)
+
+-- of the files that are asked for
+pub at_table : (asked : Asked) (fault : Fault) → IfSome (named_by fault) (λ told. told ≡ asked.table) → NamesOneOf (files_of asked) fault
+at_table asked fault is = weaker (named_by fault) is
+  where
+    weaker : (o : Option Text) → IfSome o (λ told. told ≡ asked.table) → IfSome o (λ name. IsOneOf name (files_of asked))
+    weaker None is = tt
+    weaker (Some name) is = inl is
+
+pub at_uploads : (asked : Asked) (fault : Fault) → NamesOneOf asked.uploads fault → NamesOneOf (files_of asked) fault
+at_uploads asked fault is = weaker (named_by fault) is
+  where
+    weaker : (o : Option Text) → IfSome o (λ name. IsOneOf name asked.uploads) → IfSome o (λ name. IsOneOf name (files_of asked))
+    weaker None is = tt
+    weaker (Some name) is = inr (is_one_left name asked.uploads _ is)
+
+pub at_ledger : (asked : Asked) (fault : Fault) → IfSome (named_by fault) (λ told. told ≡ unwrap_or asked.ledger (codes "standard input")) → NamesOneOf (files_of asked) fault
+at_ledger asked fault is = weaker (named_by fault) is
+  where
+    weaker : (o : Option Text) → IfSome o (λ told. told ≡ unwrap_or asked.ledger (codes "standard input")) → IfSome o (λ name. IsOneOf name (files_of asked))
+    weaker None is = tt
+    weaker (Some name) is = inr (is_one_last name asked.uploads _ is)
+
+-- a fault that names nothing names no other
+pub names_none : (names : List Text) (fault : Fault) → named_by fault ≡ None → NamesOneOf names fault
+names_none names fault none = rw none tt

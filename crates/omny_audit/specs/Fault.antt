@@ -1,5 +1,6 @@
 -- The fault lines, without their line feeds. Each has the status 1.
-use Rattle.std.specs.Prelude.{ℕ, List, ◌++◌, Bool, true, false, codes}
+use Rattle.std.specs.Prelude.{◌≡◌, ◌⊎◌, ℕ, List, [], ◌∷◌, ◌++◌, Bool, true, false, codes, Option, None, Some}
+use Rattle.std.specs.Prelude.{IfSome}
 use Rattle.fare_table.specs.Key.{key_name}
 use Rattle.fare_table.specs.declared.fault.TableFault.{TableFault}
 use Rattle.fare_table.specs.declared.fault.TableFault.TheVariants as table
@@ -46,3 +47,18 @@ abbrev pub load_text : List ℕ → LoadFault → List ℕ
 load_text name load.Unread = codes "fault: cannot read " ++ name
 load_text name load.TooLong = codes "fault: " ++ (name ++ codes " is too long")
 load_text name load.NoMemory = codes "fault: out of memory"
+
+-- the name that the fault's line tells, if any
+abbrev pub named_by : Fault → Option (List ℕ)
+named_by (Unread name) = Some name.now
+named_by (TooLong name) = Some name.now
+named_by _ = None
+
+-- the name is one of these
+abbrev pub IsOneOf : List ℕ → List (List ℕ) → Type 0
+IsOneOf name [] = ⊥
+IsOneOf name (other ∷ names) = (name ≡ other) ⊎ IsOneOf name names
+
+-- the fault's line tells no other name than one of these
+abbrev pub NamesOneOf : List (List ℕ) → Fault → Type 0
+NamesOneOf names fault = IfSome (named_by fault) (λ name. IsOneOf name names)

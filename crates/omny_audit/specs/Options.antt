@@ -1,5 +1,5 @@
 -- The command line, and what its words ask for.
-use Rattle.std.specs.Prelude.{◌≡◌, ◌⊎◌, ℕ, List, [], ◌∷◌, Option, None, Some, codes, true, map}
+use Rattle.std.specs.Prelude.{◌≡◌, ◌⊎◌, ℕ, List, [], ◌∷◌, ◌++◌, Option, None, Some, codes, true, map}
 use Rattle.std.specs.Prelude.{if◌then◌else◌, option_and_then, option_map, unwrap_or}
 use Rattle.std.specs.Str.{bytes_eq}
 use Rattle.clap.specs.Lexer.{usize_max}
@@ -71,6 +71,11 @@ asked_by words = record {
   uploads = unwrap_or (all_of (codes "uploads") (matches_of program words)) [];
   ledger = option_and_then not_dash (first_of (codes "LEDGER") (matches_of program words));
 }
+
+-- the files that are asked for: the table, the uploads in order, and the ledger
+abbrev pub files_of : Asked → List Text
+files_of asked =
+    asked.table ∷ (asked.uploads ++ unwrap_or asked.ledger (codes "standard input") ∷ [])
 
 -- what the options ask for
 abbrev pub asked_of : Options → Asked

@@ -11,7 +11,7 @@ ghost use Rattle.ledger_check.specs.Ledger.{IsLedgerOf};
 ghost use Rattle.ledger_check.specs.Struck.{posted_tap};
 ghost use Rattle.ledger_check.specs.Verdicts.{IsVerdict, is_legal};
 ghost use Rattle.omny_audit.specs.Answers.{IsAnswer, StrikesOut, agrees};
-ghost use Rattle.omny_audit.specs.Fault.{is_unwritten};
+ghost use Rattle.omny_audit.specs.Fault.{is_unwritten, named_by};
 ghost use Rattle.omny_audit.specs.Source.{IsAllOf};
 
 use crate::fault::Fault;
@@ -40,6 +40,7 @@ pub fn verdict_of<R: Read>(
         × IsAllOf (R.remaining reader.old) text × IsVerdict table.now text verdict
         × StrikesOut table.now text balance.old balance.new verdict) }
     ensures fault { IfErr result (λ fault. is_unwritten fault ≡ false) }
+    ensures named { IfErr result (λ fault. named_by fault ≡ None) }
 {
     let mut checker = Checker::new(alloc);
     let mut step = [0u8; STEP];
@@ -124,6 +125,7 @@ pub fn audit_over<R: Read, W: Write>(
     // Only a write that fails leaves something of a text behind.
     ensures fault { IfErr result (λ fault. is_unwritten fault ≡ false
         → Keeps (W.contents out.old) (W.contents out.new)) }
+    ensures named { IfErr result (λ fault. named_by fault ≡ None) }
 {
     let verdict = verdict_of(alloc, table, clock, reader, &mut balance)?;
     let told = answer_text(alloc, &verdict, &balance, has_uploads)?;

@@ -1,6 +1,7 @@
 //! Why the program gives up, with the line that says so.
-ghost use Rattle.std.specs.Prelude.{◌≡◌, Some};
-ghost use Rattle.omny_audit.specs.Fault.{fault_text, is_quiet, load_text, table_text};
+ghost use Rattle.std.specs.Prelude.{◌≡◌, IfSome, Some, false};
+ghost use Rattle.omny_audit.specs.Fault.{fault_text, is_quiet, is_unwritten, load_text, named_by};
+ghost use Rattle.omny_audit.specs.Fault.{table_text};
 
 use crate::source::LoadFault;
 use fare_table::{NoMemory, TableFault};
@@ -29,7 +30,9 @@ pub enum Fault<'a> {
 impl<'a> Fault<'a> {
     /// Why the file of this name was not loaded.
     pub fn of_load(name: &'a str, fault: LoadFault) -> Fault<'a>
-        ensures { fault_text result ≡ load_text name.entry.now fault }
+        ensures line { fault_text result ≡ load_text name.entry.now fault }
+        ensures named { IfSome (named_by result) (λ told. told ≡ name.entry.now) }
+        ensures unwritten { is_unwritten result ≡ false }
     {
         match fault {
             LoadFault::Unread => Fault::Unread(name),

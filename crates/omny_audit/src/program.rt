@@ -1,13 +1,15 @@
 //! The whole program, over any source of bytes and any two writers.
-ghost use Rattle.std.specs.Prelude.{◌≡◌, ◌≢◌, ◌≤◌, ◌⊎◌, ◌++◌, ◌∷◌, [], List, ℕ, IfErr, IfOk, OnOk};
-ghost use Rattle.std.specs.Prelude.{Some, false, map, option_map, string_bytes, true};
+ghost use Rattle.std.specs.Prelude.{◌≡◌, ◌≢◌, ◌≤◌, ◌⊎◌, ◌++◌, ◌∷◌, [], List, ℕ, IfErr, IfOk};
+ghost use Rattle.std.specs.Prelude.{IfSome, None, Some, codes, false, map, option_map};
+ghost use Rattle.std.specs.Prelude.{string_bytes, true, unwrap_or};
 ghost use Rattle.std.specs.Io.KnownBytes.{Appends, Keeps};
 ghost use Rattle.std.specs.IoError.{error_kind};
 ghost use Rattle.clap.specs.Words.{kind_of};
 ghost use Rattle.tap_balance.specs.Balances.{IsBalance};
 ghost use Rattle.tap_views.specs.declared.encoder.TapFields.{TapFields};
-ghost use Rattle.omny_audit.specs.Fault.{fault_text, is_unwritten};
+ghost use Rattle.omny_audit.specs.Fault.{NamesOneOf, is_unwritten, named_by};
 ghost use Rattle.omny_audit.specs.Options.{AsksForText, IsRequest, Parses, asked_by, asked_of};
+ghost use Rattle.omny_audit.specs.Options.{files_of};
 ghost use Rattle.omny_audit.specs.Program.{ArePostedOfAll, Audits, GaveUp, LoadsFiles, LoadsTable};
 ghost use Rattle.omny_audit.specs.Program.{Told};
 ghost use Rattle.omny_audit.specs.Source.{OpensOne, TellsOne};
@@ -26,11 +28,16 @@ use std::io;
 use std::io::{ErrorKind as WriteKind, Write};
 use tap_balance::Balance;
 
+/// What standard input is called in a fault line.
+const STANDARD_INPUT: &str = "standard input";
+
 /// All bytes of the file of this name.
 fn load_named<'a, S: Source>(source: &mut S, name: &'a str) -> Result<Vec<u8>, Fault<'a>>
     ensures ok { IfOk result (λ bytes. TellsOne (S.loaded source.old) (S.loaded source.new)
         (Some name.entry.now) bytes.items) }
     ensures fault { IfErr result (λ fault. is_unwritten fault ≡ false) }
+    ensures named { IfErr result (λ fault. IfSome (named_by fault)
+        (λ told. told ≡ name.entry.now)) }
 {
     match source.load(name) {
         Ok(bytes) => Ok(bytes),
@@ -47,6 +54,8 @@ fn load_table<'a, S: Source>(
     ensures ok { IfOk result (λ table.
         LoadsTable name.entry.now (S.loaded source.old) (S.loaded source.new) table) }
     ensures fault { IfErr result (λ fault. is_unwritten fault ≡ false) }
+    ensures named { IfErr result (λ fault. IfSome (named_by fault)
+        (λ told. told ≡ name.entry.now)) }
 {
     let text = load_named(source, name)?;
     let table = FareTable::read(alloc, &text)?;
@@ -63,6 +72,7 @@ fn load_balance<'a, S: Source>(
         × LoadsFiles (map (λ n. n.now) names.now) (S.loaded source.old) (S.loaded source.new) files
         × ArePostedOfAll files posted × IsBalance balance posted []) }
     ensures fault { IfErr result (λ fault. is_unwritten fault ≡ false) }
+    ensures named { IfErr result (λ fault. NamesOneOf (map (λ n. n.now) names.now) fault) }
 {
     let mut balance = Balance::new(alloc);
     for name in names {
@@ -80,10 +90,12 @@ fn open_ledger<'a, S: Source>(
     ensures ok { IfOk result (λ ledger. OpensOne (S.loaded source.old) (S.loaded source.new)
         (option_map (λ n. n.now) name.entry) (S.Ledger.remaining ledger)) }
     ensures fault { IfErr result (λ fault. is_unwritten fault ≡ false) }
+    ensures named { IfErr result (λ fault. IfSome (named_by fault) (λ told. told
+        ≡ unwrap_or (option_map (λ n. n.now) name.entry) (codes "standard input"))) }
 {
     match source.open(name) {
         Ok(ledger) => Ok(ledger),
-        Err(fault) => Err(Fault::of_load(name.unwrap_or(""), fault)),
+        Err(fault) => Err(Fault::of_load(name.unwrap_or(STANDARD_INPUT), fault)),
     }
 }
 
@@ -102,6 +114,7 @@ fn audit<'a, S: Source, W: Write>(
     // Only a write that fails leaves something of a text behind.
     ensures fault { IfErr result (λ fault. is_unwritten fault ≡ false
         → Keeps (W.contents out.old) (W.contents out.new)) }
+    ensures named { IfErr result (λ fault. NamesOneOf (files_of (asked_of options.now)) fault) }
 {
     let table = load_table(alloc, options.table, source)?;
     let clock = table.clock(alloc)?;
@@ -133,7 +146,8 @@ fn tell<E: Write>(err: &mut Complaints<E>, fault: &Fault) -> u8
 
 /// Prints clap's text, through to where the writer brings it.
 fn show_text<'a, W: Write>(error: &Error, out: &mut W) -> Result<(), Fault<'a>>
-    ensures { IfErr result (λ fault. is_unwritten fault ≡ true) }
+    ensures fault { IfErr result (λ fault. is_unwritten fault ≡ true) }
+    ensures named { IfErr result (λ fault. named_by fault ≡ None) }
 {
     match write!(out, "{error}") {
         Ok(()) => flush(out),
@@ -153,8 +167,9 @@ fn show<W: Write, E: Write>(error: &Error, out: &mut W, err: &mut Complaints<E>)
     ensures right { result ≡ 2 → ¬ IsRequest (kind_of error.now) }
     ensures mistake { result ≡ 2 → Keeps (W.contents out.old) (W.contents out.new) }
     ensures quiet { result ≡ 0 → err.new ≡ err.old }
-    ensures fault { result ≡ 1 → (fault : Fault) × GaveUp fault (E.contents err.old.writer)
-        (E.contents err.new.writer) err.new.failed (W.contents out.old) (W.contents out.new) }
+    ensures fault { result ≡ 1 → (fault : Fault) × (named_by fault ≡ None)
+        × GaveUp fault (E.contents err.old.writer) (E.contents err.new.writer) err.new.failed
+        (W.contents out.old) (W.contents out.new) }
     ensures status { result ≤ 2 }
 {
     match error.kind() {
@@ -187,14 +202,16 @@ pub fn main_over<S: Source, W: Write, E: Write>(
         (S.loaded source.new) (W.contents out.old) (W.contents out.new) true }
 
     // With status 1 the answer was written, and says that not all is well, and nothing was said on
-    // `err`; or a fault was told, and nothing was written but where a write failed.
+    // `err`; or a fault was told, which names no other file than one that the words name, and
+    // nothing was written but where a write failed.
     ensures faults { result ≡ 1
         → (Parses (map string_bytes words.now)
         × Audits (asked_by (map string_bytes words.now)) (S.loaded source.old)
         (S.loaded source.new) (W.contents out.old) (W.contents out.new) false
         × (err.new ≡ err.old))
-        ⊎ ((fault : Fault) × GaveUp fault (E.contents err.old.writer)
-        (E.contents err.new.writer) err.new.failed (W.contents out.old) (W.contents out.new)) }
+        ⊎ ((fault : Fault) × NamesOneOf (files_of (asked_by (map string_bytes words.now))) fault
+        × GaveUp fault (E.contents err.old.writer) (E.contents err.new.writer) err.new.failed
+        (W.contents out.old) (W.contents out.new)) }
 
     // Words that are no command line end well only where they ask for help or the version.
     ensures helped { ¬ Parses (map string_bytes words.now) → result ≡ 0

@@ -48,7 +48,7 @@ pub trait Source {
     /// beginning. What a fault leaves opened is not told.
     fn open(&mut self, name: Option<&str>) -> Result<Self::Ledger, LoadFault>
         ensures { IfOk result (λ ledger. OpensOne (loaded self.old) (loaded self.new)
-            (option_map (λ n. n.now) name) (Self.Ledger.remaining ledger)) };
+            (option_map (λ n. n.now) name.entry) (Self.Ledger.remaining ledger)) };
 }
 
 /// All bytes that the reader has left, to its end. Reading stops at the first read that fails (and
