@@ -63,6 +63,15 @@ is_one_at [] k d name within is = absurd (omega arith)
 is_one_at (n ∷ names) zero d name within is = inl is
 is_one_at (n ∷ names) (suc k) d name within is = inr (is_one_at names k d name (omega arith) is)
 
+-- so is that of a fault
+pub names_at : (names : List (Bor Text)) (k : ℕ) (d : Bor Text) (fault : Fault) → k < length names
+    → IfSome (named_by fault) (λ told. told ≡ (get_or names k d).now) → NamesOneOf (map (λ n. n.now) names) fault
+names_at names k d fault within is = weaker (named_by fault) is
+  where
+    weaker : (o : Option Text) → IfSome o (λ told. told ≡ (get_or names k d).now) → IfSome o (λ name. IsOneOf name (map (λ n. n.now) names))
+    weaker None is = tt
+    weaker (Some name) is = is_one_at names k d name within is
+
 is_one_left : (name : Text) (names more : List Text) → IsOneOf name names → IsOneOf name (names ++ more)
 is_one_left name [] more one = absurd one
 is_one_left name (n ∷ names) more one = elim one [ | inl is ↦ inl is | inr rest ↦ inr (is_one_left name names more rest) ]

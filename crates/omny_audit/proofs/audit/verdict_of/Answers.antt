@@ -32,13 +32,14 @@ returns-then-count-eq0-clause-told g c =
     let none = ap (λ (n : ℕ). before.text ++ take n c.read.new.buf) c.if-count-eq0.true ∙ append-nil before.text in
     let Is : List ℕ → Type 0 = λ text. IsVerdict c.args.table.now text c.finish.result
     × StrikesOut c.args.table.now text c.args.balance.now c.loop-turn.balance c.finish.result in
-    at_end Is _ _ _
+    let told = at_end Is _ _ _
     (consumes-more _ _ _ before.text (take c.in-Ok.count c.read.new.buf) before.read got.0)
     (got.1 c.if-count-eq0.true (omega arith))
     (subst Is (sym none) (
       c.finish.ensures.verdict c.args.table.now before.text before.fed,
       λ posted is legal entries ledger. c.finish.ensures.struck c.args.table.now before.text c.loop-turn.balance posted (before.struck posted is) legal entries ledger,
-    ))
+    )) in
+    (told.0, told.1, told.2.0, told.2.1)
 
 false_true : false ≡ true → ⊥
 false_true h = cc
@@ -50,12 +51,13 @@ returns-in-Some-clause-told g c =
     let fed = rw c.in-Some.is at (c.in_ok-verdict.ensures.fed before.text before.fed) in
     let Is : List ℕ → Type 0 = λ text. IsVerdict c.args.table.now text c.in-Some.verdict
     × StrikesOut c.args.table.now text c.args.balance.now c.feed.new.balance c.in-Some.verdict in
-    whatever_follows Is _ _ _
+    let told = whatever_follows Is _ _ _
     (consumes-more _ _ _ before.text (take c.in-Ok.count c.read.new.buf) before.read got.0)
     (λ more. (
       fed more,
       λ posted is legal. absurd (false_true (sym (rw c.in-Some.is at (c.in_ok-verdict.ensures.struck before.text posted (before.struck posted is))) ∙ legal)),
-    ))
+    )) in
+    (told.0, told.1, told.2.0, told.2.1)
 
 pub loop-turn-preserved : goal.loop-turn-preserved
 loop-turn-preserved g c =

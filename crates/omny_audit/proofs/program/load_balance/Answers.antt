@@ -1,6 +1,7 @@
-use Rattle.std.proofs.Common.{◌≡◌, ◌∙◌, ◌<◌, ◌++◌, ◌∷◌, [], List, ℕ, length, map, refl, take, ap, get_or, Bor, ◌+◌}
+use Rattle.std.proofs.Common.{◌≡◌, ◌∙◌, ◌<◌, ◌++◌, ◌∷◌, [], List, ℕ, length, map, refl, subst, take, ap, get_or, Bor, ◌+◌}
 use Rattle.std.proofs.lemmas.List.{map-append, take_all, take_more}
-use Rattle.omny_audit.proofs.ProgramLemmas.{loads_push, posted_push, tells_none}
+use Rattle.tap_balance.specs.Balances.{ArePosted}
+use Rattle.omny_audit.proofs.ProgramLemmas.{loads_push, names_at, posted_push, tells_none}
 use Rattle.omny_audit.proofs.program.load_balance.Goals as goal
 
 pub loop-name-init : goal.loop-name-init
@@ -20,7 +21,7 @@ loop-name-preserved g c =
       before.0 ++ c.in_ok-upload.upload.items ∷ [],
       before.1 ++ added.0,
       rw more (loads_push _ _ _ _ _ _ _ before.2 c.in_ok-upload.ensures.ok),
-      posted_push _ _ _ _ before.3 added.1,
+      posted_push _ _ _ _ before.3 (subst (λ (u : List ℕ). ArePosted u added.0) c.deref.ensures.value added.1),
       added.2 before.1 before.4,
     )
 
@@ -28,3 +29,8 @@ pub returns-clause-ok : goal.returns-clause-ok
 returns-clause-ok g c =
     let all : take c.loop-name.name-index c.args.names.now ≡ c.args.names.now = take_all _ c.args.names.now c.loop-name-test.false in
     rw all at c.loop-name.invariant
+
+pub returns-in_err-upload-clause-named : goal.returns-in_err-upload-clause-named
+returns-in_err-upload-clause-named g c =
+    let no_name : Bor (List ℕ) = record { ref_ptr = (0, 0); now = [] } in
+    names_at c.args.names.now c.loop-name.name-index no_name _ c.loop-name-test.true c.in_err-upload.ensures.named
