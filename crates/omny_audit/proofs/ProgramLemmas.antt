@@ -1,6 +1,7 @@
 -- What was loaded, one more each time, and what the program compares.
-use Rattle.std.proofs.Common.{◌≡◌, ◌∙◌, ℕ, Bool, not, List, [], ◌∷◌, ◌++◌, length, map, refl, sym, ap, subst, append-nil, append_assoc, nat_eq, Option, Some, None, if◌then◌else◌, Bor, ◌<◌, zero, suc, get_or, inl, inr, arith, codes}
+use Rattle.std.proofs.Common.{◌≡◌, ◌∙◌, ℕ, Bool, false, not, List, [], ◌∷◌, ◌++◌, length, map, refl, sym, ap, subst, append-nil, append_assoc, nat_eq, Option, Some, None, if◌then◌else◌, Bor, ◌<◌, zero, suc, get_or, inl, inr, arith, codes}
 use Rattle.std.specs.Prelude.{IfSome, unwrap_or}
+use Rattle.std.proofs.lemmas.Bool.Decides.{nat_tests}
 use Rattle.std.proofs.lemmas.List.{map-append}
 use Rattle.clap.specs.Words.{Text}
 use Rattle.tap_balance.specs.Balances.{ArePosted}
@@ -51,11 +52,16 @@ opened None after name left text opens all = tt
 opened (Some before) after name None text opens all = absurd opens
 opened (Some before) after name (Some known) text opens all = subst (λ (t : List ℕ). TellsOne (Some before) after name t) all opens
 
+not_zero : (n : ℕ) → nat_eq (suc n) 0 ≡ false
+not_zero n = grind (arith, nat_tests)
+
 -- taps are compared where uploads are named
 pub compared_is : (names : List (Bor Text)) (posted : List TapFields) (has : Bool) → has ≡ not (nat_eq (length names) 0)
     → (if has then Some posted else None) ≡ compared (map (λ n. n.now) names) posted
 compared_is [] posted has is = rw is refl
-compared_is (name ∷ names) posted has is = rw is refl
+compared_is (name ∷ names) posted has is =
+    let some : nat_eq (length (name ∷ names)) 0 ≡ false = not_zero (length names) in
+    ap (λ (b : Bool). if b then Some posted else None) (is ∙ ap not some)
 
 -- a name at a place is one of the names
 pub is_one_at : (names : List (Bor Text)) (k : ℕ) (d : Bor Text) (name : Text) → k < length names → name ≡ (get_or names k d).now → IsOneOf name (map (λ n. n.now) names)

@@ -1,8 +1,11 @@
-use Rattle.std.proofs.Common.{◌≡◌, ◌∙◌, Option, Some, None, List, if◌then◌else◌, ap, not, subst}
+use Rattle.std.proofs.Common.{◌≡◌, ◌∙◌, ℕ, Bor, Option, Some, None, List, if◌then◌else◌, ap, map, not, subst}
 use Rattle.std.proofs.lemmas.Result.{IfOk-weaker}
 use Rattle.tap_views.specs.declared.encoder.TapFields.{TapFields}
 use Rattle.omny_audit.specs.Answers.{IsAnswer}
-use Rattle.omny_audit.proofs.ProgramLemmas.{compared_is, opened}
+use Rattle.omny_audit.specs.Fault.{NamesOneOf}
+use Rattle.omny_audit.specs.Options.{asked_of}
+use Rattle.omny_audit.specs.Program.{LoadsFiles}
+use Rattle.omny_audit.proofs.ProgramLemmas.{at_ledger, at_uploads, compared_is, opened}
 use Rattle.omny_audit.proofs.program.audit.Goals as goal
 
 -- the table and the uploads were loaded, and the ledger was read, which the answer is on
@@ -11,14 +14,14 @@ returns-clause-ok g c =
     let loaded = c.in_ok-balance.ensures.ok in
     IfOk-weaker c.audit_over.result _ _ (λ well told.
     let answer = told.2 loaded.1 loaded.4 in
-    let same = compared_is c.args.options.now.uploads.items loaded.1 c.has_uploads (ap not c.is_empty.ensures) in
+    let same = compared_is c.args.options.now.uploads.items loaded.1 _ (ap not c.is_empty-has_uploads.ensures) in
     record {
       after_table = _;
       after_uploads = _;
       fares = c.in_ok-table.table;
       loads_table = c.in_ok-table.ensures.ok;
       uploads = loaded.0;
-      loads_uploads = loaded.2;
+      loads_uploads = subst (λ (ns : List (Bor (List ℕ))). LoadsFiles (map (λ n. n.now) ns) _ _ loaded.0) c.deref.ensures.value loaded.2;
       posted = loaded.1;
       are_posted = loaded.3;
       ledger = told.0;
@@ -28,3 +31,11 @@ returns-clause-ok g c =
       written = answer.2;
     })
     c.audit_over.ensures.told
+
+pub returns-in_err-balance-clause-named : goal.returns-in_err-balance-clause-named
+returns-in_err-balance-clause-named g c =
+    at_uploads (asked_of c.args.options.now) _
+    (subst (λ (ns : List (Bor (List ℕ))). NamesOneOf (map (λ n. n.now) ns) _) c.deref.ensures.value c.in_err-balance.ensures.named)
+
+pub returns-in_err-ledger-clause-named : goal.returns-in_err-ledger-clause-named
+returns-in_err-ledger-clause-named g c = at_ledger (asked_of c.args.options.now) _ c.in_err-ledger.ensures.named
