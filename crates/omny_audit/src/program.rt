@@ -118,8 +118,9 @@ fn audit<'a, S: Source, W: Write>(
 {
     let table = load_table(alloc, options.table, source)?;
     let clock = table.clock(alloc)?;
-    let balance = load_balance(alloc, &options.uploads, source)?;
-    let has_uploads = !options.uploads.is_empty();
+    let names = options.uploads.as_slice();
+    let balance = load_balance(alloc, names, source)?;
+    let has_uploads = !names.is_empty();
     let mut ledger = open_ledger(options.ledger, source)?;
     audit_over(
         alloc,

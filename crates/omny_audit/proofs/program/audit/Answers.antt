@@ -4,7 +4,7 @@ use Rattle.tap_views.specs.declared.encoder.TapFields.{TapFields}
 use Rattle.omny_audit.specs.Answers.{IsAnswer}
 use Rattle.omny_audit.specs.Fault.{NamesOneOf}
 use Rattle.omny_audit.specs.Options.{asked_of}
-use Rattle.omny_audit.specs.Program.{LoadsFiles}
+use Rattle.omny_audit.specs.Program.{LoadsFiles, compared}
 use Rattle.omny_audit.proofs.ProgramLemmas.{at_ledger, at_uploads, compared_is, opened}
 use Rattle.omny_audit.proofs.program.audit.Goals as goal
 
@@ -14,14 +14,16 @@ returns-clause-ok g c =
     let loaded = c.in_ok-balance.ensures.ok in
     IfOk-weaker c.audit_over.result _ _ (λ well told.
     let answer = told.2 loaded.1 loaded.4 in
-    let same = compared_is c.args.options.now.uploads.items loaded.1 _ (ap not c.is_empty-has_uploads.ensures) in
+    let names = c.as_slice-names.ensures.value in
+    let same = compared_is c.as_slice-names.result.now loaded.1 _ (ap not c.is_empty-has_uploads.ensures)
+    ∙ ap (λ (ns : List (Bor (List ℕ))). compared (map (λ n. n.now) ns) loaded.1) names in
     record {
       after_table = _;
       after_uploads = _;
       fares = c.in_ok-table.table;
       loads_table = c.in_ok-table.ensures.ok;
       uploads = loaded.0;
-      loads_uploads = subst (λ (ns : List (Bor (List ℕ))). LoadsFiles (map (λ n. n.now) ns) _ _ loaded.0) c.deref.ensures.value loaded.2;
+      loads_uploads = subst (λ (ns : List (Bor (List ℕ))). LoadsFiles (map (λ n. n.now) ns) _ _ loaded.0) names loaded.2;
       posted = loaded.1;
       are_posted = loaded.3;
       ledger = told.0;
@@ -35,7 +37,7 @@ returns-clause-ok g c =
 pub returns-in_err-balance-clause-named : goal.returns-in_err-balance-clause-named
 returns-in_err-balance-clause-named g c =
     at_uploads (asked_of c.args.options.now) _
-    (subst (λ (ns : List (Bor (List ℕ))). NamesOneOf (map (λ n. n.now) ns) _) c.deref.ensures.value c.in_err-balance.ensures.named)
+    (subst (λ (ns : List (Bor (List ℕ))). NamesOneOf (map (λ n. n.now) ns) _) c.as_slice-names.ensures.value c.in_err-balance.ensures.named)
 
 pub returns-in_err-ledger-clause-named : goal.returns-in_err-ledger-clause-named
 returns-in_err-ledger-clause-named g c = at_ledger (asked_of c.args.options.now) _ c.in_err-ledger.ensures.named
