@@ -1,6 +1,7 @@
 -- What was loaded, one more each time, and what the program compares.
 use Rattle.std.proofs.Common.{◌≡◌, ◌∙◌, ℕ, Bool, false, not, List, [], ◌∷◌, ◌++◌, length, map, refl, sym, ap, subst, append-nil, append_assoc, nat_eq, Option, Some, None, if◌then◌else◌, Bor, ◌<◌, zero, suc, get_or, inl, inr, arith, codes}
-use Rattle.std.specs.Prelude.{IfSome, unwrap_or}
+use Rattle.std.specs.Prelude.{IfErr, IfSome, Result, Ok, Err, unwrap_or}
+use Rattle.std.specs.Result.{IsErrAnd}
 use Rattle.std.proofs.lemmas.Bool.Decides.{nat_tests}
 use Rattle.std.proofs.lemmas.List.{map-append}
 use Rattle.clap.specs.Words.{Text}
@@ -17,10 +18,10 @@ tells_none None = tt
 tells_none (Some before) = sym (append-nil before)
 
 tells_on : (told told' told'' : Option (List Loaded)) (loads more : List Loaded) → Tells told told' loads → Tells told' told'' more → Tells told told'' (loads ++ more)
-tells_on None told' told'' loads more first then = tt
-tells_on (Some before) None told'' loads more first then = absurd first
-tells_on (Some before) (Some now) None loads more first then = absurd then
-tells_on (Some before) (Some now) (Some after) loads more first then = then ∙ ap (λ (xs : List Loaded). xs ++ more) first ∙ append_assoc before loads more
+tells_on None told' told'' loads more first next = tt
+tells_on (Some before) None told'' loads more first next = absurd first
+tells_on (Some before) (Some now) None loads more first next = absurd next
+tells_on (Some before) (Some now) (Some after) loads more first next = next ∙ ap (λ (xs : List Loaded). xs ++ more) first ∙ append_assoc before loads more
 
 -- one more file that was loaded
 pub loads_push : (names : List Text) (name : Text) (told told' told'' : Option (List Loaded)) (files : List (List ℕ)) (bytes : List ℕ)
@@ -111,3 +112,16 @@ at_ledger asked fault is = weaker (named_by fault) is
 -- a fault that names nothing names no other
 pub names_none : (names : List Text) (fault : Fault) → named_by fault ≡ None → NamesOneOf names fault
 names_none names fault none = rw none tt
+
+-- a fault that is handed on
+pub handed_on : {A : Type 0} (r : Result A Fault) (fault : Fault) (P : Fault → Type 0) → IsErrAnd r (λ e. e ≡ fault) → P fault → IfErr r P
+handed_on (Ok x) fault P same is = tt
+handed_on (Err e) fault P same is = subst P (sym same) is
+
+-- the same names, lent twice
+pub loads_same : (names same : List (Bor Text)) (told told' : Option (List Loaded)) (files : List (List ℕ)) → names ≡ same
+    → LoadsFiles (map (λ n. n.now) names) told told' files → LoadsFiles (map (λ n. n.now) same) told told' files
+loads_same names same told told' files is loads = subst (λ (ns : List (Bor Text)). LoadsFiles (map (λ n. n.now) ns) told told' files) is loads
+
+pub names_same : (names same : List (Bor Text)) (fault : Fault) → names ≡ same → NamesOneOf (map (λ n. n.now) names) fault → NamesOneOf (map (λ n. n.now) same) fault
+names_same names same fault is one = subst (λ (ns : List (Bor Text)). NamesOneOf (map (λ n. n.now) ns) fault) is one

@@ -3,9 +3,9 @@ use Rattle.std.proofs.lemmas.Result.{IfOk-weaker}
 use Rattle.tap_views.specs.declared.encoder.TapFields.{TapFields}
 use Rattle.omny_audit.specs.Answers.{IsAnswer}
 use Rattle.omny_audit.specs.Fault.{NamesOneOf}
-use Rattle.omny_audit.specs.Options.{asked_of}
-use Rattle.omny_audit.specs.Program.{LoadsFiles, compared}
-use Rattle.omny_audit.proofs.ProgramLemmas.{at_ledger, at_uploads, compared_is, opened}
+use Rattle.omny_audit.specs.Options.{asked_of, files_of}
+use Rattle.omny_audit.specs.Program.{compared}
+use Rattle.omny_audit.proofs.ProgramLemmas.{at_ledger, at_uploads, compared_is, handed_on, loads_same, names_same, opened}
 use Rattle.omny_audit.proofs.program.audit.Goals as goal
 
 -- the table and the uploads were loaded, and the ledger was read, which the answer is on
@@ -23,7 +23,7 @@ returns-clause-ok g c =
       fares = c.in_ok-table.table;
       loads_table = c.in_ok-table.ensures.ok;
       uploads = loaded.0;
-      loads_uploads = subst (λ (ns : List (Bor (List ℕ))). LoadsFiles (map (λ n. n.now) ns) _ _ loaded.0) names loaded.2;
+      loads_uploads = loads_same c.as_slice-names.result.now c.args.options.now.uploads.items _ _ loaded.0 names loaded.2;
       posted = loaded.1;
       are_posted = loaded.3;
       ledger = told.0;
@@ -36,8 +36,15 @@ returns-clause-ok g c =
 
 pub returns-in_err-balance-clause-named : goal.returns-in_err-balance-clause-named
 returns-in_err-balance-clause-named g c =
-    at_uploads (asked_of c.args.options.now) _
-    (subst (λ (ns : List (Bor (List ℕ))). NamesOneOf (map (λ n. n.now) ns) _) c.as_slice-names.ensures.value c.in_err-balance.ensures.named)
+    let fault = c.in_err-balance.field-0.0 in
+    let asked = asked_of c.args.options.now in
+    handed_on c.from_residual-in_err-balance.result fault (λ f. NamesOneOf (files_of asked) f) c.from_residual-in_err-balance.ensures.1
+    (at_uploads asked fault
+    (names_same c.as_slice-names.result.now c.args.options.now.uploads.items fault c.as_slice-names.ensures.value c.in_err-balance.ensures.named))
 
 pub returns-in_err-ledger-clause-named : goal.returns-in_err-ledger-clause-named
-returns-in_err-ledger-clause-named g c = at_ledger (asked_of c.args.options.now) _ c.in_err-ledger.ensures.named
+returns-in_err-ledger-clause-named g c =
+    let fault = c.in_err-ledger.field-0.0 in
+    let asked = asked_of c.args.options.now in
+    handed_on c.from_residual-in_err-ledger.result fault (λ f. NamesOneOf (files_of asked) f) c.from_residual-in_err-ledger.ensures.1
+    (at_ledger asked fault c.in_err-ledger.ensures.named)

@@ -1,7 +1,8 @@
 use Rattle.std.proofs.Common.{◌≡◌, ◌∙◌, ◌<◌, ◌++◌, ◌∷◌, [], List, ℕ, length, map, refl, subst, take, ap, get_or, Bor, ◌+◌}
 use Rattle.std.proofs.lemmas.List.{map-append, take_all, take_more}
 use Rattle.tap_balance.specs.Balances.{ArePosted}
-use Rattle.omny_audit.proofs.ProgramLemmas.{loads_push, names_at, posted_push, tells_none}
+use Rattle.omny_audit.specs.Fault.{NamesOneOf}
+use Rattle.omny_audit.proofs.ProgramLemmas.{handed_on, loads_push, names_at, posted_push, tells_none}
 use Rattle.omny_audit.proofs.program.load_balance.Goals as goal
 
 pub loop-name-init : goal.loop-name-init
@@ -33,4 +34,6 @@ returns-clause-ok g c =
 pub returns-in_err-upload-clause-named : goal.returns-in_err-upload-clause-named
 returns-in_err-upload-clause-named g c =
     let no_name : Bor (List ℕ) = record { ref_ptr = (0, 0); now = [] } in
-    names_at c.args.names.now c.loop-name.name-index no_name _ c.loop-name-test.true c.in_err-upload.ensures.named
+    let fault = c.in_err-upload.field-0.0 in
+    handed_on c.from_residual.result fault (λ f. NamesOneOf (map (λ n. n.now) c.args.names.now) f) c.from_residual.ensures.1
+    (names_at c.args.names.now c.loop-name.name-index no_name fault c.loop-name-test.true c.in_err-upload.ensures.named)
