@@ -56,7 +56,7 @@ module _ (fares : Fares) (shards : ℕ) (token : Token) where
   none_from first (book ∷ books) below each =
       let here = (each 0 book refl).0 in
       own_both token book.entries (all_entries books)
-      ∙ ap (λ (es : List Entry). es ++ own token (all_entries books)) (own_elsewhere token (first + 0) shards book.entries here.each (λ is. absurd (omega arith)))
+      ∙ ap (λ (es : List Entry). es ++ own token (all_entries books)) (own_elsewhere token (first + 0) shards book.entries here.each (λ (is : mine ≡ first + 0). absurd (omega arith)))
       ∙ none_from (suc first) books (omega arith) (rest_of fares shards first book books each)
 
   empty_legal : IsLegal fares []
@@ -84,7 +84,10 @@ module _ (fares : Fares) (shards : ℕ) (token : Token) where
       (same_or_not mine first)
 
 from_none : (fares : Fares) (shards : ℕ) (books : List Book) → AreBooksOf fares shards books → BooksFrom fares shards 0 books
-from_none fares shards books each k book is = let got = each k book is in (got.1, got.2)
+from_none fares shards books each k book is =
+    let got = each k book is in
+    let same : k ≡ 0 + k = omega arith in
+    (subst (λ (shard : ℕ). AreOfShard shard shards book.entries) same got.1, got.2)
 
 pub books_are_read : (fares : Fares) (shards : ℕ) (books : List Book) (only : Option Token) (text : List ℕ) → AreBooksOf fares shards books
     → AllByRecursion IsPostable (all_entries books) → AreLetters fares.rules.modes → length (told_entries only (all_entries books)) ≤ 2 ^ 62

@@ -22,7 +22,7 @@ use Rattle.fare_texts.specs.Moments.{IsCivilText, IsMomentText, clock_text, pad3
 use Rattle.fare_texts.specs.StatementText.{answer_text}
 use Rattle.reason_texts.specs.Ledger.{IsBecause, IsLedgerLine, entry_fields, line_head, mode_field, name_or_empty, placed, ride_rest}
 use Rattle.ledger_check.specs.Lines.{Lacks}
-use Rattle.ledger_check.proofs.LineLemmas.{lacks-append, lacks-at, lacks-tested}
+use Rattle.ledger_check.proofs.LineLemmas.{has_none, lacks-append, lacks-at, lacks-tested}
 use Rattle.ledger_laws.specs.Written.{AreLetters}
 
 -- ---- numbers
@@ -35,14 +35,15 @@ glyph_other d = by (nat_lt d 10)
 
 onto_lacks : (k n : ℕ) (acc : List ℕ) → Lacks 10 acc → Lacks 10 (digits_onto k 10 false n acc)
 onto_lacks zero n acc lacks = lacks
-onto_lacks (suc k) n acc lacks = by (n / 10 == 0)
+onto_lacks (suc k) n acc lacks =
+    by (n / 10 == 0) (onto_lacks k (n / 10) (digit_glyph false (n % 10) ∷ acc) (glyph_other (n % 10), lacks))
   where
     more : List ℕ
     more = digit_glyph false (n % 10) ∷ acc
 
-    by : (b : Bool) → Lacks 10 (cond b more (digits_onto k 10 false (n / 10) more))
-    by true = (glyph_other (n % 10), lacks)
-    by false = onto_lacks k (n / 10) more (glyph_other (n % 10), lacks)
+    by : (b : Bool) → Lacks 10 (digits_onto k 10 false (n / 10) more) → Lacks 10 (cond b more (digits_onto k 10 false (n / 10) more))
+    by true onto = (glyph_other (n % 10), lacks)
+    by false onto = onto
 
 decimal_lacks : (n : ℕ) → Lacks 10 (decimal n)
 unfolding digits
@@ -79,26 +80,39 @@ date_lacks date =
     (lacks-append 10 (year ++ 45 ∷ []) (pad2 date.month)
     (lacks-append 10 year (45 ∷ []) (year_lacks date.year) dash) (pad2_lacks date.month)) dash) (pad2_lacks date.day)
 
--- a written byte that is none, before a text that lacks it
-byte_lacks : (byte : ℕ) (text : List ℕ) → byte ≢ 10 → Lacks 10 text → Lacks 10 (byte ∷ text)
-byte_lacks byte text other lacks = (other, lacks)
+-- a text without a newline
+record Free (text : List ℕ) : Type 0 where
+  pub lacks : Lacks 10 text
 
-clock_lacks : (ms : ℕ) → Lacks 10 (clock_text ms)
-clock_lacks ms =
-    let colon = (lacks-tested 10 (58 ∷ []) refl).0 in
-    let hours = ms / 3_600_000 in
-    let minutes = ms / 60_000 % 60 in
-    let seconds = ms / 1_000 % 60 in
-    let last = lacks-append 10 (pad3 (ms % 1_000)) (codes "Z") (pad3_lacks (ms % 1_000)) (lacks-tested 10 (codes "Z") refl) in
-    let point = byte_lacks 46 _ (lacks-tested 10 (46 ∷ []) refl).0 last in
-    let third = byte_lacks 58 _ colon (lacks-append 10 (pad2 seconds) _ (pad2_lacks seconds) point) in
-    let second = byte_lacks 58 _ colon (lacks-append 10 (pad2 minutes) _ (pad2_lacks minutes) third) in
-    byte_lacks 84 _ (lacks-tested 10 (84 ∷ []) refl).0 (lacks-append 10 (pad2 hours) _ (pad2_lacks hours) second)
+free : (text : List ℕ) → Lacks 10 text → Free text
+free text lacks = record { lacks = lacks }
+
+written : (text : List ℕ) → has_none 10 text ≡ true → Free text
+written text is = record { lacks = lacks-tested 10 text is }
+
+both : {a b : List ℕ} → Free a → Free b → Free (a ++ b)
+both {a} {b} one two = record { lacks = lacks-append 10 a b one.lacks two.lacks }
+
+two_digits : (n : ℕ) → Free (pad2 n)
+two_digits n = free (pad2 n) (pad2_lacks n)
+
+number : (n : ℕ) → Free (decimal n)
+number n = free (decimal n) (decimal_lacks n)
+
+comma : Free (codes ",")
+comma = written (codes ",") refl
+
+clock_free : (ms : ℕ) → Free (clock_text ms)
+clock_free ms =
+    let colon = written (codes ":") refl in
+    both (written (codes "T") refl) (both (two_digits (ms / 3_600_000)) (both colon (both (two_digits (ms / 60_000 % 60))
+    (both colon (both (two_digits (ms / 1_000 % 60)) (both (written (codes ".") refl)
+    (both (free (pad3 (ms % 1_000)) (pad3_lacks (ms % 1_000))) (written (codes "Z") refl))))))))
 
 civil_lacks : (moment : ℕ) (text : List ℕ) → IsCivilText moment text → Lacks 10 text
 civil_lacks moment text is =
     subst (Lacks 10) (sym is.shown)
-    (lacks-append 10 (date_text is.date) (clock_text (moment % 86_400_000)) (date_lacks is.date) (clock_lacks (moment % 86_400_000)))
+    (lacks-append 10 (date_text is.date) (clock_text (moment % 86_400_000)) (date_lacks is.date) (clock_free (moment % 86_400_000)).lacks)
 
 moment_lacks : (moment : ℕ) (text : List ℕ) → IsMomentText moment text → Lacks 10 text
 moment_lacks moment text is =
@@ -136,37 +150,28 @@ answer_lacks answer.Capped = lacks-tested 10 (codes "capped") refl
 answer_lacks answer.Stale = lacks-tested 10 (codes "stale") refl
 answer_lacks answer.Unknown = lacks-tested 10 (codes "unknown") refl
 
-comma : (text : List ℕ) → Lacks 10 text → Lacks 10 (44 ∷ text)
-comma text lacks = byte_lacks 44 text (lacks-tested 10 (44 ∷ []) refl).0 lacks
-
-only_comma : Lacks 10 (44 ∷ [])
-only_comma = lacks-tested 10 (44 ∷ []) refl
-
-head_lacks : (token : Token) (number : ℕ) → Lacks 10 (line_head token number)
+head_free : (token : Token) (place : ℕ) → Free (line_head token place)
 unfolding line_head
-head_lacks token number =
-    lacks-append 10 (encode_lower (bytes_of token)) _ (encoded_lacks (bytes_of token))
-    (comma _ (lacks-append 10 (decimal number) (44 ∷ []) (decimal_lacks number) only_comma))
+head_free token place =
+    both (free (encode_lower (bytes_of token)) (encoded_lacks (bytes_of token))) (both comma (both (number place) comma))
 
-fields_lack : (fares : Fares) (entry : Entry) → AreLetters fares.rules.modes → Lacks 10 (entry_fields fares entry)
+fields_free : (fares : Fares) (entry : Entry) → AreLetters fares.rules.modes → Free (entry_fields fares entry)
 unfolding entry_fields
-fields_lack fares entry letters =
-    comma _ (lacks-append 10 (decimal entry.validator) _ (decimal_lacks entry.validator)
-    (comma _ (lacks-append 10 (mode_field fares entry.validator) _ (mode_lacks fares.rules.modes (mode_at fares entry.validator) letters)
-    (comma _ (lacks-append 10 (answer_text entry.answer) _ (answer_lacks entry.answer)
-    (comma _ (lacks-append 10 (decimal entry.cents) (44 ∷ []) (decimal_lacks entry.cents) only_comma)))))))
+fields_free fares entry letters =
+    both comma (both (number entry.validator)
+    (both comma (both (free (mode_field fares entry.validator) (mode_lacks fares.rules.modes (mode_at fares entry.validator) letters))
+    (both comma (both (free (answer_text entry.answer) (answer_lacks entry.answer))
+    (both comma (both (number entry.cents) comma)))))))
 
-placed_lacks : (place : ℕ) (word : List ℕ) → Lacks 10 word → Lacks 10 (placed place word)
+placed_free : (place : ℕ) (word : List ℕ) → Free word → Free (placed place word)
 unfolding placed
-placed_lacks place word lacks =
-    comma _ (lacks-append 10 (decimal (place + 1)) _ (decimal_lacks (place + 1))
-    (comma _ (lacks-append 10 word (44 ∷ []) lacks only_comma)))
+placed_free place word is = both comma (both (number (place + 1)) (both comma (both is comma)))
 
-ride_lacks : (charge : Charge) → Lacks 10 (ride_rest charge)
-ride_lacks (Full place cents) = placed_lacks place (codes "full") (lacks-tested 10 (codes "full") refl)
-ride_lacks (CeilingCut place cents) = placed_lacks place (codes "ceiling-cut") (lacks-tested 10 (codes "ceiling-cut") refl)
-ride_lacks (CeilingReached place) = placed_lacks place (codes "ceiling") (lacks-tested 10 (codes "ceiling") refl)
-ride_lacks RideLimitReached = lacks-tested 10 (codes ",,ride-limit,") refl
+ride_free : (charge : Charge) → Free (ride_rest charge)
+ride_free (Full place cents) = placed_free place (codes "full") (written (codes "full") refl)
+ride_free (CeilingCut place cents) = placed_free place (codes "ceiling-cut") (written (codes "ceiling-cut") refl)
+ride_free (CeilingReached place) = placed_free place (codes "ceiling") (written (codes "ceiling") refl)
+ride_free RideLimitReached = written (codes ",,ride-limit,") refl
 
 because_lacks : (why : Reason) (text : List ℕ) → IsBecause why text → Lacks 10 text
 because_lacks Unknown text is = subst (Lacks 10) (sym is) (lacks-tested 10 (codes ",,,unknown,") refl)
@@ -175,9 +180,9 @@ because_lacks (Stale latest) text is =
 because_lacks (Transfer moment mode) text is =
     subst (Lacks 10) (sym is.shown) (lacks-append 10 (codes ",,,transfer,") is.moment (lacks-tested 10 (codes ",,,transfer,") refl) (moment_lacks moment is.moment is.is))
 because_lacks (Ride start until charge) text is =
-    subst (Lacks 10) (sym is.shown)
-    (lacks-append 10 is.from _ (moment_lacks start is.from is.starts)
-    (comma _ (lacks-append 10 is.to (ride_rest charge) (moment_lacks until is.to is.ends) (ride_lacks charge))))
+    let from = free is.from (moment_lacks start is.from is.starts) in
+    let to = free is.to (moment_lacks until is.to is.ends) in
+    subst (Lacks 10) (sym is.shown) (both from (both comma (both to (ride_free charge)))).lacks
 
 -- ---- the line
 pub record EndsOnce (line : List ℕ) : Type 0 where
@@ -190,12 +195,11 @@ five a b c d e =
     sym (append_assoc a (b ++ (c ++ d)) e
     ∙ ap (λ (t : List ℕ). a ++ t) (append_assoc b (c ++ d) e ∙ ap (λ (t : List ℕ). b ++ t) (append_assoc c d e)))
 
-pub line_ends_once : (fares : Fares) (token : Token) (number : ℕ) (entry : Entry) (why : Reason) (line : List ℕ) → AreLetters fares.rules.modes
-    → IsLedgerLine fares token number entry why line → EndsOnce line
-line_ends_once fares token number entry why line letters is = record {
-  front = line_head token number ++ (is.moment ++ (entry_fields fares entry ++ is.because));
-  lacks = lacks-append 10 (line_head token number) _ (head_lacks token number)
-      (lacks-append 10 is.moment _ (moment_lacks entry.moment is.moment is.is)
-      (lacks-append 10 (entry_fields fares entry) is.because (fields_lack fares entry letters) (because_lacks why is.because is.told)));
-  shown = is.shown ∙ five (line_head token number) is.moment (entry_fields fares entry) is.because (10 ∷ []);
+pub line_ends_once : (fares : Fares) (token : Token) (place : ℕ) (entry : Entry) (why : Reason) (line : List ℕ) → AreLetters fares.rules.modes
+    → IsLedgerLine fares token place entry why line → EndsOnce line
+line_ends_once fares token place entry why line letters is = record {
+  front = line_head token place ++ (is.moment ++ (entry_fields fares entry ++ is.because));
+  lacks = (both (head_free token place) (both (free is.moment (moment_lacks entry.moment is.moment is.is))
+      (both (fields_free fares entry letters) (free is.because (because_lacks why is.because is.told))))).lacks;
+  shown = is.shown ∙ five (line_head token place) is.moment (entry_fields fares entry) is.because (10 ∷ []);
 }

@@ -113,7 +113,8 @@ place_of token [] [] entry after is = let bad : [] ≡ entry ∷ after = sym (ow
 place_of token [] (b ∷ before) entry after is = let bad : [] ≡ b ∷ (before ++ entry ∷ after) = sym (own_none token) ∙ is in cc
 place_of token (e ∷ history) before entry after is =
     ⊎_elim
-    (λ (here : is_of token e ≡ true). at before (sym (own_here token e history here) ∙ is) (same_token e.token token here))
+    (λ (here : is_of token e ≡ true). at before (sym (own_here token e history here) ∙ is) (same_token e.token token here)
+    (λ b same. place_of token history b entry after same))
     (λ (other : is_of token e ≡ false).
     let place = place_of token history before entry after (sym (own_not token e history other) ∙ is) in
     record {
@@ -125,8 +126,9 @@ place_of token (e ∷ history) before entry after is =
     })
     (cases_Bool (is_of token e))
   where
-    at : (before : List Entry) → e ∷ own token history ≡ before ++ entry ∷ after → e.token ≡ token → Place token (e ∷ history) before entry
-    at [] same of =
+    at : (before : List Entry) → e ∷ own token history ≡ before ++ entry ∷ after → e.token ≡ token
+        → ((b : List Entry) → own token history ≡ b ++ entry ∷ after → Place token history b entry) → Place token (e ∷ history) before entry
+    at [] same of further =
         let first : e ≡ entry = cc in
         record {
           front = [];
@@ -135,10 +137,10 @@ place_of token (e ∷ history) before entry after is =
           own_front = own_none token;
           is = subst (λ (x : Entry). x.token ≡ token) first of;
         }
-    at (b ∷ before) same of =
+    at (b ∷ before) same of further =
         let first : e ≡ b = cc in
         let rest : own token history ≡ before ++ entry ∷ after = cc in
-        let place = place_of token history before entry after rest in
+        let place = further before rest in
         record {
           front = e ∷ place.front;
           behind = place.behind;
