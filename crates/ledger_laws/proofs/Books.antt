@@ -48,7 +48,7 @@ rest_of fares shards first book books each k other is =
     (subst (λ (shard : ℕ). AreOfShard shard shards other.entries) next got.0, got.1)
 
 module _ (fares : Fares) (shards : ℕ) (token : Token) where
-  mine : ℕ
+  abbrev mine : ℕ
   mine = shard_of_token (bytes_of token) shards
 
   none_from : (first : ℕ) (books : List Book) → mine < first → BooksFrom fares shards first books → own token (all_entries books) ≡ []
@@ -56,7 +56,7 @@ module _ (fares : Fares) (shards : ℕ) (token : Token) where
   none_from first (book ∷ books) below each =
       let here = (each 0 book refl).0 in
       own_both token book.entries (all_entries books)
-      ∙ ap (λ (es : List Entry). es ++ own token (all_entries books)) (own_elsewhere token (first + 0) shards book.entries here.each (λ (is : mine ≡ first + 0). absurd (omega arith)))
+      ∙ ap (λ (es : List Entry). es ++ own token (all_entries books)) (own_elsewhere token (first + 0) shards book.entries here.each (λ (is : mine ≡ first + 0). absurd (omega (arith, is, below))))
       ∙ none_from (suc first) books (omega arith) (rest_of fares shards first book books each)
 
   empty_legal : IsLegal fares []

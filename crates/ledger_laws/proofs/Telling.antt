@@ -189,6 +189,7 @@ head_front = codes "token,line,moment,validator,mode,answer,cents,window_start,w
 
 pub written_is_read : (fares : Fares) (only : Option Token) (history : List Entry) (text : List ℕ) → CanBeTold fares only history → AreShort text
     → IsLedgerOver fares history only text → IsLedgerOf fares (told_entries only history) text
+unfolding lines_of told_each head_front
 written_is_read fares only history text can short over =
     let told = told_each fares history [] (tokens_told only history) over.lines can.names can.legal can.postable
     (record { rises = told_rise only history; above = above_none (tokens_told only history); few = can.few }) over.of_each in
