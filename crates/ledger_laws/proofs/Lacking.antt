@@ -1,5 +1,5 @@
 -- A line of a written ledger has its newline at its end, and nowhere else.
-use Rattle.std.proofs.Common.{◌≡◌, ◌≢◌, ℕ, ◌+◌, ◌/◌, ◌%◌, ◌<◌, ◌≤◌, ◌==◌, ℤ, pos, negsuc, Bool, true, false, cond, ◌&&◌, List, [], ◌∷◌, ◌++◌, zero, suc, refl, sym, ap, subst, ◌∙◌, arith, append_assoc, ⊎_elim, Option, Some, None, true≢false, codes, nat_lt}
+use Rattle.std.proofs.Common.{◌≡◌, ◌≢◌, ℕ, ◌+◌, ◌/◌, ◌%◌, ◌<◌, ◌≤◌, ◌==◌, ℤ, pos, negsuc, Bool, true, false, cond, List, [], ◌∷◌, ◌++◌, zero, suc, refl, sym, ap, subst, ◌∙◌, arith, append_assoc, ⊎_elim, Option, Some, None, true≢false, codes, nat_lt}
 use Rattle.std.specs.Prelude.{slice_index_or}
 use Rattle.std.specs.Char.{is_ascii_lowercase}
 use Rattle.std.specs.Fmt.{decimal, digit_glyph, digits, digits_onto}

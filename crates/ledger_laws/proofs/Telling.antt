@@ -1,12 +1,12 @@
 -- The lines of each token, one token after another, are those of a ledger.
-use Rattle.std.proofs.Common.{◌≡◌, ℕ, ◌+◌, ◌<◌, ◌≤◌, ◌^◌, List, [], ◌∷◌, ◌++◌, length, length-append, flat_map, map, refl, sym, ap, subst, ◌∙◌, append_assoc, append-nil, arith, Option, Some, None, codes}
+use Rattle.std.proofs.Common.{◌≡◌, ℕ, ◌+◌, ◌≤◌, ◌^◌, List, [], ◌∷◌, ◌++◌, length, length-append, flat_map, map, refl, sym, ap, subst, ◌∙◌, append_assoc, append-nil, arith, Option, Some, None, codes}
 use Rattle.std.specs.List.{AllByRecursion}
 use Rattle.std.specs.List.Sorted.{IsStrictlySortedBy}
 use Rattle.std.specs.declared.cmp.Ordering.TheVariants.{Less}
 use Rattle.fare_table.specs.Fares.{Fares}
 use Rattle.shard_book.specs.Entry.{own}
 use Rattle.shard_book.specs.Groups.{token_of, tokens}
-use Rattle.shard_book.specs.History.{IsLegal, IsReplied}
+use Rattle.shard_book.specs.History.{IsLegal}
 use Rattle.shard_book.specs.Token.{token_cmp}
 use Rattle.shard_book.specs.declared.entry.Entry.{Entry}
 use Rattle.shard_book.specs.declared.token.Token.{Token}

@@ -81,7 +81,7 @@ names_at names k d fault within is = weaker (named_by fault) is
 
 is_one_left : (name : Text) (names more : List Text) → IsOneOf name names → IsOneOf name (names ++ more)
 is_one_left name [] more one = absurd one
-is_one_left name (n ∷ names) more one = elim one [ | inl is ↦ inl is | inr rest ↦ inr (is_one_left name names more rest) ]
+is_one_left name (n ∷ names) more one = elim one [ inl is ↦ inl is | inr rest ↦ inr (is_one_left name names more rest) ]
 
 is_one_last : (name : Text) (names : List Text) (last : Text) → name ≡ last → IsOneOf name (names ++ last ∷ [])
 is_one_last name [] last is = inl is

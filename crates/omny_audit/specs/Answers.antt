@@ -4,7 +4,7 @@ use Rattle.std.specs.Prelude.{IsTrue}
 use Rattle.std.specs.List.Sorted.{IsPermutation}
 use Rattle.fare_table.specs.Fares.{Fares}
 use Rattle.shard_book.specs.declared.entry.Entry.{Entry}
-use Rattle.ledger_check.specs.Ledger.{IsLedger, IsLedgerOf}
+use Rattle.ledger_check.specs.Ledger.{IsLedgerOf}
 use Rattle.ledger_check.specs.Struck.{posted_tap}
 use Rattle.ledger_check.specs.Verdicts.{IsVerdict, is_legal}
 use Rattle.ledger_check.specs.declared.checker.Verdict.{Verdict}

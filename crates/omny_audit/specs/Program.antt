@@ -20,10 +20,10 @@ Means text fares = (rules_in text ≡ Ok fares.rules) × IsZoneOf fares.rules.zo
 
 -- The file of this name was loaded, and its text means these fares.
 pub record LoadsTable (name : Text) (told told' : Option (List Loaded)) (fares : Fares) : Type 0
-    where
-  pub bytes : List ℕ
-  pub told_is : TellsOne told told' (Some name) bytes
-  pub means : Means bytes fares
+  where
+    pub bytes : List ℕ
+    pub told_is : TellsOne told told' (Some name) bytes
+    pub means : Means bytes fares
 
 -- A file of each of these names was loaded, in their order.
 pub record LoadsFiles (names : List Text) (told told' : Option (List Loaded))

@@ -83,10 +83,7 @@ fn load_balance<'a, S: Source>(
 }
 
 /// The ledger of this name, or standard input where none is named.
-fn open_ledger<'a, S: Source>(
-    name: Option<&'a str>,
-    source: &mut S,
-) -> Result<S::Ledger, Fault<'a>>
+fn open_ledger<'a, S: Source>(name: Option<&'a str>, source: &mut S) -> Result<S::Ledger, Fault<'a>>
     ensures ok { IfOk result (λ ledger. OpensOne (S.loaded source.old) (S.loaded source.new)
         (option_map (λ n. n.now) name.entry) (S.Ledger.remaining ledger)) }
     ensures fault { IfErr result (λ fault. is_unwritten fault ≡ false) }

@@ -1,13 +1,7 @@
 -- What was read so far is what the checker was fed.
-use Rattle.std.proofs.Common.{◌≡◌, ◌++◌, ◌<◌, ◌≤◌, ℕ, List, [], Option, None, Some, true, false, length, take, sym, ap, subst, ◌∙◌, append-nil, arith}
-use Rattle.std.specs.Prelude.{IfNone}
-use Rattle.tap_balance.specs.Balances.{IsBalance}
-use Rattle.tap_views.specs.declared.encoder.TapFields.{TapFields}
-use Rattle.ledger_check.specs.Struck.{HasStruck}
-use Rattle.ledger_check.specs.Verdicts.{IsFed, IsVerdict}
+use Rattle.std.proofs.Common.{◌≡◌, ◌++◌, ℕ, List, [], true, false, take, sym, ap, subst, ◌∙◌, append-nil, arith}
+use Rattle.ledger_check.specs.Verdicts.{IsVerdict}
 use Rattle.omny_audit.specs.Answers.{StrikesOut}
-use Rattle.ledger_check.specs.declared.checker.Verdict.{Verdict}
-use Rattle.ledger_check.specs.declared.checker.Verdict.TheVariants.{Legal, NoLine, Wants}
 use Rattle.omny_audit.proofs.ReadLemmas.{at_end, consumes-more, consumes-none, whatever_follows}
 use Rattle.omny_audit.proofs.audit.verdict_of.Goals as goal
 

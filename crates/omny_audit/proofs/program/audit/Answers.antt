@@ -1,4 +1,4 @@
-use Rattle.std.proofs.Common.{◌≡◌, ◌∙◌, ℕ, Bor, Option, Some, None, List, if◌then◌else◌, ap, map, not, subst}
+use Rattle.std.proofs.Common.{◌∙◌, ℕ, Bor, Option, List, ap, map, not, subst}
 use Rattle.std.proofs.lemmas.Result.{IfOk-weaker}
 use Rattle.tap_views.specs.declared.encoder.TapFields.{TapFields}
 use Rattle.omny_audit.specs.Answers.{IsAnswer}
