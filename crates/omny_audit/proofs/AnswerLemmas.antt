@@ -1,9 +1,8 @@
 -- What is answered, by what was found.
-use Rattle.std.proofs.Common.{◌≡◌, ℕ, Bool, true, false, List, [], map, Option, Some, None, if◌then◌else◌, refl, sym, ap, subst, ◌∙◌}
-use Rattle.std.specs.Prelude.{◌↔◌, IfSome}
+use Rattle.std.proofs.Common.{◌≡◌, ℕ, Bool, true, false, List, [], map, Option, Some, None, if◌then◌else◌, refl, sym, ◌∙◌}
+use Rattle.std.specs.Prelude.{◌↔◌}
 use Rattle.std.specs.List.Sorted.{IsPermutation}
 use Rattle.fare_table.specs.Fares.{Fares}
-use Rattle.shard_book.specs.declared.entry.Entry.{Entry}
 use Rattle.ledger_check.specs.Ledger.{IsLedger}
 use Rattle.ledger_check.specs.Struck.{posted_tap}
 use Rattle.tap_balance.specs.Balances.{IsDifference}
@@ -46,8 +45,3 @@ decides differ fares text (Some posted) true rest well decide (None, shown, even
     (λ is. let ledger = decide.0 refl in (ledger.0, ledger.1, of ledger.0 ledger.1), λ right. even)
 decides differ fares text (Some posted) true rest well decide (Some difference, shown, even, of) =
     (λ is. absurd (false_true (sym even ∙ is)), λ right. absurd (differ posted (map posted_tap right.0) difference (of right.0 right.1) right.2))
-
--- what is known of a text, if there is one
-pub of_both : (P Q R : List ℕ → Type 0) (text : Option (List ℕ)) → ((t : List ℕ) → P t → Q t → R t) → IfSome text P → IfSome text Q → IfSome text R
-of_both P Q R None both p q = tt
-of_both P Q R (Some t) both p q = both t p q

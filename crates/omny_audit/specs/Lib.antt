@@ -1,2 +1,6 @@
 pub mod Answers
+pub mod Fault
+pub mod Options
+pub mod Program
+pub mod Source
 pub mod Text

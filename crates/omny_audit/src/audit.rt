@@ -1,8 +1,8 @@
 //! The answer on all that a reader gives.
 
-ghost use Rattle.std.specs.Prelude.{◌≡◌, ℕ, List, [], IfOk, IfSome, IsTrue, None, Some, map};
+ghost use Rattle.std.specs.Prelude.{◌≡◌, ℕ, List, [], IfErr, IfOk, IsTrue, None, Some, false, map};
 ghost use Rattle.std.specs.Prelude.{if◌then◌else◌, string_bytes};
-ghost use Rattle.std.specs.Io.KnownBytes.{Appends};
+ghost use Rattle.std.specs.Io.KnownBytes.{Appends, Keeps};
 ghost use Rattle.fare_table.specs.Fares.{Fares};
 ghost use Rattle.shard_book.specs.declared.entry.Entry.{Entry};
 ghost use Rattle.tap_balance.specs.Balances.{IsBalance};
@@ -10,7 +10,9 @@ ghost use Rattle.tap_views.specs.declared.encoder.TapFields.{TapFields};
 ghost use Rattle.ledger_check.specs.Ledger.{IsLedgerOf};
 ghost use Rattle.ledger_check.specs.Struck.{posted_tap};
 ghost use Rattle.ledger_check.specs.Verdicts.{IsVerdict, is_legal};
-ghost use Rattle.omny_audit.specs.Answers.{IsAnswer, agrees};
+ghost use Rattle.omny_audit.specs.Answers.{IsAnswer, StrikesOut, agrees};
+ghost use Rattle.omny_audit.specs.Fault.{is_unwritten, named_by};
+ghost use Rattle.omny_audit.specs.Source.{IsAllOf};
 
 use crate::fault::Fault;
 use crate::output::write_text;
@@ -34,12 +36,11 @@ pub fn verdict_of<R: Read>(
     balance: &mut Balance,
 ) -> Result<Verdict, Fault<'static>>
     requires clock { clock.now ≡ table.now.zone }
-    ensures verdict { IfOk result (λ verdict. IfSome (R.remaining reader.old) (λ text.
-        IsVerdict table.now text verdict)) }
-    ensures struck { IfOk result (λ verdict. IfSome (R.remaining reader.old) (λ text.
-        (posted : List TapFields) → IsBalance balance.old posted [] → IsTrue (is_legal verdict)
-        → (entries : List Entry) → IsLedgerOf table.now entries text
-        → IsBalance balance.new posted (map posted_tap entries))) }
+    ensures told { IfOk result (λ verdict. (text : List ℕ)
+        × IsAllOf (R.remaining reader.old) text × IsVerdict table.now text verdict
+        × StrikesOut table.now text balance.old balance.new verdict) }
+    ensures fault { IfErr result (λ fault. is_unwritten fault ≡ false) }
+    ensures named { IfErr result (λ fault. named_by fault ≡ None) }
 {
     let mut checker = Checker::new(alloc);
     let mut step = [0u8; STEP];
@@ -116,10 +117,15 @@ pub fn audit_over<R: Read, W: Write>(
     out: &mut W,
 ) -> Result<bool, Fault<'static>>
     requires clock { clock.now ≡ table.now.zone }
-    ensures { IfOk result (λ well. IfSome (R.remaining reader.old) (λ text.
-        (posted : List TapFields) → IsBalance balance posted [] → (told : List ℕ)
+    ensures told { IfOk result (λ well. (text : List ℕ) × IsAllOf (R.remaining reader.old) text
+        × ((posted : List TapFields) → IsBalance balance posted [] → (told : List ℕ)
         × IsAnswer table.now text (if has_uploads then Some posted else None) told well
         × Appends (W.contents out.old) (W.contents out.new) told)) }
+
+    // Only a write that fails leaves something of a text behind.
+    ensures fault { IfErr result (λ fault. is_unwritten fault ≡ false
+        → Keeps (W.contents out.old) (W.contents out.new)) }
+    ensures named { IfErr result (λ fault. named_by fault ≡ None) }
 {
     let verdict = verdict_of(alloc, table, clock, reader, &mut balance)?;
     let told = answer_text(alloc, &verdict, &balance, has_uploads)?;

@@ -6,23 +6,29 @@
 //! |---|---|
 //! | `audit` | the answer on all that a reader gives |
 //! | `laws` | what follows of an answer |
-//! | `files` | the table, the uploads and the ledger, from the system |
+//! | `source` | where the table, the uploads and the ledger come from |
+//! | `files` | the files and the standard input of the system as a source |
 //! | `options` | the words of the command line, as `clap` reads them |
 //! | `text` | the lines of an answer |
 //! | `output` | texts, written out |
 //! | `fault` | why the program gives up, and the line that says so |
+//! | `complaints` | where mistakes and faults are told |
 //! | `program` | the whole |
 #![tactic(auto)]
 
 mod audit;
+mod complaints;
 mod fault;
 mod files;
 mod laws;
 mod options;
 mod output;
 mod program;
+mod source;
 mod text;
 
+use complaints::Complaints;
+use files::Host;
 use program::{main_over, unread_words};
 use std::env::Env;
 use std::process::ExitCode;
@@ -35,9 +41,15 @@ fn words_of<R: Env + AllocGlobal>(rt: &R) -> io::Result<Vec<String>> {
 }
 
 fn main(rt: HostRuntime) -> ExitCode {
-    let mut err = rt.stderr();
+    let mut err = Complaints::new(rt.stderr());
     let status = match words_of(&rt) {
-        Ok(words) => main_over(&rt, &words, &mut rt.stdout(), &mut err),
+        Ok(words) => main_over(
+            rt.alloc(),
+            &words,
+            &mut Host::new(&rt),
+            &mut rt.stdout(),
+            &mut err,
+        ),
         Err(error) => unread_words(&error, &mut err),
     };
     ExitCode::from(status)

@@ -1,4 +1,10 @@
 //! The command line.
+ghost use Rattle.std.specs.Prelude.{◌≡◌, IfOk, [], codes, false, map, option_and_then, option_map};
+ghost use Rattle.std.specs.Prelude.{string_bytes, unwrap_or};
+ghost use Rattle.clap.specs.Words.{FailsBy, all_of, app_of, fault_of, found_of, matches_of};
+ghost use Rattle.clap.specs.Words.{rows_of, rule_of};
+ghost use Rattle.omny_audit.specs.Options.{asked_by, asked_of, ledger_rule, not_dash, program};
+ghost use Rattle.omny_audit.specs.Options.{table_rule, uploads_rule};
 
 use clap::{Arg, ArgAction, ArgMatches, Command, Error};
 use std::alloc::{AllocError, Global};
@@ -43,26 +49,57 @@ pub struct Options<'a> {
     pub ledger: Option<&'a str>,
 }
 
-/// The command line, as clap reads it.
-fn command<'a>(alloc: Global) -> Result<Command<'a>, AllocError> {
-    let table = Arg::new(alloc, "table")
+const TABLE_HELP: &str = "The fare table, a TOML file";
+
+const UPLOADS_HELP: &str =
+    "Uploads of at most 67108864 bytes, whose taps the ledger should have; the list ends at the \
+     next option, at --, or with the line";
+
+const LEDGER_HELP: &str = "The ledger, a CSV file of any length [default: standard input, as -]";
+
+/// `--table F`.
+fn table_arg<'a>(alloc: Global) -> Arg<'a>
+    ensures rule { rule_of result ≡ table_rule }
+    ensures local { result.global ≡ false }
+{
+    Arg::new(alloc, "table")
         .long("table")
         .value_name("F")
         .required(true)
         .action(ArgAction::Set)
-        .help("The fare table, a TOML file");
-    let ledger = Arg::new(alloc, "LEDGER").action(ArgAction::Set).help(
-        "The ledger, a CSV file of any length [default: standard input, as -]",
-    );
-    let uploads = Arg::new(alloc, "uploads")
+        .help(TABLE_HELP)
+}
+
+/// `--uploads FILE..`.
+fn uploads_arg<'a>(alloc: Global) -> Arg<'a>
+    ensures rule { rule_of result ≡ uploads_rule }
+    ensures local { result.global ≡ false }
+{
+    Arg::new(alloc, "uploads")
         .long("uploads")
         .value_name("FILE")
         .num_args(1..)
         .action(ArgAction::Append)
-        .help(
-            "Uploads of at most 67108864 bytes, whose taps the ledger should have; the list ends at \
-             the next option, at --, or with the line",
-        );
+        .help(UPLOADS_HELP)
+}
+
+/// `LEDGER`.
+fn ledger_arg<'a>(alloc: Global) -> Arg<'a>
+    ensures rule { rule_of result ≡ ledger_rule }
+    ensures local { result.global ≡ false }
+{
+    Arg::new(alloc, "LEDGER")
+        .action(ArgAction::Set)
+        .help(LEDGER_HELP)
+}
+
+/// The command line, as clap reads it.
+fn command<'a>(alloc: Global) -> Result<Command<'a>, AllocError>
+    ensures { IfOk result (λ command. app_of command ≡ program) }
+{
+    let table = table_arg(alloc);
+    let uploads = uploads_arg(alloc);
+    let ledger = ledger_arg(alloc);
     Command::new(alloc, "omny_audit")
         .version("1.0.0")
         .about(ABOUT)
@@ -72,26 +109,56 @@ fn command<'a>(alloc: Global) -> Result<Command<'a>, AllocError> {
         .arg(ledger)
 }
 
+/// The words read by clap.
+fn matched<'a>(alloc: Global, words: &'a [String]) -> Result<ArgMatches<'a>, Error>
+    ensures rows { IfOk result (λ matches. rows_of (found_of matches)
+        ≡ matches_of program (map string_bytes words.entry.now)) }
+    ensures kinds { FailsBy (fault_of program (map string_bytes words.entry.now)) result }
+{
+    command(alloc)?.try_get_matches_from(words)
+}
+
 /// The names of the uploads.
-fn uploads_in<'a>(alloc: Global, matches: &ArgMatches<'a>) -> Result<Vec<&'a str>, AllocError> {
+fn uploads_in<'a>(alloc: Global, matches: &ArgMatches<'a>) -> Result<Vec<&'a str>, AllocError>
+    ensures { IfOk result (λ files. map (λ f. f.now) files.items
+        ≡ unwrap_or (all_of (codes "uploads") (rows_of (found_of matches.now))) []) }
+{
     match matches.get_strs("uploads") {
         Some(uploads) => Vec::from_slice(alloc, uploads),
         None => Ok(Vec::new(alloc)),
     }
 }
 
+/// The name, but where it is `-`.
+fn unless_dash<'a>(name: &'a str) -> Option<&'a str>
+    ensures { option_map (λ n. n.now) result ≡ not_dash name.entry.now }
+{
+    if name == "-" { None } else { Some(name) }
+}
+
+/// The file of the ledger, where one is named.
+fn ledger_in<'a>(named: Option<&'a str>) -> Option<&'a str>
+    ensures { option_map (λ n. n.now) result
+        ≡ option_and_then not_dash (option_map (λ n. n.now) named.entry) }
+{
+    match named {
+        Some(name) => unless_dash(name),
+        None => None,
+    }
+}
+
 impl<'a> Options<'a> {
     /// What the words ask for; else clap's error, which may be a call for help.
-    pub fn read(alloc: Global, words: &'a [String]) -> Result<Options<'a>, Error> {
-        let matches = command(alloc)?.try_get_matches_from(words)?;
-        let ledger = match matches.get_str("LEDGER") {
-            Some("-") => None,
-            named => named,
-        };
+    pub fn read(alloc: Global, words: &'a [String]) -> Result<Options<'a>, Error>
+        ensures asked { IfOk result
+            (λ options. asked_of options ≡ asked_by (map string_bytes words.entry.now)) }
+        ensures kinds { FailsBy (fault_of program (map string_bytes words.entry.now)) result }
+    {
+        let matches = matched(alloc, words)?;
         Ok(Options {
             table: matches.get_str("table").unwrap_or(""),
             uploads: uploads_in(alloc, &matches)?,
-            ledger,
+            ledger: ledger_in(matches.get_str("LEDGER")),
         })
     }
 }

@@ -1,14 +1,17 @@
 //! Texts that are written out whole.
-
-ghost use Rattle.std.specs.Prelude.{OnOk};
+ghost use Rattle.std.specs.Prelude.{◌≡◌, IfErr, None, OnOk, true};
 ghost use Rattle.std.specs.Io.KnownBytes.{Appends, Keeps};
+ghost use Rattle.omny_audit.specs.Fault.{is_unwritten, named_by};
 
 use crate::fault::Fault;
 use std::io;
 use std::io::{ErrorKind, Write};
 
 /// Why a write failed.
-pub fn unwritten<'a>(error: &io::Error) -> Fault<'a> {
+pub fn unwritten<'a>(error: &io::Error) -> Fault<'a>
+    ensures unwritten { is_unwritten result ≡ true }
+    ensures named { named_by result ≡ None }
+{
     if error.kind() == ErrorKind::BrokenPipe {
         Fault::Closed
     } else {
@@ -18,7 +21,9 @@ pub fn unwritten<'a>(error: &io::Error) -> Fault<'a> {
 
 /// Brings what was written through to where the writer brings it.
 pub fn flush<'a, W: Write>(out: &mut W) -> Result<(), Fault<'a>>
-    ensures { Keeps (W.contents out.old) (W.contents out.new) }
+    ensures fault { IfErr result (λ fault. is_unwritten fault ≡ true) }
+    ensures named { IfErr result (λ fault. named_by fault ≡ None) }
+    ensures kept { Keeps (W.contents out.old) (W.contents out.new) }
 {
     match out.flush() {
         Ok(()) => Ok(()),
@@ -28,7 +33,9 @@ pub fn flush<'a, W: Write>(out: &mut W) -> Result<(), Fault<'a>>
 
 /// Writes the whole text, through to where the writer brings it.
 pub fn write_text<'a, W: Write>(out: &mut W, text: &str) -> Result<(), Fault<'a>>
-    ensures { OnOk result (Appends (W.contents out.old) (W.contents out.new) text.now) }
+    ensures fault { IfErr result (λ fault. is_unwritten fault ≡ true) }
+    ensures named { IfErr result (λ fault. named_by fault ≡ None) }
+    ensures text { OnOk result (Appends (W.contents out.old) (W.contents out.new) text.now) }
 {
     match out.write_all(text.as_bytes()) {
         Ok(()) => flush(out),

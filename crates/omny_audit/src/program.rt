@@ -1,31 +1,129 @@
-//! The whole program, over any two writers.
+//! The whole program, over any source of bytes and any two writers.
+ghost use Rattle.std.specs.Prelude.{◌≡◌, ◌≢◌, ◌≤◌, ◌⊎◌, ◌++◌, ◌∷◌, [], List, ℕ, IfErr, IfOk};
+ghost use Rattle.std.specs.Prelude.{IfSome, None, Some, codes, false, map, option_map};
+ghost use Rattle.std.specs.Prelude.{string_bytes, true, unwrap_or};
+ghost use Rattle.std.specs.Io.KnownBytes.{Appends, Keeps};
+ghost use Rattle.std.specs.IoError.{error_kind};
+ghost use Rattle.clap.specs.Words.{kind_of};
+ghost use Rattle.tap_balance.specs.Balances.{IsBalance};
+ghost use Rattle.tap_views.specs.declared.encoder.TapFields.{TapFields};
+ghost use Rattle.omny_audit.specs.Fault.{NamesOneOf, is_unwritten, named_by};
+ghost use Rattle.omny_audit.specs.Options.{AsksForText, IsRequest, Parses, asked_by, asked_of};
+ghost use Rattle.omny_audit.specs.Options.{files_of};
+ghost use Rattle.omny_audit.specs.Program.{ArePostedOfAll, Audits, GaveUp, LoadsFiles, LoadsTable};
+ghost use Rattle.omny_audit.specs.Program.{Told};
+ghost use Rattle.omny_audit.specs.Source.{OpensOne, TellsOne};
 
-ghost use Rattle.std.specs.Prelude.{◌≤◌};
-
+use crate::audit::audit_over;
+use crate::complaints::Complaints;
 use crate::fault::Fault;
-use crate::files::{audit_named, load_balance, load_table};
 use crate::options::Options;
 use crate::output::{flush, unwritten};
+use crate::source::Source;
 use clap::Error;
 use clap::error::ErrorKind;
+use fare_table::FareTable;
+use std::alloc::Global;
 use std::io;
 use std::io::{ErrorKind as WriteKind, Write};
+use tap_balance::Balance;
 
-/// Checks the ledger and writes the answer. Says whether all is well.
-fn audit<'a, W: Write>(
-    rt: &HostRuntime,
+/// What standard input is called in a fault line.
+const STANDARD_INPUT: &str = "standard input";
+
+/// All bytes of the file of this name.
+fn load_named<'a, S: Source>(source: &mut S, name: &'a str) -> Result<Vec<u8>, Fault<'a>>
+    ensures ok { IfOk result (λ bytes. TellsOne (S.loaded source.old) (S.loaded source.new)
+        (Some name.entry.now) bytes.items) }
+    ensures fault { IfErr result (λ fault. is_unwritten fault ≡ false) }
+    ensures named { IfErr result (λ fault. IfSome (named_by fault)
+        (λ told. told ≡ name.entry.now)) }
+{
+    match source.load(name) {
+        Ok(bytes) => Ok(bytes),
+        Err(fault) => Err(Fault::of_load(name, fault)),
+    }
+}
+
+/// The fare table of the file of this name.
+fn load_table<'a, S: Source>(
+    alloc: Global,
+    name: &'a str,
+    source: &mut S,
+) -> Result<FareTable, Fault<'a>>
+    ensures ok { IfOk result (λ table.
+        LoadsTable name.entry.now (S.loaded source.old) (S.loaded source.new) table) }
+    ensures fault { IfErr result (λ fault. is_unwritten fault ≡ false) }
+    ensures named { IfErr result (λ fault. IfSome (named_by fault)
+        (λ told. told ≡ name.entry.now)) }
+{
+    let text = load_named(source, name)?;
+    let table = FareTable::read(alloc, &text)?;
+    Ok(table)
+}
+
+/// The posted taps of the uploads of these names. It holds one upload at a time.
+fn load_balance<'a, S: Source>(
+    alloc: Global,
+    names: &[&'a str],
+    source: &mut S,
+) -> Result<Balance, Fault<'a>>
+    ensures ok { IfOk result (λ balance. (files : List (List ℕ)) × (posted : List TapFields)
+        × LoadsFiles (map (λ n. n.now) names.now) (S.loaded source.old) (S.loaded source.new) files
+        × ArePostedOfAll files posted × IsBalance balance posted []) }
+    ensures fault { IfErr result (λ fault. is_unwritten fault ≡ false) }
+    ensures named { IfErr result (λ fault. NamesOneOf (map (λ n. n.now) names.now) fault) }
+{
+    let mut balance = Balance::new(alloc);
+    for name in names {
+        let upload = load_named(source, name)?;
+        balance.add_upload(&upload)?;
+    }
+    Ok(balance)
+}
+
+/// The ledger of this name, or standard input where none is named.
+fn open_ledger<'a, S: Source>(name: Option<&'a str>, source: &mut S) -> Result<S::Ledger, Fault<'a>>
+    ensures ok { IfOk result (λ ledger. OpensOne (S.loaded source.old) (S.loaded source.new)
+        (option_map (λ n. n.now) name.entry) (S.Ledger.remaining ledger)) }
+    ensures fault { IfErr result (λ fault. is_unwritten fault ≡ false) }
+    ensures named { IfErr result (λ fault. IfSome (named_by fault) (λ told. told
+        ≡ unwrap_or (option_map (λ n. n.now) name.entry) (codes "standard input"))) }
+{
+    match source.open(name) {
+        Ok(ledger) => Ok(ledger),
+        Err(fault) => Err(Fault::of_load(name.unwrap_or(STANDARD_INPUT), fault)),
+    }
+}
+
+/// Checks the ledger and writes the answer. Says whether all is well. The table is loaded first,
+/// then the uploads, and then the ledger is read.
+fn audit<'a, S: Source, W: Write>(
+    alloc: Global,
     options: &Options<'a>,
+    source: &mut S,
     out: &mut W,
-) -> Result<bool, Fault<'a>> {
-    let table = load_table(rt, options.table)?;
-    let clock = table.clock(rt.alloc())?;
-    let balance = load_balance(rt, &options.uploads)?;
-    let has_uploads = !options.uploads.is_empty();
-    audit_named(
-        rt,
+) -> Result<bool, Fault<'a>>
+    ensures ok { IfOk result (λ well.
+        Audits (asked_of options.now) (S.loaded source.old) (S.loaded source.new)
+        (W.contents out.old) (W.contents out.new) well) }
+
+    // Only a write that fails leaves something of a text behind.
+    ensures fault { IfErr result (λ fault. is_unwritten fault ≡ false
+        → Keeps (W.contents out.old) (W.contents out.new)) }
+    ensures named { IfErr result (λ fault. NamesOneOf (files_of (asked_of options.now)) fault) }
+{
+    let table = load_table(alloc, options.table, source)?;
+    let clock = table.clock(alloc)?;
+    let names = options.uploads.as_slice();
+    let balance = load_balance(alloc, names, source)?;
+    let has_uploads = !names.is_empty();
+    let mut ledger = open_ledger(options.ledger, source)?;
+    audit_over(
+        alloc,
         &table,
         &clock,
-        options.ledger,
+        &mut ledger,
         balance,
         has_uploads,
         out,
@@ -33,19 +131,44 @@ fn audit<'a, W: Write>(
 }
 
 /// Says why the program gives up, but where the reader has gone, and gives the status.
-fn tell<E: Write>(err: &mut E, fault: &Fault) -> u8
-    ensures { result ≤ 1 }
+fn tell<E: Write>(err: &mut Complaints<E>, fault: &Fault) -> u8
+    ensures status { result ≡ 1 }
+    ensures told { Told fault.now (E.contents err.old.writer) (E.contents err.new.writer)
+        err.new.failed }
 {
-    if !matches!(fault, Fault::Closed) {
-        let _ = write!(err, "{fault}\n");
+    if !fault.is_quiet() {
+        err.tell_line(*fault);
     }
     1
 }
 
+/// Prints clap's text, through to where the writer brings it.
+fn show_text<'a, W: Write>(error: &Error, out: &mut W) -> Result<(), Fault<'a>>
+    ensures fault { IfErr result (λ fault. is_unwritten fault ≡ true) }
+    ensures named { IfErr result (λ fault. named_by fault ≡ None) }
+{
+    match write!(out, "{error}") {
+        Ok(()) => flush(out),
+        Err(error) => Err(unwritten(&error)),
+    }
+}
+
 /// Shows what clap answers when there is nothing to run: help and version on `out`, else the
 /// mistake on `err`.
-fn show<W: Write, E: Write>(error: &Error, out: &mut W, err: &mut E) -> u8
-    ensures { result ≤ 2 }
+fn show<W: Write, E: Write>(error: &Error, out: &mut W, err: &mut Complaints<E>) -> u8
+    ensures help { result ≡ 0 → IsRequest (kind_of error.now) }
+    ensures memory { kind_of error.now ≡ ErrorKind.OutOfMemory → (result ≡ 1)
+        × GaveUp Fault.NoMemory (E.contents err.old.writer) (E.contents err.new.writer)
+        err.new.failed (W.contents out.old) (W.contents out.new) }
+    ensures words { (¬ IsRequest (kind_of error.now))
+        → kind_of error.now ≢ ErrorKind.OutOfMemory → result ≡ 2 }
+    ensures right { result ≡ 2 → ¬ IsRequest (kind_of error.now) }
+    ensures mistake { result ≡ 2 → Keeps (W.contents out.old) (W.contents out.new) }
+    ensures quiet { result ≡ 0 → err.new ≡ err.old }
+    ensures fault { result ≡ 1 → (fault : Fault) × (named_by fault ≡ None)
+        × GaveUp fault (E.contents err.old.writer) (E.contents err.new.writer) err.new.failed
+        (W.contents out.old) (W.contents out.new) }
+    ensures status { result ≤ 2 }
 {
     match error.kind() {
         ErrorKind::OutOfMemory => tell(err, &Fault::NoMemory),
@@ -54,36 +177,67 @@ fn show<W: Write, E: Write>(error: &Error, out: &mut W, err: &mut E) -> u8
             Err(fault) => tell(err, &fault),
         },
         _ => {
-            let _ = write!(err, "{error}");
+            err.tell(error);
             2
         }
     }
 }
 
-/// Prints clap's text.
-fn show_text<'a, W: Write>(error: &Error, out: &mut W) -> Result<(), Fault<'a>> {
-    match write!(out, "{error}") {
-        Ok(()) => flush(out),
-        Err(error) => Err(unwritten(&error)),
-    }
-}
-
 /// The whole program: reads the words, of which the first is the program's name, checks the ledger
-/// that they name, and writes the answer to `out`, mistakes and faults to `err`. Gives the status: 0 where
-/// all is well, 1 where it is not or something failed, 2 where the words are wrong.
-pub fn main_over<W: Write, E: Write>(
-    rt: &HostRuntime,
+/// that they name, from the source, and writes the answer to `out`, mistakes and faults to `err`.
+/// Gives the status: 0 where all is well, 1 where it is not or something failed, 2 where the words
+/// are no command line.
+pub fn main_over<S: Source, W: Write, E: Write>(
+    alloc: Global,
     words: &[String],
+    source: &mut S,
     out: &mut W,
-    err: &mut E,
+    err: &mut Complaints<E>,
 ) -> u8
-    ensures { result ≤ 2 }
+    // With status 0 the answer was written, and says that all is well.
+    ensures done { Parses (map string_bytes words.now) → result ≡ 0
+        → Audits (asked_by (map string_bytes words.now)) (S.loaded source.old)
+        (S.loaded source.new) (W.contents out.old) (W.contents out.new) true }
+
+    // With status 1 the answer was written, and says that not all is well, and nothing was said on
+    // `err`; or a fault was told, which names no other file than one that the words name, and
+    // nothing was written but where a write failed.
+    ensures faults { result ≡ 1
+        → (Parses (map string_bytes words.now)
+        × Audits (asked_by (map string_bytes words.now)) (S.loaded source.old)
+        (S.loaded source.new) (W.contents out.old) (W.contents out.new) false
+        × (err.new ≡ err.old))
+        ⊎ ((fault : Fault) × NamesOneOf (files_of (asked_by (map string_bytes words.now))) fault
+        × GaveUp fault (E.contents err.old.writer) (E.contents err.new.writer) err.new.failed
+        (W.contents out.old) (W.contents out.new)) }
+
+    // Words that are no command line end well only where they ask for help or the version.
+    ensures helped { ¬ Parses (map string_bytes words.now) → result ≡ 0
+        → AsksForText (map string_bytes words.now) }
+
+    // Words that are no command line have status 2, if they ask for neither. Only want of memory,
+    // where the words are read, may come before it.
+    ensures mistaken { ¬ Parses (map string_bytes words.now)
+        → (¬ AsksForText (map string_bytes words.now))
+        → (result ≡ 2) ⊎ ((result ≡ 1) × GaveUp Fault.NoMemory (E.contents err.old.writer)
+        (E.contents err.new.writer) err.new.failed (W.contents out.old) (W.contents out.new)) }
+
+    // Only such words have status 2.
+    ensures right { result ≡ 2 → ¬ Parses (map string_bytes words.now) }
+
+    // Nothing is said on `err` where all is well.
+    ensures quiet { result ≡ 0 → err.new ≡ err.old }
+
+    // A mistake in the words loads nothing and writes nothing to `out`.
+    ensures unloaded { result ≡ 2 → S.loaded source.new ≡ S.loaded source.old }
+    ensures unwritten { result ≡ 2 → Keeps (W.contents out.old) (W.contents out.new) }
+    ensures status { result ≤ 2 }
 {
-    let options = match Options::read(rt.alloc(), words) {
+    let options = match Options::read(alloc, words) {
         Ok(options) => options,
         Err(error) => return show(&error, out, err),
     };
-    match audit(rt, &options, out) {
+    match audit(alloc, &options, source, out) {
         Ok(true) => 0,
         Ok(false) => 1,
         Err(fault) => tell(err, &fault),
@@ -92,12 +246,15 @@ pub fn main_over<W: Write, E: Write>(
 
 /// Says why the words could not be had, and gives the status: 1 for want of memory, and 2 for a
 /// word that is not UTF-8.
-pub fn unread_words<E: Write>(error: &io::Error, err: &mut E) -> u8
-    ensures { result ≤ 2 }
+pub fn unread_words<E: Write>(error: &io::Error, err: &mut Complaints<E>) -> u8
+    ensures memory { error_kind error.now ≡ WriteKind.OutOfMemory → (result ≡ 1)
+        × Told Fault.NoMemory (E.contents err.old.writer) (E.contents err.new.writer)
+        err.new.failed }
+    ensures word { error_kind error.now ≢ WriteKind.OutOfMemory → result ≡ 2 }
 {
     if error.kind() == WriteKind::OutOfMemory {
         return tell(err, &Fault::NoMemory);
     }
-    let _ = write!(err, "error: an argument is not UTF-8\n");
+    err.tell_line("error: an argument is not UTF-8");
     2
 }

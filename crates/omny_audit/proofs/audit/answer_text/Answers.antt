@@ -1,4 +1,4 @@
-use Rattle.std.proofs.Common.{◌≡◌, ◌++◌, ℕ, List, [], sym, ap, ◌∙◌, append-nil, true, false, rules, tests, string_bytes}
+use Rattle.std.proofs.Common.{◌≡◌, ◌++◌, ℕ, List, [], sym, ap, ◌∙◌, append-nil, true, false, rules, tests}
 use Rattle.omny_audit.specs.Text.{verdict_text}
 use Rattle.omny_audit.proofs.AnswerLemmas.{alone, beside, not_legal}
 use Rattle.ledger_check.specs.Verdicts.{is_legal}

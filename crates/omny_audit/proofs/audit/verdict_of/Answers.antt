@@ -1,14 +1,7 @@
 -- What was read so far is what the checker was fed.
-use Rattle.std.proofs.Common.{◌≡◌, ◌++◌, ◌<◌, ◌≤◌, ℕ, List, [], Option, None, Some, true, false, length, map, take, sym, ap, subst, ◌∙◌, append-nil, arith}
-use Rattle.std.specs.Prelude.{IfNone, IsTrue}
-use Rattle.shard_book.specs.declared.entry.Entry.{Entry}
-use Rattle.tap_balance.specs.Balances.{IsBalance}
-use Rattle.tap_views.specs.declared.encoder.TapFields.{TapFields}
-use Rattle.ledger_check.specs.Ledger.{IsLedgerOf}
-use Rattle.ledger_check.specs.Struck.{HasStruck, posted_tap}
-use Rattle.ledger_check.specs.Verdicts.{IsFed, IsVerdict, is_legal}
-use Rattle.ledger_check.specs.declared.checker.Verdict.{Verdict}
-use Rattle.ledger_check.specs.declared.checker.Verdict.TheVariants.{Legal, NoLine, Wants}
+use Rattle.std.proofs.Common.{◌≡◌, ◌++◌, ℕ, List, [], true, false, take, sym, ap, subst, ◌∙◌, append-nil, arith}
+use Rattle.ledger_check.specs.Verdicts.{IsVerdict}
+use Rattle.omny_audit.specs.Answers.{StrikesOut}
 use Rattle.omny_audit.proofs.ReadLemmas.{at_end, consumes-more, consumes-none, whatever_follows}
 use Rattle.omny_audit.proofs.audit.verdict_of.Goals as goal
 
@@ -26,49 +19,39 @@ finish-requires g c = record { fed = (c.args.table.now, c.loop-turn.invariant.te
 pub feed-requires-clause-fed : goal.feed-requires-clause-fed
 feed-requires-clause-fed g c = (c.loop-turn.invariant.text, c.loop-turn.invariant.fed)
 
-pub returns-then-count-eq0-clause-verdict : goal.returns-then-count-eq0-clause-verdict
-returns-then-count-eq0-clause-verdict g c =
+pub returns-then-count-eq0-clause-told : goal.returns-then-count-eq0-clause-told
+returns-then-count-eq0-clause-told g c =
     let before = c.loop-turn.invariant in
     let got = c.in-Ok.ensures.bytes in
     let none = ap (λ (n : ℕ). before.text ++ take n c.read.new.buf) c.if-count-eq0.true ∙ append-nil before.text in
-    at_end (λ (text : List ℕ). IsVerdict c.args.table.now text c.finish.result) _ _ _
+    let Is : List ℕ → Type 0 = λ text. IsVerdict c.args.table.now text c.finish.result
+    × StrikesOut c.args.table.now text c.args.balance.now c.loop-turn.balance c.finish.result in
+    let told = at_end Is _ _ _
     (consumes-more _ _ _ before.text (take c.in-Ok.count c.read.new.buf) before.read got.0)
     (got.1 c.if-count-eq0.true (omega arith))
-    (subst (λ (text : List ℕ). IsVerdict c.args.table.now text c.finish.result) (sym none) (c.finish.ensures.verdict c.args.table.now before.text before.fed))
-
-pub returns-then-count-eq0-clause-struck : goal.returns-then-count-eq0-clause-struck
-returns-then-count-eq0-clause-struck g c =
-    let before = c.loop-turn.invariant in
-    let got = c.in-Ok.ensures.bytes in
-    let none = ap (λ (n : ℕ). before.text ++ take n c.read.new.buf) c.if-count-eq0.true ∙ append-nil before.text in
-    let Is : List ℕ → Type 0 = λ text. (posted : List TapFields) → IsBalance c.args.balance.now posted [] → IsTrue (is_legal c.finish.result)
-    → (entries : List Entry) → IsLedgerOf c.args.table.now entries text → IsBalance c.loop-turn.balance posted (map posted_tap entries) in
-    at_end Is _ _ _
-    (consumes-more _ _ _ before.text (take c.in-Ok.count c.read.new.buf) before.read got.0)
-    (got.1 c.if-count-eq0.true (omega arith))
-    (subst Is (sym none) (λ posted is legal entries ledger.
-    c.finish.ensures.struck c.args.table.now before.text c.loop-turn.balance posted (before.struck posted is) legal entries ledger))
-
-pub returns-in-Some-clause-verdict : goal.returns-in-Some-clause-verdict
-returns-in-Some-clause-verdict g c =
-    let before = c.loop-turn.invariant in
-    let got = c.in-Ok.ensures.bytes in
-    whatever_follows (λ (text : List ℕ). IsVerdict c.args.table.now text c.in-Some.verdict) _ _ _
-    (consumes-more _ _ _ before.text (take c.in-Ok.count c.read.new.buf) before.read got.0)
-    (rw c.in-Some.is at (c.in_ok-verdict.ensures.fed before.text before.fed))
+    (subst Is (sym none) (
+      c.finish.ensures.verdict c.args.table.now before.text before.fed,
+      λ posted is legal entries ledger. c.finish.ensures.struck c.args.table.now before.text c.loop-turn.balance posted (before.struck posted is) legal entries ledger,
+    )) in
+    (told.0, told.1, told.2.0, told.2.1)
 
 false_true : false ≡ true → ⊥
 false_true h = cc
 
-pub returns-in-Some-clause-struck : goal.returns-in-Some-clause-struck
-returns-in-Some-clause-struck g c =
+pub returns-in-Some-clause-told : goal.returns-in-Some-clause-told
+returns-in-Some-clause-told g c =
     let before = c.loop-turn.invariant in
     let got = c.in-Ok.ensures.bytes in
-    let Is : List ℕ → Type 0 = λ text. (posted : List TapFields) → IsBalance c.args.balance.now posted [] → IsTrue (is_legal c.in-Some.verdict)
-    → (entries : List Entry) → IsLedgerOf c.args.table.now entries text → IsBalance c.feed.new.balance posted (map posted_tap entries) in
-    whatever_follows Is _ _ _
+    let fed = rw c.in-Some.is at (c.in_ok-verdict.ensures.fed before.text before.fed) in
+    let Is : List ℕ → Type 0 = λ text. IsVerdict c.args.table.now text c.in-Some.verdict
+    × StrikesOut c.args.table.now text c.args.balance.now c.feed.new.balance c.in-Some.verdict in
+    let told = whatever_follows Is _ _ _
     (consumes-more _ _ _ before.text (take c.in-Ok.count c.read.new.buf) before.read got.0)
-    (λ more posted is legal. absurd (false_true (sym (rw c.in-Some.is at (c.in_ok-verdict.ensures.struck before.text posted (before.struck posted is))) ∙ legal)))
+    (λ more. (
+      fed more,
+      λ posted is legal. absurd (false_true (sym (rw c.in-Some.is at (c.in_ok-verdict.ensures.struck before.text posted (before.struck posted is))) ∙ legal)),
+    )) in
+    (told.0, told.1, told.2.0, told.2.1)
 
 pub loop-turn-preserved : goal.loop-turn-preserved
 loop-turn-preserved g c =

@@ -1,0 +1,4 @@
+pub mod Books
+pub mod Lacking
+pub mod Owned
+pub mod Telling

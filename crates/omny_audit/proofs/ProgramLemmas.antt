@@ -1,0 +1,127 @@
+-- What was loaded, one more each time, and what the program compares.
+use Rattle.std.proofs.Common.{◌≡◌, ◌∙◌, ℕ, Bool, false, not, List, [], ◌∷◌, ◌++◌, length, map, refl, sym, ap, subst, append-nil, append_assoc, nat_eq, Option, Some, None, if◌then◌else◌, Bor, ◌<◌, zero, suc, get_or, inl, inr, arith, codes}
+use Rattle.std.specs.Prelude.{IfErr, IfSome, Result, Ok, Err, unwrap_or}
+use Rattle.std.specs.Result.{IsErrAnd}
+use Rattle.std.proofs.lemmas.Bool.Decides.{nat_tests}
+use Rattle.std.proofs.lemmas.List.{map-append}
+use Rattle.clap.specs.Words.{Text}
+use Rattle.tap_balance.specs.Balances.{ArePosted}
+use Rattle.tap_views.specs.declared.encoder.TapFields.{TapFields}
+use Rattle.omny_audit.specs.Fault.{IsOneOf, NamesOneOf, named_by}
+use Rattle.omny_audit.specs.Options.{Asked, files_of}
+use Rattle.omny_audit.specs.declared.fault.Fault.{Fault}
+use Rattle.omny_audit.specs.Program.{ArePostedOfAll, LoadsFiles, compared}
+use Rattle.omny_audit.specs.Source.{IsAllOf, Loaded, OpensOne, Tells, TellsOne}
+
+pub tells_none : (told : Option (List Loaded)) → Tells told told []
+tells_none None = tt
+tells_none (Some before) = sym (append-nil before)
+
+tells_on : (told told' told'' : Option (List Loaded)) (loads more : List Loaded) → Tells told told' loads → Tells told' told'' more → Tells told told'' (loads ++ more)
+tells_on None told' told'' loads more first next = tt
+tells_on (Some before) None told'' loads more first next = absurd first
+tells_on (Some before) (Some now) None loads more first next = absurd next
+tells_on (Some before) (Some now) (Some after) loads more first next = next ∙ ap (λ (xs : List Loaded). xs ++ more) first ∙ append_assoc before loads more
+
+-- one more file that was loaded
+pub loads_push : (names : List Text) (name : Text) (told told' told'' : Option (List Loaded)) (files : List (List ℕ)) (bytes : List ℕ)
+    → LoadsFiles names told told' files → TellsOne told' told'' (Some name) bytes → LoadsFiles (names ++ name ∷ []) told told'' (files ++ bytes ∷ [])
+loads_push names name told told' told'' files bytes all one = record {
+  loads = all.loads ++ record { name = Some name; bytes = bytes } ∷ [];
+  named = map-append (λ (load : Loaded). load.name) all.loads _ ∙ ap (λ (xs : List (Option Text)). xs ++ Some name ∷ []) all.named ∙ sym (map-append Some names (name ∷ []));
+  bytes = map-append (λ (load : Loaded). load.bytes) all.loads _ ∙ ap (λ (xs : List (List ℕ)). xs ++ bytes ∷ []) all.bytes;
+  told_is = tells_on told told' told'' all.loads _ all.told_is one;
+}
+
+-- and the taps of one more
+pub posted_push : (uploads : List (List ℕ)) (posted : List TapFields) (upload : List ℕ) (taps : List TapFields) → ArePostedOfAll uploads posted
+    → ArePosted upload taps → ArePostedOfAll (uploads ++ upload ∷ []) (posted ++ taps)
+posted_push [] posted upload taps all one =
+    (taps, [], one, refl, ap (λ (xs : List TapFields). xs ++ taps) all ∙ sym (append-nil taps))
+posted_push (first ∷ uploads) posted upload taps all one = (
+  all.0,
+  all.1 ++ taps,
+  all.2,
+  posted_push uploads all.1 upload taps all.3 one,
+  ap (λ (xs : List TapFields). xs ++ taps) all.4 ∙ append_assoc all.0 all.1 taps,
+)
+
+-- what a reader had is what the source tells
+pub opened : (before after : Option (List Loaded)) (name : Option Text) (left : Option (List ℕ)) (text : List ℕ) → OpensOne before after name left
+    → IsAllOf left text → TellsOne before after name text
+opened None after name left text opens all = tt
+opened (Some before) after name None text opens all = absurd opens
+opened (Some before) after name (Some known) text opens all = subst (λ (t : List ℕ). TellsOne (Some before) after name t) all opens
+
+not_zero : (n : ℕ) → nat_eq (suc n) 0 ≡ false
+not_zero n = grind (arith, nat_tests)
+
+-- taps are compared where uploads are named
+pub compared_is : (names : List (Bor Text)) (posted : List TapFields) (has : Bool) → has ≡ not (nat_eq (length names) 0)
+    → (if has then Some posted else None) ≡ compared (map (λ n. n.now) names) posted
+compared_is [] posted has is = rw is refl
+compared_is (name ∷ names) posted has is =
+    let some : nat_eq (length (name ∷ names)) 0 ≡ false = not_zero (length names) in
+    ap (λ (b : Bool). if b then Some posted else None) (is ∙ ap not some)
+
+-- a name at a place is one of the names
+pub is_one_at : (names : List (Bor Text)) (k : ℕ) (d : Bor Text) (name : Text) → k < length names → name ≡ (get_or names k d).now → IsOneOf name (map (λ n. n.now) names)
+is_one_at [] k d name within is = absurd (omega arith)
+is_one_at (n ∷ names) zero d name within is = inl is
+is_one_at (n ∷ names) (suc k) d name within is = inr (is_one_at names k d name (omega arith) is)
+
+-- so is that of a fault
+pub names_at : (names : List (Bor Text)) (k : ℕ) (d : Bor Text) (fault : Fault) → k < length names
+    → IfSome (named_by fault) (λ told. told ≡ (get_or names k d).now) → NamesOneOf (map (λ n. n.now) names) fault
+names_at names k d fault within is = weaker (named_by fault) is
+  where
+    weaker : (o : Option Text) → IfSome o (λ told. told ≡ (get_or names k d).now) → IfSome o (λ name. IsOneOf name (map (λ n. n.now) names))
+    weaker None is = tt
+    weaker (Some name) is = is_one_at names k d name within is
+
+is_one_left : (name : Text) (names more : List Text) → IsOneOf name names → IsOneOf name (names ++ more)
+is_one_left name [] more one = absurd one
+is_one_left name (n ∷ names) more one = elim one [ inl is ↦ inl is | inr rest ↦ inr (is_one_left name names more rest) ]
+
+is_one_last : (name : Text) (names : List Text) (last : Text) → name ≡ last → IsOneOf name (names ++ last ∷ [])
+is_one_last name [] last is = inl is
+is_one_last name (n ∷ names) last is = inr (is_one_last name names last is)
+
+-- of the files that are asked for
+pub at_table : (asked : Asked) (fault : Fault) → IfSome (named_by fault) (λ told. told ≡ asked.table) → NamesOneOf (files_of asked) fault
+at_table asked fault is = weaker (named_by fault) is
+  where
+    weaker : (o : Option Text) → IfSome o (λ told. told ≡ asked.table) → IfSome o (λ name. IsOneOf name (files_of asked))
+    weaker None is = tt
+    weaker (Some name) is = inl is
+
+pub at_uploads : (asked : Asked) (fault : Fault) → NamesOneOf asked.uploads fault → NamesOneOf (files_of asked) fault
+at_uploads asked fault is = weaker (named_by fault) is
+  where
+    weaker : (o : Option Text) → IfSome o (λ name. IsOneOf name asked.uploads) → IfSome o (λ name. IsOneOf name (files_of asked))
+    weaker None is = tt
+    weaker (Some name) is = inr (is_one_left name asked.uploads _ is)
+
+pub at_ledger : (asked : Asked) (fault : Fault) → IfSome (named_by fault) (λ told. told ≡ unwrap_or asked.ledger (codes "standard input")) → NamesOneOf (files_of asked) fault
+at_ledger asked fault is = weaker (named_by fault) is
+  where
+    weaker : (o : Option Text) → IfSome o (λ told. told ≡ unwrap_or asked.ledger (codes "standard input")) → IfSome o (λ name. IsOneOf name (files_of asked))
+    weaker None is = tt
+    weaker (Some name) is = inr (is_one_last name asked.uploads _ is)
+
+-- a fault that names nothing names no other
+pub names_none : (names : List Text) (fault : Fault) → named_by fault ≡ None → NamesOneOf names fault
+names_none names fault none = rw none tt
+
+-- a fault that is handed on
+pub handed_on : {A : Type 0} (r : Result A Fault) (fault : Fault) (P : Fault → Type 0) → IsErrAnd r (λ e. e ≡ fault) → P fault → IfErr r P
+handed_on (Ok x) fault P same is = tt
+handed_on (Err e) fault P same is = subst P (sym same) is
+
+-- the same names, lent twice
+pub loads_same : (names same : List (Bor Text)) (told told' : Option (List Loaded)) (files : List (List ℕ)) → names ≡ same
+    → LoadsFiles (map (λ n. n.now) names) told told' files → LoadsFiles (map (λ n. n.now) same) told told' files
+loads_same names same told told' files is loads = subst (λ (ns : List (Bor Text)). LoadsFiles (map (λ n. n.now) ns) told told' files) is loads
+
+pub names_same : (names same : List (Bor Text)) (fault : Fault) → names ≡ same → NamesOneOf (map (λ n. n.now) names) fault → NamesOneOf (map (λ n. n.now) same) fault
+names_same names same fault is one = subst (λ (ns : List (Bor Text)). NamesOneOf (map (λ n. n.now) ns) fault) is one

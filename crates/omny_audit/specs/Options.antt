@@ -1,0 +1,86 @@
+-- The command line, and what its words ask for.
+use Rattle.std.specs.Prelude.{◌≡◌, ◌⊎◌, List, [], ◌∷◌, ◌++◌, Option, None, Some, codes, true, map}
+use Rattle.std.specs.Prelude.{if◌then◌else◌, option_and_then, option_map, unwrap_or}
+use Rattle.std.specs.Str.{bytes_eq}
+use Rattle.clap.specs.Lexer.{usize_max}
+use Rattle.clap.specs.Words.{App, IsAmong, Rule, Text, all_of, fault_of, first_of, matches_of}
+use Rattle.clap.specs.Words.{new_app, new_rule, with_rule}
+use Rattle.clap.specs.Simple.{on_top}
+use Rattle.clap.specs.declared.builder.action.ArgAction.TheVariants.{Set, Append}
+use Rattle.clap.specs.declared.error.kind.ErrorKind.{ErrorKind}
+use Rattle.clap.specs.declared.error.kind.ErrorKind.TheVariants.{DisplayHelp, DisplayVersion}
+use Rattle.omny_audit.specs.declared.options.Options.{Options}
+
+-- `--table F`, which has to be given
+abbrev pub table_rule : Rule
+table_rule = record (new_rule (codes "table")) {
+  long = Some (codes "table");
+  action = Some Set;
+  value_names = 1;
+  required = true;
+}
+
+-- `--uploads FILE..`, as often as wanted
+abbrev pub uploads_rule : Rule
+uploads_rule = record (new_rule (codes "uploads")) {
+  long = Some (codes "uploads");
+  action = Some Append;
+  range = Some (record { start_inclusive = 1; end_inclusive = usize_max });
+  value_names = 1;
+}
+
+-- `LEDGER`
+abbrev pub ledger_rule : Rule
+ledger_rule = record (new_rule (codes "LEDGER")) { action = Some Set }
+
+-- the program's name, and that it has a version
+abbrev pub named_app : App
+named_app = on_top (λ s. record s { has_version = true }) (new_app (codes "omny_audit"))
+
+unfoldable pub program : App
+program = with_rule (with_rule (with_rule named_app table_rule) uploads_rule) ledger_rule
+
+-- the words after the program's name are a command line of the program
+abbrev pub Parses : List Text → Type 0
+Parses words = fault_of program words ≡ []
+
+-- the kind of what is no mistake: help or the version is asked for
+abbrev pub IsRequest : ErrorKind → Type 0
+IsRequest kind = (kind ≡ DisplayHelp) ⊎ (kind ≡ DisplayVersion)
+
+-- reading the words ends at a word that asks for help or for the version
+abbrev pub AsksForText : List Text → Type 0
+AsksForText words =
+    IsAmong DisplayHelp (fault_of program words) ⊎ IsAmong DisplayVersion (fault_of program words)
+
+-- nothing for `-`, which stands for standard input
+abbrev pub not_dash : Text → Option Text
+not_dash text = if bytes_eq text (codes "-") then None else Some text
+
+-- what a command line asks for
+pub record Asked : Type 0 where
+  pub table : Text
+  pub uploads : List Text
+  pub ledger : Option Text
+
+-- the words' table, which no command line goes without; their uploads, in order; and the ledger's
+-- file, where one is named
+abbrev pub asked_by : List Text → Asked
+asked_by words = record {
+  table = unwrap_or (first_of (codes "table") (matches_of program words)) [];
+  uploads = unwrap_or (all_of (codes "uploads") (matches_of program words)) [];
+  ledger = option_and_then not_dash (first_of (codes "LEDGER") (matches_of program words));
+}
+
+-- the files that are asked for: the table, the uploads in order, and the ledger
+abbrev pub files_of : Asked → List Text
+files_of asked =
+    asked.table ∷ (asked.uploads ++ unwrap_or asked.ledger (codes "standard input") ∷ [])
+
+-- what the options ask for
+abbrev pub asked_of : Options → Asked
+asked_of options = record {
+  table = options.table.now;
+  uploads = map (λ f. f.now) options.uploads.items;
+  ledger = option_map (λ f. f.now) options.ledger;
+}

@@ -1,0 +1,77 @@
+-- What a run of the program does.
+use Rattle.std.specs.Prelude.{◌≡◌, ℕ, Bool, false, List, [], ◌∷◌, ◌++◌, map, Option, None, Some, Ok}
+use Rattle.std.specs.Prelude.{MatchBool, codes}
+use Rattle.std.specs.Io.KnownBytes.{Appends, Keeps}
+use Rattle.clap.specs.Words.{Text}
+use Rattle.fare_table.specs.Fares.{Fares}
+use Rattle.fare_table.specs.Rules.{rules_in}
+use Rattle.fare_table.specs.Zone.{IsZoneOf}
+use Rattle.tap_balance.specs.Balances.{ArePosted}
+use Rattle.tap_views.specs.declared.encoder.TapFields.{TapFields}
+use Rattle.omny_audit.specs.Answers.{IsAnswer}
+use Rattle.omny_audit.specs.Fault.{fault_text, is_quiet, is_unwritten}
+use Rattle.omny_audit.specs.Options.{Asked}
+use Rattle.omny_audit.specs.Source.{Loaded, Tells, TellsOne}
+use Rattle.omny_audit.specs.declared.fault.Fault.{Fault}
+
+-- The text's rules, and the zone that it names, are those of these fares.
+abbrev pub Means : List ℕ → Fares → Type 0
+Means text fares = (rules_in text ≡ Ok fares.rules) × IsZoneOf fares.rules.zone fares.zone
+
+-- The file of this name was loaded, and its text means these fares.
+pub record LoadsTable (name : Text) (told told' : Option (List Loaded)) (fares : Fares) : Type 0
+  where
+    pub bytes : List ℕ
+    pub told_is : TellsOne told told' (Some name) bytes
+    pub means : Means bytes fares
+
+-- A file of each of these names was loaded, in their order.
+pub record LoadsFiles (names : List Text) (told told' : Option (List Loaded))
+    (files : List (List ℕ)) : Type 0 where
+  pub loads : List Loaded
+  pub named : map (λ load. load.name) loads ≡ map Some names
+  pub bytes : map (λ load. load.bytes) loads ≡ files
+  pub told_is : Tells told told' loads
+
+-- the posted taps of the uploads, one upload after another
+abbrev pub ArePostedOfAll : List (List ℕ) → List TapFields → Type 0
+ArePostedOfAll [] taps = taps ≡ []
+ArePostedOfAll (upload ∷ uploads) taps =
+    (first : List TapFields) × (rest : List TapFields) × ArePosted upload first
+    × ArePostedOfAll uploads rest × (taps ≡ first ++ rest)
+
+-- the taps with which a ledger's are compared, where uploads are named
+abbrev pub compared : List Text → List TapFields → Option (List TapFields)
+compared [] posted = None
+compared (name ∷ names) posted = Some posted
+
+-- The table was loaded, then the uploads, and then all of the ledger; what was appended to the
+-- writer is the answer on the ledger's text beside the posted taps of the uploads, if uploads are
+-- named. It says that all is well, or not.
+pub record Audits (asked : Asked) (told told' : Option (List Loaded)) (out out' : Option (List ℕ))
+    (well : Bool) : Type 0 where
+  pub after_table : Option (List Loaded)
+  pub after_uploads : Option (List Loaded)
+  pub fares : Fares
+  pub loads_table : LoadsTable asked.table told after_table fares
+  pub uploads : List (List ℕ)
+  pub loads_uploads : LoadsFiles asked.uploads after_table after_uploads uploads
+  pub posted : List TapFields
+  pub are_posted : ArePostedOfAll uploads posted
+  pub ledger : List ℕ
+  pub loads_ledger : TellsOne after_uploads told' asked.ledger ledger
+  pub text : List ℕ
+  pub answer : IsAnswer fares ledger (compared asked.uploads posted) text well
+  pub written : Appends out out' text
+
+-- The fault's line was told, unless a write of it failed. Where who reads the text has closed it,
+-- nothing is told.
+abbrev pub Told : Fault → Option (List ℕ) → Option (List ℕ) → Bool → Type 0
+Told fault said said' failed = MatchBool (is_quiet fault) (said' ≡ said)
+    (failed ≡ false → Appends said said' (fault_text fault ++ codes "\n"))
+
+-- The program gave up: the fault was told, and nothing was written but where a write failed.
+pub record GaveUp (fault : Fault) (said said' : Option (List ℕ)) (failed : Bool)
+    (out out' : Option (List ℕ)) : Type 0 where
+  pub told : Told fault said said' failed
+  pub kept : is_unwritten fault ≡ false → Keeps out out'

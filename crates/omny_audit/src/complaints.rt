@@ -1,0 +1,45 @@
+//! Where mistakes and faults are told.
+ghost use Rattle.std.specs.Prelude.{◌≡◌, ◌++◌, IfSome, codes, false};
+ghost use Rattle.std.specs.Io.KnownBytes.{Appends};
+
+use std::fmt::Display;
+use std::io::Write;
+
+/// The writer of mistakes and faults. Where it cannot be written to, nobody can be told, and the
+/// program goes on to its end.
+#[derive(Drop)]
+pub struct Complaints<W> {
+    writer: W,
+    /// Whether a write has failed.
+    failed: bool,
+}
+
+impl<W: Write> Complaints<W> {
+    /// Complaints to this writer, none of which has failed yet.
+    pub fn new(writer: W) -> Complaints<W>
+        ensures { result ≡ record { writer = writer; failed = false } }
+    {
+        Complaints {
+            writer,
+            failed: false,
+        }
+    }
+
+    /// Writes the text, whole where it can be written.
+    pub fn tell<D: Display + Drop>(&mut self, text: D) {
+        if write!(self.writer, "{text}").is_err() {
+            self.failed = true;
+        }
+    }
+
+    /// Writes the text and a line feed, whole where they can be written.
+    pub fn tell_line<D: Display + Drop>(&mut self, text: D)
+        ensures { IfSome (D.output text) (λ line. self.new.failed ≡ false
+            → Appends (W.contents self.old.writer) (W.contents self.new.writer)
+            (line ++ codes "\n")) }
+    {
+        if write!(self.writer, "{text}\n").is_err() {
+            self.failed = true;
+        }
+    }
+}
