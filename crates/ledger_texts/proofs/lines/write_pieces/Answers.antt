@@ -1,9 +1,10 @@
-use Rattle.std.proofs.Common.{◌+◌, List, [], ◌++◌, drop, take, string_bytes, refl, sym, subst, ◌∙◌, arith}
+use Rattle.std.proofs.Common.{◌+◌, List, [], ◌∷◌, ◌++◌, drop, take, string_bytes, refl, sym, ap}
+use Rattle.std.proofs.Common.{subst, ◌∙◌, arith}
 use Rattle.std.specs.Io.KnownBytes.{append_known}
 use Rattle.std.proofs.KnownBytes.{Appends-kept, Appends-nil}
 use Rattle.shard_book.specs.declared.entry.Entry.{Entry}
 use Rattle.shard_book.specs.declared.token.Token.{Token}
-use Rattle.ledger_texts.specs.inside.Lines.{AreLinesAlong, HasCome, RiseFrom}
+use Rattle.ledger_texts.specs.inside.Lines.{AreLinesAlong, HasCome, IsLineAfter, IsUpTo, RiseFrom}
 use Rattle.ledger_texts.specs.inside.Spots.{seen}
 use Rattle.ledger_texts.proofs.Writing.{along_push, grown, rise_here, rise_on, seen_taken}
 use Rattle.ledger_texts.proofs.lines.write_pieces.Goals as goal
@@ -22,30 +23,42 @@ loop-spot-init g c = record {
 pub write_next-requires-clause-come : goal.write_next-requires-clause-come
 write_next-requires-clause-come g c =
     let list = c.args.spots.now in
-    let i = c.loop-spot.spot-index in (
-      take i (seen c.args.books.now list),
-      c.turn_to.ensures.come c.args.table.now (take i (seen c.args.books.now list)) c.loop-spot.invariant.come
-          (rise_here c.args.books.now list i _ c.loop-spot.teller.token c.loop-spot-test.true c.loop-spot.invariant.rise),
+    let i = c.loop-spot.spot-index in
+    let done = take i (seen c.args.books.now list) in (
+      done,
+      c.turn_to.ensures.come c.args.table.now done c.loop-spot.invariant.come
+          (subst (λ (e : Entry). IsUpTo c.loop-spot.teller.token e.token) (sym c.entry-entry.ensures)
+          (rise_here c.args.books.now list i _ c.loop-spot.teller.token c.loop-spot-test.true
+          c.loop-spot.invariant.rise)),
     )
 
 pub loop-spot-preserved : goal.loop-spot-preserved
 loop-spot-preserved g c =
     let fares = c.args.table.now in
+    let books = c.args.books.now in
     let list = c.args.spots.now in
     let i = c.loop-spot.spot-index in
     let inv = c.loop-spot.invariant in
-    let done = take i (seen c.args.books.now list) in
-    let turned = c.turn_to.ensures.come fares done inv.come (rise_here c.args.books.now list i _ c.loop-spot.teller.token c.loop-spot-test.true inv.rise) in
+    let done = take i (seen books list) in
+    let is = c.entry-entry.ensures in
+    let taken = seen_taken books list i _ c.loop-spot-test.true in
+    let turned = c.turn_to.ensures.come fares done inv.come
+    (subst (λ (e : Entry). IsUpTo c.loop-spot.teller.token e.token) (sym is)
+    (rise_here books list i _ c.loop-spot.teller.token c.loop-spot-test.true inv.rise)) in
     let line = c.in-Ok.ensures.line done turned in
     let next = c.in-Ok.ensures.come done turned in
     record {
-      come = subst (λ (es : List Entry). HasCome fares c.write_next.new.self es) (sym (seen_taken c.args.books.now list i _ c.loop-spot-test.true)) next;
-      rise = subst (λ (t : Token). RiseFrom t (drop (i + 1) (seen c.args.books.now list))) (sym (c.in-Ok.ensures.token ∙ c.turn_to.ensures.token))
-          (rise_on c.args.books.now list i _ c.loop-spot.teller.token c.loop-spot-test.true inv.rise);
+      come = subst (λ (es : List Entry). HasCome fares c.write_next.new.self es) (sym taken)
+          (subst (λ (e : Entry). HasCome fares c.write_next.new.self (done ++ e ∷ [])) is next);
+      rise = subst (λ (t : Token). RiseFrom t (drop (i + 1) (seen books list)))
+          (sym (c.in-Ok.ensures.token ∙ c.turn_to.ensures.token ∙ ap (λ (e : Entry). e.token) is))
+          (rise_on books list i _ c.loop-spot.teller.token c.loop-spot-test.true inv.rise);
       few = omega (arith, c.in-Ok.ensures.number, c.turn_to.ensures.few, inv.few);
       written = inv.written ++ line.0;
-      along = subst (λ (es : List Entry). AreLinesAlong fares [] es (inv.written ++ line.0)) (sym (seen_taken c.args.books.now list i _ c.loop-spot-test.true))
-          (along_push fares [] done _ inv.written line.0 inv.along line.1);
+      along = subst (λ (es : List Entry). AreLinesAlong fares [] es (inv.written ++ line.0)) (sym taken)
+          (along_push fares [] done _ inv.written line.0 inv.along
+          (subst (λ (e : Entry). IsLineAfter fares done e line.0) is line.1));
       whole = Appends-kept _ _ _ (inv.written ++ line.0)
-          (grown _ (g.W.Write.contents c.loop-spot.out) (string_bytes c.loop-spot.text) _ inv.written line.0 inv.whole line.2) c.in_ok-pass_piece.ensures.kept;
+          (grown _ (g.W.Write.contents c.loop-spot.out) (string_bytes c.loop-spot.text) _ inv.written
+          line.0 inv.whole line.2) c.in_ok-pass_piece.ensures.kept;
     }

@@ -7,5 +7,5 @@ use Rattle.ledger_texts.proofs.lines.write_some.Goals as goal
 
 pub write_pieces-requires-clause-rise : goal.write_pieces-requires-clause-rise
 write_pieces-requires-clause-rise g c =
-    subst (λ (e : Entry). RiseFrom e.token (seen c.args.books.now c.args.spots.now)) (sym c.entry-token.ensures)
+    subst (λ (e : Entry). RiseFrom e.token (seen c.args.books.now c.args.spots.now)) (sym c.entry.ensures)
     (rise_first c.args.books.now c.args.spots.now c.in-Some.first.now (sym c.in-Some.ensures.value) c.requires.rise)
