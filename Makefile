@@ -40,6 +40,7 @@ test:
 	scripts/must_not_compile
 	@scripts/version
 	@n=$$(nproc) && RT_JOBS=$${RT_JOBS:-$$((n < 4 ? n : 4))} rt ci
+	@scripts/version
 	@scripts/program_cases
 	@scripts/tool_manners
 	@scripts/settled_week

@@ -1,5 +1,6 @@
 -- The command line, and what its words ask for.
-use Rattle.std.specs.Prelude.{◌≡◌, ℕ, Bool, false, ◌||◌, not, List, [], ◌∷◌, Option, Some, codes}
+use Rattle.std.specs.Prelude.{◌≡◌, ◌⊎◌, ℕ, Bool, false, ◌||◌, not, List, [], ◌∷◌, Option, Some, codes}
+use Rattle.std.specs.Prelude.{true}
 use Rattle.std.specs.Prelude.{is_some, map, option_map, pos, unwrap_or}
 use Rattle.std.specs.Option.{option_map_or}
 use Rattle.std.specs.Str.{bytes_eq}
@@ -9,7 +10,9 @@ use Rattle.clap.specs.Words.{new_app}
 use Rattle.clap.specs.Words.{new_rule, one_of, with_rule}
 use Rattle.clap.specs.declared.builder.action.ArgAction.TheVariants.{Set, SetTrue, Append}
 use Rattle.clap.specs.declared.builder.value_parser.ValueParser.TheVariants.{Signed}
-use Rattle.clap.specs.declared.error.kind.ErrorKind.TheVariants.{DisplayHelp}
+use Rattle.clap.specs.Simple.{on_top}
+use Rattle.clap.specs.declared.error.kind.ErrorKind.{ErrorKind}
+use Rattle.clap.specs.declared.error.kind.ErrorKind.TheVariants.{DisplayHelp, DisplayVersion}
 use Rattle.fare_program.specs.declared.asked.Options.{Options}
 
 -- `--table F`
@@ -71,10 +74,14 @@ explain_rule =
 abbrev pub file_rule : Rule
 file_rule = record (new_rule (codes "FILE")) { action = Some Append }
 
+-- the program's name, and that it has a version
+abbrev pub named_app : App
+named_app = on_top (λ s. record s { has_version = true }) (new_app (codes "omny_cli"))
+
 abbrev pub app_of_options : App
 app_of_options =
     with_rule (with_rule (with_rule (with_rule
-    (with_rule (with_rule (with_rule (with_rule (new_app (codes "omny_cli"))
+    (with_rule (with_rule (with_rule (with_rule named_app
     table_rule) list_rule) workers_rule) shards_rule) token_rule) settle_rule) ledger_rule)
     explain_rule
 
@@ -85,9 +92,14 @@ program = with_rule app_of_options file_rule
 abbrev pub Parses : List Text → Type 0
 Parses words = fault_of program words ≡ []
 
--- reading the words ends at `--help` or `-h`
-abbrev pub AsksForHelp : List Text → Type 0
-AsksForHelp words = IsAmong DisplayHelp (fault_of program words)
+-- the kind of what is no mistake: help or the version is asked for
+abbrev pub IsRequest : ErrorKind → Type 0
+IsRequest kind = (kind ≡ DisplayHelp) ⊎ (kind ≡ DisplayVersion)
+
+-- reading the words ends at a word that asks for help or for the version
+abbrev pub AsksForText : List Text → Type 0
+AsksForText words =
+    IsAmong DisplayHelp (fault_of program words) ⊎ IsAmong DisplayVersion (fault_of program words)
 
 -- the file of the fare table that the words name, if any
 abbrev pub table_named : List Text → Option Text

@@ -12,6 +12,7 @@ ghost use Rattle.fare_program.specs.Options.{token_rule, workers_rule};
 
 use crate::asked::Options;
 use clap::{Arg, ArgAction, ArgMatches, Command, Error, value_parser};
+use program_version::VERSION;
 use std::alloc::{AllocError, Global};
 
 const ABOUT: &str = "Charges the taps of upload files by a fare table, and reports what they cost.
@@ -179,6 +180,7 @@ fn command<'a>(alloc: Global) -> Result<Command<'a>, AllocError>
     let explain = explain_arg(alloc);
     let file = file_arg(alloc);
     Command::new(alloc, "omny_cli")
+        .version(VERSION)
         .about(ABOUT)
         .after_help(NOTES)
         .arg(table)?

@@ -9,7 +9,7 @@ ghost use Rattle.fare_program.specs.Fault.{explain_fault, fault_text, ledger_fau
 ghost use Rattle.fare_program.specs.Fault.{settle_fault};
 ghost use Rattle.fare_program.specs.Fault.{status_of, token_fault};
 ghost use Rattle.fare_program.specs.inside.Fault.{IsLoadLine, IsTableLine, IsWhyOf};
-ghost use Rattle.fare_program.specs.Options.{AsksForHelp, Parses, asked_by, asked_of};
+ghost use Rattle.fare_program.specs.Options.{AsksForText, IsRequest, Parses, asked_by, asked_of};
 ghost use Rattle.fare_program.specs.Program.{Does, GaveUp, IsTokenIn, Loads, LoadsFiles};
 ghost use Rattle.fare_program.specs.Program.{LoadsTable, Told, wanted};
 ghost use Rattle.fare_program.specs.Source.{TellsOne};
@@ -300,8 +300,8 @@ fn tell<E: Write>(err: &mut Complaints<E>, fault: &Fault) -> u8
     fault.status()
 }
 
-// Prints clap's help, through to where the writer brings it.
-fn show_help<'a, W: Write>(error: &Error, out: &mut W) -> Result<(), Fault<'a>>
+// Prints clap's help or version, through to where the writer brings it.
+fn show_text<'a, W: Write>(error: &Error, out: &mut W) -> Result<(), Fault<'a>>
     ensures { IfErr result (λ fault. fault ≡ Fault.Write) }
 {
     if write!(out, "{error}").is_err() {
@@ -310,15 +310,17 @@ fn show_help<'a, W: Write>(error: &Error, out: &mut W) -> Result<(), Fault<'a>>
     flush(out)
 }
 
-// Shows what clap answers when there is nothing to run: help on `out`, else the mistake on `err`.
+// Shows what clap answers when there is nothing to run: help and version on `out`, else the mistake
+// on `err`.
 fn show<W: Write, E: Write>(error: &Error, out: &mut W, err: &mut Complaints<E>) -> u8
-    ensures help { result ≡ 0 → kind_of error.now ≡ ErrorKind.DisplayHelp }
+    ensures help { result ≡ 0 → IsRequest (kind_of error.now) }
     ensures memory { kind_of error.now ≡ ErrorKind.OutOfMemory → result ≡ 1 }
     ensures refused { kind_of error.now ≡ ErrorKind.OutOfMemory
         → GaveUp Fault.NoMemory (E.contents err.old.writer) (E.contents err.new.writer)
         err.new.failed (W.contents out.old) (W.contents out.new) }
-    ensures words { kind_of error.now ≢ ErrorKind.DisplayHelp
+    ensures words { (¬ IsRequest (kind_of error.now))
         → kind_of error.now ≢ ErrorKind.OutOfMemory → result ≡ 2 }
+    ensures requested { result ≡ 2 → ¬ IsRequest (kind_of error.now) }
     ensures mistake { result ≡ 2 → Keeps (W.contents out.old) (W.contents out.new) }
     ensures quiet { result ≡ 0 → err.new ≡ err.old }
     ensures fault { result ≡ 1 → (fault : Fault) × (status_of fault ≡ 1)
@@ -328,7 +330,7 @@ fn show<W: Write, E: Write>(error: &Error, out: &mut W, err: &mut Complaints<E>)
 {
     match error.kind() {
         ErrorKind::OutOfMemory => tell(err, &Fault::NoMemory),
-        ErrorKind::DisplayHelp => match show_help(error, out) {
+        ErrorKind::DisplayHelp | ErrorKind::DisplayVersion => match show_text(error, out) {
             Ok(()) => 0,
             Err(unwritten) => tell(err, &unwritten),
         },
@@ -364,9 +366,9 @@ pub fn main_over<
         → Does (asked_by (map string_bytes words.now)) (S.loaded source.old) (S.loaded source.new)
         (W.contents out.old) (W.contents out.new) true }
 
-    // Words that are no command line end well only where they ask for help.
+    // Words that are no command line end well only where they ask for help or the version.
     ensures helped { ¬ Parses (map string_bytes words.now) → result ≡ 0
-        → AsksForHelp (map string_bytes words.now) }
+        → AsksForText (map string_bytes words.now) }
 
     // The first mistake in what is asked for is told, with status 2. Only want of memory, where the
     // words are read, may come before it.

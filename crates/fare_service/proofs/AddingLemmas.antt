@@ -90,7 +90,7 @@ sum_by_key key g n (x ∷ xs) all =
     ∙ sym (sum_below-same n (λ k. sum_by g (filter (λ y. key y == k) (x ∷ xs))) (λ k. cond (key x == k) (g x) 0 + sum_by g (filter (λ y. key y == k) xs)) (λ k. kept_sum g (key x == k) x (filter (λ y. key y == k) xs))))))
 
 -- a sum over places is the sum of the list
-sum_of_places : {X : Type 0} (g : X → ℕ) (xs : List X) (h : ℕ → ℕ) → ((i : ℕ) (x : X) → slice_get xs i ≡ Some x → h i ≡ g x) → sum_below h (length xs) ≡ sum_by g xs
+pub sum_of_places : {X : Type 0} (g : X → ℕ) (xs : List X) (h : ℕ → ℕ) → ((i : ℕ) (x : X) → slice_get xs i ≡ Some x → h i ≡ g x) → sum_below h (length xs) ≡ sum_by g xs
 sum_of_places g [] h e = refl
 sum_of_places g (x ∷ xs) h e =
     let first : h 0 ≡ g x = e 0 x refl in
@@ -113,7 +113,7 @@ same_sum f g (x ∷ xs) all =
     let rest : sum_by f xs ≡ sum_by g xs = same_sum f g xs (All-tail (λ y. f y ≡ g y) x xs all) in
     sum_by-cons f x xs ∙ (ap (λ k. k + sum_by f xs) first ∙ ap (λ k. g x + k) rest) ∙ sym (sum_by-cons g x xs)
 
-sum_by-flat_map : {X Y : Type 0} (f : Y → ℕ) (g : X → List Y) (xs : List X) → sum_by f (flat_map g xs) ≡ sum_by (λ x. sum_by f (g x)) xs
+pub sum_by-flat_map : {X Y : Type 0} (f : Y → ℕ) (g : X → List Y) (xs : List X) → sum_by f (flat_map g xs) ≡ sum_by (λ x. sum_by f (g x)) xs
 sum_by-flat_map f g [] = refl
 sum_by-flat_map f g (x ∷ xs) = sum_by-append f (g x) (flat_map g xs) ∙ ap (λ k. sum_by f (g x) + k) (sum_by-flat_map f g xs) ∙ sym (sum_by-cons (λ y. sum_by f (g y)) x xs)
 
@@ -121,7 +121,7 @@ sum_by-joined : {X : Type 0} (f : Entry → ℕ) (g : X → List Entry) (xs : Li
 sum_by-joined f g [] = refl
 sum_by-joined f g (x ∷ xs) = sum_by-append f (g x) (joined (map g xs)) ∙ ap (λ k. sum_by f (g x) + k) (sum_by-joined f g xs) ∙ sym (sum_by-cons (λ y. sum_by f (g y)) x xs)
 
-sum_by-map : {X Y : Type 0} (f : Y → ℕ) (g : X → Y) (xs : List X) → sum_by f (map g xs) ≡ sum_by (λ x. f (g x)) xs
+pub sum_by-map : {X Y : Type 0} (f : Y → ℕ) (g : X → Y) (xs : List X) → sum_by f (map g xs) ≡ sum_by (λ x. f (g x)) xs
 sum_by-map f g [] = refl
 sum_by-map f g (x ∷ xs) = sum_by-cons f (g x) (map g xs) ∙ ap (λ k. f (g x) + k) (sum_by-map f g xs) ∙ sym (sum_by-cons (λ y. f (g y)) x xs)
 
@@ -201,7 +201,7 @@ unfolding sums_of_replies
 taps_of_sums entries = length_sum (map reply_of entries) ∙ sum_by-map (λ r. 1) reply_of entries
 
 -- what an upload's end tells of its taps
-told_end_taps : (given : Given) (w : Worked) → IsWorkOf given.shards given.uploads w → taps_told w.end ≡ taps_posted w.visits
+pub told_end_taps : (given : Given) (w : Worked) → IsWorkOf given.shards given.uploads w → taps_told w.end ≡ taps_posted w.visits
 told_end_taps given w is = by_end w.end is.ended
   where
     by_end : (end : UploadEnd) → IsEndOf given.shards (file_at given.uploads w.upload) is.batches is.rest w.visits end → taps_told end ≡ taps_posted w.visits
@@ -210,26 +210,26 @@ told_end_taps given w is = by_end w.end is.ended
     by_end (Cut taps) e = e.1
     by_end Undrawn e = absurd e
 
--- the taps that the ends tell, of each upload
-ends_sum : (n : ℕ) (works : List Worked) → NoneTwice (map (λ w. w.upload) works) → All (λ w. w.upload < n) works → sum_below (λ u. taps_told (end_of u works)) n ≡ sum_by (λ w. taps_told w.end) works
-ends_sum n [] once all = sum_below-none n
-ends_sum n (w ∷ works) once all =
-    sum_below-same n (λ u. taps_told (end_of u (w ∷ works))) (λ u. cond (w.upload == u) (taps_told w.end) 0 + taps_told (end_of u works)) (λ u. step u (eqb_tells w.upload u))
-    ∙ (sum_below-add n (λ u. cond (w.upload == u) (taps_told w.end) 0) (λ u. taps_told (end_of u works))
-    ∙ (ap (λ k. k + sum_below (λ u. taps_told (end_of u works)) n) (sum_below-one n w.upload (taps_told w.end) (All-head (λ x. x.upload < n) w works all))
-    ∙ (ap (λ k. taps_told w.end + k) (ends_sum n works (fewer_after w works once) (All-tail (λ x. x.upload < n) w works all))
-    ∙ sym (sum_by-cons (λ x. taps_told x.end) w works))))
+-- what is counted of the ends, upload by upload and work by work
+ends_sum : (f : UploadEnd → ℕ) → f Undrawn ≡ 0 → (n : ℕ) (works : List Worked) → NoneTwice (map (λ w. w.upload) works) → All (λ w. w.upload < n) works → sum_below (λ u. f (end_of u works)) n ≡ sum_by (λ w. f w.end) works
+ends_sum f blank n [] once all = sum_below-same n (λ u. f Undrawn) (λ u. 0) (λ u. blank) ∙ sum_below-none n
+ends_sum f blank n (w ∷ works) once all =
+    sum_below-same n (λ u. f (end_of u (w ∷ works))) (λ u. cond (w.upload == u) (f w.end) 0 + f (end_of u works)) (λ u. step u (eqb_tells w.upload u))
+    ∙ (sum_below-add n (λ u. cond (w.upload == u) (f w.end) 0) (λ u. f (end_of u works))
+    ∙ (ap (λ k. k + sum_below (λ u. f (end_of u works)) n) (sum_below-one n w.upload (f w.end) (All-head (λ x. x.upload < n) w works all))
+    ∙ (ap (λ k. f w.end + k) (ends_sum f blank n works (fewer_after w works once) (All-tail (λ x. x.upload < n) w works all))
+    ∙ sym (sum_by-cons (λ x. f x.end) w works))))
   where
     step : (u : ℕ) → (((w.upload == u) ≡ true) × (w.upload ≡ u)) ⊎ (((w.upload == u) ≡ false) × (w.upload ≢ u))
-        → taps_told (end_of u (w ∷ works)) ≡ cond (w.upload == u) (taps_told w.end) 0 + taps_told (end_of u works)
+        → f (end_of u (w ∷ works)) ≡ cond (w.upload == u) (f w.end) 0 + f (end_of u works)
     step u (inl (b, e)) =
-        let none : taps_told (end_of u works) ≡ 0 = ap taps_told (not_drawn works u (omega (arith, once u, times_same w works u b))) in
-        let left : taps_told (end_of u (w ∷ works)) ≡ taps_told w.end = ap taps_told (end_same w works u b) in
-        let right : cond (w.upload == u) (taps_told w.end) 0 ≡ taps_told w.end = ap (λ t. cond t (taps_told w.end) 0) b in
+        let none : f (end_of u works) ≡ 0 = ap f (not_drawn works u (omega (arith, once u, times_same w works u b))) ∙ blank in
+        let left : f (end_of u (w ∷ works)) ≡ f w.end = ap f (end_same w works u b) in
+        let right : cond (w.upload == u) (f w.end) 0 ≡ f w.end = ap (λ t. cond t (f w.end) 0) b in
         omega arith
     step u (inr (b, ne)) =
-        let left : taps_told (end_of u (w ∷ works)) ≡ taps_told (end_of u works) = ap taps_told (end_other w works u b) in
-        let right : cond (w.upload == u) (taps_told w.end) 0 ≡ 0 = ap (λ t. cond t (taps_told w.end) 0) b in
+        let left : f (end_of u (w ∷ works)) ≡ f (end_of u works) = ap f (end_other w works u b) in
+        let right : cond (w.upload == u) (f w.end) 0 ≡ 0 = ap (λ t. cond t (f w.end) 0) b in
         omega arith
 
 -- the taps that the uploads' ends tell are those of the workers' visits
@@ -258,6 +258,13 @@ all_uploads given (done ∷ works) each =
     (All-weaker (IsWorkOf given.shards given.uploads) (λ w. w.upload < length given.uploads) (λ w is. is.within) done (All-head (λ d. All (IsWorkOf given.shards given.uploads) d) done works each))
     (all_uploads given works (All-tail (λ d. All (IsWorkOf given.shards given.uploads) d) done works each))
 
+-- what is counted of the works' ends is counted of the ends
+pub ends_are : (f : UploadEnd → ℕ) → f Undrawn ≡ 0 → (given : Given) (works : List (List Worked)) (outcome : OutcomeView) → IsGathered given works outcome → sum_by (λ w. f w.end) (all_works works) ≡ sum_by f outcome.ends
+ends_are f blank given works outcome is =
+    sym (ends_sum f blank (length given.uploads) (all_works works) is.once (all_uploads given works is.each))
+    ∙ (ap (sum_below (λ u. f (end_of u (all_works works)))) (sym is.uploads)
+    ∙ sum_of_places f outcome.ends (λ u. f (end_of u (all_works works))) (λ u end at. ap f (sym (is.ends u end at))))
+
 -- the books and the workers have the same totals, whatever is told of them
 pub workers_add_up : (given : Given) (works : List (List Worked)) (outcome : OutcomeView) → IsGathered given works outcome → sums (all_entries outcome.books) ≡ add_all outcome.workers
 workers_add_up given works outcome is =
@@ -274,10 +281,7 @@ gathered_sums given works outcome is totals =
       each = is.workers;
       books = totals ∙ add_flat (λ (b : Book). b.entries) outcome.books;
       workers = totals ∙ workers_add_up given works outcome is;
-      uploads = ap (λ s. s.taps) by_works ∙ (taps_of_sums made ∙ (sym (uploads_sum given works is.each)
-          ∙ (sym (ends_sum (length given.uploads) (all_works works) is.once (all_uploads given works is.each))
-          ∙ (ap (sum_below (λ u. taps_told (end_of u (all_works works)))) (sym is.uploads)
-          ∙ sum_of_places taps_told outcome.ends (λ u. taps_told (end_of u (all_works works))) (λ u end at. ap taps_told (sym (is.ends u end at)))))));
+      uploads = ap (λ s. s.taps) by_works ∙ (taps_of_sums made ∙ (sym (uploads_sum given works is.each) ∙ ends_are taps_told refl given works outcome is));
     }
 
 -- the entries of one book more

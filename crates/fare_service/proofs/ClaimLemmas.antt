@@ -6,11 +6,11 @@ use Rattle.std.proofs.lemmas.List.{map-set, length-map, get_or-set_same, get_or-
 use Rattle.std.proofs.lemmas.List.Sums.{sum_by_push, sum_by-cons}
 use Rattle.std.proofs.lemmas.Bool.Decides.{eqb_tells}
 use Rattle.shared_books.specs.Claims.{all_claims, claims_given, claims_left}
-use Rattle.shared_books.specs.Passes.{PassView, SharedBookView, left_pass}
+use Rattle.shared_books.specs.Passes.{PassView, left_pass}
 use Rattle.fare_service.specs.ServiceView.{ServiceView, shards_of}
 use Rattle.fare_service.specs.ShareView.{ShareView}
 use Rattle.fare_service.specs.Claims.{claims_of, claims_at, HaveAllClaims, HasAllClaims, left_share, HasHalf}
-use Rattle.fare_service.specs.Shares.{books_of, WentOn}
+use Rattle.fare_service.specs.Shares.{WentOn}
 use Rattle.fare_service.proofs.RunVisits.{get_or-map}
 use Rattle.fare_service.proofs.ShareLemmas.{claims_left_at}
 

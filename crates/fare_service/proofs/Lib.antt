@@ -2,6 +2,7 @@ pub mod AddingLemmas
 pub mod BatchLemmas
 pub mod ClaimLemmas
 pub mod CloseLemmas
+pub mod EndingLemmas
 pub mod FullLemmas
 pub mod GatherLemmas
 pub mod GatheredWork

@@ -1,5 +1,5 @@
 -- For which tap each entry of a book stands.
-use Rattle.std.specs.Prelude.{ℕ, zero, suc, ◌≡◌, ◌≢◌, ◌⊎◌, ◌+◌, ◌<◌, ◌≤◌, ◌==◌, Bool, true, false, cond, List, [], ◌∷◌, ◌++◌, length, map, filter, All, Option, slice_get, Some, None}
+use Rattle.std.specs.Prelude.{ℕ, zero, suc, ◌≡◌, ◌≢◌, ◌⊎◌, ◌+◌, ◌<◌, ◌≤◌, ◌==◌, Bool, true, false, cond, List, [], ◌∷◌, ◌++◌, length, map, filter, All, slice_get, Some}
 use Rattle.std.specs.List.{flat_map, AllZip}
 use Rattle.std.proofs.Common.{refl, sym, ◌∙◌, ap, inl, inr, subst, arith, get_or, eq-eqb, eqb-true, ne_eqb}
 use Rattle.std.proofs.lemmas.Bool.{cases_lt, cases_Bool}

@@ -58,7 +58,7 @@ pub record Visit : Type 0 where
   pub taps : List PlacedTap
   pub entries : List Entry
 
--- the visit has the fields of its taps' bytes, tap by tap, and a tap's shard is the visit's
+-- the visit is to one of the shards, and has the fields of its taps' bytes, tap by tap
 pub record IsEntered (shards : ℕ) (visit : Visit) : Type 0 where
   pub within : visit.shard < shards
   pub fields : AreEntriesOf (taps_of visit.taps) visit.entries

@@ -1,14 +1,16 @@
 -- When a worker stops: with no upload left to draw, or at one that was cut for want of memory.
-use Rattle.std.specs.Prelude.{◌≡◌, ◌⊎◌, ◌+◌, ◌^◌, ◌≤◌, List, ◌++◌, length, All, Any, MatchOption}
-use Rattle.std.specs.Prelude.{Option}
+use Rattle.std.specs.Prelude.{◌≡◌, ◌⊎◌, ℕ, ◌+◌, ◌^◌, ◌≤◌, nat_lt, List, ◌++◌, length, All, Any}
+use Rattle.std.specs.Prelude.{Bool, true, false, count_by, slice_get, Option, Some, MatchOption}
 use Rattle.std.specs.Option.{option_to_list}
 use Rattle.shared_books.specs.Passes.{PassView, seen_by}
+use Rattle.fare_service.specs.Faults.{visits_held}
+use Rattle.fare_service.specs.Outcomes.{OutcomeView}
 use Rattle.fare_service.specs.ServiceView.{ServiceView}
 use Rattle.fare_service.specs.ShareView.{ShareView}
 use Rattle.fare_service.specs.Plain.{WasWhole}
 use Rattle.fare_service.specs.Shares.{Worked, HasWorked, WentOn}
 use Rattle.fare_service.specs.declared.upload_end.UploadEnd.{UploadEnd}
-use Rattle.fare_service.specs.declared.upload_end.UploadEnd.TheVariants.{Cut}
+use Rattle.fare_service.specs.declared.upload_end.UploadEnd.TheVariants.{Cut, Undrawn}
 
 -- the pass has seen as many visits as its shard takes
 abbrev pub KnowsFull : PassView → Type 0
@@ -42,3 +44,29 @@ pub record StoppedWell (service : ServiceView) (old new : ShareView) : Type 0 wh
 pub record WorkedOn (service : ServiceView) (old new : ShareView) : Type 0 where
   pub went_on : WentOn service old new
   pub stopped : (new ≡ old) ⊎ StoppedWell service old new
+
+-- to a shard that is full, as a share knows, the shares made 2^62 visits
+abbrev pub FullIsMade : List ShareView → Type 0
+FullIsMade shares =
+    All (λ share. SomeFull share.passes → (shard : ℕ) × (2 ^ 62 ≤ visits_held shard shares)) shares
+
+-- whether the upload was cut
+abbrev pub is_cut : UploadEnd → Bool
+is_cut (Cut taps) = true
+is_cut _ = false
+
+-- how many uploads were cut
+abbrev pub cuts : OutcomeView → ℕ
+cuts outcome = count_by is_cut outcome.ends
+
+-- how many workers posted a tap
+abbrev pub posting : OutcomeView → ℕ
+posting outcome = count_by (λ sums. nat_lt 0 sums.taps) outcome.workers
+
+-- How the workers of an outcome stopped. No worker had more than one upload cut, unless some shard
+-- was full: then 2^62 visits were made to it, each of which posted a tap or was cut. If an upload
+-- was left undrawn, each worker that posted a tap had one cut.
+pub record HaveStopped (workers : ℕ) (outcome : OutcomeView) : Type 0 where
+  pub few_cut : (cuts outcome ≤ workers) ⊎ (2 ^ 62 ≤ outcome.totals.taps + cuts outcome)
+  pub undrawn : (upload : ℕ) → slice_get outcome.ends upload ≡ Some Undrawn
+      → posting outcome ≤ cuts outcome

@@ -229,6 +229,7 @@ impl<'a> Service<'a> {
     ghost use Rattle.fare_service.specs.ServiceView.{shards_of};
     ghost use Rattle.fare_service.specs.Headline.{HasOutcome, ToldUndrawn};
     ghost use Rattle.fare_service.specs.Shares.{IsShareOf};
+    ghost use Rattle.fare_service.specs.Stopping.{FullIsMade};
 
     /// Gathers shares: joins what their workers did, closes the shards' books, and gives these with
     /// the end of each upload and the totals of each share, in the order of the shares. All memory
@@ -239,6 +240,7 @@ impl<'a> Service<'a> {
         requires { All (IsShareOf self) shares.items }
         ensures headline { IfOk result (HasOutcome self.entry shares.items) }
         ensures undrawn { IfOk result (ToldUndrawn shares.items) }
+        ensures full { IfOk result (λ _. FullIsMade shares.items) }
         ensures fault { IfErr result (IsGatherFault (shards_of self.entry) shares.items) }
         ensures first { IfErr result
             (IsFirst self.entry.books (length self.entry.uploads) shares.items) }

@@ -7,8 +7,8 @@ ghost use Rattle.fare_service.specs.Faults.{IsRunFault, MissesNothing};
 ghost use Rattle.fare_service.specs.ServiceView.{shards_of};
 ghost use Rattle.fare_service.specs.Headline.{HasRun};
 ghost use Rattle.fare_service.specs.Refusals.{WasNotGathered};
-ghost use Rattle.fare_service.specs.Shares.{IsShareOf};
-ghost use Rattle.fare_service.specs.Stopping.{WorkedOn};
+ghost use Rattle.fare_service.specs.Shares.{IsFresh, IsShareOf};
+ghost use Rattle.fare_service.specs.Stopping.{HaveStopped, WorkedOn};
 
 use crate::faults::RunFault;
 use crate::outcome::Outcome;
@@ -46,6 +46,7 @@ impl<'a> Service<'a> {
         requires few { workers ≤ 16 }
         ensures shares { IfOk result (λ r. All (IsShareOf self.now) r.items) }
         ensures number { IfOk result (λ r. length r.items ≡ workers) }
+        ensures fresh { IfOk result (λ r. IsFresh first → All IsFresh r.items) }
         ensures claims { IfOk result (λ r. HasAllClaims (shards_of self.now) first
             → HaveAllClaims (shards_of self.now) r.items) }
     {
@@ -140,6 +141,7 @@ impl<'a> Service<'a> {
         requires { IsShareOf self share }
         ensures headline { IfOk result
             (HasRun self.entry.table (shards_of self.entry) self.entry.uploads workers) }
+        ensures stopped { IfOk result (λ outcome. IsFresh share → HaveStopped workers outcome) }
         ensures fault { IfErr result (IsRunFault workers) }
         ensures gathered { IfErr result (WasNotGathered self.entry workers) }
         ensures claims { HasAllClaims (shards_of self.entry) share

@@ -31,6 +31,7 @@ fn status_of(case: &Case) -> u8 {
     }
 }
 
+/// What is printed of a case.
 fn word_of(case: &Case) -> &'static str {
     match case {
         Ok(()) => "answered",
@@ -47,6 +48,7 @@ fn word<R: Env + AllocGlobal>(rt: &R) -> io::Result<Option<String>> {
     Ok(words.next())
 }
 
+/// Runs the case that the words name; its status says how it ended.
 fn main(rt: HostRuntime) -> ExitCode {
     let Ok(wanted) = word(&rt) else {
         return ExitCode::from(3);

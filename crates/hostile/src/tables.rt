@@ -77,6 +77,7 @@ fn is_sample(table: &FareTable) -> Case {
     )
 }
 
+/// The sample is read, and is the sample.
 fn was_read(alloc: Global) -> Case {
     is_sample(&table(alloc)?)
 }

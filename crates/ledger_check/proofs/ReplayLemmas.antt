@@ -7,8 +7,8 @@ use Rattle.shard_book.specs.Token.{Fits}
 use Rattle.shard_book.specs.declared.entry.Entry.{Entry}
 use Rattle.shard_book.specs.declared.token.Token.{Token}
 use Rattle.reason_texts.specs.Ledger.{IsLedgerLine}
-use Rattle.ledger_check.specs.Ledger.{AreNext, IsNext, IsPostable, number_of}
-use Rattle.ledger_check.specs.Replays.{HasRead, IsTurn, IsWanted, IsWrongAfter, StandsAt}
+use Rattle.ledger_check.specs.Ledger.{AreNext, IsNext, IsPostable, token_number}
+use Rattle.ledger_check.specs.Replays.{HasRead, HasTurn, IsWanted, IsWrongAfter, StandsForOwn}
 use Rattle.ledger_check.specs.inside.Replays.{GoesOn}
 use Rattle.ledger_check.specs.inside.Taps.{IsOf, TellsTap}
 use Rattle.ledger_check.specs.declared.replay.Replay.{Replay}
@@ -73,15 +73,15 @@ tap_of_next fares earlier entry line tap tells is = tells _ entry _ (small_numbe
 
 -- there is no turn for the token, since it is less than the last one
 abbrev pub IsLess : Fares → Replay → Token → Type 0
-IsLess fares replay token = (entries : List Entry) → IsTurn fares replay.turn entries
-    → All (λ entry. number_of entry.token ≤ number_of token) entries → ⊥
+IsLess fares replay token = (entries : List Entry) → HasTurn fares replay.turn entries
+    → All (λ entry. token_number entry.token ≤ token_number token) entries → ⊥
 
 pub wrong_less : (fares : Fares) (replay : Replay) (lines : List (List ℕ)) (line : List ℕ) (tap : Tap) → HasRead fares replay lines
     → TellsTap fares line tap → IsLess fares replay tap.token → IsWrongAfter fares lines line
 wrong_less fares replay lines line tap read tells less =
     wrong fares replay lines line read (λ entry is.
     let of = tap_of_next fares read.entries entry line tap tells is in
-    less read.entries read.turn (subst (λ (t : Token). All (λ (e : Entry). number_of e.token ≤ number_of t) read.entries) of.token is.rises))
+    less read.entries read.turn (subst (λ (t : Token). All (λ (e : Entry). token_number e.token ≤ token_number t) read.entries) of.token is.rises))
 
 -- the entry that the tap makes, and its line
 pub same_next : (fares : Fares) (turn after : Turn) (earlier : List Entry) (line wanted : List ℕ) (tap : Tap) (goes : GoesOn fares turn earlier tap.validator tap.moment wanted after)
@@ -104,7 +104,7 @@ abbrev pub CanPost : Tap → Type 0
 CanPost tap = (tap.validator < 2 ^ 32) × (tap.moment < 4_102_444_800_000)
 
 pub next_of : (fares : Fares) (turn after : Turn) (earlier : List Entry) (wanted : List ℕ) (tap : Tap)
-    → (goes : GoesOn fares turn earlier tap.validator tap.moment wanted after) → StandsAt fares turn earlier → CanPost tap
+    → (goes : GoesOn fares turn earlier tap.validator tap.moment wanted after) → StandsForOwn fares turn earlier → CanPost tap
     → length wanted ≤ 255 → length earlier < 2 ^ 62 → IsNext fares earlier goes.entry wanted
 next_of fares turn after earlier wanted tap goes stands can short few =
     let validator : goes.entry.validator ≡ tap.validator = goes.of_validator in
@@ -115,7 +115,7 @@ next_of fares turn after earlier wanted tap goes stands can short few =
         validator = subst (λ (n : ℕ). n < 2 ^ 32) (sym validator) can.0;
         moment = subst (λ (n : ℕ). n < 4_102_444_800_000) (sym moment) can.1;
       };
-      rises = subst (λ (t : Token). All (λ (e : Entry). number_of e.token ≤ number_of t) earlier) (sym goes.token) stands.up_to;
+      rises = subst (λ (t : Token). All (λ (e : Entry). token_number e.token ≤ token_number t) earlier) (sym goes.token) stands.up_to;
       replied = goes.replied;
       shown = goes.shown;
       short = short;
@@ -125,7 +125,7 @@ next_of fares turn after earlier wanted tap goes stands can short few =
 -- the line is the one that its tap should have
 pub read_more : (fares : Fares) (replay next : Replay) (lines : List (List ℕ)) (line wanted : List ℕ) (turn after : Turn) (tap : Tap)
     → (read : HasRead fares replay lines) → GoesOn fares turn read.entries tap.validator tap.moment wanted after
-    → StandsAt fares turn read.entries → CanPost tap
+    → StandsForOwn fares turn read.entries → CanPost tap
     → turn.token ≡ tap.token → TellsTap fares line tap → wanted ≡ line → length line ≤ 255
     → replay.lines < 4_611_686_018_427_387_904 → next.lines ≡ replay.lines + 1 → next.turn ≡ Some after
     → HasRead fares next (lines ++ line ∷ [])
@@ -142,12 +142,12 @@ read_more fares replay next lines line wanted turn after tap read goes stands ca
           last.2 ∙ ap (λ (e : Entry). read.entries ++ e ∷ []) (same_next fares turn after read.entries line wanted tap goes token tells last.0 last.1).0;
       counted = omega (arith, more, read.counted);
       few = omega (arith, more);
-      turn = subst (λ (t : Option Turn). IsTurn fares t (read.entries ++ goes.entry ∷ [])) (sym is_turn) (goes.stands, goes.some);
+      turn = subst (λ (t : Option Turn). HasTurn fares t (read.entries ++ goes.entry ∷ [])) (sym is_turn) (goes.stands, goes.some);
     }
 
 pub wanted_next : (fares : Fares) (replay : Replay) (lines : List (List ℕ)) (wanted : List ℕ) (turn after : Turn) (tap : Tap)
     → (read : HasRead fares replay lines) → GoesOn fares turn read.entries tap.validator tap.moment wanted after
-    → StandsAt fares turn read.entries → CanPost tap → length wanted ≤ 255 → replay.lines < 4_611_686_018_427_387_904
+    → StandsForOwn fares turn read.entries → CanPost tap → length wanted ≤ 255 → replay.lines < 4_611_686_018_427_387_904
     → IsWanted fares lines wanted
 wanted_next fares replay lines wanted turn after tap read goes stands can short room =
     let few : length read.entries < 2 ^ 62 = omega (arith, read.counted) in (

@@ -20,7 +20,7 @@ use Rattle.shard_book.specs.declared.entry.Entry.{Entry}
 use Rattle.shard_book.specs.declared.token.Token.{Token}
 use Rattle.fare_texts.specs.Moments.{IsCivilText, IsMomentText, clock_text}
 use Rattle.reason_texts.specs.Ledger.{IsBecause, IsLedgerLine, IsPointing, IsRideFields, entry_fields, line_head, ride_rest}
-use Rattle.ledger_check.specs.Ledger.{IsLineAfter, IsNext}
+use Rattle.ledger_check.specs.Ledger.{IsNextLine, IsNext}
 use Rattle.ledger_check.specs.inside.Taps.{IsOf}
 use Rattle.ledger_check.specs.declared.tap.Tap.{Tap}
 
@@ -109,12 +109,12 @@ entry_same fares earlier a b is also token validator moment =
 
 -- the entry of a line that a ledger has here is the one of the line's tap, and its line is this
 pub next_same : (fares : Fares) (earlier : List Entry) (entry other : Entry) (line wanted : List ℕ)
-    → IsNext fares earlier entry line → IsReplied fares earlier other → IsLineAfter fares (own other.token earlier) other wanted
+    → IsNext fares earlier entry line → IsReplied fares earlier other → IsNextLine fares (own other.token earlier) other wanted
     → entry.token ≡ other.token → entry.validator ≡ other.validator → entry.moment ≡ other.moment
     → (entry ≡ other) × (line ≡ wanted)
 next_same fares earlier entry other line wanted is replied shown token validator moment =
     let same : entry ≡ other = entry_same fares earlier entry other is.replied replied token validator moment in (
       same,
       line_same fares other.token _ other _ line wanted
-          (subst (λ (e : Entry). IsLineAfter fares (own e.token earlier) e line) same is.shown) shown,
+          (subst (λ (e : Entry). IsNextLine fares (own e.token earlier) e line) same is.shown) shown,
     )

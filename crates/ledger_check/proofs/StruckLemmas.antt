@@ -9,9 +9,9 @@ use Rattle.tap_balance.specs.Balances.{IsBalance}
 use Rattle.tap_balance.specs.declared.balance.Balance.{Balance}
 use Rattle.tap_views.specs.declared.encoder.TapFields.{TapFields}
 use Rattle.ledger_check.specs.Ledger.{AreNext, IsLedgerOf}
-use Rattle.ledger_check.specs.Struck.{AreStruck, AreTapsOf, HasStruck, IfUntold, posted_tap}
+use Rattle.ledger_check.specs.Struck.{AreStruck, AreTapsOfLines, HasStruck, IfUntold, posted_tap}
 use Rattle.ledger_check.specs.inside.Lines.{IsLine}
-use Rattle.ledger_check.specs.inside.Taps.{IsOf, TellsTap, fields_in}
+use Rattle.ledger_check.specs.inside.Taps.{IsOf, TellsTap, tap_fields}
 use Rattle.ledger_check.specs.inside.Verdicts.{IsTaken}
 use Rattle.ledger_check.specs.declared.checker.Checker.{Checker}
 use Rattle.ledger_check.specs.declared.checker.Verdict.{Verdict}
@@ -20,7 +20,7 @@ use Rattle.ledger_check.proofs.CheckerLemmas.{ended_at_line, took_whole}
 use Rattle.ledger_check.proofs.EntryLists.{next-parts}
 use Rattle.ledger_check.proofs.ReplayLemmas.{tap_of_next}
 
-tap_same : (tap : Tap) (entry : Entry) → IsOf tap entry → posted_tap entry ≡ fields_in tap
+tap_same : (tap : Tap) (entry : Entry) → IsOf tap entry → posted_tap entry ≡ tap_fields tap
 tap_same tap entry is = λ i. record { token = bytes_of (is.token i); validator = is.validator i; moment = is.moment i }
 
 none_after : (fares : Fares) (earlier after : List Entry) → AreNext fares earlier after [] → after ≡ []
@@ -39,7 +39,7 @@ struck_head fares (l ∷ lines) line balance posted none struck = absurd cc
 
 -- a line more, and its tap
 line_more : (fares : Fares) (rest : List (List ℕ)) (line : List ℕ) (taps : List TapFields) (tap : Tap) → TellsTap fares line tap
-    → AreTapsOf fares (head_text ∷ rest) taps → AreTapsOf fares (head_text ∷ (rest ++ line ∷ [])) (taps ++ fields_in tap ∷ [])
+    → AreTapsOfLines fares (head_text ∷ rest) taps → AreTapsOfLines fares (head_text ∷ (rest ++ line ∷ [])) (taps ++ tap_fields tap ∷ [])
 line_more fares rest line taps tap tells told = λ entries are.
     let parts = next-parts fares [] entries rest line [] are in
     let whole : entries ≡ parts.entries ++ parts.entry ∷ [] = parts.whole ∙ ap (λ (es : List Entry). parts.entries ++ parts.entry ∷ es) (none_after fares _ parts.after parts.rest) in
@@ -49,15 +49,15 @@ line_more fares rest line taps tap tells told = λ entries are.
     ∙ ap (λ (t : TapFields). taps ++ t ∷ []) (tap_same tap parts.entry of)
 
 pub struck_more : (fares : Fares) (lines rest : List (List ℕ)) (line : List ℕ) (tap : Tap) (fields : TapFields) (old new : Balance) (posted : List TapFields)
-    → lines ≡ head_text ∷ rest → TellsTap fares line tap → fields ≡ fields_in tap
+    → lines ≡ head_text ∷ rest → TellsTap fares line tap → fields ≡ tap_fields tap
     → ((posted struck : List TapFields) → IsBalance old posted struck → IsBalance new posted (struck ++ fields ∷ []))
     → AreStruck fares lines old posted → AreStruck fares (lines ++ line ∷ []) new posted
 struck_more fares lines rest line tap fields old new posted is tells same strikes struck = record {
   taps = struck.taps ++ fields ∷ [];
   told =
-      subst (λ (ls : List (List ℕ)). AreTapsOf fares (ls ++ line ∷ []) (struck.taps ++ fields ∷ [])) (sym is)
-      (subst (λ (t : TapFields). AreTapsOf fares (head_text ∷ (rest ++ line ∷ [])) (struck.taps ++ t ∷ [])) (sym same)
-      (line_more fares rest line struck.taps tap tells (subst (λ (ls : List (List ℕ)). AreTapsOf fares ls struck.taps) is struck.told)));
+      subst (λ (ls : List (List ℕ)). AreTapsOfLines fares (ls ++ line ∷ []) (struck.taps ++ fields ∷ [])) (sym is)
+      (subst (λ (t : TapFields). AreTapsOfLines fares (head_text ∷ (rest ++ line ∷ [])) (struck.taps ++ t ∷ [])) (sym same)
+      (line_more fares rest line struck.taps tap tells (subst (λ (ls : List (List ℕ)). AreTapsOfLines fares ls struck.taps) is struck.told)));
   is = strikes posted struck.taps struck.is;
 }
 
@@ -84,5 +84,5 @@ pub all_struck : (fares : Fares) (checker : Checker) (balance : Balance) (text :
     → checker.part.items ≡ [] → (entries : List Entry) → IsLedgerOf fares entries text → IsBalance balance posted (map posted_tap entries)
 all_struck fares checker balance text posted is empty entries ledger =
     let lines : is.fed.lines ≡ head_text ∷ ledger.lines = sym (ended_at_line fares checker text is.fed empty) ∙ ledger.cut in
-    let told : AreTapsOf fares (head_text ∷ ledger.lines) is.struck.taps = subst (λ (ls : List (List ℕ)). AreTapsOf fares ls is.struck.taps) lines is.struck.told in
+    let told : AreTapsOfLines fares (head_text ∷ ledger.lines) is.struck.taps = subst (λ (ls : List (List ℕ)). AreTapsOfLines fares ls is.struck.taps) lines is.struck.told in
     subst (λ (ts : List TapFields). IsBalance balance posted ts) (sym (told entries ledger.are)) is.struck.is

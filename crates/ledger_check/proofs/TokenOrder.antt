@@ -8,18 +8,18 @@ use Rattle.shard_book.specs.Token.{Fits, token_cmp, token_eq}
 use Rattle.shard_book.specs.declared.entry.Entry.{Entry}
 use Rattle.shard_book.specs.declared.token.Token.{Token}
 use Rattle.shard_book.proofs.Histories.{same_token, token_eq-refl}
-use Rattle.ledger_check.specs.Ledger.{number_of}
+use Rattle.ledger_check.specs.Ledger.{token_number}
 
-pub less_number : (a b : Token) → Fits a → Fits b → token_cmp a b ≡ Less → number_of a < number_of b
+pub less_number : (a b : Token) → Fits a → Fits b → token_cmp a b ≡ Less → token_number a < token_number b
 less_number a b fits_a fits_b less = grind (arith, nat_tests)
 
-pub greater_number : (a b : Token) → Fits a → Fits b → token_cmp a b ≡ Greater → number_of b < number_of a
+pub greater_number : (a b : Token) → Fits a → Fits b → token_cmp a b ≡ Greater → token_number b < token_number a
 greater_number a b fits_a fits_b greater = grind (arith, nat_tests)
 
-pub not_of : (a b : Token) → number_of a < number_of b → token_eq a b ≡ false
+pub not_of : (a b : Token) → token_number a < token_number b → token_eq a b ≡ false
 not_of a b less =
     ⊎_elim
-    (λ (same : token_eq a b ≡ true). let is : a ≡ b = same_token a b same in let n : number_of a ≡ number_of b = ap (λ (t : Token). number_of t) is in absurd (omega arith))
+    (λ (same : token_eq a b ≡ true). let is : a ≡ b = same_token a b same in let n : token_number a ≡ token_number b = ap (λ (t : Token). token_number t) is in absurd (omega arith))
     (λ (apart : token_eq a b ≡ false). apart)
     (cases_Bool (token_eq a b))
 
@@ -27,13 +27,13 @@ tail-all : {X : Type 0} (P : X → Type 0) (x : X) (xs : List X) → All P (x �
 tail-all P x xs all = λ k d within. all (suc k) d (omega arith)
 
 -- a token that is above all entries' has none of them
-pub own-above : (token : Token) (entries : List Entry) (limit : ℕ) → All (λ entry. number_of entry.token ≤ limit) entries → limit < number_of token → own token entries ≡ []
+pub own-above : (token : Token) (entries : List Entry) (limit : ℕ) → All (λ entry. token_number entry.token ≤ limit) entries → limit < token_number token → own token entries ≡ []
 unfolding own
 own-above token [] limit up_to above = refl
 own-above token (e ∷ entries) limit up_to above =
-    let first : number_of e.token ≤ limit = up_to 0 e (omega arith) in
+    let first : token_number e.token ≤ limit = up_to 0 e (omega arith) in
     ap (λ (test : Bool). cond test (e ∷ filter (is_of token) entries) (filter (is_of token) entries)) (not_of e.token token (omega arith))
-    ∙ own-above token entries limit (tail-all (λ (x : Entry). number_of x.token ≤ limit) e entries up_to) above
+    ∙ own-above token entries limit (tail-all (λ (x : Entry). token_number x.token ≤ limit) e entries up_to) above
 
 -- a token's entries with one more of its own
 pub own-more : (token : Token) (entries : List Entry) (entry : Entry) → entry.token ≡ token → own token (entries ++ entry ∷ []) ≡ own token entries ++ entry ∷ []
@@ -53,7 +53,7 @@ own-few token (e ∷ entries) =
     (cases_Bool (is_of token e))
 
 -- a token that has an entry is not above all
-pub own-some : (token : Token) (entries : List Entry) (limit : ℕ) → 0 < length (own token entries) → All (λ entry. number_of entry.token ≤ limit) entries → limit < number_of token → ⊥
+pub own-some : (token : Token) (entries : List Entry) (limit : ℕ) → 0 < length (own token entries) → All (λ entry. token_number entry.token ≤ limit) entries → limit < token_number token → ⊥
 own-some token entries limit some up_to above =
     let none : length (own token entries) ≡ 0 = ap (λ (es : List Entry). length es) (own-above token entries limit up_to above) in
     omega arith

@@ -16,8 +16,8 @@ use Rattle.shard_book.specs.Token.{Fits, bytes_of}
 use Rattle.shard_book.specs.declared.entry.Entry.{Entry}
 use Rattle.shard_book.specs.declared.token.Token.{Token}
 use Rattle.reason_texts.specs.Ledger.{IsLedgerLine, reason_after}
-use Rattle.ledger_check.specs.Ledger.{number_of}
-use Rattle.ledger_check.specs.Replays.{StandsAt}
+use Rattle.ledger_check.specs.Ledger.{token_number}
+use Rattle.ledger_check.specs.Replays.{StandsForOwn}
 use Rattle.ledger_check.specs.inside.Replays.{GoesOn}
 use Rattle.ledger_check.specs.declared.turn.Turn.{Turn}
 use Rattle.ledger_check.proofs.TokenOrder.{own-above, own-more}
@@ -49,11 +49,11 @@ LineAt fares entries entry line token =
     IsLedgerLine fares token (length (own token entries) + 1) entry (reason_after fares token (own token entries) entry) line
 
 number_is : (fares : Fares) (turn after : Turn) (entries : List Entry) (entry : Entry) (tap : TapIn) (why : Reason) (line : List ℕ)
-    → Steps fares turn after entries entry tap why line → StandsAt fares turn entries → after.number ≡ length (own turn.token entries) + 1
+    → Steps fares turn after entries entry tap why line → StandsForOwn fares turn entries → after.number ≡ length (own turn.token entries) + 1
 number_is fares turn after entries entry tap why line steps stands = steps.counted ∙ ap (λ n. n + 1) stands.counted
 
 shows : (fares : Fares) (turn after : Turn) (entries : List Entry) (entry : Entry) (tap : TapIn) (why : Reason) (line : List ℕ)
-    → Steps fares turn after entries entry tap why line → StandsAt fares turn entries → LineAt fares entries entry line entry.token
+    → Steps fares turn after entries entry tap why line → StandsForOwn fares turn entries → LineAt fares entries entry line entry.token
 unfolding taps_of
 shows fares turn after entries entry tap why line steps stands =
     let taps = taps_of fares turn.token entries in
@@ -73,7 +73,7 @@ longer fares token entries entry tap is is_tap =
     ∙ ap (λ (es : List Entry). map (tap_of fares) es) (sym (own-more token entries entry is))
 
 stands_more : (fares : Fares) (turn after : Turn) (entries : List Entry) (entry : Entry) (tap : TapIn) (why : Reason) (line : List ℕ)
-    → Steps fares turn after entries entry tap why line → StandsAt fares turn entries → StandsAt fares after (entries ++ entry ∷ [])
+    → Steps fares turn after entries entry tap why line → StandsForOwn fares turn entries → StandsForOwn fares after (entries ++ entry ∷ [])
 stands_more fares turn after entries entry tap why line steps stands =
     let back = sym steps.same_token in
     let all = entries ++ entry ∷ [] in
@@ -86,14 +86,14 @@ stands_more fares turn after entries entry tap why line steps stands =
       stands = subst (λ (t : Token). Stands (rules_of fares (bytes_of t)) after.account (taps_of fares t all)) back
           (subst (λ (ts : List TapIn). Stands (rules_of fares (bytes_of turn.token)) after.account ts)
           (longer fares turn.token entries entry tap steps.token steps.is_tap) steps.account);
-      up_to = subst (λ (t : Token). All (λ (e : Entry). number_of e.token ≤ number_of t) all) back
-          (All-push (λ (e : Entry). number_of e.token ≤ number_of turn.token) entries entry stands.up_to
-          (le_of_eq (ap (λ (t : Token). number_of t) steps.token)));
+      up_to = subst (λ (t : Token). All (λ (e : Entry). token_number e.token ≤ token_number t) all) back
+          (All-push (λ (e : Entry). token_number e.token ≤ token_number turn.token) entries entry stands.up_to
+          (le_of_eq (ap (λ (t : Token). token_number t) steps.token)));
     }
 
 -- the next tap of a turn's token
 pub goes_on : (fares : Fares) (turn after : Turn) (entries : List Entry) (entry : Entry) (tap : TapIn) (why : Reason) (line : List ℕ)
-    → Steps fares turn after entries entry tap why line → StandsAt fares turn entries
+    → Steps fares turn after entries entry tap why line → StandsForOwn fares turn entries
     → GoesOn fares turn entries entry.validator entry.moment line after
 goes_on fares turn after entries entry tap why line steps stands = record {
   entry = entry;
@@ -109,8 +109,8 @@ goes_on fares turn after entries entry tap why line steps stands = record {
 -- a turn that begins above all entries
 pub begins : (fares : Fares) (turn : Turn) (entries : List Entry) (limit : ℕ) → Fits turn.token → turn.number ≡ 0
     → Stands (rules_of fares (bytes_of turn.token)) turn.account []
-    → All (λ entry. number_of entry.token ≤ limit) entries → limit < number_of turn.token
-    → StandsAt fares turn entries
+    → All (λ entry. token_number entry.token ≤ limit) entries → limit < token_number turn.token
+    → StandsForOwn fares turn entries
 unfolding taps_of
 begins fares turn entries limit fits zeros account up_to above =
     let none : own turn.token entries ≡ [] = own-above turn.token entries limit up_to above in
@@ -123,8 +123,8 @@ begins fares turn entries limit fits zeros account up_to above =
 
 -- a turn that begins before all entries
 pub begins_first : (fares : Fares) (turn : Turn) (entries : List Entry) → Fits turn.token → turn.number ≡ 0
-    → Stands (rules_of fares (bytes_of turn.token)) turn.account [] → entries ≡ [] → StandsAt fares turn entries
+    → Stands (rules_of fares (bytes_of turn.token)) turn.account [] → entries ≡ [] → StandsForOwn fares turn entries
 unfolding taps_of own
 begins_first fares turn entries fits zeros account empty =
-    subst (λ (es : List Entry). StandsAt fares turn es) (sym empty)
+    subst (λ (es : List Entry). StandsForOwn fares turn es) (sym empty)
     (record { fits = fits; counted = zeros; stands = account; up_to = λ k d within. absurd (omega arith) })

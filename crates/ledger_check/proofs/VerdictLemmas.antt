@@ -5,7 +5,7 @@ use Rattle.shard_book.specs.declared.entry.Entry.{Entry}
 use Rattle.reason_texts.specs.Ledger.{head_text}
 use Rattle.ledger_check.specs.Ledger.{AreNext, IsLedger}
 use Rattle.ledger_check.specs.Lines.{lines_of}
-use Rattle.ledger_check.specs.Verdicts.{IsFirstWrong, IsHeadless, IsTrueOf, IsVerdict, IsWhole, VerdictsDecide, is_legal}
+use Rattle.ledger_check.specs.Verdicts.{IsFirstWrong, IsHeadless, IsTrueOf, IsVerdict, IsWholeLedger, VerdictsDecide, is_legal}
 use Rattle.ledger_check.specs.declared.checker.Verdict.{Verdict}
 use Rattle.ledger_check.specs.declared.checker.Verdict.TheVariants.{Legal, Wants, NoLine}
 use Rattle.ledger_check.proofs.EntryLists.{next-front}

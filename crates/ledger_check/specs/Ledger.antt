@@ -10,8 +10,8 @@ use Rattle.reason_texts.specs.Ledger.{IsLedgerLine, head_text, reason_after}
 use Rattle.ledger_check.specs.Lines.{lines_of}
 
 -- a token as one number of 128 bits: tokens rise as these numbers do
-abbrev pub number_of : Token → ℕ
-number_of token = token.high * 2 ^ 64 + token.low
+abbrev pub token_number : Token → ℕ
+token_number token = token.high * 2 ^ 64 + token.low
 
 -- the fields are those of a tap that can be posted
 pub record IsPostable (entry : Entry) : Type 0 where
@@ -21,8 +21,8 @@ pub record IsPostable (entry : Entry) : Type 0 where
 
 -- the line of an entry of the token, after its earlier entries: its number, and why it is answered
 -- so
-abbrev pub IsLineAfter : Fares → List Entry → Entry → List ℕ → Type 0
-IsLineAfter fares earlier entry line =
+abbrev pub IsNextLine : Fares → List Entry → Entry → List ℕ → Type 0
+IsNextLine fares earlier entry line =
     IsLedgerLine fares entry.token (length earlier + 1) entry
     (reason_after fares entry.token earlier entry) line
 
@@ -31,10 +31,10 @@ pub record IsNext (fares : Fares) (earlier : List Entry) (entry : Entry) (line :
     : Type 0 where
   pub postable : IsPostable entry
   -- tokens rise
-  pub rises : All (λ before. number_of before.token ≤ number_of entry.token) earlier
+  pub rises : All (λ before. token_number before.token ≤ token_number entry.token) earlier
   -- its reply is the account rule's for its token's earlier taps
   pub replied : IsReplied fares earlier entry
-  pub shown : IsLineAfter fares (own entry.token earlier) entry line
+  pub shown : IsNextLine fares (own entry.token earlier) entry line
   -- a line has at most 255 bytes, and a ledger at most 2^62 entries
   pub short : length line ≤ 255
   pub few : length earlier < 2 ^ 62

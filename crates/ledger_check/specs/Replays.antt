@@ -7,22 +7,22 @@ use Rattle.account_rule.specs.Stands.{Stands}
 use Rattle.shard_book.specs.Entry.{own, taps_of}
 use Rattle.shard_book.specs.Token.{Fits, bytes_of}
 use Rattle.shard_book.specs.declared.entry.Entry.{Entry}
-use Rattle.ledger_check.specs.Ledger.{AreNext, IsNext, number_of}
+use Rattle.ledger_check.specs.Ledger.{AreNext, IsNext, token_number}
 use Rattle.ledger_check.specs.declared.turn.Turn.{Turn}
 use Rattle.ledger_check.specs.declared.replay.Replay.{Replay}
 
 -- the turn stands for its token's entries among these, which are of no greater token
-pub record StandsAt (fares : Fares) (turn : Turn) (entries : List Entry) : Type 0 where
+pub record StandsForOwn (fares : Fares) (turn : Turn) (entries : List Entry) : Type 0 where
   pub fits : Fits turn.token
   pub counted : turn.number ≡ length (own turn.token entries)
   pub stands : Stands (rules_of fares (bytes_of turn.token)) turn.account
       (taps_of fares turn.token entries)
-  pub up_to : All (λ entry. number_of entry.token ≤ number_of turn.token) entries
+  pub up_to : All (λ entry. token_number entry.token ≤ token_number turn.token) entries
 
 -- the last turn, if there were entries, stands for them and has some
-abbrev pub IsTurn : Fares → Option Turn → List Entry → Type 0
-IsTurn fares None entries = entries ≡ []
-IsTurn fares (Some turn) entries = StandsAt fares turn entries × (0 < turn.number)
+abbrev pub HasTurn : Fares → Option Turn → List Entry → Type 0
+HasTurn fares None entries = entries ≡ []
+HasTurn fares (Some turn) entries = StandsForOwn fares turn entries × (0 < turn.number)
 
 -- these are the lines that were read: of the entries, and of no others
 pub record HasRead (fares : Fares) (replay : Replay) (lines : List (List ℕ)) : Type 0 where
@@ -31,7 +31,7 @@ pub record HasRead (fares : Fares) (replay : Replay) (lines : List (List ℕ)) :
   pub only : (others : List Entry) → AreNext fares [] others lines → others ≡ entries
   pub counted : replay.lines ≡ length entries
   pub few : length entries ≤ 2 ^ 62
-  pub turn : IsTurn fares replay.turn entries
+  pub turn : HasTurn fares replay.turn entries
 
 -- no ledger has this line after these
 abbrev pub IsWrongAfter : Fares → List (List ℕ) → List ℕ → Type 0

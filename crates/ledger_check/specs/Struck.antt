@@ -17,16 +17,16 @@ posted_tap entry =
     record { token = bytes_of entry.token; validator = entry.validator; moment = entry.moment }
 
 -- whatever ledger begins with these lines, the head line first, these are the taps of their entries
-abbrev pub AreTapsOf : Fares → List (List ℕ) → List TapFields → Type 0
-AreTapsOf fares [] taps = taps ≡ []
-AreTapsOf fares (head ∷ lines) taps =
+abbrev pub AreTapsOfLines : Fares → List (List ℕ) → List TapFields → Type 0
+AreTapsOfLines fares [] taps = taps ≡ []
+AreTapsOfLines fares (head ∷ lines) taps =
     (entries : List Entry) → AreNext fares [] entries lines → map posted_tap entries ≡ taps
 
 -- the taps of these lines were struck out, of those that were posted
 pub record AreStruck (fares : Fares) (lines : List (List ℕ)) (balance : Balance)
     (posted : List TapFields) : Type 0 where
   pub taps : List TapFields
-  pub told : AreTapsOf fares lines taps
+  pub told : AreTapsOfLines fares lines taps
   pub is : IsBalance balance posted taps
 
 -- the checker has read this text and found no wrong line, and the taps of the whole lines were

@@ -29,7 +29,7 @@ abbrev pub IsHeadless : List (List ℕ) → Type 0
 IsHeadless lines = (others : List (List ℕ)) → lines ≡ head_text ∷ others → ⊥
 
 -- the lines are a ledger's of so many entries
-pub record IsWhole (fares : Fares) (lines : List (List ℕ)) (number : ℕ) : Type 0 where
+pub record IsWholeLedger (fares : Fares) (lines : List (List ℕ)) (number : ℕ) : Type 0 where
   pub others : List (List ℕ)
   pub cut : lines ≡ head_text ∷ others
   pub entries : List Entry
@@ -44,7 +44,7 @@ pub record IsFirstWanted (fares : Fares) (lines : List (List ℕ)) (number : ℕ
 
 -- what is told is true of the lines
 abbrev pub IsTrueOf : Fares → List (List ℕ) → Verdict → Type 0
-IsTrueOf fares lines (Legal number) = IsWhole fares lines number
+IsTrueOf fares lines (Legal number) = IsWholeLedger fares lines number
 IsTrueOf fares lines (Wants number wanted) = IsFirstWanted fares lines number (string_bytes wanted)
 IsTrueOf fares lines (NoLine number) =
     ((number ≡ 1) × IsHeadless lines) ⊎ IsFirstWrong fares lines number

@@ -1,6 +1,7 @@
 //! Texts split at a byte.
 
-ghost use Rattle.std.specs.Prelude.{◌≡◌, ◌∷◌, ◌++◌, [], ℕ, List, IfNone, IfSome, IsSomeAnd, IsTrue};
+ghost use Rattle.std.specs.Prelude.{◌≡◌, ◌∷◌, ◌++◌, [], ℕ, List, IfNone, IfSome};
+ghost use Rattle.std.specs.Prelude.{IsSomeAnd, IsTrue};
 ghost use Rattle.std.specs.Prelude.{◌↔◌};
 ghost use Rattle.ledger_check.specs.Lines.{Lacks};
 ghost use Rattle.ledger_check.specs.inside.Lines.{IsLine};

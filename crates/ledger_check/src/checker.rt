@@ -1,6 +1,7 @@
 //! The check of a text that comes in pieces, and the taps of its lines.
 
-ghost use Rattle.std.specs.Prelude.{◌≡◌, ◌++◌, ◌∷◌, [], ℕ, List, IfOk, IsTrue, map};
+ghost use Rattle.std.specs.Prelude.{◌≡◌, ◌++◌, ◌∷◌, [], ℕ, List, IfOk, IsTrue};
+ghost use Rattle.std.specs.Prelude.{map};
 ghost use Rattle.fare_table.specs.Fares.{Fares};
 ghost use Rattle.shard_book.specs.declared.entry.Entry.{Entry};
 ghost use Rattle.tap_balance.specs.Balances.{IsBalance};
@@ -36,7 +37,9 @@ pub enum Verdict {
 /// The lines read so far, the head line first.
 #[derive(Drop)]
 struct Reading {
+    /// Whether the head line was read.
     has_head: bool,
+    /// The lines behind it.
     replay: Replay,
     /// The line that the last tap should have.
     wanted: String,
@@ -95,6 +98,7 @@ impl Reading {
 /// the beginning of a line.
 #[derive(Drop)]
 pub struct Checker {
+    /// The whole lines.
     reading: Reading,
     /// The beginning of the line whose end has not come yet.
     part: Vec<u8>,

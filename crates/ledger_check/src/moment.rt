@@ -1,6 +1,7 @@
 //! The moment that a text tells.
 
-ghost use Rattle.std.specs.Prelude.{◌≡◌, ◌≢◌, ◌+◌, ◌/◌, ◌%◌, ◌<◌, ℕ, length, pos, IfNone, IfSome};
+ghost use Rattle.std.specs.Prelude.{◌≡◌, ◌≢◌, ◌+◌, ◌/◌, ◌%◌, ◌<◌, ℕ};
+ghost use Rattle.std.specs.Prelude.{length, pos, IfNone, IfSome};
 ghost use Rattle.std.specs.Prelude.{IsSomeAnd, Some};
 ghost use Rattle.jiff_core.specs.declared.civil.date.Date.{Date};
 ghost use Rattle.jiff_core.specs.Date.{epoch_day};

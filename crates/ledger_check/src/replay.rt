@@ -1,12 +1,13 @@
 //! A ledger's lines, checked one after another.
 
-ghost use Rattle.std.specs.Prelude.{◌≡◌, ◌<◌, ◌≤◌, ◌^◌, ◌+◌, ◌∷◌, ◌++◌, [], ℕ, List, All, IfNone};
+ghost use Rattle.std.specs.Prelude.{◌≡◌, ◌<◌, ◌≤◌, ◌^◌, ◌+◌, ◌∷◌};
+ghost use Rattle.std.specs.Prelude.{◌++◌, [], ℕ, List, All, IfNone};
 ghost use Rattle.std.specs.Prelude.{IfOk, IfSome, IsTrue, ◌↔◌, string_bytes};
 ghost use Rattle.fare_table.specs.Fares.{Fares};
 ghost use Rattle.shard_book.specs.Token.{Fits};
 ghost use Rattle.shard_book.specs.declared.entry.Entry.{Entry};
-ghost use Rattle.ledger_check.specs.Ledger.{number_of};
-ghost use Rattle.ledger_check.specs.Replays.{HasRead, IsTurn, StandsAt};
+ghost use Rattle.ledger_check.specs.Ledger.{token_number};
+ghost use Rattle.ledger_check.specs.Replays.{HasRead, HasTurn, StandsForOwn};
 ghost use Rattle.ledger_check.specs.inside.Replays.{IsStep};
 
 use crate::bytes::same_bytes;
@@ -39,6 +40,7 @@ pub(crate) enum Step {
 pub(crate) struct Replay {
     /// How many lines were read.
     pub(crate) lines: u64,
+    /// The turn of the last line's token; none where no line was read.
     turn: Option<Turn>,
 }
 
@@ -59,10 +61,10 @@ impl Replay {
         requires { Fits token }
         ensures token { IfSome result (λ turn. turn.token ≡ token) }
         ensures stands { IfSome result (λ turn. (fares : Fares) (entries : List Entry)
-            → IsTurn fares self.now.turn entries → StandsAt fares turn entries) }
+            → HasTurn fares self.now.turn entries → StandsForOwn fares turn entries) }
         ensures less { IfNone result ((fares : Fares) (entries : List Entry)
-            → IsTurn fares self.now.turn entries
-            → All (λ entry. number_of entry.token ≤ number_of token) entries → ⊥) }
+            → HasTurn fares self.now.turn entries
+            → All (λ entry. token_number entry.token ≤ token_number token) entries → ⊥) }
     {
         let Some(turn) = self.turn else {
             return Some(Turn::first(token));

@@ -1,6 +1,7 @@
 //! The tap that a ledger's line tells.
 
-ghost use Rattle.std.specs.Prelude.{◌≡◌, ◌<◌, ◌^◌, ℕ, List, IfSome, IsSomeAnd, Some};
+ghost use Rattle.std.specs.Prelude.{◌≡◌, ◌<◌, ◌^◌, ℕ, List, IfSome, IsSomeAnd};
+ghost use Rattle.std.specs.Prelude.{Some};
 ghost use Rattle.std.specs.Fmt.{decimal};
 ghost use Rattle.hex.specs.Hex.{encode_lower};
 ghost use Rattle.account_rule.specs.declared.reason.Reason.{Reason};
@@ -10,7 +11,7 @@ ghost use Rattle.shard_book.specs.declared.entry.Entry.{Entry};
 ghost use Rattle.shard_book.specs.declared.token.Token.{Token};
 ghost use Rattle.reason_texts.specs.Ledger.{IsLedgerLine};
 ghost use Rattle.ledger_check.specs.Ledger.{IsPostable};
-ghost use Rattle.ledger_check.specs.inside.Taps.{IsOf, fields_in};
+ghost use Rattle.ledger_check.specs.inside.Taps.{IsOf, tap_fields};
 
 use crate::bytes::field;
 use crate::moment::read_moment;
@@ -31,7 +32,7 @@ pub(crate) struct Tap {
 impl Tap {
     /// The tap, with the bytes of its token.
     pub(crate) fn fields(self) -> TapFields
-        ensures { result ≡ fields_in self }
+        ensures { result ≡ tap_fields self }
     {
         TapFields {
             token: self.token.bytes(),

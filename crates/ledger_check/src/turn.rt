@@ -4,7 +4,7 @@ ghost use Rattle.std.specs.Prelude.{◌≡◌, ◌<◌, ◌^◌, [], List, OnOk,
 ghost use Rattle.account_rule.specs.Rules.{Rules};
 ghost use Rattle.account_rule.specs.Stands.{Stands};
 ghost use Rattle.shard_book.specs.declared.entry.Entry.{Entry};
-ghost use Rattle.ledger_check.specs.Replays.{StandsAt};
+ghost use Rattle.ledger_check.specs.Replays.{StandsForOwn};
 ghost use Rattle.ledger_check.specs.inside.Replays.{GoesOn};
 
 use account_rule::{Account, TapIn};
@@ -50,10 +50,10 @@ impl Turn {
         requires clock { clock.now ≡ table.now.zone }
         requires moment { moment < 4_102_444_800_000 }
         requires number { self.old.number < 2 ^ 63 }
-        requires stands { (entries : List Entry) × StandsAt table.now self.old entries }
+        requires stands { (entries : List Entry) × StandsForOwn table.now self.old entries }
 
         // Of all entries for which the turn stood.
-        ensures { OnOk result ((entries : List Entry) → StandsAt table.now self.old entries
+        ensures { OnOk result ((entries : List Entry) → StandsForOwn table.now self.old entries
             → GoesOn table.now self.old entries validator moment
             (string_bytes wanted.new) self.new) }
     {

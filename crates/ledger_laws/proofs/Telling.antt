@@ -14,7 +14,7 @@ use Rattle.shard_book.proofs.RisingLemmas.{rising-is}
 use Rattle.shard_book.proofs.TokenLemmas.{token_cmp-total, token_cmp-ties}
 use Rattle.reason_texts.specs.Ledger.{AreLinesAfter, IsLedgerLine, head_text, reason_after}
 use Rattle.ledger_texts.specs.Ledger.{AreLinesOfEach, IsLedgerOver, tokens_told}
-use Rattle.ledger_check.specs.Ledger.{AreNext, IsLedgerOf, IsLineAfter, IsNext, IsPostable, number_of}
+use Rattle.ledger_check.specs.Ledger.{AreNext, IsLedgerOf, IsNextLine, IsNext, IsPostable, token_number}
 use Rattle.ledger_check.specs.Lines.{lines_of}
 use Rattle.ledger_check.proofs.LineLemmas.{lacks-tested, lines-line}
 use Rattle.ledger_check.proofs.TokenOrder.{less_number}
@@ -62,14 +62,14 @@ record IsOwn (fares : Fares) (token : Token) (entries : List Entry) : Type 0 whe
 
 module _ (fares : Fares) (letters : AreLetters fares.rules.modes) (token : Token) (done : List Entry) (below : AreBelow token done) where
   rises : (earlier : List Entry) (entry : Entry) → AllOf token earlier → entry.token ≡ token → IsPostable entry
-      → AllByRecursion (λ before. number_of before.token ≤ number_of entry.token) (done ++ earlier)
+      → AllByRecursion (λ before. token_number before.token ≤ token_number entry.token) (done ++ earlier)
   rises earlier entry all is postable =
       all_append _ done earlier
       (all_weaker _ _ done (λ before known.
       let less = less_number before.token entry.token known.0.token postable.token (subst (λ (t : Token). token_cmp before.token t ≡ Less) (sym is) known.1) in
       omega arith) below)
       (all_weaker _ _ earlier (λ before of.
-      let same : number_of before.token ≡ number_of entry.token = ap number_of (of ∙ sym is) in
+      let same : token_number before.token ≡ token_number entry.token = ap token_number (of ∙ sym is) in
       omega arith) all)
 
   own_is : (earlier : List Entry) → AllOf token earlier → own token (done ++ earlier) ≡ earlier
@@ -90,9 +90,9 @@ module _ (fares : Fares) (letters : AreLetters fares.rules.modes) (token : Token
       = subst (λ (t : Token). IsLedgerLine fares t (length earlier + 1) entry (reason_after fares t earlier entry) line) (sym is) shown in
       record {
         postable = postable;
-        rises = all_read (λ (before : Entry). number_of before.token ≤ number_of entry.token) (done ++ earlier) (rises earlier entry of.0 is postable);
+        rises = all_read (λ (before : Entry). token_number before.token ≤ token_number entry.token) (done ++ earlier) (rises earlier entry of.0 is postable);
         replied = replied_same fares earlier (done ++ earlier) entry (alone ∙ sym owned) (known.legal.each earlier entry rest refl);
-        shown = subst (λ (es : List Entry). IsLineAfter fares es entry line) (sym owned) line_is;
+        shown = subst (λ (es : List Entry). IsNextLine fares es entry line) (sym owned) line_is;
         short = short;
         few = omega (arith, few, length-append done earlier, length-append done (earlier ++ entry ∷ rest), length-append earlier (entry ∷ rest));
       }

@@ -8,7 +8,7 @@ use Rattle.shard_book.specs.Entry.{own}
 use Rattle.shard_book.specs.Groups.{all_entries}
 use Rattle.shard_book.specs.declared.entry.Entry.{Entry}
 use Rattle.shard_book.specs.declared.token.Token.{Token}
-use Rattle.ledger_texts.specs.inside.Spots.{book_at, entry_in, entry_of, no_entry, place_at, seen}
+use Rattle.ledger_texts.specs.inside.Spots.{book_at, entry_in, entry_at_spot, no_entry, place_at, seen}
 use Rattle.ledger_texts.specs.declared.spot.Spot.{Spot}
 use Rattle.ledger_texts.proofs.Rising.{own_both, own_none}
 
@@ -19,8 +19,8 @@ taken_at entries i entry at =
 
 -- the entry at a spot
 pub spot_entry : (books : List Book) (spot : Spot) (index place : ℕ) (book : Book) (entry : Entry) → book_at spot ≡ index → place_at spot ≡ place → slice_get books index ≡ Some book
-    → slice_get book.entries place ≡ Some entry → entry_of books spot ≡ entry
-unfolding entry_of
+    → slice_get book.entries place ≡ Some entry → entry_at_spot books spot ≡ entry
+unfolding entry_at_spot
 spot_entry books spot index place book entry at_book at_place there at =
     ap (λ (i : ℕ). unwrap_or (entry_in books i (place_at spot)) no_entry) at_book
     ∙ ap (λ (i : ℕ). unwrap_or (entry_in books index i) no_entry) at_place
@@ -28,8 +28,8 @@ spot_entry books spot index place book entry at_book at_place there at =
     ∙ ap (λ (found : Option Entry). unwrap_or found no_entry) at
 
 -- where there is no book, or no entry in it
-pub spot_none : (books : List Book) (spot : Spot) → entry_in books (book_at spot) (place_at spot) ≡ None → entry_of books spot ≡ no_entry
-unfolding entry_of
+pub spot_none : (books : List Book) (spot : Spot) → entry_in books (book_at spot) (place_at spot) ≡ None → entry_at_spot books spot ≡ no_entry
+unfolding entry_at_spot
 spot_none books spot none = ap (λ (found : Option Entry). unwrap_or found no_entry) none
 
 pub seen_more : (books : List Book) (first old new : List Spot) (one : Spot) (index i : ℕ) (book : Book) → new ≡ old ++ one ∷ [] → seen books old ≡ seen books first ++ take i book.entries
@@ -37,8 +37,8 @@ pub seen_more : (books : List Book) (first old new : List Spot) (one : Spot) (in
 seen_more books first old new one index i book is so_far at_book at_place there within =
     let entry : Entry = get_or book.entries i no_entry in
     let at : slice_get book.entries i ≡ Some entry = slice_get-get_or book.entries i no_entry within in
-    ap (seen books) is ∙ map-append (entry_of books) old (one ∷ [])
-    ∙ ap (λ (es : List Entry). es ++ entry_of books one ∷ []) so_far
+    ap (seen books) is ∙ map-append (entry_at_spot books) old (one ∷ [])
+    ∙ ap (λ (es : List Entry). es ++ entry_at_spot books one ∷ []) so_far
     ∙ ap (λ (e : Entry). (seen books first ++ take i book.entries) ++ e ∷ []) (spot_entry books one index i book entry at_book at_place there at)
     ∙ append_assoc (seen books first) (take i book.entries) (entry ∷ [])
     ∙ ap (λ (es : List Entry). seen books first ++ es) (taken_at book.entries i entry at)

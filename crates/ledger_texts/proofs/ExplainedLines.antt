@@ -11,7 +11,7 @@ use Rattle.shard_book.specs.declared.token.Token.{Token}
 use Rattle.reason_texts.specs.Ledger.{reason_after}
 use Rattle.reason_texts.proofs.LineLists.{taken}
 use Rattle.ledger_texts.specs.Explained.{AreEarlierLines, AreExplainedAfter, IsExplainedLine}
-use Rattle.ledger_texts.specs.Explained.{IsWindowLine}
+use Rattle.ledger_texts.specs.Explained.{IsExplainedWindow}
 use Rattle.std.proofs.Math.Seq.{take-suc}
 use Rattle.std.proofs.Common.{add-one}
 
@@ -59,7 +59,7 @@ next_explained fares token entries place other within text line why is_why are i
 windows-push : (clocks : Option PosixRule) (windows : List WindowView) (window : WindowView)
     (text line : List ℕ)
     → AreEarlierLines clocks windows text
-    → IsWindowLine clocks (codes "earlier window ") window line
+    → IsExplainedWindow clocks (codes "earlier window ") window line
     → AreEarlierLines clocks (windows ++ window ∷ []) (text ++ line)
 windows-push clocks [] window text line empty is =
     (line, [], is, refl, ap (λ t. t ++ line) empty ∙ sym (append-nil line))
@@ -76,7 +76,7 @@ pub next_window : (clocks : Option PosixRule) (windows : List WindowView) (place
     (other : WindowView)
     → place < length windows → (text line : List ℕ)
     → AreEarlierLines clocks (take place windows) text
-    → IsWindowLine clocks (codes "earlier window ") (get_or windows place other) line
+    → IsExplainedWindow clocks (codes "earlier window ") (get_or windows place other) line
     → AreEarlierLines clocks (take (place + 1) windows) (text ++ line)
 next_window clocks windows place other within text line are is =
     let more : take (place + 1) windows ≡ take place windows ++ get_or windows place other ∷ [] =

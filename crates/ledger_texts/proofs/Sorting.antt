@@ -11,13 +11,13 @@ use Rattle.shard_book.specs.Token.{token_cmp, token_eq}
 use Rattle.shard_book.specs.declared.entry.Entry.{Entry}
 use Rattle.shard_book.specs.declared.token.Token.{Token}
 use Rattle.ledger_texts.specs.inside.Lines.{IsByToken, Rise, RiseFrom}
-use Rattle.ledger_texts.specs.inside.Spots.{entry_of, seen}
+use Rattle.ledger_texts.specs.inside.Spots.{entry_at_spot, seen}
 use Rattle.ledger_texts.specs.declared.spot.Spot.{Spot}
 use Rattle.shard_book.proofs.Histories.{same_token}
 use Rattle.shard_book.specs.Book.{Book}
 
 abbrev pub key : List Book → Spot → Token
-key books spot = (entry_of books spot).token
+key books spot = (entry_at_spot books spot).token
 
 rise_from : (books : List Book) (first : Spot) (list : List Spot) → IsSortedByKey (key books) token_cmp (first ∷ list) → RiseFrom (key books first) (seen books list)
 rise_from books first [] sorted = tt
@@ -47,8 +47,8 @@ own_seen books token [] = refl
 own_seen books token (first ∷ list) = by (token_eq (key books first) token) (own_seen books token list)
   where
     by : (b : Bool) → filter (is_of token) (seen books list) ≡ seen books (filter (is_at books token) list)
-        → cond b (entry_of books first ∷ filter (is_of token) (seen books list)) (filter (is_of token) (seen books list)) ≡ seen books (cond b (first ∷ filter (is_at books token) list) (filter (is_at books token) list))
-    by true rest = ap (λ (es : List Entry). entry_of books first ∷ es) rest
+        → cond b (entry_at_spot books first ∷ filter (is_of token) (seen books list)) (filter (is_of token) (seen books list)) ≡ seen books (cond b (first ∷ filter (is_at books token) list) (filter (is_at books token) list))
+    by true rest = ap (λ (es : List Entry). entry_at_spot books first ∷ es) rest
     by false rest = rest
 
 -- one of a list that passes a test, where some element does
@@ -93,7 +93,7 @@ kept books token old new moved stable =
 pub sorted_by_token : (books : List Book) (old new : List Spot) → IsPermutation old new → IsSortedByKey (key books) token_cmp new → IsStableByKey (key books) token_cmp old new
     → IsByToken (seen books old) (seen books new)
 sorted_by_token books old new moved sorted stable = record {
-  moved = IsPermutation-map (entry_of books) old new moved;
+  moved = IsPermutation-map (entry_at_spot books) old new moved;
   rise = rise books new sorted;
   kept = λ token. kept books token old new moved stable;
 }

@@ -16,7 +16,7 @@ use Rattle.shard_book.specs.declared.token.Token.{Token}
 use Rattle.shard_book.proofs.Histories.{token_eq-refl}
 use Rattle.reason_texts.specs.Ledger.{IsLedgerLine, reason_after}
 use Rattle.ledger_texts.specs.inside.Lines.{AreLinesAlong, AreUpTo, HasCome, IsLineAfter, IsUpTo, Rise, RiseFrom}
-use Rattle.ledger_texts.specs.inside.Spots.{entry_of, seen}
+use Rattle.ledger_texts.specs.inside.Spots.{entry_at_spot, seen}
 use Rattle.ledger_texts.specs.declared.spot.Spot.{Spot}
 use Rattle.shard_book.specs.Book.{Book}
 use Rattle.ledger_texts.specs.declared.teller.Teller.{Teller}
@@ -91,37 +91,37 @@ along_push fares earlier (first ∷ entries) entry text line (start, rest, told,
 
 -- what stands before, at and from a place of what stands at spots
 pub seen_taken : (books : List Book) (list : List Spot) (place : ℕ) (other : Spot) → place < length list
-    → take (place + 1) (seen books list) ≡ take place (seen books list) ++ entry_of books (get_or list place other) ∷ []
+    → take (place + 1) (seen books list) ≡ take place (seen books list) ++ entry_at_spot books (get_or list place other) ∷ []
 seen_taken books list place other within =
-    let inside : place < length (seen books list) = omega (arith, length-map list (entry_of books), within) in
-    (rw (add-one) (take-suc (seen books list) place (entry_of books other) inside))
-    ∙ ap (λ (entry : Entry). take place (seen books list) ++ entry ∷ []) (get_or-map (entry_of books) list place other (entry_of books other) within)
+    let inside : place < length (seen books list) = omega (arith, length-map list (entry_at_spot books), within) in
+    (rw (add-one) (take-suc (seen books list) place (entry_at_spot books other) inside))
+    ∙ ap (λ (entry : Entry). take place (seen books list) ++ entry ∷ []) (get_or-map (entry_at_spot books) list place other (entry_at_spot books other) within)
 
 seen_left : (books : List Book) (list : List Spot) (place : ℕ) (other : Spot) → place < length list
-    → drop place (seen books list) ≡ entry_of books (get_or list place other) ∷ drop (place + 1) (seen books list)
+    → drop place (seen books list) ≡ entry_at_spot books (get_or list place other) ∷ drop (place + 1) (seen books list)
 seen_left books list place other within =
-    let inside : place < length (seen books list) = omega (arith, length-map list (entry_of books), within) in
-    (rw (add-one) (drop-cons (seen books list) place (entry_of books other) inside))
-    ∙ ap (λ (entry : Entry). entry ∷ drop (place + 1) (seen books list)) (get_or-map (entry_of books) list place other (entry_of books other) within)
+    let inside : place < length (seen books list) = omega (arith, length-map list (entry_at_spot books), within) in
+    (rw (add-one) (drop-cons (seen books list) place (entry_at_spot books other) inside))
+    ∙ ap (λ (entry : Entry). entry ∷ drop (place + 1) (seen books list)) (get_or-map (entry_at_spot books) list place other (entry_at_spot books other) within)
 
 pub rise_here : (books : List Book) (list : List Spot) (place : ℕ) (other : Spot) (token : Token) → place < length list → RiseFrom token (drop place (seen books list))
-    → IsUpTo token (entry_of books (get_or list place other)).token
+    → IsUpTo token (entry_at_spot books (get_or list place other)).token
 rise_here books list place other token within rise =
-    let both : RiseFrom token (entry_of books (get_or list place other) ∷ drop (place + 1) (seen books list)) = subst (λ (es : List Entry). RiseFrom token es) (seen_left books list place other within) rise in
+    let both : RiseFrom token (entry_at_spot books (get_or list place other) ∷ drop (place + 1) (seen books list)) = subst (λ (es : List Entry). RiseFrom token es) (seen_left books list place other within) rise in
     both.0
 
 pub rise_on : (books : List Book) (list : List Spot) (place : ℕ) (other : Spot) (token : Token) → place < length list → RiseFrom token (drop place (seen books list))
-    → RiseFrom (entry_of books (get_or list place other)).token (drop (place + 1) (seen books list))
+    → RiseFrom (entry_at_spot books (get_or list place other)).token (drop (place + 1) (seen books list))
 rise_on books list place other token within rise =
-    let both : RiseFrom token (entry_of books (get_or list place other) ∷ drop (place + 1) (seen books list)) = subst (λ (es : List Entry). RiseFrom token es) (seen_left books list place other within) rise in
+    let both : RiseFrom token (entry_at_spot books (get_or list place other) ∷ drop (place + 1) (seen books list)) = subst (λ (es : List Entry). RiseFrom token es) (seen_left books list place other within) rise in
     both.1
 
 -- entries in order of token rise from the first one's token
-pub rise_first : (books : List Book) (list : List Spot) (first : Spot) → slice_get list 0 ≡ Some first → Rise (seen books list) → RiseFrom (entry_of books first).token (seen books list)
+pub rise_first : (books : List Book) (list : List Spot) (first : Spot) → slice_get list 0 ≡ Some first → Rise (seen books list) → RiseFrom (entry_at_spot books first).token (seen books list)
 rise_first books [] first is rise = tt
 rise_first books (one ∷ list) first is rise =
     let same : one ≡ first = cc in
-    subst (λ (x : Spot). RiseFrom (entry_of books x).token (seen books (one ∷ list))) same (up_itself (entry_of books one).token, rise)
+    subst (λ (x : Spot). RiseFrom (entry_at_spot books x).token (seen books (one ∷ list))) same (up_itself (entry_at_spot books one).token, rise)
 
 -- ---- the bytes
 pub grown : (a b : Option (List ℕ)) (text longer written line : List ℕ) → Appends a (append_known b text) written → longer ≡ text ++ line → Appends a (append_known b longer) (written ++ line)

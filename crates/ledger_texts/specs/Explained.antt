@@ -79,7 +79,7 @@ window_words window =
 -- the words, the window as `2024-03-08T17:00:00.000Z 2024-03-15T17:00:00.000Z paid 1 cents 300`,
 -- and
 -- under a zone what clocks show at its start and at its end
-pub record IsWindowLine (clocks : Option PosixRule) (word : List ℕ) (window : WindowView)
+pub record IsExplainedWindow (clocks : Option PosixRule) (word : List ℕ) (window : WindowView)
     (line : List ℕ) : Type 0 where
   pub start : List ℕ
   pub starts : IsMomentText window.start start
@@ -97,13 +97,13 @@ abbrev pub AreEarlierLines : Option PosixRule → List WindowView → List ℕ �
 AreEarlierLines clocks [] text = text ≡ []
 AreEarlierLines clocks (window ∷ windows) text =
     (line : List ℕ) × (rest : List ℕ)
-    × IsWindowLine clocks (codes "earlier window ") window line
+    × IsExplainedWindow clocks (codes "earlier window ") window line
     × AreEarlierLines clocks windows rest × (text ≡ line ++ rest)
 
 -- the line of the last window, or `window none`
 abbrev pub IsLastLine : Option PosixRule → Option WindowView → List ℕ → Type 0
 IsLastLine clocks None line = line ≡ codes "window none\n"
-IsLastLine clocks (Some window) line = IsWindowLine clocks (codes "window ") window line
+IsLastLine clocks (Some window) line = IsExplainedWindow clocks (codes "window ") window line
 
 -- the windows of these taps, the last one last
 pub record AreWindowLines (clocks : Option PosixRule) (rules : Rules) (taps : List TapIn)

@@ -1,6 +1,7 @@
 //! The entries of all books, in order of token.
 
-ghost use Rattle.std.specs.Prelude.{◌≡◌, ◌∷◌, [], ◌++◌, IfOk, OnOk, Some, slice_get};
+ghost use Rattle.std.specs.Prelude.{◌≡◌, ◌∷◌, [], ◌++◌, IfOk, OnOk, Some};
+ghost use Rattle.std.specs.Prelude.{slice_get};
 ghost use Rattle.shard_book.specs.Entry.{own};
 ghost use Rattle.shard_book.specs.Groups.{all_entries};
 ghost use Rattle.ledger_texts.specs.inside.Lines.{IsByToken};

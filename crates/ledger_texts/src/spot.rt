@@ -1,7 +1,8 @@
 //! Where an entry stands among the entries of several books, in eight bytes.
 
 ghost use Rattle.std.specs.Prelude.{◌≡◌, IfOk};
-ghost use Rattle.ledger_texts.specs.inside.Spots.{book_at, entry_in, entry_of, no_entry, place_at};
+ghost use Rattle.ledger_texts.specs.inside.Spots.{book_at, entry_in, entry_at_spot, no_entry};
+ghost use Rattle.ledger_texts.specs.inside.Spots.{place_at};
 
 use account_rule::Answer;
 use fare_table::NoMemory;
@@ -55,7 +56,7 @@ impl Spot {
     /// The entry that stands there.
     #[inline(always)]
     pub(crate) fn entry(self, books: &[ShardBook]) -> Entry
-        ensures { result ≡ entry_of books.now self }
+        ensures { result ≡ entry_at_spot books.now self }
     {
         match entry_at(books, (self.word % BOOKS) as usize, self.word / BOOKS) {
             Some(entry) => entry,

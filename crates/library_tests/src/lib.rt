@@ -1,15 +1,11 @@
-//! Tests of the libraries by their public calls: uploads, accounts, books, turns. They are what no
-//! command line shows; what one shows is a case in `cases/`.
+//! Tests of the libraries by their public calls: books, numbers that are drawn, turns, texts of
+//! faults. They are what no command line shows; what one shows is a case in `cases/`.
 //!
 //! They stand in a crate of their own, so that no library is proved anew with them.
 #![tactic(auto)]
 
 #[cfg(test)]
-mod accounts;
-#[cfg(test)]
 mod books;
-#[cfg(test)]
-mod cuts;
 #[cfg(test)]
 mod draws;
 #[cfg(test)]
@@ -18,5 +14,3 @@ mod sample;
 mod texts;
 #[cfg(test)]
 mod turns;
-#[cfg(test)]
-mod uploads;

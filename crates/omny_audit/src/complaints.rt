@@ -25,6 +25,13 @@ impl<W: Write> Complaints<W> {
         }
     }
 
+    /// The writer, when all is told.
+    pub fn into_writer(self) -> W
+        ensures { result ≡ self.writer }
+    {
+        self.writer
+    }
+
     /// Writes the text, whole where it can be written.
     pub fn tell<D: Display + Drop>(&mut self, text: D) {
         if write!(self.writer, "{text}").is_err() {

@@ -12,12 +12,13 @@
 //! | `text` | the lines of an answer |
 //! | `output` | texts, written out |
 //! | `fault` | why the program gives up, and the line that says so |
-//! | `complaints` | where mistakes and faults are told |
+//! | `complaints`, `escaping` | where mistakes and faults are told; their control characters |
 //! | `program` | the whole |
 #![tactic(auto)]
 
 mod audit;
 mod complaints;
+mod escaping;
 mod fault;
 mod files;
 mod laws;
@@ -28,6 +29,7 @@ mod source;
 mod text;
 
 use complaints::Complaints;
+use escaping::Escaping;
 use files::Host;
 use program::{main_over, unread_words};
 use std::env::Env;
@@ -41,7 +43,7 @@ fn words_of<R: Env + AllocGlobal>(rt: &R) -> io::Result<Vec<String>> {
 }
 
 fn main(rt: HostRuntime) -> ExitCode {
-    let mut err = Complaints::new(rt.stderr());
+    let mut err = Complaints::new(Escaping::new(rt.stderr()));
     let status = match words_of(&rt) {
         Ok(words) => main_over(
             rt.alloc(),
@@ -52,5 +54,6 @@ fn main(rt: HostRuntime) -> ExitCode {
         ),
         Err(error) => unread_words(&error, &mut err),
     };
+    err.into_writer().finish();
     ExitCode::from(status)
 }

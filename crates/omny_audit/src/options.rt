@@ -7,6 +7,7 @@ ghost use Rattle.omny_audit.specs.Options.{asked_by, asked_of, ledger_rule, not_
 ghost use Rattle.omny_audit.specs.Options.{table_rule, uploads_rule};
 
 use clap::{Arg, ArgAction, ArgMatches, Command, Error};
+use program_version::VERSION;
 use std::alloc::{AllocError, Global};
 
 const ABOUT: &str = "Checks a ledger under a fare table, and against uploads.
@@ -101,7 +102,7 @@ fn command<'a>(alloc: Global) -> Result<Command<'a>, AllocError>
     let uploads = uploads_arg(alloc);
     let ledger = ledger_arg(alloc);
     Command::new(alloc, "omny_audit")
-        .version("1.0.0")
+        .version(VERSION)
         .about(ABOUT)
         .after_help(NOTES)
         .arg(table)?

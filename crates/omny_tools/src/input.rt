@@ -4,7 +4,7 @@ use crate::fault::Fault;
 use crate::names::Name;
 use crate::progress::{Progress, Watched};
 use std::alloc::Global;
-use std::io::{BufReader, Read};
+use std::io::{BufReader, Input, Read, StdinLock};
 use std::{fs, io};
 
 /// The most bytes of an upload: 64 MiB.
@@ -48,12 +48,35 @@ pub(crate) fn open<'a>(rt: &HostRuntime, name: Name<'a>) -> Result<fs::File, Fau
     }
 }
 
-/// A file, read in pieces.
+/// A file or standard input.
+#[derive(Drop)]
+pub(crate) enum Opened {
+    /// The file that is named.
+    File(fs::File),
+    /// Standard input.
+    Input(StdinLock<'static>),
+}
+
+impl Read for Opened {
+    fn read(&mut self, buf: &mut [u8]) -> io::Result<usize> {
+        match self {
+            Opened::File(file) => file.read(buf),
+            Opened::Input(input) => input.read(buf),
+        }
+    }
+}
+
+/// A file or standard input, read in pieces.
 pub(crate) fn open_in_pieces<'a>(
     rt: &HostRuntime,
     name: Name<'a>,
-) -> Result<BufReader<fs::File>, Fault<'a>> {
-    match BufReader::with_capacity(rt.alloc(), READ_BYTES, open(rt, name)?) {
+) -> Result<BufReader<Opened>, Fault<'a>> {
+    let opened = if name.is_input() {
+        Opened::Input(rt.reader())
+    } else {
+        Opened::File(open(rt, name)?)
+    };
+    match BufReader::with_capacity(rt.alloc(), READ_BYTES, opened) {
         Ok(reader) => Ok(reader),
         Err(_) => Err(Fault::NoMemory),
     }

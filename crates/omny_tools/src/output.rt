@@ -11,7 +11,9 @@ const WRITE_BYTES: usize = 65_536;
 /// A writer that remembers whether a write failed because the reader is gone.
 #[derive(Drop)]
 pub(crate) struct Output<W: Write + Drop> {
+    /// What is collected, and the writer that it goes to.
     inner: BufWriter<W>,
+    /// Whether the reader is gone.
     is_closed: bool,
 }
 

@@ -6,11 +6,13 @@ use crate::splitting::SplitWords;
 use clap::{Arg, ArgAction, ArgMatches, Command, value_parser};
 use std::alloc::{AllocError, Global};
 
+/// What the exit status of `split` says.
 const SPLIT_STATUS: &str = "Exit status:
   0  the parts' files are made, and each upload's line is written
   1  a file could not be read or made, as a line `fault: ..` on the standard error tells
   2  the command line is wrong";
 
+/// What `split` does.
 const SPLIT_ABOUT: &str =
     "Splits uploads by token into parts. A run of omny_cli --settle can post a part by itself.
 
@@ -19,14 +21,19 @@ token's last four bytes, divided by 64, modulo the number of parts. DIR/0.tap, D
 have the parts' taps by rising token, moment and validator. A part's file is made as DIR/0.tap. and
 then renamed. A line for each upload tells how it ended, as in a report.";
 
+/// The help of `--parts`.
 const PARTS_HELP: &str = "How many parts, 1 to 65535";
 
+/// The help of `--part-files`.
 const PART_FILES_HELP: &str = "The folder of the parts' files; it must be there";
 
+/// The help of `--first`.
 const FIRST_HELP: &str = "The number of the first upload, where uploads are split in groups";
 
+/// The help of the uploads that are split.
 const UPLOADS_HELP: &str = "Uploads of at most 67108864 bytes; - stands for standard input";
 
+/// What the exit status of `merge` says.
 const MERGE_STATUS: &str = "Exit status:
   0  the report is written, and no upload was refused
   1  a text is wrong, or could not be read or written, as a line `fault: ..` on the standard error
@@ -34,6 +41,7 @@ const MERGE_STATUS: &str = "Exit status:
   2  the command line is wrong
   3  the report is written, and an upload was refused";
 
+/// What `merge` does.
 const MERGE_ABOUT: &str =
     "Merges the reports of all parts into that of the whole, on standard output.
 
@@ -41,23 +49,29 @@ The uploads were split by omny_tools split, which wrote how they ended, and each
 a run of omny_cli --settle. The report is that of one such run over the uploads. The reports are
 read as it is written, so they may be larger than memory.";
 
-const ENDS_HELP: &str = "The lines that split wrote, in the order of the uploads";
+/// The help of `--ends`.
+const ENDS_HELP: &str =
+    "The lines that split wrote, in the order of the uploads; - stands for standard input";
 
-const REPORTS_HELP: &str = "The reports of the parts, in any order";
+/// The help of the reports.
+const REPORTS_HELP: &str = "The reports of the parts, in any order; - stands for standard input";
 
+/// What the exit status of `merge-ledgers` says.
 const MERGE_LEDGERS_STATUS: &str = "Exit status:
   0  the ledger is written
   1  a text is wrong, or could not be read or written, as a line `fault: ..` on the standard error
      tells; what was written is not the ledger
   2  the command line is wrong";
 
+/// What `merge-ledgers` does.
 const MERGE_LEDGERS_ABOUT: &str =
     "Merges the ledgers of all parts into that of the whole, on standard output.
 
 The lines of the tokens come in the order of the tokens. A token has lines in one ledger alone. The
 ledgers are read as they are written, so they may be larger than memory.";
 
-const LEDGERS_HELP: &str = "The ledgers of the parts, in any order";
+/// The help of the ledgers.
+const LEDGERS_HELP: &str = "The ledgers of the parts, in any order; - stands for standard input";
 
 /// `split --parts N --part-files DIR [--first K] FILE...`
 pub(crate) fn split_command<'a>(alloc: Global) -> Result<Command<'a>, AllocError> {

@@ -136,6 +136,7 @@ impl<'r> Progress<'r> {
 pub(crate) struct Watched<'r, R: Read + Drop> {
     /// What is read.
     from: R,
+    /// Where the count is told.
     progress: Progress<'r>,
     /// How many bytes were read.
     done: u64,
@@ -185,6 +186,7 @@ impl<'r, R: Read + Drop> Read for Watched<'r, R> {
 pub(crate) struct Watching<'r, W: Write + Drop> {
     /// Where the bytes go.
     to: W,
+    /// Where the count is told.
     progress: Progress<'r>,
     /// How many bytes were written.
     done: u64,

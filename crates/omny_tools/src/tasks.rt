@@ -85,7 +85,9 @@ fn perform<'a, W: Write + Drop, E: Write>(
         }
         Task::Decode(names) => decode(rt, names, out, err),
         Task::Uploads(names, has_tokens) => tell(rt, names, *has_tokens, out),
-        Task::GoodPart(name, good) => tell_and_keep(rt, *name, *good, out),
+        Task::GoodPart(name, good, has_tokens) => {
+            tell_and_keep(rt, *name, *good, *has_tokens, out)
+        }
         Task::Table(question) => tell_table(rt, question, out, err),
         Task::Split(words) => {
             split(rt, words, out)?;
@@ -96,7 +98,8 @@ fn perform<'a, W: Write + Drop, E: Write>(
             merge_ledgers(rt, names, out)?;
             Ok(true)
         }
-        Task::NotOneUpload | Task::NoMoment | Task::Nothing => Ok(false),
+        Task::NotOneUpload | Task::InputTwice => Ok(false),
+        Task::NoMoment | Task::Nothing => Ok(false),
     }
 }
 
@@ -118,6 +121,7 @@ fn finish<'a, E: Write>(rt: &HostRuntime, task: &Task<'a>, err: &mut E) -> Resul
 pub(crate) fn run<E: Write>(rt: &HostRuntime, words: &[String], err: &mut E) -> u8 {
     let task = match task_of(rt.alloc(), words) {
         Ok(Task::NotOneUpload) => return mistake(err, "--good-part needs one FILE"),
+        Ok(Task::InputTwice) => return mistake(err, "- can be named only once"),
         Ok(Task::NoMoment) => {
             return mistake(err, "--from needs a moment, as 2026-03-01T00:00:00Z");
         }

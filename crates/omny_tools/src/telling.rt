@@ -76,6 +76,42 @@ fn token_lines(alloc: Global, sharing: &Sharing) -> Result<String, AllocError> {
     Ok(text)
 }
 
+/// Counts no tokens yet, where that is asked for.
+fn sharing_where(alloc: Global, has_tokens: bool) -> Option<Sharing> {
+    if has_tokens {
+        Some(Sharing::new(alloc))
+    } else {
+        None
+    }
+}
+
+/// Counts the tokens of the next upload, where that is asked for.
+fn add_tokens<'a>(sharing: &mut Option<Sharing>, upload: &[u8]) -> Result<(), Fault<'a>> {
+    if let Some(sharing) = sharing {
+        if sharing.add(upload).is_err() {
+            return Err(Fault::NoMemory);
+        }
+    }
+    Ok(())
+}
+
+/// Writes how many tokens the uploads have and share, where that is asked for.
+fn tell_tokens<'a, W: Write + Drop>(
+    alloc: Global,
+    sharing: &Option<Sharing>,
+    out: &mut Output<W>,
+) -> Result<(), Fault<'a>> {
+    if let Some(sharing) = sharing {
+        let Ok(text) = token_lines(alloc, sharing) else {
+            return Err(Fault::NoMemory);
+        };
+        if out.write_all(text.as_bytes()).is_err() {
+            return Err(out.failed());
+        }
+    }
+    Ok(())
+}
+
 /// Writes what these uploads have, in their order. Says whether none has a layout fault.
 fn tell_each<'a, W: Write + Drop>(
     rt: &HostRuntime,
@@ -89,11 +125,7 @@ fn tell_each<'a, W: Write + Drop>(
         progress.tell(number, names.len(), "uploads");
         let (upload, is_whole) = tell_one(rt, number, *name, out)?;
         is_well &= is_whole;
-        if let Some(sharing) = sharing {
-            if sharing.add(&upload).is_err() {
-                return Err(Fault::NoMemory);
-            }
-        }
+        add_tokens(sharing, &upload)?;
     }
     Ok(is_well)
 }
@@ -107,22 +139,11 @@ pub(crate) fn tell<'a, W: Write + Drop>(
     out: &mut Output<W>,
 ) -> Result<bool, Fault<'a>> {
     let mut progress = Progress::new(rt);
-    let mut sharing = if has_tokens {
-        Some(Sharing::new(rt.alloc()))
-    } else {
-        None
-    };
+    let mut sharing = sharing_where(rt.alloc(), has_tokens);
     let told = tell_each(rt, names, &mut sharing, &mut progress, out);
     progress.end();
     let is_well = told?;
-    if let Some(sharing) = &sharing {
-        let Ok(text) = token_lines(rt.alloc(), sharing) else {
-            return Err(Fault::NoMemory);
-        };
-        if out.write_all(text.as_bytes()).is_err() {
-            return Err(out.failed());
-        }
-    }
+    tell_tokens(rt.alloc(), &sharing, out)?;
     Ok(is_well)
 }
 
@@ -138,14 +159,19 @@ fn make<'a>(rt: &HostRuntime, name: Name<'a>, bytes: &[u8]) -> Result<(), Fault<
     }
 }
 
-/// Writes what the upload has, and makes a file of its batches before its layout fault.
+/// Writes what the upload has and, where that is asked for, how many tokens; and makes a file of its
+/// batches before its layout fault.
 pub(crate) fn tell_and_keep<'a, W: Write + Drop>(
     rt: &HostRuntime,
     name: Name<'a>,
     good: Name<'a>,
+    has_tokens: bool,
     out: &mut Output<W>,
 ) -> Result<bool, Fault<'a>> {
+    let mut sharing = sharing_where(rt.alloc(), has_tokens);
     let (upload, is_whole) = tell_one(rt, 0, name, out)?;
+    add_tokens(&mut sharing, &upload)?;
+    tell_tokens(rt.alloc(), &sharing, out)?;
     make(rt, good, good_part(&upload))?;
     Ok(is_whole)
 }

@@ -10,11 +10,8 @@ use crate::splitting::SplitWords;
 use crate::table::Question;
 use clap::{Arg, ArgAction, ArgMatches, Command, Error};
 use jiff::Timestamp;
+use program_version::VERSION;
 use std::alloc::{AllocError, Global};
-
-/// The version of the repository, and the toolchain's as `rt version` prints it: that of which the
-/// proofs were checked last. `scripts/version` refuses another one.
-const VERSION: &str = "0.1.0 (rattle-kit-13f logic dac8208d650f15bf)";
 
 const ABOUT: &str =
     "Turns tables of taps into uploads and back, and tells what uploads and fare tables have.";
@@ -91,8 +88,9 @@ pub(crate) enum Task<'a> {
     Decode(Vec<Name<'a>>),
     /// Tell what uploads have, and how many tokens they share, where that is asked for.
     Uploads(Vec<Name<'a>>, bool),
-    /// Tell what one upload has, and make a file of its good part.
-    GoodPart(Name<'a>, Name<'a>),
+    /// Tell what one upload has, make a file of its good part, and tell how many tokens it has,
+    /// where that is asked for.
+    GoodPart(Name<'a>, Name<'a>, bool),
     /// Tell what a fare table has.
     Table(Question<'a>),
     /// Split uploads into parts.
@@ -103,6 +101,8 @@ pub(crate) enum Task<'a> {
     MergeLedgers(Vec<Name<'a>>),
     /// A good part is asked for, and not one upload.
     NotOneUpload,
+    /// Texts that are read side by side are to be merged, and two of them are standard input.
+    InputTwice,
     /// What is to be a moment is none.
     NoMoment,
     /// No subcommand.
@@ -245,11 +245,12 @@ fn names_or_input<'a>(
 /// What `uploads` is asked for.
 fn uploads_task<'a>(alloc: Global, matches: &ArgMatches<'a>) -> Result<Task<'a>, AllocError> {
     let names = names_in(alloc, matches)?;
+    let has_tokens = matches.get_flag("tokens");
     let Some(good) = matches.get_str("good-part") else {
-        return Ok(Task::Uploads(names, matches.get_flag("tokens")));
+        return Ok(Task::Uploads(names, has_tokens));
     };
     match names.as_slice() {
-        [name] => Ok(Task::GoodPart(*name, Name(good))),
+        [name] => Ok(Task::GoodPart(*name, Name(good), has_tokens)),
         _ => Ok(Task::NotOneUpload),
     }
 }
@@ -274,6 +275,27 @@ fn table_task<'a>(alloc: Global, matches: &ArgMatches<'a>) -> Result<Task<'a>, A
     }))
 }
 
+/// How many of the names stand for standard input.
+fn inputs_in(names: &[Name<'_>]) -> usize {
+    names.iter().filter(|name| name.is_input()).count()
+}
+
+/// What `merge` is asked for.
+fn merge_task<'a>(words: MergeWords<'a>) -> Task<'a> {
+    if inputs_in(&words.ends).saturating_add(inputs_in(&words.reports)) > 1 {
+        return Task::InputTwice;
+    }
+    Task::Merge(words)
+}
+
+/// What `merge-ledgers` is asked for.
+fn merge_ledgers_task<'a>(names: Vec<Name<'a>>) -> Task<'a> {
+    if inputs_in(&names) > 1 {
+        return Task::InputTwice;
+    }
+    Task::MergeLedgers(names)
+}
+
 /// What the words ask for; else clap's error, which may be a call for help.
 pub(crate) fn task_of<'a>(alloc: Global, words: &'a [String]) -> Result<Task<'a>, Error> {
     let matches = command(alloc)?.try_get_matches_from(words)?;
@@ -296,10 +318,10 @@ pub(crate) fn task_of<'a>(alloc: Global, words: &'a [String]) -> Result<Task<'a>
         return Ok(Task::Split(split_words(alloc, matches)?));
     }
     if name == "merge" {
-        return Ok(Task::Merge(merge_words(alloc, matches)?));
+        return Ok(merge_task(merge_words(alloc, matches)?));
     }
     if name == "merge-ledgers" {
-        return Ok(Task::MergeLedgers(merge_ledgers_words(alloc, matches)?));
+        return Ok(merge_ledgers_task(merge_ledgers_words(alloc, matches)?));
     }
     Ok(uploads_task(alloc, matches)?)
 }

@@ -5,8 +5,8 @@ use Rattle.shard_book.specs.declared.entry.Entry.{Entry}
 use Rattle.shared_books.specs.declared.turns.rule.Opening.{Opening}
 use Rattle.shared_books.specs.Marks.{mark, others, visits_of, joined}
 use Rattle.shared_books.specs.Turns.{Boxed, IsTurn}
-use Rattle.shared_books.specs.Views.{Seat, view, HasTaken, given_back}
-use Rattle.shared_books.specs.inside.Views.{IsFree, GoesOn, HasBookOut, BringsVisit}
+use Rattle.shared_books.specs.Views.{Seat, view, HasTakenBook, given_back}
+use Rattle.shared_books.specs.inside.Views.{IsFree, SeesMore, HasBookOut, BringsVisit}
 use Rattle.shared_books.proofs.MarkLists.{drop_all}
 use Rattle.shared_books.proofs.TurnSteps.{gives_turn}
 
@@ -21,13 +21,13 @@ held_first [] = None
 held_first (x ∷ xs) = x.1
 
 -- the slot that was taken comes out with the book of all visits so far
-pub taken_out : (st : Step (Option Boxed)) (a b c : Seat) (found : ℕ) (out : Option Boxed) → IsFree a → st.first ≡ found → found < 2 ^ 63 → HasTaken st a b → b.1 ≡ (0, out) ∷ rest b.1 → c ≡ (b.0, (0, None) ∷ rest b.1)
-    → IfSome out (λ book. HasBookOut a c (found / 2) book.value) × IfNone out (GoesOn a c)
+pub taken_out : (st : Step (Option Boxed)) (a b c : Seat) (found : ℕ) (out : Option Boxed) → IsFree a → st.first ≡ found → found < 2 ^ 63 → HasTakenBook st a b → b.1 ≡ (0, out) ∷ rest b.1 → c ≡ (b.0, (0, None) ∷ rest b.1)
+    → IfSome out (λ book. HasBookOut a c (found / 2) book.value) × IfNone out (SeesMore a c)
 taken_out st a b c found out free first few t comes e =
     let is : out ≡ Some t.book = sym (ap held_first comes) ∙ ap held_first t.carries in
     let nothing_else : rest b.1 ≡ [] = ap rest t.carries ∙ free.carries in
     let number : found / 2 ≡ a.0.opened.first + length (a.0.marks ++ others t.between) = half found _ (sym first ∙ t.word) in
-    let P : Option Boxed → Type 0 = λ o. IfSome o (λ x. HasBookOut a c (found / 2) x.value) × IfNone o (GoesOn a c) in
+    let P : Option Boxed → Type 0 = λ o. IfSome o (λ x. HasBookOut a c (found / 2) x.value) × IfNone o (SeesMore a c) in
     subst P (sym is) (
       record {
         between = t.between;

@@ -13,7 +13,7 @@ use Rattle.shared_books.specs.Passes.{PassView, seen_by, book_of, IsLater, Visit
 use Rattle.shared_books.specs.inside.Passes.{opened_of}
 use Rattle.shared_books.specs.Turns.{Boxed, book_after}
 use Rattle.shared_books.specs.Views.{Seat, view, fresh, left_view, both_views, HasSeen, HasSettled}
-use Rattle.shared_books.specs.inside.Views.{IsFree, GoesOn, HasBookOut, FindsFull, BringsVisit, IsPass}
+use Rattle.shared_books.specs.inside.Views.{IsFree, SeesMore, HasBookOut, FindsFull, BringsVisit, IsPass}
 use Rattle.shared_books.proofs.MarkLists.{visits-caught, visits-append, visits-others, length-visits, others-append, joined-snoc, made-others, made-caught, made-snoc, made_few, made_all, length-made-merged}
 use Rattle.shared_books.proofs.TurnSteps.{Closes}
 
@@ -22,7 +22,7 @@ abbrev pub knows : TableId → Seat → PassView
 knows home me = record { book = opened_of home me.0.opened; claims = me.0.claims; marks = me.0.marks }
 
 -- going on
-pub goes_nowhere : (me : Seat) → IsFree me → GoesOn me me
+pub goes_nowhere : (me : Seat) → IsFree me → SeesMore me me
 goes_nowhere me f =
     let same : me.0.marks ≡ me.0.marks ++ [] = sym (append-nil me.0.marks) in
     record {
@@ -31,7 +31,7 @@ goes_nowhere me f =
       carries = refl;
     }
 
-pub goes_on : (a b c : Seat) → GoesOn a b → GoesOn b c → GoesOn a c
+pub goes_on : (a b c : Seat) → SeesMore a b → SeesMore b c → SeesMore a c
 goes_on a b c g h =
     let marks : b.0.marks ++ others h.between ≡ a.0.marks ++ others (g.between ++ h.between) =
     ap (λ v. v.marks ++ others h.between) g.view_is ∙ (append_assoc a.0.marks (others g.between) (others h.between) ∙ ap (λ ms. a.0.marks ++ ms) (sym (others-append g.between h.between))) in
@@ -41,7 +41,7 @@ goes_on a b c g h =
       carries = h.carries ∙ g.carries;
     }
 
-pub still_free : (a b : Seat) → IsFree a → GoesOn a b → IsFree b
+pub still_free : (a b : Seat) → IsFree a → SeesMore a b → IsFree b
 still_free a b f g = record {
   live = ap (λ v. v.live) g.view_is;
   turn = ap (λ v. v.turn) g.view_is ∙ f.turn;
@@ -49,10 +49,10 @@ still_free a b f g = record {
   carries = g.carries ∙ f.carries;
 }
 
-pub seen_goes_on : (a : Seat) (found : ℕ) (b : Seat) → HasSeen a found b → GoesOn a b
+pub seen_goes_on : (a : Seat) (found : ℕ) (b : Seat) → HasSeen a found b → SeesMore a b
 seen_goes_on a found b h = record { between = h.between; view_is = h.view_is; carries = h.carries }
 
-pub out_later : (a b c : Seat) (number : ℕ) (book : Book) → GoesOn a b → HasBookOut b c number book → HasBookOut a c number book
+pub out_later : (a b c : Seat) (number : ℕ) (book : Book) → SeesMore a b → HasBookOut b c number book → HasBookOut a c number book
 out_later a b c number book g h =
     let marks : b.0.marks ++ others h.between ≡ a.0.marks ++ others (g.between ++ h.between) =
     ap (λ v. v.marks ++ others h.between) g.view_is ∙ (append_assoc a.0.marks (others g.between) (others h.between) ∙ ap (λ ms. a.0.marks ++ ms) (sym (others-append g.between h.between))) in
@@ -102,11 +102,11 @@ finds_full a found b full h = record {
   count = ap (λ v. v.opened.first + length v.marks) h.view_is ∙ full_of _ (subst (λ n. (n ≡ 2 * (a.0.opened.first + length (a.0.marks ++ others h.between))) ⊎ (n ≡ 2 * (a.0.opened.first + length (a.0.marks ++ others h.between)) + 1)) full h.word);
 }
 
-pub full_later : (a b c : Seat) → GoesOn a b → FindsFull b c → FindsFull a c
+pub full_later : (a b c : Seat) → SeesMore a b → FindsFull b c → FindsFull a c
 full_later a b c g f = record { goes_on = goes_on a b c g f.goes_on; legal = f.legal; count = f.count }
 
 -- a pass goes on
-pub pass_goes_on : (held : ℕ) (a b : Seat) → IsPass held a → GoesOn a b → b.0.opened.first + length b.0.marks ≤ 2 ^ 62 → IsPass held b
+pub pass_goes_on : (held : ℕ) (a b : Seat) → IsPass held a → SeesMore a b → b.0.opened.first + length b.0.marks ≤ 2 ^ 62 → IsPass held b
 pass_goes_on held a b p g small = record {
   free = still_free a b p.free g;
   held_is = p.held_is ∙ ap (λ (made : List (ℕ × List Entry)). length made) (sym (ap (λ v. made_from v.opened.first v.marks) g.view_is ∙ made-caught a.0.opened.first a.0.marks g.between));
@@ -117,7 +117,7 @@ pub pass_looks : (held : ℕ) (a : Seat) (found : ℕ) (b : Seat) → IsPass hel
 pass_looks held a found b p h = pass_goes_on held a b p (seen_goes_on a found b h)
     (subst (λ n. n ≤ 2 ^ 62) (sym (ap (λ v. v.opened.first + length v.marks) h.view_is)) (small_of found _ h.word h.most))
 
-pub later_of : (home : TableId) (a b : Seat) → GoesOn a b → IsLegal b.0.opened.book.value.table (joined (visits_of b.0.marks)) → IsLater (knows home a) (knows home b)
+pub later_of : (home : TableId) (a b : Seat) → SeesMore a b → IsLegal b.0.opened.book.value.table (joined (visits_of b.0.marks)) → IsLater (knows home a) (knows home b)
 later_of home a b g legal = record {
   between = g.between;
   book = ap (λ v. opened_of home v.opened) g.view_is;

@@ -7,17 +7,17 @@ use Rattle.shared_books.specs.declared.turns.rule.View.{View}
 use Rattle.shared_books.specs.Machine.{Machine, taken, given, start, after}
 use Rattle.shared_books.specs.Marks.{mark, others, visits_of, joined}
 use Rattle.shard_book.specs.History.{IsLegal}
-use Rattle.shared_books.specs.Turns.{Boxed, book_after, HoldsTurn, Shows}
+use Rattle.shared_books.specs.Turns.{Boxed, book_after, HoldsTurn, ShowsMachine}
 use Rattle.shared_books.specs.Views.{view}
 use Rattle.shared_books.specs.Events.{IsShown, StepsAreEvents, TakesAreEvents, GivesAreEvents, taken_by}
 use Rattle.shared_books.proofs.MarkLists.{made_at-caught}
 use Rattle.shared_books.proofs.TurnSteps.{schedule_snoc, after-snoc, word_of, caught_up, took, gave}
 
 -- who has the turn is the holder
-holder_is : (k : Opening) (m : Machine) (s : State (Option Boxed) View) (seat : ℕ) → Shows k m s → HoldsTurn s seat → m.holder ≡ some seat
+holder_is : (k : Opening) (m : Machine) (s : State (Option Boxed) View) (seat : ℕ) → ShowsMachine k m s → HoldsTurn s seat → m.holder ≡ some seat
 holder_is k m s seat r t = ((r.each seat t.0 t.1 t.2).turn t.3).0
 
-shown : (k : Opening) (m : Machine) (s : State (Option Boxed) View) → Shows k m s → IsShown k m s
+shown : (k : Opening) (m : Machine) (s : State (Option Boxed) View) → ShowsMachine k m s → IsShown k m s
 shown k m s r = record {
   even = λ n e. ⊎_elim
       (λ (t : (m.holder ≡ none) × (get_or s.words 0 0 ≡ 2 * m.count)). let w = t.1 in record {
@@ -58,7 +58,7 @@ takes_are k s seat v t at live n even few =
       record {
         events = t.events ++ taken seat ∷ [];
         schedule = schedule_snoc (start k.first) t.events (taken seat) t.schedule free;
-        shows = subst (λ (x : Machine). Shows k x (taken_by s seat v c.more)) (sym (after-snoc (start k.first) t.events (taken seat)))
+        shows = subst (λ (x : Machine). ShowsMachine k x (taken_by s seat v c.more)) (sym (after-snoc (start k.first) t.events (taken seat)))
             (took k m s seat v (v.marks ++ others c.more) sh at live free c.all (omega arith) (λ i. made_at-caught i v.marks c.more));
       },
       refl,
@@ -77,8 +77,8 @@ gives_are k s seat v t at live on visit book is legal =
       record {
         events = t.events ++ given seat visit ∷ [];
         schedule = schedule_snoc (start k.first) t.events (given seat visit) t.schedule holds;
-        shows = subst (λ w. Shows k (after (start k.first) (t.events ++ given seat visit ∷ [])) record { words = set s.words 0 w; homes = set s.homes 0 (some (Some book)); views = set s.views seat (view v.opened v.claims false (v.marks ++ mark true visit ∷ []) v.met) }) more
-            (subst (λ (x : Machine). Shows k x record { words = set s.words 0 (2 * m.count + 2); homes = set s.homes 0 (some (Some book)); views = set s.views seat (view v.opened v.claims false (v.marks ++ mark true visit ∷ []) v.met) }) (sym (after-snoc (start k.first) t.events (given seat visit)))
+        shows = subst (λ w. ShowsMachine k (after (start k.first) (t.events ++ given seat visit ∷ [])) record { words = set s.words 0 w; homes = set s.homes 0 (some (Some book)); views = set s.views seat (view v.opened v.claims false (v.marks ++ mark true visit ∷ []) v.met) }) more
+            (subst (λ (x : Machine). ShowsMachine k x record { words = set s.words 0 (2 * m.count + 2); homes = set s.homes 0 (some (Some book)); views = set s.views seat (view v.opened v.claims false (v.marks ++ mark true visit ∷ []) v.met) }) (sym (after-snoc (start k.first) t.events (given seat visit)))
             (gave k m s seat v visit book sh at live holds all (omega arith) (is ∙ ap (λ vs. book_after k (vs ++ visit ∷ [])) all) (subst (λ vs. IsLegal k.book.value.table (joined (vs ++ visit ∷ []))) all legal)));
       },
       refl,

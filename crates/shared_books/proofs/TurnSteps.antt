@@ -18,7 +18,7 @@ use Rattle.shared_books.specs.declared.turns.rule.View.{View}
 use Rattle.shared_books.specs.Claims.{all_claims}
 use Rattle.shared_books.specs.Machine.{Machine, Event, taken, given, start, May, next, after, IsSchedule}
 use Rattle.shared_books.specs.Marks.{mark, others, visits_of, joined, made_at, made_from, Apart, Begins, merged}
-use Rattle.shared_books.specs.Turns.{Boxed, book_after, makers, Fits, IsNobody, Shows, IsTurn}
+use Rattle.shared_books.specs.Turns.{Boxed, book_after, makers, FitsMachine, IsNobody, ShowsMachine, IsTurn}
 use Rattle.shared_books.specs.Views.{Seat, view, nobody, fresh, left_view, both_views, HasSeen, HasTriedTurn, given_back, HasSettled}
 use Rattle.shared_books.proofs.Changed.{sum_set, sum_part, sum_only, at_less}
 use Rattle.shared_books.proofs.ClaimSteps.{claims_set, claims_split, claims_join, claims_most, others_spent}
@@ -44,7 +44,7 @@ holder_of none = inl refl
 holder_of (some seat) = inr (seat, refl)
 
 -- nobody has the turn at an even word, and somebody at an odd one
-pub word_of : (k : Opening) (m : Machine) (s : S) → Shows k m s → ((m.holder ≡ none) × (get_or s.words 0 0 ≡ 2 * m.count)) ⊎ ((seat : ℕ) × (m.holder ≡ some seat) × (get_or s.words 0 0 ≡ 2 * m.count + 1))
+pub word_of : (k : Opening) (m : Machine) (s : S) → ShowsMachine k m s → ((m.holder ≡ none) × (get_or s.words 0 0 ≡ 2 * m.count)) ⊎ ((seat : ℕ) × (m.holder ≡ some seat) × (get_or s.words 0 0 ≡ 2 * m.count + 1))
 word_of k m s r = ⊎_elim (λ e. inl (e, (r.free e).0)) (λ t. inr (t.0, t.1, (r.held t.0 t.1).0)) (holder_of m.holder)
 
 -- whoever has the turn has it still, where the one view that changed kept its own
@@ -58,15 +58,15 @@ turn_set views id v w seat at live same t = dite (ℕ_discrete seat id)
     (λ ne. (t.0, set_else views id seat w ne ∙ t.1, t.2, t.3))
 
 -- where one view changes, and not the visits that it made
-seen_set : (k : Opening) (m : Machine) (s : S) (id : ℕ) (v : View) (marks met : List Mark) → Shows k m s → get_elem? s.views id ≡ some v → v.live ≡ true
+seen_set : (k : Opening) (m : Machine) (s : S) (id : ℕ) (v : View) (marks met : List Mark) → ShowsMachine k m s → get_elem? s.views id ≡ some v → v.live ≡ true
     → Begins (visits_of marks) m.visits → Begins (visits_of met) m.visits → (v.turn ≡ true → visits_of marks ≡ m.visits)
     → ((i : ℕ) → made_at i marks + made_at i met ≡ made_at i v.marks + made_at i v.met)
-    → Shows k m record { words = s.words; homes = s.homes; views = set s.views id (view v.opened v.claims v.turn marks met) }
+    → ShowsMachine k m record { words = s.words; homes = s.homes; views = set s.views id (view v.opened v.claims v.turn marks met) }
 seen_set k m s id v marks met r at live seen other turn counts =
     let w = view v.opened v.claims v.turn marks met in
     let f = r.each id v at live in
     let same : (i : ℕ) → makers i (set s.views id w) ≡ makers i s.views = λ i. (let t = sum_set (λ u. made_at i u.marks + made_at i u.met) s.views id v w at in let c = counts i in omega arith) in
-    let fits : Fits k m id w = record { opened = f.opened; seen = seen; met = other; turn = λ on. ((f.turn on).0, turn on) } in record {
+    let fits : FitsMachine k m id w = record { opened = f.opened; seen = seen; met = other; turn = λ on. ((f.turn on).0, turn on) } in record {
       one_word = r.one_word;
       one_slot = r.one_slot;
       most = r.most;
@@ -75,7 +75,7 @@ seen_set k m s id v marks met r at live seen other turn counts =
       held = λ seat h. (let p = r.held seat h in (p.0, p.1, turn_set s.views id v w seat at refl refl p.2));
       legal = r.legal;
       each = λ j u e l. ⊎_elim
-          (λ (t : (j ≡ id) × (w ≡ u)). subst (λ (z : View). Fits k m j z) t.1 (subst (λ i. Fits k m i w) (sym t.0) fits))
+          (λ (t : (j ≡ id) × (w ≡ u)). subst (λ (z : View). FitsMachine k m j z) t.1 (subst (λ i. FitsMachine k m i w) (sym t.0) fits))
           (λ (t : (j ≢ id) × (get_elem? s.views j ≡ some u)). r.each j u t.1 l)
           (at_set s.views id j w u e);
       once = λ i lt. same i ∙ r.once i lt;
@@ -90,7 +90,7 @@ pub record CaughtUp (k : Opening) (m : Machine) (v : View) : Type 0 where
   pub number : v.opened.first + length (v.marks ++ others more) ≡ m.count
   pub legal : IsLegal v.opened.book.value.table (joined (visits_of (v.marks ++ others more)))
 
-pub caught_up : (k : Opening) (m : Machine) (s : S) (id : ℕ) (v : View) → Shows k m s → Fits k m id v → CaughtUp k m v
+pub caught_up : (k : Opening) (m : Machine) (s : S) (id : ℕ) (v : View) → ShowsMachine k m s → FitsMachine k m id v → CaughtUp k m v
 caught_up k m s id v r f =
     let more = f.seen.0 in
     let marks : List Mark = v.marks ++ others more in
@@ -124,7 +124,7 @@ looks k slots id me live s r count at fits =
       record {
         events = r.events;
         schedule = r.schedule;
-        shows = subst (λ ws. Shows k m record { words = ws; homes = s.homes; views = set s.views id w }) (sym (set-get_or s.words 0 0))
+        shows = subst (λ ws. ShowsMachine k m record { words = ws; homes = s.homes; views = set s.views id w }) (sym (set-get_or s.words 0 0))
             (seen_set k m s id v marks v.met sh at live (subst (λ vs. Begins (visits_of marks) vs) c.all (begins_itself (visits_of marks))) f.met (λ _. c.all) (λ i. ap (λ n. n + made_at i v.met) (made_at-caught i v.marks c.more)));
       },
       record {
@@ -138,9 +138,9 @@ looks k slots id me live s r count at fits =
     )
 
 -- the turn is taken
-pub took : (k : Opening) (m : Machine) (s : S) (id : ℕ) (v : View) (marks : List Mark) → Shows k m s → get_elem? s.views id ≡ some v → v.live ≡ true → m.holder ≡ none
+pub took : (k : Opening) (m : Machine) (s : S) (id : ℕ) (v : View) (marks : List Mark) → ShowsMachine k m s → get_elem? s.views id ≡ some v → v.live ≡ true → m.holder ≡ none
     → visits_of marks ≡ m.visits → get_or s.words 0 0 < 2 ^ 63 → ((i : ℕ) → made_at i marks ≡ made_at i v.marks)
-    → Shows k (next m (taken id)) record { words = set s.words 0 (get_or s.words 0 0 + 1); homes = set s.homes 0 none; views = set s.views id (view v.opened v.claims true marks v.met) }
+    → ShowsMachine k (next m (taken id)) record { words = set s.words 0 (get_or s.words 0 0 + 1); homes = set s.homes 0 none; views = set s.views id (view v.opened v.claims true marks v.met) }
 took k m s id v marks r at live nobody_has all few counts =
     let w = view v.opened v.claims true marks v.met in
     let f = r.each id v at live in
@@ -160,7 +160,7 @@ took k m s id v marks r at live nobody_has all few counts =
       ));
       legal = r.legal;
       each = λ j u e l. ⊎_elim
-          (λ (t : (j ≡ id) × (w ≡ u)). subst (λ (z : View). Fits k (next m (taken id)) j z) t.1 record { opened = f.opened; seen = ([], sym all ∙ sym (append-nil (visits_of marks))); met = f.met; turn = λ _. (ap some (sym t.0), all) })
+          (λ (t : (j ≡ id) × (w ≡ u)). subst (λ (z : View). FitsMachine k (next m (taken id)) j z) t.1 record { opened = f.opened; seen = ([], sym all ∙ sym (append-nil (visits_of marks))); met = f.met; turn = λ _. (ap some (sym t.0), all) })
           (λ (t : (j ≢ id) × (get_elem? s.views j ≡ some u)). let g = r.each j u t.1 l in record { opened = g.opened; seen = g.seen; met = g.met; turn = λ on. absurd (some-ne-none j (sym (g.turn on).0 ∙ nobody_has)) })
           (at_set s.views id j w u e);
       once = λ i lt. same i ∙ r.once i lt;
@@ -191,8 +191,8 @@ takes_turn k slots id me old half live off even few s r count at fits = dite (�
       record {
         events = r.events ++ taken id ∷ [];
         schedule = schedule_snoc (start k.first) r.events (taken id) r.schedule nobody_has;
-        shows = subst (λ n. Shows k (after (start k.first) (r.events ++ taken id ∷ [])) record { words = set s.words 0 n; homes = set s.homes 0 none; views = set s.views id w }) one
-            (subst (λ n. Shows k n record { words = set s.words 0 (get_or s.words 0 0 + 1); homes = set s.homes 0 none; views = set s.views id w }) (sym (after-snoc (start k.first) r.events (taken id)))
+        shows = subst (λ n. ShowsMachine k (after (start k.first) (r.events ++ taken id ∷ [])) record { words = set s.words 0 n; homes = set s.homes 0 none; views = set s.views id w }) one
+            (subst (λ n. ShowsMachine k n record { words = set s.words 0 (get_or s.words 0 0 + 1); homes = set s.homes 0 none; views = set s.views id w }) (sym (after-snoc (start k.first) r.events (taken id)))
             (took k m s id v marks sh at live nobody_has c.all (omega arith) (λ i. made_at-caught i v.marks c.more)));
       },
       record {
@@ -211,9 +211,9 @@ takes_turn k slots id me old half live off even few s r count at fits = dite (�
     ))
 
 -- the turn is given back with a visit
-pub gave : (k : Opening) (m : Machine) (s : S) (id : ℕ) (v : View) (visit : List Entry) (b : Boxed) → Shows k m s → get_elem? s.views id ≡ some v → v.live ≡ true → m.holder ≡ some id
+pub gave : (k : Opening) (m : Machine) (s : S) (id : ℕ) (v : View) (visit : List Entry) (b : Boxed) → ShowsMachine k m s → get_elem? s.views id ≡ some v → v.live ≡ true → m.holder ≡ some id
     → visits_of v.marks ≡ m.visits → m.count < 2 ^ 62 → b.value ≡ book_after k (m.visits ++ visit ∷ []) → IsLegal k.book.value.table (joined (m.visits ++ visit ∷ []))
-    → Shows k (next m (given id visit)) record { words = set s.words 0 (2 * m.count + 2); homes = set s.homes 0 (some (Some b)); views = set s.views id (view v.opened v.claims false (v.marks ++ mark true visit ∷ []) v.met) }
+    → ShowsMachine k (next m (given id visit)) record { words = set s.words 0 (2 * m.count + 2); homes = set s.homes 0 (some (Some b)); views = set s.views id (view v.opened v.claims false (v.marks ++ mark true visit ∷ []) v.met) }
 gave k m s id v visit b r at live holds all few book legal =
     let marks : List Mark = v.marks ++ mark true visit ∷ [] in
     let w = view v.opened v.claims false marks v.met in
@@ -233,7 +233,7 @@ gave k m s id v visit b r at live holds all few book legal =
       held = λ seat e. absurd (some-ne-none seat (sym e));
       legal = legal;
       each = λ j u e l. ⊎_elim
-          (λ (t : (j ≡ id) × (w ≡ u)). subst (λ (z : View). Fits k (next m (given id visit)) j z) t.1
+          (λ (t : (j ≡ id) × (w ≡ u)). subst (λ (z : View). FitsMachine k (next m (given id visit)) j z) t.1
           record { opened = f.opened; seen = subst (λ vs. Begins (visits_of marks) vs) now (begins_itself (visits_of marks)); met = longer_begins (visits_of v.met) f.met; turn = λ on. absurd (true≢false (sym on)) })
           (λ (t : (j ≢ id) × (get_elem? s.views j ≡ some u)). let g = r.each j u t.1 l in
           record { opened = g.opened; seen = longer_begins (visits_of u.marks) g.seen; met = longer_begins (visits_of u.met) g.met; turn = λ on. absurd (t.0 (some-injective j id (sym (g.turn on).0 ∙ holds))) })
@@ -266,8 +266,8 @@ gives_turn k slots id v b visit new live on is few book legal s r count at fits 
       record {
         events = r.events ++ given id visit ∷ [];
         schedule = schedule_snoc (start k.first) r.events (given id visit) r.schedule (f.turn on).0;
-        shows = subst (λ n. Shows k (after (start k.first) (r.events ++ given id visit ∷ [])) record { words = set s.words 0 n; homes = set s.homes 0 (some (Some b)); views = set s.views id w }) (let e : 2 * m.count + 2 ≡ new = omega arith in e)
-            (subst (λ n. Shows k n record { words = set s.words 0 (2 * m.count + 2); homes = set s.homes 0 (some (Some b)); views = set s.views id w }) (sym (after-snoc (start k.first) r.events (given id visit)))
+        shows = subst (λ n. ShowsMachine k (after (start k.first) (r.events ++ given id visit ∷ [])) record { words = set s.words 0 n; homes = set s.homes 0 (some (Some b)); views = set s.views id w }) (let e : 2 * m.count + 2 ≡ new = omega arith in e)
+            (subst (λ n. ShowsMachine k n record { words = set s.words 0 (2 * m.count + 2); homes = set s.homes 0 (some (Some b)); views = set s.views id w }) (sym (after-snoc (start k.first) r.events (given id visit)))
             (gave k m s id v visit b sh at live (f.turn on).0 all (omega arith) book_now legal_now));
       },
       (λ i. (view v.opened v.claims false (v.marks ++ mark true (sym gained i) ∷ []) v.met, [])),
@@ -287,8 +287,8 @@ parts k id v live s r at =
     let e = sum_by-append (λ u. made_at i u.marks + made_at i u.met) (set s.views id l) (w ∷ []) in
     let z = nothing i in
     omega arith) in
-    let old : Fits k m id l = record { opened = f.opened; seen = f.seen; met = f.met; turn = f.turn } in
-    let new : (j : ℕ) → Fits k m j w = λ j. record { opened = f.opened; seen = subst (λ vs. Begins vs m.visits) (sym (visits-others (visits_of v.marks))) f.seen; met = (m.visits, refl); turn = λ on. absurd (true≢false (sym on)) } in
+    let old : FitsMachine k m id l = record { opened = f.opened; seen = f.seen; met = f.met; turn = f.turn } in
+    let new : (j : ℕ) → FitsMachine k m j w = λ j. record { opened = f.opened; seen = subst (λ vs. Begins vs m.visits) (sym (visits-others (visits_of v.marks))) f.seen; met = (m.visits, refl); turn = λ on. absurd (true≢false (sym on)) } in
     record {
       events = r.events;
       schedule = r.schedule;
@@ -305,10 +305,10 @@ parts k id v live s r at =
         legal = sh.legal;
         each = λ j u e alive. ⊎_elim
             (λ (here : get_elem? (set s.views id l) j ≡ some u). ⊎_elim
-            (λ (t : (j ≡ id) × (l ≡ u)). subst (λ (z : View). Fits k m j z) t.1 (subst (λ i. Fits k m i l) (sym t.0) old))
+            (λ (t : (j ≡ id) × (l ≡ u)). subst (λ (z : View). FitsMachine k m j z) t.1 (subst (λ i. FitsMachine k m i l) (sym t.0) old))
             (λ (t : (j ≢ id) × (get_elem? s.views j ≡ some u)). sh.each j u t.1 alive)
             (at_set s.views id j l u here))
-            (λ (t : w ≡ u). subst (λ (z : View). Fits k m j z) t (new j))
+            (λ (t : w ≡ u). subst (λ (z : View). FitsMachine k m j z) t (new j))
             (at_snoc (set s.views id l) w u j e);
         once = λ i lt. sum i ∙ sh.once i lt;
         no_other = λ i ge. sum i ∙ sh.no_other i ge;
@@ -331,7 +331,7 @@ meets k id v other u live lives met met_too off s r at apart there =
     let mine = ap (λ ms. made_at i ms) met in
     let theirs = ap (λ ms. made_at i ms) met_too in
     omega arith) in
-    let fits : Fits k m id w = record { opened = f.opened; seen = f.seen; met = g.seen; turn = f.turn } in
+    let fits : FitsMachine k m id w = record { opened = f.opened; seen = f.seen; met = g.seen; turn = f.turn } in
     record {
       events = r.events;
       schedule = r.schedule;
@@ -350,7 +350,7 @@ meets k id v other u live lives met met_too off s r at apart there =
         each = λ j z e l. ⊎_elim
             (λ (t : (j ≡ other) × (nobody ≡ z)). absurd (true≢false (sym l ∙ ap (λ y. y.live) (sym t.1))))
             (λ (t : (j ≢ other) × (get_elem? (set s.views id w) j ≡ some z)). ⊎_elim
-            (λ (q : (j ≡ id) × (w ≡ z)). subst (λ (y : View). Fits k m j y) q.1 (subst (λ i. Fits k m i w) (sym q.0) fits))
+            (λ (q : (j ≡ id) × (w ≡ z)). subst (λ (y : View). FitsMachine k m j y) q.1 (subst (λ i. FitsMachine k m i w) (sym q.0) fits))
             (λ (q : (j ≢ id) × (get_elem? s.views j ≡ some z)). sh.each j z q.1 l)
             (at_set s.views id j w z t.1))
             (at_set (set s.views id w) other j nobody z e);
@@ -361,7 +361,7 @@ meets k id v other u live lives met met_too off s r at apart there =
     }
 
 -- no visit has two makers
-apart_of : (k : Opening) (m : Machine) (s : S) (id : ℕ) (v : View) → Shows k m s → get_elem? s.views id ≡ some v → Apart v.marks v.met
+apart_of : (k : Opening) (m : Machine) (s : S) (id : ℕ) (v : View) → ShowsMachine k m s → get_elem? s.views id ≡ some v → Apart v.marks v.met
 apart_of k m s id v r at i =
     let part = sum_part (λ u. made_at i u.marks + made_at i u.met) s.views id v at in
     dite (dec_le (length m.visits) i)
@@ -386,7 +386,7 @@ settles k slots id me live off s r count at fits =
       record {
         events = r.events;
         schedule = r.schedule;
-        shows = subst (λ ws. Shows k m record { words = ws; homes = s.homes; views = set s.views id w }) (sym (set-get_or s.words 0 0))
+        shows = subst (λ ws. ShowsMachine k m record { words = ws; homes = s.homes; views = set s.views id w }) (sym (set-get_or s.words 0 0))
             (seen_set k m s id v marks [] sh at live seen (m.visits, refl) (λ on. absurd (true≢false (sym on ∙ off))) (λ i. (let e = made_at-merged i v.marks v.met apart in omega arith)));
       },
       record {
@@ -437,8 +437,8 @@ opens first o b x holds is book empty legal small =
     some_claim o zero u e gone = let same = ap (λ (z : View). z.claims) (some-injective _ u e) in omega arith
     some_claim o (suc j) u e gone = some-ne-none u (sym e)
 
-    first_view : (o : Opening) (j : ℕ) (u : View) → get_elem? (view o all_claims false [] [] ∷ []) j ≡ some u → Fits o (start o.first) j u
-    first_view o zero u e = subst (λ (z : View). Fits o (start o.first) 0 z) (some-injective _ u e) record { opened = refl; seen = ([], refl); met = ([], refl); turn = λ on. absurd (true≢false (sym on)) }
+    first_view : (o : Opening) (j : ℕ) (u : View) → get_elem? (view o all_claims false [] [] ∷ []) j ≡ some u → FitsMachine o (start o.first) j u
+    first_view o zero u e = subst (λ (z : View). FitsMachine o (start o.first) 0 z) (some-injective _ u e) record { opened = refl; seen = ([], refl); met = ([], refl); turn = λ on. absurd (true≢false (sym on)) }
     first_view o (suc j) u e = absurd (some-ne-none u (sym e))
 
 -- what the closing shows of a pass: the visits that it has seen are among those kept, and where these are not more the book of them is there
@@ -460,7 +460,7 @@ first_word [] n e = absurd (some-ne-none n (sym e))
 first_word (u ∷ us) n e = some-injective u n e
 
 -- who has all claims has the turn, where somebody has it
-nobody_else : (k : Opening) (m : Machine) (s : S) (id : ℕ) (v : View) → Shows k m s → get_elem? s.views id ≡ some v → v.turn ≡ false → all_claims ≤ v.claims → (seat : ℕ) → m.holder ≡ some seat → ⊥
+nobody_else : (k : Opening) (m : Machine) (s : S) (id : ℕ) (v : View) → ShowsMachine k m s → get_elem? s.views id ≡ some v → v.turn ≡ false → all_claims ≤ v.claims → (seat : ℕ) → m.holder ≡ some seat → ⊥
 nobody_else k m s id v r at off whole seat holds =
     let t = (r.held seat holds).2 in
     dite (ℕ_discrete seat id)
@@ -471,7 +471,7 @@ nobody_else k m s id v r at off whole seat holds =
     (λ ne. true≢false (sym t.2 ∙ (others_spent (λ u. u.claims) IsNobody s.views id v at whole r.claims seat t.0 ne t.1).0))
 
 -- and has made all visits
-made_each : (k : Opening) (m : Machine) (s : S) (id : ℕ) (v : View) → Shows k m s → get_elem? s.views id ≡ some v → v.met ≡ [] → all_claims ≤ v.claims → (i : ℕ) → i < length m.visits → made_at i v.marks ≡ 1
+made_each : (k : Opening) (m : Machine) (s : S) (id : ℕ) (v : View) → ShowsMachine k m s → get_elem? s.views id ≡ some v → v.met ≡ [] → all_claims ≤ v.claims → (i : ℕ) → i < length m.visits → made_at i v.marks ≡ 1
 made_each k m s id v r at met whole i lt =
     let nothing : (j : ℕ) (u : View) → j ≢ id → get_elem? s.views j ≡ some u → made_at i u.marks + made_at i u.met ≡ 0 =
     λ j u ne there. (

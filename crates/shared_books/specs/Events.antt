@@ -63,9 +63,9 @@ taken_by s seat v between = record {
 
 -- the state after a seat gave the turn back with a visit: the word is one more, and the book is in
 -- the slot
-abbrev pub given_by : State (Option Boxed) View → ℕ → View → List Entry → Boxed
+abbrev pub given_back_by : State (Option Boxed) View → ℕ → View → List Entry → Boxed
     → State (Option Boxed) View
-given_by s seat v visit book = record {
+given_back_by s seat v visit book = record {
   words = slice_set s.words 0 (slice_index s.words 0 + 1);
   homes = slice_set s.homes 0 (some (Some book));
   views = slice_set s.views seat (view v.opened v.claims false (v.marks ++ mark true visit ∷ []) v.met);
@@ -89,4 +89,4 @@ GivesAreEvents =
     → (visit : List Entry) (book : Boxed)
     → book.value ≡ book_after k (visits_of v.marks ++ visit ∷ [])
     → IsLegal k.book.value.table (joined (visits_of v.marks ++ visit ∷ []))
-    → (u : IsTurn k (given_by s seat v visit book)) × (u.events ≡ t.events ++ given seat visit ∷ [])
+    → (u : IsTurn k (given_back_by s seat v visit book)) × (u.events ≡ t.events ++ given seat visit ∷ [])

@@ -36,7 +36,7 @@ makers i views = sum_by (λ v. made_at i v.marks + made_at i v.met) views
 
 -- a seat's view fits the machine: what it has seen begins the visits, and who has the turn is the
 -- holder and has seen them all
-pub record Fits (k : Opening) (m : Machine) (seat : ℕ) (v : View) : Type 0 where
+pub record FitsMachine (k : Opening) (m : Machine) (seat : ℕ) (v : View) : Type 0 where
   pub opened : v.opened ≡ k
   pub seen : Begins (visits_of v.marks) m.visits
   pub met : Begins (visits_of v.met) m.visits
@@ -57,7 +57,7 @@ abbrev pub IsNobody : View → Type 0
 IsNobody v = (v.live ≡ false) × (v.marks ≡ []) × (v.met ≡ [])
 
 -- word, slot and views show this state of the machine, and no claim is there twice
-pub record Shows (k : Opening) (m : Machine) (s : State (Option Boxed) View) : Type 0 where
+pub record ShowsMachine (k : Opening) (m : Machine) (s : State (Option Boxed) View) : Type 0 where
   pub one_word : length s.words ≡ 1
   pub one_slot : length s.homes ≡ 1
   pub most : slice_index s.words 0 ≤ 2 ^ 63
@@ -67,7 +67,7 @@ pub record Shows (k : Opening) (m : Machine) (s : State (Option Boxed) View) : T
       × (get_elem? s.homes 0 ≡ some none) × HoldsTurn s seat
   pub legal : IsLegal k.book.value.table (joined m.visits)
   pub each : (seat : ℕ) (v : View) → get_elem? s.views seat ≡ some v → v.live ≡ true
-      → Fits k m seat v
+      → FitsMachine k m seat v
   pub once : (i : ℕ) → i < length m.visits → makers i s.views ≡ 1
   pub no_other : (i : ℕ) → length m.visits ≤ i → makers i s.views ≡ 0
   pub claims : AreClaims (λ v. v.claims) IsNobody s.views
@@ -76,4 +76,4 @@ pub record Shows (k : Opening) (m : Machine) (s : State (Option Boxed) View) : T
 pub record IsTurn (k : Opening) (s : State (Option Boxed) View) : Type 0 where
   pub events : List Event
   pub schedule : IsSchedule (start k.first) events
-  pub shows : Shows k (after (start k.first) events) s
+  pub shows : ShowsMachine k (after (start k.first) events) s

@@ -64,7 +64,7 @@ pub record HasSeen (before : Seat) (found : ℕ) (after : Seat) : Type 0 where
 
 -- the turn was taken: the pass has seen all visits that are counted, and the book of these visits
 -- is out with it
-pub record HasTaken (s : Step (Option Boxed)) (before after : Seat) : Type 0 where
+pub record HasTakenBook (s : Step (Option Boxed)) (before after : Seat) : Type 0 where
   pub between : List (List Entry)
   pub view_is : after.0 ≡ view before.0.opened before.0.claims true (before.0.marks ++ others between) before.0.met
   pub word : s.first ≡ 2 * (before.0.opened.first + length (before.0.marks ++ others between))
@@ -78,7 +78,7 @@ pub record HasTaken (s : Step (Option Boxed)) (before after : Seat) : Type 0 whe
 -- a try to take the turn
 pub record HasTriedTurn (s : Step (Option Boxed)) (before : Seat) (found : ℕ) (after : Seat)
     : Type 0 where
-  pub won : found ≡ s.first → HasTaken s before after
+  pub won : found ≡ s.first → HasTakenBook s before after
   pub lost : found ≢ s.first → HasSeen before found after
 
 -- the turn is given back with the book, and the visit is what the book gained

@@ -14,7 +14,7 @@ use Rattle.toml.specs.Data.{get_item, get_member}
 use Rattle.fare_table.proofs.PayLemmas.{member-here, member-later, same_bytes}
 use Rattle.fare_table.specs.Faults.{items_of, member_at, members_at, members_of}
 use Rattle.table_facts.specs.Ignored.{IsIgnored, ignored_from, ignored_in, ignored_of}
-use Rattle.table_facts.specs.Ignored.{ignored_of_classes, ignored_of_ranges, is_known, where_of}
+use Rattle.table_facts.specs.Ignored.{ignored_of_classes, ignored_of_ranges, has_meaning, where_of}
 use Rattle.table_facts.specs.declared.holder.Holder.{Holder}
 use Rattle.table_facts.specs.declared.holder.Holder.TheVariants.{Top, Class, Range}
 
@@ -26,7 +26,7 @@ Told = Holder × List ℕ
 pub record IsNew (holder : Holder) (keys : Members) (told : Told) : Type 0 where
   pub here : told.0 ≡ holder
   pub stands : IsSome (get_member told.1 keys)
-  pub no_meaning : is_known holder told.1 ≡ false
+  pub no_meaning : has_meaning holder told.1 ≡ false
 
 stands_here : (key k : List ℕ) (v : Data) (more : Members) → key ≡ k
     → IsSome (get_member key (member k v more))
@@ -56,31 +56,31 @@ pub told_from : (h : Holder) (ms : Members) (found : List Told) (x : Told)
     → Contains (ignored_from h found ms) x → Contains found x ⊎ IsNew h ms x
 told_from h no_members found x has = inl has
 told_from h (member k v more) found x has =
-    by_known (is_known h k) refl (told_from h more found x)
+    by_known (has_meaning h k) refl (told_from h more found x)
     (told_from h more (found ++ (h, k) ∷ []) x)
   where
     if_known : Contains found x ⊎ IsNew h more x → Contains found x ⊎ IsNew h (member k v more) x
     if_known (inl c) = inl c
     if_known (inr new) = inr (later h k v more x new)
 
-    is_it : is_known h k ≡ false → (h, k) ≡ x → IsNew h (member k v more) x
+    is_it : has_meaning h k ≡ false → (h, k) ≡ x → IsNew h (member k v more) x
     is_it is same = record {
       here = sym (ap (λ (y : Told). y.0) same);
       stands = stands_here x.1 k v more (sym (ap (λ (y : Told). y.1) same));
-      no_meaning = ap (λ (y : Told). is_known h y.1) (sym same) ∙ is;
+      no_meaning = ap (λ (y : Told). has_meaning h y.1) (sym same) ∙ is;
     }
 
-    by_push : is_known h k ≡ false → Contains found x ⊎ ((h, k) ≡ x) → Contains found x
+    by_push : has_meaning h k ≡ false → Contains found x ⊎ ((h, k) ≡ x) → Contains found x
         ⊎ IsNew h (member k v more) x
     by_push is (inl c) = inl c
     by_push is (inr same) = inr (is_it is same)
 
-    if_new : is_known h k ≡ false → Contains (found ++ (h, k) ∷ []) x ⊎ IsNew h more x
+    if_new : has_meaning h k ≡ false → Contains (found ++ (h, k) ∷ []) x ⊎ IsNew h more x
         → Contains found x ⊎ IsNew h (member k v more) x
     if_new is (inl c) = by_push is (Contains-push_cases found (h, k) x c)
     if_new is (inr new) = inr (later h k v more x new)
 
-    by_known : (b : Bool) → is_known h k ≡ b
+    by_known : (b : Bool) → has_meaning h k ≡ b
         → (Contains (ignored_from h found more) x → Contains found x ⊎ IsNew h more x)
         → (Contains (ignored_from h (found ++ (h, k) ∷ []) more) x
         → Contains (found ++ (h, k) ∷ []) x ⊎ IsNew h more x) → Contains found x
@@ -107,19 +107,19 @@ pub told_to : (h : Holder) (ms : Members) (found : List Told) (x : Told) → Con
 told_to h no_members found x (inl has) = has
 told_to h no_members found x (inr new) = absurd (false≢true new.stands)
 told_to h (member k v more) found x is =
-    by_known (is_known h k) refl (told_to h more found x) (told_to h more (found ++ (h, k) ∷ []) x)
+    by_known (has_meaning h k) refl (told_to h more found x) (told_to h more (found ++ (h, k) ∷ []) x)
     is
   where
-    back : (b : Bool) → is_known h k ≡ b
+    back : (b : Bool) → has_meaning h k ≡ b
         → Contains (ignored_from h (if b then found else found ++ (h, k) ∷ []) more) x
         → Contains (ignored_from h found (member k v more)) x
     back b is_b c = subst (λ (a : Bool).
         Contains (ignored_from h (if a then found else found ++ (h, k) ∷ []) more) x) (sym is_b) c
 
-    if_known : is_known h k ≡ true → IsNew h (member k v more) x → (b : Bool)
+    if_known : has_meaning h k ≡ true → IsNew h (member k v more) x → (b : Bool)
         → is_eq (slice_cmp nat_cmp x.1 k) ≡ b → IsNew h more x
     if_known is_b new true same =
-        absurd (false≢true (sym new.no_meaning ∙ ap (λ key. is_known h key) (same_bytes x.1 k same)
+        absurd (false≢true (sym new.no_meaning ∙ ap (λ key. has_meaning h key) (same_bytes x.1 k same)
         ∙ is_b))
     if_known is_b new false other = others h k v more x other new
 
@@ -132,7 +132,7 @@ told_to h (member k v more) found x is =
         (Contains-push found (h, k)))
     if_new new false other = inr (others h k v more x other new)
 
-    by_known : (b : Bool) → is_known h k ≡ b
+    by_known : (b : Bool) → has_meaning h k ≡ b
         → (Contains found x ⊎ IsNew h more x → Contains (ignored_from h found more) x)
         → (Contains (found ++ (h, k) ∷ []) x ⊎ IsNew h more x
         → Contains (ignored_from h (found ++ (h, k) ∷ []) more) x) → Contains found x
@@ -257,7 +257,7 @@ as_ignored : (tree : Members) (h : Holder) (x : Told) → IsNew h (members_at (w
 as_ignored tree h x new = record {
   stands = subst (λ (g : Holder). IsSome (get_member x.1 (members_at (where_of g) tree)))
       (sym new.here) new.stands;
-  no_meaning = subst (λ (g : Holder). is_known g x.1 ≡ false) (sym new.here) new.no_meaning;
+  no_meaning = subst (λ (g : Holder). has_meaning g x.1 ≡ false) (sym new.here) new.no_meaning;
 }
 
 pub ignored_told : (tree : Members) (x : Told) → Contains (ignored_in tree) x → IsIgnored tree x

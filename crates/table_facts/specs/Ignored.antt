@@ -9,23 +9,23 @@ use Rattle.table_facts.specs.declared.holder.Holder.{Holder}
 use Rattle.table_facts.specs.declared.holder.Holder.TheVariants.{Top, Class, Range}
 
 -- the key has a meaning where it stands
-abbrev pub is_known : Holder → List ℕ → Bool
-is_known Top key =
+abbrev pub has_meaning : Holder → List ℕ → Bool
+has_meaning Top key =
     same_name key (codes "modes") || same_name key (codes "transfers")
     || same_name key (codes "classes") || same_name key (codes "default_class")
     || same_name key (codes "validators") || same_name key (codes "riders")
     || same_name key (codes "zone")
-is_known (Class place) key =
+has_meaning (Class place) key =
     same_name key (codes "fare") || same_name key (codes "rides")
     || same_name key (codes "ceiling")
-is_known (Range place) key =
+has_meaning (Range place) key =
     same_name key (codes "first") || same_name key (codes "last") || same_name key (codes "mode")
 
 -- the keys found, and those of the members that have no meaning there
 abbrev pub ignored_from : Holder → List (Holder × List ℕ) → Members → List (Holder × List ℕ)
 ignored_from holder found no_members = found
 ignored_from holder found (member key value more) =
-    ignored_from holder (if is_known holder key then found else found ++ (holder, key) ∷ []) more
+    ignored_from holder (if has_meaning holder key then found else found ++ (holder, key) ∷ []) more
 
 -- the keys found, and those of the value, where it is a table
 abbrev pub ignored_of : Holder → List (Holder × List ℕ) → Option Members → List (Holder × List ℕ)
@@ -62,4 +62,4 @@ where_of (Range place) = range place
 -- the text has the key where the holder says, and it has no meaning there
 pub record IsIgnored (tree : Members) (told : Holder × List ℕ) : Type 0 where
   pub stands : IsSome (get_member told.1 (members_at (where_of told.0) tree))
-  pub no_meaning : is_known told.0 told.1 ≡ false
+  pub no_meaning : has_meaning told.0 told.1 ≡ false

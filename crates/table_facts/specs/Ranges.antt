@@ -8,8 +8,8 @@ use Rattle.fare_table.specs.Fares.{Fares, mode_at}
 use Rattle.fare_table.specs.Faults.{items_of, passes}
 
 -- no range of the table has the validator
-abbrev pub is_unknown : Fares → ℕ → Bool
-is_unknown fares validator = is_none (mode_at fares validator)
+abbrev pub is_in_no_range : Fares → ℕ → Bool
+is_in_no_range fares validator = is_none (mode_at fares validator)
 
 -- the number, where a validator can have it
 abbrev pub small : ℤ → Option ℕ
@@ -18,8 +18,8 @@ small number =
     else None
 
 -- the validator's number at a key
-abbrev pub number_at : List ℕ → Members → Option ℕ
-number_at key entry = option_and_then small (option_and_then as_integer (get_member key entry))
+abbrev pub validator_at : List ℕ → Members → Option ℕ
+validator_at key entry = option_and_then small (option_and_then as_integer (get_member key entry))
 
 -- the validator lies from the one number to the other
 abbrev pub is_from_to : ℕ → ℕ → ℕ → Bool
@@ -29,7 +29,7 @@ is_from_to first last validator = nat_le first validator && nat_le validator las
 abbrev pub is_unused : List ℕ → Data → Bool
 is_unused seen value =
     passes (λ entry. passes (λ first. passes (λ last. not (list_any (is_from_to first last) seen))
-    (number_at (codes "last") entry)) (number_at (codes "first") entry)) (as_table value)
+    (validator_at (codes "last") entry)) (validator_at (codes "first") entry)) (as_table value)
 
 -- the places found, and those of the entries from this place on that no validator seen is in
 abbrev pub unused_from : List ℕ → ℕ → List ℕ → Items → List ℕ

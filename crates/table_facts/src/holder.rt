@@ -15,8 +15,8 @@ pub enum Holder {
 }
 
 /// Whether the key has a meaning where it stands.
-pub(crate) fn is_known(holder: Holder, key: &str) -> bool
-    ensures { result ≡ spec.is_known holder key.now }
+pub(crate) fn has_meaning(holder: Holder, key: &str) -> bool
+    ensures { result ≡ spec.has_meaning holder key.now }
 {
     match holder {
         Holder::Top => {

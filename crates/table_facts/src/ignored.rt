@@ -6,7 +6,7 @@ ghost use Rattle.toml.specs.Data.{as_table, get_member};
 ghost use Rattle.fare_table.specs.Faults.{items_of, members_of};
 ghost use Rattle.table_facts.specs.Ignored as spec;
 
-use crate::holder::{Holder, is_known};
+use crate::holder::{Holder, has_meaning};
 use crate::members::{entries_at, keys_at};
 use fare_table::NoMemory;
 use std::alloc::Global;
@@ -25,7 +25,7 @@ fn add_ignored<'a>(
 {
     for (key, _value) in keys {
         let key = key.as_str();
-        if !is_known(holder, key) {
+        if !has_meaning(holder, key) {
             found.push((holder, key))?;
         }
     }

@@ -40,8 +40,8 @@ fn is_small(number: i64) -> bool
 }
 
 /// The number of a validator at a key.
-pub(crate) fn number_at(entry: &Table, key: &str) -> Option<u32>
-    ensures { result ≡ spec.number_at key.now (table_view entry.now) }
+pub(crate) fn validator_at(entry: &Table, key: &str) -> Option<u32>
+    ensures { result ≡ spec.validator_at key.now (table_view entry.now) }
 {
     let number = at(entry, key)?.as_integer()?;
     if is_small(number) {

@@ -4,7 +4,7 @@ ghost use Rattle.std.specs.Prelude.{◌≡◌, [], IfOk};
 ghost use Rattle.toml.specs.View.{array_view, table_view, view};
 ghost use Rattle.table_facts.specs.Ranges as spec;
 
-use crate::members::{entries_at, number_at};
+use crate::members::{entries_at, validator_at};
 use crate::seen::Seen;
 use fare_table::NoMemory;
 use std::alloc::Global;
@@ -18,10 +18,10 @@ fn is_unused(seen: &Seen, value: &Value) -> bool
     let Some(entry) = value.as_table() else {
         return false;
     };
-    let Some(first) = number_at(entry, "first") else {
+    let Some(first) = validator_at(entry, "first") else {
         return false;
     };
-    let Some(last) = number_at(entry, "last") else {
+    let Some(last) = validator_at(entry, "last") else {
         return false;
     };
     !seen.has_between(first, last)

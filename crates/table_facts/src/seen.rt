@@ -2,7 +2,7 @@
 
 ghost use Rattle.std.specs.Prelude.{◌≡◌, [], ℕ, ◌||◌, IfOk, OnOk};
 ghost use Rattle.std.specs.List.{filter, list_any};
-ghost use Rattle.table_facts.specs.Ranges.{is_from_to, is_unknown};
+ghost use Rattle.table_facts.specs.Ranges.{is_from_to, is_in_no_range};
 ghost use Rattle.table_facts.specs.Seen.{Adds, has_tap_at, is_among};
 
 use fare_table::{FareTable, NoMemory};
@@ -29,7 +29,7 @@ impl Model for Seen {
 impl Seen {
     ghost use Rattle.std.specs.Prelude.{◌≡◌, [], IfOk, OnOk, ◌≤◌};
     ghost use Rattle.std.specs.List.{filter, list_any};
-    ghost use Rattle.table_facts.specs.Ranges.{is_from_to, is_unknown};
+    ghost use Rattle.table_facts.specs.Ranges.{is_from_to, is_in_no_range};
     ghost use Rattle.table_facts.specs.Seen.{Adds};
 
     /// No validator yet.
@@ -50,7 +50,7 @@ impl Seen {
 
     /// Those that no range of the table has.
     pub fn unknown(&self, alloc: Global, table: &FareTable) -> Result<Vec<u32>, NoMemory>
-        ensures { IfOk result (λ v. v.items ≡ filter (is_unknown table.now) self.now) }
+        ensures { IfOk result (λ v. v.items ≡ filter (is_in_no_range table.now) self.now) }
     {
         let mut found = Vec::new(alloc);
         for number in self.numbers.iter() {

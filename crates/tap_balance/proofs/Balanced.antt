@@ -7,7 +7,7 @@ use Rattle.std.specs.Option.{unwrap_or}
 use Rattle.std.specs.List.Sorted.{IsPermutation}
 use Rattle.std.specs.Ordering.{is_eq}
 use Rattle.tap_views.specs.declared.encoder.TapFields.{TapFields}
-use Rattle.tap_balance.specs.Balances.{key_cmp, key_of, left_at, times}
+use Rattle.tap_balance.specs.Balances.{key_cmp, key_of, left_at, copies_among}
 use Rattle.tap_balance.specs.declared.balance.Key.{Key}
 use Rattle.tap_balance.proofs.Keys.{key_exact}
 use Rattle.tap_balance.proofs.Times.{one, one_self, permutation_of_times, times_push}
@@ -16,8 +16,8 @@ use Rattle.tap_balance.proofs.Times.{one, one_self, permutation_of_times, times_
 abbrev pub Balances : BTreeMap Key ℕ → Option TapFields → List TapFields → List TapFields → Type 0
 Balances left surplus posted struck =
     MatchOption surplus ((tap : TapFields)
-    → times tap posted ≡ left_at left (key_of tap) + times tap struck)
-    (λ tap. times tap posted < times tap struck)
+    → copies_among tap posted ≡ left_at left (key_of tap) + copies_among tap struck)
+    (λ tap. copies_among tap posted < copies_among tap struck)
 
 -- in the one map one more is left of the tap than in the other
 abbrev pub HasOneMore : BTreeMap Key ℕ → BTreeMap Key ℕ → Key → Type 0
@@ -45,7 +45,7 @@ struck_out old new posted struck tap more is = λ t.
 
 pub none_left : (left : BTreeMap Key ℕ) (posted struck : List TapFields) (tap : TapFields)
     → left_at left (key_of tap) ≡ 0
-    → Balances left None posted struck → times tap posted < times tap (struck ++ tap ∷ [])
+    → Balances left None posted struck → copies_among tap posted < copies_among tap (struck ++ tap ∷ [])
 none_left left posted struck tap none is =
     let push = times_push tap struck tap in
     let self = one_self tap in
@@ -67,7 +67,7 @@ all_struck left posted struck none is =
 
 pub some_left : (left : BTreeMap Key ℕ) (posted struck : List TapFields) (tap : TapFields)
     (key : Key) → key_of tap ≡ key → 0 < left_at left key
-    → Balances left None posted struck → times tap struck < times tap posted
+    → Balances left None posted struck → copies_among tap struck < copies_among tap posted
 some_left left posted struck tap key same some is =
     let here = subst (λ (k : Key). 0 < left_at left k) (sym same) some in
     let before = is tap in

@@ -7,7 +7,7 @@ use Rattle.std.proofs.lemmas.List.Sorted.{IsPermutation-refl, IsPermutation-sym}
 use Rattle.std.proofs.lemmas.List.Sorted.{IsPermutation-trans, sum_by-IsPermutation}
 use Rattle.std.proofs.lemmas.List.Sums.{sum_by-append, sum_by-cons, sum_by_push}
 use Rattle.tap_views.specs.declared.encoder.TapFields.{TapFields}
-use Rattle.tap_balance.specs.Balances.{is_same, times}
+use Rattle.tap_balance.specs.Balances.{is_same, copies_among}
 use Rattle.tap_balance.proofs.Keys.{same_exact, same_self}
 
 -- 1 for the tap
@@ -18,7 +18,7 @@ pub one_self : (tap : TapFields) → one tap tap ≡ 1
 one_self tap = ap (λ (b : Bool). cond b 1 0) (same_self tap)
 
 pub times_push : (tap : TapFields) (taps : List TapFields) (last : TapFields)
-    → times tap (taps ++ last ∷ []) ≡ times tap taps + one tap last
+    → copies_among tap (taps ++ last ∷ []) ≡ copies_among tap taps + one tap last
 times_push tap taps last = sum_by_push (one tap) taps last
 
 -- a tap that is there, and what stands around it
@@ -27,11 +27,11 @@ record Found (tap : TapFields) (taps : List TapFields) : Type 0 where
   pub back : List TapFields
   pub is : taps ≡ front ++ tap ∷ back
 
-find : (tap : TapFields) (taps : List TapFields) → 0 < times tap taps → Found tap taps
+find : (tap : TapFields) (taps : List TapFields) → 0 < copies_among tap taps → Found tap taps
 find tap [] some = absurd (omega (arith, some))
 find tap (other ∷ taps) some = by_test (is_same other tap) refl (find tap taps)
   where
-    by_test : (b : Bool) → is_same other tap ≡ b → (0 < times tap taps → Found tap taps)
+    by_test : (b : Bool) → is_same other tap ≡ b → (0 < copies_among tap taps → Found tap taps)
         → Found tap (other ∷ taps)
     by_test true e later = record {
       front = [];
@@ -49,11 +49,11 @@ find tap (other ∷ taps) some = by_test (is_same other tap) refl (find tap taps
         }
 
 pub times_permutation : (tap : TapFields) (taps others : List TapFields) → IsPermutation taps others
-    → times tap others ≡ times tap taps
+    → copies_among tap others ≡ copies_among tap taps
 times_permutation tap taps others moved = sum_by-IsPermutation (one tap) taps others moved
 
 pub permutation_of_times : (taps others : List TapFields)
-    → ((tap : TapFields) → times tap taps ≡ times tap others) → IsPermutation taps others
+    → ((tap : TapFields) → copies_among tap taps ≡ copies_among tap others) → IsPermutation taps others
 permutation_of_times [] [] same = IsPermutation-refl []
 permutation_of_times [] (other ∷ others) same =
     absurd (let none = same other in let whole = sum_by-cons (one other) other others in omega
@@ -61,9 +61,9 @@ permutation_of_times [] (other ∷ others) same =
 permutation_of_times (tap ∷ taps) others same =
     let whole = sum_by-cons (one tap) tap taps in
     let there = find tap others (let e = same tap in omega (arith, e, whole, one_self tap)) in
-    let rest : (t : TapFields) → times t taps ≡ times t (there.front ++ there.back) = λ t.
-    let all : times t (tap ∷ taps) ≡ times t (there.front ++ tap ∷ there.back) =
-    same t ∙ ap (times t) there.is in
+    let rest : (t : TapFields) → copies_among t taps ≡ copies_among t (there.front ++ there.back) = λ t.
+    let all : copies_among t (tap ∷ taps) ≡ copies_among t (there.front ++ tap ∷ there.back) =
+    same t ∙ ap (copies_among t) there.is in
     let left = sum_by-cons (one t) tap taps in
     let cut = sum_by-append (one t) there.front (tap ∷ there.back) in
     let right = sum_by-cons (one t) tap there.back in

@@ -40,8 +40,8 @@ abbrev pub is_same : TapFields → TapFields → Bool
 is_same tap other = is_eq (key_cmp (key_of tap) (key_of other))
 
 -- how often the tap is among these
-abbrev pub times : TapFields → List TapFields → ℕ
-times tap taps = count_by (λ other. is_same other tap) taps
+abbrev pub copies_among : TapFields → List TapFields → ℕ
+copies_among tap taps = count_by (λ other. is_same other tap) taps
 
 -- how many are left of the tap of this key
 abbrev pub left_at : BTreeMap Key ℕ → Key → ℕ
@@ -52,12 +52,12 @@ left_at left key = unwrap_or (tree.get key_cmp left key) 0
 abbrev pub IsBalance : Balance → List TapFields → List TapFields → Type 0
 IsBalance balance posted struck =
     MatchOption balance.surplus
-    ((tap : TapFields) → times tap posted ≡ left_at balance.left (key_of tap) + times tap struck)
-    (λ tap. times tap posted < times tap struck)
+    ((tap : TapFields) → copies_among tap posted ≡ left_at balance.left (key_of tap) + copies_among tap struck)
+    (λ tap. copies_among tap posted < copies_among tap struck)
 
 -- the others are the posted taps in some order; or the told tap is more often among the ones, or
 -- among the others
 abbrev pub IsDifference : List TapFields → List TapFields → Option Difference → Type 0
 IsDifference posted others None = IsPermutation posted others
-IsDifference posted others (Some (Missing tap)) = times tap others < times tap posted
-IsDifference posted others (Some (Surplus tap)) = times tap posted < times tap others
+IsDifference posted others (Some (Missing tap)) = copies_among tap others < copies_among tap posted
+IsDifference posted others (Some (Surplus tap)) = copies_among tap posted < copies_among tap others

@@ -1,6 +1,7 @@
 //! The taps of uploads, of which those of the other side are struck out.
 
-ghost use Rattle.std.specs.Prelude.{◌≡◌, ◌+◌, ◌<◌, ◌++◌, ◌∷◌, [], ℕ, List, IfNone, IfSome, OnOk};
+ghost use Rattle.std.specs.Prelude.{◌≡◌, ◌+◌, ◌<◌, ◌++◌, ◌∷◌, [], ℕ};
+ghost use Rattle.std.specs.Prelude.{List, IfNone, IfSome, OnOk};
 ghost use Rattle.std.specs.Prelude.{if◌then◌else◌, false, map, true};
 ghost use Rattle.std.specs.Ordering.{is_eq};
 ghost use Rattle.tap_views.specs.Encoding.{fields_of};

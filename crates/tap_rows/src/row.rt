@@ -1,6 +1,7 @@
 //! One row: read as a tap, and written for one.
 
-ghost use Rattle.std.specs.Prelude.{◌≡◌, ◌++◌, ◌∷◌, ℕ, List, IfErr, IfOk, MatchOption};
+ghost use Rattle.std.specs.Prelude.{◌≡◌, ◌++◌, ◌∷◌, ℕ, List, IfErr, IfOk};
+ghost use Rattle.std.specs.Prelude.{MatchOption};
 ghost use Rattle.tap_rows.specs.Rows.{HasNoComma, IsNoRow, IsRow, IsToken, IsValidator};
 
 use crate::column::Column;

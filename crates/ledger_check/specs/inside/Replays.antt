@@ -4,12 +4,12 @@ use Rattle.fare_table.specs.Fares.{Fares}
 use Rattle.shard_book.specs.Entry.{own}
 use Rattle.shard_book.specs.declared.entry.Entry.{Entry}
 use Rattle.shard_book.specs.History.{IsReplied}
-use Rattle.ledger_check.specs.Ledger.{IsLineAfter}
+use Rattle.ledger_check.specs.Ledger.{IsNextLine}
 use Rattle.ledger_check.specs.declared.turn.Turn.{Turn}
 use Rattle.ledger_check.specs.declared.replay.Replay.{Replay}
 use Rattle.ledger_check.specs.declared.replay.Step.{Step}
 use Rattle.ledger_check.specs.declared.replay.Step.TheVariants.{Legal, Wants, NoLine}
-use Rattle.ledger_check.specs.Replays.{HasRead, IsWanted, IsWrongAfter, StandsAt}
+use Rattle.ledger_check.specs.Replays.{HasRead, IsWanted, IsWrongAfter, StandsForOwn}
 use Rattle.ledger_check.specs.inside.Taps.{TellsTap}
 
 -- the token's next tap was taken: this is its line, and the turn after it
@@ -20,8 +20,8 @@ pub record GoesOn (fares : Fares) (turn : Turn) (entries : List Entry) (validato
   pub of_validator : entry.validator ≡ validator
   pub of_moment : entry.moment ≡ moment
   pub replied : IsReplied fares entries entry
-  pub shown : IsLineAfter fares (own entry.token entries) entry line
-  pub stands : StandsAt fares after (entries ++ entry ∷ [])
+  pub shown : IsNextLine fares (own entry.token entries) entry line
+  pub stands : StandsForOwn fares after (entries ++ entry ∷ [])
   pub some : 0 < after.number
 
 -- what a step found of the next line

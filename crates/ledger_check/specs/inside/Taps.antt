@@ -22,6 +22,6 @@ TellsTap fares line tap =
     → IsLedgerLine fares entry.token number entry why line → IsOf tap entry
 
 -- the tap, with the bytes of its token
-abbrev pub fields_in : Tap → TapFields
-fields_in tap =
+abbrev pub tap_fields : Tap → TapFields
+tap_fields tap =
     record { token = bytes_of tap.token; validator = tap.validator; moment = tap.moment }

@@ -29,9 +29,9 @@ no_entry = record {
 }
 
 -- the entry at a spot
-unfoldable pub entry_of : List Book → Spot → Entry
-entry_of books spot = unwrap_or (entry_in books (book_at spot) (place_at spot)) no_entry
+unfoldable pub entry_at_spot : List Book → Spot → Entry
+entry_at_spot books spot = unwrap_or (entry_in books (book_at spot) (place_at spot)) no_entry
 
 -- the entries at the spots
 abbrev pub seen : List Book → List Spot → List Entry
-seen books spots = map (entry_of books) spots
+seen books spots = map (entry_at_spot books) spots

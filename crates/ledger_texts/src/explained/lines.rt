@@ -1,6 +1,7 @@
 //! The lines of a token's entries, each with its reason.
 
-ghost use Rattle.std.specs.Prelude.{◌≡◌, ◌<◌, ◌++◌, List, [], ℕ, OnOk, length, string_bytes};
+ghost use Rattle.std.specs.Prelude.{◌≡◌, ◌<◌, ◌++◌, List, [], ℕ, OnOk, length};
+ghost use Rattle.std.specs.Prelude.{string_bytes};
 ghost use Rattle.std.specs.Option.{ForSome};
 ghost use Rattle.reason_texts.specs.Why.{HasModeOf};
 ghost use Rattle.ledger_texts.specs.Explained.{AreExplainedAfter, IsExplainedLine, entry_words};

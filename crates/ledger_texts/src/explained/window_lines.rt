@@ -5,7 +5,7 @@ ghost use Rattle.account_rule.specs.Rules.{rules_of};
 ghost use Rattle.shard_book.specs.Entry.{tap_of};
 ghost use Rattle.shard_book.specs.Token.{bytes_of};
 ghost use Rattle.ledger_texts.specs.Explained.{AreEarlierLines, AreWindowLines, IsLastLine};
-ghost use Rattle.ledger_texts.specs.Explained.{IsWindowLine, window_words};
+ghost use Rattle.ledger_texts.specs.Explained.{IsExplainedWindow, window_words};
 
 use super::windows::windows_of;
 use account_rule::WindowView;
@@ -31,7 +31,7 @@ fn write_line(
     word: &str,
     window: WindowView,
 ) -> Result<(), AllocError>
-    ensures { OnOk result ((line : List ℕ) × IsWindowLine clock.now word.now window line
+    ensures { OnOk result ((line : List ℕ) × IsExplainedWindow clock.now word.now window line
         × (string_bytes text.new ≡ string_bytes text.old ++ line)) }
 {
     text.push_str(word)?;

@@ -16,7 +16,7 @@ pub record IsFree (me : Seat) : Type 0 where
   pub carries : me.1 ≡ []
 
 -- the seat has seen visits of others more, and all else is as it was
-pub record GoesOn (before after : Seat) : Type 0 where
+pub record SeesMore (before after : Seat) : Type 0 where
   pub between : List (List Entry)
   pub view_is : after.0 ≡ view before.0.opened before.0.claims before.0.turn
       (before.0.marks ++ others between) before.0.met
@@ -36,7 +36,7 @@ pub record HasBookOut (before after : Seat) (number : ℕ) (book : Book) : Type 
 
 -- all visits are counted that a book takes
 pub record FindsFull (before after : Seat) : Type 0 where
-  pub goes_on : GoesOn before after
+  pub goes_on : SeesMore before after
   pub legal : IsLegal after.0.opened.book.value.table (joined (visits_of after.0.marks))
   pub count : after.0.opened.first + length after.0.marks ≡ 2 ^ 62
 

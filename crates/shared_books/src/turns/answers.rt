@@ -6,7 +6,9 @@ use thiserror::Error;
 /// A visit that was made: its number, and how its run was posted.
 #[derive(Clone, Copy, Debug)]
 pub struct Visit {
+    /// The visit's number.
     pub number: u64,
+    /// Whether the run was posted whole.
     pub how: RunEnd,
 }
 
@@ -14,7 +16,9 @@ pub struct Visit {
 /// before it.
 #[derive(Drop)]
 pub struct Readout {
+    /// The number of the empty visit.
     pub number: u64,
+    /// The token's statement.
     pub statement: Statement,
 }
 
@@ -26,8 +30,10 @@ pub struct Full;
 /// Why a read has no statement.
 #[derive(Clone, Copy, Debug, Error)]
 pub enum ReadFault {
+    /// The book takes no more visits.
     #[error("the book takes no more visits")]
     Full,
+    /// A growth of memory was refused.
     #[error("out of memory")]
     NoMemory,
 }
@@ -36,7 +42,9 @@ pub enum ReadFault {
 #[derive(Clone, Copy, Debug, Error)]
 #[error("made {held} of {kept} visits")]
 pub struct Missing {
+    /// How many visits the pass made.
     pub held: u64,
+    /// How many were taken.
     pub kept: u64,
 }
 
@@ -53,9 +61,9 @@ impl From<Full> for ReadFault {
 
 impl From<NoMemory> for ReadFault {
     ghost use Rattle.std.specs.Prelude.{◌≡◌};
-    ghost use Rattle.shared_books.specs.declared.turns.answers.ReadFault.TheVariants.{NoMemory as no_memory};
+    ghost use Rattle.shared_books.specs.declared.turns.answers.ReadFault.TheVariants.{NoMemory};
 
-    ghost from_gives = { λ _ fault. fault ≡ no_memory };
+    ghost from_gives = { λ _ fault. fault ≡ NoMemory };
 
     fn from(_: NoMemory) -> ReadFault {
         ReadFault::NoMemory

@@ -10,25 +10,33 @@ pub type Slot = Option<Box<ShardBook>>;
 /// What a shared book was opened with.
 #[derive(Drop)]
 pub struct Opening {
+    /// The number of the first visit.
     pub first: u64,
+    /// The book as it was then, without entries.
     pub book: Snapshot<ShardBook>,
 }
 
 /// A visit that a pass has seen, and whether the pass made it. No value of it is made.
 pub struct Mark {
+    /// Whether the pass made the visit.
     pub mine: bool,
+    /// The entries that the visit appended.
     pub visit: LinkedList<Entry>,
 }
 
 /// What a pass knows. No value of it is made.
 pub struct View {
-    // whether the pass was not joined into another
+    /// Whether the pass was not joined into another.
     pub live: bool,
+    /// What the book was opened with.
     pub opened: Opening,
+    /// The claims that the pass has.
     pub claims: u64,
+    /// Whether the pass has the turn.
     pub turn: bool,
+    /// The visits that the pass has seen, by their numbers.
     pub marks: LinkedList<Mark>,
-    // the marks of a pass that is being joined into this one
+    /// The marks of a pass that is being joined into this one.
     pub met: LinkedList<Mark>,
 }
 

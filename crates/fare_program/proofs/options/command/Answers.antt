@@ -1,14 +1,15 @@
-use Rattle.std.proofs.Common.{◌∙◌, ap, ap₂}
+use Rattle.std.proofs.Common.{◌∙◌, ap, ap₂, true}
 use Rattle.std.proofs.lemmas.Result.{IfOk-weaker}
 use Rattle.clap.specs.Words.{with_rule}
-use Rattle.clap.specs.Simple.{app_of_fields}
+use Rattle.clap.specs.Simple.{Shape, app_of_fields, on_top}
 use Rattle.fare_program.specs.Options.{program}
 use Rattle.fare_program.proofs.options.command.Goals as goal
 
 pub returns : goal.returns
 unfolding program
 returns c =
-    let named = ap app_of_fields c.after_help.ensures ∙ ap app_of_fields c.about.ensures ∙ c.new.ensures.app in
+    let named = ap app_of_fields c.after_help.ensures ∙ ap app_of_fields c.about.ensures ∙ ap app_of_fields c.version.ensures
+    ∙ ap (on_top (λ (s : Shape). record s { has_version = true })) c.new.ensures.app in
     let one = c.in_ok-arg.ensures.shape c.table_arg-table.ensures.local ∙ ap₂ with_rule named c.table_arg-table.ensures.rule in
     let two = c.in_ok-arg-2.ensures.shape c.list_arg-list.ensures.local ∙ ap₂ with_rule one c.list_arg-list.ensures.rule in
     let three = c.in_ok-arg-3.ensures.shape c.workers_arg-workers.ensures.local ∙ ap₂ with_rule two c.workers_arg-workers.ensures.rule in

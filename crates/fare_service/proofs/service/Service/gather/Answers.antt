@@ -1,4 +1,4 @@
-use Rattle.std.proofs.Common.{◌≡◌, ℕ, ◌^◌, ◌≤◌, arith, ◌<◌, List, All, length, map, slice_get, Some, replicate, sym, ◌∙◌, ap, subst}
+use Rattle.std.proofs.Common.{◌≡◌, ℕ, ◌^◌, ◌≤◌, arith, ◌<◌, List, All, length, map, replicate, sym, ◌∙◌, ap, subst}
 use Rattle.std.specs.Prelude.{Result, Ok, Err, IfErr, IsErrAnd}
 use Rattle.std.proofs.lemmas.List.{length-map}
 use Rattle.shard_book.specs.Sums.{sums, sums_of}
@@ -15,6 +15,7 @@ use Rattle.fare_service.specs.Shares.{IsShareOf}
 use Rattle.fare_service.specs.Headline.{HasOutcome}
 use Rattle.fare_service.specs.Adding.{add_all}
 use Rattle.fare_service.proofs.AddingLemmas.{shares_add_up, few_taps}
+use Rattle.fare_service.proofs.EndingLemmas.{full_made}
 use Rattle.fare_service.proofs.GatheredWork.{given_of}
 use Rattle.fare_service.proofs.GatherLemmas.{has_gathered, told_undrawn, undrawn_last, is_outcome, done_within}
 use Rattle.fare_service.proofs.HeadlineLemmas.{headline_of}
@@ -102,6 +103,13 @@ returns-clause-undrawn c =
     c.in_ok-ends.ensures.ends ∙ ap (told_all (replicate (length c.self.inside.uploads.now) Undrawn)) c.as_slice.ensures.value
     ∙ ap (λ n. told_all (replicate n Undrawn) c.args.shares.items) (sym number) in
     told_undrawn service c.args.shares.items all c.close_with.new.closed.items c.in_ok-close_with.ensures.ok c.in_ok-ends.ends.items told (c.in_ok-ends.ensures.number ∙ sym number)
+
+pub returns-clause-full : goal.returns-clause-full
+returns-clause-full c =
+    let service : ServiceView = record { table = c.self.inside.table; drawing = c.self.inside.draw; books = c.self.inside.books.items; uploads = map (λ upload. upload.items) c.self.inside.uploads.now } in
+    let S : ServiceView → Type 0 = λ h. All (IsShareOf h) c.args.shares.items in
+    let all : All (IsShareOf service) c.args.shares.items = subst S (sym c.self.view_is) c.requires in
+    full_made service c.self.invariant c.args.shares.items all c.close_with.new.closed.items c.in_ok-close_with.ensures.ok
 
 -- an error that was handed on
 handed_on : {T E : Type 0} (r : Result T E) (fault : E) (P : E → Type 0) → IsErrAnd r (λ e. e ≡ fault) → P fault → IfErr r P

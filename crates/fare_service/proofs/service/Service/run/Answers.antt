@@ -5,12 +5,18 @@ use Rattle.fare_service.specs.declared.faults.GatherFault.{GatherFault}
 use Rattle.fare_service.specs.Faults.{MissesNothing}
 use Rattle.fare_service.specs.Stopping.{WorkedOn}
 use Rattle.fare_service.proofs.ClaimLemmas.{claims_kept}
+use Rattle.fare_service.proofs.EndingLemmas.{have_stopped}
 use Rattle.fare_service.proofs.GatherLemmas.{has_run}
 use Rattle.fare_service.proofs.service.Service.run.Goals as goal
 
 pub returns-clause-headline : goal.returns-clause-headline
 returns-clause-headline g c =
     has_run c.args.self c.in_ok-shares-2.shares.items c.args.workers c.in_ok-outcome.outcome (c.in_ok-shares-2.ensures.number ∙ c.in_ok-shares.ensures.number) c.in_ok-outcome.ensures.headline
+
+pub returns-clause-stopped : goal.returns-clause-stopped
+returns-clause-stopped g c fresh =
+    have_stopped c.args.self c.in_ok-shares.shares.items c.in_ok-shares-2.shares.items c.args.workers c.in_ok-outcome.outcome (c.in_ok-shares-2.ensures.number ∙ c.in_ok-shares.ensures.number)
+    (c.in_ok-shares.ensures.fresh fresh) c.in_ok-shares-2.ensures.worked c.in_ok-outcome.ensures.headline c.in_ok-outcome.ensures.undrawn c.in_ok-outcome.ensures.full
 
 -- an error that was handed on
 handed_on : {T E : Type 0} (r : Result T E) (fault : E) (P : E → Type 0) → IsErrAnd r (λ e. e ≡ fault) → P fault → IfErr r P

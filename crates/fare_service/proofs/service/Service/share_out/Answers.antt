@@ -3,8 +3,9 @@ use Rattle.std.proofs.lemmas.List.Elements.{All-nil, All-cons, All-append}
 use Rattle.fare_service.specs.Claims.{HaveAllClaims}
 use Rattle.fare_service.specs.ServiceView.{shards_of}
 use Rattle.fare_service.specs.ShareView.{ShareView}
-use Rattle.fare_service.specs.Shares.{IsShareOf}
+use Rattle.fare_service.specs.Shares.{IsFresh, IsShareOf}
 use Rattle.fare_service.proofs.ClaimLemmas.{AreSplit, split_none, split_more, split_all}
+use Rattle.fare_service.proofs.EndingLemmas.{fresh_left}
 use Rattle.fare_service.proofs.service.Service.share_out.Goals as goal
 
 pub loop-init : goal.loop-init
@@ -16,6 +17,7 @@ loop-init c =
       first = c.requires.first;
       each = subst P (sym nothing) (All-nil S);
       number = omega (arith, ap length nothing);
+      fresh = λ f. (f, subst (λ (ss : List ShareView). All IsFresh ss) (sym nothing) (All-nil IsFresh));
       claims = λ whole. subst (λ ss. AreSplit (shards_of c.args.self.now) c.args.first ss) (sym nothing) (split_none (shards_of c.args.self.now) c.args.first whole);
     }
 
@@ -28,6 +30,11 @@ loop-preserved c =
       first = c.share.ensures.kept;
       each = subst P (sym c.in_ok-push.ensures.items) (All-append S c.loop.shares.items (share ∷ []) c.loop.invariant.each (All-cons S share [] c.in_ok-share.ensures.new (All-nil S)));
       number = omega (arith, c.loop.invariant.number, ap length c.in_ok-push.ensures.items, length-append c.loop.shares.items (share ∷ []));
+      fresh = λ f. (
+          let before = c.loop.invariant.fresh f in (
+            subst IsFresh (sym c.in_ok-share.ensures.old) (fresh_left c.loop.first before.0),
+            subst (λ (ss : List ShareView). All IsFresh ss) (sym c.in_ok-push.ensures.items) (All-append IsFresh c.loop.shares.items (share ∷ []) before.1 (All-cons IsFresh share [] c.in_ok-share.ensures.fresh (All-nil IsFresh))),
+          ));
       claims = λ whole. (
           let few : length c.loop.shares.items < 15 = omega (arith, c.loop.invariant.number, c.requires.few) in
           subst (λ ss. AreSplit (shards_of c.args.self.now) c.share.new.old ss) (sym c.in_ok-push.ensures.items)
@@ -42,6 +49,11 @@ returns-clause-shares c =
 
 pub returns-clause-number : goal.returns-clause-number
 returns-clause-number c = omega (arith, ap length c.in_ok-insert.ensures.items, c.loop.invariant.number)
+
+pub returns-clause-fresh : goal.returns-clause-fresh
+returns-clause-fresh c f =
+    let both = c.loop.invariant.fresh f in
+    subst (λ (ss : List ShareView). All IsFresh ss) (sym {A = List ShareView} c.in_ok-insert.ensures.items) (All-cons IsFresh c.loop.first c.loop.shares.items both.0 both.1)
 
 pub returns-clause-claims : goal.returns-clause-claims
 returns-clause-claims c whole =

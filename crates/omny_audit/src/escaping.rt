@@ -1,0 +1,136 @@
+//! Mistakes and faults with their control characters escaped.
+
+use std::io;
+use std::io::Write;
+
+/// How many bytes go out in one write.
+const PIECE_BYTES: usize = 256;
+
+/// The first byte of the control characters U+0080 to U+009F.
+const LEAD: u8 = 0xc2;
+
+/// A writer of mistakes and faults, which repeat words of the command line. A control character
+/// comes out as `\xHH`, so that it does nothing to a terminal. A line feed does too within a line
+/// `fault: ..`, so that no name looks like a line of its own.
+#[derive(Drop)]
+pub struct Escaping<W: Write + Drop> {
+    /// Where the bytes go.
+    to: W,
+    /// Those that wait to go out.
+    piece: [u8; PIECE_BYTES],
+    /// How many these are.
+    used: usize,
+    /// Whether there was a byte.
+    is_begun: bool,
+    /// Whether the first byte is that of `fault: ..`.
+    is_fault: bool,
+    /// Whether the last byte is a line feed that is held back, since it may stand within the line.
+    has_feed: bool,
+    /// Whether the last byte is `LEAD`, and is held back.
+    has_lead: bool,
+}
+
+/// A hexadecimal digit of a number below 16.
+fn digit(number: u8) -> u8 {
+    match number {
+        0..=9 => b'0'.saturating_add(number),
+        _ => b'a'.saturating_add(number.saturating_sub(10)),
+    }
+}
+
+impl<W: Write + Drop> Escaping<W> {
+    /// Nothing is written yet.
+    pub fn new(to: W) -> Escaping<W> {
+        Escaping {
+            to,
+            piece: [0; PIECE_BYTES],
+            used: 0,
+            is_begun: false,
+            is_fault: false,
+            has_feed: false,
+            has_lead: false,
+        }
+    }
+
+    /// Lets the piece go out.
+    fn send(&mut self) -> io::Result<()> {
+        let piece = self.piece.get(..self.used).unwrap_or(&[]);
+        self.used = 0;
+        self.to.write_all(piece)
+    }
+
+    /// Adds a byte as it is.
+    fn push(&mut self, byte: u8) -> io::Result<()> {
+        if self.used >= PIECE_BYTES {
+            self.send()?;
+        }
+        if let Some(place) = self.piece.get_mut(self.used) {
+            *place = byte;
+            self.used = self.used.saturating_add(1);
+        }
+        Ok(())
+    }
+
+    /// Adds a control character.
+    fn push_escaped(&mut self, byte: u8) -> io::Result<()> {
+        self.push(b'\\')?;
+        self.push(b'x')?;
+        self.push(digit(byte >> 4))?;
+        self.push(digit(byte & 15))
+    }
+
+    /// Adds the next byte.
+    fn take(&mut self, byte: u8) -> io::Result<()> {
+        if !self.is_begun {
+            self.is_begun = true;
+            self.is_fault = byte == b'f';
+        }
+        if self.has_feed {
+            self.has_feed = false;
+            self.push_escaped(b'\n')?;
+        }
+        if self.has_lead {
+            self.has_lead = false;
+            if byte >= 0x80 && byte <= 0x9f {
+                return self.push_escaped(byte);
+            }
+            self.push(LEAD)?;
+        }
+        match byte {
+            LEAD => {
+                self.has_lead = true;
+                Ok(())
+            }
+            b'\n' if self.is_fault => {
+                self.has_feed = true;
+                Ok(())
+            }
+            b'\n' => self.push(byte),
+            0..=31 | 127 => self.push_escaped(byte),
+            _ => self.push(byte),
+        }
+    }
+
+    /// Lets all bytes go out. Where that fails nobody can be told.
+    pub fn finish(mut self) {
+        if self.has_feed {
+            let _ = self.push(b'\n');
+        }
+        let _ = self.send();
+        let _ = self.to.flush();
+    }
+}
+
+impl<W: Write + Drop> Write for Escaping<W> {
+    fn write(&mut self, bytes: &[u8]) -> io::Result<usize> {
+        for byte in bytes {
+            self.take(*byte)?;
+        }
+        Ok(bytes.len())
+    }
+
+    fn flush(&mut self) -> io::Result<()> {
+        self.send()?;
+        self.to.flush()
+    }
+}

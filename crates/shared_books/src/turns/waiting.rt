@@ -1,0 +1,95 @@
+//! Waiting for the turn at a shared book: a pass looks at the word for a while, and then sleeps.
+
+use super::SharedBook;
+use super::answers::Full;
+use super::rule::{Slot, View};
+use super::word::FULL;
+use atomic_table::Seat;
+use shard_book::ShardBook;
+use std::hint;
+use std::sync::Wait;
+use std::sync::atomic::Ordering;
+
+/// How often a waiting visit looks at the word before it sleeps. It looks no more where others
+/// sleep already.
+const LOOKS_BEFORE_SLEEP: u32 = 100;
+
+impl SharedBook {
+    ghost use Rattle.std.specs.Prelude.{◌≡◌, IfOk, IfErr};
+    ghost use Rattle.shared_books.specs.inside.Views.{IsFree, HasBookOut, FindsFull};
+
+    /// Takes the turn with the number of the visit and the book. Where nobody has visited since the
+    /// pass did, the number is the expected one, and the word need not be looked at before.
+    pub(super) fn take<R: Wait>(
+        &self,
+        rt: &R,
+        seat: &mut Seat<Slot, View>,
+        expected: u64,
+    ) -> Result<(u64, Box<ShardBook>), Full>
+        requires own { seat.old.table_id ≡ self.now.home }
+        requires free { IsFree seat.old.me }
+        ensures same { seat.new.table_id ≡ seat.old.table_id }
+        ensures taken { IfOk result
+            (λ taken. HasBookOut seat.old.me seat.new.me taken.0 taken.1.value) }
+        ensures full { IfErr result (λ _. FindsFull seat.old.me seat.new.me) }
+    {
+        match self.try_expected(seat, expected) {
+            Some(book) => Ok((expected, book)),
+            None => self.wait_and_take(rt, seat),
+        }
+    }
+
+    /// Waits for the turn, and takes it with the number of the visit and the book.
+    fn wait_and_take<R: Wait>(
+        &self,
+        rt: &R,
+        seat: &mut Seat<Slot, View>,
+    ) -> Result<(u64, Box<ShardBook>), Full>
+        requires own { seat.old.table_id ≡ self.now.home }
+        requires free { IsFree seat.old.me }
+        ensures same { seat.new.table_id ≡ seat.old.table_id }
+        ensures taken { IfOk result
+            (λ taken. HasBookOut seat.old.me seat.new.me taken.0 taken.1.value) }
+        ensures full { IfErr result (λ _. FindsFull seat.old.me seat.new.me) }
+    {
+        let mut slept = false;
+        for _ in rt.forever() {
+            let found = self.look(seat);
+            if found == FULL {
+                // Each sleeper hears of it from the one before.
+                self.table.shared.wake_one(0);
+                return Err(Full);
+            }
+            if found % 2 == 1 {
+                slept |= self.rest(rt, found);
+            } else if let Some(book) = self.try_take(seat, found) {
+                if slept && self.sleepers.load(Ordering::SeqCst) > 0 {
+                    // Others still sleep: who was woken wakes the next with the turn that it gives
+                    // back.
+                    self.asleep.store(true, Ordering::SeqCst);
+                }
+                return Ok((found / 2, book));
+            }
+        }
+        unreachable!()
+    }
+
+    /// Waits until the word is no longer the one that was found, and tells whether it slept. It may
+    /// return sooner.
+    fn rest<R: Wait>(&self, rt: &R, found: u64) -> bool {
+        for _ in 0..LOOKS_BEFORE_SLEEP {
+            if self.table.shared.peek(0) != found {
+                return false;
+            }
+            if self.sleepers.load(Ordering::SeqCst) > 0 {
+                break;
+            }
+            hint::spin_loop();
+        }
+        self.sleepers.fetch_add(1, Ordering::SeqCst);
+        self.asleep.store(true, Ordering::SeqCst);
+        self.table.shared.park(rt, 0, (found & 0xffff_ffff) as u32);
+        self.sleepers.fetch_sub(1, Ordering::SeqCst);
+        true
+    }
+}
