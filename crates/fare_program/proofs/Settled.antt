@@ -2,7 +2,7 @@
 use Rattle.std.proofs.Common.{◌≡◌, ℕ, List, Bool, true, false, Option, None, Some, sym, subst}
 use Rattle.std.specs.Prelude.{MatchBool}
 use Rattle.fare_table.specs.Fares.{Fares}
-use Rattle.shard_book.specs.declared.token.Token.{Token}
+use Rattle.fare_table.specs.declared.token.Token.{Token}
 use Rattle.fare_service.specs.Outcomes.{OutcomeView}
 use Rattle.fare_service.specs.Plain.{IsReportOver}
 use Rattle.fare_service.specs.declared.upload_end.UploadEnd.{UploadEnd}

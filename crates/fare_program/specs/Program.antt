@@ -6,8 +6,8 @@ use Rattle.hex.specs.Hex.{decode_sized}
 use Rattle.fare_table.specs.Fares.{Fares}
 use Rattle.fare_table.specs.Rules.{rules_in}
 use Rattle.fare_table.specs.Zone.{IsZoneOf}
-use Rattle.shard_book.specs.Token.{bytes_of}
-use Rattle.shard_book.specs.declared.token.Token.{Token}
+use Rattle.fare_table.specs.Token.{bytes_of}
+use Rattle.fare_table.specs.declared.token.Token.{Token}
 use Rattle.fare_service.specs.declared.upload_end.UploadEnd.{UploadEnd}
 use Rattle.shard_book.specs.declared.entry.Entry.{Entry}
 use Rattle.fare_service.specs.Headline.{HasRun}

@@ -1,7 +1,7 @@
 //! A run of the service over loaded uploads.
 ghost use Rattle.std.specs.Prelude.{◌≡◌, ℕ, Bool, true, List, Option, IfErr, IfOk, length, map};
 ghost use Rattle.fare_table.specs.Fares.{Fares};
-ghost use Rattle.shard_book.specs.declared.token.Token.{Token};
+ghost use Rattle.fare_table.specs.declared.token.Token.{Token};
 ghost use Rattle.fare_program.specs.Fault.{IsRunFailure, status_of};
 ghost use Rattle.fare_program.specs.Posted.{are_posted, is_posted};
 ghost use Rattle.fare_program.specs.Program.{IsRun, Shows, ShowsPlain};

@@ -11,10 +11,10 @@ use Rattle.tap_views.specs.Layout.{Tap}
 use Rattle.tap_views.specs.Shards.{shard_of_token, run_of}
 use Rattle.shard_book.specs.Book.{Book}
 use Rattle.shard_book.specs.declared.entry.Entry.{Entry}
-use Rattle.shard_book.specs.declared.token.Token.{Token}
+use Rattle.fare_table.specs.declared.token.Token.{Token}
 use Rattle.shard_book.specs.Entry.{is_of, own, IsEntryOf}
 use Rattle.shard_book.specs.Keys.{same_token}
-use Rattle.shard_book.specs.Token.{bytes_of}
+use Rattle.fare_table.specs.Token.{bytes_of}
 use Rattle.shared_books.specs.Drawing.{NoneTwice}
 use Rattle.shared_books.specs.Marks.{joined}
 use Rattle.fare_service.specs.declared.upload_end.UploadEnd.{UploadEnd}

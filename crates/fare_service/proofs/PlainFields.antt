@@ -11,7 +11,7 @@ use Rattle.fare_table.specs.Fares.{Fares}
 use Rattle.tap_views.specs.Layout.{Tap, Layout, Tap1, Tap2, IsTapOf, spelling, magic, shared, IsBatch}
 use Rattle.tap_views.specs.Files.{IsFile}
 use Rattle.shard_book.specs.declared.entry.Entry.{Entry}
-use Rattle.shard_book.specs.Token.{bytes_of}
+use Rattle.fare_table.specs.Token.{bytes_of}
 use Rattle.shard_book.specs.Visits.{AreEntriesOf}
 use Rattle.fare_service.specs.Plain.{AreTapsOf, AreTapsOfEach, IsPlain, answered, unanswered, plain_after, token_of}
 use Rattle.fare_service.proofs.PlainLists.{All-split}

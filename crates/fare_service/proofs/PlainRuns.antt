@@ -8,10 +8,10 @@ use Rattle.std.proofs.lemmas.List.Concat.{flat_map-append}
 use Rattle.tap_views.specs.Layout.{Tap, num}
 use Rattle.tap_views.specs.Shards.{shard_of_token, run_of}
 use Rattle.shard_book.specs.declared.entry.Entry.{Entry}
-use Rattle.shard_book.specs.declared.token.Token.{Token}
+use Rattle.fare_table.specs.declared.token.Token.{Token}
 use Rattle.shard_book.specs.Entry.{IsEntryOf, is_of, own}
 use Rattle.shard_book.specs.Keys.{same_token}
-use Rattle.shard_book.specs.Token.{bytes_of}
+use Rattle.fare_table.specs.Token.{bytes_of}
 use Rattle.shared_books.specs.Marks.{joined}
 use Rattle.fare_service.specs.Plain.{unanswered, token_of, IsNamed}
 use Rattle.fare_service.specs.Runs.{PlacedTap, placed_from, taps_of, of_shard, Run, run, if_any, runs_below, runs_of, Visit, IsEntered, run_of_visit, ArePosted, entries_to}

@@ -7,9 +7,9 @@ use Rattle.hex.specs.Hex.{encode_lower}
 use Rattle.tap_views.specs.declared.fault.LayoutFault.{LayoutFault}
 use Rattle.tap_views.specs.declared.fault.LayoutFault.TheVariants.{Short, Magic, Flags, TooMany}
 use Rattle.tap_views.specs.declared.fault.LayoutFault.TheVariants.{Length, Moment}
-use Rattle.shard_book.specs.Token.{bytes_of}
+use Rattle.fare_table.specs.Token.{bytes_of}
 use Rattle.shard_book.specs.Sums.{Sums}
-use Rattle.shard_book.specs.declared.token.Token.{Token}
+use Rattle.fare_table.specs.declared.token.Token.{Token}
 use Rattle.fare_texts.specs.Counts.{counts, totals_line}
 use Rattle.fare_service.specs.declared.upload_end.UploadEnd.{UploadEnd}
 use Rattle.fare_service.specs.declared.upload_end.UploadEnd.TheVariants.{Posted, Refused, Cut}

@@ -7,7 +7,7 @@ ghost use Rattle.std.specs.List.{flat_map};
 ghost use Rattle.hex.specs.Hex.{encode_lower};
 ghost use Rattle.shard_book.specs.Shown.{token_sum};
 ghost use Rattle.shard_book.specs.Sums.{sums_of};
-ghost use Rattle.shard_book.specs.Token.{bytes_of};
+ghost use Rattle.fare_table.specs.Token.{bytes_of};
 ghost use Rattle.fare_texts.specs.Counts.{live_counts, other_counts};
 ghost use Rattle.fare_service.specs.Text.{token_line};
 ghost use Rattle.fare_service.specs.declared.print_fault.PrintFault.TheVariants.{Write as ForWrite};

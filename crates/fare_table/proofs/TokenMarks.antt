@@ -9,9 +9,9 @@ use Rattle.std.specs.BTreeMap.{is_at}
 use Rattle.std.specs.Map.{keys_of, lookup}
 use Rattle.std.specs.Ordering.{is_eq}
 use Rattle.fare_table.specs.Marks.{is_marked, slot}
-use Rattle.fare_table.specs.inside.Token.{token_cmp}
+use Rattle.fare_table.specs.Token.{token_cmp}
 use Rattle.fare_table.specs.declared.terms.Terms.{Terms}
-use Rattle.fare_table.specs.declared.riders.token.Token.{Token}
+use Rattle.fare_table.specs.declared.token.Token.{Token}
 
 -- a further mark takes none away
 marked-kept : (marks : List Bool) (i j : ℕ) → i < length marks → get_or marks j false ≡ true

@@ -1,6 +1,6 @@
 -- Marks of tokens, each at the slot that the token's last bits tell.
 use Rattle.std.specs.Prelude.{ℕ, ◌-◌, Bool, false, List, bit_and, length, slice_index_or}
-use Rattle.fare_table.specs.declared.riders.token.Token.{Token}
+use Rattle.fare_table.specs.declared.token.Token.{Token}
 
 -- the token's slot among so many, a power of two
 abbrev pub slot : Token → ℕ → ℕ

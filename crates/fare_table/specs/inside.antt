@@ -2,6 +2,5 @@
 pub mod Marks
 pub mod PosixRule
 pub mod Table
-pub mod Token
 pub mod Transfers
 pub mod Validators

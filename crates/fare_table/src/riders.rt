@@ -5,14 +5,13 @@ ghost use Rattle.fare_table.specs.Token.{Fits, by_bytes};
 
 use crate::fault::NoMemory;
 use crate::riders::marks::Marks;
-use crate::riders::token::Token;
+use crate::token::Token;
 use crate::terms::Terms;
 use std::alloc::Global;
 use std::collections::BTreeMap;
 use std::marker::Model;
 
 mod marks;
-pub(crate) mod token;
 
 /// The terms of riders, by the bytes of their tokens.
 #[derive(Drop)]

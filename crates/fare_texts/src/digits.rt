@@ -11,7 +11,7 @@ pub struct Digits(pub Token);
 
 impl fmt::Display for Digits {
     ghost use Rattle.hex.specs.Hex.{encode_lower};
-    ghost use Rattle.shard_book.specs.Token.{bytes_of};
+    ghost use Rattle.fare_table.specs.Token.{bytes_of};
 
     ghost output = { λ d. Some (encode_lower (bytes_of d.0)) };
 

@@ -3,9 +3,9 @@ use Rattle.std.proofs.Common.{◌≡◌, ℕ, ◌+◌, ◌^◌, ◌<◌, ◌≤�
 use Rattle.fare_table.specs.Fares.{Fares}
 use Rattle.account_rule.specs.declared.reason.Reason.{Reason}
 use Rattle.shard_book.specs.Entry.{own}
-use Rattle.shard_book.specs.Token.{Fits}
+use Rattle.fare_table.specs.Token.{Fits}
 use Rattle.shard_book.specs.declared.entry.Entry.{Entry}
-use Rattle.shard_book.specs.declared.token.Token.{Token}
+use Rattle.fare_table.specs.declared.token.Token.{Token}
 use Rattle.reason_texts.specs.Ledger.{IsLedgerLine}
 use Rattle.ledger_check.specs.Ledger.{AreNext, IsNext, IsPostable, token_number}
 use Rattle.ledger_check.specs.Replays.{HasRead, HasTurn, IsWanted, IsWrongAfter, StandsForOwn}

@@ -12,9 +12,9 @@ use Rattle.account_rule.specs.declared.reply.Reply.{Reply}
 use Rattle.account_rule.specs.declared.tap.TapIn.{TapIn}
 use Rattle.shard_book.specs.Entry.{own, reply_of, tap_of, taps_of}
 use Rattle.shard_book.specs.History.{IsReplied}
-use Rattle.shard_book.specs.Token.{Fits, bytes_of}
+use Rattle.fare_table.specs.Token.{Fits, bytes_of}
 use Rattle.shard_book.specs.declared.entry.Entry.{Entry}
-use Rattle.shard_book.specs.declared.token.Token.{Token}
+use Rattle.fare_table.specs.declared.token.Token.{Token}
 use Rattle.reason_texts.specs.Ledger.{IsLedgerLine, reason_after}
 use Rattle.ledger_check.specs.Ledger.{token_number}
 use Rattle.ledger_check.specs.Replays.{StandsForOwn}

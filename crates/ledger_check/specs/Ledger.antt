@@ -3,9 +3,9 @@ use Rattle.std.specs.Prelude.{◌≡◌, ℕ, ◌+◌, ◌*◌, ◌^◌, ◌<◌
 use Rattle.fare_table.specs.Fares.{Fares}
 use Rattle.shard_book.specs.Entry.{own}
 use Rattle.shard_book.specs.History.{IsReplied}
-use Rattle.shard_book.specs.Token.{Fits}
+use Rattle.fare_table.specs.Token.{Fits}
 use Rattle.shard_book.specs.declared.entry.Entry.{Entry}
-use Rattle.shard_book.specs.declared.token.Token.{Token}
+use Rattle.fare_table.specs.declared.token.Token.{Token}
 use Rattle.reason_texts.specs.Ledger.{IsLedgerLine, head_text, reason_after}
 use Rattle.ledger_check.specs.Lines.{lines_of}
 

@@ -5,7 +5,7 @@ use Rattle.fare_table.specs.Fares.{Fares}
 use Rattle.account_rule.specs.Rules.{rules_of}
 use Rattle.account_rule.specs.Stands.{Stands}
 use Rattle.shard_book.specs.Entry.{own, taps_of}
-use Rattle.shard_book.specs.Token.{Fits, bytes_of}
+use Rattle.fare_table.specs.Token.{Fits, bytes_of}
 use Rattle.shard_book.specs.declared.entry.Entry.{Entry}
 use Rattle.ledger_check.specs.Ledger.{AreNext, IsNext, token_number}
 use Rattle.ledger_check.specs.declared.turn.Turn.{Turn}

@@ -4,7 +4,7 @@ ghost use Rattle.std.specs.Prelude.{◌≡◌, ◌<◌, ◌≤◌, ◌^◌, ◌+
 ghost use Rattle.std.specs.Prelude.{◌++◌, [], ℕ, List, All, IfNone};
 ghost use Rattle.std.specs.Prelude.{IfOk, IfSome, IsTrue, ◌↔◌, string_bytes};
 ghost use Rattle.fare_table.specs.Fares.{Fares};
-ghost use Rattle.shard_book.specs.Token.{Fits};
+ghost use Rattle.fare_table.specs.Token.{Fits};
 ghost use Rattle.shard_book.specs.declared.entry.Entry.{Entry};
 ghost use Rattle.ledger_check.specs.Ledger.{token_number};
 ghost use Rattle.ledger_check.specs.Replays.{HasRead, HasTurn, StandsForOwn};

@@ -9,9 +9,9 @@ use Rattle.shard_book.specs.Book.{AreOfShard, Book}
 use Rattle.shard_book.specs.Entry.{is_of, own}
 use Rattle.shard_book.specs.Groups.{all_entries}
 use Rattle.shard_book.specs.History.{IsLegal}
-use Rattle.shard_book.specs.Token.{bytes_of}
+use Rattle.fare_table.specs.Token.{bytes_of}
 use Rattle.shard_book.specs.declared.entry.Entry.{Entry}
-use Rattle.shard_book.specs.declared.token.Token.{Token}
+use Rattle.fare_table.specs.declared.token.Token.{Token}
 use Rattle.shard_book.proofs.Histories.{same_token}
 use Rattle.ledger_check.specs.Ledger.{IsLedgerOf, IsPostable}
 use Rattle.ledger_texts.specs.Ledger.{IsLedgerOf as IsWrittenOf, IsLedgerOver}

@@ -10,9 +10,9 @@ use Rattle.account_rule.specs.Replies.{reply}
 use Rattle.account_rule.specs.Rules.{rules_of}
 use Rattle.shard_book.specs.Entry.{is_of, own, tap_of, taps_of}
 use Rattle.shard_book.specs.History.{IsLegal, IsReplied}
-use Rattle.shard_book.specs.Token.{bytes_of, token_cmp, token_eq}
+use Rattle.fare_table.specs.Token.{bytes_of, token_cmp, token_eq}
 use Rattle.shard_book.specs.declared.entry.Entry.{Entry}
-use Rattle.shard_book.specs.declared.token.Token.{Token}
+use Rattle.fare_table.specs.declared.token.Token.{Token}
 use Rattle.shard_book.proofs.Histories.{same_token, token_eq-refl}
 use Rattle.shard_book.proofs.TokenLemmas.{token_cmp-total}
 

@@ -7,9 +7,9 @@ use Rattle.fare_table.specs.Fares.{Fares}
 use Rattle.shard_book.specs.Entry.{own}
 use Rattle.shard_book.specs.Groups.{token_of, tokens}
 use Rattle.shard_book.specs.History.{IsLegal}
-use Rattle.shard_book.specs.Token.{token_cmp}
+use Rattle.fare_table.specs.Token.{token_cmp}
 use Rattle.shard_book.specs.declared.entry.Entry.{Entry}
-use Rattle.shard_book.specs.declared.token.Token.{Token}
+use Rattle.fare_table.specs.declared.token.Token.{Token}
 use Rattle.shard_book.proofs.RisingLemmas.{rising-is}
 use Rattle.shard_book.proofs.TokenLemmas.{token_cmp-total, token_cmp-ties}
 use Rattle.reason_texts.specs.Ledger.{AreLinesAfter, IsLedgerLine, head_text, reason_after}

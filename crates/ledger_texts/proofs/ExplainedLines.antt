@@ -7,7 +7,7 @@ use Rattle.account_rule.specs.declared.reason.Reason.{Reason}
 use Rattle.account_rule.specs.declared.window.WindowView.{WindowView}
 use Rattle.fare_table.specs.Fares.{Fares}
 use Rattle.shard_book.specs.declared.entry.Entry.{Entry}
-use Rattle.shard_book.specs.declared.token.Token.{Token}
+use Rattle.fare_table.specs.declared.token.Token.{Token}
 use Rattle.reason_texts.specs.Ledger.{reason_after}
 use Rattle.reason_texts.proofs.LineLists.{taken}
 use Rattle.ledger_texts.specs.Explained.{AreEarlierLines, AreExplainedAfter, IsExplainedLine}

@@ -12,9 +12,9 @@ use Rattle.fare_table.specs.Fares.{Fares}
 use Rattle.shard_book.specs.Entry.{own}
 use Rattle.shard_book.specs.Groups.{token_of, tokens}
 use Rattle.shard_book.specs.Rising.{IsRising, rising}
-use Rattle.shard_book.specs.Token.{token_cmp, token_eq}
+use Rattle.fare_table.specs.Token.{token_cmp, token_eq}
 use Rattle.shard_book.specs.declared.entry.Entry.{Entry}
-use Rattle.shard_book.specs.declared.token.Token.{Token}
+use Rattle.fare_table.specs.declared.token.Token.{Token}
 use Rattle.shard_book.proofs.Histories.{same_token, token_eq-refl, token_eq-sym}
 use Rattle.shard_book.proofs.RisingLemmas.{rising-only}
 use Rattle.shard_book.proofs.TokenLemmas.{token_cmp-total, token_cmp-ties}

@@ -7,9 +7,9 @@ use Rattle.std.proofs.lemmas.Bool.{false≢true}
 use Rattle.std.proofs.lemmas.Bool.Decides.{nat_tests}
 use Rattle.std.proofs.lemmas.List.Sorted.{IsPermutation-map, list_any-IsPermutation}
 use Rattle.shard_book.specs.Entry.{is_of, own}
-use Rattle.shard_book.specs.Token.{token_cmp, token_eq}
+use Rattle.fare_table.specs.Token.{token_cmp, token_eq}
 use Rattle.shard_book.specs.declared.entry.Entry.{Entry}
-use Rattle.shard_book.specs.declared.token.Token.{Token}
+use Rattle.fare_table.specs.declared.token.Token.{Token}
 use Rattle.ledger_texts.specs.inside.Lines.{IsByToken, Rise, RiseFrom}
 use Rattle.ledger_texts.specs.inside.Spots.{entry_at_spot, seen}
 use Rattle.ledger_texts.specs.declared.spot.Spot.{Spot}

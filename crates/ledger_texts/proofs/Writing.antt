@@ -10,9 +10,9 @@ use Rattle.account_rule.specs.Stands.{Stands}
 use Rattle.account_rule.specs.declared.reason.Reason.{Reason}
 use Rattle.account_rule.specs.declared.tap.TapIn.{TapIn}
 use Rattle.shard_book.specs.Entry.{own, tap_of}
-use Rattle.shard_book.specs.Token.{bytes_of, token_eq}
+use Rattle.fare_table.specs.Token.{bytes_of, token_eq}
 use Rattle.shard_book.specs.declared.entry.Entry.{Entry}
-use Rattle.shard_book.specs.declared.token.Token.{Token}
+use Rattle.fare_table.specs.declared.token.Token.{Token}
 use Rattle.shard_book.proofs.Histories.{token_eq-refl}
 use Rattle.reason_texts.specs.Ledger.{IsLedgerLine, reason_after}
 use Rattle.ledger_texts.specs.inside.Lines.{AreLinesAlong, AreUpTo, HasCome, IsLineAfter, IsUpTo, Rise, RiseFrom}

@@ -16,9 +16,9 @@ use Rattle.shard_book.specs.Book.{Book}
 use Rattle.shard_book.specs.Entry.{own, tap_of}
 use Rattle.shard_book.specs.Groups.{all_entries}
 use Rattle.shard_book.specs.Sums.{sums}
-use Rattle.shard_book.specs.Token.{bytes_of}
+use Rattle.fare_table.specs.Token.{bytes_of}
 use Rattle.shard_book.specs.declared.entry.Entry.{Entry}
-use Rattle.shard_book.specs.declared.token.Token.{Token}
+use Rattle.fare_table.specs.declared.token.Token.{Token}
 use Rattle.fare_texts.specs.Counts.{totals_line}
 use Rattle.fare_texts.specs.Local.{IsLocal}
 use Rattle.fare_texts.specs.Moments.{IsMomentText}

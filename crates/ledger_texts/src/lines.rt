@@ -5,7 +5,7 @@ ghost use Rattle.std.specs.Io.KnownBytes.{Appends, Keeps, append_known};
 ghost use Rattle.ledger_texts.specs.declared.fault.LedgerFault.TheVariants.{Write as ForWrite};
 ghost use Rattle.ledger_texts.specs.inside.Lines.{AreLinesAlong, Rise, RiseFrom};
 ghost use Rattle.ledger_texts.specs.inside.Spots.{seen};
-ghost use Rattle.shard_book.specs.declared.token.Token.{Token};
+ghost use Rattle.fare_table.specs.declared.token.Token.{Token};
 
 use crate::fault::LedgerFault;
 use crate::spot::Spot;

@@ -8,10 +8,10 @@ use Rattle.tap_views.specs.Encoding.{fields_of}
 use Rattle.tap_views.specs.Layout.{Tap}
 use Rattle.fare_table.specs.Fares.{Fares}
 use Rattle.shard_book.specs.declared.entry.Entry.{Entry}
-use Rattle.shard_book.specs.declared.token.Token.{Token}
+use Rattle.fare_table.specs.declared.token.Token.{Token}
 use Rattle.shard_book.specs.Groups.{at, sums_by_token, validator_of}
 use Rattle.shard_book.specs.Sums.{Sums, sums}
-use Rattle.shard_book.specs.Token.{token_cmp}
+use Rattle.fare_table.specs.Token.{token_cmp}
 use Rattle.fare_service.specs.Adding.{add_all}
 use Rattle.tap_parts.specs.Parts.{of_part}
 use Rattle.settlement.specs.Settled.{IsSettledHistory}

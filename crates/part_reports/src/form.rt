@@ -6,7 +6,7 @@ ghost use Rattle.fare_texts.specs.Counts.{counts, totals_line};
 ghost use Rattle.shard_book.specs.Shown.{token_sum, validator_sum};
 ghost use Rattle.shard_book.specs.Sums.{sums_of};
 ghost use Rattle.hex.specs.Hex.{encode_lower};
-ghost use Rattle.shard_book.specs.Token.{bytes_of};
+ghost use Rattle.fare_table.specs.Token.{bytes_of};
 ghost use Rattle.part_reports.specs.Lines.{head_line, token_line, validator_line};
 
 use itoa::Buffer;

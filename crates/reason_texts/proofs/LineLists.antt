@@ -8,7 +8,7 @@ use Rattle.account_rule.specs.declared.tap.TapIn.{TapIn}
 use Rattle.account_rule.specs.declared.reason.Reason.{Reason}
 use Rattle.fare_table.specs.Fares.{Fares}
 use Rattle.shard_book.specs.declared.entry.Entry.{Entry}
-use Rattle.shard_book.specs.declared.token.Token.{Token}
+use Rattle.fare_table.specs.declared.token.Token.{Token}
 use Rattle.reason_texts.specs.Ledger.{AreLinesAfter, AreTokenLines, IsLedgerLine, reason_after}
 
 -- the line of an entry that follows these

@@ -9,10 +9,10 @@ use Rattle.std.proofs.lemmas.List.Elements.{All-head, All-tail, All-nil, All-con
 use Rattle.tap_views.specs.Encoding.{fields_of}
 use Rattle.tap_views.specs.Layout.{Tap}
 use Rattle.tap_views.specs.declared.encoder.TapFields.{TapFields}
-use Rattle.shard_book.specs.declared.token.Token.{Token}
+use Rattle.fare_table.specs.declared.token.Token.{Token}
 use Rattle.shard_book.specs.Entry.{is_of, own}
 use Rattle.shard_book.specs.Keys.{same_token}
-use Rattle.shard_book.specs.Token.{bytes_of, token_eq}
+use Rattle.fare_table.specs.Token.{bytes_of, token_eq}
 use Rattle.fare_service.specs.Plain.{token_of, unanswered}
 use Rattle.tap_parts.specs.Canonical.{tap_cmp}
 use Rattle.settlement.proofs.Histories.{entry_of}

@@ -5,7 +5,7 @@ use Rattle.shard_book.specs.Book.{Book}
 use Rattle.shard_book.specs.Entry.{own}
 use Rattle.shard_book.specs.Groups.{all_entries}
 use Rattle.shard_book.specs.declared.entry.Entry.{Entry}
-use Rattle.shard_book.specs.declared.token.Token.{Token}
+use Rattle.fare_table.specs.declared.token.Token.{Token}
 use Rattle.fare_service.specs.Outcomes.{OutcomeView}
 use Rattle.fare_service.specs.Plain.{IsReportOver, IsStatementOver}
 use Rattle.fare_service.specs.Printed.{IsStatementOf, report_with}

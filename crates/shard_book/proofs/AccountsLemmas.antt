@@ -13,8 +13,8 @@ use Rattle.shard_book.specs.inside.Accounts.{IsKept, IsKeptOrFresh, IsMade, IsPl
 use Rattle.shard_book.specs.Counts.{sums_of_counts}
 use Rattle.shard_book.specs.inside.Packed.{KeepPlaces, tokens_of}
 use Rattle.shard_book.specs.Sums.{sums_of_replies}
-use Rattle.shard_book.specs.Token.{token_eq}
-use Rattle.shard_book.specs.declared.token.Token.{Token}
+use Rattle.fare_table.specs.Token.{token_eq}
+use Rattle.fare_table.specs.declared.token.Token.{Token}
 use Rattle.shard_book.proofs.Histories.{same_token}
 use Rattle.shard_book.proofs.PackedLemmas.{keep_entries, keep_same}
 use Rattle.shard_book.proofs.TokenLemmas.{token_eq-laws}

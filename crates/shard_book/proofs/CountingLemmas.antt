@@ -7,14 +7,14 @@ use Rattle.std.proofs.lemmas.List.{append-nil}
 use Rattle.std.proofs.lemmas.List.Elements.{filter-append}
 use Rattle.shard_book.specs.declared.accounts.Accounts.{Accounts}
 use Rattle.shard_book.specs.declared.entry.Entry.{Entry}
-use Rattle.shard_book.specs.declared.token.Token.{Token}
+use Rattle.fare_table.specs.declared.token.Token.{Token}
 use Rattle.shard_book.specs.inside.Accounts.{kept_at, counted}
 use Rattle.shard_book.specs.inside.Counting.{AreCounted}
 use Rattle.shard_book.specs.Entry.{is_of, own, reply_of}
 use Rattle.shard_book.specs.Groups.{token_of}
 use Rattle.shard_book.specs.Sums.{Sums, sums, sums_of_replies, add_sums}
 use Rattle.shard_book.specs.inside.Sums.{has_taps}
-use Rattle.shard_book.specs.Token.{token_eq}
+use Rattle.fare_table.specs.Token.{token_eq}
 use Rattle.shard_book.proofs.Histories.{same_token, token_eq-sym}
 use Rattle.shard_book.proofs.SumsLemmas.{sums-append}
 

@@ -14,12 +14,12 @@ use Rattle.account_rule.specs.Rules.{rules_of}
 use Rattle.shard_book.specs.declared.accounts.Accounts.{Accounts}
 use Rattle.shard_book.specs.declared.accounts.Kept.{Kept}
 use Rattle.shard_book.specs.declared.entry.Entry.{Entry}
-use Rattle.shard_book.specs.declared.token.Token.{Token}
+use Rattle.fare_table.specs.declared.token.Token.{Token}
 use Rattle.shard_book.specs.inside.Accounts.{kept_at, IsKept}
 use Rattle.shard_book.specs.Entry.{is_of, own, tap_of, taps_of, mode_of_place}
 use Rattle.shard_book.specs.History.{IsReplied, IsLegal}
 use Rattle.shard_book.specs.inside.Sound.{AreKept}
-use Rattle.shard_book.specs.Token.{bytes_of, token_eq}
+use Rattle.fare_table.specs.Token.{bytes_of, token_eq}
 
 -- a list with one element at its end, cut before some element: it is the last one, or it stands before the end
 snoc_cases : {X : Type 0} (xs : List X) (x : X) (before : List X) (y : X) (after : List X) → xs ++ x ∷ [] ≡ before ++ y ∷ after → ((xs ≡ before) × (x ≡ y)) ⊎ ((rest : List X) × (xs ≡ before ++ y ∷ rest))

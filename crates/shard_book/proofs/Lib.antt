@@ -1,5 +1,4 @@
 pub mod AccountsLemmas
-pub mod Bytes
 pub mod CountingLemmas
 pub mod GroupingLemmas
 pub mod Histories

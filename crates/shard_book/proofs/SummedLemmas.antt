@@ -18,7 +18,7 @@ use Rattle.std.proofs.lemmas.Map.Made.{All-is_member, IsDistinct-keys_filter, ke
 use Rattle.shard_book.specs.declared.accounts.Accounts.{Accounts}
 use Rattle.shard_book.specs.declared.accounts.Kept.{Kept}
 use Rattle.shard_book.specs.declared.entry.Entry.{Entry}
-use Rattle.shard_book.specs.declared.token.Token.{Token}
+use Rattle.fare_table.specs.declared.token.Token.{Token}
 use Rattle.shard_book.specs.inside.Accounts.{kept_at, counted, is_used, pair_of, pairs_of}
 use Rattle.shard_book.specs.declared.sums.counts.TokenCounts.{TokenCounts}
 use Rattle.tap_views.specs.Shards.{shard_of_token}
@@ -29,7 +29,7 @@ use Rattle.shard_book.specs.Entry.{is_of, own}
 use Rattle.shard_book.specs.Groups.{token_of, tokens, sums_by_token, all_entries}
 use Rattle.shard_book.specs.Sums.{Sums, sums, sums_of_replies}
 use Rattle.shard_book.specs.inside.Sums.{has_taps}
-use Rattle.shard_book.specs.Token.{bytes_of, token_eq, token_cmp}
+use Rattle.fare_table.specs.Token.{bytes_of, token_eq, token_cmp}
 use Rattle.shard_book.proofs.CountingLemmas.{own-member}
 use Rattle.shard_book.proofs.Histories.{same_token, token_eq-sym}
 use Rattle.shard_book.proofs.TokenLemmas.{token_eq-laws}

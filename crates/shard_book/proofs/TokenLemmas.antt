@@ -7,8 +7,8 @@ use Rattle.std.proofs.lemmas.Bool.Decides.{nat_tests}
 use Rattle.std.proofs.lemmas.Cmp.{then_total, on_total, nat_cmp_total}
 use Rattle.std.proofs.lemmas.List.{take_at, drop_at}
 use Rattle.std.proofs.lemmas.Nat.{from_be_bytes-to_be_bytes_8}
-use Rattle.shard_book.specs.declared.token.Token.{Token}
-use Rattle.shard_book.specs.Token.{Fits, bytes_of, token_cmp, token_eq}
+use Rattle.fare_table.specs.declared.token.Token.{Token}
+use Rattle.fare_table.specs.Token.{Fits, bytes_of, token_cmp, token_eq}
 use Rattle.shard_book.proofs.Histories.{same_token, token_eq-sym, token_eq-refl}
 
 pub token_cmp-total : IsTotalOrder token_cmp

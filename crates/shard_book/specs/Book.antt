@@ -7,7 +7,7 @@ use Rattle.fare_table.specs.Until.{until}
 use Rattle.account_rule.specs.declared.reply.Reply.{Reply}
 use Rattle.shard_book.specs.declared.entry.Entry.{Entry}
 use Rattle.shard_book.specs.Entry.{IsEntryOf, reply_of}
-use Rattle.shard_book.specs.Token.{bytes_of}
+use Rattle.fare_table.specs.Token.{bytes_of}
 
 -- a book: its table, its shard of so many, and its whole history
 pub record Book : Type 0 where

@@ -13,7 +13,6 @@ pub mod Shown
 pub mod Statement
 pub mod Sums
 pub mod Tally
-pub mod Token
 pub mod Visits
 pub mod Windows
 pub mod inside

@@ -16,14 +16,13 @@ ghost use Rattle.shard_book.specs.inside.Packed.{HasToken, KeepPlaces, tokens_of
 ghost use Rattle.shard_book.specs.Counts.{token_counts};
 ghost use Rattle.shard_book.specs.declared.entry.Entry.{Entry};
 ghost use Rattle.shard_book.specs.Sums.{sums_of_replies, add_sums};
-ghost use Rattle.shard_book.specs.Token.{bytes_of, token_eq};
-ghost use Rattle.shard_book.specs.declared.token.Token.{Token};
+ghost use Rattle.fare_table.specs.Token.{bytes_of, token_eq};
+ghost use Rattle.fare_table.specs.declared.token.Token.{Token};
 
 use crate::keys::TokenKeys;
 use crate::sums::counts::{Counts, TokenCounts};
-use crate::token::Token;
 use account_rule::{Account, Reply, TapIn};
-use fare_table::{FareTable, NoMemory};
+use fare_table::{FareTable, NoMemory, Token};
 use indexmap::IndexMap;
 use indexmap::map::Entry as Place;
 use std::alloc::Global;

@@ -5,15 +5,15 @@ ghost use Rattle.std.specs.Ordering.{nat_cmp};
 ghost use Rattle.std.specs.Cmp.Lexicographic.{slice_cmp};
 ghost use Rattle.fare_table.specs.Fares.{Fares};
 ghost use Rattle.shard_book.specs.declared.entry.Entry.{Entry};
-ghost use Rattle.shard_book.specs.declared.token.Token.{Token};
+ghost use Rattle.fare_table.specs.declared.token.Token.{Token};
 ghost use Rattle.shard_book.specs.History.{IsLegal};
 ghost use Rattle.shard_book.specs.Rising.{rising, IsRising};
 ghost use Rattle.shard_book.specs.Sums.{sums, add_sums};
-ghost use Rattle.shard_book.specs.Token.{Fits, bytes_of, token_cmp};
+ghost use Rattle.fare_table.specs.Token.{Fits, bytes_of, token_cmp};
 ghost use Rattle.shard_book.specs.Windows.{WindowsKeepLimits};
 
 use crate::book::ShardBook;
-use crate::token::Token;
+use fare_table::Token;
 use std::cmp::Ordering;
 
 /// Tokens are ordered by their bytes.

@@ -19,12 +19,12 @@ mod replies;
 mod run_end;
 mod statement;
 mod sums;
-mod token;
 
 pub use book::ShardBook;
 pub use difference::first_difference;
 pub use ends::Ends;
 pub use entry::Entry;
+pub use fare_table::Token;
 pub use keys::TokenKeys;
 pub use lines::Lines;
 pub use replies::Replies;
@@ -34,4 +34,3 @@ pub use sums::tally::Tally;
 pub use sums::token_sums::TokenSums;
 pub use sums::totals::Totals;
 pub use sums::{TokenSum, ValidatorSum, sums_by_token, sums_by_validator, totals_of};
-pub use token::Token;

@@ -3,13 +3,13 @@
 ghost use Rattle.std.specs.Prelude.{◌≡◌, ◌/◌, ◌%◌, ◌<◌, ◌≤◌, ◌^◌, List, Some, slice_get};
 ghost use Rattle.account_rule.specs.declared.reply.Reply.{Reply};
 ghost use Rattle.shard_book.specs.declared.entry.Entry.{Entry};
-ghost use Rattle.shard_book.specs.declared.token.Token.{Token};
+ghost use Rattle.fare_table.specs.declared.token.Token.{Token};
 ghost use Rattle.shard_book.specs.inside.Packed.{answer_at, entry_of, entry_with};
 ghost use Rattle.shard_book.specs.inside.Packed.{word_answer, word_cents, word_moment};
 
 use crate::entry::Entry;
 use crate::sums::tally::place_of;
-use crate::token::Token;
+use fare_table::Token;
 use account_rule::{Answer, Reply};
 
 /// 2^42, above every moment: a word's moment is what is left when it is divided by it.

@@ -10,8 +10,7 @@ ghost use Rattle.shard_book.specs.inside.Packed.{KeepPlaces, tokens_of};
 use crate::accounts::{Accounts, Kept};
 use crate::book::ShardBook;
 use crate::sums::counts::Counts;
-use crate::token::Token;
-use fare_table::NoMemory;
+use fare_table::{NoMemory, Token};
 use tap_views::RunTaps;
 
 /// How many accounts are looked up at once.

@@ -9,9 +9,8 @@ use crate::entry::Entry;
 use crate::lines::Lines;
 use crate::sums::totals::Totals;
 use crate::sums::totals_of_entries;
-use crate::token::Token;
 use account_rule::WindowView;
-use fare_table::NoMemory;
+use fare_table::{NoMemory, Token};
 use std::alloc::Global;
 
 /// What a book tells of one token.

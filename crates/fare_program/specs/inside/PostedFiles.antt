@@ -2,7 +2,7 @@
 use Rattle.std.specs.Prelude.{◌≡◌, ℕ, Bool, true, List, Option, MatchBool}
 use Rattle.std.specs.Option.{option_map_or}
 use Rattle.fare_table.specs.Fares.{Fares}
-use Rattle.shard_book.specs.declared.token.Token.{Token}
+use Rattle.fare_table.specs.declared.token.Token.{Token}
 use Rattle.fare_service.specs.Outcomes.{OutcomeView}
 use Rattle.fare_service.specs.declared.upload_end.UploadEnd.{UploadEnd}
 use Rattle.fare_program.specs.Options.{Asked}

@@ -3,7 +3,7 @@ use Rattle.std.specs.Prelude.{◌≡◌, Bool, true, All, List}
 use Rattle.std.specs.Map.{keys_of}
 use Rattle.fare_table.specs.Token.{Fits}
 use Rattle.fare_table.specs.declared.terms.Terms.{Terms}
-use Rattle.fare_table.specs.declared.riders.token.Token.{Token}
+use Rattle.fare_table.specs.declared.token.Token.{Token}
 use Rattle.fare_table.specs.Marks.{is_marked}
 
 -- tokens of two numbers of eight bytes each, all of them marked

@@ -11,7 +11,7 @@ use super::classes::class_named;
 use super::members::{hold_strings, optional};
 use crate::fault::{Key, TableFault};
 use crate::riders::Riders;
-use crate::riders::token::Token;
+use crate::token::Token;
 use crate::terms::Terms;
 use hex::FromHex;
 use std::alloc::Global;

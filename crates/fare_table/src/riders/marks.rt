@@ -5,7 +5,7 @@ ghost use Rattle.std.specs.Map.{keys_of};
 ghost use Rattle.fare_table.specs.Marks.{is_marked};
 
 use crate::fault::NoMemory;
-use crate::riders::token::Token;
+use crate::token::Token;
 use crate::terms::Terms;
 use std::alloc::Global;
 use std::collections::BTreeMap;

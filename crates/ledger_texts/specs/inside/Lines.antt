@@ -6,9 +6,9 @@ use Rattle.fare_table.specs.Fares.{Fares}
 use Rattle.account_rule.specs.Rules.{rules_of}
 use Rattle.account_rule.specs.Stands.{Stands}
 use Rattle.shard_book.specs.Entry.{own, tap_of}
-use Rattle.shard_book.specs.Token.{bytes_of, token_cmp}
+use Rattle.fare_table.specs.Token.{bytes_of, token_cmp}
 use Rattle.shard_book.specs.declared.entry.Entry.{Entry}
-use Rattle.shard_book.specs.declared.token.Token.{Token}
+use Rattle.fare_table.specs.declared.token.Token.{Token}
 use Rattle.reason_texts.specs.Ledger.{IsLedgerLine, reason_after}
 use Rattle.ledger_texts.specs.declared.teller.Teller.{Teller}
 

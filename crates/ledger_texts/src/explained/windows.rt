@@ -5,7 +5,7 @@ ghost use Rattle.account_rule.specs.Laws.{is_ride};
 ghost use Rattle.account_rule.specs.Rules.{rules_of};
 ghost use Rattle.account_rule.specs.Windows.{last_window};
 ghost use Rattle.shard_book.specs.Entry.{tap_of};
-ghost use Rattle.shard_book.specs.Token.{bytes_of};
+ghost use Rattle.fare_table.specs.Token.{bytes_of};
 ghost use Rattle.ledger_texts.specs.Explained.{earlier_windows};
 ghost use Rattle.ledger_texts.specs.inside.Windows.{ended};
 

@@ -1,5 +1,5 @@
 use Rattle.std.proofs.Common.{ℕ, List, ap, ◌∙◌}
-use Rattle.shard_book.specs.declared.token.Token.{Token}
+use Rattle.fare_table.specs.declared.token.Token.{Token}
 use Rattle.shard_book.specs.Groups.{sums_by_validator}
 use Rattle.shard_book.specs.Sums.{Sums, sums}
 use Rattle.fare_service.specs.Text.{report}

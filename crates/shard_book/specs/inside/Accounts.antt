@@ -7,11 +7,11 @@ use Rattle.account_rule.specs.Rules.{Rules}
 use Rattle.account_rule.specs.Stands.{Stands}
 use Rattle.shard_book.specs.declared.accounts.Accounts.{Accounts}
 use Rattle.shard_book.specs.declared.accounts.Kept.{Kept}
-use Rattle.shard_book.specs.declared.token.Token.{Token}
+use Rattle.fare_table.specs.declared.token.Token.{Token}
 use Rattle.shard_book.specs.Counts.{sums_of_counts}
 use Rattle.shard_book.specs.Sums.{Sums, sums_of_replies}
 use Rattle.shard_book.specs.inside.Sums.{has_taps}
-use Rattle.shard_book.specs.Token.{token_eq}
+use Rattle.fare_table.specs.Token.{token_eq}
 
 -- what is kept of the token
 unfoldable pub kept_at : Accounts → Token → Option Kept

@@ -4,7 +4,7 @@ ghost use Rattle.std.specs.Prelude.{◌≡◌, ◌+◌, ◌*◌, ◌<◌, ◌≤
 
 use crate::sums::TokenSum;
 use crate::sums::totals::Totals;
-use crate::token::Token;
+use fare_table::Token;
 use account_rule::{Answer, Reply};
 
 /// What `Totals` counts, while the cents fit 32 bits and each other number 16. Of 16 bytes, where

@@ -27,7 +27,7 @@ pub struct TokenSums {
 
 impl Model for TokenSums {
     ghost use Rattle.std.specs.Prelude.{List};
-    ghost use Rattle.shard_book.specs.declared.token.Token.{Token};
+    ghost use Rattle.fare_table.specs.declared.token.Token.{Token};
     ghost use Rattle.shard_book.specs.Sums.{Sums};
     ghost use Rattle.shard_book.specs.inside.Shown.{sums_in};
 

@@ -3,7 +3,7 @@ use Rattle.std.specs.Prelude.{MatchBool, is_some, ◌||◌}
 use Rattle.std.specs.Io.KnownBytes.{Appends}
 use Rattle.std.proofs.lemmas.Result.{IfOk-weaker}
 use Rattle.fare_table.specs.Fares.{Fares}
-use Rattle.shard_book.specs.declared.token.Token.{Token}
+use Rattle.fare_table.specs.declared.token.Token.{Token}
 use Rattle.fare_program.specs.Options.{Asked}
 use Rattle.fare_program.specs.Program.{Does, IsTokenIn, Loads, LoadsTable, RunsListing, RunsService, ShowsAsked}
 use Rattle.fare_program.specs.Source.{Loaded}

@@ -3,7 +3,7 @@ use Rattle.std.proofs.Common.{subst, ◌∙◌, arith}
 use Rattle.std.specs.Io.KnownBytes.{append_known}
 use Rattle.std.proofs.KnownBytes.{Appends-kept, Appends-nil}
 use Rattle.shard_book.specs.declared.entry.Entry.{Entry}
-use Rattle.shard_book.specs.declared.token.Token.{Token}
+use Rattle.fare_table.specs.declared.token.Token.{Token}
 use Rattle.ledger_texts.specs.inside.Lines.{AreLinesAlong, HasCome, IsLineAfter, IsUpTo, RiseFrom}
 use Rattle.ledger_texts.specs.inside.Spots.{seen}
 use Rattle.ledger_texts.proofs.Writing.{along_push, grown, rise_here, rise_on, seen_taken}

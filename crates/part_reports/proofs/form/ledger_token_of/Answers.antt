@@ -1,6 +1,6 @@
 use Rattle.std.proofs.Common.{List, ℕ, ◌++◌, ap, ◌∙◌}
 use Rattle.hex.specs.Hex.{encode_lower}
-use Rattle.shard_book.specs.Token.{bytes_of}
+use Rattle.fare_table.specs.Token.{bytes_of}
 use Rattle.part_reports.proofs.form.ledger_token_of.Goals as goal
 
 pub returns-then-ends_with : goal.returns-then-ends_with

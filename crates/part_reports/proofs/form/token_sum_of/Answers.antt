@@ -1,6 +1,6 @@
 use Rattle.std.proofs.Common.{List, ℕ, ◌++◌, ap, ◌∙◌, codes}
 use Rattle.hex.specs.Hex.{encode_lower}
-use Rattle.shard_book.specs.Token.{bytes_of}
+use Rattle.fare_table.specs.Token.{bytes_of}
 use Rattle.part_reports.proofs.form.token_sum_of.Goals as goal
 
 pub returns : goal.returns

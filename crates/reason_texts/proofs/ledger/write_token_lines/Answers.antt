@@ -6,7 +6,7 @@ use Rattle.account_rule.specs.Rules.{rules_of}
 use Rattle.account_rule.specs.Stands.{Stands, StandsForSome}
 use Rattle.account_rule.specs.declared.tap.TapIn.{TapIn}
 use Rattle.shard_book.specs.Entry.{tap_of}
-use Rattle.shard_book.specs.Token.{bytes_of}
+use Rattle.fare_table.specs.Token.{bytes_of}
 use Rattle.reason_texts.proofs.LineLists.{more, next_lines}
 use Rattle.reason_texts.proofs.ledger.write_token_lines.Goals as goal
 

@@ -1,6 +1,6 @@
 use Rattle.std.proofs.Common.{◌^◌, ◌<◌, rules, ◌∙◌}
-use Rattle.shard_book.specs.Token.{bytes_of}
-use Rattle.shard_book.proofs.Bytes.{pair_order}
+use Rattle.fare_table.specs.Token.{bytes_of}
+use Rattle.fare_table.proofs.TokenBytes.{pair_order}
 use Rattle.shard_book.proofs.laws.order.Goals as goal
 
 pub returns : goal.returns

@@ -7,9 +7,9 @@ use Rattle.std.proofs.lemmas.Option.{slice_get_within}
 use borrow.Author.Count.{below_more}
 use Rattle.shard_book.specs.Book.{AreOfShard, Book}
 use Rattle.shard_book.specs.Entry.{TokensFit}
-use Rattle.shard_book.specs.Token.{Fits, bytes_of}
+use Rattle.fare_table.specs.Token.{Fits, bytes_of}
 use Rattle.shard_book.specs.declared.entry.Entry.{Entry}
-use Rattle.shard_book.specs.declared.token.Token.{Token}
+use Rattle.fare_table.specs.declared.token.Token.{Token}
 use Rattle.fare_service.specs.Plain.{IsNamed, token_of}
 use Rattle.fare_service.proofs.laws.schedules.names.Goals as goal
 

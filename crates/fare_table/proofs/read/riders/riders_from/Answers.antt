@@ -10,8 +10,7 @@ use Rattle.fare_table.proofs.TokenBytes.{found-by_bytes, insert-by_bytes}
 use Rattle.fare_table.specs.Riders.{is_rider, rider_of, riders_from}
 use Rattle.fare_table.specs.declared.fault.TableFault.TheVariants.{Rider}
 use Rattle.fare_table.specs.Terms.{HasLimits}
-use Rattle.fare_table.specs.Token.{Fits, by_bytes}
-use Rattle.fare_table.specs.inside.Token.{token_cmp}
+use Rattle.fare_table.specs.Token.{Fits, by_bytes, token_cmp}
 use Rattle.fare_table.specs.declared.terms.Terms.{Terms}
 use Rattle.fare_table.proofs.read.riders.riders_from.Goals as goal
 

@@ -1,6 +1,6 @@
 use Rattle.std.proofs.Common.{◌≡◌, ◌<◌, ℕ, Option, sym, ap, subst, ◌∙◌, arith}
-use Rattle.shard_book.specs.Token.{Fits}
-use Rattle.shard_book.specs.declared.token.Token.{Token}
+use Rattle.fare_table.specs.Token.{Fits}
+use Rattle.fare_table.specs.declared.token.Token.{Token}
 use Rattle.ledger_check.specs.Ledger.{token_number}
 use Rattle.ledger_check.specs.Replays.{HasTurn}
 use Rattle.ledger_check.specs.declared.turn.Turn.{Turn}

@@ -4,7 +4,7 @@ use Rattle.account_rule.specs.Stands.{StandsForSome}
 use Rattle.fare_table.specs.Until.{limit_in}
 use Rattle.shard_book.proofs.Histories.{tap_of-post}
 use Rattle.shard_book.specs.Entry.{tap_of, taps_of}
-use Rattle.shard_book.specs.Token.{bytes_of}
+use Rattle.fare_table.specs.Token.{bytes_of}
 use Rattle.shard_book.specs.declared.entry.Entry.{Entry}
 use Rattle.account_rule.specs.declared.tap.TapIn.{TapIn}
 use Rattle.reason_texts.specs.Ledger.{IsLedgerLine}

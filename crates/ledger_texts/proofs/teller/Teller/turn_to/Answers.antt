@@ -1,7 +1,7 @@
 use Rattle.std.proofs.Common.{◌≡◌, Bool, true, false, not, refl, sym, subst, ◌∙◌}
 use Rattle.std.proofs.lemmas.Bool.{false≢true}
-use Rattle.shard_book.specs.Token.{token_eq}
-use Rattle.shard_book.specs.declared.token.Token.{Token}
+use Rattle.fare_table.specs.Token.{token_eq}
+use Rattle.fare_table.specs.declared.token.Token.{Token}
 use Rattle.ledger_texts.specs.inside.Lines.{IsUpTo}
 use Rattle.ledger_texts.proofs.Writing.{come_turned}
 use Rattle.ledger_texts.proofs.teller.Teller.turn_to.Goals as goal

@@ -4,7 +4,7 @@ use Rattle.account_rule.specs.Rules.{rules_of}
 use Rattle.account_rule.specs.Stands.{Stands, StandsForSome}
 use Rattle.account_rule.specs.declared.tap.TapIn.{TapIn}
 use Rattle.shard_book.specs.Entry.{own, tap_of}
-use Rattle.shard_book.specs.Token.{bytes_of}
+use Rattle.fare_table.specs.Token.{bytes_of}
 use Rattle.ledger_texts.proofs.Writing.{come_next, line_after}
 use Rattle.ledger_texts.proofs.teller.Teller.write_next.Goals as goal
 

@@ -1,7 +1,7 @@
 use Rattle.std.proofs.Common.{sym, ap, ◌≡◌, ◌∙◌, arith}
 use Rattle.indexmap.specs.IndexMap.{get}
-use Rattle.shard_book.specs.Token.{token_eq}
-use Rattle.shard_book.specs.declared.token.Token.{Token}
+use Rattle.fare_table.specs.Token.{token_eq}
+use Rattle.fare_table.specs.declared.token.Token.{Token}
 use Rattle.shard_book.proofs.AccountsLemmas.{at_place}
 use Rattle.shard_book.proofs.Histories.{same_token}
 use Rattle.shard_book.proofs.accounts.Accounts.is_at.Goals as goal

@@ -6,7 +6,7 @@ use Rattle.std.specs.Map.{keys_of}
 use Rattle.std.specs.Map.Iter.{deref}
 use Rattle.fare_table.proofs.TokenMarks.{marked-more, marked-new}
 use Rattle.fare_table.specs.Marks.{is_marked, slot as slot_among}
-use Rattle.fare_table.specs.declared.riders.token.Token.{Token}
+use Rattle.fare_table.specs.declared.token.Token.{Token}
 use Rattle.fare_table.proofs.riders.marks.Marks.new.Goals as goal
 
 pub slot-slot-requires : goal.slot-slot-requires

@@ -1,6 +1,6 @@
 use Rattle.std.proofs.Common.{refl}
-use Rattle.shard_book.specs.Token.{bytes_of}
-use Rattle.shard_book.proofs.token.Token.bytes.Goals as goal
+use Rattle.fare_table.specs.Token.{bytes_of}
+use Rattle.fare_table.proofs.token.Token.bytes.Goals as goal
 
 pub returns : goal.returns
 unfolding bytes_of

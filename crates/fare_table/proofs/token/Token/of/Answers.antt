@@ -2,7 +2,7 @@ use Rattle.std.proofs.Common.{◌-◌, ◌∙◌, length, drop, arith}
 use Rattle.std.proofs.lemmas.List.{take_all, length-drop}
 use Rattle.fare_table.specs.Token.{bytes_of}
 use Rattle.fare_table.proofs.TokenBytes.{two_numbers}
-use Rattle.fare_table.proofs.riders.token.Token.of.Goals as goal
+use Rattle.fare_table.proofs.token.Token.of.Goals as goal
 
 pub returns-clause-bytes : goal.returns-clause-bytes
 unfolding bytes_of
