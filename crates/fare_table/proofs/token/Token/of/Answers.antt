@@ -1,4 +1,4 @@
-use Rattle.std.proofs.Common.{◌-◌, ◌∙◌, length, drop, arith}
+use Rattle.std.proofs.Common.{◌∙◌, drop, arith}
 use Rattle.std.proofs.lemmas.List.{take_all, length-drop}
 use Rattle.fare_table.specs.Token.{bytes_of}
 use Rattle.fare_table.proofs.TokenBytes.{two_numbers}
@@ -12,5 +12,5 @@ returns-clause-bytes c =
     let byte = c.type_inv.bytes i in omega arith)
     c.copy_from_slice.ensures.after
     (c.copy_from_slice-2.ensures.after
-    ∙ take_all (length bytes - 8) (drop 8 bytes) (omega (arith, length-drop 8 bytes)))
+    ∙ take_all 8 (drop 8 bytes) (omega (arith, length-drop 8 bytes)))
     c.from_be_bytes.ensures c.from_be_bytes-2.ensures
