@@ -27,7 +27,8 @@ use Rattle.fare_service.specs.inside.ServiceView.{IsService}
 use Rattle.fare_service.specs.ShareView.{ShareView}
 use Rattle.fare_service.specs.inside.Joining.{told_all}
 use Rattle.fare_service.specs.Outcomes.{OutcomeView}
-use Rattle.fare_service.specs.Runs.{Visit, IsEntered, visits_to, entries_of, taps_posted}
+use Rattle.fare_service.specs.Runs.{Visit, IsEntered, entries_of, taps_posted}
+use Rattle.fare_service.specs.inside.Runs.{visits_to}
 use Rattle.fare_service.specs.Shares.{Worked, all_visits, IsWorkOf, IsEndOf, IsShareOf, all_works, file_at}
 use Rattle.fare_service.proofs.GatherLemmas.{has_gathered, times_same, fewer_after, not_drawn, end_same, end_other}
 use Rattle.fare_service.proofs.VisitLemmas.{same_seven, sums-append, add_none}

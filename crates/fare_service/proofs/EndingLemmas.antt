@@ -23,11 +23,13 @@ use Rattle.fare_service.specs.Faults.{visits_held}
 use Rattle.fare_service.specs.Headline.{Signed, HasOutcome, ToldUndrawn}
 use Rattle.fare_service.specs.Outcomes.{OutcomeView}
 use Rattle.fare_service.specs.Plain.{WasWhole}
-use Rattle.fare_service.specs.Runs.{PlacedTap, placed_from, of_shard, Run, run, if_any, runs_below, runs_of, Visit, run_of_visit, ArePosted, AreCut, IsEntered, taps_of, entries_to, entries_of, visits_to, taps_posted}
+use Rattle.fare_service.specs.Runs.{PlacedTap, placed_from, of_shard, Run, run, if_any, runs_below, runs_of, Visit, run_of_visit, ArePosted, AreCut, IsEntered, taps_of, entries_to, entries_of, taps_posted}
+use Rattle.fare_service.specs.inside.Runs.{visits_to}
 use Rattle.fare_service.specs.ServiceView.{ServiceView, shards_of}
 use Rattle.fare_service.specs.ShareView.{ShareView}
 use Rattle.fare_service.specs.Shares.{Worked, done_of, all_visits, file_at, IsEndOf, IsFresh, IsShareOf, IsWorkOf, Keeps, own_at, marks_at, books_of}
-use Rattle.fare_service.specs.Stopping.{SomeFull, MayGoOn, WasCut, StoppedWell, WorkedOn, HaveStopped, FullIsMade, is_cut, cuts, posting}
+use Rattle.fare_service.specs.Stopping.{SomeFull, MayGoOn, WasCut, StoppedWell, HaveStopped, FullIsMade, is_cut, cuts, posting}
+use Rattle.fare_service.specs.inside.Stopping.{WorkedOn}
 use Rattle.fare_service.specs.inside.Closing.{IsClosedWork}
 use Rattle.fare_service.specs.inside.ServiceView.{IsService, IsBookOf}
 use Rattle.fare_service.proofs.AddingLemmas.{ends_are, length_sum, sum_by_key, sum_by-map, sum_by-flat_map, sum_of_places, told_end_taps}

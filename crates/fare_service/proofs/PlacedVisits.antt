@@ -15,7 +15,8 @@ use Rattle.fare_service.specs.declared.upload_end.UploadEnd.{UploadEnd}
 use Rattle.fare_service.specs.declared.upload_end.UploadEnd.TheVariants.{Posted, Refused, Cut, Undrawn}
 use Rattle.fare_service.specs.Headline.{end_of}
 use Rattle.fare_service.specs.Placing.{posted_of, in_posting_order, WerePostedOf}
-use Rattle.fare_service.specs.Runs.{PlacedTap, placed_from, taps_of, of_shard, Run, run, if_any, runs_below, runs_of, Visit, IsEntered, run_of_visit, ArePosted, AreCut, visits_to, entries_of, taps_posted}
+use Rattle.fare_service.specs.Runs.{PlacedTap, placed_from, taps_of, of_shard, Run, run, if_any, runs_below, runs_of, Visit, IsEntered, run_of_visit, ArePosted, AreCut, entries_of, taps_posted}
+use Rattle.fare_service.specs.inside.Runs.{visits_to}
 use Rattle.fare_service.specs.Shares.{Worked, all_visits, IsWorkOf, IsEndOf, file_at}
 use Rattle.fare_service.proofs.GatherLemmas.{drawn_times, times_same, times_other, fewer_after, end_same, end_other}
 use Rattle.fare_service.proofs.RunVisits.{AllZip-length}

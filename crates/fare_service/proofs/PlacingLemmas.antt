@@ -17,7 +17,8 @@ use Rattle.fare_service.specs.declared.upload_end.UploadEnd.{UploadEnd}
 use Rattle.fare_service.specs.Headline.{Signed, by_worker}
 use Rattle.fare_service.specs.Outcomes.{OutcomeView}
 use Rattle.fare_service.specs.Placing.{Origin, of_upload, posted_of, StandOnce, WerePostedOf}
-use Rattle.fare_service.specs.Runs.{PlacedTap, taps_of, of_shard, Visit, IsEntered, visits_to, entries_to}
+use Rattle.fare_service.specs.Runs.{PlacedTap, taps_of, of_shard, Visit, IsEntered, entries_to}
+use Rattle.fare_service.specs.inside.Runs.{visits_to}
 use Rattle.fare_service.specs.Shares.{Worked, all_visits, IsWorkOf, all_works, file_at}
 use Rattle.fare_service.proofs.GatherLemmas.{drawn_times, times_same, each_work}
 use Rattle.fare_service.proofs.PlacedVisits.{IsOwnVisit, own_worked, shard_taps, works_on, no_works_on, end_posted, filter_none}

@@ -17,7 +17,8 @@ use Rattle.shard_book.specs.Sums.{Sums, sums, sums_of_replies, add_sums, is_paid
 use Rattle.shared_books.specs.declared.turns.rule.Mark.{Mark}
 use Rattle.shared_books.specs.Marks.{mark, others}
 use Rattle.shared_books.specs.Passes.{PassView, IsLater, Visits}
-use Rattle.fare_service.specs.Runs.{Visit, IsEntered, visits_to, entries_to, entries_of}
+use Rattle.fare_service.specs.Runs.{Visit, IsEntered, entries_to, entries_of}
+use Rattle.fare_service.specs.inside.Runs.{visits_to}
 use Rattle.fare_service.specs.Shares.{own_visits, marks_at, own_at, Made}
 
 -- sums are their seven numbers

@@ -46,8 +46,7 @@ end_of upload (w ∷ works) = if w.upload == upload then w.end else end_of uploa
 abbrev pub EachBook : (ℕ → Book → Type 0) → List Book → Type 0
 EachBook P books = (shard : ℕ) (book : Book) → slice_get books shard ≡ Some book → P shard book
 
--- What an outcome of these files is, under a table and with so many shards, by what each worker
--- did.
+-- What an outcome of files is, under a table and with so many shards, by what each worker did.
 pub record Headline (fares : Fares) (shards : ℕ) (files : List (List ℕ))
     (works : List (List Worked)) (outcome : OutcomeView) : Type 0 where
   -- Each worker posted of the uploads that it drew what their bytes call for, and no upload was

@@ -4,8 +4,7 @@ use Rattle.shard_book.specs.Book.{Book}
 use Rattle.shard_book.specs.Sums.{Sums}
 use Rattle.fare_service.specs.declared.upload_end.UploadEnd.{UploadEnd}
 
--- an outcome: the book of each shard, the end of each upload, the totals of each worker's replies,
--- and those of all books
+-- the book of each shard, the end of each upload, and the totals of each worker and of all
 pub record OutcomeView : Type 0 where
   pub books : List Book
   pub ends : List UploadEnd

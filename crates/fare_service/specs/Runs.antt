@@ -2,11 +2,11 @@
 -- order that is fixed.
 use Rattle.std.specs.Prelude.{◌≡◌, ◌⊎◌, ℕ, zero, suc, ◌+◌, ◌<◌, ◌==◌, List, [], ◌∷◌, ◌++◌, length}
 use Rattle.std.specs.Prelude.{map, filter, take}
-use Rattle.std.specs.List.{flat_map}
+use Rattle.std.specs.List.{flat_map, AllZip}
 use Rattle.tap_views.specs.Layout.{Tap}
 use Rattle.tap_views.specs.Shards.{shard_of_token}
 use Rattle.shard_book.specs.declared.entry.Entry.{Entry}
-use Rattle.shard_book.specs.Visits.{AreEntriesOf}
+use Rattle.shard_book.specs.Entry.{IsEntryOf}
 
 -- a tap and its place in its upload, where the first tap has place 0
 pub record PlacedTap : Type 0 where
@@ -51,8 +51,7 @@ runs_of shards place (batch ∷ batches) =
     runs_below shards shards (placed_from place batch)
     ++ runs_of shards (place + length batch) batches
 
--- a visit that a worker made to a shard: the taps that it posted, and the entries that stand for
--- them
+-- a visit that a worker made to a shard: the taps that it posted, and an entry for each
 pub record Visit : Type 0 where
   pub shard : ℕ
   pub taps : List PlacedTap
@@ -61,7 +60,7 @@ pub record Visit : Type 0 where
 -- the visit is to one of the shards, and has the fields of its taps' bytes, tap by tap
 pub record IsEntered (shards : ℕ) (visit : Visit) : Type 0 where
   pub within : visit.shard < shards
-  pub fields : AreEntriesOf (taps_of visit.taps) visit.entries
+  pub fields : AllZip IsEntryOf (taps_of visit.taps) visit.entries
 
 abbrev pub run_of_visit : Visit → Run
 run_of_visit visit = run visit.shard visit.taps
@@ -70,8 +69,7 @@ run_of_visit visit = run visit.shard visit.taps
 abbrev pub ArePosted : List Run → List Visit → Type 0
 ArePosted runs visits = map run_of_visit visits ≡ runs
 
--- the runs were posted up to one that was cut: nothing of it was posted, or its first taps and not
--- all of them
+-- the runs were posted up to a cut one: of it nothing was posted, or its first taps and not all
 pub record AreCut (runs : List Run) (visits : List Visit) : Type 0 where
   pub before : List Run
   pub cut : Run
@@ -83,11 +81,9 @@ pub record AreCut (runs : List Run) (visits : List Visit) : Type 0 where
       × (map run_of_visit visits ≡ before ++ run cut.shard (take posted cut.taps) ∷ []))
 
 -- the entries of the visits to a shard, visit by visit
-abbrev pub visits_to : ℕ → List Visit → List Visit
-visits_to shard visits = filter (λ visit. visit.shard == shard) visits
-
 abbrev pub entries_to : ℕ → List Visit → List (List Entry)
-entries_to shard visits = map (λ visit. visit.entries) (visits_to shard visits)
+entries_to shard visits =
+    map (λ visit. visit.entries) (filter (λ visit. visit.shard == shard) visits)
 
 -- the entries of the visits, visit by visit
 abbrev pub entries_of : List Visit → List Entry

@@ -8,7 +8,7 @@ use Rattle.fare_service.specs.Outcomes.{OutcomeView}
 use Rattle.fare_service.specs.ServiceView.{ServiceView}
 use Rattle.fare_service.specs.ShareView.{ShareView}
 use Rattle.fare_service.specs.Plain.{WasWhole}
-use Rattle.fare_service.specs.Shares.{Worked, HasWorked, WentOn}
+use Rattle.fare_service.specs.Shares.{Worked, HasWorked}
 use Rattle.fare_service.specs.declared.upload_end.UploadEnd.{UploadEnd}
 use Rattle.fare_service.specs.declared.upload_end.UploadEnd.TheVariants.{Cut, Undrawn}
 
@@ -39,13 +39,7 @@ pub record StoppedWell (service : ServiceView) (old new : ShareView) : Type 0 wh
   pub went_on : All (MayGoOn new.passes) before
   pub stopped : MatchOption last (new.drawer.seen ≡ length service.uploads) (λ w. WasCut w.end)
 
--- What a worker gives back of its share: the share as it was, or what it did with it until it
--- stopped. It keeps the share's claims.
-pub record WorkedOn (service : ServiceView) (old new : ShareView) : Type 0 where
-  pub went_on : WentOn service old new
-  pub stopped : (new ≡ old) ⊎ StoppedWell service old new
-
--- to a shard that is full, as a share knows, the shares made 2^62 visits
+-- if a share knows that some shard is full, the shares made 2^62 visits to one
 abbrev pub FullIsMade : List ShareView → Type 0
 FullIsMade shares =
     All (λ share. SomeFull share.passes → (shard : ℕ) × (2 ^ 62 ≤ visits_held shard shares)) shares
@@ -63,9 +57,9 @@ cuts outcome = count_by is_cut outcome.ends
 abbrev pub posting : OutcomeView → ℕ
 posting outcome = count_by (λ sums. nat_lt 0 sums.taps) outcome.workers
 
--- How the workers of an outcome stopped. No worker had more than one upload cut, unless some shard
--- was full: then 2^62 visits were made to it, each of which posted a tap or was cut. If an upload
--- was left undrawn, each worker that posted a tap had one cut.
+-- How the workers of an outcome stopped. No more uploads were cut than there were workers, unless
+-- taps and cuts together are 2^62: so it is if some shard was full, since each visit to it posted a
+-- tap or was cut. If an upload was left undrawn, at least as many were cut as workers posted a tap.
 pub record HaveStopped (workers : ℕ) (outcome : OutcomeView) : Type 0 where
   pub few_cut : (cuts outcome ≤ workers) ⊎ (2 ^ 62 ≤ outcome.totals.taps + cuts outcome)
   pub undrawn : (upload : ℕ) → slice_get outcome.ends upload ≡ Some Undrawn

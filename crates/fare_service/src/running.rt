@@ -8,7 +8,8 @@ ghost use Rattle.fare_service.specs.ServiceView.{shards_of};
 ghost use Rattle.fare_service.specs.Headline.{HasRun};
 ghost use Rattle.fare_service.specs.Refusals.{WasNotGathered};
 ghost use Rattle.fare_service.specs.Shares.{IsFresh, IsShareOf};
-ghost use Rattle.fare_service.specs.Stopping.{HaveStopped, WorkedOn};
+ghost use Rattle.fare_service.specs.Stopping.{HaveStopped};
+ghost use Rattle.fare_service.specs.inside.Stopping.{WorkedOn};
 
 use crate::faults::RunFault;
 use crate::outcome::Outcome;

@@ -11,8 +11,9 @@ use Rattle.atomic_table.specs.Table.{State, Me, step, keeps, Allows, Splits, Joi
 use Rattle.atomic_table.proofs.Lists.{at_set, at_snoc, set_again, set_else, exchanged}
 use Rattle.shared_books.specs.declared.drawing.rule.Hand.{Hand}
 use Rattle.shared_books.specs.Claims.{all_claims}
-use Rattle.shared_books.specs.Drawing.{times, NoneTwice, AllBelow, HasAll, IsSpent, times_drawn, IsDrawn}
-use Rattle.shared_books.specs.Hands.{hand, empty_hand, left_hand, new_hand, spent_hand, both_hands, HasTried, HasLooked}
+use Rattle.shared_books.specs.Drawing.{times, NoneTwice, AllBelow, HasAll}
+use Rattle.shared_books.specs.inside.Drawing.{IsSpent, times_drawn, IsDrawn}
+use Rattle.shared_books.specs.inside.Hands.{hand, empty_hand, left_hand, new_hand, spent_hand, both_hands, HasTried, HasLooked}
 use Rattle.shared_books.proofs.Changed.{sum_set, sum_part, sum_only}
 use Rattle.shared_books.proofs.ClaimSteps.{claims_set, claims_split, claims_join, claims_most, others_spent}
 use Rattle.shared_books.proofs.Numbers.{times-append, times-same, times-other, as_many}

@@ -5,7 +5,8 @@ use Rattle.shard_book.specs.declared.entry.Entry.{Entry}
 use Rattle.shared_books.specs.declared.turns.rule.Opening.{Opening}
 use Rattle.shared_books.specs.Marks.{mark, others, visits_of, joined}
 use Rattle.shared_books.specs.Turns.{Boxed, IsTurn}
-use Rattle.shared_books.specs.Views.{Seat, view, HasTakenBook, given_back}
+use Rattle.shared_books.specs.Views.{view}
+use Rattle.shared_books.specs.inside.Steps.{Seat, HasTakenBook, given_back}
 use Rattle.shared_books.specs.inside.Views.{IsFree, SeesMore, HasBookOut, BringsVisit}
 use Rattle.shared_books.proofs.MarkLists.{drop_all}
 use Rattle.shared_books.proofs.TurnSteps.{gives_turn}

@@ -5,7 +5,7 @@ use native.Mathlib.Decide.{ℕ_discrete}
 use Rattle.atomic_table.specs.Table.{Me, Step}
 use Rattle.shared_books.specs.declared.drawing.rule.Hand.{Hand}
 use Rattle.shared_books.specs.Drawing.{NoneTwice, AllBelow}
-use Rattle.shared_books.specs.Hands.{hand, left_hand, both_hands, HasLooked}
+use Rattle.shared_books.specs.inside.Hands.{hand, left_hand, both_hands, HasLooked}
 use Rattle.shared_books.specs.inside.Hands.{IsHeld}
 use Rattle.shared_books.proofs.Numbers.{times-append, times-same, times-other, few}
 

@@ -12,7 +12,8 @@ use Rattle.shared_books.specs.Marks.{mark, others, visits_of, joined, made_from,
 use Rattle.shared_books.specs.Passes.{PassView, seen_by, book_of, IsLater, Visits, IsFull, IsJoined, HasMadeAll}
 use Rattle.shared_books.specs.inside.Passes.{opened_of}
 use Rattle.shared_books.specs.Turns.{Boxed, book_after}
-use Rattle.shared_books.specs.Views.{Seat, view, fresh, left_view, both_views, HasSeen, HasSettled}
+use Rattle.shared_books.specs.Views.{view}
+use Rattle.shared_books.specs.inside.Steps.{Seat, fresh, left_view, both_views, HasSeen, HasSettled}
 use Rattle.shared_books.specs.inside.Views.{IsFree, SeesMore, HasBookOut, FindsFull, BringsVisit, IsPass}
 use Rattle.shared_books.proofs.MarkLists.{visits-caught, visits-append, visits-others, length-visits, others-append, joined-snoc, made-others, made-caught, made-snoc, made_few, made_all, length-made-merged}
 use Rattle.shared_books.proofs.TurnSteps.{Closes}

@@ -19,7 +19,8 @@ use Rattle.shared_books.specs.Claims.{all_claims}
 use Rattle.shared_books.specs.Machine.{Machine, Event, taken, given, start, May, next, after, IsSchedule}
 use Rattle.shared_books.specs.Marks.{mark, others, visits_of, joined, made_at, made_from, Apart, Begins, merged}
 use Rattle.shared_books.specs.Turns.{Boxed, book_after, makers, FitsMachine, IsNobody, ShowsMachine, IsTurn}
-use Rattle.shared_books.specs.Views.{Seat, view, nobody, fresh, left_view, both_views, HasSeen, HasTriedTurn, given_back, HasSettled}
+use Rattle.shared_books.specs.Views.{view}
+use Rattle.shared_books.specs.inside.Steps.{Seat, nobody, fresh, left_view, both_views, HasSeen, HasTriedTurn, given_back, HasSettled}
 use Rattle.shared_books.proofs.Changed.{sum_set, sum_part, sum_only, at_less}
 use Rattle.shared_books.proofs.ClaimSteps.{claims_set, claims_split, claims_join, claims_most, others_spent}
 use Rattle.shared_books.proofs.MarkLists.{visits-caught, visits-append, visits-others, length-visits, joined-snoc, drop_all, made_at-others, made_at-caught, made_at-here, made_at-else, made_at-beyond, made_at-merged, made_many, begins_merged, begins_either, begins_whole, begins_shorter}

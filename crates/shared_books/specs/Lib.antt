@@ -2,10 +2,8 @@ pub mod Answers
 pub mod Claims
 pub mod Drawing
 pub mod Events
-pub mod Hands
 pub mod Machine
 pub mod Marks
-pub mod Nobody
 pub mod Passes
 pub mod Turns
 pub mod Views

@@ -2,10 +2,12 @@
 use Rattle.std.specs.Prelude.{◌≡◌, ◌⊎◌, ℕ, List, ◌++◌, ◌∷◌, [], Result, IsErrOf}
 use Rattle.shard_book.specs.declared.entry.Entry.{Entry}
 use Rattle.shared_books.specs.Passes.{PassView}
-use Rattle.fare_service.specs.Shares.{own_at}
+use Rattle.fare_service.specs.ServiceView.{ServiceView}
+use Rattle.fare_service.specs.ShareView.{ShareView}
+use Rattle.fare_service.specs.Shares.{own_at, WentOn}
 use Rattle.fare_service.specs.declared.working.Stop.{Stop}
 use Rattle.fare_service.specs.declared.working.Stop.TheVariants.{Memory, Full}
-use Rattle.fare_service.specs.Stopping.{SomeFull}
+use Rattle.fare_service.specs.Stopping.{SomeFull, StoppedWell}
 
 -- What was known of a full shard is still known. Where a full shard stopped the work, it is known
 -- now.
@@ -18,3 +20,9 @@ abbrev pub TellsMemory : ℕ → Result (Unit {0}) Stop → List PassView → Li
 TellsMemory shard answer old new =
     IsErrOf answer Memory → (new ≡ old)
     ⊎ ((visit : List Entry) × (own_at shard new ≡ own_at shard old ++ visit ∷ []))
+
+-- What a worker gives back of its share: the share as it was, or what it did with it until it
+-- stopped. It keeps the share's claims.
+pub record WorkedOn (service : ServiceView) (old new : ShareView) : Type 0 where
+  pub went_on : WentOn service old new
+  pub stopped : (new ≡ old) ⊎ StoppedWell service old new

@@ -6,7 +6,8 @@ use Rattle.shard_book.specs.Book.{Book}
 use Rattle.shard_book.specs.History.{IsLegal}
 use Rattle.shared_books.specs.Marks.{others, visits_of, joined, made_from}
 use Rattle.shared_books.specs.Turns.{book_after}
-use Rattle.shared_books.specs.Views.{Seat, view}
+use Rattle.shared_books.specs.Views.{view}
+use Rattle.shared_books.specs.inside.Steps.{Seat}
 
 -- a seat of a pass that does not have the turn
 pub record IsFree (me : Seat) : Type 0 where

@@ -17,8 +17,8 @@ pub struct DrawRule;
 
 impl TableRule<(), Hand, u32> for DrawRule {
     ghost use Rattle.shared_books.specs.Claims.{all_claims};
-    ghost use Rattle.shared_books.specs.Drawing.{IsDrawn};
-    ghost use Rattle.shared_books.specs.Hands.{empty_hand};
+    ghost use Rattle.shared_books.specs.inside.Drawing.{IsDrawn};
+    ghost use Rattle.shared_books.specs.inside.Hands.{empty_hand};
 
     ghost holds = { IsDrawn };
 
@@ -29,7 +29,7 @@ impl TableRule<(), Hand, u32> for DrawRule {
 pub struct Draws;
 
 impl Play<(), Hand> for Draws {
-    ghost use Rattle.shared_books.specs.Hands.{HasTried};
+    ghost use Rattle.shared_books.specs.inside.Hands.{HasTried};
 
     ghost then = { HasTried };
 }
@@ -38,7 +38,7 @@ impl Play<(), Hand> for Draws {
 pub struct Looks;
 
 impl Play<(), Hand> for Looks {
-    ghost use Rattle.shared_books.specs.Hands.{HasLooked};
+    ghost use Rattle.shared_books.specs.inside.Hands.{HasLooked};
 
     ghost then = { HasLooked };
 }
@@ -47,7 +47,7 @@ impl Play<(), Hand> for Looks {
 pub struct Parts;
 
 impl Split<Hand> for Parts {
-    ghost use Rattle.shared_books.specs.Hands.{left_hand, new_hand};
+    ghost use Rattle.shared_books.specs.inside.Hands.{left_hand, new_hand};
 
     ghost left = { left_hand };
 
@@ -58,7 +58,7 @@ impl Split<Hand> for Parts {
 pub struct Meets;
 
 impl Join<Hand> for Meets {
-    ghost use Rattle.shared_books.specs.Hands.{both_hands, spent_hand};
+    ghost use Rattle.shared_books.specs.inside.Hands.{both_hands, spent_hand};
 
     ghost both = { both_hands };
 

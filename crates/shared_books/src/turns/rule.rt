@@ -58,7 +58,7 @@ impl TableRule<Slot, View, Opening> for TurnRule {
 pub struct Looks;
 
 impl Play<Slot, View> for Looks {
-    ghost use Rattle.shared_books.specs.Views.{HasSeen};
+    ghost use Rattle.shared_books.specs.inside.Steps.{HasSeen};
 
     ghost then = { λ _ before found after. HasSeen before found after };
 }
@@ -67,7 +67,7 @@ impl Play<Slot, View> for Looks {
 pub struct Takes;
 
 impl Play<Slot, View> for Takes {
-    ghost use Rattle.shared_books.specs.Views.{HasTriedTurn};
+    ghost use Rattle.shared_books.specs.inside.Steps.{HasTriedTurn};
 
     ghost then = { HasTriedTurn };
 }
@@ -77,7 +77,7 @@ pub struct Gives;
 
 impl Play<Slot, View> for Gives {
     ghost use Rattle.std.specs.Prelude.{◌≡◌};
-    ghost use Rattle.shared_books.specs.Views.{given_back};
+    ghost use Rattle.shared_books.specs.inside.Steps.{given_back};
 
     ghost then = { λ _ before _ after. after ≡ given_back before };
 }
@@ -86,7 +86,7 @@ impl Play<Slot, View> for Gives {
 pub struct Parts;
 
 impl Split<View> for Parts {
-    ghost use Rattle.shared_books.specs.Views.{fresh, left_view};
+    ghost use Rattle.shared_books.specs.inside.Steps.{fresh, left_view};
 
     ghost left = { left_view };
 
@@ -97,7 +97,7 @@ impl Split<View> for Parts {
 pub struct Meets;
 
 impl Join<View> for Meets {
-    ghost use Rattle.shared_books.specs.Views.{both_views, nobody};
+    ghost use Rattle.shared_books.specs.inside.Steps.{both_views, nobody};
 
     ghost both = { both_views };
 
@@ -108,7 +108,7 @@ impl Join<View> for Meets {
 pub struct Settles;
 
 impl Play<Slot, View> for Settles {
-    ghost use Rattle.shared_books.specs.Views.{HasSettled};
+    ghost use Rattle.shared_books.specs.inside.Steps.{HasSettled};
 
     ghost then = { λ _ before _ after. HasSettled before after };
 }

@@ -14,7 +14,8 @@ impl SharedBook {
     ghost use Rattle.std.specs.Prelude.{true, false, List, IfSome, IfNone};
     ghost use Rattle.shard_book.specs.declared.entry.Entry.{Entry};
     ghost use Rattle.shared_books.specs.Marks.{mark, joined, visits_of};
-    ghost use Rattle.shared_books.specs.Views.{view, HasSeen};
+    ghost use Rattle.shared_books.specs.Views.{view};
+    ghost use Rattle.shared_books.specs.inside.Steps.{HasSeen};
     ghost use Rattle.shared_books.specs.inside.Views.{IsFree, SeesMore, HasBookOut, BringsVisit};
 
     /// Loads the word.

@@ -3,7 +3,7 @@ use Rattle.std.specs.Prelude.{Result, Ok, Err, IfErr, IsErrAnd}
 use Rattle.fare_service.specs.declared.faults.RunFault.TheVariants.{Gather}
 use Rattle.fare_service.specs.declared.faults.GatherFault.{GatherFault}
 use Rattle.fare_service.specs.Faults.{MissesNothing}
-use Rattle.fare_service.specs.Stopping.{WorkedOn}
+use Rattle.fare_service.specs.inside.Stopping.{WorkedOn}
 use Rattle.fare_service.proofs.ClaimLemmas.{claims_kept}
 use Rattle.fare_service.proofs.EndingLemmas.{have_stopped}
 use Rattle.fare_service.proofs.GatherLemmas.{has_run}

@@ -7,7 +7,7 @@ use Rattle.fare_service.specs.declared.running.OfShare.{OfShare}
 use Rattle.fare_service.specs.declared.share.Share.{Share}
 use Rattle.std.specs.List.{AllZip}
 use Rattle.fare_service.specs.ShareView.{ShareView}
-use Rattle.fare_service.specs.Stopping.{WorkedOn}
+use Rattle.fare_service.specs.inside.Stopping.{WorkedOn}
 use Rattle.fare_service.proofs.ThreadLemmas.{kept_zip}
 use Rattle.fare_service.proofs.service.Service.work_in.Goals as goal
 

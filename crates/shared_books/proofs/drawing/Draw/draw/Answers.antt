@@ -1,6 +1,6 @@
 use Rattle.std.proofs.Common.{◌≡◌, ◌<◌, ◌≤◌, ◌+◌, ◌++◌, ◌∷◌, [], ap, sym, ◌∙◌, arith}
 use Rattle.shared_books.specs.Drawing.{Drawing}
-use Rattle.shared_books.specs.Hands.{hand}
+use Rattle.shared_books.specs.inside.Hands.{hand}
 use Rattle.shared_books.proofs.Held.{held_few, held_won, held_lost}
 use Rattle.shared_books.proofs.DrawSteps.{draws}
 use Rattle.shared_books.proofs.drawing.Draw.draw.Goals as goal

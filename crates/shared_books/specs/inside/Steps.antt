@@ -1,0 +1,98 @@
+-- What the steps of a turn do to the views of the passes.
+use Rattle.std.specs.Prelude.{◌≡◌, ◌≢◌, ℕ, ◌+◌, ◌*◌, ◌^◌, ◌≤◌, true, false, List, [], ◌∷◌}
+use Rattle.std.specs.Prelude.{◌++◌, length, drop, ◌⊎◌, Option, Some, None}
+use Rattle.atomic_table.specs.Table.{Step, Me}
+use Rattle.shard_book.specs.declared.entry.Entry.{Entry}
+use Rattle.shard_book.specs.History.{IsLegal}
+use Rattle.shared_books.specs.declared.turns.rule.Opening.{Opening}
+use Rattle.shared_books.specs.declared.turns.rule.Mark.{Mark}
+use Rattle.shared_books.specs.declared.turns.rule.View.{View}
+use Rattle.shared_books.specs.Marks.{mark, others, visits_of, joined, merged, Apart, Begins}
+use Rattle.shared_books.specs.Claims.{claims_given, claims_left}
+use Rattle.shared_books.specs.Turns.{Boxed, book_after}
+use Rattle.shared_books.specs.Views.{view}
+use Rattle.shared_books.specs.inside.Nobody.{no_book}
+
+abbrev pub Seat : Type 0
+Seat = Me (Option Boxed) View
+
+-- what is left of a pass that was joined into another
+abbrev pub nobody : View
+nobody =
+    record {
+      live = false;
+      opened = record {
+        first = 0;
+        book = record { marker = record {}; value = no_book };
+      };
+      claims = 0;
+      turn = false;
+      marks = [];
+      met = [];
+    }
+
+-- a new pass has seen as much and half of the claims, and made nothing
+abbrev pub fresh : View → View
+fresh v = view v.opened (claims_given v.claims) false (others (visits_of v.marks)) []
+
+-- the old pass keeps the other claims, and what it has seen and made
+abbrev pub left_view : View → View
+left_view v = view v.opened (claims_left v.claims) v.turn v.marks v.met
+
+-- the marks of another pass, before a look shows how they lie beside the own ones
+abbrev pub both_views : View → View → View
+both_views v w = view v.opened (v.claims + w.claims) v.turn v.marks w.marks
+
+-- the word found is twice the count of visits seen, and one more where a pass holds the turn
+abbrev pub IsWord : ℕ → Opening → List Mark → Type 0
+IsWord found o marks =
+    (found ≡ 2 * (o.first + length marks)) ⊎ (found ≡ 2 * (o.first + length marks) + 1)
+
+-- a look at the word: the pass has seen all visits that are counted
+pub record HasSeen (before : Seat) (found : ℕ) (after : Seat) : Type 0 where
+  pub between : List (List Entry)
+  pub view_is : after.0 ≡ view before.0.opened before.0.claims before.0.turn
+      (before.0.marks ++ others between) before.0.met
+  pub word : IsWord found before.0.opened (before.0.marks ++ others between)
+  pub most : found ≤ 2 ^ 63
+  pub legal : IsLegal before.0.opened.book.value.table
+      (joined (visits_of (before.0.marks ++ others between)))
+  pub carries : after.1 ≡ before.1
+
+-- the turn was taken: the pass has seen all visits that are counted, and the book of these visits
+-- is out with it
+pub record HasTakenBook (s : Step (Option Boxed)) (before after : Seat) : Type 0 where
+  pub between : List (List Entry)
+  pub view_is : after.0 ≡ view before.0.opened before.0.claims true (before.0.marks ++ others between) before.0.met
+  pub word : s.first ≡ 2 * (before.0.opened.first + length (before.0.marks ++ others between))
+  pub legal : IsLegal before.0.opened.book.value.table
+      (joined (visits_of (before.0.marks ++ others between)))
+  pub book : Boxed
+  pub book_is : book.value ≡ book_after before.0.opened
+      (visits_of (before.0.marks ++ others between))
+  pub carries : after.1 ≡ (0, Some book) ∷ before.1
+
+-- a try to take the turn
+pub record HasTriedTurn (s : Step (Option Boxed)) (before : Seat) (found : ℕ) (after : Seat)
+    : Type 0 where
+  pub won : found ≡ s.first → HasTakenBook s before after
+  pub lost : found ≢ s.first → HasSeen before found after
+
+-- the turn is given back with the book, and the visit is what the book gained
+abbrev pub given_back : Seat → Seat
+given_back (v, []) = (v, [])
+given_back (v, (slot, None) ∷ out) = (v, out)
+given_back (v, (slot, Some b) ∷ out) = (
+  view v.opened v.claims false (v.marks
+      ++ mark true (drop (length (joined (visits_of v.marks))) b.value.entries) ∷ []) v.met,
+  out,
+)
+
+-- the look that ends a join: the marks of both passes lie beside one another
+pub record HasSettled (before after : Seat) : Type 0 where
+  pub view_is : after.0 ≡ view before.0.opened before.0.claims before.0.turn (merged before.0.marks before.0.met) []
+  pub apart : Apart before.0.marks before.0.met
+  pub begins : Begins (visits_of before.0.marks) (visits_of before.0.met)
+      ⊎ Begins (visits_of before.0.met) (visits_of before.0.marks)
+  pub small : before.0.opened.first + length (merged before.0.marks before.0.met) ≤ 2 ^ 62
+  pub carries : after.1 ≡ before.1
