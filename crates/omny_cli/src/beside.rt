@@ -5,13 +5,12 @@ use crate::steps::Steps;
 use crate::ticker::Ticker;
 use crate::watched::{Watched, WatchedDisk};
 use fare_program::{Complaints, Disk, Host, main_over};
-use std::io;
 use std::marker::Sync;
 use std::random::RandomSource;
 use std::sync::Wait;
-use std::thread;
 use std::thread::Threads;
 use std::time::Clock;
+use std::{io, thread};
 
 /// Whether the words ask for a listing. Words behind `--` are names of files.
 fn asks_for_list(words: &[String]) -> bool {
@@ -54,20 +53,11 @@ where
 /// that all is over.
 pub(crate) fn run_beside_line<
     R: Threads + Wait + Clock + RandomSource + Sync + Disk + Input + AllocGlobal,
->(
-    rt: &R,
-    words: &[String],
-    out: io::Stdout,
-    err: io::Stderr,
-) -> u8
+>(rt: &R, words: &[String], out: io::Stdout, err: io::Stderr) -> u8
 where
     R::Reader: Drop,
 {
     let ticker = Ticker::new(Steps::new(asks_for_list(words)), err);
-    let (_, status) = thread::join(
-        rt,
-        || ticker.tick(rt),
-        || run(rt, words, &ticker, out, err),
-    );
+    let (_, status) = thread::join(rt, || ticker.tick(rt), || run(rt, words, &ticker, out, err));
     status
 }
