@@ -1,0 +1,38 @@
+//! A writer that takes the line away before it writes.
+
+use crate::ticker::Ticker;
+use std::io;
+use std::io::Write;
+use std::sync::Wait;
+
+/// A writer before whose first byte the line is taken away for good. What it holds is what the
+/// writer below holds.
+#[derive(Drop)]
+pub(crate) struct Hushing<'a, R: Wait, W: Write + Drop> {
+    /// What may wait for the line.
+    rt: &'a R,
+    /// Where the line is.
+    ticker: &'a Ticker,
+    /// Where the bytes go.
+    to: W,
+}
+
+impl<'a, R: Wait, W: Write + Drop> Hushing<'a, R, W> {
+    /// A writer to which nothing was written.
+    pub(crate) fn new(rt: &'a R, ticker: &'a Ticker, to: W) -> Hushing<'a, R, W> {
+        Hushing { rt, ticker, to }
+    }
+}
+
+impl<R: Wait, W: Write + Drop> Write for Hushing<'_, R, W> {
+    ghost contents = { λ h. W.contents h.to };
+
+    fn write(&mut self, bytes: &[u8]) -> io::Result<usize> {
+        self.ticker.end(self.rt);
+        self.to.write(bytes)
+    }
+
+    fn flush(&mut self) -> io::Result<()> {
+        self.to.flush()
+    }
+}

@@ -1,0 +1,129 @@
+//! How far a run is, as far as that is seen from its reads.
+
+use std::fmt;
+use std::fmt::{Display, Formatter, Write};
+
+/// What a run does.
+#[derive(Clone, Copy, Debug, PartialEq, Eq)]
+enum Stage {
+    /// It reads the words, or looks which files there are.
+    Starting,
+    /// It reads the fare table.
+    Table,
+    /// It reads files.
+    Files,
+    /// It reads the standard input.
+    Input,
+    /// It has read all that it needs.
+    Loaded,
+}
+
+/// How far a run is. Shown, it is what the run does now.
+#[derive(Clone, Copy, Debug)]
+pub(crate) struct Steps {
+    /// What it does.
+    stage: Stage,
+    /// Whether the words ask for a listing.
+    asks_for_list: bool,
+    /// Whether it has read a fare table.
+    has_table: bool,
+    /// How many files there are, as far as it has looked.
+    found: usize,
+    /// Whether it has looked at all files.
+    knows_all: bool,
+    /// How many files were read before their turns.
+    early: usize,
+    /// How many files were read when their turns came, or had been before.
+    loaded: usize,
+}
+
+impl Steps {
+    /// A run that begins.
+    pub(crate) fn new(asks_for_list: bool) -> Steps {
+        Steps {
+            stage: Stage::Starting,
+            asks_for_list,
+            has_table: false,
+            found: 0,
+            knows_all: true,
+            early: 0,
+            loaded: 0,
+        }
+    }
+
+    /// Looked at the next file. It looks no further than the first that may not be read early.
+    pub(crate) fn look(&mut self, may_be_early: bool) {
+        if may_be_early {
+            self.found = self.found.saturating_add(1);
+        } else {
+            self.knows_all = false;
+        }
+    }
+
+    /// Begins to read files before their turns.
+    pub(crate) fn begin_early(&mut self) {
+        self.stage = Stage::Files;
+    }
+
+    /// Has read one more file before its turn.
+    pub(crate) fn end_early(&mut self) {
+        self.early = self.early.saturating_add(1);
+    }
+
+    /// Begins to read files in their turns. So many were read before.
+    pub(crate) fn keep_early(&mut self, early: usize) {
+        self.stage = Stage::Files;
+        self.early = early;
+    }
+
+    /// Begins to read a file: the table, if it comes before those that have turns.
+    pub(crate) fn begin_load(&mut self) {
+        if self.stage == Stage::Starting {
+            self.stage = Stage::Table;
+        }
+    }
+
+    /// Has read that file.
+    pub(crate) fn end_load(&mut self) {
+        if self.stage == Stage::Table {
+            self.has_table = true;
+            self.stage = Stage::Starting;
+            return;
+        }
+        self.loaded = self.loaded.saturating_add(1);
+        if self.knows_all && self.loaded >= self.found {
+            self.stage = Stage::Loaded;
+        }
+    }
+
+    /// Begins to read the standard input.
+    pub(crate) fn begin_input(&mut self) {
+        self.stage = Stage::Input;
+    }
+
+    /// Has read the standard input.
+    pub(crate) fn end_input(&mut self) {
+        self.stage = Stage::Loaded;
+    }
+
+    /// How many files are read.
+    fn read(&self) -> usize {
+        self.early.max(self.loaded)
+    }
+}
+
+impl Display for Steps {
+    fn fmt<W: Write>(&self, f: &mut Formatter<W>) -> fmt::Result {
+        match self.stage {
+            Stage::Starting => f.write_str("starting"),
+            Stage::Table => f.write_str("reading the table"),
+            Stage::Files if self.knows_all => {
+                write!(f, "{} of {} files read", self.read(), self.found)
+            }
+            Stage::Files => write!(f, "{} files read", self.read()),
+            Stage::Input => f.write_str("reading the standard input"),
+            Stage::Loaded if self.has_table && !self.asks_for_list => f.write_str("charging"),
+            Stage::Loaded => f.write_str("listing"),
+        }
+    }
+}

@@ -1,0 +1,120 @@
+//! A line on a terminal that says what a long run does: it is shown from the first second on, and
+//! is gone before anything else is written.
+
+use crate::steps::Steps;
+use arrayvec::ArrayString;
+use std::fmt::Write as _;
+use std::io;
+use std::io::Write;
+use std::sync::{Condvar, Mutex, Wait};
+use std::time::{Clock, Duration, Instant};
+
+/// After how many milliseconds the line is shown first.
+const QUIET_MS: u64 = 1_000;
+
+/// How many milliseconds a line stays before the next one.
+const PACE_MS: u64 = 200;
+
+/// The line as it is on the terminal.
+#[derive(Drop)]
+struct Line {
+    /// The standard error.
+    err: io::Stderr,
+    /// Whether a line is there.
+    is_shown: bool,
+    /// Whether no line may be shown any more.
+    is_over: bool,
+}
+
+impl Line {
+    /// Shows the line in place of the one that is there, by one write.
+    fn show(&mut self, steps: &Steps, seconds: u64) {
+        let mut line: ArrayString<80> = ArrayString::new();
+        let _ = write!(line, "\r{steps}, {seconds} s\x1b[K");
+        let _ = self.err.write(line.as_bytes());
+        self.is_shown = true;
+    }
+
+    /// Takes the line away for good.
+    fn end(&mut self) {
+        if self.is_shown {
+            let _ = self.err.write(b"\r\x1b[K");
+        }
+        self.is_shown = false;
+        self.is_over = true;
+    }
+}
+
+/// What a run and the thread that shows its line share.
+#[derive(Drop)]
+pub(crate) struct Ticker {
+    /// How far the run is.
+    pub(crate) steps: Mutex<Steps>,
+    /// The line, which one thread at a time writes.
+    line: Mutex<Line>,
+    /// Rung when the line is taken away for good.
+    ended: Condvar,
+}
+
+impl Ticker {
+    /// A run that begins, of which no line is shown yet.
+    pub(crate) fn new(steps: Steps, err: io::Stderr) -> Ticker {
+        Ticker {
+            steps: Mutex::new(steps),
+            line: Mutex::new(Line {
+                err,
+                is_shown: false,
+                is_over: false,
+            }),
+            ended: Condvar::new(),
+        }
+    }
+
+    /// Shows the line again and again, until it is taken away for good. If the clock cannot be
+    /// read, no line is shown from then on.
+    pub(crate) fn tick<R: Wait + Clock>(&self, rt: &R) {
+        let Ok(begun) = Instant::now(rt) else {
+            return;
+        };
+        let mut pause_ms = QUIET_MS;
+        for _ in rt.forever() {
+            if self.is_over_after(rt, pause_ms) {
+                return;
+            }
+            let Ok(passed) = begun.elapsed(rt) else {
+                return;
+            };
+            if passed.as_millis() >= u128::from(QUIET_MS) {
+                self.show(rt, passed.as_secs());
+                pause_ms = PACE_MS;
+            }
+        }
+    }
+
+    /// Waits so many milliseconds, or until the line is taken away for good, and says whether it
+    /// is.
+    fn is_over_after<R: Wait + Clock>(&self, rt: &R, pause_ms: u64) -> bool {
+        let line = self.line.lock(rt);
+        if line.is_over {
+            return true;
+        }
+        let pause = Duration::from_millis(pause_ms);
+        let (line, _) = self.ended.wait_timeout(rt, line, pause);
+        line.is_over
+    }
+
+    /// Shows the line, unless it was taken away for good.
+    fn show<R: Wait>(&self, rt: &R, seconds: u64) {
+        let steps = *self.steps.lock(rt);
+        let mut line = self.line.lock(rt);
+        if !line.is_over {
+            line.show(&steps, seconds);
+        }
+    }
+
+    /// Takes the line away for good.
+    pub(crate) fn end<R: Wait>(&self, rt: &R) {
+        self.line.lock(rt).end();
+        self.ended.notify_all();
+    }
+}

@@ -1,0 +1,78 @@
+//! Reads that are noted in a run's steps.
+
+use crate::ticker::Ticker;
+use fare_program::{Disk, Early, LoadFault, Source};
+use std::alloc::Global;
+use std::sync::Wait;
+
+/// A disk or a source whose reads are noted. It gives what the one below gives.
+#[derive(Drop)]
+pub(crate) struct Watched<'a, R: Wait, S: Drop> {
+    /// What may wait for the steps.
+    rt: &'a R,
+    /// Where reads are noted.
+    ticker: &'a Ticker,
+    /// What reads.
+    from: S,
+}
+
+impl<'a, R: Wait, S: Drop> Watched<'a, R, S> {
+    /// One whose reads are noted from now on.
+    pub(crate) fn new(rt: &'a R, ticker: &'a Ticker, from: S) -> Watched<'a, R, S> {
+        Watched { rt, ticker, from }
+    }
+}
+
+/// The disk of a runtime, whose reads are noted.
+#[derive(Clone, Copy)]
+pub(crate) struct WatchedDisk<'a, R: Wait> {
+    /// Where files lie.
+    rt: &'a R,
+    /// Where reads are noted.
+    ticker: &'a Ticker,
+}
+
+impl<'a, R: Wait> WatchedDisk<'a, R> {
+    /// One whose reads are noted from now on.
+    pub(crate) fn new(rt: &'a R, ticker: &'a Ticker) -> WatchedDisk<'a, R> {
+        WatchedDisk { rt, ticker }
+    }
+}
+
+impl<R: Disk + Wait> Disk for WatchedDisk<'_, R> {
+    fn may_be_early(&self, name: &str) -> bool {
+        let may_be_early = self.rt.may_be_early(name);
+        self.ticker.steps.lock(self.rt).look(may_be_early);
+        may_be_early
+    }
+
+    fn read(&self, alloc: Global, name: &str) -> Result<Vec<u8>, LoadFault> {
+        self.ticker.steps.lock(self.rt).begin_early();
+        let bytes = self.rt.read(alloc, name)?;
+        self.ticker.steps.lock(self.rt).end_early();
+        Ok(bytes)
+    }
+}
+
+impl<R: Wait, S: Source + Drop> Source for Watched<'_, R, S> {
+    ghost loaded = { λ w. S.loaded w.from };
+
+    fn keep_early(&mut self, early: Vec<Early>) {
+        self.ticker.steps.lock(self.rt).keep_early(early.len());
+        self.from.keep_early(early);
+    }
+
+    fn load(&mut self, name: &str) -> Result<Vec<u8>, LoadFault> {
+        self.ticker.steps.lock(self.rt).begin_load();
+        let bytes = self.from.load(name)?;
+        self.ticker.steps.lock(self.rt).end_load();
+        Ok(bytes)
+    }
+
+    fn input(&mut self) -> Result<Vec<u8>, LoadFault> {
+        self.ticker.steps.lock(self.rt).begin_input();
+        let bytes = self.from.input()?;
+        self.ticker.steps.lock(self.rt).end_input();
+        Ok(bytes)
+    }
+}
