@@ -9,8 +9,7 @@ use std::alloc::{AllocError, Global};
 use std::io::Write;
 use std::{fmt, fs, io};
 use tap_views::LayoutFault;
-use upload_facts::{Facts, facts_of};
-use upload_parts::Split;
+use upload_parts::{Split, UploadEnd};
 
 /// The most parts.
 pub(crate) const MOST_PARTS: u32 = 65_535;
@@ -46,9 +45,9 @@ impl fmt::Display for FaultName {
 }
 
 /// Appends the line that says how the upload of this number ends, as a report has it.
-fn push_end(text: &mut String, upload: u128, facts: &Facts) -> Result<(), AllocError> {
-    let taps = facts.taps;
-    match facts.fault {
+fn push_end(text: &mut String, upload: u128, end: &UploadEnd) -> Result<(), AllocError> {
+    let taps = end.taps;
+    match end.fault {
         None => write!(text, "upload {upload} posted {taps}\n"),
         Some((offset, fault)) => {
             let name = FaultName(fault);
@@ -70,14 +69,13 @@ fn split_all<'a>(
     for (number, name) in words.uploads.iter().enumerate() {
         progress.tell(number, words.uploads.len(), "uploads");
         let upload = load_upload(rt, *name)?;
-        let facts = facts_of(&upload);
-        if push_end(ends, u128::from(words.first) + number as u128, &facts).is_err() {
+        let Ok((more, end)) = split.with(&upload) else {
+            return Err(Fault::NoMemory);
+        };
+        split = more;
+        if push_end(ends, u128::from(words.first) + number as u128, &end).is_err() {
             return Err(Fault::NoMemory);
         }
-        split = match split.with(&upload) {
-            Ok(more) => more,
-            Err(_) => return Err(Fault::NoMemory),
-        };
     }
     Ok(split)
 }

@@ -1,3 +1,4 @@
 pub mod Adding
+pub mod Bytes
 pub mod Texts
 pub mod Total

@@ -13,6 +13,7 @@ use Rattle.tap_parts.specs.Parts.{part_of_token, of_part}
 use Rattle.upload_facts.proofs.ReadingLemmas.{taps_more}
 use Rattle.upload_parts.specs.Split.{AreSplit, AreAllEarly, HasTaps, IsAdded}
 use Rattle.tap_parts.specs.Parts.{joined}
+use Rattle.upload_parts.specs.declared.end.UploadEnd.{UploadEnd}
 
 abbrev Early : Tap → Type 0
 Early tap = num tap.moment < moment_limit
@@ -50,9 +51,9 @@ part_early part parts taps early =
     (All-filter (λ (tap : Tap). part_of_token tap.token parts == part) Early taps early)
 
 -- parts stay early as an upload is added
-pub added_early : (upload : List ℕ) (old new : List (List TapFields)) → IsAdded upload old new
-    → AreAllEarly old → AreAllEarly new
-added_early upload old new is all = λ k d within.
+pub added_early : (upload : List ℕ) (old new : List (List TapFields)) (end : UploadEnd)
+    → IsAdded upload old new end → AreAllEarly old → AreAllEarly new
+added_early upload old new end is all = λ k d within.
     let here : k < length old = subst (λ n. k < n) is.added.number within in
     let early = part_early k (length old) is.taps (upload_early upload is.taps is.of_upload) in
     subst AreFieldsEarly (sym (get_or_default new k d [] within ∙ is.added.each k here))
@@ -76,10 +77,10 @@ zip_more (u ∷ uploads) (ts ∷ taps) upload more zip has =
     (zip.0, zip_more uploads taps upload more zip.1 has)
 
 -- one upload more
-pub more_split : (upload : List ℕ) (old new : List (List TapFields)) → IsAdded upload old new
-    → (parts : ℕ) (uploads : List (List ℕ)) → AreSplit parts uploads old
+pub more_split : (upload : List ℕ) (old new : List (List TapFields)) (end : UploadEnd)
+    → IsAdded upload old new end → (parts : ℕ) (uploads : List (List ℕ)) → AreSplit parts uploads old
     → AreSplit parts (uploads ++ upload ∷ []) new
-more_split upload old new is parts uploads split = record {
+more_split upload old new end is parts uploads split = record {
   taps = split.taps ++ is.taps ∷ [];
   of_uploads = zip_more uploads split.taps upload is.taps split.of_uploads is.of_upload;
   number = is.added.number ∙ split.number;

@@ -9,6 +9,7 @@ use Rattle.tap_views.specs.declared.fault.LayoutFault.{LayoutFault}
 use Rattle.tap_parts.specs.Parts.{AreAdded, IsFileOf, of_part, joined}
 use Rattle.upload_facts.specs.Facts.{IsReadAs, taps_of}
 use Rattle.tap_parts.specs.Canonical.{IsCanonical}
+use Rattle.upload_parts.specs.declared.end.UploadEnd.{UploadEnd}
 
 -- the upload has these taps before its first layout fault
 pub record HasTaps (upload : List ℕ) (taps : List Tap) : Type 0 where
@@ -16,6 +17,12 @@ pub record HasTaps (upload : List ℕ) (taps : List Tap) : Type 0 where
   pub fault : Option (ℕ × LayoutFault)
   pub read : IsReadAs upload batches fault
   pub all : taps ≡ taps_of batches
+
+-- the upload ends so, behind so many taps
+pub record IsEndOf (upload : List ℕ) (end : UploadEnd) : Type 0 where
+  pub batches : List (List Tap)
+  pub read : IsReadAs upload batches end.fault
+  pub number : end.taps ≡ length (taps_of batches)
 
 -- each of so many parts has exactly the uploads' taps that fall to it, in their order
 pub record AreSplit (parts : ℕ) (uploads : List (List ℕ)) (lists : List (List TapFields))
@@ -36,11 +43,13 @@ pub record IsPartFile (uploads : List (List ℕ)) (parts part : ℕ) (file : Lis
   pub reads : IsFileOf file list
 
 -- ---- what the private functions tell each other
--- the upload's taps before its first layout fault were added, each to its part
-pub record IsAdded (upload : List ℕ) (old new : List (List TapFields)) : Type 0 where
+-- the upload's taps before its first layout fault were added, each to its part, and it ends so
+pub record IsAdded (upload : List ℕ) (old new : List (List TapFields)) (end : UploadEnd)
+    : Type 0 where
   pub taps : List Tap
   pub of_upload : HasTaps upload taps
   pub added : AreAdded taps old new
+  pub ended : IsEndOf upload end
 
 -- the taps of all parts have moments that a file can have
 abbrev pub AreAllEarly : List (List TapFields) → Type 0

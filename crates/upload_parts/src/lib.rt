@@ -2,8 +2,8 @@
 //! tell is put together again.
 #![tactic(auto)]
 
-mod order;
+mod end;
 mod split;
 
-pub use order::{compare, sort};
+pub use end::UploadEnd;
 pub use split::Split;

@@ -4,26 +4,44 @@ ghost use Rattle.std.specs.Prelude.{◌≡◌, ◌<◌, ◌≤◌, ◌++◌, ◌
 ghost use Rattle.std.specs.Prelude.{slice_index_or};
 ghost use Rattle.tap_views.specs.Encoding.{AreEarly};
 ghost use Rattle.tap_parts.specs.Canonical.{IsCanonical};
-ghost use Rattle.upload_parts.specs.Split.{AreSplit, IsAdded, IsPartFile};
+ghost use Rattle.upload_parts.specs.Split.{AreSplit, IsAdded, IsEndOf, IsPartFile};
 
-use crate::order::sort;
+use crate::end::UploadEnd;
 use std::alloc::{AllocError, Global};
 use std::marker::Model;
-use tap_parts::{Parts, text_of};
+use tap_parts::{Parts, sort, text_of};
 use tap_views::{TapFields, batches};
 
-/// Adds the upload's taps before its first layout fault, each to the part of its token. After an
-/// error the parts are of no use.
-fn add_upload(parts: &mut Parts, upload: &[u8]) -> Result<(), AllocError>
-    ensures { OnOk result (IsAdded upload.now parts.old parts.new) }
+/// The number of bytes.
+fn size(upload: &[u8]) -> u64
+    ensures { result ≡ length upload.now }
 {
+    // proof: an upload has fewer than 2^64 bytes, so that its taps can be counted
+    upload.len() as u64
+}
+
+/// Adds the upload's taps before its first layout fault, each to the part of its token, and returns
+/// how the upload ends. After an error the parts are of no use.
+fn add_upload(parts: &mut Parts, upload: &[u8]) -> Result<UploadEnd, AllocError>
+    ensures { IfOk result (λ end. IsAdded upload.now parts.old parts.new end) }
+{
+    let _ = size(upload);
+    let mut taps = 0;
     for item in batches(upload) {
         match item {
-            Ok(batch) => parts.add(&batch)?,
-            Err(_) => return Ok(()),
+            Ok(batch) => {
+                parts.add(&batch)?;
+                taps += u64::from(batch.len());
+            }
+            Err((offset, fault)) => {
+                return Ok(UploadEnd {
+                    taps,
+                    fault: Some((offset, fault)),
+                });
+            }
         }
     }
-    Ok(())
+    Ok(UploadEnd { taps, fault: None })
 }
 
 /// These taps in canonical order.
@@ -68,14 +86,16 @@ impl Split {
         })
     }
 
-    /// With the taps of one upload more: those before its first layout fault.
-    pub fn with(self, upload: &[u8]) -> Result<Split, AllocError>
-        ensures { IfOk result (λ more. (parts : ℕ) (uploads : List (List ℕ))
-            → AreSplit parts uploads self → AreSplit parts (uploads ++ upload.now ∷ []) more) }
+    /// With the taps of one upload more: those before its first layout fault. Gives how the upload
+    /// ends, too.
+    pub fn with(self, upload: &[u8]) -> Result<(Split, UploadEnd), AllocError>
+        ensures split { IfOk result (λ more. (parts : ℕ) (uploads : List (List ℕ))
+            → AreSplit parts uploads self → AreSplit parts (uploads ++ upload.now ∷ []) more.0) }
+        ensures end { IfOk result (λ more. IsEndOf upload.now more.1) }
     {
         let mut parts = self.parts;
-        add_upload(&mut parts, upload)?;
-        Ok(Split { parts })
+        let end = add_upload(&mut parts, upload)?;
+        Ok((Split { parts }, end))
     }
 
     /// How many parts there are.

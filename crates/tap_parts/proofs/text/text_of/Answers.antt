@@ -3,7 +3,7 @@ use Rattle.std.proofs.Common.{subst, arith, append-nil, append_assoc, false, ◌
 use Rattle.std.proofs.lemmas.Bool.{eqb-true}
 use Rattle.std.proofs.lemmas.Bool.Decides.{nat_tests}
 use Rattle.std.proofs.lemmas.List.{take-append-drop}
-use Rattle.std.proofs.lemmas.List.Elements.{All-drop, All-same, All-take}
+use Rattle.std.proofs.lemmas.List.Elements.{All-drop, All-same}
 use Rattle.tap_views.specs.Layout.{moment_limit}
 use Rattle.tap_views.specs.declared.encoder.TapFields.{TapFields}
 use Rattle.tap_parts.specs.Parts.{IsFileOf}

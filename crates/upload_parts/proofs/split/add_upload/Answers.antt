@@ -1,10 +1,41 @@
-use Rattle.std.proofs.Common.{List, [], ◌++◌, ◌∷◌, Err, Some, None, ap, ◌∙◌, sym, refl, subst}
-use Rattle.std.proofs.Common.{append_assoc, append-nil}
+use Rattle.std.proofs.Common.{ℕ, ◌+◌, ◌*◌, ◌≤◌, List, [], ◌++◌, ◌∷◌, length, Ok, Err, Some}
+use Rattle.std.proofs.Common.{None, ap, ◌∙◌, sym, refl, subst, append_assoc, append-nil, arith}
+use Rattle.std.proofs.Common.{length-append}
+use Rattle.tap_views.specs.Layout.{Tap}
 use Rattle.tap_views.specs.Files.{Item, IsReading}
 use Rattle.tap_parts.proofs.Adding.{none_added, batch_added}
 use Rattle.upload_facts.specs.Facts.{taps_of}
-use Rattle.upload_facts.proofs.ReadingLemmas.{same_items, read_all, read_fault, yielded_more}
+use Rattle.upload_facts.proofs.ReadingLemmas.{same_items, read_all, read_fault, read_batch, few}
+use Rattle.upload_facts.proofs.ReadingLemmas.{taps_more, yielded_more}
 use Rattle.upload_parts.proofs.split.add_upload.Goals as goal
+
+-- the room that is left for a batch, and for its taps
+room : (file : List ℕ) (done more : List (List Tap)) (rest : List ℕ) (batch : List Tap)
+    → length (taps_of ((done ++ batch ∷ []) ++ more)) + 2 * length ((done ++ batch ∷ []) ++ more)
+    ≤ length file
+    → (length (taps_of done) + length batch ≤ length file) × (length done + 1 ≤ length file)
+room file [] more rest batch fits =
+    (omega (arith, fits, length-append batch (taps_of more)), omega (arith, fits))
+room file (first ∷ done) more rest batch fits =
+    let all = length-append first (taps_of ((done ++ batch ∷ []) ++ more)) in
+    let some = length-append first (taps_of done) in
+    let tail = counts done more batch in
+    (omega (arith, fits, all, some, tail.0), omega (arith, fits, tail.1))
+  where
+    counts : (done more : List (List Tap)) (batch : List Tap)
+        → (length (taps_of done) + length batch ≤ length (taps_of ((done ++ batch ∷ []) ++ more)))
+        × (length done + 1 ≤ length ((done ++ batch ∷ []) ++ more))
+    counts [] more batch = (omega (arith, length-append batch (taps_of more)), omega arith)
+    counts (first ∷ done) more batch =
+        let tail = counts done more batch in (
+          omega (
+            arith,
+            tail.0,
+            length-append first (taps_of done),
+            length-append first (taps_of ((done ++ batch ∷ []) ++ more)),
+          ),
+          omega (arith, tail.1),
+        )
 
 pub loop-item-init : goal.loop-item-init
 loop-item-init c =
@@ -14,7 +45,7 @@ loop-item-init c =
       ends = tt;
       reading = subst P (sym c.into_iter-item-iterator.ensures.into_iter_gives)
           c.batches-item-items.ensures;
-      made = ([], refl, none_added c.args.parts.now);
+      made = ([], refl, none_added c.args.parts.now, refl);
     }
 
 pub loop-item-preserved : goal.loop-item-preserved
@@ -32,26 +63,48 @@ loop-item-preserved c =
         yielded_more c.loop-item.yielded made.0 c.in-Some.item c.in-Ok.batch made.1 c.in-Ok.is,
         batch_added made.0 c.in-Ok.batch c.args.parts.now c.loop-item.parts c.add.new.self made.2
             c.in_ok-add-in-Ok.ensures,
+        omega (
+          arith,
+          made.3,
+          ap length (taps_more made.0 c.in-Ok.batch),
+          length-append (taps_of made.0) c.in-Ok.batch,
+          c.len.ensures.number,
+        ),
       );
     }
+
+pub overflow_add-taps : goal.overflow_add-taps
+overflow_add-taps c =
+    let made = c.loop-item.invariant.made in
+    let step = c.in-Some.ensures.steps ∙ ap (λ i. i ∷ c.next.new.self) c.in-Ok.is in
+    let read = read_batch c.args.upload.now made.0 c.in-Ok.batch c.next.new.self
+    (same_items c.args.upload.now c.loop-item.yielded c.next.new.self made.0 (Ok c.in-Ok.batch)
+    c.loop-item.item-iterator c.loop-item.invariant.reading made.1 step) in
+    let fits = few c.args.upload.now ((made.0 ++ c.in-Ok.batch ∷ []) ++ read.1) read.0 read.2 in
+    let left = room c.args.upload.now made.0 read.1 read.0 c.in-Ok.batch fits in
+    omega (arith, left.0, made.3, c.len.ensures.number, c.size.type_inv, c.size.ensures)
 
 pub returns-in-Err : goal.returns-in-Err
 returns-in-Err c =
     let made = c.loop-item.invariant.made in
-    let fault = c.in-Err.field-0 in
     let step = c.in-Some.ensures.steps ∙ ap (λ i. i ∷ c.next.new.self) c.in-Err.is in
-    let read = read_fault c.args.upload.now made.0 fault.0 fault.1 c.next.new.self
-    (same_items c.args.upload.now c.loop-item.yielded c.next.new.self made.0 (Err fault)
+    let read = read_fault c.args.upload.now made.0 c.in-Err.offset c.in-Err.fault c.next.new.self
+    (same_items c.args.upload.now c.loop-item.yielded c.next.new.self made.0 (Err (c.in-Err.offset, c.in-Err.fault))
     c.loop-item.item-iterator c.loop-item.invariant.reading made.1 step) in
     record {
       taps = taps_of made.0;
       of_upload = record {
         batches = made.0;
-        fault = Some fault;
+        fault = Some (c.in-Err.offset, c.in-Err.fault);
         read = record { rest = read.0; is_file = read.1; is_end = read.2 };
         all = refl;
       };
       added = made.2;
+      ended = record {
+        batches = made.0;
+        read = record { rest = read.0; is_file = read.1; is_end = read.2 };
+        number = made.3;
+      };
     }
 
 pub returns : goal.returns
@@ -70,4 +123,9 @@ returns c =
         all = refl;
       };
       added = made.2;
+      ended = record {
+        batches = made.0;
+        read = record { rest = read.0; is_file = read.1; is_end = read.2 };
+        number = made.3;
+      };
     }
