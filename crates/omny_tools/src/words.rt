@@ -24,9 +24,10 @@ const STATUS: &str = "Exit status:
 
 const ENCODE_ABOUT: &str = "Writes the upload of a table of taps to standard output.
 
-The table is CSV without quotes. Its first line is token,validator,moment. Each other line is a
-tap: 32 hexadecimal digits, a number from 0 to 4294967295, and a moment before 2100, in
-milliseconds since 1970-01-01T00:00Z or as 2024-03-08T17:00:00Z. A line ends with LF or CRLF.
+The table is CSV. Its first line is token,validator,moment. Each other line is a tap: 32
+hexadecimal digits, a number from 0 to 4294967295, and a moment before 2100, in milliseconds
+since 1970-01-01T00:00Z or as 2024-03-08T17:00:00Z. A field may stand between double quotes. A line
+ends with LF or CRLF.
 
 The taps come out in the order of their lines, in TAP1 batches of 4096, the last of fewer.
 If a line is wrong, nothing is written, and its number is told. So a file is read twice, and may be

@@ -1,3 +1,4 @@
+mod FieldLemmas
 pub mod MomentLemmas
 mod RowLemmas
 mod TableLemmas

@@ -1,55 +1,29 @@
--- A line has at most one cut into three fields, and is the row of at most one tap.
-use Rattle.std.proofs.Common.{◌≡◌, ℕ, suc, ◌<◌, ◌^◌, List, [], ◌∷◌, ◌++◌, length, refl, sym, ap, subst, ◌∙◌, arith, append-nil, append_assoc, length-append, Ok}
+-- A line is the row of at most one tap.
+use Rattle.std.proofs.Common.{◌≡◌, ℕ, List, [], ◌∷◌, ◌++◌, length, refl, sym, ap, subst, ◌∙◌, arith, append-nil, append_assoc, length-append, Ok}
 use Rattle.tap_views.specs.declared.encoder.TapFields.{TapFields}
-use Rattle.tap_rows.specs.Moments.{IsDecimal, IsTime}
+use Rattle.tap_rows.specs.Moments.{IsTime}
+use Rattle.tap_rows.proofs.FieldLemmas.{one_fields, one_value}
 use Rattle.tap_rows.proofs.MomentLemmas.{one_time}
-use Rattle.tap_rows.specs.Rows.{HasNoComma, AreFields, IsToken, IsRow, IsNoRow, row_text, rows_text}
+use Rattle.tap_rows.specs.Rows.{IsToken, TellsToken, TellsValidator, TellsMoment, IsRow, IsNoRow, row_text, rows_text}
 use Rattle.tap_rows.specs.declared.column.Column.{Column}
 use Rattle.tap_rows.specs.declared.column.Column.TheVariants.{Fields, Token, Validator, Moment}
 
--- no comma in what follows the first byte
-behind : (x : ℕ) (xs : List ℕ) → HasNoComma (x ∷ xs) → HasNoComma xs
-behind x xs none = λ k d h. none (suc k) d (omega arith)
+-- what a field tells
+one_token : (text token other : List ℕ) → TellsToken text token → TellsToken text other → token ≡ other
+one_token text token other (value, stands, is) (again, also_stands, also) =
+    let same = one_value text value again stands also_stands in
+    let both : Ok token ≡ Ok other = sym is ∙ subst (λ v. IsToken v other) (sym same) also in
+    cc
 
--- a text with a comma has one
-pub has_comma : (a b : List ℕ) → ¬ (HasNoComma (a ++ 44 ∷ b))
-has_comma [] b none = none 0 0 (omega arith) refl
-has_comma (x ∷ a) b none = has_comma a b (behind x (a ++ 44 ∷ b) none)
+one_validator : (text : List ℕ) (number other : ℕ) → TellsValidator text number → TellsValidator text other → number ≡ other
+one_validator text number other (value, stands, is) (again, also_stands, also) =
+    let same = one_value text value again stands also_stands in
+    cc (is.0.value, also.0.value, same)
 
--- the first comma stands at one place
-pub one_cut : (a b c d : List ℕ) → HasNoComma a → HasNoComma c → a ++ 44 ∷ b ≡ c ++ 44 ∷ d → (a ≡ c) × (b ≡ d)
-one_cut [] b [] d none none' e = (refl, cc)
-one_cut [] b (y ∷ c) d none none' e = absurd (none' 0 0 (omega arith) (cc))
-one_cut (x ∷ a) b [] d none none' e = absurd (none 0 0 (omega arith) (cc))
-one_cut (x ∷ a) b (y ∷ c) d none none' e =
-    let tails : a ++ 44 ∷ b ≡ c ++ 44 ∷ d = cc in
-    let (front, back) = one_cut a b c d (behind x a none) (behind y c none') tails in
-    let first : x ≡ y = cc in
-    (ap (λ z. z ∷ a) first ∙ ap (λ zs. y ∷ zs) front, back)
-
-pub one_fields : (line t v m t' v' m' : List ℕ) → AreFields line t v m → AreFields line t' v' m' → (t ≡ t') × (v ≡ v') × (m ≡ m')
-one_fields line t v m t' v' m' is other =
-    let (token, rest) = one_cut t (v ++ 44 ∷ m) t' (v' ++ 44 ∷ m') is.first other.first (sym is.joined ∙ other.joined) in
-    let (validator, moment) = one_cut v m v' m' is.second other.second rest in
-    (token, validator, moment)
-
--- no comma, no fields
-pub no_first : (line : List ℕ) → HasNoComma line → (t v m : List ℕ) → ¬ (AreFields line t v m)
-no_first line none t v m is = has_comma t (v ++ 44 ∷ m) (subst HasNoComma is.joined none)
-
--- one comma, no fields
-pub no_second : (line token rest : List ℕ) → HasNoComma token → line ≡ token ++ 44 ∷ rest → HasNoComma rest → (t v m : List ℕ) → ¬ (AreFields line t v m)
-no_second line token rest first joined none t v m is =
-    let (_, same) = one_cut token rest t (v ++ 44 ∷ m) first is.first (sym joined ∙ is.joined) in
-    has_comma v m (subst HasNoComma same none)
-
--- a comma in what stands behind the second one, no fields
-pub no_third : (line token rest validator moment : List ℕ) → HasNoComma token → line ≡ token ++ 44 ∷ rest → HasNoComma validator → rest ≡ validator ++ 44 ∷ moment
-    → ¬ (HasNoComma moment) → (t v m : List ℕ) → ¬ (AreFields line t v m)
-no_third line token rest validator moment first joined second more some t v m is =
-    let (_, same) = one_cut token rest t (v ++ 44 ∷ m) first is.first (sym joined ∙ is.joined) in
-    let (_, last) = one_cut validator moment v m second is.second (sym more ∙ same) in
-    some (subst HasNoComma (sym last) is.third)
+one_moment : (text : List ℕ) (number other : ℕ) → TellsMoment text number → TellsMoment text other → number ≡ other
+one_moment text number other (value, stands, is) (again, also_stands, also) =
+    let same = one_value text value again stands also_stands in
+    one_time value number other is.0 (subst (λ v. IsTime v other) (sym same) also.0)
 
 -- a tap, by its fields
 abbrev tap_with : List ℕ → ℕ → ℕ → TapFields
@@ -59,10 +33,9 @@ tap_with token validator moment = record { token = token; validator = validator;
 pub one_row : (line : List ℕ) (tap other : TapFields) → IsRow line tap → IsRow line other → tap ≡ other
 one_row line tap other is also =
     let (t, v, m) = one_fields line is.token_text is.validator_text is.moment_text also.token_text also.validator_text also.moment_text is.fields also.fields in
-    let tokens : Ok tap.token ≡ Ok other.token = sym is.token ∙ subst (λ text. IsToken text other.token) (sym t) also.token in
-    let token : tap.token ≡ other.token = cc in
-    let validator : tap.validator ≡ other.validator = cc (is.validator.0.value, also.validator.0.value, v) in
-    let moment : tap.moment ≡ other.moment = one_time is.moment_text tap.moment other.moment is.moment.0 (subst (λ text. IsTime text other.moment) (sym m) also.moment.0) in
+    let token = one_token is.token_text tap.token other.token is.token (subst (λ text. TellsToken text other.token) (sym t) also.token) in
+    let validator = one_validator is.validator_text tap.validator other.validator is.validator (subst (λ text. TellsValidator text other.validator) (sym v) also.validator) in
+    let moment = one_moment is.moment_text tap.moment other.moment is.moment (subst (λ text. TellsMoment text other.moment) (sym m) also.moment) in
     let first : tap ≡ tap_with other.token tap.validator tap.moment = ap (λ t. tap_with t tap.validator tap.moment) token in
     let second : tap_with other.token tap.validator tap.moment ≡ tap_with other.token other.validator tap.moment = ap (λ v. tap_with other.token v tap.moment) validator in
     let third : tap_with other.token other.validator tap.moment ≡ other = ap (λ m. tap_with other.token other.validator m) moment in
@@ -73,13 +46,13 @@ pub no_bad_row : (line : List ℕ) (tap : TapFields) (column : Column) → IsRow
 no_bad_row line tap Fields is bad = bad is.token_text is.validator_text is.moment_text is.fields
 no_bad_row line tap Token is bad =
     let (t, v, m) = one_fields line is.token_text is.validator_text is.moment_text bad.token_text bad.validator_text bad.moment_text is.fields bad.fields in
-    bad.wrong tap.token (subst (λ text. IsToken text tap.token) t is.token)
+    bad.wrong tap.token (subst (λ text. TellsToken text tap.token) t is.token)
 no_bad_row line tap Validator is bad =
     let (t, v, m) = one_fields line is.token_text is.validator_text is.moment_text bad.token_text bad.validator_text bad.moment_text is.fields bad.fields in
-    bad.wrong tap.validator (subst (λ text. IsDecimal text tap.validator × (tap.validator < 2 ^ 32)) v is.validator)
+    bad.wrong tap.validator (subst (λ text. TellsValidator text tap.validator) v is.validator)
 no_bad_row line tap Moment is bad =
     let (t, v, m) = one_fields line is.token_text is.validator_text is.moment_text bad.token_text bad.validator_text bad.moment_text is.fields bad.fields in
-    bad.wrong tap.moment (subst (λ text. IsTime text tap.moment × (tap.moment < 4102444800000)) m is.moment)
+    bad.wrong tap.moment (subst (λ text. TellsMoment text tap.moment) m is.moment)
 
 -- no bytes are the row of no tap
 pub not_empty : (tap : TapFields) → ¬ (IsRow [] tap)

@@ -16,7 +16,7 @@ use Rattle.tap_views.specs.Layout.{Tap}
 use Rattle.tap_parts.specs.Parts.{IsFileOf}
 use Rattle.tap_parts.proofs.Texts.{no_text}
 use Rattle.tap_rows.specs.Rows.{IsRow, IsNoRow}
-use Rattle.tap_rows.specs.Tables.{head, BeginsWithRows, IsTable, IsTableOf, IsRefused, IsEncoded, IsOfTable}
+use Rattle.tap_rows.specs.Tables.{IsHead, BeginsWithRows, IsTable, IsTableOf, IsRefused, IsEncoded, IsOfTable}
 use Rattle.tap_rows.specs.inside.Tables.{IsEncodedAs, IsNextRow}
 use Rattle.tap_rows.specs.declared.column.Column.{Column}
 use Rattle.tap_rows.specs.declared.fault.RowsFault.{RowsFault}
@@ -66,11 +66,11 @@ more_rows text (first ∷ taps) left tap begins row = (begins.0, more_rows (drop
 -- how far a reader of a table has come: over the rows of these taps
 pub record Reached (text : List ℕ) (now : Option (List ℕ)) (taps : List TapFields) : Type 0 where
   pub left : List ℕ
-  pub head_line : first_line text ≡ head
+  pub head_line : IsHead (first_line text)
   pub now_is : now ≡ Some left
   pub rows : BeginsWithRows (drop_through 10 text) taps left
 
-pub reached_first : (text : List ℕ) (now : Option (List ℕ)) → (first_line text ≡ head) × (now ≡ Some (drop_through 10 text)) → Reached text now []
+pub reached_first : (text : List ℕ) (now : Option (List ℕ)) → (IsHead (first_line text)) × (now ≡ Some (drop_through 10 text)) → Reached text now []
 reached_first text now (is, left) = record { left = drop_through 10 text; head_line = is; now_is = left; rows = refl }
 
 -- what holds of the known bytes holds of what is left
@@ -155,7 +155,7 @@ pub record Writing (text : List ℕ) (now : Option (List ℕ)) (count : ℕ) (pe
   pub written : Appends old new file
 
 pub writing_first : (text : List ℕ) (now : Option (List ℕ)) (pending : List TapFields) (out : Option (List ℕ)) → pending ≡ []
-    → (first_line text ≡ head) × (now ≡ Some (drop_through 10 text)) → Writing text now 0 pending out out
+    → (IsHead (first_line text)) × (now ≡ Some (drop_through 10 text)) → Writing text now 0 pending out out
 writing_first text now pending out none is = record {
   done = [];
   file = [];

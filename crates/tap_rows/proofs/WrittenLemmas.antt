@@ -1,6 +1,6 @@
 -- The table that is written is read as the taps that it was written for.
 use Rattle.std.proofs.Common.{inl, ◌≡◌, ℕ, zero, suc, ◌+◌, ◌-◌, ◌<◌, ◌≤◌, ◌^◌, List, [], ◌∷◌, ◌++◌, length, take, refl, sym, ap, subst, ◌∙◌, arith, append_assoc, length-append, true, false, Bool, ◌==◌, ◌&&◌}
-use Rattle.std.specs.Prelude.{slice_index, slice_index_or, nat_lt, IsOk, if◌then◌else◌}
+use Rattle.std.specs.Prelude.{codes, slice_index, slice_index_or, nat_lt, IsOk, if◌then◌else◌}
 use Rattle.std.specs.List.{AllByRecursion, AllPass}
 use Rattle.std.specs.Fmt.{decimal}
 use Rattle.std.specs.Str.Parse.{AllDigits}
@@ -13,13 +13,14 @@ use Rattle.std.proofs.Math.Seq.{get_or-append_seam}
 use Rattle.hex.specs.Hex.{encode_lower, decode_sized, is_hex_digit}
 use Rattle.hex.proofs.HexLemmas.{decode_sized-encode_lower, IsOk-decode_sized}
 use Rattle.tap_views.specs.declared.encoder.TapFields.{TapFields}
+use Rattle.tap_rows.specs.Fields.{AreFields, StandsFor}
 use Rattle.tap_rows.specs.Moments.{IsDecimal}
 use Rattle.tap_rows.specs.Rows.{IsRow, IsTapFields, row_text, rows_text}
-use Rattle.tap_rows.specs.Tables.{head, BeginsWithRows, IsTable, table_text}
+use Rattle.tap_rows.specs.Tables.{head, IsHead, BeginsWithRows, IsTable, table_text}
 
 -- each byte is a digit or comes after them
 abbrev pub AreHigh : List ℕ → Type 0
-AreHigh text = AllByRecursion (λ byte. 48 ≤ byte) text
+AreHigh text = AllByRecursion (λ byte. 47 < byte) text
 
 -- each byte comes after the line breaks
 abbrev pub ArePlain : List ℕ → Type 0
@@ -119,10 +120,10 @@ first line rest plain =
     let whole : trimmed (line ++ 10 ∷ []) ≡ strip_last 13 (strip_last 10 (line ++ 10 ∷ [])) = rw ends refl in
     ap trimmed (taken line rest plain) ∙ whole ∙ ap (strip_last 13) (no_feed line) ∙ strip_none line (no_return line plain)
 
--- whether each byte comes after the line breaks
-abbrev all_plain : List ℕ → Bool
-all_plain [] = true
-all_plain (x ∷ text) = nat_lt 13 x && all_plain text
+-- whether each byte is above this one
+abbrev all_above : ℕ → List ℕ → Bool
+all_above limit [] = true
+all_above limit (x ∷ text) = nat_lt limit x && all_above limit text
 
 and_left : (a b : Bool) → (a && b) ≡ true → a ≡ true
 and_left true b is = refl
@@ -132,12 +133,29 @@ and_right : (a b : Bool) → (a && b) ≡ true → b ≡ true
 and_right true b is = is
 and_right false b is = absurd (cc)
 
-plain_one : (x : ℕ) → nat_lt 13 x ≡ true → 13 < x
-plain_one x is = ltb-true 13 x is
+above_one : (limit x : ℕ) → nat_lt limit x ≡ true → limit < x
+above_one limit x is = ltb-true limit x is
 
-plain_test : (text : List ℕ) → all_plain text ≡ true → ArePlain text
-plain_test [] is = tt
-plain_test (x ∷ text) is = (plain_one x (and_left (nat_lt 13 x) (all_plain text) is), plain_test text (and_right (nat_lt 13 x) (all_plain text) is))
+above_test : (limit : ℕ) (text : List ℕ) → all_above limit text ≡ true → AllByRecursion (λ byte. limit < byte) text
+above_test limit [] is = tt
+above_test limit (x ∷ text) is = (above_one limit x (and_left (nat_lt limit x) (all_above limit text) is), above_test limit text (and_right (nat_lt limit x) (all_above limit text) is))
+
+-- ---- fields
+no_quote : (text : List ℕ) → AreHigh text → (rest : List ℕ) → ¬ (text ≡ 34 ∷ rest)
+no_quote [] high rest e = absurd (omega (arith, ap length e))
+no_quote (x ∷ text) high rest e = let first : x ≡ 34 = cc in absurd (omega (arith, first, high.0))
+
+-- high bytes stand for themselves
+bare : (text : List ℕ) → AreHigh text → StandsFor text text
+bare text high = inl (record { same = refl; plain = no_quote text high })
+
+high_fields : (first second third : List ℕ) → AreHigh first → AreHigh second → AreHigh third → AreFields (first ++ 44 ∷ (second ++ 44 ∷ third)) first second third
+high_fields first second third is also last = record {
+  joined = refl;
+  no_comma_first = no_comma first is;
+  no_comma_second = no_comma second also;
+  no_comma_third = no_comma third last;
+}
 
 -- ---- rows
 -- the row of a tap, without its line feed
@@ -166,15 +184,10 @@ row_back tap is = record {
   token_text = encode_lower tap.token;
   validator_text = decimal tap.validator;
   moment_text = decimal tap.moment;
-  fields = record {
-    joined = refl;
-    first = no_comma (encode_lower tap.token) (token_high tap is);
-    second = no_comma (decimal tap.validator) (decimal_high tap.validator (omega (arith, is.validator)));
-    third = no_comma (decimal tap.moment) (decimal_high tap.moment (omega (arith, is.moment)));
-  };
-  token = decode_sized-encode_lower tap.token 16 is.token is.bytes;
-  validator = (number_back tap.validator (omega (arith, is.validator)), is.validator);
-  moment = (inl (number_back tap.moment (omega (arith, is.moment))), is.moment);
+  fields = high_fields (encode_lower tap.token) (decimal tap.validator) (decimal tap.moment) (token_high tap is) (decimal_high tap.validator (omega (arith, is.validator))) (decimal_high tap.moment (omega (arith, is.moment)));
+  token = (encode_lower tap.token, bare (encode_lower tap.token) (token_high tap is), decode_sized-encode_lower tap.token 16 is.token is.bytes);
+  validator = (decimal tap.validator, bare (decimal tap.validator) (decimal_high tap.validator (omega (arith, is.validator))), (number_back tap.validator (omega (arith, is.validator)), is.validator));
+  moment = (decimal tap.moment, bare (decimal tap.moment) (decimal_high tap.moment (omega (arith, is.moment))), (inl (number_back tap.moment (omega (arith, is.moment))), is.moment));
 }
 
 -- the text of a row is its line and a line feed
@@ -196,10 +209,26 @@ rows_back (tap ∷ taps) are =
     let rest : drop_through 10 (rows_text (tap ∷ taps)) ≡ rows_text taps = ap (drop_through 10) spelt ∙ dropped (line_of tap) (rows_text taps) plain in
     (subst (λ text. IsRow text tap) (sym line) (row_back tap are.0), subst (λ text. BeginsWithRows text taps []) (sym rest) (rows_back taps are.1))
 
+-- the head that is written is a head
+head_back : IsHead head
+head_back =
+    let token : AreHigh (codes "token") = above_test 47 (codes "token") refl in
+    let validator : AreHigh (codes "validator") = above_test 47 (codes "validator") refl in
+    let moment : AreHigh (codes "moment") = above_test 47 (codes "moment") refl in
+    record {
+      token_text = codes "token";
+      validator_text = codes "validator";
+      moment_text = codes "moment";
+      fields = high_fields (codes "token") (codes "validator") (codes "moment") token validator moment;
+      token = bare (codes "token") token;
+      validator = bare (codes "validator") validator;
+      moment = bare (codes "moment") moment;
+    }
+
 pub table_back : (taps : List TapFields) → AllByRecursion IsTapFields taps → IsTable (table_text taps) taps
 table_back taps are =
-    let plain : ArePlain head = plain_test head refl in
+    let plain : ArePlain head = above_test 13 head refl in
     record {
-      head_line = first head (rows_text taps) plain;
+      head_line = subst IsHead (sym (first head (rows_text taps) plain)) head_back;
       rows = subst (λ text. BeginsWithRows text taps []) (sym (dropped head (rows_text taps) plain)) (rows_back taps are);
     }

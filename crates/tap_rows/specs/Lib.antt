@@ -1,4 +1,5 @@
 pub mod Decoded
+pub mod Fields
 pub mod Moments
 pub mod Rows
 pub mod Tables

@@ -1,23 +1,13 @@
--- A tap as a row of CSV: three fields, with commas between them.
-use Rattle.std.specs.Prelude.{◌≡◌, ℕ, ◌<◌, ◌^◌, List, [], ◌∷◌, ◌++◌, length, All, Ok, flat_map}
+-- A tap as a row of CSV: three fields, each as it is or in quotes, with commas between them.
+use Rattle.std.specs.Prelude.{◌≡◌, ℕ, ◌<◌, ◌^◌, List, [], ◌∷◌, ◌++◌, length, Ok, flat_map}
 use Rattle.std.specs.Fmt.{decimal}
 use Rattle.hex.specs.Hex.{decode_sized, encode_lower, IsBytes}
 use Rattle.tap_views.specs.Layout.{moment_limit}
 use Rattle.tap_views.specs.declared.encoder.TapFields.{TapFields}
+use Rattle.tap_rows.specs.Fields.{AreFields, StandsForSome}
 use Rattle.tap_rows.specs.Moments.{IsDecimal, IsMoment}
 use Rattle.tap_rows.specs.declared.column.Column.{Column}
 use Rattle.tap_rows.specs.declared.column.Column.TheVariants.{Fields, Token, Validator, Moment}
-
--- no byte of the text is a comma
-abbrev pub HasNoComma : List ℕ → Type 0
-HasNoComma text = All (λ byte. ¬ (byte ≡ 44)) text
-
--- the line is these three fields, with a comma after each but the last, and none within any
-pub record AreFields (line token validator moment : List ℕ) : Type 0 where
-  pub joined : line ≡ token ++ 44 ∷ (validator ++ 44 ∷ moment)
-  pub first : HasNoComma token
-  pub second : HasNoComma validator
-  pub third : HasNoComma moment
 
 -- the text is 32 hexadecimal digits, of either case, and they spell these 16 bytes
 abbrev pub IsToken : List ℕ → List ℕ → Type 0
@@ -27,15 +17,25 @@ IsToken text token = decode_sized text 16 ≡ Ok token
 abbrev pub IsValidator : List ℕ → ℕ → Type 0
 IsValidator text number = IsDecimal text number × (number < 2 ^ 32)
 
+-- the text of a field stands for such a value, as it is or in quotes
+abbrev pub TellsToken : List ℕ → List ℕ → Type 0
+TellsToken text token = StandsForSome (λ value. IsToken value token) text
+
+abbrev pub TellsValidator : List ℕ → ℕ → Type 0
+TellsValidator text number = StandsForSome (λ value. IsValidator value number) text
+
+abbrev pub TellsMoment : List ℕ → ℕ → Type 0
+TellsMoment text number = StandsForSome (λ value. IsMoment value number) text
+
 -- the line is a row of this tap
 pub record IsRow (line : List ℕ) (tap : TapFields) : Type 0 where
   pub token_text : List ℕ
   pub validator_text : List ℕ
   pub moment_text : List ℕ
   pub fields : AreFields line token_text validator_text moment_text
-  pub token : IsToken token_text tap.token
-  pub validator : IsValidator validator_text tap.validator
-  pub moment : IsMoment moment_text tap.moment
+  pub token : TellsToken token_text tap.token
+  pub validator : TellsValidator validator_text tap.validator
+  pub moment : TellsMoment moment_text tap.moment
 
 -- the line has three fields, and the token's tells no token
 pub record HasNoToken (line : List ℕ) : Type 0 where
@@ -43,7 +43,7 @@ pub record HasNoToken (line : List ℕ) : Type 0 where
   pub validator_text : List ℕ
   pub moment_text : List ℕ
   pub fields : AreFields line token_text validator_text moment_text
-  pub wrong : (token : List ℕ) → ¬ (IsToken token_text token)
+  pub wrong : (token : List ℕ) → ¬ (TellsToken token_text token)
 
 -- the line has three fields, the first tells a token, and the second no validator
 pub record HasNoValidator (line : List ℕ) : Type 0 where
@@ -51,8 +51,8 @@ pub record HasNoValidator (line : List ℕ) : Type 0 where
   pub validator_text : List ℕ
   pub moment_text : List ℕ
   pub fields : AreFields line token_text validator_text moment_text
-  pub token : (token : List ℕ) × IsToken token_text token
-  pub wrong : (number : ℕ) → ¬ (IsValidator validator_text number)
+  pub token : (token : List ℕ) × TellsToken token_text token
+  pub wrong : (number : ℕ) → ¬ (TellsValidator validator_text number)
 
 -- the line has three fields, the first two tell a token and a validator, and the third no moment
 pub record HasNoMoment (line : List ℕ) : Type 0 where
@@ -60,9 +60,9 @@ pub record HasNoMoment (line : List ℕ) : Type 0 where
   pub validator_text : List ℕ
   pub moment_text : List ℕ
   pub fields : AreFields line token_text validator_text moment_text
-  pub token : (token : List ℕ) × IsToken token_text token
-  pub validator : (number : ℕ) × IsValidator validator_text number
-  pub wrong : (number : ℕ) → ¬ (IsMoment moment_text number)
+  pub token : (token : List ℕ) × TellsToken token_text token
+  pub validator : (number : ℕ) × TellsValidator validator_text number
+  pub wrong : (number : ℕ) → ¬ (TellsMoment moment_text number)
 
 -- the line is a row of no tap, and this is the first column that is wrong
 abbrev pub IsNoRow : List ℕ → Column → Type 0

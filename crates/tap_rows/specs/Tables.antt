@@ -5,13 +5,24 @@ use Rattle.std.specs.Io.BufRead.{first_line, drop_through}
 use Rattle.std.specs.Io.KnownBytes.{Appends}
 use Rattle.tap_views.specs.declared.encoder.TapFields.{TapFields}
 use Rattle.tap_parts.specs.Parts.{IsFileOf}
+use Rattle.tap_rows.specs.Fields.{AreFields, StandsFor}
 use Rattle.tap_rows.specs.Rows.{IsRow, IsNoRow, rows_text}
 use Rattle.tap_rows.specs.declared.column.Column.{Column}
 use Rattle.tap_rows.specs.declared.fault.RowsFault.{RowsFault}
 use Rattle.tap_rows.specs.declared.fault.RowsFault.TheVariants.{Head, Row, Unread, Changed, Write}
 use Rattle.tap_rows.specs.declared.fault.RowsFault.TheVariants.{NoMemory}
 
--- the head line
+-- the line is a head line: its three fields stand for the names of the columns
+pub record IsHead (line : List ℕ) : Type 0 where
+  pub token_text : List ℕ
+  pub validator_text : List ℕ
+  pub moment_text : List ℕ
+  pub fields : AreFields line token_text validator_text moment_text
+  pub token : StandsFor token_text (codes "token")
+  pub validator : StandsFor validator_text (codes "validator")
+  pub moment : StandsFor moment_text (codes "moment")
+
+-- the head line as it is written
 abbrev pub head : List ℕ
 head = codes "token,validator,moment"
 
@@ -23,12 +34,12 @@ BeginsWithRows text (tap ∷ taps) rest =
 
 -- the text is the table of these taps: the head, then their rows, and nothing else
 pub record IsTable (text : List ℕ) (taps : List TapFields) : Type 0 where
-  pub head_line : first_line text ≡ head
+  pub head_line : IsHead (first_line text)
   pub rows : BeginsWithRows (drop_through 10 text) taps []
 
 -- The line of this number is the first that is a row of no tap, by this column. The head is line 1.
 pub record IsBadRow (text : List ℕ) (number : ℕ) (column : Column) : Type 0 where
-  pub head_line : first_line text ≡ head
+  pub head_line : IsHead (first_line text)
   pub before : List TapFields
   pub rest : List ℕ
   pub rows : BeginsWithRows (drop_through 10 text) before rest
@@ -39,7 +50,7 @@ pub record IsBadRow (text : List ℕ) (number : ℕ) (column : Column) : Type 0 
 -- what a fault says of the table; that a read, a write or a growth of memory failed says nothing of
 -- it
 abbrev pub IsRefused : List ℕ → RowsFault → Type 0
-IsRefused text Head = ¬ (first_line text ≡ head)
+IsRefused text Head = ¬ (IsHead (first_line text))
 IsRefused text (Row number column) = IsBadRow text number column
 IsRefused text Changed = ⊥
 IsRefused text Unread = Unit {0}

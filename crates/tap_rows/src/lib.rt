@@ -4,6 +4,7 @@
 
 mod column;
 mod fault;
+mod field;
 mod into_table;
 mod into_upload;
 pub mod laws;

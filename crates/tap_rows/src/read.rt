@@ -1,22 +1,20 @@
 //! The rows of a table, one after the other.
 
-ghost use Rattle.std.specs.Prelude.{◌≡◌, ◌⊎◌, ◌<◌, [], Some, IfErr, IfOk, IfSome};
-ghost use Rattle.std.specs.Prelude.{OnOk};
+ghost use Rattle.std.specs.Prelude.{◌≡◌, ◌⊎◌, ◌<◌, ◌↔◌, [], Some, IfErr, IfOk, IfSome};
+ghost use Rattle.std.specs.Prelude.{IsTrue, OnOk};
 ghost use Rattle.std.specs.Prelude.{if◌then◌else◌, length, true, false};
 ghost use Rattle.std.specs.Io.BufRead.{drop_through, ends_with_byte, first_line, strip_last};
 ghost use Rattle.std.specs.Io.BufRead.{take_through};
-ghost use Rattle.tap_rows.specs.Tables.{head, IsRefused, IsTableOf};
+ghost use Rattle.tap_rows.specs.Tables.{IsHead, IsRefused, IsTableOf};
 ghost use Rattle.tap_rows.specs.inside.Tables.{IsHeadFault, IsNextRow};
 ghost use Rattle.tap_views.specs.Layout.{moment_limit};
 
 use crate::fault::RowsFault;
+use crate::field::{stands_for, three_fields};
 use crate::row::tap_of;
 use std::alloc::Global;
 use std::io::{BufRead, ErrorKind};
 use tap_views::TapFields;
-
-/// The first line of a table, without its line feed.
-const HEAD: &[u8] = b"token,validator,moment";
 
 /// The bytes without the last one, where that is this byte.
 fn without_last(line: &[u8], byte: u8) -> &[u8]
@@ -61,16 +59,30 @@ fn read_line<R: BufRead>(text: &mut R, line: &mut Vec<u8>) -> Result<bool, RowsF
     }
 }
 
+/// Whether a line, which is given without its end, is a head line.
+fn is_head(line: &[u8]) -> bool
+    ensures { IsTrue result ↔ IsHead line.now }
+{
+    match three_fields(line) {
+        Some((token, validator, moment)) => {
+            stands_for(token, b"token")
+                && stands_for(validator, b"validator")
+                && stands_for(moment, b"moment")
+        }
+        None => false,
+    }
+}
+
 /// Reads the head line.
 pub(crate) fn read_head<R: BufRead>(text: &mut R, line: &mut Vec<u8>) -> Result<(), RowsFault>
     ensures head { OnOk result
-        (IfSome (R.remaining text.old) (λ left. (first_line left ≡ head)
+        (IfSome (R.remaining text.old) (λ left. IsHead (first_line left)
         × (R.remaining text.new ≡ Some (drop_through 10 left)))) }
     ensures fault { IfErr result
         (λ fault. IfSome (R.remaining text.old) (λ left. IsHeadFault left fault)) }
 {
     read_line(text, line)?;
-    if without_end(line) == HEAD {
+    if is_head(without_end(line)) {
         Ok(())
     } else {
         Err(RowsFault::Head)

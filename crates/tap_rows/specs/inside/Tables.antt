@@ -8,7 +8,7 @@ use Rattle.tap_rows.specs.Rows.{IsRow, IsNoRow}
 use Rattle.tap_rows.specs.declared.fault.RowsFault.{RowsFault}
 use Rattle.tap_rows.specs.declared.fault.RowsFault.TheVariants.{Head, Row, Unread, Changed, Write}
 use Rattle.tap_rows.specs.declared.fault.RowsFault.TheVariants.{NoMemory}
-use Rattle.tap_rows.specs.Tables.{head}
+use Rattle.tap_rows.specs.Tables.{IsHead}
 
 -- ---- what the private functions tell each other
 -- the next row of what is left of a table, which has this number, and what is left then
@@ -26,7 +26,7 @@ IsNextRow left number new (Err NoMemory) = Unit {0}
 
 -- why the head was not read
 abbrev pub IsHeadFault : List ℕ → RowsFault → Type 0
-IsHeadFault text Head = ¬ (first_line text ≡ head)
+IsHeadFault text Head = ¬ (IsHead (first_line text))
 IsHeadFault text (Row number column) = ⊥
 IsHeadFault text Changed = ⊥
 IsHeadFault text Unread = Unit {0}

@@ -1,0 +1,105 @@
+-- A line has at most one cut into three fields, and a field's text stands for at most one value.
+use Rattle.std.proofs.Common.{◌≡◌, ℕ, suc, ◌+◌, ◌-◌, ◌<◌, List, [], ◌∷◌, ◌++◌, length, refl, sym, ap, subst, ◌∙◌, arith, length-append, inl, inr}
+use Rattle.std.specs.Prelude.{codes, slice_index, MatchOption, None, Option, Some}
+use Rattle.std.proofs.Math.Seq.{get_or-append_seam}
+use Rattle.tap_rows.specs.Fields.{HasNoComma, AreFields, StandsFor, StandsForSome}
+use Rattle.tap_rows.specs.Tables.{IsHead}
+
+-- no comma in what follows the first byte
+behind : (x : ℕ) (xs : List ℕ) → HasNoComma (x ∷ xs) → HasNoComma xs
+behind x xs none = λ k d h. none (suc k) d (omega arith)
+
+-- a text with a comma has one
+pub has_comma : (a b : List ℕ) → ¬ (HasNoComma (a ++ 44 ∷ b))
+has_comma [] b none = none 0 0 (omega arith) refl
+has_comma (x ∷ a) b none = has_comma a b (behind x (a ++ 44 ∷ b) none)
+
+-- the first comma stands at one place
+pub one_cut : (a b c d : List ℕ) → HasNoComma a → HasNoComma c → a ++ 44 ∷ b ≡ c ++ 44 ∷ d → (a ≡ c) × (b ≡ d)
+one_cut [] b [] d none none' e = (refl, cc)
+one_cut [] b (y ∷ c) d none none' e = absurd (none' 0 0 (omega arith) (cc))
+one_cut (x ∷ a) b [] d none none' e = absurd (none 0 0 (omega arith) (cc))
+one_cut (x ∷ a) b (y ∷ c) d none none' e =
+    let tails : a ++ 44 ∷ b ≡ c ++ 44 ∷ d = cc in
+    let (front, back) = one_cut a b c d (behind x a none) (behind y c none') tails in
+    let first : x ≡ y = cc in
+    (ap (λ z. z ∷ a) first ∙ ap (λ zs. y ∷ zs) front, back)
+
+pub one_fields : (line t v m t' v' m' : List ℕ) → AreFields line t v m → AreFields line t' v' m' → (t ≡ t') × (v ≡ v') × (m ≡ m')
+one_fields line t v m t' v' m' is other =
+    let (token, rest) = one_cut t (v ++ 44 ∷ m) t' (v' ++ 44 ∷ m') is.no_comma_first other.no_comma_first (sym is.joined ∙ other.joined) in
+    let (validator, moment) = one_cut v m v' m' is.no_comma_second other.no_comma_second rest in
+    (token, validator, moment)
+
+-- no comma, no fields
+pub no_first : (line : List ℕ) → HasNoComma line → (t v m : List ℕ) → ¬ (AreFields line t v m)
+no_first line none t v m is = has_comma t (v ++ 44 ∷ m) (subst HasNoComma is.joined none)
+
+-- one comma, no fields
+pub no_second : (line token rest : List ℕ) → HasNoComma token → line ≡ token ++ 44 ∷ rest → HasNoComma rest → (t v m : List ℕ) → ¬ (AreFields line t v m)
+no_second line token rest first joined none t v m is =
+    let (_, same) = one_cut token rest t (v ++ 44 ∷ m) first is.no_comma_first (sym joined ∙ is.joined) in
+    has_comma v m (subst HasNoComma same none)
+
+-- a comma in what stands behind the second one, no fields
+pub no_third : (line token rest validator moment : List ℕ) → HasNoComma token → line ≡ token ++ 44 ∷ rest → HasNoComma validator → rest ≡ validator ++ 44 ∷ moment
+    → ¬ (HasNoComma moment) → (t v m : List ℕ) → ¬ (AreFields line t v m)
+no_third line token rest validator moment first joined second more some t v m is =
+    let (_, same) = one_cut token rest t (v ++ 44 ∷ m) first is.no_comma_first (sym joined ∙ is.joined) in
+    let (_, last) = one_cut validator moment v m second is.no_comma_second (sym more ∙ same) in
+    some (subst HasNoComma (sym last) is.no_comma_third)
+
+-- ---- values
+-- what stands before a last byte
+before_last : (v w : List ℕ) → v ++ 34 ∷ [] ≡ w ++ 34 ∷ [] → v ≡ w
+before_last [] [] e = refl
+before_last [] (y ∷ w) e = absurd (omega (arith, ap length e, length-append w (34 ∷ [])))
+before_last (x ∷ v) [] e = absurd (omega (arith, ap length e, length-append v (34 ∷ [])))
+before_last (x ∷ v) (y ∷ w) e =
+    let tails : v ++ 34 ∷ [] ≡ w ++ 34 ∷ [] = cc in
+    let first : x ≡ y = cc in
+    ap (λ z. z ∷ v) first ∙ ap (λ zs. y ∷ zs) (before_last v w tails)
+
+-- a field's text stands for one value at most
+pub one_value : (text value other : List ℕ) → StandsFor text value → StandsFor text other → value ≡ other
+one_value text value other (inl is) (inl also) = sym is.same ∙ also.same
+one_value text value other (inl is) (inr also) = absurd (is.plain (other ++ 34 ∷ []) also)
+one_value text value other (inr is) (inl also) = absurd (also.plain (value ++ 34 ∷ []) is)
+one_value text value other (inr is) (inr also) =
+    let tails : value ++ 34 ∷ [] ≡ other ++ 34 ∷ [] = cc in
+    before_last value other tails
+
+-- a text that begins with a quote and stands for a value ends with another quote
+pub ends_quoted : (text value : List ℕ) → 0 < length text → slice_index text 0 ≡ 34 → StandsFor text value
+    → (0 < length text - 1) × (slice_index text (length text - 1) ≡ 34)
+ends_quoted [] value some quote stands = absurd (omega (arith, some))
+ends_quoted (x ∷ text) value some quote (inl is) = absurd (is.plain text (ap (λ z. z ∷ text) quote))
+ends_quoted (x ∷ text) value some quote (inr is) =
+    let size : length (x ∷ text) ≡ length value + 2 = ap length is ∙ ap suc (length-append value (34 ∷ [])) ∙ omega arith in
+    let at : length (x ∷ text) - 1 ≡ suc (length value) = omega (arith, size) in
+    let last : slice_index (34 ∷ (value ++ 34 ∷ [])) (suc (length value)) ≡ 34 = get_or-append_seam value 34 [] 0 in
+    (omega (arith, at), ap (λ k. slice_index (x ∷ text) k) at ∙ ap (λ bytes. slice_index bytes (suc (length value))) is ∙ last)
+
+-- what is found in the value is told by the text
+pub told : {A : Type 0} (P : List ℕ → A → Type 0) (text value : List ℕ) (found : Option A) → StandsFor text value
+    → MatchOption found ((one : A) → ¬ (P value one)) (λ one. P value one)
+    → MatchOption found ((one : A) → ¬ (StandsForSome (λ v. P v one) text)) (λ one. StandsForSome (λ v. P v one) text)
+told {A = A} P text value None stands none = nothing_told
+  where
+    nothing_told : (one : A) → ¬ (StandsForSome (λ v. P v one) text)
+    nothing_told one (other, also, is) = none one (subst (λ v. P v one) (one_value text other value also stands) is)
+told P text value (Some one) stands is = (value, stands, is)
+
+-- a text that stands for no value tells nothing
+pub untold : {A : Type 0} (P : List ℕ → A → Type 0) (text : List ℕ) → ((value : List ℕ) → ¬ (StandsFor text value)) → (one : A) → ¬ (StandsForSome (λ v. P v one) text)
+untold P text none one (value, stands, is) = none value stands
+
+-- the names that stand in the fields of a head line
+pub names_of : (line token validator moment : List ℕ) → AreFields line token validator moment → IsHead line
+    → StandsFor token (codes "token") × StandsFor validator (codes "validator") × StandsFor moment (codes "moment")
+names_of line token validator moment fields is =
+    let (t, v, m) = one_fields line is.token_text is.validator_text is.moment_text token validator moment is.fields fields in (
+      subst (λ text. StandsFor text (codes "token")) t is.token,
+      subst (λ text. StandsFor text (codes "validator")) v is.validator,
+      subst (λ text. StandsFor text (codes "moment")) m is.moment,
+    )

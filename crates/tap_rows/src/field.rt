@@ -1,0 +1,58 @@
+//! The fields of a line, and the values that they stand for.
+
+ghost use Rattle.std.specs.Prelude.{◌≡◌, ◌++◌, ◌∷◌, ◌↔◌, ℕ, List};
+ghost use Rattle.std.specs.Prelude.{IsTrue, MatchOption};
+ghost use Rattle.tap_rows.specs.Fields.{AreFields, HasNoComma, StandsFor};
+
+/// What stands before the first comma and behind it, or nothing where there is no comma.
+fn cut(line: &[u8]) -> Option<(&[u8], &[u8])>
+    ensures { MatchOption result (HasNoComma line.now)
+        (λ (field, rest). HasNoComma field.now × (line.now ≡ field.now ++ 44 ∷ rest.now)) }
+{
+    let at = line.iter().position(|byte| *byte == b',')?;
+    Some((&line[..at], &line[at + 1..]))
+}
+
+/// The texts of a line's three fields, where it has three.
+pub(crate) fn three_fields(line: &[u8]) -> Option<(&[u8], &[u8], &[u8])>
+    ensures { MatchOption result ((first second third : List ℕ)
+        → ¬ (AreFields line.now first second third))
+        (λ (first, second, third). AreFields line.now first.now second.now third.now) }
+{
+    let Some((first, rest)) = cut(line) else {
+        return None;
+    };
+    let Some((second, third)) = cut(rest) else {
+        return None;
+    };
+    if third.contains(&b',') {
+        return None;
+    }
+    Some((first, second, third))
+}
+
+/// The value that a field's text stands for: the text, or what it has between two double quotes.
+pub(crate) fn value_of(field: &[u8]) -> Option<&[u8]>
+    ensures { MatchOption result ((value : List ℕ)
+        → ¬ (StandsFor field.now value)) (λ value. StandsFor field.now value.now) }
+{
+    if field.is_empty() || field[0] != b'"' {
+        return Some(field);
+    }
+    let last = field.len() - 1;
+    if last > 0 && field[last] == b'"' {
+        Some(&field[1..last])
+    } else {
+        None
+    }
+}
+
+/// Whether a field's text stands for this value.
+pub(crate) fn stands_for(field: &[u8], value: &[u8]) -> bool
+    ensures { IsTrue result ↔ StandsFor field.now value.now }
+{
+    match value_of(field) {
+        Some(found) => found == value,
+        None => false,
+    }
+}
