@@ -5,8 +5,8 @@ ghost use Rattle.fare_table.specs.Token.{Fits, by_bytes};
 
 use crate::fault::NoMemory;
 use crate::riders::marks::Marks;
-use crate::token::Token;
 use crate::terms::Terms;
+use crate::token::Token;
 use std::alloc::Global;
 use std::collections::BTreeMap;
 use std::marker::Model;

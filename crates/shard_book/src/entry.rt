@@ -3,8 +3,8 @@
 ghost use Rattle.std.specs.Prelude.{◌≡◌};
 ghost use Rattle.shard_book.specs.Entry.{reply_of};
 
-use fare_table::Token;
 use account_rule::{Answer, Reply};
+use fare_table::Token;
 
 /// One posted tap and the account rule's reply to it. A book keeps it in 16 bytes, and gives it by
 /// value.

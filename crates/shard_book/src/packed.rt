@@ -9,8 +9,8 @@ ghost use Rattle.shard_book.specs.inside.Packed.{word_answer, word_cents, word_m
 
 use crate::entry::Entry;
 use crate::sums::tally::place_of;
-use fare_table::Token;
 use account_rule::{Answer, Reply};
+use fare_table::Token;
 
 /// 2^42, above every moment: a word's moment is what is left when it is divided by it.
 const MOMENTS: u64 = 4_398_046_511_104;

@@ -5,8 +5,8 @@ ghost use Rattle.std.specs.Map.{keys_of};
 ghost use Rattle.fare_table.specs.Marks.{is_marked};
 
 use crate::fault::NoMemory;
-use crate::token::Token;
 use crate::terms::Terms;
+use crate::token::Token;
 use std::alloc::Global;
 use std::collections::BTreeMap;
 use std::marker::Model;
