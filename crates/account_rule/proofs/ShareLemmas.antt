@@ -13,7 +13,7 @@ use Rattle.account_rule.specs.declared.reply.Reply.{Reply}
 use Rattle.account_rule.specs.declared.tap.TapIn.{TapIn}
 use Rattle.account_rule.specs.Chains.{chains, ends_in_transfer, rides}
 use Rattle.account_rule.specs.Cut.{cut, last_block}
-use Rattle.account_rule.specs.Laws.{is_paid, is_ride, place_replies}
+use Rattle.account_rule.specs.Laws.{is_paid_reply, is_ride, place_replies}
 use Rattle.account_rule.specs.Replies.{live_reply, replies, replies_after, reply, reply_with}
 use Rattle.account_rule.specs.Replies.{ride_reply}
 use Rattle.account_rule.specs.Rules.{Rules}
@@ -286,10 +286,10 @@ cents_of cents =
     [ true ↦ λ _. refl | false ↦ λ h. omega (arith, ltb-false 0 cents h) ] refl
 
 paid_of : (cents : ℕ)
-    → cond {A = ℕ} (ltb 0 cents) 1 0 ≡ cond {A = ℕ} (is_paid (ride_reply cents)) 1 0
+    → cond {A = ℕ} (ltb 0 cents) 1 0 ≡ cond {A = ℕ} (is_paid_reply (ride_reply cents)) 1 0
 unfolding ride_reply reply_with
 paid_of cents = elim (ltb 0 cents) as (λ v. cond {A = ℕ} v 1 0
-    ≡ cond {A = ℕ} (is_paid (cond v (reply_with Paid cents) (reply_with Capped 0))) 1 0)
+    ≡ cond {A = ℕ} (is_paid_reply (cond v (reply_with Paid cents) (reply_with Capped 0))) 1 0)
     [ true ↦ refl | false ↦ refl ]
 
 pub cents_measure : (terms : Terms)
@@ -304,7 +304,7 @@ cents_measure terms = record {
 }
 
 pub paid_measure : (terms : Terms)
-    → IsMeasure terms (λ reply. cond (is_paid reply) 1 0) (λ n. paid_rides terms n)
+    → IsMeasure terms (λ reply. cond (is_paid_reply reply) 1 0) (λ n. paid_rides terms n)
 unfolding reply_with ride_reply paid_rides
 paid_measure terms = record {
   unknown = refl;

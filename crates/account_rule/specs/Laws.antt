@@ -42,8 +42,8 @@ WindowsKeepTheCeiling =
     (windows rules taps)
 
 -- whether the reply is to a ride that costs something
-abbrev pub is_paid : Reply → Bool
-is_paid reply = is_paid_answer reply.answer
+abbrev pub is_paid_reply : Reply → Bool
+is_paid_reply reply = is_paid_answer reply.answer
   where
     is_paid_answer : Answer → Bool
     is_paid_answer Paid = true
@@ -86,5 +86,5 @@ WindowsShareTheCents =
 abbrev pub WindowsShareThePaidRides : Type 0
 WindowsShareThePaidRides =
     (rules : Rules) (taps : List TapIn)
-    → count_by is_paid (replies rules taps)
+    → count_by is_paid_reply (replies rules taps)
     ≡ sum_by (λ window. paid_rides rules.terms (length window)) (windows rules taps)

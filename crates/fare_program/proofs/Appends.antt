@@ -7,7 +7,7 @@ use Rattle.std.proofs.lemmas.List.Folds.{list_all-append}
 use Rattle.fare_table.specs.Fares.{Fares}
 use Rattle.tap_views.specs.Files.{IsReading, Item}
 use Rattle.fare_program.specs.Listing.{Kept, Listed, StandsFor}
-use Rattle.fare_program.specs.Uploads.{AreReadings, lines_from, taps_in, upload_lines}
+use Rattle.fare_program.specs.Uploads.{AreReadings, lines_from, listed_in, listing_lines}
 use Rattle.fare_program.specs.inside.Uploads.{ListsUpload, ListsUploads}
 
 readings_push : (files : List (List ℕ)) (readings : List (List Item)) (file : List ℕ) (items : List Item) → AreReadings files readings → IsReading file items
@@ -25,14 +25,14 @@ same_length (f ∷ files) (r ∷ readings) read = omega (arith, same_length file
 
 lines_push : (fares : Option Fares) (upload : ℕ) (before : List Listed) (readings : List (List Item)) (items : List Item)
     → lines_from fares upload before (readings ++ items ∷ [])
-    ≡ lines_from fares upload before readings ++ upload_lines fares (upload + length readings) 0 (before ++ flat_map (taps_in fares) readings) items
+    ≡ lines_from fares upload before readings ++ listing_lines fares (upload + length readings) 0 (before ++ flat_map (listed_in fares) readings) items
 lines_push fares upload before [] items = rw (append-nil, append-nil, add-zero) refl
 lines_push fares upload before (r ∷ readings) items =
     let number : upload + 1 + length readings ≡ upload + length (r ∷ readings) = omega arith in
-    ap (λ bs. upload_lines fares upload 0 before r ++ bs)
-    (lines_push fares (upload + 1) (before ++ taps_in fares r) readings items
-    ∙ rw (number, append_assoc before (taps_in fares r) (flat_map (taps_in fares) readings)) refl)
-    ∙ sym (append_assoc (upload_lines fares upload 0 before r) _ _)
+    ap (λ bs. listing_lines fares upload 0 before r ++ bs)
+    (lines_push fares (upload + 1) (before ++ listed_in fares r) readings items
+    ∙ rw (number, append_assoc before (listed_in fares r) (flat_map (listed_in fares) readings)) refl)
+    ∙ sym (append_assoc (listing_lines fares upload 0 before r) _ _)
 
 pub uploads_push : (fares : Option Fares) (kept kept' : Kept) (text0 text text' : List ℕ) (files : List (List ℕ)) (file : List ℕ) (clean whole : Bool) (upload : ℕ)
     → upload ≡ length files → ListsUploads fares kept text0 text files clean → ListsUpload fares kept kept' text text' upload file whole
@@ -40,14 +40,14 @@ pub uploads_push : (fares : Option Fares) (kept kept' : Kept) (text0 text text' 
 uploads_push fares kept kept' text0 text text' files file clean whole upload is all one = record {
   readings = all.readings ++ one.items ∷ [];
   read = readings_push files all.readings file one.items all.read one.reading;
-  lines = (one.lines taps all.stands).0 ∙ ap₂ (λ bs n. bs ++ upload_lines fares n 0 taps one.items) all.lines number
+  lines = (one.lines taps all.stands).0 ∙ ap₂ (λ bs n. bs ++ listing_lines fares n 0 taps one.items) all.lines number
       ∙ append_assoc text0 _ _ ∙ ap (λ bs. text0 ++ bs) (sym (lines_push fares 0 [] all.readings one.items));
   stands = subst (StandsFor kept') (sym more_taps) (one.lines taps all.stands).1;
   is_clean = ap₂ (λ a b. a && b) all.is_clean (one.is_whole ∙ and_true _) ∙ sym (list_all-append (list_all is_ok) all.readings (one.items ∷ []));
 }
   where
     taps : List Listed
-    taps = flat_map (taps_in fares) all.readings
+    taps = flat_map (listed_in fares) all.readings
 
     number : upload ≡ 0 + length all.readings
     number = omega (arith, is, same_length files all.readings all.read)
@@ -56,5 +56,5 @@ uploads_push fares kept kept' text0 text text' files file clean whole upload is 
     and_true true = refl
     and_true false = refl
 
-    more_taps : flat_map (taps_in fares) (all.readings ++ one.items ∷ []) ≡ flat_map (taps_in fares) all.readings ++ taps_in fares one.items
-    more_taps = flat_map-append (taps_in fares) all.readings (one.items ∷ []) ∙ ap (λ ts. flat_map (taps_in fares) all.readings ++ ts) (append-nil _)
+    more_taps : flat_map (listed_in fares) (all.readings ++ one.items ∷ []) ≡ flat_map (listed_in fares) all.readings ++ listed_in fares one.items
+    more_taps = flat_map-append (listed_in fares) all.readings (one.items ∷ []) ∙ ap (λ ts. flat_map (listed_in fares) all.readings ++ ts) (append-nil _)

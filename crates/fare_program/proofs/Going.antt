@@ -9,7 +9,7 @@ use Rattle.fare_table.specs.Fares.{Fares}
 use Rattle.tap_views.specs.Layout.{Tap}
 use Rattle.tap_views.specs.Files.{IsReading, Item}
 use Rattle.tap_views.specs.declared.fault.LayoutFault.{LayoutFault}
-use Rattle.fare_program.specs.Uploads.{listed, tap_lines, taps_in, upload_lines}
+use Rattle.fare_program.specs.Uploads.{listed, tap_lines, listed_in, listing_lines}
 use Rattle.fare_program.specs.inside.Uploads.{Lists, ListsUpload}
 use Rattle.fare_program.proofs.Sizes.{taps_within}
 
@@ -42,17 +42,17 @@ goes_nowhere kept text upload number all_text all_taps going = (
 pub record GoingOver (fares : Option Fares) (kept : Kept) (text : List ℕ) (upload number : ℕ) (left : List Item) (all_text : List ℕ) (all_taps : List Listed) : Type 0 where
   pub so_far : List Listed
   pub stands : StandsFor kept so_far
-  pub taps : so_far ++ taps_in fares left ≡ all_taps
-  pub lines : text ++ upload_lines fares upload number so_far left ≡ all_text
+  pub taps : so_far ++ listed_in fares left ≡ all_taps
+  pub lines : text ++ listing_lines fares upload number so_far left ≡ all_text
 
 -- Where a listing of an upload has come to, of which this is left of all the items: the numbers of
 -- the taps fit together, and so do the lines, whatever the listing stood for at first.
 pub record Over (fares : Option Fares) (kept0 kept : Kept) (text0 text : List ℕ) (upload number : ℕ) (whole : Bool) (left items : List Item) : Type 0 where
-  pub numbers : number + length (taps_in fares left) ≡ length (taps_in fares items)
-  pub taps : kept.counts.taps + length (taps_in fares left) ≡ kept0.counts.taps + length (taps_in fares items)
+  pub numbers : number + length (listed_in fares left) ≡ length (listed_in fares items)
+  pub taps : kept.counts.taps + length (listed_in fares left) ≡ kept0.counts.taps + length (listed_in fares items)
   pub is_whole : (whole && list_all is_ok left) ≡ list_all is_ok items
   pub lines : (before : List Listed) → StandsFor kept0 before
-      → GoingOver fares kept text upload number left (text0 ++ upload_lines fares upload 0 before items) (before ++ taps_in fares items)
+      → GoingOver fares kept text upload number left (text0 ++ listing_lines fares upload 0 before items) (before ++ listed_in fares items)
 
 module _ (fares : Option Fares) (kept0 kept : Kept) (text0 text : List ℕ) (upload number : ℕ) (whole : Bool) (left items : List Item) where
   pub over_start : Over fares kept0 kept0 text0 text0 upload 0 true items items
@@ -86,16 +86,16 @@ module _ (fares : Option Fares) (kept0 kept : Kept) (text0 text : List ℕ) (upl
     lines = λ before stands. goes before (over.lines before stands);
   }
     where
-      size : length (taps_in fares (Ok batch ∷ left)) ≡ length batch + length (taps_in fares left)
+      size : length (listed_in fares (Ok batch ∷ left)) ≡ length batch + length (listed_in fares left)
       size = simp (length-append, length-map) refl
 
       goes : (before : List Listed)
-          → GoingOver fares kept text upload number (Ok batch ∷ left) (text0 ++ upload_lines fares upload 0 before items) (before ++ taps_in fares items)
-          → GoingOver fares kept' text' upload next left (text0 ++ upload_lines fares upload 0 before items) (before ++ taps_in fares items)
+          → GoingOver fares kept text upload number (Ok batch ∷ left) (text0 ++ listing_lines fares upload 0 before items) (before ++ listed_in fares items)
+          → GoingOver fares kept' text' upload next left (text0 ++ listing_lines fares upload 0 before items) (before ++ listed_in fares items)
       goes before going = record {
         so_far = going.so_far ++ map (listed fares) batch;
         stands = (lists going.so_far going.stands).1;
-        taps = append_assoc going.so_far (map (listed fares) batch) (taps_in fares left) ∙ going.taps;
+        taps = append_assoc going.so_far (map (listed fares) batch) (listed_in fares left) ∙ going.taps;
         lines = rw ((lists going.so_far going.stands).0, is) (append_assoc text _ _ ∙ going.lines);
       }
 
@@ -114,8 +114,8 @@ module _ (fares : Option Fares) (kept0 kept : Kept) (text0 text : List ℕ) (upl
       and_false false = refl
 
       goes : (before : List Listed)
-          → GoingOver fares kept text upload number (Err refused ∷ left) (text0 ++ upload_lines fares upload 0 before items) (before ++ taps_in fares items)
-          → GoingOver fares kept text' upload number left (text0 ++ upload_lines fares upload 0 before items) (before ++ taps_in fares items)
+          → GoingOver fares kept text upload number (Err refused ∷ left) (text0 ++ listing_lines fares upload 0 before items) (before ++ listed_in fares items)
+          → GoingOver fares kept text' upload number left (text0 ++ listing_lines fares upload 0 before items) (before ++ listed_in fares items)
       goes before going = record {
         so_far = going.so_far;
         stands = going.stands;
@@ -137,8 +137,8 @@ module _ (fares : Option Fares) (kept0 kept : Kept) (text0 text : List ℕ) (upl
       and_true false = refl
 
       goes : (before : List Listed)
-          → GoingOver fares kept text upload number [] (text0 ++ upload_lines fares upload 0 before items) (before ++ taps_in fares items)
-          → (text ≡ text0 ++ upload_lines fares upload 0 before items) × StandsFor kept (before ++ taps_in fares items)
+          → GoingOver fares kept text upload number [] (text0 ++ listing_lines fares upload 0 before items) (before ++ listed_in fares items)
+          → (text ≡ text0 ++ listing_lines fares upload 0 before items) × StandsFor kept (before ++ listed_in fares items)
       goes before going = (
         sym (append-nil text) ∙ going.lines,
         subst (StandsFor kept) (sym (append-nil going.so_far) ∙ going.taps) going.stands,
@@ -153,10 +153,10 @@ module _ (fares : Option Fares) (kept0 kept : Kept) (text0 text : List ℕ) (upl
     omega (arith, size, over.taps, within),
   )
     where
-      within : length (taps_in fares items) ≤ length file
+      within : length (listed_in fares items) ≤ length file
       within = taps_within fares file items reading
 
-      size : length (taps_in fares (Ok batch ∷ left)) ≡ length batch + length (taps_in fares left)
+      size : length (listed_in fares (Ok batch ∷ left)) ≡ length batch + length (listed_in fares left)
       size = simp (length-append, length-map) refl
 
 -- one item is given of those that are left

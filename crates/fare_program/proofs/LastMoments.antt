@@ -15,8 +15,8 @@ use Rattle.tap_views.specs.Layout.{Tap, num}
 use Rattle.fare_program.specs.declared.listing.Word.{Word}
 use Rattle.fare_program.specs.declared.listing.Word.TheVariants.{Live, Stale, Unknown}
 use Rattle.fare_program.specs.declared.listing.ListCounts.{ListCounts}
-use Rattle.fare_program.specs.Listing.{Listed, StandsFor, are_before, count_of, counts_of, is_later, is_word, known_of, last_of, moment_of, word_of, words_after}
-use Rattle.fare_program.specs.inside.Listing.{counted, last_after, word_by}
+use Rattle.fare_program.specs.Listing.{Listed, StandsFor, are_before, count_of, counts_of, is_after_last, is_word, known_of, last_of, listed_moment, word_of, words_after}
+use Rattle.fare_program.specs.inside.Listing.{word_counted, last_after, word_by}
 
 -- the map's own look-up
 pub last_of-get : (last : List (List ℕ × ℕ)) (token : List ℕ) → last_of last token ≡ lookup (λ k. is_eq (slice_cmp nat_cmp token k)) last
@@ -29,8 +29,8 @@ words-push before [] tap = rw append-nil refl
 words-push before (t ∷ taps) tap = rw (words-push (before ++ t ∷ []) taps tap, append_assoc) refl
 
 -- what a known tap of the token changes, where every known tap so far is before m or not
-same_token : (o : Option ℕ) (moment m : ℕ) (all : Bool) → is_later o m ≡ all
-    → is_later (if is_later o moment then Some moment else o) m ≡ (all && (nat_lt moment m && true))
+same_token : (o : Option ℕ) (moment m : ℕ) (all : Bool) → is_after_last o m ≡ all
+    → is_after_last (if is_after_last o moment then Some moment else o) m ≡ (all && (nat_lt moment m && true))
 same_token None moment m all e = grind (arith, nat_tests)
 same_token (Some l) moment m all e = grind (arith, nat_tests)
 
@@ -51,27 +51,27 @@ is_known_of token t = t.known && bytes_eq t.tap.token token
 
 -- one more tap at the token `other`, by whether it is known, and whether it is that token's
 last-push : (last : List (List ℕ × ℕ)) (tap : Tap) (other : List ℕ) (moment : ℕ) (all known same : Bool)
-    → is_later (last_of last other) moment ≡ all → bytes_eq tap.token other ≡ same → (same ≡ true → tap.token ≡ other)
-    → is_later (last_after (word_by last (record { tap = tap; known = known })) tap.token (num tap.moment) last other) moment
+    → is_after_last (last_of last other) moment ≡ all → bytes_eq tap.token other ≡ same → (same ≡ true → tap.token ≡ other)
+    → is_after_last (last_after (word_by last (record { tap = tap; known = known })) tap.token (num tap.moment) last other) moment
     ≡ (all && are_before moment (filter (is_known_of other) (record { tap = tap; known = known } ∷ [])))
 last-push last tap other moment all false same e is eq = e ∙ and-true all
-last-push last tap other moment all true false e is eq = other_token (is_later (last_of last tap.token) (num tap.moment))
+last-push last tap other moment all true false e is eq = other_token (is_after_last (last_of last tap.token) (num tap.moment))
   where
-    other_token : (live : Bool) → is_later (last_after (if live then Live else Stale) tap.token (num tap.moment) last other) moment
+    other_token : (live : Bool) → is_after_last (last_after (if live then Live else Stale) tap.token (num tap.moment) last other) moment
         ≡ (all && are_before moment (filter (is_known_of other) (record { tap = tap; known = true } ∷ [])))
     other_token true = rw is (e ∙ and-true all)
     other_token false = rw is (e ∙ and-true all)
-last-push last tap other moment all true true e is eq = rw is (own_token (is_later (last_of last tap.token) (num tap.moment)) refl)
+last-push last tap other moment all true true e is eq = rw is (own_token (is_after_last (last_of last tap.token) (num tap.moment)) refl)
   where
     here : last_of last tap.token ≡ last_of last other
     here = ap (last_of last) (eq refl)
 
-    step : is_later (if is_later (last_of last tap.token) (num tap.moment) then Some (num tap.moment) else last_of last tap.token) moment
+    step : is_after_last (if is_after_last (last_of last tap.token) (num tap.moment) then Some (num tap.moment) else last_of last tap.token) moment
         ≡ (all && (nat_lt (num tap.moment) moment && true))
-    step = same_token (last_of last tap.token) (num tap.moment) moment all (ap (λ o. is_later o moment) here ∙ e)
+    step = same_token (last_of last tap.token) (num tap.moment) moment all (ap (λ o. is_after_last o moment) here ∙ e)
 
-    own_token : (live : Bool) → is_later (last_of last tap.token) (num tap.moment) ≡ live
-        → is_later (if is_word Live (if live then Live else Stale) && true then Some (num tap.moment) else last_of last other) moment
+    own_token : (live : Bool) → is_after_last (last_of last tap.token) (num tap.moment) ≡ live
+        → is_after_last (if is_word Live (if live then Live else Stale) && true then Some (num tap.moment) else last_of last other) moment
         ≡ (all && (nat_lt (num tap.moment) moment && true))
     own_token true so = rw so at step
     own_token false so = rw (← here) (rw so at step)
@@ -81,7 +81,7 @@ count-push : (word : Word) (taps : List Listed) (tap : Listed) → count_of word
 count-push word taps tap =
     rw (words-push [] taps tap) (sum_by-append (λ x. cond (is_word word x) 1 0) (words_after [] taps) (word_of taps tap ∷ []) ∙ rw zero-add refl)
 
-counts-push : (taps : List Listed) (tap : Listed) (word : Word) → word ≡ word_of taps tap → counted word (counts_of taps) ≡ counts_of (taps ++ tap ∷ [])
+counts-push : (taps : List Listed) (tap : Listed) (word : Word) → word ≡ word_of taps tap → word_counted word (counts_of taps) ≡ counts_of (taps ++ tap ∷ [])
 counts-push taps tap word is = go word is
   where
     len : length (taps ++ tap ∷ []) ≡ length taps + 1
@@ -95,23 +95,23 @@ counts-push taps tap word is = go word is
     one : (w : Word) (word : Word) → word ≡ word_of taps tap → count_of w (taps ++ tap ∷ []) ≡ count_of w taps + (if is_word w word then 1 else 0)
     one w word is = rw is (count-push w taps tap)
 
-    go : (word : Word) → word ≡ word_of taps tap → counted word (counts_of taps) ≡ counts_of (taps ++ tap ∷ [])
+    go : (word : Word) → word ≡ word_of taps tap → word_counted word (counts_of taps) ≡ counts_of (taps ++ tap ∷ [])
     go Live is = counts_are _ _ _ _ len (one Live Live is) (one Stale Live is ∙ add-zero _) (one Unknown Live is ∙ add-zero _)
     go Stale is = counts_are _ _ _ _ len (one Live Stale is ∙ add-zero _) (one Stale Stale is) (one Unknown Stale is ∙ add-zero _)
     go Unknown is = counts_are _ _ _ _ len (one Live Unknown is ∙ add-zero _) (one Stale Unknown is ∙ add-zero _) (one Unknown Unknown is)
 
 pub stands-push : (last last' : List (List ℕ × ℕ)) (counts counts' : ListCounts) (taps : List Listed) (tap : Listed) (word : Word)
-    → word ≡ word_by last tap → ((other : List ℕ) → last_of last' other ≡ last_after word tap.tap.token (moment_of tap) last other)
-    → counts' ≡ counted word counts → StandsFor (record { last = last; counts = counts }) taps
+    → word ≡ word_by last tap → ((other : List ℕ) → last_of last' other ≡ last_after word tap.tap.token (listed_moment tap) last other)
+    → counts' ≡ word_counted word counts → StandsFor (record { last = last; counts = counts }) taps
     → StandsFor (record { last = last'; counts = counts' }) (taps ++ tap ∷ [])
 stands-push last last' counts counts' taps tap word is after counted_is stands = record {
   last = λ other moment.
       rw (after other, is)
       (last-push last tap.tap other moment _ tap.known (bytes_eq tap.tap.token other) (stands.last other moment) refl (bytes_eq-Decides tap.tap.token other).0
-      ∙ sym (list_all-append (λ t. nat_lt (moment_of t) moment) (known_of other taps) _)
+      ∙ sym (list_all-append (λ t. nat_lt (listed_moment t) moment) (known_of other taps) _)
       ∙ ap (are_before moment) (sym (filter-append (is_known_of other) taps (tap ∷ []))));
-  counts = counted_is ∙ ap (counted word) stands.counts ∙ counts-push taps tap word (is ∙ by_list);
+  counts = counted_is ∙ ap (word_counted word) stands.counts ∙ counts-push taps tap word (is ∙ by_list);
 }
   where
     by_list : word_by last tap ≡ word_of taps tap
-    by_list = rw (stands.last tap.tap.token (moment_of tap)) refl
+    by_list = rw (stands.last tap.tap.token (listed_moment tap)) refl

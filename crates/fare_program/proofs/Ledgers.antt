@@ -15,7 +15,7 @@ use Rattle.shard_book.proofs.RisingLemmas.{rising-is, rising-only}
 use Rattle.shard_book.proofs.TokenLemmas.{token_cmp-total, token_cmp-ties}
 use Rattle.fare_service.specs.Outcomes.{OutcomeView}
 use Rattle.fare_service.proofs.PlainSums.{same_entries}
-use Rattle.ledger_texts.specs.Ledger.{AreLinesOfEach, IsLedgerOf, IsLedgerOver, tokens_told}
+use Rattle.ledger_texts.specs.Ledger.{AreLinesOfEach, IsLedgerOfBooks, IsLedgerOver, tokens_told}
 use Rattle.ledger_texts.proofs.Grouping.{each_same}
 
 same_tokens : (entries others : List Entry) → ((token : Token) → own token entries ≡ own token others) → tokens entries ≡ tokens others
@@ -36,7 +36,7 @@ same_told entries others same (Some token) = refl
 pub ledger_same : (fares : Fares) (outcome : OutcomeView) (history : List Entry) (only : Option Token) (text : List ℕ)
     → ((token : Token) → own token (all_entries outcome.books) ≡ own token history)
     → ((book : Book) → slice_get outcome.books 0 ≡ Some book → book.table ≡ fares)
-    → IsLedgerOf outcome.books only text → IsLedgerOver fares history only text
+    → IsLedgerOfBooks outcome.books only text → IsLedgerOver fares history only text
 ledger_same fares outcome history only text same table is =
     let all = all_entries outcome.books in
     let over : IsLedgerOver fares all only text =

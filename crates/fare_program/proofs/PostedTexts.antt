@@ -5,7 +5,7 @@ use Rattle.fare_table.specs.Fares.{Fares}
 use Rattle.fare_table.specs.declared.token.Token.{Token}
 use Rattle.fare_service.specs.Outcomes.{OutcomeView}
 use Rattle.fare_service.specs.declared.upload_end.UploadEnd.{UploadEnd}
-use Rattle.ledger_texts.specs.Ledger.{IsLedgerOf}
+use Rattle.ledger_texts.specs.Ledger.{IsLedgerOfBooks}
 use Rattle.fare_program.specs.Options.{Asked}
 use Rattle.fare_program.specs.Posted.{are_posted}
 use Rattle.fare_program.specs.Program.{Shows, ShowsAsked, ShowsLive, ShowsOf}
@@ -15,7 +15,7 @@ use Rattle.fare_program.proofs.Settled.{shows_settled}
 
 module _ (asked : Asked) (fares : Fares) (files : List (List ℕ)) (ends : List UploadEnd) (outcome : OutcomeView) (token : Option Token) (text : List ℕ) (well : Bool)
     (shown : ShowsOf asked token ends outcome text) (is_well : well ≡ are_posted ends) where
-  reported : (ledger : Bool) → ledger ≡ false → MatchBool ledger (IsLedgerOf outcome.books token text) (Shows asked.explain token outcome text) → Shows asked.explain token outcome text
+  reported : (ledger : Bool) → ledger ≡ false → MatchBool ledger (IsLedgerOfBooks outcome.books token text) (Shows asked.explain token outcome text) → Shows asked.explain token outcome text
   reported true is shows = cc
   reported false is shows = shows
 

@@ -9,7 +9,7 @@ use Rattle.fare_service.specs.declared.upload_end.UploadEnd.{UploadEnd}
 use Rattle.fare_service.specs.Plain.{IsStatementOver}
 use Rattle.fare_service.specs.Printed.{IsStatementOf}
 use Rattle.ledger_texts.specs.Explained.{IsExplainedOf, IsExplainedOver}
-use Rattle.ledger_texts.specs.Ledger.{IsLedgerOf, IsLedgerOver}
+use Rattle.ledger_texts.specs.Ledger.{IsLedgerOfBooks, IsLedgerOver}
 use Rattle.fare_program.specs.Options.{Asked}
 use Rattle.fare_program.specs.Posted.{are_posted}
 use Rattle.fare_program.specs.Program.{ShowsOf, ShowsWith}
@@ -39,7 +39,7 @@ shows_settled asked fares files ends outcome token text well is shown is_well = 
         subst R (sym shown) is.tells.reported
     reported (Some token) shown = stated asked.explain token shown
 
-    over : (ledger : Bool) → MatchBool ledger (IsLedgerOf outcome.books token text) (ShowsWith asked.explain token ends outcome text)
+    over : (ledger : Bool) → MatchBool ledger (IsLedgerOfBooks outcome.books token text) (ShowsWith asked.explain token ends outcome text)
         → MatchBool ledger (IsLedgerOver fares is.tells.history token text) (ReportsOver asked.explain token fares files is.tells.history text)
     over true shown = ledger_same fares outcome is.tells.history token text is.tells.entries is.tells.table shown
     over false shown = reported token shown

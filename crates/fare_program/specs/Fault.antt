@@ -133,16 +133,16 @@ abbrev pub explain_fault : Asked → Option Fault
 explain_fault asked = explain_fault_of asked.explain asked.list asked.ledger asked.token
 
 -- the first of two faults, if there is one
-abbrev pub first_fault : Option Fault → Option Fault → Option Fault
-first_fault None other = other
-first_fault (Some fault) other = Some fault
+abbrev pub first_of_two : Option Fault → Option Fault → Option Fault
+first_of_two None other = other
+first_of_two (Some fault) other = Some fault
 
 -- what is wrong with what is asked for, if anything: the token is looked at first, then settling,
 -- then the ledger, then the explained statement
 abbrev pub mistake : Asked → Option Fault
 mistake asked =
-    first_fault (token_fault asked) (first_fault (settle_fault asked)
-    (first_fault (ledger_fault asked) (explain_fault asked)))
+    first_of_two (token_fault asked) (first_of_two (settle_fault asked)
+    (first_of_two (ledger_fault asked) (explain_fault asked)))
 
 -- why a run over so many uploads came to nothing: there were too many of them, or memory or the
 -- gathering failed

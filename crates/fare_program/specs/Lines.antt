@@ -2,7 +2,7 @@
 use Rattle.std.specs.Prelude.{ℕ, List, ◌++◌, codes, decimal}
 use Rattle.hex.specs.Hex.{encode_lower}
 use Rattle.tap_views.specs.Layout.{Tap, num}
-use Rattle.tap_views.specs.Faults.{place}
+use Rattle.tap_views.specs.Faults.{fault_order}
 use Rattle.tap_views.specs.declared.fault.LayoutFault.{LayoutFault}
 use Rattle.fare_program.specs.declared.listing.Word.{Word}
 use Rattle.fare_program.specs.declared.listing.Word.TheVariants.{Live, Stale, Unknown}
@@ -23,7 +23,7 @@ tap_line upload number tap word = decimal upload ++ (codes " " ++ (decimal numbe
 -- the table of layout faults
 unfoldable pub refused_line : ℕ → ℕ → LayoutFault → List ℕ
 refused_line upload offset fault = decimal upload ++ (codes " refused " ++ (decimal offset
-    ++ (codes " L" ++ (decimal (place fault) ++ codes "\n"))))
+    ++ (codes " L" ++ (decimal (fault_order fault) ++ codes "\n"))))
 
 unfoldable pub counts_line : ListCounts → List ℕ
 counts_line counts = codes "taps " ++ (decimal counts.taps ++ (codes " live "

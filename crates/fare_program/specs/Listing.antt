@@ -17,19 +17,19 @@ pub record Listed : Type 0 where
 abbrev pub listed_of : Tap → Bool → Listed
 listed_of tap known = record { tap = tap; known = known }
 
-abbrev pub moment_of : Listed → ℕ
-moment_of listed = num listed.tap.moment
+abbrev pub listed_moment : Listed → ℕ
+listed_moment listed = num listed.tap.moment
 
 -- the known taps of this token
 abbrev pub known_of : List ℕ → List Listed → List Listed
 known_of token taps = filter (λ t. t.known && bytes_eq t.tap.token token) taps
 
 abbrev pub are_before : ℕ → List Listed → Bool
-are_before moment taps = list_all (λ t. nat_lt (moment_of t) moment) taps
+are_before moment taps = list_all (λ t. nat_lt (listed_moment t) moment) taps
 
 -- A known tap is live where it is later than every known tap of its token before it.
 abbrev pub is_live : List Listed → Listed → Bool
-is_live before tap = are_before (moment_of tap) (known_of tap.tap.token before)
+is_live before tap = are_before (listed_moment tap) (known_of tap.tap.token before)
 
 abbrev pub word_of : List Listed → Listed → Word
 word_of before tap =
@@ -66,13 +66,13 @@ pub record Kept : Type 0 where
 abbrev pub last_of : List (List ℕ × ℕ) → List ℕ → Option ℕ
 last_of last token = lookup (bytes_eq token) last
 
-abbrev pub is_later : Option ℕ → ℕ → Bool
-is_later None moment = true
-is_later (Some last) moment = nat_lt last moment
+abbrev pub is_after_last : Option ℕ → ℕ → Bool
+is_after_last None moment = true
+is_after_last (Some last) moment = nat_lt last moment
 
 -- What is kept answers for the taps of this list: a moment is later than the last known one of a
 -- token where it is later than each known tap of that token, and the counts are those of the list.
 pub record StandsFor (kept : Kept) (taps : List Listed) : Type 0 where
   pub last : (token : List ℕ) (moment : ℕ)
-      → is_later (last_of kept.last token) moment ≡ are_before moment (known_of token taps)
+      → is_after_last (last_of kept.last token) moment ≡ are_before moment (known_of token taps)
   pub counts : kept.counts ≡ counts_of taps

@@ -118,12 +118,12 @@ abbrev pub is_given : Text → List Row → Bool
 is_given name rows = option_map_or (λ text. bytes_eq text (codes "true")) (one_of name rows) false
 
 -- the number that the decimal digits write, after a plus if there is one
-abbrev pub number_in : Text → ℕ
-number_in text = digits_value 10 (without_leading_plus text)
+abbrev pub number_in_text : Text → ℕ
+number_in_text text = digits_value 10 (without_leading_plus text)
 
 -- the number of the option of this name
 abbrev pub number_of : Text → List Row → ℕ
-number_of name rows = option_map_or number_in (one_of name rows) 0
+number_of name rows = option_map_or number_in_text (one_of name rows) 0
 
 -- what a command line asks for
 pub record Asked : Type 0 where

@@ -21,7 +21,7 @@ use Rattle.fare_program.specs.Settling.{ReportsOver, ShowsSettled}
 use Rattle.fare_program.specs.declared.fault.Fault.{Fault}
 use Rattle.fare_program.specs.declared.fault.Fault.TheVariants.{Write}
 use Rattle.ledger_texts.specs.Explained.{IsExplainedOf}
-use Rattle.ledger_texts.specs.Ledger.{IsLedgerOf}
+use Rattle.ledger_texts.specs.Ledger.{IsLedgerOfBooks}
 use Rattle.fare_program.specs.Source.{Loaded, Tells, TellsOne}
 use Rattle.fare_program.specs.Uploads.{IsListing}
 
@@ -93,7 +93,7 @@ Shows explain token outcome text = ShowsWith explain token outcome.ends outcome 
 -- asked for.
 abbrev pub ShowsOf : Asked → Option Token → List UploadEnd → OutcomeView → List ℕ → Type 0
 ShowsOf asked token ends outcome text = MatchBool asked.ledger
-    (IsLedgerOf outcome.books token text) (ShowsWith asked.explain token ends outcome text)
+    (IsLedgerOfBooks outcome.books token text) (ShowsWith asked.explain token ends outcome text)
 
 -- Where no token has taps in two of the files, the text is the report over the plain history of the
 -- files, or the statement of this token, explained where that is asked for. That is a function of

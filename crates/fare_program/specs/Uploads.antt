@@ -17,10 +17,10 @@ abbrev pub listed : Option Fares → Tap → Listed
 listed fares tap = listed_of tap (is_known fares tap)
 
 -- the taps of all batches that are given
-abbrev pub taps_in : Option Fares → List Item → List Listed
-taps_in fares [] = []
-taps_in fares (Ok batch ∷ items) = map (listed fares) batch ++ taps_in fares items
-taps_in fares (Err refused ∷ items) = taps_in fares items
+abbrev pub listed_in : Option Fares → List Item → List Listed
+listed_in fares [] = []
+listed_in fares (Ok batch ∷ items) = map (listed fares) batch ++ listed_in fares items
+listed_in fares (Err refused ∷ items) = listed_in fares items
 
 -- the lines of taps that follow those before; the first has this number in its upload
 abbrev pub tap_lines : ℕ → ℕ → List Listed → List Listed → List ℕ
@@ -29,20 +29,20 @@ tap_lines upload number before (tap ∷ taps) = tap_line upload number tap.tap (
     ++ tap_lines upload (number + 1) (before ++ tap ∷ []) taps
 
 -- the lines of what is given of an upload: of each batch its taps', and one for a layout fault
-abbrev pub upload_lines : Option Fares → ℕ → ℕ → List Listed → List Item → List ℕ
-upload_lines fares upload number before [] = []
-upload_lines fares upload number before (Ok batch ∷ items) =
+abbrev pub listing_lines : Option Fares → ℕ → ℕ → List Listed → List Item → List ℕ
+listing_lines fares upload number before [] = []
+listing_lines fares upload number before (Ok batch ∷ items) =
     let taps = map (listed fares) batch in
     tap_lines upload number before taps
-    ++ upload_lines fares upload (number + length batch) (before ++ taps) items
-upload_lines fares upload number before (Err refused ∷ items) =
-    refused_line upload refused.0 refused.1 ++ upload_lines fares upload number before items
+    ++ listing_lines fares upload (number + length batch) (before ++ taps) items
+listing_lines fares upload number before (Err refused ∷ items) =
+    refused_line upload refused.0 refused.1 ++ listing_lines fares upload number before items
 
 -- the lines of uploads in their order, the first with this number
 abbrev pub lines_from : Option Fares → ℕ → List Listed → List (List Item) → List ℕ
 lines_from fares upload before [] = []
-lines_from fares upload before (items ∷ readings) = upload_lines fares upload 0 before items
-    ++ lines_from fares (upload + 1) (before ++ taps_in fares items) readings
+lines_from fares upload before (items ∷ readings) = listing_lines fares upload 0 before items
+    ++ lines_from fares (upload + 1) (before ++ listed_in fares items) readings
 
 -- no layout fault ends any of the uploads
 abbrev pub are_whole : List (List Item) → Bool
@@ -61,5 +61,5 @@ pub record IsListing (fares : Option Fares) (files : List (List ℕ)) (text : Li
   pub readings : List (List Item)
   pub read : AreReadings files readings
   pub lines : text ≡ lines_from fares 0 [] readings
-      ++ counts_line (counts_of (flat_map (taps_in fares) readings))
+      ++ counts_line (counts_of (flat_map (listed_in fares) readings))
   pub is_clean : clean ≡ are_whole readings

@@ -1,7 +1,7 @@
 //! The lines of a listing.
 ghost use Rattle.std.specs.Prelude.{◌≡◌, ◌++◌, OnOk, Some, length, string_bytes};
 ghost use Rattle.hex.specs.Hex.{encode_lower};
-ghost use Rattle.tap_views.specs.Faults.{place};
+ghost use Rattle.tap_views.specs.Faults.{fault_order};
 ghost use Rattle.fare_program.specs.Lines.{counts_line, refused_line, tap_line, word_text};
 
 use crate::listing::{ListCounts, Word};
@@ -43,7 +43,7 @@ impl fmt::Display for Digits<'_> {
 
 // The row of a layout fault in the table of layout faults, from 1.
 fn row_of(fault: &LayoutFault) -> u8
-    ensures { result ≡ place fault.now }
+    ensures { result ≡ fault_order fault.now }
 {
     match fault {
         LayoutFault::Short { .. } => 1,

@@ -3,8 +3,8 @@ ghost use Rattle.std.specs.Prelude.{◌≡◌, ◌+◌, ◌^◌, ◌<◌, ℕ, L
 ghost use Rattle.std.specs.Prelude.{◌&&◌, if◌then◌else◌};
 ghost use Rattle.std.specs.Str.{bytes_eq};
 ghost use Rattle.tap_views.specs.Layout.{num};
-ghost use Rattle.fare_program.specs.Listing.{Listed, StandsFor, counts_of, is_later};
-ghost use Rattle.fare_program.specs.inside.Listing.{Sums, counted};
+ghost use Rattle.fare_program.specs.Listing.{Listed, StandsFor, counts_of, is_after_last};
+ghost use Rattle.fare_program.specs.inside.Listing.{AddsUp, word_counted};
 ghost use Rattle.fare_program.specs.Listing.{last_of, listed_of, word_of};
 ghost use Rattle.fare_program.specs.inside.Listing.{last_after, word_by};
 
@@ -49,9 +49,9 @@ impl ListCounts {
 
     // Counts a tap with this word.
     fn count(&mut self, word: Word)
-        requires sums { Sums self.old }
+        requires sums { AddsUp self.old }
         requires room { self.old.taps < 2 ^ 127 }
-        ensures { self.new ≡ counted word self.old }
+        ensures { self.new ≡ word_counted word self.old }
     {
         self.taps += 1;
         match word {
@@ -64,7 +64,7 @@ impl ListCounts {
 
 // Whether the moment is later than the last one of the token, if there is one.
 fn is_later(last: &BTreeMap<[u8; 16], u64>, token: &[u8; 16], moment: u64) -> bool
-    ensures { result ≡ is_later (last_of last.now.entries token.now) moment }
+    ensures { result ≡ is_after_last (last_of last.now.entries token.now) moment }
 {
     match last.get(token) {
         Some(latest) => *latest < moment,
@@ -78,7 +78,7 @@ fn advance(
     token: [u8; 16],
     moment: u64,
 ) -> Result<bool, NoMemory>
-    ensures live { IfOk result (λ live. live ≡ is_later (last_of last.old.entries token) moment) }
+    ensures live { IfOk result (λ live. live ≡ is_after_last (last_of last.old.entries token) moment) }
     ensures last { IfOk result (λ live. (other : List ℕ) → last_of last.new.entries other
         ≡ (if live && bytes_eq token other then Some moment else last_of last.old.entries other)) }
     ensures err { OnErr result (last.new.entries ≡ last.old.entries) }
@@ -121,13 +121,13 @@ pub struct Listing {
 
 impl Model for Listing {
     ghost use Rattle.fare_program.specs.Listing.{Kept};
-    ghost use Rattle.fare_program.specs.inside.Listing.{Sums};
+    ghost use Rattle.fare_program.specs.inside.Listing.{AddsUp};
 
     ghost Value = { Kept };
 
     ghost view = { λ l. record { last = l.last.entries; counts = l.counts } };
 
-    ghost invariant = { λ l. Sums l.counts };
+    ghost invariant = { λ l. AddsUp l.counts };
 }
 
 impl Listing {

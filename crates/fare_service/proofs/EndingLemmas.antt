@@ -23,7 +23,7 @@ use Rattle.fare_service.specs.Faults.{visits_held}
 use Rattle.fare_service.specs.Headline.{Signed, HasOutcome, ToldUndrawn}
 use Rattle.fare_service.specs.Outcomes.{OutcomeView}
 use Rattle.fare_service.specs.Plain.{WasWhole}
-use Rattle.fare_service.specs.Runs.{PlacedTap, placed_from, of_shard, Run, run, if_any, runs_below, runs_of, Visit, run_of_visit, ArePosted, AreCut, IsEntered, taps_of, entries_to, entries_of, taps_posted}
+use Rattle.fare_service.specs.Runs.{PlacedTap, placed_from, of_shard, Run, run, if_any, runs_below, runs_of, Visit, run_of_visit, ArePosted, AreCut, IsEntered, taps_of_placed, entries_to, entries_of, taps_posted}
 use Rattle.fare_service.specs.inside.Runs.{visits_to}
 use Rattle.fare_service.specs.ServiceView.{ServiceView, shards_of}
 use Rattle.fare_service.specs.ShareView.{ShareView}
@@ -190,7 +190,7 @@ visits_few shards (r ∷ before) more (v ∷ visits) same some entered =
     let head : run_of_visit v ≡ r = cc in
     let tail : map run_of_visit visits ≡ before ++ more = cc in
     let taps : 0 < length v.taps = omega (arith, All-head (λ (x : Run). 0 < length x.taps) r before some, ap (λ (x : Run). length x.taps) head) in
-    let entries : length (taps_of v.taps) ≡ length v.entries = AllZip-length IsEntryOf (taps_of v.taps) v.entries (All-head (IsEntered shards) v visits entered).fields in
+    let entries : length (taps_of_placed v.taps) ≡ length v.entries = AllZip-length IsEntryOf (taps_of_placed v.taps) v.entries (All-head (IsEntered shards) v visits entered).fields in
     let both : taps_posted (v ∷ visits) ≡ length v.entries + taps_posted visits = length-append v.entries (entries_of visits) in
     let rest = visits_few shards before more visits tail (All-tail (λ (x : Run). 0 < length x.taps) r before some) (All-tail (IsEntered shards) v visits entered) in
     omega (arith, taps, entries, both, rest, length-map v.taps (λ (p : PlacedTap). p.tap))

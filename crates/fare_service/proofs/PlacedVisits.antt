@@ -15,7 +15,7 @@ use Rattle.fare_service.specs.declared.upload_end.UploadEnd.{UploadEnd}
 use Rattle.fare_service.specs.declared.upload_end.UploadEnd.TheVariants.{Posted, Refused, Cut, Undrawn}
 use Rattle.fare_service.specs.Headline.{end_of}
 use Rattle.fare_service.specs.Placing.{posted_of, in_posting_order, WerePostedOf}
-use Rattle.fare_service.specs.Runs.{PlacedTap, placed_from, taps_of, of_shard, Run, run, if_any, runs_below, runs_of, Visit, IsEntered, run_of_visit, ArePosted, AreCut, entries_of, taps_posted}
+use Rattle.fare_service.specs.Runs.{PlacedTap, placed_from, taps_of_placed, of_shard, Run, run, if_any, runs_below, runs_of, Visit, IsEntered, run_of_visit, ArePosted, AreCut, entries_of, taps_posted}
 use Rattle.fare_service.specs.inside.Runs.{visits_to}
 use Rattle.fare_service.specs.Shares.{Worked, all_visits, IsWorkOf, IsEndOf, file_at}
 use Rattle.fare_service.proofs.GatherLemmas.{drawn_times, times_same, times_other, fewer_after, end_same, end_other}
@@ -146,7 +146,7 @@ shard_taps shard shards (v ∷ visits) all =
 visits_length : (shards : ℕ) (visits : List Visit) → All (IsEntered shards) visits → taps_posted visits ≡ length (flat_map (λ v. v.taps) visits)
 visits_length shards [] all = refl
 visits_length shards (v ∷ visits) all =
-    let here : length (taps_of v.taps) ≡ length v.entries = AllZip-length IsEntryOf (taps_of v.taps) v.entries (All-head (IsEntered shards) v visits all).fields in
+    let here : length (taps_of_placed v.taps) ≡ length v.entries = AllZip-length IsEntryOf (taps_of_placed v.taps) v.entries (All-head (IsEntered shards) v visits all).fields in
     let rest : length (entries_of visits) ≡ length (flat_map (λ x. x.taps) visits) = visits_length shards visits (All-tail (IsEntered shards) v visits all) in
     omega (arith, length-map v.taps (λ (p : PlacedTap). p.tap), length-append v.entries (entries_of visits), length-append v.taps (flat_map (λ (x : Visit). x.taps) visits))
 

@@ -17,7 +17,7 @@ use Rattle.fare_service.specs.declared.upload_end.UploadEnd.{UploadEnd}
 use Rattle.fare_service.specs.Headline.{Signed, by_worker}
 use Rattle.fare_service.specs.Outcomes.{OutcomeView}
 use Rattle.fare_service.specs.Placing.{Origin, of_upload, posted_of, StandOnce, WerePostedOf}
-use Rattle.fare_service.specs.Runs.{PlacedTap, taps_of, of_shard, Visit, IsEntered, entries_to}
+use Rattle.fare_service.specs.Runs.{PlacedTap, taps_of_placed, of_shard, Visit, IsEntered, entries_to}
 use Rattle.fare_service.specs.inside.Runs.{visits_to}
 use Rattle.fare_service.specs.Shares.{Worked, all_visits, IsWorkOf, all_works, file_at}
 use Rattle.fare_service.proofs.GatherLemmas.{drawn_times, times_same, each_work}
@@ -249,7 +249,7 @@ AllZip-append R [] xs' (y ∷ ys) ys' a b = absurd a
 AllZip-append R (x ∷ xs) xs' [] ys' a b = absurd a
 AllZip-append R (x ∷ xs) xs' (y ∷ ys) ys' a b = (a.0, AllZip-append R xs xs' ys ys' a.1 b)
 
-origin_fields : (upload : ℕ) (taps : List PlacedTap) (entries : List Entry) → AllZip IsEntryOf (taps_of taps) entries → AllZip IsEntryOfOrigin (map (λ p. record { upload = upload; placed = p }) taps) entries
+origin_fields : (upload : ℕ) (taps : List PlacedTap) (entries : List Entry) → AllZip IsEntryOf (taps_of_placed taps) entries → AllZip IsEntryOfOrigin (map (λ p. record { upload = upload; placed = p }) taps) entries
 origin_fields upload [] [] h = tt
 origin_fields upload [] (e ∷ entries) h = absurd h
 origin_fields upload (p ∷ taps) [] h = absurd h

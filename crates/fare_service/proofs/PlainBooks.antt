@@ -21,7 +21,7 @@ use Rattle.fare_service.specs.declared.upload_end.UploadEnd.{UploadEnd}
 use Rattle.fare_service.specs.declared.upload_end.UploadEnd.TheVariants.{Posted, Refused, Cut, Undrawn}
 use Rattle.fare_service.specs.Headline.{Signed, by_worker, end_of}
 use Rattle.fare_service.specs.Outcomes.{OutcomeView}
-use Rattle.fare_service.specs.Plain.{AreTapsOf, AreTapsOfEach, AreApart, HasOneCut, IsNamed, WasWhole, unanswered, token_of, plain}
+use Rattle.fare_service.specs.Plain.{AreTapsOf, AreTapsOfEach, AreApart, HasOneCut, IsNamed, WasWhole, unanswered, token_of_bytes, plain}
 use Rattle.fare_service.specs.Runs.{Visit, ArePosted, runs_of, entries_to}
 use Rattle.fare_service.specs.Shares.{Worked, all_visits, IsWorkOf, IsEndOf, all_works, file_at}
 use Rattle.fare_service.proofs.PlainLists.{All-split, All-flat, flat-All, All-at, mapped_at, flat_map-map, count, count_same, count_other, DoTheirs, done_alone, done_none, flat_alone, flat_none, HasOne, none_or_one}
@@ -228,7 +228,7 @@ module _ (given : Given) (works : List (List Worked)) (outcome : OutcomeView) (t
 
   pub names_of : (upload : ℕ) → upload < length given.uploads → All IsName (get_or taps upload [])
   names_of upload within =
-      let token = token_of [] in
+      let token = token_of_bytes [] in
       let (w, read, is) = drawn_by (IsRead given.shards token taps) (all_works works) (all_read token) upload (ended upload within) in
       let N : ℕ → Type 0 = λ u. All IsName (get_or taps u []) in
       subst N is read.names
@@ -289,7 +289,7 @@ a_tap token (tap ∷ taps) first rest names is = by_test (is_of token (unanswere
     by_test : (b : Bool) → is_of token (unanswered tap) ≡ b → (filter (is_of token) (map unanswered taps) ≡ first ∷ rest → (x : Tap) × Contains taps x × (x.token ≡ bytes_of token))
         → (x : Tap) × Contains (tap ∷ taps) x × (x.token ≡ bytes_of token)
     by_test true ea more =
-        (tap, (0, omega arith, refl), sym (All-head IsName tap taps names) ∙ ap bytes_of (same_token (token_of tap.token) token ea))
+        (tap, (0, omega arith, refl), sym (All-head IsName tap taps names) ∙ ap bytes_of (same_token (token_of_bytes tap.token) token ea))
     by_test false ea more =
         let left : filter (is_of token) (map unanswered taps) ≡ first ∷ rest =
         ap (λ b. cond b (unanswered tap ∷ filter (is_of token) (map unanswered taps)) (filter (is_of token) (map unanswered taps))) (sym ea) ∙ is in

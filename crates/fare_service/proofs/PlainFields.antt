@@ -13,7 +13,7 @@ use Rattle.tap_views.specs.Files.{IsFile}
 use Rattle.shard_book.specs.declared.entry.Entry.{Entry}
 use Rattle.fare_table.specs.Token.{bytes_of}
 use Rattle.shard_book.specs.Visits.{AreEntriesOf}
-use Rattle.fare_service.specs.Plain.{AreTapsOf, AreTapsOfEach, IsPlain, answered, unanswered, plain_after, token_of}
+use Rattle.fare_service.specs.Plain.{AreTapsOf, AreTapsOfEach, IsPlain, answered, unanswered, plain_after, token_of_bytes}
 use Rattle.fare_service.proofs.PlainLists.{All-split}
 use Rattle.fare_service.proofs.PlainRuns.{IsName}
 
@@ -28,7 +28,7 @@ byte_at bytes all i = by_place (cases_lt i (length bytes))
     by_place (inr past) = omega (arith, get_or_past bytes i 0 past)
 
 -- the token of 16 bytes has these bytes
-named : (bytes : List ℕ) → length bytes ≡ 16 → AreBytes bytes → bytes_of (token_of bytes) ≡ bytes
+named : (bytes : List ℕ) → length bytes ≡ 16 → AreBytes bytes → bytes_of (token_of_bytes bytes) ≡ bytes
 unfolding bytes_of
 named bytes long all =
     let front : to_be_bytes w64 (from_be_bytes w64 (take 8 bytes)) ≡ take 8 bytes =

@@ -13,27 +13,27 @@ use Rattle.shard_book.specs.Entry.{IsEntryOf, is_of, own}
 use Rattle.shard_book.specs.Keys.{same_token}
 use Rattle.fare_table.specs.Token.{bytes_of}
 use Rattle.shared_books.specs.Marks.{joined}
-use Rattle.fare_service.specs.Plain.{unanswered, token_of, IsNamed}
-use Rattle.fare_service.specs.Runs.{PlacedTap, placed_from, taps_of, of_shard, Run, run, if_any, runs_below, runs_of, Visit, IsEntered, run_of_visit, ArePosted, entries_to}
+use Rattle.fare_service.specs.Plain.{unanswered, token_of_bytes, IsNamed}
+use Rattle.fare_service.specs.Runs.{PlacedTap, placed_from, taps_of_placed, of_shard, Run, run, if_any, runs_below, runs_of, Visit, IsEntered, run_of_visit, ArePosted, entries_to}
 use Rattle.fare_service.proofs.PlainReplies.{bare}
 use Rattle.fare_service.proofs.RunLemmas.{taps-of_shard}
 
 -- the taps of some runs to a shard
 abbrev taps_at : ℕ → List Run → List Tap
-taps_at shard runs = flat_map (λ r. taps_of r.taps) (filter (λ r. r.shard == shard) runs)
+taps_at shard runs = flat_map (λ r. taps_of_placed r.taps) (filter (λ r. r.shard == shard) runs)
 
 taps_at-append : (shard : ℕ) (xs ys : List Run) → taps_at shard (xs ++ ys) ≡ taps_at shard xs ++ taps_at shard ys
 taps_at-append shard xs ys =
-    ap (flat_map (λ r. taps_of r.taps)) (filter-append (λ r. r.shard == shard) xs ys)
-    ∙ flat_map-append (λ r. taps_of r.taps) (filter (λ r. r.shard == shard) xs) (filter (λ r. r.shard == shard) ys)
+    ap (flat_map (λ r. taps_of_placed r.taps)) (filter-append (λ r. r.shard == shard) xs ys)
+    ∙ flat_map-append (λ r. taps_of_placed r.taps) (filter (λ r. r.shard == shard) xs) (filter (λ r. r.shard == shard) ys)
 
-any_here : (shard n : ℕ) (taps : List PlacedTap) → (n == shard) ≡ true → taps_at shard (if_any n taps) ≡ taps_of taps
+any_here : (shard n : ℕ) (taps : List PlacedTap) → (n == shard) ≡ true → taps_at shard (if_any n taps) ≡ taps_of_placed taps
 any_here shard n [] is = refl
-any_here shard n (tap ∷ taps) is = ap (λ b. flat_map (λ (r : Run). taps_of r.taps) (cond b (run n (tap ∷ taps) ∷ []) [])) is ∙ append-nil (taps_of (tap ∷ taps))
+any_here shard n (tap ∷ taps) is = ap (λ b. flat_map (λ (r : Run). taps_of_placed r.taps) (cond b (run n (tap ∷ taps) ∷ []) [])) is ∙ append-nil (taps_of_placed (tap ∷ taps))
 
 any_else : (shard n : ℕ) (taps : List PlacedTap) → (n == shard) ≡ false → taps_at shard (if_any n taps) ≡ []
 any_else shard n [] is = refl
-any_else shard n (tap ∷ taps) is = ap (λ b. flat_map (λ (r : Run). taps_of r.taps) (cond b (run n (tap ∷ taps) ∷ []) [])) is
+any_else shard n (tap ∷ taps) is = ap (λ b. flat_map (λ (r : Run). taps_of_placed r.taps) (cond b (run n (tap ∷ taps) ∷ []) [])) is
 
 below_none : (shards shard n : ℕ) (taps : List PlacedTap) → n ≤ shard → taps_at shard (runs_below shards n taps) ≡ []
 below_none shards shard zero taps few = refl
@@ -46,19 +46,19 @@ below_none shards shard (suc n) taps few =
     by_test (inl (is, same)) = absurd (omega (arith, few, same))
     by_test (inr (is, apart)) = any_else shard n (of_shard n shards taps) is
 
-below_some : (shards shard n : ℕ) (taps : List PlacedTap) → shard < n → taps_at shard (runs_below shards n taps) ≡ taps_of (of_shard shard shards taps)
+below_some : (shards shard n : ℕ) (taps : List PlacedTap) → shard < n → taps_at shard (runs_below shards n taps) ≡ taps_of_placed (of_shard shard shards taps)
 below_some shards shard zero taps within = absurd (omega (arith, within))
 below_some shards shard (suc n) taps within =
     taps_at-append shard (runs_below shards n taps) (if_any n (of_shard n shards taps)) ∙ by_test (eqb_tells n shard) (below_some shards shard n taps)
   where
-    by_test : (((n == shard) ≡ true) × (n ≡ shard)) ⊎ (((n == shard) ≡ false) × (n ≢ shard)) → (shard < n → taps_at shard (runs_below shards n taps) ≡ taps_of (of_shard shard shards taps))
-        → taps_at shard (runs_below shards n taps) ++ taps_at shard (if_any n (of_shard n shards taps)) ≡ taps_of (of_shard shard shards taps)
+    by_test : (((n == shard) ≡ true) × (n ≡ shard)) ⊎ (((n == shard) ≡ false) × (n ≢ shard)) → (shard < n → taps_at shard (runs_below shards n taps) ≡ taps_of_placed (of_shard shard shards taps))
+        → taps_at shard (runs_below shards n taps) ++ taps_at shard (if_any n (of_shard n shards taps)) ≡ taps_of_placed (of_shard shard shards taps)
     by_test (inl (is, same)) more =
         ap (λ ts. ts ++ taps_at shard (if_any n (of_shard n shards taps))) (below_none shards shard n taps (omega (arith, same)))
-        ∙ any_here shard n (of_shard n shards taps) is ∙ ap (λ m. taps_of (of_shard m shards taps)) same
+        ∙ any_here shard n (of_shard n shards taps) is ∙ ap (λ m. taps_of_placed (of_shard m shards taps)) same
     by_test (inr (is, apart)) more =
         ap (λ ts. ts ++ taps_at shard (if_any n (of_shard n shards taps))) (more (omega (arith, within, apart)))
-        ∙ ap (λ ts. taps_of (of_shard shard shards taps) ++ ts) (any_else shard n (of_shard n shards taps) is) ∙ append-nil (taps_of (of_shard shard shards taps))
+        ∙ ap (λ ts. taps_of_placed (of_shard shard shards taps) ++ ts) (any_else shard n (of_shard n shards taps) is) ∙ append-nil (taps_of_placed (of_shard shard shards taps))
 
 -- the runs of batches to a shard have the taps of that shard, in order
 runs_taps_at : (shards shard place : ℕ) (batches : List (List Tap)) → shard < shards → taps_at shard (runs_of shards place batches) ≡ run_of shard shards (flat_map (λ batch. batch) batches)
@@ -84,7 +84,7 @@ visits_entries shards shard (visit ∷ visits) all =
     by_test : (b : Bool) → (visit.shard == shard) ≡ b → AllZip IsEntryOf (taps_at shard (map run_of_visit visits)) (joined (entries_to shard visits))
         → AllZip IsEntryOf (taps_at shard (map run_of_visit (visit ∷ visits))) (joined (entries_to shard (visit ∷ visits)))
     by_test true is more =
-        rw is (AllZip-append IsEntryOf (taps_of visit.taps) visit.entries (taps_at shard (map run_of_visit visits)) (joined (entries_to shard visits))
+        rw is (AllZip-append IsEntryOf (taps_of_placed visit.taps) visit.entries (taps_at shard (map run_of_visit visits)) (joined (entries_to shard visits))
         (All-head (IsEntered shards) visit visits all).fields more)
     by_test false is more = rw is more
 
@@ -96,7 +96,7 @@ shard_entries shards shard batches visits within posted all =
 
 -- the tap's token is the name of its bytes
 abbrev pub IsName : Tap → Type 0
-IsName tap = bytes_of (token_of tap.token) ≡ tap.token
+IsName tap = bytes_of (token_of_bytes tap.token) ≡ tap.token
 
 abbrev fields : Token → ℕ → ℕ → Entry
 fields token validator moment = bare (record { token = token; validator = validator; moment = moment; answer = (unanswered (record { token = []; validator = []; moment = [] })).answer; cents = 0 })
@@ -111,8 +111,8 @@ named_entries [] (entry ∷ entries) zip named = absurd zip
 named_entries (tap ∷ taps) [] zip named = absurd zip
 named_entries (tap ∷ taps) (entry ∷ entries) zip named =
     let (same, names) = named_entries taps entries zip.1 (All-tail IsNamed entry entries named) in
-    let is : entry.token ≡ token_of tap.token = All-head IsNamed entry entries named ∙ ap token_of zip.0.token in
-    let here : bare entry ≡ unanswered tap = same_fields entry.token (token_of tap.token) entry.validator (num tap.validator) entry.moment (num tap.moment) is zip.0.validator zip.0.moment in (
+    let is : entry.token ≡ token_of_bytes tap.token = All-head IsNamed entry entries named ∙ ap token_of_bytes zip.0.token in
+    let here : bare entry ≡ unanswered tap = same_fields entry.token (token_of_bytes tap.token) entry.validator (num tap.validator) entry.moment (num tap.moment) is zip.0.validator zip.0.moment in (
       ap (λ e. e ∷ map bare entries) here ∙ ap (λ es. unanswered tap ∷ es) same,
       All-cons IsName tap taps (ap bytes_of (sym is) ∙ zip.0.token) names,
     )
@@ -150,7 +150,7 @@ own_run token shards (tap ∷ taps) names =
         → filter (is_of token) (map unanswered (run_of (shard_of_token (bytes_of token) shards) shards (tap ∷ taps))) ≡ filter (is_of token) (map unanswered (tap ∷ taps))
     by_tests true true ea eb rest = rw (eb, ea) (ap (λ es. unanswered tap ∷ es) rest)
     by_tests true false ea eb rest =
-        let is : token_of tap.token ≡ token = same_token (token_of tap.token) token ea in
+        let is : token_of_bytes tap.token ≡ token = same_token (token_of_bytes tap.token) token ea in
         let here : shard_of_token tap.token shards ≡ shard_of_token (bytes_of token) shards =
         ap (λ bytes. shard_of_token bytes shards) (sym (All-head IsName tap taps names) ∙ ap bytes_of is) in
         absurd (let no_shard : false ≡ true = sym eb ∙ eq-eqb _ _ here in cc)

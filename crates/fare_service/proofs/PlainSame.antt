@@ -5,7 +5,7 @@ use Rattle.std.proofs.Common.{refl, sym, ◌∙◌, ap, inl, inr, subst, arith}
 use Rattle.std.proofs.lemmas.Bool.{cases_lt}
 use Rattle.std.proofs.lemmas.List.Elements.{All-head, All-tail}
 use Rattle.tap_views.specs.Layout.{Tap}
-use Rattle.tap_views.specs.Faults.{IsFault, Row, place}
+use Rattle.tap_views.specs.Faults.{IsFault, Row, fault_order}
 use Rattle.tap_views.specs.declared.fault.LayoutFault.{LayoutFault}
 use Rattle.tap_views.specs.declared.fault.LayoutFault.TheVariants.{Short, Magic, Flags, TooMany, Length, Moment}
 use Rattle.shard_book.specs.declared.entry.Entry.{Entry}
@@ -18,7 +18,7 @@ use Rattle.fare_service.specs.Shares.{IsFaultOf}
 use Rattle.fare_service.specs.Text.{report}
 
 -- faults of one row of the table are the same
-same_row : (bytes : List ℕ) (fault other : LayoutFault) → place fault ≡ place other → Row fault bytes → Row other bytes → fault ≡ other
+same_row : (bytes : List ℕ) (fault other : LayoutFault) → fault_order fault ≡ fault_order other → Row fault bytes → Row other bytes → fault ≡ other
 same_row bytes (Short have) (Short have') e one two = ap Short (one.0 ∙ sym two.0)
 same_row bytes Magic Magic e one two = refl
 same_row bytes Flags Flags e one two = refl
@@ -34,9 +34,9 @@ same_row bytes fault other e one two = absurd (omega (arith, e))
 
 -- bytes have one first fault
 same_fault : (bytes : List ℕ) (fault other : LayoutFault) → IsFault bytes fault → IsFault bytes other → fault ≡ other
-same_fault bytes fault other one two = by_order (cases_lt (place fault) (place other)) (cases_lt (place other) (place fault))
+same_fault bytes fault other one two = by_order (cases_lt (fault_order fault) (fault_order other)) (cases_lt (fault_order other) (fault_order fault))
   where
-    by_order : (place fault < place other) ⊎ (place other ≤ place fault) → (place other < place fault) ⊎ (place fault ≤ place other) → fault ≡ other
+    by_order : (fault_order fault < fault_order other) ⊎ (fault_order other ≤ fault_order fault) → (fault_order other < fault_order fault) ⊎ (fault_order fault ≤ fault_order other) → fault ≡ other
     by_order (inl below) back = absurd (two.first fault below one.holds)
     by_order (inr above) (inl below) = absurd (one.first other below two.holds)
     by_order (inr above) (inr under) = same_row bytes fault other (omega (arith, above, under)) one.holds two.holds

@@ -4,15 +4,15 @@ use Rattle.std.proofs.Common.{refl, sym, ◌∙◌, ap, inl, inr, subst, append_
 use Rattle.std.proofs.lemmas.List.{map-append, length-map}
 use Rattle.tap_views.specs.Layout.{Tap}
 use Rattle.tap_views.specs.Shards.{shard_of_token, run_of}
-use Rattle.fare_service.specs.Runs.{PlacedTap, placed_from, taps_of, of_shard, Run, run, if_any, runs_below, Visit, run_of_visit, ArePosted, AreCut}
+use Rattle.fare_service.specs.Runs.{PlacedTap, placed_from, taps_of_placed, of_shard, Run, run, if_any, runs_below, Visit, run_of_visit, ArePosted, AreCut}
 
 -- the placed taps of a shard are the run's taps
-pub taps-of_shard : (shard shards place : ℕ) (taps : List Tap) → taps_of (of_shard shard shards (placed_from place taps)) ≡ run_of shard shards taps
+pub taps-of_shard : (shard shards place : ℕ) (taps : List Tap) → taps_of_placed (of_shard shard shards (placed_from place taps)) ≡ run_of shard shards taps
 taps-of_shard shard shards place [] = refl
 taps-of_shard shard shards place (tap ∷ taps) =
     let rest = taps-of_shard shard shards (place + 1) taps in
     elim (shard_of_token tap.token shards == shard) as
-    (λ b. taps_of (cond b (record { place = place; tap = tap } ∷ of_shard shard shards (placed_from (place + 1) taps)) (of_shard shard shards (placed_from (place + 1) taps)))
+    (λ b. taps_of_placed (cond b (record { place = place; tap = tap } ∷ of_shard shard shards (placed_from (place + 1) taps)) (of_shard shard shards (placed_from (place + 1) taps)))
     ≡ cond b (tap ∷ run_of shard shards taps) (run_of shard shards taps))
     [ true ↦ ap (λ ts. tap ∷ ts) rest | false ↦ rest ]
 

@@ -10,7 +10,7 @@ use Rattle.tap_views.specs.Layout.{Tap, IsBatch, Layout, Tap1, Tap2, IsTapOf, sp
 use Rattle.tap_views.specs.Files.{IsFile}
 use Rattle.tap_views.specs.Shards.{shard_of_token}
 use Rattle.shard_book.specs.Entry.{IsEntryOf}
-use Rattle.fare_service.specs.Runs.{PlacedTap, placed_from, taps_of, of_shard, Run, run, if_any, runs_below, runs_of, Visit, IsEntered, run_of_visit, ArePosted, AreCut, entries_of, taps_posted}
+use Rattle.fare_service.specs.Runs.{PlacedTap, placed_from, taps_of_placed, of_shard, Run, run, if_any, runs_below, runs_of, Visit, IsEntered, run_of_visit, ArePosted, AreCut, entries_of, taps_posted}
 use Rattle.fare_service.proofs.RunVisits.{AllZip-length}
 
 abbrev pub runs_taps : List Run → ℕ
@@ -24,7 +24,7 @@ pub visits_taps : (shards : ℕ) (visits : List Visit) → All (IsEntered shards
 visits_taps shards [] all = refl
 visits_taps shards (visit ∷ visits) all =
     let here : length visit.entries ≡ length visit.taps =
-    sym (AllZip-length IsEntryOf (taps_of visit.taps) visit.entries (All-head (IsEntered shards) visit visits all).fields) ∙ length-map visit.taps (λ (p : PlacedTap). p.tap) in
+    sym (AllZip-length IsEntryOf (taps_of_placed visit.taps) visit.entries (All-head (IsEntered shards) visit visits all).fields) ∙ length-map visit.taps (λ (p : PlacedTap). p.tap) in
     let rest : taps_posted visits ≡ runs_taps (map run_of_visit visits) = visits_taps shards visits (All-tail (IsEntered shards) visit visits all) in
     let many : length (visit.entries ++ entries_of visits) ≡ length visit.entries + length (entries_of visits) = length-append visit.entries (entries_of visits) in
     let sum : runs_taps (run_of_visit visit ∷ map run_of_visit visits) ≡ length visit.taps + runs_taps (map run_of_visit visits) =

@@ -42,15 +42,15 @@ abbrev pub AreTapsOfEach : List (List ℕ) → List (List Tap) → Type 0
 AreTapsOfEach uploads taps = AllZip AreTapsOf uploads taps
 
 -- the token that 16 bytes name: its numbers are those of the first eight bytes and of the others
-abbrev pub token_of : List ℕ → Token
-token_of bytes =
+abbrev pub token_of_bytes : List ℕ → Token
+token_of_bytes bytes =
     record { high = from_be_bytes w64 (take 8 bytes); low = from_be_bytes w64 (drop 8 bytes) }
 
 -- the fields of a tap, in an entry that has no reply yet
 abbrev pub unanswered : Tap → Entry
 unanswered tap =
     record {
-      token = token_of tap.token;
+      token = token_of_bytes tap.token;
       validator = num tap.validator;
       moment = num tap.moment;
       answer = Unknown;
@@ -99,7 +99,7 @@ AreApart taps =
 
 -- the entry's token is the one that its bytes name
 abbrev pub IsNamed : Entry → Type 0
-IsNamed entry = entry.token ≡ token_of (bytes_of entry.token)
+IsNamed entry = entry.token ≡ token_of_bytes (bytes_of entry.token)
 
 -- all batches before the upload's first fault were posted whole
 abbrev pub WasWhole : UploadEnd → Type 0

@@ -18,8 +18,8 @@ abbrev pub placed_from : ℕ → List Tap → List PlacedTap
 placed_from place [] = []
 placed_from place (tap ∷ taps) = record { place = place; tap = tap } ∷ placed_from (place + 1) taps
 
-abbrev pub taps_of : List PlacedTap → List Tap
-taps_of placed = map (λ p. p.tap) placed
+abbrev pub taps_of_placed : List PlacedTap → List Tap
+taps_of_placed placed = map (λ p. p.tap) placed
 
 -- the taps of one shard, in their order
 abbrev pub of_shard : ℕ → ℕ → List PlacedTap → List PlacedTap
@@ -60,7 +60,7 @@ pub record Visit : Type 0 where
 -- the visit is to one of the shards, and has the fields of its taps' bytes, tap by tap
 pub record IsEntered (shards : ℕ) (visit : Visit) : Type 0 where
   pub within : visit.shard < shards
-  pub fields : AllZip IsEntryOf (taps_of visit.taps) visit.entries
+  pub fields : AllZip IsEntryOf (taps_of_placed visit.taps) visit.entries
 
 abbrev pub run_of_visit : Visit → Run
 run_of_visit visit = run visit.shard visit.taps

@@ -17,7 +17,7 @@ use Rattle.fare_table.proofs.PartLemmas.{bind_ok}
 use Rattle.fare_table.proofs.PayLemmas.{by_some, by_table, member-found, terms_by}
 use Rattle.fare_table.specs.Classes.{ceiling_of, checked, class_named, class_of, classes_of}
 use Rattle.fare_table.specs.Classes.{default_of, is_empty}
-use Rattle.fare_table.specs.Faults.{Row, Where, top, class, a_row, are_pairs, are_texts, class_rows}
+use Rattle.fare_table.specs.Faults.{FaultRow, Where, top, class, a_row, are_pairs, are_texts, class_rows}
 use Rattle.fare_table.specs.Faults.{classes_in, first_row, holds, is_from, is_kind, is_mode}
 use Rattle.fare_table.specs.Faults.{is_in_limits, is_wrong, items_of, member_at, members_at}
 use Rattle.fare_table.specs.Faults.{members_of, mode_names, needed_rows, pairs, passes}
@@ -38,33 +38,33 @@ use Rattle.fare_table.specs.declared.terms.Terms.{Terms}
 abbrev pub fault_in : {A : Type 0} → Outcome A → Option TableFault
 fault_in o = result_err o
 
-cond_map : (b : Bool) (r : Row) (o : Option Row)
-    → option_map (λ (one : Row). one.1) (cond b (Some r) o)
-    ≡ cond b (Some r.1) (option_map (λ (one : Row). one.1) o)
+cond_map : (b : Bool) (r : FaultRow) (o : Option FaultRow)
+    → option_map (λ (one : FaultRow). one.1) (cond b (Some r) o)
+    ≡ cond b (Some r.1) (option_map (λ (one : FaultRow). one.1) o)
 cond_map true r o = refl
 cond_map false r o = refl
 
-pub told : (tree : Members) (at : Where) (fault : TableFault) (more : List Row)
+pub told : (tree : Members) (at : Where) (fault : TableFault) (more : List FaultRow)
     → first_row tree (a_row at fault ∷ more)
     ≡ cond (is_wrong tree at fault) (Some fault) (first_row tree more)
 told tree at fault more =
     cond_map (is_wrong tree at fault) (a_row at fault) (find (holds tree) more)
 
-or_map : (a b : Option Row)
-    → option_map (λ (one : Row). one.1) (option_or a b)
-    ≡ option_or (option_map (λ (one : Row). one.1) a) (option_map (λ (one : Row). one.1) b)
+or_map : (a b : Option FaultRow)
+    → option_map (λ (one : FaultRow). one.1) (option_or a b)
+    ≡ option_or (option_map (λ (one : FaultRow). one.1) a) (option_map (λ (one : FaultRow). one.1) b)
 or_map None b = refl
 or_map (Some r) b = refl
 
-pub told_append : (tree : Members) (front back : List Row)
+pub told_append : (tree : Members) (front back : List FaultRow)
     → first_row tree (front ++ back) ≡ option_or (first_row tree front) (first_row tree back)
 told_append tree front back =
-    ap (option_map (λ (one : Row). one.1)) (find-append (holds tree) front back)
+    ap (option_map (λ (one : FaultRow). one.1)) (find-append (holds tree) front back)
     ∙ or_map (find (holds tree) front) (find (holds tree) back)
 
 -- two steps, and the rows of the one and of the other
 pub steps : {A B : Type 0} (tree : Members) (o : Outcome A) (f : A
-    → Outcome B) (front back : List Row) → fault_in o ≡ first_row tree front
+    → Outcome B) (front back : List FaultRow) → fault_in o ≡ first_row tree front
     → ((a : A) → o ≡ Ok a → fault_in (f a) ≡ first_row tree back)
     → fault_in (o >>= f) ≡ first_row tree (front ++ back)
 steps tree (Ok a) f front back one two =

@@ -249,23 +249,23 @@ is_wrong tree at Zone = is_no_zone (get_member (codes "zone") tree)
 
 -- ---- the rows, in their order
 -- a row: where it looks, and the fault that it tells
-abbrev pub Row : Type 0
-Row = Where × TableFault
+abbrev pub FaultRow : Type 0
+FaultRow = Where × TableFault
 
 -- the row that looks there for this fault
-abbrev pub a_row : Where → TableFault → Row
+abbrev pub a_row : Where → TableFault → FaultRow
 a_row at fault = (at, fault)
 
 -- what the row says of the text is so
-abbrev pub holds : Members → Row → Bool
+abbrev pub holds : Members → FaultRow → Bool
 holds tree one = is_wrong tree one.0 one.1
 
 -- a value that has to be there, of its kind and within its limits
-abbrev pub needed_rows : Where → Key → List Row
+abbrev pub needed_rows : Where → Key → List FaultRow
 needed_rows at key = a_row at (Missing key) ∷ a_row at (Kind key) ∷ a_row at (Range key) ∷ []
 
 -- of one class: `fare`, `rides`, `ceiling`
-abbrev pub rows_of_class : ℕ → List Row
+abbrev pub rows_of_class : ℕ → List FaultRow
 rows_of_class place =
     needed_rows (class place) the_key.Fare
     ++ (needed_rows (class place) the_key.Rides
@@ -273,7 +273,7 @@ rows_of_class place =
     ∷ []))
 
 -- of one entry of `validators`: `first`, `last`, `mode`
-abbrev pub rows_of_range : ℕ → List Row
+abbrev pub rows_of_range : ℕ → List FaultRow
 rows_of_range place =
     needed_rows (range place) the_key.First
     ++ (needed_rows (range place) the_key.Last
@@ -281,59 +281,59 @@ rows_of_range place =
     ∷ a_row (range place) Mode ∷ []))
 
 -- class by class, from this place on
-abbrev pub class_rows : ℕ → Members → List Row
+abbrev pub class_rows : ℕ → Members → List FaultRow
 class_rows place no_members = []
 class_rows place (member name value more) = rows_of_class place ++ class_rows (suc place) more
 
 -- entry by entry, each with the entries before it
-abbrev pub range_rows : ℕ → Items → List Row
+abbrev pub range_rows : ℕ → Items → List FaultRow
 range_rows place no_items = []
 range_rows place (item value more) =
     rows_of_range place ++ (a_row (range place) Overlap ∷ range_rows (suc place) more)
 
 -- key by key of the riders
-abbrev pub rider_rows : ℕ → Members → List Row
+abbrev pub rider_rows : ℕ → Members → List FaultRow
 rider_rows place no_members = []
 rider_rows place (member key value more) = a_row (rider place) Rider ∷ rider_rows (suc place) more
 
 -- the step `transfers`
-abbrev pub transfers_step : List Row
+abbrev pub transfers_step : List FaultRow
 transfers_step =
     a_row top (Missing the_key.Transfers) ∷ a_row top (Kind the_key.Transfers) ∷ a_row top Mode ∷ []
 
 -- the step `classes`
-abbrev pub classes_step : Members → List Row
+abbrev pub classes_step : Members → List FaultRow
 classes_step tree = needed_rows top the_key.Classes ++ class_rows 0 (classes_in tree)
 
 -- the step `default_class`
-abbrev pub default_step : List Row
+abbrev pub default_step : List FaultRow
 default_step =
     a_row top (Missing the_key.DefaultClass) ∷ a_row top (Kind the_key.DefaultClass)
     ∷ a_row top Rider ∷ []
 
 -- the step `validators`
-abbrev pub validators_step : Members → List Row
+abbrev pub validators_step : Members → List FaultRow
 validators_step tree =
     a_row top (Missing the_key.Validators) ∷ a_row top (Kind the_key.Validators)
     ∷ range_rows 0 (entries_in tree)
 
 -- the step `riders`
-abbrev pub riders_step : Members → List Row
+abbrev pub riders_step : Members → List FaultRow
 riders_step tree = a_row top (Kind the_key.Riders) ∷ rider_rows 0 (riders_in tree)
 
 -- the step `zone`
-abbrev pub zone_step : List Row
+abbrev pub zone_step : List FaultRow
 zone_step = a_row top (Kind the_key.Zone) ∷ a_row top Zone ∷ []
 
 -- all rows, step by step: `modes` first
-abbrev pub rows : Members → List Row
+abbrev pub rows : Members → List FaultRow
 rows tree =
     needed_rows top the_key.Modes
     ++ (transfers_step ++ (classes_step tree
     ++ (default_step ++ (validators_step tree ++ (riders_step tree ++ zone_step)))))
 
 -- the fault of the first row that holds, if one does
-abbrev pub first_row : Members → List Row → Option TableFault
+abbrev pub first_row : Members → List FaultRow → Option TableFault
 first_row tree listed = option_map (λ one. one.1) (find (holds tree) listed)
 
 -- the same of a tree, if a text has one: else it is no TOML

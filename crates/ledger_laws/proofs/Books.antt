@@ -14,7 +14,7 @@ use Rattle.shard_book.specs.declared.entry.Entry.{Entry}
 use Rattle.fare_table.specs.declared.token.Token.{Token}
 use Rattle.shard_book.proofs.Histories.{same_token}
 use Rattle.ledger_check.specs.Ledger.{IsLedgerOf, IsPostable}
-use Rattle.ledger_texts.specs.Ledger.{IsLedgerOf as IsWrittenOf, IsLedgerOver}
+use Rattle.ledger_texts.specs.Ledger.{IsLedgerOfBooks as IsWrittenOf, IsLedgerOver}
 use Rattle.ledger_laws.specs.Written.{AreBooksOf, AreLetters, AreShort, CanBeTold, told_entries}
 use Rattle.ledger_laws.proofs.Owned.{own_both, own_is_legal, own_none, own_not}
 use Rattle.ledger_laws.proofs.Telling.{written_is_read}

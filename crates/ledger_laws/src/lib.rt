@@ -13,7 +13,7 @@ ghost use Rattle.shard_book.specs.History.{IsLegal};
 ghost use Rattle.ledger_check.specs.Ledger.{IsLedgerOf, IsPostable};
 ghost use Rattle.ledger_check.specs.Verdicts.{IsVerdict, is_legal};
 ghost use Rattle.ledger_check.specs.declared.checker.Verdict.{Verdict};
-ghost use Rattle.ledger_texts.specs.Ledger.{IsLedgerOf as IsWrittenOf, IsLedgerOver};
+ghost use Rattle.ledger_texts.specs.Ledger.{IsLedgerOfBooks as IsWrittenOf, IsLedgerOver};
 ghost use Rattle.ledger_laws.specs.Written.{AreBooksOf, AreLetters, AreShort, CanBeTold};
 ghost use Rattle.ledger_laws.specs.Written.{told_entries};
 

@@ -9,14 +9,14 @@ use Rattle.shard_book.specs.Groups.{all_entries, tokens}
 use Rattle.shard_book.specs.declared.entry.Entry.{Entry}
 use Rattle.fare_table.specs.declared.token.Token.{Token}
 use Rattle.reason_texts.specs.Ledger.{AreTokenLines, head_text}
-use Rattle.ledger_texts.specs.Ledger.{AreLinesOfEach, IsLedgerOf}
+use Rattle.ledger_texts.specs.Ledger.{AreLinesOfEach, IsLedgerOfBooks}
 use Rattle.ledger_texts.specs.inside.Lines.{AreLinesAlong, IsByToken}
 use Rattle.ledger_texts.proofs.Grouping.{grouped}
 
 pub ledger_of_all : (books : List Book) (first : Book) (fares : Fares) (list : List Entry)
     (head lines : List ℕ) → slice_get books 0 ≡ Some first → fares ≡ first.table
     → IsByToken (all_entries books) list → AreLinesAlong fares [] list lines → head ≡ head_text
-    → IsLedgerOf books None (head ++ lines)
+    → IsLedgerOfBooks books None (head ++ lines)
 ledger_of_all books first fares list head lines there table by_token along is_head =
     let all = all_entries books in
     record {
@@ -34,7 +34,7 @@ pub ledger_of_one : (books : List Book) (first : Book) (fares : Fares) (token : 
     (entries : List Entry) (head lines text : List ℕ) → slice_get books 0 ≡ Some first
     → fares ≡ first.table
     → entries ≡ own token (all_entries books) → AreTokenLines fares token entries lines
-    → head ≡ head_text → text ≡ head ++ lines → IsLedgerOf books (Some token) text
+    → head ≡ head_text → text ≡ head ++ lines → IsLedgerOfBooks books (Some token) text
 ledger_of_one books first fares token entries head lines text there table is_own are is_head shown =
     record {
       first = first;

@@ -30,7 +30,7 @@ pub record IsLedgerOver (fares : Fares) (history : List Entry) (only : Option To
 
 -- the ledger of books: that of the entries of all of them, book by book, under the table of the
 -- first
-pub record IsLedgerOf (books : List Book) (only : Option Token) (text : List ℕ) : Type 0 where
+pub record IsLedgerOfBooks (books : List Book) (only : Option Token) (text : List ℕ) : Type 0 where
   pub first : Book
   pub stands_first : slice_get books 0 ≡ Some first
   pub over : IsLedgerOver first.table (all_entries books) only text

@@ -7,7 +7,7 @@ ghost use Rattle.std.specs.Io.KnownBytes.{Appends};
 ghost use Rattle.shard_book.specs.Sums.{sums, sums_of};
 ghost use Rattle.fare_texts.specs.StatementText.{statement_head};
 ghost use Rattle.ledger_texts.specs.Explained.{IsExplained, IsExplainedOf, terms_line};
-ghost use Rattle.ledger_texts.specs.Fault.{KeepsUnlessWrite};
+ghost use Rattle.ledger_texts.specs.Fault.{KeepsUnlessLedgerWrite};
 
 mod lines;
 mod totals;
@@ -91,7 +91,7 @@ pub fn write_explained<W: Write>(
     requires { 0 < length books.now }
     ensures ok { OnOk result ((text : List ℕ) × IsExplainedOf books.now token text
         × Appends (W.contents out.old) (W.contents out.new) text) }
-    ensures fault { IfErr result (λ fault. KeepsUnlessWrite fault (out.new ≡ out.old)) }
+    ensures fault { IfErr result (λ fault. KeepsUnlessLedgerWrite fault (out.new ≡ out.old)) }
 {
     let Ok(mut text) = explained_text(alloc, books, token) else {
         return Err(LedgerFault::NoMemory);

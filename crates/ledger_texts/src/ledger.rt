@@ -4,11 +4,11 @@ ghost use Rattle.std.specs.Prelude.{◌≡◌, ◌<◌, ℕ, List, ◌++◌, IfE
 ghost use Rattle.std.specs.Prelude.{None, Some, length};
 ghost use Rattle.std.specs.Prelude.{slice_get, string_bytes};
 ghost use Rattle.std.specs.Io.KnownBytes.{Appends};
-ghost use Rattle.ledger_texts.specs.Fault.{KeepsUnlessWrite};
+ghost use Rattle.ledger_texts.specs.Fault.{KeepsUnlessLedgerWrite};
 ghost use Rattle.shard_book.specs.Book.{Book};
 ghost use Rattle.shard_book.specs.Groups.{all_entries};
 ghost use Rattle.reason_texts.specs.Ledger.{head_text};
-ghost use Rattle.ledger_texts.specs.Ledger.{IsLedgerOf};
+ghost use Rattle.ledger_texts.specs.Ledger.{IsLedgerOfBooks};
 ghost use Rattle.ledger_texts.specs.inside.Lines.{IsByToken};
 ghost use Rattle.ledger_texts.specs.inside.Spots.{seen};
 
@@ -50,9 +50,9 @@ fn begun(alloc: Global, books: &[ShardBook]) -> Result<(String, Vec<Spot>), NoMe
 /// Writes the ledger of all tokens.
 fn write_all<W: Write>(alloc: Global, books: &[ShardBook], out: &mut W) -> Result<(), LedgerFault>
     requires { 0 < length books.now }
-    ensures ok { OnOk result ((text : List ℕ) × IsLedgerOf books.now None text
+    ensures ok { OnOk result ((text : List ℕ) × IsLedgerOfBooks books.now None text
         × Appends (W.contents out.old) (W.contents out.new) text) }
-    ensures fault { IfErr result (λ fault. KeepsUnlessWrite fault (out.new ≡ out.old)) }
+    ensures fault { IfErr result (λ fault. KeepsUnlessLedgerWrite fault (out.new ≡ out.old)) }
 {
     let table = table_of(books);
     let Ok(clock) = table.clock(alloc) else {
@@ -68,7 +68,7 @@ fn write_all<W: Write>(alloc: Global, books: &[ShardBook], out: &mut W) -> Resul
 /// The ledger of one token.
 fn own_text(alloc: Global, books: &[ShardBook], token: Token) -> Result<String, NoMemory>
     requires { 0 < length books.now }
-    ensures { IfOk result (λ text. IsLedgerOf books.now (Some token) (string_bytes text)) }
+    ensures { IfOk result (λ text. IsLedgerOfBooks books.now (Some token) (string_bytes text)) }
 {
     let table = table_of(books);
     let clock = table.clock(alloc)?;
@@ -87,9 +87,9 @@ fn write_own<W: Write>(
     out: &mut W,
 ) -> Result<(), LedgerFault>
     requires { 0 < length books.now }
-    ensures ok { OnOk result ((text : List ℕ) × IsLedgerOf books.now (Some token) text
+    ensures ok { OnOk result ((text : List ℕ) × IsLedgerOfBooks books.now (Some token) text
         × Appends (W.contents out.old) (W.contents out.new) text) }
-    ensures fault { IfErr result (λ fault. KeepsUnlessWrite fault (out.new ≡ out.old)) }
+    ensures fault { IfErr result (λ fault. KeepsUnlessLedgerWrite fault (out.new ≡ out.old)) }
 {
     let Ok(mut text) = own_text(alloc, books, token) else {
         return Err(LedgerFault::NoMemory);
@@ -110,9 +110,9 @@ pub fn write_ledger<W: Write>(
     out: &mut W,
 ) -> Result<(), LedgerFault>
     requires { 0 < length books.now }
-    ensures ok { OnOk result ((text : List ℕ) × IsLedgerOf books.now only text
+    ensures ok { OnOk result ((text : List ℕ) × IsLedgerOfBooks books.now only text
         × Appends (W.contents out.old) (W.contents out.new) text) }
-    ensures fault { IfErr result (λ fault. KeepsUnlessWrite fault (out.new ≡ out.old)) }
+    ensures fault { IfErr result (λ fault. KeepsUnlessLedgerWrite fault (out.new ≡ out.old)) }
 {
     match only {
         None => write_all(alloc, books, out),

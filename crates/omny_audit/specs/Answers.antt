@@ -53,14 +53,14 @@ pub record IsAnswer (fares : Fares) (text : List ℕ) (posted : Option (List Tap
   pub second : IsSecond fares text posted (is_legal verdict) rest well
 
 -- the ledger's taps are those of the uploads in some order, if there are uploads
-abbrev pub HasTaps : Option (List TapFields) → List Entry → Type 0
-HasTaps None entries = Unit {0}
-HasTaps (Some posted) entries = IsPermutation posted (map posted_tap entries)
+abbrev pub HasPostedTaps : Option (List TapFields) → List Entry → Type 0
+HasPostedTaps None entries = Unit {0}
+HasPostedTaps (Some posted) entries = IsPermutation posted (map posted_tap entries)
 
 -- the text is, whole, a ledger of legal histories, and has the taps of the uploads
 abbrev pub IsRight : Fares → List ℕ → Option (List TapFields) → Type 0
 IsRight fares text posted =
-    (entries : List Entry) × IsLedgerOf fares entries text × HasTaps posted entries
+    (entries : List Entry) × IsLedgerOf fares entries text × HasPostedTaps posted entries
 
 -- what is answered is well exactly where the text is right
 abbrev pub AnswersDecide : Type 0

@@ -6,7 +6,7 @@ use Rattle.clap.specs.Words.{Text}
 use Rattle.fare_table.specs.Fares.{Fares}
 use Rattle.fare_table.specs.Rules.{rules_in}
 use Rattle.fare_table.specs.Zone.{IsZoneOf}
-use Rattle.tap_balance.specs.Balances.{ArePosted}
+use Rattle.tap_balance.specs.Balances.{ArePostedTaps}
 use Rattle.tap_views.specs.declared.encoder.TapFields.{TapFields}
 use Rattle.omny_audit.specs.Answers.{IsAnswer}
 use Rattle.omny_audit.specs.Fault.{fault_text, is_quiet, is_unwritten}
@@ -37,7 +37,7 @@ pub record LoadsFiles (names : List Text) (told told' : Option (List Loaded))
 abbrev pub ArePostedOfAll : List (List ℕ) → List TapFields → Type 0
 ArePostedOfAll [] taps = taps ≡ []
 ArePostedOfAll (upload ∷ uploads) taps =
-    (first : List TapFields) × (rest : List TapFields) × ArePosted upload first
+    (first : List TapFields) × (rest : List TapFields) × ArePostedTaps upload first
     × ArePostedOfAll uploads rest × (taps ≡ first ++ rest)
 
 -- the taps with which a ledger's are compared, where uploads are named

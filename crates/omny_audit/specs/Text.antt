@@ -32,12 +32,12 @@ pub record IsTapText (tap : TapFields) (text : List ℕ) : Type 0 where
   pub shown : text ≡ token_part tap ++ (moment ++ validator_part tap)
 
 -- these words, and then the tap
-abbrev pub IsLineOf : List ℕ → TapFields → List ℕ → Type 0
-IsLineOf words tap text = (rest : List ℕ) × IsTapText tap rest × (text ≡ words ++ rest)
+abbrev pub IsTapLineOf : List ℕ → TapFields → List ℕ → Type 0
+IsTapLineOf words tap text = (rest : List ℕ) × IsTapText tap rest × (text ≡ words ++ rest)
 
 -- `all taps of the uploads`; `missing tap ..`, where the uploads have it more often than the
 -- ledger, `surplus tap ..`, where the ledger has it more often
 abbrev pub IsDifferenceText : Option Difference → List ℕ → Type 0
 IsDifferenceText None text = text ≡ codes "all taps of the uploads\n"
-IsDifferenceText (Some (Missing tap)) text = IsLineOf (codes "missing tap ") tap text
-IsDifferenceText (Some (Surplus tap)) text = IsLineOf (codes "surplus tap ") tap text
+IsDifferenceText (Some (Missing tap)) text = IsTapLineOf (codes "missing tap ") tap text
+IsDifferenceText (Some (Surplus tap)) text = IsTapLineOf (codes "surplus tap ") tap text

@@ -32,7 +32,7 @@ use Rattle.tap_views.specs.Encoding.{fields_of}
 use Rattle.tap_views.specs.declared.encoder.TapFields.{TapFields}
 use Rattle.fare_service.specs.Plain.{IsPlain, unanswered, plain}
 use Rattle.tap_parts.specs.Canonical.{tap_cmp}
-use Rattle.tap_parts.specs.Parts.{joined}
+use Rattle.tap_parts.specs.Parts.{uploads_joined}
 use Rattle.settlement.proofs.Histories.{same_after}
 use Rattle.settlement.proofs.Own.{IsNamedBy}
 use Rattle.settlement.proofs.Same.{part_fields, sum_filter}
@@ -43,7 +43,7 @@ use Rattle.fare_service.proofs.PlainFields.{plain_fields}
 use Rattle.fare_service.proofs.PlainLists.{flat_alone, mapped_at, same_elements, filter-filter}
 use Rattle.fare_service.proofs.PlainReplies.{bare, own_bare, plain_bare}
 use Rattle.tap_parts.specs.Parts.{part_of_token, of_part}
-use Rattle.part_laws.specs.Split.{Part, IsSplit, entries_of}
+use Rattle.part_laws.specs.Split.{Part, IsSplit, entries_of_parts}
 
 -- ---- histories with the same entries of each token have the same sums (as in the service's own
 -- proof)
@@ -191,18 +191,18 @@ named_taps (tap ∷ taps) names =
     (named_taps taps (All-tail IsNamedBy (fields_of tap) (map fields_of taps) names))
 
 own_parts : (token : Token) (list : List Part)
-    → own token (entries_of list) ≡ flat_map (λ es. es) (map (λ p. own token p.history) list)
+    → own token (entries_of_parts list) ≡ flat_map (λ es. es) (map (λ p. own token p.history) list)
 unfolding own
 own_parts token [] = refl
 own_parts token (p ∷ list) =
-    filter-append (is_of token) p.history (entries_of list)
+    filter-append (is_of token) p.history (entries_of_parts list)
     ∙ ap (λ es. filter (is_of token) p.history ++ es) (own_parts token list)
 
 module _ (fares : Fares) (uploads : List (List ℕ)) (history : List Entry) (parts : List Part)
     (split : IsSplit fares uploads history parts) where
   pub names : All IsName split.settled.order
   names =
-      let taps = joined split.settled.taps in
+      let taps = uploads_joined split.settled.taps in
       let later = plain fares taps in
       let is : IsPlain fares uploads later = record {
         taps = split.settled.taps;
@@ -221,11 +221,11 @@ module _ (fares : Fares) (uploads : List (List ℕ)) (history : List Entry) (par
   part_plain number part there =
       let is = split.each number part there in
       let p : TapFields → Bool = λ f. part_of_token f.token (length parts) == number in
-      let all = map fields_of (joined split.settled.taps) in
+      let all = map fields_of (uploads_joined split.settled.taps) in
       let order = map fields_of split.settled.order in
       let own = of_part number (length parts) split.settled.order in
       let here = map fields_of is.settled.order in
-      let files = map fields_of (joined is.settled.taps) in
+      let files = map fields_of (uploads_joined is.settled.taps) in
       let sorted : IsSorted tap_cmp (map fields_of own) =
       subst (λ fs. IsSorted tap_cmp fs)
       (sym (part_fields number (length parts) split.settled.order))
@@ -235,8 +235,8 @@ module _ (fares : Fares) (uploads : List (List ℕ)) (history : List Entry) (par
       is.settled.canonical.sorted sorted
       (λ f. sum_by-IsPermutation f files here is.settled.canonical.moved
       ∙ sum_by-IsPermutation f
-      (map fields_of (of_part number (length parts) (joined split.settled.taps))) files is.own
-      ∙ ap (sum_by f) (part_fields number (length parts) (joined split.settled.taps))
+      (map fields_of (of_part number (length parts) (uploads_joined split.settled.taps))) files is.own
+      ∙ ap (sum_by f) (part_fields number (length parts) (uploads_joined split.settled.taps))
       ∙ sum_filter p f all
       ∙ sym (sum_by-IsPermutation (λ x. cond (p x) (f x) 0) all order split.settled.canonical.moved)
       ∙ sym (sum_filter p f order)
@@ -272,7 +272,7 @@ module _ (fares : Fares) (uploads : List (List ℕ)) (history : List Entry) (par
       ∙ same_plain fares token mine split.settled.order all
       ∙ ap (own token) (sym split.settled.entries)
 
-  pub own_all : (token : Token) → own token (entries_of parts) ≡ own token history
+  pub own_all : (token : Token) → own token (entries_of_parts parts) ≡ own token history
   own_all token =
       let number = part_of_token (bytes_of token) (length parts) in
       let empty : Part = record { files = []; history = [] } in
@@ -309,11 +309,11 @@ module _ (fares : Fares) (uploads : List (List ℕ)) (history : List Entry) (par
               ap (λ b. cond b (own token (map unanswered split.settled.order)) []) is
 
   pub merged : RisingNumbers → RisingTokens
-      → (sums (entries_of parts) ≡ sums history)
-      × (sums_by_validator (entries_of parts) ≡ sums_by_validator history)
-      × (sums_by_token (entries_of parts) ≡ sums_by_token history)
+      → (sums (entries_of_parts parts) ≡ sums history)
+      × (sums_by_validator (entries_of_parts parts) ≡ sums_by_validator history)
+      × (sums_by_token (entries_of_parts parts) ≡ sums_by_token history)
   merged numbers rising_tokens = (
-    same_sums (entries_of parts) history (same_entries (entries_of parts) history own_all),
-    same_by_validator numbers rising_tokens (entries_of parts) history own_all,
-    same_by_token numbers rising_tokens (entries_of parts) history own_all,
+    same_sums (entries_of_parts parts) history (same_entries (entries_of_parts parts) history own_all),
+    same_by_validator numbers rising_tokens (entries_of_parts parts) history own_all,
+    same_by_token numbers rising_tokens (entries_of_parts parts) history own_all,
   )

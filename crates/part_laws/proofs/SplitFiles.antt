@@ -11,10 +11,10 @@ use Rattle.tap_views.specs.Encoding.{fields_of}
 use Rattle.tap_views.specs.Layout.{Tap}
 use Rattle.tap_views.specs.declared.encoder.TapFields.{TapFields}
 use Rattle.tap_parts.specs.Parts.{part_of_token, of_part}
-use Rattle.upload_parts.specs.Split.{HasTaps, IsPartFile}
+use Rattle.upload_parts.specs.Split.{HasTaps, IsSplitFile}
 use Rattle.fare_service.specs.Plain.{AreTapsOf, AreTapsOfEach, HasOneCut}
 use Rattle.fare_service.proofs.PlainRuns.{AllZip-append}
-use Rattle.tap_parts.specs.Parts.{joined}
+use Rattle.tap_parts.specs.Parts.{uploads_joined}
 use Rattle.settlement.proofs.Histories.{read_fields}
 use Rattle.settlement.proofs.Same.{one_list}
 
@@ -25,17 +25,17 @@ all_of groups = flat_map (λ group. group) groups
 module _ (number parts : ℕ) where
   -- the fields of the part's taps
   abbrev mine : List (List Tap) → List TapFields
-  mine taps = map fields_of (of_part number parts (joined taps))
+  mine taps = map fields_of (of_part number parts (uploads_joined taps))
 
   mine-append : (one other : List (List Tap)) → mine (one ++ other) ≡ mine one ++ mine other
   mine-append one other =
       ap (λ taps. map fields_of (of_part number parts taps))
       (flat_map-append (λ (upload : List Tap). upload) one other)
       ∙ ap (map fields_of)
-      (filter-append (λ (tap : Tap). part_of_token tap.token parts == number) (joined one)
-      (joined other))
-      ∙ map-append fields_of (of_part number parts (joined one))
-      (of_part number parts (joined other))
+      (filter-append (λ (tap : Tap). part_of_token tap.token parts == number) (uploads_joined one)
+      (uploads_joined other))
+      ∙ map-append fields_of (of_part number parts (uploads_joined one))
+      (of_part number parts (uploads_joined other))
 
   -- taps of uploads that are told in the one way are told in the other
   told : (uploads : List (List ℕ)) (taps : List (List Tap)) → AllZip HasTaps uploads taps
@@ -58,15 +58,15 @@ module _ (number parts : ℕ) where
     pub taps : List (List Tap)
     pub each : AreTapsOfEach uploads taps
     pub own : (list : List (List Tap)) → All HasOneCut files → AreTapsOfEach files list
-        → IsPermutation (mine taps) (map fields_of (joined list))
+        → IsPermutation (mine taps) (map fields_of (uploads_joined list))
 
   kept : (groups : List (List (List ℕ))) (files : List (List ℕ))
-      → AllZip (λ group file. IsPartFile group parts number file) groups files
+      → AllZip (λ group file. IsSplitFile group parts number file) groups files
       → Kept (all_of groups) files
   kept [] [] zip = record { taps = []; each = tt; own = none }
     where
       none : (list : List (List Tap)) → All HasOneCut [] → AreTapsOfEach [] list
-          → IsPermutation (mine []) (map fields_of (joined list))
+          → IsPermutation (mine []) (map fields_of (uploads_joined list))
       none [] cuts each = IsPermutation-refl []
       none (ts ∷ list) cuts each = absurd each
   kept [] (file ∷ files) zip = absurd zip
@@ -81,10 +81,10 @@ module _ (number parts : ℕ) where
         own = first p rest;
       }
     where
-      first : (p : IsPartFile group parts number file) (rest : Kept (all_of groups) files)
+      first : (p : IsSplitFile group parts number file) (rest : Kept (all_of groups) files)
           (list : List (List Tap)) → All HasOneCut (file ∷ files)
           → AreTapsOfEach (file ∷ files) list
-          → IsPermutation (mine (p.taps ++ rest.taps)) (map fields_of (joined list))
+          → IsPermutation (mine (p.taps ++ rest.taps)) (map fields_of (uploads_joined list))
       first p rest [] cuts each = absurd each
       first p rest (ts ∷ list) cuts each =
           let read : map fields_of ts ≡ p.list =
@@ -93,22 +93,22 @@ module _ (number parts : ℕ) where
           subst (λ fs. IsPermutation (mine p.taps) fs) (sym read) p.canonical.moved in
           let more = rest.own list (All-tail HasOneCut file files cuts) each.1 in
           let both = IsPermutation-append (mine p.taps) (map fields_of ts) (mine rest.taps)
-          (map fields_of (joined list)) here more in
-          subst (λ fs. IsPermutation fs (map fields_of (ts ++ joined list)))
+          (map fields_of (uploads_joined list)) here more in
+          subst (λ fs. IsPermutation fs (map fields_of (ts ++ uploads_joined list)))
           (sym (mine-append p.taps rest.taps))
           (subst (λ fs. IsPermutation (mine p.taps ++ mine rest.taps) fs)
-          (sym (map-append fields_of ts (joined list))) both)
+          (sym (map-append fields_of ts (uploads_joined list))) both)
 
   pub own_taps : (groups : List (List (List ℕ))) (files : List (List ℕ))
-      → AllZip (λ group file. IsPartFile group parts number file) groups files
+      → AllZip (λ group file. IsSplitFile group parts number file) groups files
       → (uploads : List (List ℕ)) → uploads ≡ all_of groups → All HasOneCut uploads
       → All HasOneCut files
       → (taps list : List (List Tap)) → AreTapsOfEach uploads taps → AreTapsOfEach files list
-      → IsPermutation (map fields_of (of_part number parts (joined taps)))
-      (map fields_of (joined list))
+      → IsPermutation (map fields_of (of_part number parts (uploads_joined taps)))
+      (map fields_of (uploads_joined list))
   own_taps groups files zip uploads whole cuts file_cuts taps list each is =
       let k = kept groups files zip in
       let E : List (List ℕ) → Type 0 = λ us. AreTapsOfEach us k.taps in
       let same = one_list uploads k.taps taps cuts (subst E (sym whole) k.each) each in
-      subst (λ ts. IsPermutation (map fields_of (of_part number parts (joined ts)))
-      (map fields_of (joined list))) same (k.own list file_cuts is)
+      subst (λ ts. IsPermutation (map fields_of (of_part number parts (uploads_joined ts)))
+      (map fields_of (uploads_joined list))) same (k.own list file_cuts is)

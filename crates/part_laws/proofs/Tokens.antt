@@ -26,7 +26,7 @@ use Rattle.fare_table.specs.Token.{bytes_of, token_cmp}
 use Rattle.fare_service.specs.Plain.{unanswered}
 use Rattle.fare_service.proofs.PlainReplies.{bare}
 use Rattle.tap_parts.specs.Parts.{part_of_token, of_part}
-use Rattle.part_laws.specs.Split.{Part, IsSplit, entries_of, pairs_of}
+use Rattle.part_laws.specs.Split.{Part, IsSplit, entries_of_parts, pairs_of_parts}
 use Rattle.part_laws.proofs.Merging.{IsName, RisingTokens, same_entries, own_all, own_there, names}
 use Rattle.part_laws.proofs.Merging.{part_bare_all}
 
@@ -127,41 +127,41 @@ module _ (fares : Fares) (uploads : List (List ℕ)) (history : List Entry) (par
       (subst (λ n. slice_get parts n ≡ Some part) (sym (here k d within)) there)))
 
   members : (list : List Part) (token : Token)
-      → among (keys_of (pairs_of list)) token ≡ among (map token_of (entries_of list)) token
+      → among (keys_of (pairs_of_parts list)) token ≡ among (map token_of (entries_of_parts list)) token
   unfolding sums_by_token tokens
   members [] token = refl
   members (p ∷ list) token =
       let own_keys : keys_of (sums_by_token p.history) ≡ rising token_cmp (map token_of p.history) =
       keys-map (λ t. sums (own t p.history)) (rising token_cmp (map token_of p.history)) in
-      ap (λ ts. among ts token) (keys-append (sums_by_token p.history) (pairs_of list))
-      ∙ among-append (keys_of (sums_by_token p.history)) (keys_of (pairs_of list)) token
-      ∙ ap (λ b. b || among (keys_of (pairs_of list)) token) (ap (λ ts. among ts token) own_keys
+      ap (λ ts. among ts token) (keys-append (sums_by_token p.history) (pairs_of_parts list))
+      ∙ among-append (keys_of (sums_by_token p.history)) (keys_of (pairs_of_parts list)) token
+      ∙ ap (λ b. b || among (keys_of (pairs_of_parts list)) token) (ap (λ ts. among ts token) own_keys
       ∙ ((risen (map token_of p.history) (rising token_cmp (map token_of p.history))).1
       refl).same token)
       ∙ ap (λ b. among (map token_of p.history) token || b) (members list token)
-      ∙ sym (among-append (map token_of p.history) (map token_of (entries_of list)) token)
-      ∙ sym (ap (λ ts. among ts token) (map-append token_of p.history (entries_of list)))
+      ∙ sym (among-append (map token_of p.history) (map token_of (entries_of_parts list)) token)
+      ∙ sym (ap (λ ts. among ts token) (map-append token_of p.history (entries_of_parts list)))
 
   -- a rising list of all the parts' sums by token
-  pub merged_tokens : (merged : List (Token × Sums)) → IsPermutation (pairs_of parts) merged
+  pub merged_tokens : (merged : List (Token × Sums)) → IsPermutation (pairs_of_parts parts) merged
       → IsStrictlySortedBy token_cmp (keys_of merged) → merged ≡ sums_by_token history
   unfolding sums_by_token tokens
   merged_tokens merged moved rises =
       let Q : Token × Sums → Type 0 = λ pair. pair.1 ≡ sums (own pair.0 history) in
-      let keys_moved : IsPermutation (keys_of (pairs_of parts)) (keys_of merged) =
-      IsPermutation-map (λ (pair : Token × Sums). pair.0) (pairs_of parts) merged moved in
-      let entries_moved = IsPermutation-map token_of (entries_of parts) history
-      (same_entries (entries_of parts) history (own_all fares uploads history parts split)) in
+      let keys_moved : IsPermutation (keys_of (pairs_of_parts parts)) (keys_of merged) =
+      IsPermutation-map (λ (pair : Token × Sums). pair.0) (pairs_of_parts parts) merged moved in
+      let entries_moved = IsPermutation-map token_of (entries_of_parts parts) history
+      (same_entries (entries_of_parts parts) history (own_all fares uploads history parts split)) in
       let keys : keys_of merged ≡ rising token_cmp (map token_of history) =
       (risen (map token_of history) (keys_of merged)).0 (record {
         rises = rises;
         same = λ token. sym (list_any-IsPermutation (eq_by_cmp token_cmp token)
-            (keys_of (pairs_of parts)) (keys_of merged) keys_moved)
+            (keys_of (pairs_of_parts parts)) (keys_of merged) keys_moved)
             ∙ members parts token
             ∙ list_any-IsPermutation (eq_by_cmp token_cmp token)
-            (map token_of (entries_of parts)) (map token_of history) entries_moved;
+            (map token_of (entries_of_parts parts)) (map token_of history) entries_moved;
       }) in
       pairs_as history merged
-      (All-permutation Q (pairs_of parts) merged moved
+      (All-permutation Q (pairs_of_parts parts) merged moved
       (all_parts Q (λ p. sums_by_token p.history) parts each_part))
       ∙ ap (map (λ (t : Token). (t, sums (own t history)))) keys

@@ -14,22 +14,22 @@ use Rattle.shard_book.specs.Groups.{at, validators, sums_by_validator, validator
 use Rattle.shard_book.specs.Rising.{rising}
 use Rattle.shard_book.specs.Sums.{Sums, sums, add_sums}
 use Rattle.fare_service.specs.Adding.{add_all}
-use Rattle.part_laws.specs.Split.{Part, IsSplit, entries_of, sums_at}
+use Rattle.part_laws.specs.Split.{Part, IsSplit, entries_of_parts, sums_at}
 use Rattle.part_laws.proofs.Merging.{RisingNumbers, same_sums, same_at, same_entries, own_all}
 
 abbrev pub SumsAdd : Type 0
 SumsAdd = (before after : List Entry) → sums (before ++ after) ≡ add_sums (sums before) (sums after)
 
 module _ (law : SumsAdd) where
-  added : (list : List Part) → sums (entries_of list) ≡ add_all (map (λ p. sums p.history) list)
+  added : (list : List Part) → sums (entries_of_parts list) ≡ add_all (map (λ p. sums p.history) list)
   added [] = refl
-  added (p ∷ list) = law p.history (entries_of list) ∙ ap (add_sums (sums p.history)) (added list)
+  added (p ∷ list) = law p.history (entries_of_parts list) ∙ ap (add_sums (sums p.history)) (added list)
 
-  added_at : (v : ℕ) (list : List Part) → sums (at v (entries_of list)) ≡ sums_at v list
+  added_at : (v : ℕ) (list : List Part) → sums (at v (entries_of_parts list)) ≡ sums_at v list
   unfolding at
   added_at v [] = refl
-  added_at v (p ∷ list) = ap sums (filter-append (is_at v) p.history (entries_of list))
-      ∙ law (at v p.history) (at v (entries_of list))
+  added_at v (p ∷ list) = ap sums (filter-append (is_at v) p.history (entries_of_parts list))
+      ∙ law (at v p.history) (at v (entries_of_parts list))
       ∙ ap (add_sums (sums (at v p.history))) (added_at v list)
 
 pairs_as : (entries : List Entry) (pairs : List (ℕ × Sums))
@@ -46,28 +46,28 @@ module _ (fares : Fares) (uploads : List (List ℕ)) (history : List Entry) (par
     (split : IsSplit fares uploads history parts) (law : SumsAdd) (risen : RisingNumbers) where
   pub merged_totals : add_all (map (λ p. sums p.history) parts) ≡ sums history
   merged_totals = sym (added law parts)
-      ∙ same_sums (entries_of parts) history
-      (same_entries (entries_of parts) history (own_all fares uploads history parts split))
+      ∙ same_sums (entries_of_parts parts) history
+      (same_entries (entries_of_parts parts) history (own_all fares uploads history parts split))
 
   at_history : (v : ℕ) → sums_at v parts ≡ sums (at v history)
   at_history v =
-      sym (added_at law v parts) ∙ same_sums (at v (entries_of parts)) (at v history)
-      (same_entries (at v (entries_of parts)) (at v history)
-      (same_at v (entries_of parts) history (own_all fares uploads history parts split)))
+      sym (added_at law v parts) ∙ same_sums (at v (entries_of_parts parts)) (at v history)
+      (same_entries (at v (entries_of_parts parts)) (at v history)
+      (same_at v (entries_of_parts parts) history (own_all fares uploads history parts split)))
 
   pub merged_validators : (merged : List (ℕ × Sums)) → IsStrictlySortedBy nat_cmp (keys_of merged)
       → ((v : ℕ) → is_member (eq_by_cmp nat_cmp) (keys_of merged) v
-      ≡ is_member (eq_by_cmp nat_cmp) (map validator_of (entries_of parts)) v)
+      ≡ is_member (eq_by_cmp nat_cmp) (map validator_of (entries_of_parts parts)) v)
       → All (λ pair. pair.1 ≡ sums_at pair.0 parts) merged → merged ≡ sums_by_validator history
   unfolding sums_by_validator validators
   merged_validators merged rises members each =
-      let moved = IsPermutation-map validator_of (entries_of parts) history
-      (same_entries (entries_of parts) history (own_all fares uploads history parts split)) in
+      let moved = IsPermutation-map validator_of (entries_of_parts parts) history
+      (same_entries (entries_of_parts parts) history (own_all fares uploads history parts split)) in
       let keys : keys_of merged ≡ rising nat_cmp (map validator_of history) =
       (risen (map validator_of history) (keys_of merged)).0 (record {
         rises = rises;
         same = λ v. members v
-            ∙ list_any-IsPermutation (eq_by_cmp nat_cmp v) (map validator_of (entries_of parts))
+            ∙ list_any-IsPermutation (eq_by_cmp nat_cmp v) (map validator_of (entries_of_parts parts))
             (map validator_of history) moved;
       }) in
       pairs_as history merged (λ k d within. each k d within ∙ at_history _)

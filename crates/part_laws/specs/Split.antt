@@ -15,7 +15,7 @@ use Rattle.fare_table.specs.Token.{token_cmp}
 use Rattle.fare_service.specs.Adding.{add_all}
 use Rattle.tap_parts.specs.Parts.{of_part}
 use Rattle.settlement.specs.Settled.{IsSettledHistory}
-use Rattle.tap_parts.specs.Parts.{joined}
+use Rattle.tap_parts.specs.Parts.{uploads_joined}
 
 -- the files of a part, and the history that settling them makes
 pub record Part : Type 0 where
@@ -27,12 +27,12 @@ abbrev pub part_of : List (List ℕ) → List Entry → Part
 part_of files history = record { files = files; history = history }
 
 -- the entries of all parts, part by part
-abbrev pub entries_of : List Part → List Entry
-entries_of parts = flat_map (λ part. part.history) parts
+abbrev pub entries_of_parts : List Part → List Entry
+entries_of_parts parts = flat_map (λ part. part.history) parts
 
 -- the sums by token of each part, part by part
-abbrev pub pairs_of : List Part → List (Token × Sums)
-pairs_of parts = flat_map (λ part. sums_by_token part.history) parts
+abbrev pub pairs_of_parts : List Part → List (Token × Sums)
+pairs_of_parts parts = flat_map (λ part. sums_by_token part.history) parts
 
 -- the sums of a validator in each part, added up
 abbrev pub sums_at : ℕ → List Part → Sums
@@ -44,7 +44,7 @@ pub record IsPartOf (fares : Fares) (taps : List Tap) (number parts : ℕ) (part
   where
     pub settled : IsSettledHistory fares part.files part.history
     pub own : IsPermutation (map fields_of (of_part number parts taps))
-        (map fields_of (joined settled.taps))
+        (map fields_of (uploads_joined settled.taps))
 
 -- each part is of the uploads, and the history is their settled one
 pub record IsSplit (fares : Fares) (uploads : List (List ℕ)) (history : List Entry)
@@ -53,16 +53,16 @@ pub record IsSplit (fares : Fares) (uploads : List (List ℕ)) (history : List E
   pub bytes : All (λ upload. All (λ byte. byte < 256) upload) uploads
   pub settled : IsSettledHistory fares uploads history
   pub each : (number : ℕ) (part : Part) → slice_get parts number ≡ Some part
-      → IsPartOf fares (joined settled.taps) number (length parts) part
+      → IsPartOf fares (uploads_joined settled.taps) number (length parts) part
 
 -- the list has each validator of the parts once, rising, with its sums in all parts
 pub record AreValidatorsOf (parts : List Part) (merged : List (ℕ × Sums)) : Type 0 where
   pub rise : IsStrictlySortedBy nat_cmp (keys_of merged)
   pub same : (validator : ℕ) → is_member (eq_by_cmp nat_cmp) (keys_of merged) validator
-      ≡ is_member (eq_by_cmp nat_cmp) (map validator_of (entries_of parts)) validator
+      ≡ is_member (eq_by_cmp nat_cmp) (map validator_of (entries_of_parts parts)) validator
   pub sums : All (λ pair. pair.1 ≡ sums_at pair.0 parts) merged
 
 -- the list has the tokens of all parts with their sums, rising
 pub record AreTokensOf (parts : List Part) (merged : List (Token × Sums)) : Type 0 where
-  pub moved : IsPermutation (pairs_of parts) merged
+  pub moved : IsPermutation (pairs_of_parts parts) merged
   pub rise : IsStrictlySortedBy token_cmp (keys_of merged)

@@ -18,10 +18,10 @@ ghost use Rattle.fare_service.specs.Text.{report};
 ghost use Rattle.fare_service.specs.declared.upload_end.UploadEnd.{UploadEnd};
 ghost use Rattle.tap_parts.specs.Parts.{part_of_token};
 ghost use Rattle.settlement.specs.Settled.{IsSettledHistory};
-ghost use Rattle.tap_parts.specs.Parts.{joined};
-ghost use Rattle.upload_parts.specs.Split.{IsPartFile};
+ghost use Rattle.tap_parts.specs.Parts.{uploads_joined};
+ghost use Rattle.upload_parts.specs.Split.{IsSplitFile};
 ghost use Rattle.part_laws.specs.Split.{AreTokensOf, AreValidatorsOf, IsPartOf, IsSplit, Part};
-ghost use Rattle.part_laws.specs.Split.{entries_of, part_of};
+ghost use Rattle.part_laws.specs.Split.{entries_of_parts, part_of};
 
 use fare_service::laws::cuts;
 use shard_book::laws::{rising, sums as adding};
@@ -32,11 +32,11 @@ pub fn split_part(uploads: &[Vec<u8>], files: &[Vec<u8>])
     ensures { (fares : Fares) (groups : List (List (List ℕ))) (number parts : ℕ)
         (taps : List (List Tap)) (history : List Entry)
         → map (λ upload. upload.items) uploads.now ≡ flat_map (λ group. group) groups
-        → AllZip (λ group file. IsPartFile group parts number file) groups
+        → AllZip (λ group file. IsSplitFile group parts number file) groups
         (map (λ file. file.items) files.now)
         → AreTapsOfEach (map (λ upload. upload.items) uploads.now) taps
         → IsSettledHistory fares (map (λ file. file.items) files.now) history
-        → IsPartOf fares (joined taps) number parts
+        → IsPartOf fares (uploads_joined taps) number parts
         (part_of (map (λ file. file.items) files.now) history) }
 {
     cuts(uploads);
@@ -55,9 +55,9 @@ pub fn merged()
         → own token part.history ≡ own token history }
     ensures sums { (fares : Fares) (uploads : List (List ℕ)) (history : List Entry)
         (parts : List Part) → IsSplit fares uploads history parts
-        → (sums (entries_of parts) ≡ sums history)
-        × (sums_by_validator (entries_of parts) ≡ sums_by_validator history)
-        × (sums_by_token (entries_of parts) ≡ sums_by_token history) }
+        → (sums (entries_of_parts parts) ≡ sums history)
+        × (sums_by_validator (entries_of_parts parts) ≡ sums_by_validator history)
+        × (sums_by_token (entries_of_parts parts) ≡ sums_by_token history) }
 {
     rising();
 }

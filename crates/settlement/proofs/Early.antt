@@ -8,7 +8,7 @@ use Rattle.tap_views.specs.Layout.{Tap, Layout, Tap1, Tap2, IsTapOf, num, moment
 use Rattle.tap_views.specs.declared.encoder.TapFields.{TapFields}
 use Rattle.tap_parts.specs.Parts.{part_of_token, of_part}
 use Rattle.fare_service.specs.Plain.{AreTapsOfEach}
-use Rattle.tap_parts.specs.Parts.{joined}
+use Rattle.tap_parts.specs.Parts.{uploads_joined}
 
 abbrev Early : Tap → Type 0
 Early tap = num tap.moment < moment_limit
@@ -32,20 +32,20 @@ file_early file (batch ∷ batches) rest is =
     (batch_early one.0 batch one.1.each) (file_early back batches rest more)
 
 uploads_early : (uploads : List (List ℕ)) (taps : List (List Tap)) → AreTapsOfEach uploads taps
-    → All Early (joined taps)
+    → All Early (uploads_joined taps)
 uploads_early [] [] each = All-nil Early
 uploads_early [] (t ∷ ts) each = absurd each
 uploads_early (u ∷ us) [] each = absurd each
 uploads_early (u ∷ us) (t ∷ ts) each =
-    All-append Early t (joined ts)
+    All-append Early t (uploads_joined ts)
     (subst (λ taps. All Early taps) (sym each.0.all)
     (file_early u each.0.batches each.0.rest each.0.is_file)) (uploads_early us ts each.1)
 
 pub part_early : (part parts : ℕ) (uploads : List (List ℕ)) (taps : List (List Tap))
     → AreTapsOfEach uploads taps
-    → AreEarly (λ (f : TapFields). f.moment) (map fields_of (of_part part parts (joined taps)))
+    → AreEarly (λ (f : TapFields). f.moment) (map fields_of (of_part part parts (uploads_joined taps)))
 part_early part parts uploads taps each =
     All-map (λ (f : TapFields). f.moment < moment_limit) fields_of
-    (of_part part parts (joined taps))
-    (All-filter (λ (tap : Tap). part_of_token tap.token parts == part) Early (joined taps)
+    (of_part part parts (uploads_joined taps))
+    (All-filter (λ (tap : Tap). part_of_token tap.token parts == part) Early (uploads_joined taps)
     (uploads_early uploads taps each))

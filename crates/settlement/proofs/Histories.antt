@@ -8,7 +8,7 @@ use Rattle.tap_views.specs.declared.encoder.TapFields.{TapFields}
 use Rattle.account_rule.specs.declared.reply.Answer.TheVariants.{Unknown}
 use Rattle.shard_book.specs.declared.entry.Entry.{Entry}
 use Rattle.tap_parts.specs.Parts.{IsFileOf}
-use Rattle.fare_service.specs.Plain.{AreTapsOf, HasOneCut, token_of, unanswered, answered}
+use Rattle.fare_service.specs.Plain.{AreTapsOf, HasOneCut, token_of_bytes, unanswered, answered}
 use Rattle.fare_service.specs.Plain.{plain_after}
 
 -- a file's taps have the fields that it is read as
@@ -21,7 +21,7 @@ read_fields file taps list cut of reads =
 -- an entry with no reply, by the fields
 unfoldable pub entry_of : TapFields → Entry
 entry_of f = record {
-  token = token_of f.token;
+  token = token_of_bytes f.token;
   validator = f.validator;
   moment = f.moment;
   answer = Unknown;

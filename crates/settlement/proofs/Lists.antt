@@ -11,20 +11,20 @@ use Rattle.fare_service.specs.Plain.{AreTapsOf, IsPlainEnd}
 use Rattle.fare_service.specs.declared.upload_end.UploadEnd.{UploadEnd}
 use Rattle.fare_service.proofs.PlainRuns.{AllZip-append}
 use Rattle.settlement.specs.inside.Dealt.{AreDealt, in_part}
-use Rattle.tap_parts.specs.Parts.{joined}
+use Rattle.tap_parts.specs.Parts.{uploads_joined}
 
 -- the taps of a part in two runs of uploads
 parts_joined : (part parts : ℕ) (one other : List (List Tap))
-    → map fields_of (of_part part parts (joined (one ++ other)))
-    ≡ map fields_of (of_part part parts (joined one))
-    ++ map fields_of (of_part part parts (joined other))
+    → map fields_of (of_part part parts (uploads_joined (one ++ other)))
+    ≡ map fields_of (of_part part parts (uploads_joined one))
+    ++ map fields_of (of_part part parts (uploads_joined other))
 parts_joined part parts one other =
     ap (λ taps. map fields_of (of_part part parts taps))
     (flat_map-append (λ (upload : List Tap). upload) one other)
     ∙ ap (map fields_of)
-    (filter-append (λ (tap : Tap). part_of_token tap.token parts == part) (joined one)
-    (joined other))
-    ∙ map-append fields_of (of_part part parts (joined one)) (of_part part parts (joined other))
+    (filter-append (λ (tap : Tap). part_of_token tap.token parts == part) (uploads_joined one)
+    (uploads_joined other))
+    ∙ map-append fields_of (of_part part parts (uploads_joined one)) (of_part part parts (uploads_joined other))
 
 -- a run of uploads, and then the next run
 pub both_dealt : (parts : ℕ) (one other : List (List ℕ)) (lists more : List (List (List TapFields)))
@@ -40,7 +40,7 @@ both_dealt parts one other lists more ends later front back = record {
   each = λ part within.
       flat_map-append (λ (list : List (List TapFields)). get_or list part []) lists more
       ∙ ap (λ taps. taps ++ in_part part more) (front.each part within)
-      ∙ ap (λ taps. map fields_of (of_part part parts (joined front.taps)) ++ taps)
+      ∙ ap (λ taps. map fields_of (of_part part parts (uploads_joined front.taps)) ++ taps)
       (back.each part within)
       ∙ sym (parts_joined part parts front.taps back.taps);
   ended = AllZip-append IsPlainEnd one ends other later front.ended back.ended;

@@ -13,7 +13,7 @@ use Rattle.fare_table.specs.declared.token.Token.{Token}
 use Rattle.shard_book.specs.Entry.{is_of, own}
 use Rattle.shard_book.specs.Keys.{same_token}
 use Rattle.fare_table.specs.Token.{bytes_of, token_eq}
-use Rattle.fare_service.specs.Plain.{token_of, unanswered}
+use Rattle.fare_service.specs.Plain.{token_of_bytes, unanswered}
 use Rattle.tap_parts.specs.Canonical.{tap_cmp}
 use Rattle.settlement.proofs.Histories.{entry_of}
 use Rattle.settlement.proofs.Placed.{Pairs, NotLess, Rises}
@@ -24,18 +24,18 @@ use Rattle.settlement.proofs.Unique.{AreAlike, same_sorted}
 
 -- the fields' token is the one that its bytes name
 abbrev pub IsNamedBy : TapFields → Type 0
-IsNamedBy f = bytes_of (token_of f.token) ≡ f.token
+IsNamedBy f = bytes_of (token_of_bytes f.token) ≡ f.token
 
 -- whether the fields are of the token
 abbrev of_token : Token → TapFields → Bool
-of_token token f = token_eq (token_of f.token) token
+of_token token f = token_eq (token_of_bytes f.token) token
 
 -- both are named, and of one token
 one_token : (token : Token) (f g : TapFields) → IsNamedBy f → IsNamedBy g → of_token token f ≡ true
     → of_token token g ≡ true → f.token ≡ g.token
 one_token token f g named other is is_too =
-    let here : token_of f.token ≡ token = same_token (token_of f.token) token is in
-    let there : token_of g.token ≡ token = same_token (token_of g.token) token is_too in
+    let here : token_of_bytes f.token ≡ token = same_token (token_of_bytes f.token) token is in
+    let there : token_of_bytes g.token ≡ token = same_token (token_of_bytes g.token) token is_too in
     sym named ∙ ap bytes_of (here ∙ sym there) ∙ other
 
 pairs_of_token : (token : Token) (fs : List TapFields) → All IsNamedBy fs → Pairs Rises fs

@@ -6,7 +6,7 @@ use Rattle.tap_views.specs.Layout.{Tap}
 use Rattle.fare_service.specs.Plain.{AreTapsOfEach, ArePlainEnds}
 use Rattle.fare_service.specs.Text.{uploads_part}
 use Rattle.fare_service.specs.declared.upload_end.UploadEnd.{UploadEnd}
-use Rattle.tap_parts.specs.Parts.{joined}
+use Rattle.tap_parts.specs.Parts.{uploads_joined}
 
 -- the posted taps of the uploads are those of the others, in some order
 pub record HaveSameTaps (uploads others : List (List ℕ)) : Type 0 where
@@ -14,7 +14,7 @@ pub record HaveSameTaps (uploads others : List (List ℕ)) : Type 0 where
   pub other_taps : List (List Tap)
   pub of_uploads : AreTapsOfEach uploads taps
   pub of_others : AreTapsOfEach others other_taps
-  pub moved : IsPermutation (map fields_of (joined taps)) (map fields_of (joined other_taps))
+  pub moved : IsPermutation (map fields_of (uploads_joined taps)) (map fields_of (uploads_joined other_taps))
 
 -- both texts are the same after the lines of their uploads
 pub record DifferInUploads (uploads others : List (List ℕ)) (text other : List ℕ) : Type 0 where

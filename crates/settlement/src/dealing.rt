@@ -1,7 +1,7 @@
 //! The taps of uploads, dealt to parts by four threads.
 
 ghost use Rattle.std.specs.Prelude.{◌≡◌, ◌≤◌, ◌++◌, length, IfOk, map};
-ghost use Rattle.settlement.specs.inside.Dealt.{AreAllAdded, AreDealt, IsAdded};
+ghost use Rattle.settlement.specs.inside.Dealt.{AreAllAdded, AreDealt, IsDealt};
 
 use crate::memory::release;
 use fare_service::UploadEnd;
@@ -42,7 +42,7 @@ pub(crate) fn bytes_of(uploads: &[Vec<u8>]) -> usize {
 /// Adds the taps of all batches before the upload's first layout fault, each to the part of its
 /// token, and returns how the upload ends. After an error the parts are of no use.
 fn add_upload(parts: &mut Parts, upload: &[u8]) -> Result<UploadEnd, AllocError>
-    ensures { IfOk result (λ end. IsAdded upload.now parts.old parts.new end) }
+    ensures { IfOk result (λ end. IsDealt upload.now parts.old parts.new end) }
 {
     let _ = size(upload);
     let mut taps = 0;

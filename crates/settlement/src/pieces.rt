@@ -2,7 +2,7 @@
 
 ghost use Rattle.std.specs.Prelude.{◌≡◌, ◌<◌, ◌++◌, [], ℕ, All, flat_map, length, IfOk, OnOk};
 ghost use Rattle.std.specs.Prelude.{slice_index_or};
-ghost use Rattle.settlement.specs.inside.Dealt.{AreJoined, in_part};
+ghost use Rattle.settlement.specs.inside.Dealt.{ArePiecesAdded, in_part};
 
 use std::alloc::{AllocError, Global};
 use std::marker::Model;
@@ -66,7 +66,7 @@ fn no_pieces(alloc: Global, parts: u32) -> Result<Vec<Pieces>, AllocError>
 /// Adds to each part the piece that a thread dealt to it.
 fn join(parts: &mut [Pieces], lists: Vec<PartTaps>) -> Result<(), AllocError>
     requires { length lists.items ≡ length parts.old }
-    ensures { OnOk result (AreJoined lists.items parts.old parts.new) }
+    ensures { OnOk result (ArePiecesAdded lists.items parts.old parts.new) }
 {
     let mut place = 0usize;
     for piece in lists {

@@ -14,10 +14,10 @@ use Rattle.shard_book.specs.declared.entry.Entry.{Entry}
 use Rattle.shard_book.specs.declared.packed.PackedEntry.{PackedEntry}
 use Rattle.fare_table.specs.declared.token.Token.{Token}
 use Rattle.shard_book.specs.inside.Packed.{ArePlaced, HasToken, KeepPlaces, answer_at, entry_of, entry_with, history_of, no_token, word_answer, word_cents, word_moment}
-use Rattle.shard_book.specs.inside.Places.{place}
+use Rattle.shard_book.specs.inside.Places.{count_place}
 
 -- the answer with the number of an answer is that answer
-answer-back : (answer : Answer) → answer_at (place answer) ≡ answer
+answer-back : (answer : Answer) → answer_at (count_place answer) ≡ answer
 answer-back Paid = refl
 answer-back Transfer = refl
 answer-back Capped = refl
@@ -25,7 +25,7 @@ answer-back Stale = refl
 answer-back Unknown = refl
 
 -- the number of an answer takes three bits
-place-below : (answer : Answer) → place answer < 8
+place-below : (answer : Answer) → count_place answer < 8
 place-below Paid = omega arith
 place-below Transfer = omega arith
 place-below Capped = omega arith
@@ -40,16 +40,16 @@ moment-back cents number moment early = mod-mul-add (cents * 8 + number) (2 ^ 42
 upper-back : (upper moment : ℕ) → moment < 2 ^ 42 → (upper * 2 ^ 42 + moment) / 2 ^ 42 ≡ upper
 upper-back upper moment early = div-mul-add upper (2 ^ 42) moment early
 
-pub answer-in_word : (cents moment : ℕ) (answer : Answer) → moment < 2 ^ 42 → word_answer ((cents * 8 + place answer) * 2 ^ 42 + moment) ≡ answer
+pub answer-in_word : (cents moment : ℕ) (answer : Answer) → moment < 2 ^ 42 → word_answer ((cents * 8 + count_place answer) * 2 ^ 42 + moment) ≡ answer
 answer-in_word cents moment answer early =
-    ap (λ (upper : ℕ). answer_at (upper % 8)) (upper-back (cents * 8 + place answer) moment early)
-    ∙ ap answer_at (mod-mul-add cents 8 (place answer) (place-below answer))
+    ap (λ (upper : ℕ). answer_at (upper % 8)) (upper-back (cents * 8 + count_place answer) moment early)
+    ∙ ap answer_at (mod-mul-add cents 8 (count_place answer) (place-below answer))
     ∙ answer-back answer
 
-pub cents-in_word : (cents moment : ℕ) (answer : Answer) → moment < 2 ^ 42 → word_cents ((cents * 8 + place answer) * 2 ^ 42 + moment) ≡ cents
+pub cents-in_word : (cents moment : ℕ) (answer : Answer) → moment < 2 ^ 42 → word_cents ((cents * 8 + count_place answer) * 2 ^ 42 + moment) ≡ cents
 cents-in_word cents moment answer early =
-    ap (λ (upper : ℕ). upper / 8) (upper-back (cents * 8 + place answer) moment early)
-    ∙ div-mul-add cents 8 (place answer) (place-below answer)
+    ap (λ (upper : ℕ). upper / 8) (upper-back (cents * 8 + count_place answer) moment early)
+    ∙ div-mul-add cents 8 (count_place answer) (place-below answer)
 
 abbrev pub record_of : Token → ℕ → ℕ → Answer → ℕ → Entry
 record_of token validator moment answer cents = record {

@@ -4,7 +4,7 @@ use Rattle.std.specs.Prelude.{slice_index}
 use Rattle.account_rule.specs.declared.reply.Answer.{Answer}
 use Rattle.account_rule.specs.declared.reply.Answer.TheVariants.{Paid, Transfer, Capped, Stale, Unknown}
 use Rattle.account_rule.specs.declared.reply.Reply.{Reply}
-use Rattle.shard_book.specs.inside.Places.{place}
+use Rattle.shard_book.specs.inside.Places.{count_place}
 use Rattle.shard_book.specs.Sums.{Sums, sums_of_replies, add_sums}
 use Rattle.shard_book.specs.Tally.{sums_of_places}
 
@@ -16,12 +16,12 @@ same_seven a a' b b' c c' d d' e e' f f' g g' p q r s t u v = cc
 
 -- the count at the answer's place is one more, and the cents are the reply's more
 pub tallied : (counts : List ℕ) (cents : ℕ) (reply : Reply) → length counts ≡ 5
-    → sums_of_places (set counts (place reply.answer) (slice_index counts (place reply.answer) + 1)) (cents + reply.cents) ≡ add_sums (sums_of_places counts cents) (sums_of_replies (reply ∷ []))
+    → sums_of_places (set counts (count_place reply.answer) (slice_index counts (count_place reply.answer) + 1)) (cents + reply.cents) ≡ add_sums (sums_of_places counts cents) (sums_of_replies (reply ∷ []))
 unfolding sums_of_replies
 tallied (a ∷ b ∷ c ∷ d ∷ e ∷ []) cents reply long = by_answer reply.answer reply.cents
   where
     by_answer : (answer : Answer) (more : ℕ)
-        → sums_of_places (set (a ∷ b ∷ c ∷ d ∷ e ∷ []) (place answer) (slice_index (a ∷ b ∷ c ∷ d ∷ e ∷ []) (place answer) + 1)) (cents + more)
+        → sums_of_places (set (a ∷ b ∷ c ∷ d ∷ e ∷ []) (count_place answer) (slice_index (a ∷ b ∷ c ∷ d ∷ e ∷ []) (count_place answer) + 1)) (cents + more)
         ≡ add_sums (sums_of_places (a ∷ b ∷ c ∷ d ∷ e ∷ []) cents) (sums_of_replies (record { answer = answer; cents = more } ∷ []))
     by_answer Paid more = same_seven _ _ _ _ _ _ _ _ _ _ _ _ _ _ (omega arith) (omega arith) (omega arith) (omega arith) (omega arith) (omega arith) (omega arith)
     by_answer Transfer more = same_seven _ _ _ _ _ _ _ _ _ _ _ _ _ _ (omega arith) (omega arith) (omega arith) (omega arith) (omega arith) (omega arith) (omega arith)

@@ -4,7 +4,7 @@ use Rattle.std.proofs.lemmas.List.{append_assoc}
 use Rattle.fare_table.specs.Fares.{Fares}
 use Rattle.account_rule.specs.declared.reply.Reply.{Reply}
 use Rattle.account_rule.specs.declared.tap.TapIn.{TapIn}
-use Rattle.account_rule.specs.Laws.{is_paid as is_paid_reply}
+use Rattle.account_rule.specs.Laws.{is_paid_reply}
 use Rattle.account_rule.specs.declared.reply.Answer.TheVariants.{Paid, Transfer, Capped, Stale, Unknown}
 use Rattle.shard_book.specs.Sums.{sums_of_replies, is_paid}
 use Rattle.account_rule.specs.Replies.{reply, replies, replies_after}

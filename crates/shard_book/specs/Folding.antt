@@ -19,16 +19,16 @@ first_word bytes =
     else (if nat_lt 0 (length bytes) then at 0 else 0))
 
 -- the state after a write
-unfoldable pub written : FoldedProduct → List ℕ → FoldedProduct
-written hasher bytes =
+unfoldable pub state_after_write : FoldedProduct → List ℕ → FoldedProduct
+state_after_write hasher bytes =
     record {
       state = folded_multiply (bit_xor hasher.state (first_word bytes)) hasher.multiplier;
       multiplier = hasher.multiplier;
     }
 
 -- what the hasher answers
-abbrev pub state_of : FoldedProduct → ℕ
-state_of hasher = hasher.state
+abbrev pub hasher_state : FoldedProduct → ℕ
+hasher_state hasher = hasher.state
 
 -- the state that a seed begins with
 unfoldable pub first_of : TokenKeys → FoldedProduct

@@ -73,13 +73,13 @@ fn folded_multiply(a: u64, b: u64) -> u64
 }
 
 impl Hasher for FoldedProduct {
-    ghost use Rattle.shard_book.specs.Folding.{written, state_of};
+    ghost use Rattle.shard_book.specs.Folding.{state_after_write, hasher_state};
 
-    ghost write = { written };
+    ghost write = { state_after_write };
 
-    ghost finish = { state_of };
+    ghost finish = { hasher_state };
 
-    #[tactic(auto, unfolding(crate::specs::Folding::written))]
+    #[tactic(auto, unfolding(crate::specs::Folding::state_after_write))]
     fn write(&mut self, bytes: &[u8]) {
         self.state = folded_multiply(self.state ^ first_word(bytes), self.multiplier);
     }

@@ -10,7 +10,7 @@ use Rattle.std.specs.List.{filter, list_any}
 use Rattle.std.specs.Ordering.{nat_cmp}
 use Rattle.std.specs.declared.ops.Bound.TheVariants.{Included}
 use Rattle.tap_views.specs.Layout.{Tap, num}
-use Rattle.upload_facts.specs.Facts.{taps_of}
+use Rattle.upload_facts.specs.Facts.{taps_of_batches}
 use Rattle.table_facts.specs.Ranges.{is_from_to}
 use Rattle.table_facts.specs.Seen.{has_tap_at, is_among}
 

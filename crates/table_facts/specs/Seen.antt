@@ -3,7 +3,7 @@ use Rattle.std.specs.Prelude.{◌≡◌, ℕ, ◌||◌, Bool, List, nat_eq}
 use Rattle.std.specs.List.{list_any}
 use Rattle.tap_views.specs.Files.{IsFile}
 use Rattle.tap_views.specs.Layout.{Tap, num}
-use Rattle.upload_facts.specs.Facts.{taps_of}
+use Rattle.upload_facts.specs.Facts.{taps_of_batches}
 
 -- the validator is one of these
 abbrev pub is_among : List ℕ → ℕ → Bool
@@ -19,4 +19,4 @@ pub record Adds (old : List ℕ) (upload : List ℕ) (new : List ℕ) : Type 0 w
   pub rest : List ℕ
   pub is_file : IsFile upload batches rest
   pub same : (validator : ℕ) → is_among new validator
-      ≡ (is_among old validator || has_tap_at (taps_of batches) validator)
+      ≡ (is_among old validator || has_tap_at (taps_of_batches batches) validator)

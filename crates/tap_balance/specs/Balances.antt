@@ -12,18 +12,18 @@ use Rattle.tap_views.specs.Encoding.{fields_of}
 use Rattle.tap_views.specs.Layout.{Tap}
 use Rattle.tap_views.specs.declared.encoder.TapFields.{TapFields}
 use Rattle.tap_views.specs.declared.fault.LayoutFault.{LayoutFault}
-use Rattle.upload_facts.specs.Facts.{IsReadAs, taps_of}
+use Rattle.upload_facts.specs.Facts.{IsReadAs, taps_of_batches}
 use Rattle.tap_balance.specs.declared.balance.Balance.{Balance}
 use Rattle.tap_balance.specs.declared.balance.Difference.{Difference}
 use Rattle.tap_balance.specs.declared.balance.Difference.TheVariants.{Missing, Surplus}
 use Rattle.tap_balance.specs.declared.balance.Key.{Key}
 
 -- the posted taps of an upload: those of all its batches before its first layout fault, in order
-pub record ArePosted (upload : List ℕ) (taps : List TapFields) : Type 0 where
+pub record ArePostedTaps (upload : List ℕ) (taps : List TapFields) : Type 0 where
   pub batches : List (List Tap)
   pub fault : Option (ℕ × LayoutFault)
   pub read : IsReadAs upload batches fault
-  pub all : taps ≡ map fields_of (taps_of batches)
+  pub all : taps ≡ map fields_of (taps_of_batches batches)
 
 -- what a balance keeps a tap by
 abbrev pub key_of : TapFields → Key

@@ -6,7 +6,7 @@ ghost use Rattle.std.specs.Prelude.{if◌then◌else◌, false, map, true};
 ghost use Rattle.std.specs.Ordering.{is_eq};
 ghost use Rattle.tap_views.specs.Encoding.{fields_of};
 ghost use Rattle.tap_views.specs.declared.encoder.TapFields.{TapFields};
-ghost use Rattle.tap_balance.specs.Balances.{ArePosted, IsBalance, IsDifference, key_cmp};
+ghost use Rattle.tap_balance.specs.Balances.{ArePostedTaps, IsBalance, IsDifference, key_cmp};
 ghost use Rattle.tap_balance.specs.Balances.{key_of, left_at};
 ghost use Rattle.tap_balance.specs.declared.balance.Key.{Key};
 
@@ -157,7 +157,7 @@ impl Balance {
     /// added before a tap is struck out. Its one error is want of memory, and after it the balance
     /// is of no use.
     pub fn add_upload(&mut self, upload: &[u8]) -> Result<(), AllocError>
-        ensures { OnOk result ((taps : List TapFields) × ArePosted upload.now taps
+        ensures { OnOk result ((taps : List TapFields) × ArePostedTaps upload.now taps
             × ((posted : List TapFields) → IsBalance self.old posted []
             → IsBalance self.new (posted ++ taps) [])) }
     {

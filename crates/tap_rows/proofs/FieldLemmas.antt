@@ -2,7 +2,7 @@
 use Rattle.std.proofs.Common.{◌≡◌, ℕ, suc, ◌+◌, ◌-◌, ◌<◌, List, [], ◌∷◌, ◌++◌, length, refl, sym, ap, subst, ◌∙◌, arith, length-append, inl, inr}
 use Rattle.std.specs.Prelude.{codes, slice_index, MatchOption, None, Option, Some}
 use Rattle.std.proofs.Math.Seq.{get_or-append_seam}
-use Rattle.tap_rows.specs.Fields.{HasNoComma, AreFields, StandsFor, StandsForSome}
+use Rattle.tap_rows.specs.Fields.{HasNoComma, AreFields, FieldStandsFor, FieldStandsForSome}
 use Rattle.tap_rows.specs.Tables.{IsHead}
 
 -- no comma in what follows the first byte
@@ -61,7 +61,7 @@ before_last (x ∷ v) (y ∷ w) e =
     ap (λ z. z ∷ v) first ∙ ap (λ zs. y ∷ zs) (before_last v w tails)
 
 -- a field's text stands for one value at most
-pub one_value : (text value other : List ℕ) → StandsFor text value → StandsFor text other → value ≡ other
+pub one_value : (text value other : List ℕ) → FieldStandsFor text value → FieldStandsFor text other → value ≡ other
 one_value text value other (inl is) (inl also) = sym is.same ∙ also.same
 one_value text value other (inl is) (inr also) = absurd (is.plain (other ++ 34 ∷ []) also)
 one_value text value other (inr is) (inl also) = absurd (also.plain (value ++ 34 ∷ []) is)
@@ -70,7 +70,7 @@ one_value text value other (inr is) (inr also) =
     before_last value other tails
 
 -- a text that begins with a quote and stands for a value ends with another quote
-pub ends_quoted : (text value : List ℕ) → 0 < length text → slice_index text 0 ≡ 34 → StandsFor text value
+pub ends_quoted : (text value : List ℕ) → 0 < length text → slice_index text 0 ≡ 34 → FieldStandsFor text value
     → (0 < length text - 1) × (slice_index text (length text - 1) ≡ 34)
 ends_quoted [] value some quote stands = absurd (omega (arith, some))
 ends_quoted (x ∷ text) value some quote (inl is) = absurd (is.plain text (ap (λ z. z ∷ text) quote))
@@ -81,25 +81,25 @@ ends_quoted (x ∷ text) value some quote (inr is) =
     (omega (arith, at), ap (λ k. slice_index (x ∷ text) k) at ∙ ap (λ bytes. slice_index bytes (suc (length value))) is ∙ last)
 
 -- what is found in the value is told by the text
-pub told : {A : Type 0} (P : List ℕ → A → Type 0) (text value : List ℕ) (found : Option A) → StandsFor text value
+pub told : {A : Type 0} (P : List ℕ → A → Type 0) (text value : List ℕ) (found : Option A) → FieldStandsFor text value
     → MatchOption found ((one : A) → ¬ (P value one)) (λ one. P value one)
-    → MatchOption found ((one : A) → ¬ (StandsForSome (λ v. P v one) text)) (λ one. StandsForSome (λ v. P v one) text)
+    → MatchOption found ((one : A) → ¬ (FieldStandsForSome (λ v. P v one) text)) (λ one. FieldStandsForSome (λ v. P v one) text)
 told {A = A} P text value None stands none = nothing_told
   where
-    nothing_told : (one : A) → ¬ (StandsForSome (λ v. P v one) text)
+    nothing_told : (one : A) → ¬ (FieldStandsForSome (λ v. P v one) text)
     nothing_told one (other, also, is) = none one (subst (λ v. P v one) (one_value text other value also stands) is)
 told P text value (Some one) stands is = (value, stands, is)
 
 -- a text that stands for no value tells nothing
-pub untold : {A : Type 0} (P : List ℕ → A → Type 0) (text : List ℕ) → ((value : List ℕ) → ¬ (StandsFor text value)) → (one : A) → ¬ (StandsForSome (λ v. P v one) text)
+pub untold : {A : Type 0} (P : List ℕ → A → Type 0) (text : List ℕ) → ((value : List ℕ) → ¬ (FieldStandsFor text value)) → (one : A) → ¬ (FieldStandsForSome (λ v. P v one) text)
 untold P text none one (value, stands, is) = none value stands
 
 -- the names that stand in the fields of a head line
 pub names_of : (line token validator moment : List ℕ) → AreFields line token validator moment → IsHead line
-    → StandsFor token (codes "token") × StandsFor validator (codes "validator") × StandsFor moment (codes "moment")
+    → FieldStandsFor token (codes "token") × FieldStandsFor validator (codes "validator") × FieldStandsFor moment (codes "moment")
 names_of line token validator moment fields is =
     let (t, v, m) = one_fields line is.token_text is.validator_text is.moment_text token validator moment is.fields fields in (
-      subst (λ text. StandsFor text (codes "token")) t is.token,
-      subst (λ text. StandsFor text (codes "validator")) v is.validator,
-      subst (λ text. StandsFor text (codes "moment")) m is.moment,
+      subst (λ text. FieldStandsFor text (codes "token")) t is.token,
+      subst (λ text. FieldStandsFor text (codes "validator")) v is.validator,
+      subst (λ text. FieldStandsFor text (codes "moment")) m is.moment,
     )

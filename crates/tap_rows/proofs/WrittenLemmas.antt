@@ -13,10 +13,10 @@ use Rattle.std.proofs.Math.Seq.{get_or-append_seam}
 use Rattle.hex.specs.Hex.{encode_lower, decode_sized, is_hex_digit}
 use Rattle.hex.proofs.HexLemmas.{decode_sized-encode_lower, IsOk-decode_sized}
 use Rattle.tap_views.specs.declared.encoder.TapFields.{TapFields}
-use Rattle.tap_rows.specs.Fields.{AreFields, StandsFor}
+use Rattle.tap_rows.specs.Fields.{AreFields, FieldStandsFor}
 use Rattle.tap_rows.specs.Moments.{IsDecimal}
 use Rattle.tap_rows.specs.Rows.{IsRow, IsTapFields, row_text, rows_text}
-use Rattle.tap_rows.specs.Tables.{head, IsHead, BeginsWithRows, IsTable, table_text}
+use Rattle.tap_rows.specs.Tables.{head, IsHead, BeginsWithRows, IsTable, table_of_taps}
 
 -- each byte is a digit or comes after them
 abbrev pub AreHigh : List ℕ → Type 0
@@ -146,7 +146,7 @@ no_quote [] high rest e = absurd (omega (arith, ap length e))
 no_quote (x ∷ text) high rest e = let first : x ≡ 34 = cc in absurd (omega (arith, first, high.0))
 
 -- high bytes stand for themselves
-bare : (text : List ℕ) → AreHigh text → StandsFor text text
+bare : (text : List ℕ) → AreHigh text → FieldStandsFor text text
 bare text high = inl (record { same = refl; plain = no_quote text high })
 
 high_fields : (first second third : List ℕ) → AreHigh first → AreHigh second → AreHigh third → AreFields (first ++ 44 ∷ (second ++ 44 ∷ third)) first second third
@@ -225,7 +225,7 @@ head_back =
       moment = bare (codes "moment") moment;
     }
 
-pub table_back : (taps : List TapFields) → AllByRecursion IsTapFields taps → IsTable (table_text taps) taps
+pub table_back : (taps : List TapFields) → AllByRecursion IsTapFields taps → IsTable (table_of_taps taps) taps
 table_back taps are =
     let plain : ArePlain head = above_test 13 head refl in
     record {

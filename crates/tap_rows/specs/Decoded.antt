@@ -4,12 +4,12 @@ use Rattle.tap_views.specs.Encoding.{fields_of}
 use Rattle.tap_views.specs.Layout.{Tap}
 use Rattle.tap_views.specs.declared.fault.LayoutFault.{LayoutFault}
 use Rattle.tap_views.specs.declared.encoder.TapFields.{TapFields}
-use Rattle.upload_facts.specs.Facts.{IsReadAs, taps_of}
+use Rattle.upload_facts.specs.Facts.{IsReadAs, taps_of_batches}
 use Rattle.tap_rows.specs.Rows.{rows_text}
 
 -- the fields of all taps of these batches, in their order
 abbrev pub fields_in : List (List Tap) → List TapFields
-fields_in batches = map fields_of (taps_of batches)
+fields_in batches = map fields_of (taps_of_batches batches)
 
 -- the text is the rows of the upload's taps before its first layout fault, and this is the fault
 -- with its offset, if there is one

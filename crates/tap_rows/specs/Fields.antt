@@ -23,9 +23,9 @@ abbrev pub IsQuoted : List ℕ → List ℕ → Type 0
 IsQuoted text value = text ≡ 34 ∷ (value ++ 34 ∷ [])
 
 -- the text of a field stands for the value in one of the two ways
-abbrev pub StandsFor : List ℕ → List ℕ → Type 0
-StandsFor text value = IsBare text value ⊎ IsQuoted text value
+abbrev pub FieldStandsFor : List ℕ → List ℕ → Type 0
+FieldStandsFor text value = IsBare text value ⊎ IsQuoted text value
 
 -- the text of a field stands for a value of this kind
-abbrev pub StandsForSome : (List ℕ → Type 0) → List ℕ → Type 0
-StandsForSome IsOne text = (value : List ℕ) × StandsFor text value × IsOne value
+abbrev pub FieldStandsForSome : (List ℕ → Type 0) → List ℕ → Type 0
+FieldStandsForSome IsOne text = (value : List ℕ) × FieldStandsFor text value × IsOne value

@@ -4,7 +4,7 @@ use Rattle.std.specs.Fmt.{decimal}
 use Rattle.hex.specs.Hex.{decode_sized, encode_lower, IsBytes}
 use Rattle.tap_views.specs.Layout.{moment_limit}
 use Rattle.tap_views.specs.declared.encoder.TapFields.{TapFields}
-use Rattle.tap_rows.specs.Fields.{AreFields, StandsForSome}
+use Rattle.tap_rows.specs.Fields.{AreFields, FieldStandsForSome}
 use Rattle.tap_rows.specs.Moments.{IsDecimal, IsMoment}
 use Rattle.tap_rows.specs.declared.column.Column.{Column}
 use Rattle.tap_rows.specs.declared.column.Column.TheVariants.{Fields, Token, Validator, Moment}
@@ -19,13 +19,13 @@ IsValidator text number = IsDecimal text number × (number < 2 ^ 32)
 
 -- the text of a field stands for such a value, as it is or in quotes
 abbrev pub TellsToken : List ℕ → List ℕ → Type 0
-TellsToken text token = StandsForSome (λ value. IsToken value token) text
+TellsToken text token = FieldStandsForSome (λ value. IsToken value token) text
 
 abbrev pub TellsValidator : List ℕ → ℕ → Type 0
-TellsValidator text number = StandsForSome (λ value. IsValidator value number) text
+TellsValidator text number = FieldStandsForSome (λ value. IsValidator value number) text
 
 abbrev pub TellsMoment : List ℕ → ℕ → Type 0
-TellsMoment text number = StandsForSome (λ value. IsMoment value number) text
+TellsMoment text number = FieldStandsForSome (λ value. IsMoment value number) text
 
 -- the line is a row of this tap
 pub record IsRow (line : List ℕ) (tap : TapFields) : Type 0 where

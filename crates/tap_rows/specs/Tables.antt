@@ -5,7 +5,7 @@ use Rattle.std.specs.Io.BufRead.{first_line, drop_through}
 use Rattle.std.specs.Io.KnownBytes.{Appends}
 use Rattle.tap_views.specs.declared.encoder.TapFields.{TapFields}
 use Rattle.tap_parts.specs.Parts.{IsFileOf}
-use Rattle.tap_rows.specs.Fields.{AreFields, StandsFor}
+use Rattle.tap_rows.specs.Fields.{AreFields, FieldStandsFor}
 use Rattle.tap_rows.specs.Rows.{IsRow, IsNoRow, rows_text}
 use Rattle.tap_rows.specs.declared.column.Column.{Column}
 use Rattle.tap_rows.specs.declared.fault.RowsFault.{RowsFault}
@@ -18,9 +18,9 @@ pub record IsHead (line : List ℕ) : Type 0 where
   pub validator_text : List ℕ
   pub moment_text : List ℕ
   pub fields : AreFields line token_text validator_text moment_text
-  pub token : StandsFor token_text (codes "token")
-  pub validator : StandsFor validator_text (codes "validator")
-  pub moment : StandsFor moment_text (codes "moment")
+  pub token : FieldStandsFor token_text (codes "token")
+  pub validator : FieldStandsFor validator_text (codes "validator")
+  pub moment : FieldStandsFor moment_text (codes "moment")
 
 -- the head line as it is written
 abbrev pub head : List ℕ
@@ -83,5 +83,5 @@ pub record IsEncoded (text : List ℕ) (old new : Option (List ℕ)) (count : �
   pub written : Appends old new file
 
 -- the table that is written for these taps
-abbrev pub table_text : List TapFields → List ℕ
-table_text taps = head ++ 10 ∷ rows_text taps
+abbrev pub table_of_taps : List TapFields → List ℕ
+table_of_taps taps = head ++ 10 ∷ rows_text taps

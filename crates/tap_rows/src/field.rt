@@ -2,7 +2,7 @@
 
 ghost use Rattle.std.specs.Prelude.{◌≡◌, ◌++◌, ◌∷◌, ◌↔◌, ℕ, List};
 ghost use Rattle.std.specs.Prelude.{IsTrue, MatchOption};
-ghost use Rattle.tap_rows.specs.Fields.{AreFields, HasNoComma, StandsFor};
+ghost use Rattle.tap_rows.specs.Fields.{AreFields, HasNoComma, FieldStandsFor};
 
 /// What stands before the first comma and behind it, or nothing where there is no comma.
 fn cut(line: &[u8]) -> Option<(&[u8], &[u8])>
@@ -34,7 +34,7 @@ pub(crate) fn three_fields(line: &[u8]) -> Option<(&[u8], &[u8], &[u8])>
 /// The value that a field's text stands for: the text, or what it has between two double quotes.
 pub(crate) fn value_of(field: &[u8]) -> Option<&[u8]>
     ensures { MatchOption result ((value : List ℕ)
-        → ¬ (StandsFor field.now value)) (λ value. StandsFor field.now value.now) }
+        → ¬ (FieldStandsFor field.now value)) (λ value. FieldStandsFor field.now value.now) }
 {
     if field.is_empty() || field[0] != b'"' {
         return Some(field);
@@ -49,7 +49,7 @@ pub(crate) fn value_of(field: &[u8]) -> Option<&[u8]>
 
 /// Whether a field's text stands for this value.
 pub(crate) fn stands_for(field: &[u8], value: &[u8]) -> bool
-    ensures { IsTrue result ↔ StandsFor field.now value.now }
+    ensures { IsTrue result ↔ FieldStandsFor field.now value.now }
 {
     match value_of(field) {
         Some(found) => found == value,

@@ -8,7 +8,7 @@ ghost use Rattle.tap_parts.specs.Parts.{IsFileOf};
 ghost use Rattle.tap_rows.specs.Decoded.{fields_in};
 ghost use Rattle.tap_rows.specs.Moments.{IsMoment, IsSecondText};
 ghost use Rattle.tap_rows.specs.Rows.{IsNoRow, IsRow, IsTapFields};
-ghost use Rattle.tap_rows.specs.Tables.{IsBadRow, IsTable, table_text};
+ghost use Rattle.tap_rows.specs.Tables.{IsBadRow, IsTable, table_of_taps};
 ghost use Rattle.tap_rows.specs.declared.column.Column.{Column};
 ghost use Rattle.tap_views.specs.Layout.{Tap, moment_limit};
 ghost use Rattle.tap_views.specs.declared.encoder.TapFields.{TapFields};
@@ -34,7 +34,7 @@ pub fn one_table()
 /// The table that is written of some taps is their table: encoded, it gives the same taps again.
 pub fn reads_back()
     ensures { (taps : List TapFields) → AllByRecursion IsTapFields taps
-        → IsTable (table_text taps) taps }
+        → IsTable (table_of_taps taps) taps }
 {}
 
 /// The moment's text in UTC is read as this moment: with three places of a second, as ledgers have

@@ -7,7 +7,7 @@ use Rattle.std.specs.Bool.{Decides}
 use Rattle.std.specs.Str.{bytes_eq}
 use Rattle.tap_views.specs.Layout.{moment_limit, Tap, IsBatch}
 use Rattle.tap_views.specs.Faults.{header, width, layout_in, count_in, flags_in, size_in, moment_in}
-use Rattle.tap_views.specs.Faults.{Row, place, IsFault}
+use Rattle.tap_views.specs.Faults.{Row, fault_order, IsFault}
 use Rattle.tap_views.specs.inside.Faults.{AllEarly, IsMeasured}
 use Rattle.tap_views.specs.declared.fault.LayoutFault.{LayoutFault}
 use Rattle.tap_views.specs.declared.fault.LayoutFault.TheVariants.{Short, Magic, Flags, TooMany}
@@ -16,7 +16,7 @@ use Rattle.tap_views.specs.inside.Records.{taps_in}
 use Rattle.tap_views.proofs.Grammar.{found}
 
 -- ---- one fault
-same_place : (bytes : List ℕ) (f g : LayoutFault) → place f ≡ place g → Row f bytes → Row g bytes
+same_place : (bytes : List ℕ) (f g : LayoutFault) → fault_order f ≡ fault_order g → Row f bytes → Row g bytes
     → f ≡ g
 same_place bytes (Short a) (Short b) same r s = ap Short (r.0 ∙ sym s.0)
 same_place bytes Magic Magic same r s = refl
@@ -34,8 +34,8 @@ same_place bytes f g same r s = absurd (omega (arith, same))
 
 pub same_fault : (bytes : List ℕ) (f g : LayoutFault) → IsFault bytes f → IsFault bytes g → f ≡ g
 same_fault bytes f g one other =
-    let no_less : ¬ (place f < place g) = λ less. other.first f less one.holds in
-    let no_more : ¬ (place g < place f) = λ more. one.first g more other.holds in
+    let no_less : ¬ (fault_order f < fault_order g) = λ less. other.first f less one.holds in
+    let no_more : ¬ (fault_order g < fault_order f) = λ more. one.first g more other.holds in
     same_place bytes f g (omega (arith, no_less, no_more)) one.holds other.holds
 
 -- ---- a batch or a fault
@@ -45,7 +45,7 @@ module _ (bytes : List ℕ) where
       → (2 < p → (take 4 bytes ≡ codes "TAP1") ⊎ (take 4 bytes ≡ codes "TAP2"))
       → (3 < p → flags_in bytes ≡ 0)
       → (4 < p → count_in bytes ≤ 4096) → (5 < p → size_in bytes ≤ length bytes)
-      → (other : LayoutFault) → place other < p → ¬ (Row other bytes)
+      → (other : LayoutFault) → fault_order other < p → ¬ (Row other bytes)
   rows_before p last whole known plain few long (Short have) before row =
       omega (arith, whole before, row.1)
   rows_before p last whole known plain few long Magic before row =

@@ -53,15 +53,15 @@ Row (Moment index) bytes =
     × ((earlier : ℕ) → earlier < index → moment_in bytes earlier < moment_limit)
 
 -- the order in which the rows are asked
-abbrev pub place : LayoutFault → ℕ
-place (Short have) = 1
-place Magic = 2
-place Flags = 3
-place (TooMany count) = 4
-place (Length want have) = 5
-place (Moment index) = 6
+abbrev pub fault_order : LayoutFault → ℕ
+fault_order (Short have) = 1
+fault_order Magic = 2
+fault_order Flags = 3
+fault_order (TooMany count) = 4
+fault_order (Length want have) = 5
+fault_order (Moment index) = 6
 
 -- the first row that holds
 pub record IsFault (bytes : List ℕ) (fault : LayoutFault) : Type 0 where
   pub holds : Row fault bytes
-  pub first : (other : LayoutFault) → place other < place fault → ¬ (Row other bytes)
+  pub first : (other : LayoutFault) → fault_order other < fault_order fault → ¬ (Row other bytes)

@@ -8,7 +8,7 @@ use Rattle.std.specs.List.{AllByRecursion}
 use Rattle.tap_views.specs.Faults.{IsFault}
 use Rattle.tap_views.specs.Files.{IsFile, IsReading, IsEnd, Item}
 use Rattle.tap_views.specs.declared.fault.LayoutFault.{LayoutFault}
-use Rattle.upload_facts.specs.Facts.{IsFaultAt, taps_of}
+use Rattle.upload_facts.specs.Facts.{IsFaultAt, taps_of_batches}
 
 -- what a reader is given last is no batch
 no_batch : (offset : ℕ) (rest : List ℕ) (last left : List Item) (batch : List Tap)
@@ -146,25 +146,25 @@ batch_length front taps (layout, batch) =
 
 -- an upload has fewer taps than bytes, and fewer batches
 pub few : (file : List ℕ) (batches : List (List Tap)) (rest : List ℕ) → IsFile file batches rest
-    → length (taps_of batches) + 2 * length batches ≤ length file
+    → length (taps_of_batches batches) + 2 * length batches ≤ length file
 few file [] rest is = omega arith
 few file (batch ∷ batches) rest (front, back, is_batch, whole, is) =
     omega (
       arith,
       ap length whole,
       length-append front back,
-      length-append batch (taps_of batches),
+      length-append batch (taps_of_batches batches),
       batch_length front batch is_batch,
       few back batches rest is,
     )
 
 -- one batch more, and its taps
 pub taps_more : (done : List (List Tap)) (batch : List Tap)
-    → taps_of (done ++ batch ∷ []) ≡ taps_of done ++ batch
+    → taps_of_batches (done ++ batch ∷ []) ≡ taps_of_batches done ++ batch
 taps_more [] batch = append-nil batch
 taps_more (first ∷ done) batch =
     ap (λ taps. first ++ taps) (taps_more done batch)
-    ∙ sym (append_assoc first (taps_of done) batch)
+    ∙ sym (append_assoc first (taps_of_batches done) batch)
 
 -- the list of what was read, one batch longer
 pub yielded_more : (yielded : List Item) (done : List (List Tap)) (item : Item) (batch : List Tap)

@@ -16,20 +16,20 @@ pub record IsFaultAt (upload rest : List ℕ) (offset : ℕ) (fault : LayoutFaul
   pub place : offset + length rest ≡ length upload
 
 -- how the upload ends behind its batches: with nothing, or with a layout fault
-abbrev pub IsEnd : List ℕ → List ℕ → Option (ℕ × LayoutFault) → Type 0
-IsEnd upload rest None = rest ≡ []
-IsEnd upload rest (Some (offset, fault)) = IsFaultAt upload rest offset fault
+abbrev pub IsEndAfterBatches : List ℕ → List ℕ → Option (ℕ × LayoutFault) → Type 0
+IsEndAfterBatches upload rest None = rest ≡ []
+IsEndAfterBatches upload rest (Some (offset, fault)) = IsFaultAt upload rest offset fault
 
 -- the upload is these batches, one after the other, and then ends so
 pub record IsReadAs (upload : List ℕ) (batches : List (List Tap)) (fault : Option (ℕ × LayoutFault))
     : Type 0 where
   pub rest : List ℕ
   pub is_file : IsFile upload batches rest
-  pub is_end : IsEnd upload rest fault
+  pub is_end : IsEndAfterBatches upload rest fault
 
 -- the taps of all batches, in their order
-abbrev pub taps_of : List (List Tap) → List Tap
-taps_of batches = flat_map (λ batch. batch) batches
+abbrev pub taps_of_batches : List (List Tap) → List Tap
+taps_of_batches batches = flat_map (λ batch. batch) batches
 
 -- the moment of a tap in milliseconds
 abbrev pub moment_of : Tap → ℕ
@@ -52,8 +52,8 @@ pub record AreFacts (upload : List ℕ) (facts : Facts) : Type 0 where
   pub read_batches : List (List Tap)
   pub read : IsReadAs upload read_batches facts.fault
   pub number : facts.batches ≡ length read_batches
-  pub tap_number : facts.taps ≡ length (taps_of read_batches)
-  pub moments : IsSpan (map moment_of (taps_of read_batches)) facts.span
+  pub tap_number : facts.taps ≡ length (taps_of_batches read_batches)
+  pub moments : IsSpan (map moment_of (taps_of_batches read_batches)) facts.span
 
 -- the upload begins with these bytes, which are its batches without a fault, and what follows
 -- begins with no batch

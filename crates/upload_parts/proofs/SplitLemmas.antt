@@ -12,7 +12,7 @@ use Rattle.tap_views.specs.declared.encoder.TapFields.{TapFields}
 use Rattle.tap_parts.specs.Parts.{part_of_token, of_part}
 use Rattle.upload_facts.proofs.ReadingLemmas.{taps_more}
 use Rattle.upload_parts.specs.Split.{AreSplit, AreAllEarly, HasTaps, IsAdded}
-use Rattle.tap_parts.specs.Parts.{joined}
+use Rattle.tap_parts.specs.Parts.{uploads_joined}
 use Rattle.upload_parts.specs.declared.end.UploadEnd.{UploadEnd}
 
 abbrev Early : Tap → Type 0
@@ -88,6 +88,6 @@ more_split upload old new end is parts uploads split = record {
       is.added.each part (subst (λ n. part < n) (sym split.number) within)
       ∙ ap (λ n. get_or old part [] ++ map fields_of (of_part part n is.taps)) split.number
       ∙ ap (λ fields. fields ++ map fields_of (of_part part parts is.taps)) (split.each part within)
-      ∙ sym (fields-append part parts (joined split.taps) is.taps)
+      ∙ sym (fields-append part parts (uploads_joined split.taps) is.taps)
       ∙ ap (λ taps. map fields_of (of_part part parts taps)) (sym (taps_more split.taps is.taps));
 }

@@ -6,8 +6,8 @@ use Rattle.tap_views.specs.Encoding.{fields_of, AreEarly}
 use Rattle.tap_views.specs.Layout.{Tap}
 use Rattle.tap_views.specs.declared.encoder.TapFields.{TapFields}
 use Rattle.tap_views.specs.declared.fault.LayoutFault.{LayoutFault}
-use Rattle.tap_parts.specs.Parts.{AreAdded, IsFileOf, of_part, joined}
-use Rattle.upload_facts.specs.Facts.{IsReadAs, taps_of}
+use Rattle.tap_parts.specs.Parts.{AreAdded, IsFileOf, of_part, uploads_joined}
+use Rattle.upload_facts.specs.Facts.{IsReadAs, taps_of_batches}
 use Rattle.tap_parts.specs.Canonical.{IsCanonical}
 use Rattle.upload_parts.specs.declared.end.UploadEnd.{UploadEnd}
 
@@ -16,13 +16,13 @@ pub record HasTaps (upload : List ℕ) (taps : List Tap) : Type 0 where
   pub batches : List (List Tap)
   pub fault : Option (ℕ × LayoutFault)
   pub read : IsReadAs upload batches fault
-  pub all : taps ≡ taps_of batches
+  pub all : taps ≡ taps_of_batches batches
 
 -- the upload ends so, behind so many taps
-pub record IsEndOf (upload : List ℕ) (end : UploadEnd) : Type 0 where
+pub record IsSplitEnd (upload : List ℕ) (end : UploadEnd) : Type 0 where
   pub batches : List (List Tap)
   pub read : IsReadAs upload batches end.fault
-  pub number : end.taps ≡ length (taps_of batches)
+  pub number : end.taps ≡ length (taps_of_batches batches)
 
 -- each of so many parts has exactly the uploads' taps that fall to it, in their order
 pub record AreSplit (parts : ℕ) (uploads : List (List ℕ)) (lists : List (List TapFields))
@@ -31,15 +31,15 @@ pub record AreSplit (parts : ℕ) (uploads : List (List ℕ)) (lists : List (Lis
   pub of_uploads : AllZip HasTaps uploads taps
   pub number : length lists ≡ parts
   pub each : (part : ℕ) → part < parts
-      → slice_index_or lists part [] ≡ map fields_of (of_part part parts (joined taps))
+      → slice_index_or lists part [] ≡ map fields_of (of_part part parts (uploads_joined taps))
 
 -- the file is read, with no fault, as exactly the uploads' taps that fall to the part, in canonical
 -- order
-pub record IsPartFile (uploads : List (List ℕ)) (parts part : ℕ) (file : List ℕ) : Type 0 where
+pub record IsSplitFile (uploads : List (List ℕ)) (parts part : ℕ) (file : List ℕ) : Type 0 where
   pub taps : List (List Tap)
   pub of_uploads : AllZip HasTaps uploads taps
   pub list : List TapFields
-  pub canonical : IsCanonical (map fields_of (of_part part parts (joined taps))) list
+  pub canonical : IsCanonical (map fields_of (of_part part parts (uploads_joined taps))) list
   pub reads : IsFileOf file list
 
 -- ---- what the private functions tell each other
@@ -49,7 +49,7 @@ pub record IsAdded (upload : List ℕ) (old new : List (List TapFields)) (end : 
   pub taps : List Tap
   pub of_upload : HasTaps upload taps
   pub added : AreAdded taps old new
-  pub ended : IsEndOf upload end
+  pub ended : IsSplitEnd upload end
 
 -- the taps of all parts have moments that a file can have
 abbrev pub AreAllEarly : List (List TapFields) → Type 0

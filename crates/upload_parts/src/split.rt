@@ -4,7 +4,7 @@ ghost use Rattle.std.specs.Prelude.{◌≡◌, ◌<◌, ◌≤◌, ◌++◌, ◌
 ghost use Rattle.std.specs.Prelude.{slice_index_or};
 ghost use Rattle.tap_views.specs.Encoding.{AreEarly};
 ghost use Rattle.tap_parts.specs.Canonical.{IsCanonical};
-ghost use Rattle.upload_parts.specs.Split.{AreSplit, IsAdded, IsEndOf, IsPartFile};
+ghost use Rattle.upload_parts.specs.Split.{AreSplit, IsAdded, IsSplitEnd, IsSplitFile};
 
 use crate::end::UploadEnd;
 use std::alloc::{AllocError, Global};
@@ -91,7 +91,7 @@ impl Split {
     pub fn with(self, upload: &[u8]) -> Result<(Split, UploadEnd), AllocError>
         ensures split { IfOk result (λ more. (parts : ℕ) (uploads : List (List ℕ))
             → AreSplit parts uploads self → AreSplit parts (uploads ++ upload.now ∷ []) more.0) }
-        ensures end { IfOk result (λ more. IsEndOf upload.now more.1) }
+        ensures end { IfOk result (λ more. IsSplitEnd upload.now more.1) }
     {
         let mut parts = self.parts;
         let end = add_upload(&mut parts, upload)?;
@@ -110,7 +110,7 @@ impl Split {
     pub fn file(&self, alloc: Global, part: u32) -> Result<Vec<u8>, AllocError>
         requires { part < length self.now }
         ensures { IfOk result (λ file. (parts : ℕ) (uploads : List (List ℕ))
-            → AreSplit parts uploads self.now → IsPartFile uploads parts part file.items) }
+            → AreSplit parts uploads self.now → IsSplitFile uploads parts part file.items) }
     {
         let taps = sorted(alloc, self.parts.part(part))?;
         let file = text_of(alloc, &taps)?;

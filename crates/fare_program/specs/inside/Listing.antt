@@ -4,25 +4,25 @@ use Rattle.std.specs.Str.{bytes_eq}
 use Rattle.fare_program.specs.declared.listing.Word.{Word}
 use Rattle.fare_program.specs.declared.listing.Word.TheVariants.{Live, Stale, Unknown}
 use Rattle.fare_program.specs.declared.listing.ListCounts.{ListCounts}
-use Rattle.fare_program.specs.Listing.{Listed, is_later, is_word, last_of, moment_of}
+use Rattle.fare_program.specs.Listing.{Listed, is_after_last, is_word, last_of, listed_moment}
 
 -- the three words make up the taps
-abbrev pub Sums : ListCounts → Type 0
-Sums counts = counts.taps ≡ counts.live + counts.stale + counts.unknown
+abbrev pub AddsUp : ListCounts → Type 0
+AddsUp counts = counts.taps ≡ counts.live + counts.stale + counts.unknown
 
 -- what is kept after a tap of this token at this moment with this word: a live tap is the last one
 abbrev pub last_after : Word → List ℕ → ℕ → List (List ℕ × ℕ) → List ℕ → Option ℕ
 last_after word token moment last other =
     if is_word Live word && bytes_eq token other then Some moment else last_of last other
 
-abbrev pub counted : Word → ListCounts → ListCounts
-counted Live counts = record counts { taps = counts.taps + 1; live = counts.live + 1 }
-counted Stale counts = record counts { taps = counts.taps + 1; stale = counts.stale + 1 }
-counted Unknown counts = record counts { taps = counts.taps + 1; unknown = counts.unknown + 1 }
+abbrev pub word_counted : Word → ListCounts → ListCounts
+word_counted Live counts = record counts { taps = counts.taps + 1; live = counts.live + 1 }
+word_counted Stale counts = record counts { taps = counts.taps + 1; stale = counts.stale + 1 }
+word_counted Unknown counts = record counts { taps = counts.taps + 1; unknown = counts.unknown + 1 }
 
 -- the word of a tap by what is kept
 abbrev pub word_by : List (List ℕ × ℕ) → Listed → Word
 word_by last tap =
-    if tap.known then (if is_later (last_of last tap.tap.token) (moment_of tap) then Live
+    if tap.known then (if is_after_last (last_of last tap.tap.token) (listed_moment tap) then Live
     else Stale)
     else Unknown

@@ -4,8 +4,8 @@ use Rattle.std.specs.List.{list_all}
 use Rattle.tap_views.specs.Files.{IsReading, Item}
 use Rattle.fare_table.specs.Fares.{Fares}
 use Rattle.fare_program.specs.Listing.{Kept, Listed, StandsFor}
-use Rattle.fare_program.specs.Uploads.{AreReadings, are_whole, lines_from, tap_lines, taps_in}
-use Rattle.fare_program.specs.Uploads.{upload_lines}
+use Rattle.fare_program.specs.Uploads.{AreReadings, are_whole, lines_from, tap_lines, listed_in}
+use Rattle.fare_program.specs.Uploads.{listing_lines}
 
 -- A listing went on with these taps: whatever list it stood for, their lines were appended, and it
 -- now stands for that list followed by them.
@@ -19,8 +19,8 @@ pub record ListsUpload (fares : Option Fares) (kept kept' : Kept) (text text' : 
   pub items : List Item
   pub reading : IsReading file items
   pub lines : (before : List Listed) → StandsFor kept before
-      → (text' ≡ text ++ upload_lines fares upload 0 before items)
-      × StandsFor kept' (before ++ taps_in fares items)
+      → (text' ≡ text ++ listing_lines fares upload 0 before items)
+      × StandsFor kept' (before ++ listed_in fares items)
   pub is_whole : whole ≡ list_all is_ok items
 
 -- A new listing went over these files.
@@ -29,5 +29,5 @@ pub record ListsUploads (fares : Option Fares) (kept : Kept) (text text' : List 
   pub readings : List (List Item)
   pub read : AreReadings files readings
   pub lines : text' ≡ text ++ lines_from fares 0 [] readings
-  pub stands : StandsFor kept (flat_map (taps_in fares) readings)
+  pub stands : StandsFor kept (flat_map (listed_in fares) readings)
   pub is_clean : clean ≡ are_whole readings

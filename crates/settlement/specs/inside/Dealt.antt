@@ -7,20 +7,20 @@ use Rattle.tap_views.specs.declared.encoder.TapFields.{TapFields}
 use Rattle.tap_parts.specs.Parts.{AreAdded, of_part}
 use Rattle.fare_service.specs.Plain.{AreTapsOf, AreTapsOfEach, IsPlainEnd, ArePlainEnds}
 use Rattle.fare_service.specs.declared.upload_end.UploadEnd.{UploadEnd}
-use Rattle.tap_parts.specs.Parts.{joined}
+use Rattle.tap_parts.specs.Parts.{uploads_joined}
 
 -- the taps that a part has in several lists of parts, list after list
 abbrev pub in_part : ℕ → List (List (List TapFields)) → List TapFields
 in_part part lists = flat_map (λ parts. slice_index_or parts part []) lists
 
 -- each part has its taps and then its piece of these, and nothing else
-pub record AreJoined (pieces old new : List (List TapFields)) : Type 0 where
+pub record ArePiecesAdded (pieces old new : List (List TapFields)) : Type 0 where
   pub number : length new ≡ length old
   pub each : (part : ℕ) → part < length old
       → slice_index_or new part [] ≡ slice_index_or old part [] ++ slice_index_or pieces part []
 
 -- the upload's taps were added, each to its part, and this is the upload's end
-pub record IsAdded (upload : List ℕ) (old new : List (List TapFields)) (end : UploadEnd)
+pub record IsDealt (upload : List ℕ) (old new : List (List TapFields)) (end : UploadEnd)
     : Type 0 where
   pub taps : List Tap
   pub of_upload : AreTapsOf upload taps
@@ -32,7 +32,7 @@ pub record AreAllAdded (uploads : List (List ℕ)) (old new : List (List TapFiel
     (ends : List UploadEnd) : Type 0 where
   pub taps : List (List Tap)
   pub of_uploads : AreTapsOfEach uploads taps
-  pub added : AreAdded (joined taps) old new
+  pub added : AreAdded (uploads_joined taps) old new
   pub ended : ArePlainEnds uploads ends
 
 -- each of so many parts has, over all lists, exactly the uploads' posted taps that fall to it, in
@@ -43,5 +43,5 @@ pub record AreDealt (parts : ℕ) (uploads : List (List ℕ)) (lists : List (Lis
   pub of_uploads : AreTapsOfEach uploads taps
   pub number : All (λ list. length list ≡ parts) lists
   pub each : (part : ℕ) → part < parts
-      → in_part part lists ≡ map fields_of (of_part part parts (joined taps))
+      → in_part part lists ≡ map fields_of (of_part part parts (uploads_joined taps))
   pub ended : ArePlainEnds uploads ends

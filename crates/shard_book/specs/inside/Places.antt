@@ -6,12 +6,12 @@ use Rattle.account_rule.specs.declared.reply.Answer.TheVariants.{Unknown}
 use Rattle.shard_book.specs.Places.{all_of}
 
 -- the place of an answer's count
-abbrev pub place : Answer → ℕ
-place Paid = 0
-place Transfer = 1
-place Capped = 2
-place Stale = 3
-place Unknown = 4
+abbrev pub count_place : Answer → ℕ
+count_place Paid = 0
+count_place Transfer = 1
+count_place Capped = 2
+count_place Stale = 3
+count_place Unknown = 4
 
 -- no tap costs 2^32 cents or more
 abbrev pub HasFewCents : List ℕ → ℕ → Type 0

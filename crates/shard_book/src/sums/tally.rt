@@ -1,7 +1,7 @@
 //! Counts of replies, a place for each answer, so that counting takes no branch.
 
 ghost use Rattle.std.specs.Prelude.{◌≡◌, ◌<◌};
-ghost use Rattle.shard_book.specs.inside.Places.{place, HasFewCents};
+ghost use Rattle.shard_book.specs.inside.Places.{count_place, HasFewCents};
 
 use crate::sums::totals::Totals;
 use account_rule::{Answer, Reply};
@@ -19,7 +19,7 @@ pub struct Tally {
 
 /// The place of the answer's count.
 pub(crate) fn place_of(answer: Answer) -> usize
-    ensures place { result ≡ place answer }
+    ensures place { result ≡ count_place answer }
     ensures within { result < 5 }
 {
     match answer {

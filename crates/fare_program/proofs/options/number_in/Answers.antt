@@ -7,7 +7,7 @@ use Rattle.clap.specs.Words.{found_of, one_text, rows_of, without_minus}
 use Rattle.clap.specs.declared.parser.matches.Found.{Found}
 use Rattle.clap.proofs.CallerReads.{signed_reads}
 use Rattle.clap.proofs.WalkLemmas.{one_text-rows}
-use Rattle.fare_program.specs.Options.{number_in, number_of}
+use Rattle.fare_program.specs.Options.{number_in_text, number_of}
 use Rattle.fare_program.specs.inside.Options.{HasNumber}
 use Rattle.fare_program.proofs.options.number_in.Goals as goal
 
@@ -24,7 +24,7 @@ is_number : (E : Type 0) (G : List ℕ → Result ℕ E → Type 0) (most : ℕ)
     → ((t : List ℕ) → one_text f name ≡ Some t → ReadsOne G t (Some n)) → n ≡ number_of name (rows_of f)
 is_number E G most f name n has only reads =
     let read = only (without_minus has.text) (Ok n) (reads _ (one_text-rows f name ∙ has.read)) in
-    read.1 ∙ sym (ap (λ o. option_map_or number_in o 0) has.read)
+    read.1 ∙ sym (ap (λ o. option_map_or number_in_text o 0) has.read)
 
 none_some : (r : Option ℕ) (n : ℕ) → r ≡ None → r ≡ Some n → ⊥
 none_some r n none some =

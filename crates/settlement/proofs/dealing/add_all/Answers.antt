@@ -7,7 +7,7 @@ use Rattle.fare_service.specs.Plain.{AreTapsOfEach, IsPlainEnd, ArePlainEnds}
 use Rattle.fare_service.proofs.PlainUploads.{each_more}
 use Rattle.fare_service.proofs.PlainRuns.{AllZip-append}
 use Rattle.tap_parts.proofs.Adding.{none_added, batch_added}
-use Rattle.settlement.specs.inside.Dealt.{IsAdded}
+use Rattle.settlement.specs.inside.Dealt.{IsDealt}
 use Rattle.settlement.proofs.dealing.add_all.Goals as goal
 
 abbrev bytes_in : Vec ℕ Global → List ℕ
@@ -40,8 +40,8 @@ loop-upload-preserved c =
     let yielded = c.loop-upload.yielded in
     let (taps, each, added, ended) = c.loop-upload.invariant.made in
     let end = c.in_ok-add_upload.field-0 in
-    let one : IsAdded upload.items c.loop-upload.parts c.add_upload.new.parts end =
-    subst (λ bytes. IsAdded bytes c.loop-upload.parts c.add_upload.new.parts end)
+    let one : IsDealt upload.items c.loop-upload.parts c.add_upload.new.parts end =
+    subst (λ bytes. IsDealt bytes c.loop-upload.parts c.add_upload.new.parts end)
     c.as_slice.ensures.value c.in_ok-add_upload.ensures in
     let files = map bytes_in yielded in
     let all = map-append bytes_in yielded (upload ∷ []) in

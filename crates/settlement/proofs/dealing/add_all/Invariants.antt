@@ -3,7 +3,7 @@ use Rattle.std.specs.Vec.Iter.{into_iter_items, into_iter_len}
 use Rattle.tap_views.specs.Layout.{Tap}
 use Rattle.tap_parts.specs.Parts.{AreAdded}
 use Rattle.fare_service.specs.Plain.{AreTapsOfEach, ArePlainEnds}
-use Rattle.tap_parts.specs.Parts.{joined}
+use Rattle.tap_parts.specs.Parts.{uploads_joined}
 use Rattle.settlement.proofs.dealing.add_all.Given as goal
 
 abbrev pub invariant-loop-upload : goal.invariant-loop-upload
@@ -13,6 +13,6 @@ invariant-loop-upload l = record {
   left : l.yielded ++ into_iter_items l.upload-iterator ≡ l.fn.uploads.items;
   left_len : into_iter_len l.upload-iterator ≡ length (into_iter_items l.upload-iterator);
   made : (taps : List (List Tap)) × AreTapsOfEach (map (λ upload. upload.items) l.yielded) taps
-      × AreAdded (joined taps) l.fn.parts l.parts
+      × AreAdded (uploads_joined taps) l.fn.parts l.parts
       × ArePlainEnds (map (λ upload. upload.items) l.yielded) l.ends.items;
 }

@@ -5,7 +5,7 @@ use Rattle.tap_views.specs.Encoding.{fields_of}
 use Rattle.tap_views.specs.declared.encoder.TapFields.{TapFields}
 use Rattle.tap_parts.specs.Parts.{of_part}
 use Rattle.settlement.specs.inside.Dealt.{AreDealt}
-use Rattle.tap_parts.specs.Parts.{joined}
+use Rattle.tap_parts.specs.Parts.{uploads_joined}
 use Rattle.settlement.proofs.Files.{bytes_in}
 use Rattle.settlement.proofs.dealing.deal.Goals as goal
 
@@ -26,7 +26,7 @@ returns c =
           append-nil _
           ∙ all.added.each part (subst (λ n. part < n) (sym made.number) within)
           ∙ ap (λ taps. taps ++ map fields_of
-          (of_part part (length c.in_ok-list.list) (joined all.taps))) (made.empty part within)
-          ∙ ap (λ n. map fields_of (of_part part n (joined all.taps))) made.number;
+          (of_part part (length c.in_ok-list.list) (uploads_joined all.taps))) (made.empty part within)
+          ∙ ap (λ n. map fields_of (of_part part n (uploads_joined all.taps))) made.number;
       ended = all.ended;
     })

@@ -6,7 +6,7 @@ use Rattle.tap_views.specs.declared.encoder.TapFields.{TapFields}
 use Rattle.tap_parts.specs.Parts.{of_part}
 use Rattle.settlement.specs.inside.Dealt.{in_part}
 use Rattle.settlement.specs.Settled.{IsPartFile}
-use Rattle.tap_parts.specs.Parts.{joined}
+use Rattle.tap_parts.specs.Parts.{uploads_joined}
 use Rattle.settlement.proofs.Early.{part_early}
 use Rattle.settlement.proofs.Files.{bytes_in, there_below, zip_length, zip_there}
 use Rattle.settlement.proofs.Placed.{all_by}
@@ -44,10 +44,10 @@ returns g c =
       each = λ part file there.
           let within : part < parts = omega (arith, number, there_below bytes part file there) in
           let here : get_or pieces part []
-          ≡ map fields_of (of_part part parts (joined dealt.taps)) =
+          ≡ map fields_of (of_part part parts (uploads_joined dealt.taps)) =
           c.in_ok-pieces.ensures.each part within ∙ dealt.each part within in
           let Q : List TapFields → Type 0 = λ taps. IsPartFile taps file in
-          let N : ℕ → Type 0 = λ n. IsPartFile (map fields_of (of_part part n (joined dealt.taps)))
+          let N : ℕ → Type 0 = λ n. IsPartFile (map fields_of (of_part part n (uploads_joined dealt.taps)))
           file in
           subst N number (subst Q here (zip_there IsPartFile pieces bytes [] zip part file there));
     }

@@ -1,7 +1,7 @@
 use Rattle.std.proofs.Common.{◌≡◌, ◌||◌, ℕ, List, [], ◌++◌, ◌∷◌, Ok, Err, ap, ◌∙◌, sym, refl, subst}
 use Rattle.std.proofs.Common.{append_assoc, append-nil}
 use Rattle.tap_views.specs.Files.{Item, IsReading}
-use Rattle.upload_facts.specs.Facts.{taps_of}
+use Rattle.upload_facts.specs.Facts.{taps_of_batches}
 use Rattle.upload_facts.proofs.ReadingLemmas.{same_items, read_all, read_fault, taps_more}
 use Rattle.upload_facts.proofs.ReadingLemmas.{yielded_more}
 use Rattle.table_facts.proofs.SeenLemmas.{no_tap, one_batch}
@@ -33,7 +33,7 @@ loop-item-preserved c =
         made.0 ++ c.in-Ok.batch ∷ [],
         yielded_more c.loop-item.yielded made.0 c.in-Some.item c.in-Ok.batch made.1 c.in-Ok.is,
         one_batch c.args.numbers.now.keys c.loop-item.numbers.keys c.add_batch.new.numbers.keys
-            (taps_of made.0) c.in-Ok.batch (taps_of (made.0 ++ c.in-Ok.batch ∷ []))
+            (taps_of_batches made.0) c.in-Ok.batch (taps_of_batches (made.0 ++ c.in-Ok.batch ∷ []))
             (taps_more made.0 c.in-Ok.batch) c.in_ok-add_batch-in-Ok.ensures made.2,
       );
     }

@@ -1,7 +1,7 @@
 use Rattle.std.proofs.Common.{◌≡◌, ◌++◌, ◌||◌, ℕ, List, map, Ok}
 use Rattle.tap_views.specs.Layout.{Tap}
 use Rattle.tap_views.specs.Files.{IsReading}
-use Rattle.upload_facts.specs.Facts.{taps_of}
+use Rattle.upload_facts.specs.Facts.{taps_of_batches}
 use Rattle.table_facts.specs.Seen.{has_tap_at, is_among}
 use Rattle.table_facts.proofs.seen.add_upload.Given as goal
 
@@ -12,5 +12,5 @@ invariant-loop-item l = record {
   reading : IsReading l.upload (l.yielded ++ l.item-iterator);
   made : (done : List (List Tap)) × (l.yielded ≡ map Ok done)
       × ((validator : ℕ) → is_among l.numbers.keys validator
-      ≡ (is_among l.fn.numbers.keys validator || has_tap_at (taps_of done) validator));
+      ≡ (is_among l.fn.numbers.keys validator || has_tap_at (taps_of_batches done) validator));
 }

@@ -1,14 +1,14 @@
 use Rattle.std.proofs.Common.{subst}
 use Rattle.std.proofs.lemmas.Bool.Decides.{Decides-eqb}
 use Rattle.std.proofs.lemmas.Slice.Eq.{slice_eq-Decides}
-use Rattle.tap_rows.specs.Fields.{StandsFor}
+use Rattle.tap_rows.specs.Fields.{FieldStandsFor}
 use Rattle.tap_rows.proofs.FieldLemmas.{one_value}
 use Rattle.tap_rows.proofs.field.stands_for.Goals as goal
 
 pub returns-in-Some : goal.returns-in-Some
 returns-in-Some c =
     let decides = slice_eq-Decides Decides-eqb c.in-Some.found.now c.args.value.now c.eq.result c.eq.ensures in (
-      λ same. subst (λ value. StandsFor c.args.field.now value) (decides.0 same) c.in-Some.ensures,
+      λ same. subst (λ value. FieldStandsFor c.args.field.now value) (decides.0 same) c.in-Some.ensures,
       λ stands. decides.1 (one_value c.args.field.now c.in-Some.found.now c.args.value.now c.in-Some.ensures stands),
     )
 

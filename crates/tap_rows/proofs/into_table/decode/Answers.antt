@@ -4,7 +4,7 @@ use Rattle.std.specs.Io.KnownBytes.{Appends}
 use Rattle.tap_views.specs.Encoding.{fields_of}
 use Rattle.tap_views.specs.Layout.{Tap}
 use Rattle.tap_views.specs.Files.{Item, IsReading}
-use Rattle.upload_facts.specs.Facts.{taps_of}
+use Rattle.upload_facts.specs.Facts.{taps_of_batches}
 use Rattle.upload_facts.proofs.ReadingLemmas.{same_items, read_all, read_fault, taps_more, yielded_more}
 use Rattle.tap_rows.specs.Decoded.{fields_in}
 use Rattle.tap_rows.specs.Rows.{rows_text}
@@ -15,7 +15,7 @@ use Rattle.tap_rows.proofs.into_table.decode.Goals as goal
 -- the rows of one batch more
 batch_more : (done : List (List Tap)) (batch : List Tap) → rows_text (fields_in done) ++ rows_text (map fields_of batch) ≡ rows_text (fields_in (done ++ batch ∷ []))
 batch_more done batch =
-    sym (rows_joined (fields_in done) (map fields_of batch)) ∙ ap rows_text (sym (map-append fields_of (taps_of done) batch)) ∙ ap (λ taps. rows_text (map fields_of taps)) (sym (taps_more done batch))
+    sym (rows_joined (fields_in done) (map fields_of batch)) ∙ ap rows_text (sym (map-append fields_of (taps_of_batches done) batch)) ∙ ap (λ taps. rows_text (map fields_of taps)) (sym (taps_more done batch))
 
 pub loop-item-init : goal.loop-item-init
 loop-item-init g c =

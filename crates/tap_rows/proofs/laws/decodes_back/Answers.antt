@@ -1,11 +1,11 @@
 use Rattle.std.proofs.Common.{◌≡◌, ◌∙◌, ℕ, List, [], ap, refl, None, Some}
 use Rattle.std.specs.Prelude.{Option}
 use Rattle.tap_views.specs.declared.fault.LayoutFault.{LayoutFault}
-use Rattle.upload_facts.specs.Facts.{IsEnd}
+use Rattle.upload_facts.specs.Facts.{IsEndAfterBatches}
 use Rattle.tap_rows.specs.Decoded.{fields_in}
 use Rattle.tap_rows.proofs.laws.decodes_back.Goals as goal
 
-no_fault : (upload rest : List ℕ) (fault : Option (ℕ × LayoutFault)) → rest ≡ [] → IsEnd upload rest fault → fault ≡ None
+no_fault : (upload rest : List ℕ) (fault : Option (ℕ × LayoutFault)) → rest ≡ [] → IsEndAfterBatches upload rest fault → fault ≡ None
 no_fault upload rest None none is = refl
 no_fault upload rest (Some (offset, fault)) none is = absurd (is.some none)
 

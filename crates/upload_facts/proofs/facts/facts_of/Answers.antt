@@ -4,35 +4,35 @@ use Rattle.std.proofs.Common.{arith, length-append}
 use Rattle.std.proofs.lemmas.List.{map-append}
 use Rattle.tap_views.specs.Layout.{Tap}
 use Rattle.tap_views.specs.Files.{Item, IsReading}
-use Rattle.upload_facts.specs.Facts.{IsSpan, moment_of, taps_of}
+use Rattle.upload_facts.specs.Facts.{IsSpan, moment_of, taps_of_batches}
 use Rattle.upload_facts.proofs.ReadingLemmas.{same_items, read_all, read_fault, read_batch, few}
 use Rattle.upload_facts.proofs.ReadingLemmas.{taps_more, yielded_more}
 use Rattle.upload_facts.proofs.facts.facts_of.Goals as goal
 
 -- the room that is left for a batch, and for its taps
 room : (file : List ℕ) (done more : List (List Tap)) (rest : List ℕ) (batch : List Tap)
-    → length (taps_of ((done ++ batch ∷ []) ++ more)) + 2 * length ((done ++ batch ∷ []) ++ more)
+    → length (taps_of_batches ((done ++ batch ∷ []) ++ more)) + 2 * length ((done ++ batch ∷ []) ++ more)
     ≤ length file
-    → (length (taps_of done) + length batch ≤ length file) × (length done + 1 ≤ length file)
+    → (length (taps_of_batches done) + length batch ≤ length file) × (length done + 1 ≤ length file)
 room file [] more rest batch fits =
-    (omega (arith, fits, length-append batch (taps_of more)), omega (arith, fits))
+    (omega (arith, fits, length-append batch (taps_of_batches more)), omega (arith, fits))
 room file (first ∷ done) more rest batch fits =
-    let all = length-append first (taps_of ((done ++ batch ∷ []) ++ more)) in
-    let some = length-append first (taps_of done) in
+    let all = length-append first (taps_of_batches ((done ++ batch ∷ []) ++ more)) in
+    let some = length-append first (taps_of_batches done) in
     let tail = counts done more batch in
     (omega (arith, fits, all, some, tail.0), omega (arith, fits, tail.1))
   where
     counts : (done more : List (List Tap)) (batch : List Tap)
-        → (length (taps_of done) + length batch ≤ length (taps_of ((done ++ batch ∷ []) ++ more)))
+        → (length (taps_of_batches done) + length batch ≤ length (taps_of_batches ((done ++ batch ∷ []) ++ more)))
         × (length done + 1 ≤ length ((done ++ batch ∷ []) ++ more))
-    counts [] more batch = (omega (arith, length-append batch (taps_of more)), omega arith)
+    counts [] more batch = (omega (arith, length-append batch (taps_of_batches more)), omega arith)
     counts (first ∷ done) more batch =
         let tail = counts done more batch in (
           omega (
             arith,
             tail.0,
-            length-append first (taps_of done),
-            length-append first (taps_of ((done ++ batch ∷ []) ++ more)),
+            length-append first (taps_of_batches done),
+            length-append first (taps_of_batches ((done ++ batch ∷ []) ++ more)),
           ),
           omega (arith, tail.1),
         )
@@ -68,12 +68,12 @@ loop-item-preserved c =
           arith,
           made.3,
           ap length all,
-          length-append (taps_of made.0) c.in-Ok.batch,
+          length-append (taps_of_batches made.0) c.in-Ok.batch,
           c.len.ensures.number,
         ),
-        subst Q (sym (map-append moment_of (taps_of made.0) c.in-Ok.batch)
+        subst Q (sym (map-append moment_of (taps_of_batches made.0) c.in-Ok.batch)
             ∙ ap (map moment_of) (sym all))
-            (c.over_batch-span.ensures (map moment_of (taps_of made.0)) made.4),
+            (c.over_batch-span.ensures (map moment_of (taps_of_batches made.0)) made.4),
       );
     }
 

@@ -1,7 +1,7 @@
 use Rattle.std.proofs.Common.{◌≡◌, List, ◌++◌, length, map, Ok}
 use Rattle.tap_views.specs.Layout.{Tap}
 use Rattle.tap_views.specs.Files.{IsReading}
-use Rattle.upload_facts.specs.Facts.{IsSpan, moment_of, taps_of}
+use Rattle.upload_facts.specs.Facts.{IsSpan, moment_of, taps_of_batches}
 use Rattle.upload_facts.proofs.facts.facts_of.Given as goal
 
 abbrev pub invariant-loop-item : goal.invariant-loop-item
@@ -10,5 +10,5 @@ invariant-loop-item l = record {
   ends : (goal.iterator-loop-item).is_finite l.item-iterator;
   reading : IsReading l.upload (l.yielded ++ l.item-iterator);
   made : (done : List (List Tap)) × (l.yielded ≡ map Ok done) × (l.count ≡ length done)
-      × (l.taps ≡ length (taps_of done)) × IsSpan (map moment_of (taps_of done)) l.span;
+      × (l.taps ≡ length (taps_of_batches done)) × IsSpan (map moment_of (taps_of_batches done)) l.span;
 }

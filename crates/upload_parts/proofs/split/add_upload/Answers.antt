@@ -4,35 +4,35 @@ use Rattle.std.proofs.Common.{length-append}
 use Rattle.tap_views.specs.Layout.{Tap}
 use Rattle.tap_views.specs.Files.{Item, IsReading}
 use Rattle.tap_parts.proofs.Adding.{none_added, batch_added}
-use Rattle.upload_facts.specs.Facts.{taps_of}
+use Rattle.upload_facts.specs.Facts.{taps_of_batches}
 use Rattle.upload_facts.proofs.ReadingLemmas.{same_items, read_all, read_fault, read_batch, few}
 use Rattle.upload_facts.proofs.ReadingLemmas.{taps_more, yielded_more}
 use Rattle.upload_parts.proofs.split.add_upload.Goals as goal
 
 -- the room that is left for a batch, and for its taps
 room : (file : List ℕ) (done more : List (List Tap)) (rest : List ℕ) (batch : List Tap)
-    → length (taps_of ((done ++ batch ∷ []) ++ more)) + 2 * length ((done ++ batch ∷ []) ++ more)
+    → length (taps_of_batches ((done ++ batch ∷ []) ++ more)) + 2 * length ((done ++ batch ∷ []) ++ more)
     ≤ length file
-    → (length (taps_of done) + length batch ≤ length file) × (length done + 1 ≤ length file)
+    → (length (taps_of_batches done) + length batch ≤ length file) × (length done + 1 ≤ length file)
 room file [] more rest batch fits =
-    (omega (arith, fits, length-append batch (taps_of more)), omega (arith, fits))
+    (omega (arith, fits, length-append batch (taps_of_batches more)), omega (arith, fits))
 room file (first ∷ done) more rest batch fits =
-    let all = length-append first (taps_of ((done ++ batch ∷ []) ++ more)) in
-    let some = length-append first (taps_of done) in
+    let all = length-append first (taps_of_batches ((done ++ batch ∷ []) ++ more)) in
+    let some = length-append first (taps_of_batches done) in
     let tail = counts done more batch in
     (omega (arith, fits, all, some, tail.0), omega (arith, fits, tail.1))
   where
     counts : (done more : List (List Tap)) (batch : List Tap)
-        → (length (taps_of done) + length batch ≤ length (taps_of ((done ++ batch ∷ []) ++ more)))
+        → (length (taps_of_batches done) + length batch ≤ length (taps_of_batches ((done ++ batch ∷ []) ++ more)))
         × (length done + 1 ≤ length ((done ++ batch ∷ []) ++ more))
-    counts [] more batch = (omega (arith, length-append batch (taps_of more)), omega arith)
+    counts [] more batch = (omega (arith, length-append batch (taps_of_batches more)), omega arith)
     counts (first ∷ done) more batch =
         let tail = counts done more batch in (
           omega (
             arith,
             tail.0,
-            length-append first (taps_of done),
-            length-append first (taps_of ((done ++ batch ∷ []) ++ more)),
+            length-append first (taps_of_batches done),
+            length-append first (taps_of_batches ((done ++ batch ∷ []) ++ more)),
           ),
           omega (arith, tail.1),
         )
@@ -67,7 +67,7 @@ loop-item-preserved c =
           arith,
           made.3,
           ap length (taps_more made.0 c.in-Ok.batch),
-          length-append (taps_of made.0) c.in-Ok.batch,
+          length-append (taps_of_batches made.0) c.in-Ok.batch,
           c.len.ensures.number,
         ),
       );
@@ -92,7 +92,7 @@ returns-in-Err c =
     (same_items c.args.upload.now c.loop-item.yielded c.next.new.self made.0 (Err (c.in-Err.offset, c.in-Err.fault))
     c.loop-item.item-iterator c.loop-item.invariant.reading made.1 step) in
     record {
-      taps = taps_of made.0;
+      taps = taps_of_batches made.0;
       of_upload = record {
         batches = made.0;
         fault = Some (c.in-Err.offset, c.in-Err.fault);
@@ -115,7 +115,7 @@ returns c =
     (subst P (ap (λ left. c.loop-item.yielded ++ left) c.in-None.ensures.steps.0
     ∙ (append-nil c.loop-item.yielded ∙ made.1)) c.loop-item.invariant.reading) in
     record {
-      taps = taps_of made.0;
+      taps = taps_of_batches made.0;
       of_upload = record {
         batches = made.0;
         fault = None;

@@ -2,7 +2,7 @@ use Rattle.std.proofs.Common.{◌≡◌, List, ◌++◌, length, map, Ok}
 use Rattle.tap_views.specs.Layout.{Tap}
 use Rattle.tap_views.specs.Files.{IsReading}
 use Rattle.tap_parts.specs.Parts.{AreAdded}
-use Rattle.upload_facts.specs.Facts.{taps_of}
+use Rattle.upload_facts.specs.Facts.{taps_of_batches}
 use Rattle.upload_parts.proofs.split.add_upload.Given as goal
 
 abbrev pub invariant-loop-item : goal.invariant-loop-item
@@ -11,5 +11,5 @@ invariant-loop-item l = record {
   ends : (goal.iterator-loop-item).is_finite l.item-iterator;
   reading : IsReading l.upload (l.yielded ++ l.item-iterator);
   made : (done : List (List Tap)) × (l.yielded ≡ map Ok done)
-      × AreAdded (taps_of done) l.fn.parts l.parts × (l.taps ≡ length (taps_of done));
+      × AreAdded (taps_of_batches done) l.fn.parts l.parts × (l.taps ≡ length (taps_of_batches done));
 }

@@ -10,7 +10,7 @@ use Rattle.shard_book.specs.Entry.{TokensFit}
 use Rattle.fare_table.specs.Token.{Fits, bytes_of}
 use Rattle.shard_book.specs.declared.entry.Entry.{Entry}
 use Rattle.fare_table.specs.declared.token.Token.{Token}
-use Rattle.fare_service.specs.Plain.{IsNamed, token_of}
+use Rattle.fare_service.specs.Plain.{IsNamed, token_of_bytes}
 use Rattle.fare_service.proofs.laws.schedules.names.Goals as goal
 
 abbrev pair : ℕ → ℕ → Token
@@ -20,7 +20,7 @@ same_pair : (a b c d : ℕ) → a ≡ c → b ≡ d → pair a b ≡ pair c d
 same_pair a b c d e f = cc
 
 -- a token of two numbers of 64 bits is the one that its bytes name
-named : (high low : ℕ) → high < 2 ^ 64 → low < 2 ^ 64 → pair high low ≡ token_of (bytes_of (pair high low))
+named : (high low : ℕ) → high < 2 ^ 64 → low < 2 ^ 64 → pair high low ≡ token_of_bytes (bytes_of (pair high low))
 unfolding bytes_of
 named high low fits_high fits_low =
     same_pair high low (from_be_bytes w64 (take 8 (to_be_bytes w64 high ++ to_be_bytes w64 low))) (from_be_bytes w64 (drop 8 (to_be_bytes w64 high ++ to_be_bytes w64 low)))

@@ -5,7 +5,7 @@ use Rattle.tap_views.specs.Encoding.{fields_of}
 use Rattle.tap_views.specs.Files.{Item, IsReading}
 use Rattle.tap_views.specs.Layout.{Tap}
 use Rattle.tap_views.specs.declared.encoder.TapFields.{TapFields}
-use Rattle.upload_facts.specs.Facts.{taps_of}
+use Rattle.upload_facts.specs.Facts.{taps_of_batches}
 use Rattle.upload_facts.proofs.ReadingLemmas.{read_all, read_fault, same_items, taps_more}
 use Rattle.upload_facts.proofs.ReadingLemmas.{yielded_more}
 use Rattle.tap_balance.specs.Balances.{IsBalance}
@@ -44,12 +44,12 @@ loop-item-preserved c =
         made.0 ++ c.in-Ok.batch ∷ [],
         yielded_more c.loop-item.yielded made.0 c.in-Some.item c.in-Ok.batch made.1 c.in-Ok.is,
         λ posted is.
-            let before = map fields_of (taps_of made.0) in
+            let before = map fields_of (taps_of_batches made.0) in
             let more = c.in_ok-add_batch-in-Ok.ensures (posted ++ before) (made.2 posted is) in
             subst (λ (ts : List TapFields). IsBalance c.add_batch.new.self ts [])
             (append_assoc posted before (map fields_of c.in-Ok.batch)
             ∙ ap (λ (ts : List TapFields).
-            posted ++ ts) (sym (map-append fields_of (taps_of made.0) c.in-Ok.batch))
+            posted ++ ts) (sym (map-append fields_of (taps_of_batches made.0) c.in-Ok.batch))
             ∙ ap (λ (ts : List Tap). posted ++ map fields_of ts)
             (sym (taps_more made.0 c.in-Ok.batch))) more,
       );
@@ -63,7 +63,7 @@ returns-in-Err c =
     c.next.new.self (same_items c.args.upload.now c.loop-item.yielded c.next.new.self made.0
     (Err c.in-Err.field-0) c.loop-item.item-iterator c.loop-item.invariant.reading made.1
     step) in (
-      map fields_of (taps_of made.0),
+      map fields_of (taps_of_batches made.0),
       record {
         batches = made.0;
         fault = Some c.in-Err.field-0;
@@ -80,7 +80,7 @@ returns c =
     let read = read_all c.args.upload.now made.0
     (subst P (ap (λ (left : List Item). c.loop-item.yielded ++ left) c.in-None.ensures.steps.0
     ∙ (append-nil c.loop-item.yielded ∙ made.1)) c.loop-item.invariant.reading) in (
-      map fields_of (taps_of made.0),
+      map fields_of (taps_of_batches made.0),
       record {
         batches = made.0;
         fault = None;

@@ -3,7 +3,7 @@ use Rattle.tap_views.specs.Encoding.{fields_of}
 use Rattle.tap_views.specs.Files.{IsReading}
 use Rattle.tap_views.specs.Layout.{Tap}
 use Rattle.tap_views.specs.declared.encoder.TapFields.{TapFields}
-use Rattle.upload_facts.specs.Facts.{taps_of}
+use Rattle.upload_facts.specs.Facts.{taps_of_batches}
 use Rattle.tap_balance.specs.Balances.{IsBalance}
 use Rattle.tap_balance.proofs.balance.Balance.add_upload.Given as goal
 
@@ -14,5 +14,5 @@ invariant-loop-item l = record {
   reading : IsReading l.upload (l.yielded ++ l.item-iterator);
   made : (done : List (List Tap)) × (l.yielded ≡ map Ok done)
       × ((posted : List TapFields) → IsBalance l.fn.self posted []
-      → IsBalance l.self (posted ++ map fields_of (taps_of done)) []);
+      → IsBalance l.self (posted ++ map fields_of (taps_of_batches done)) []);
 }
