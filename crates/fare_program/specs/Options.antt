@@ -1,5 +1,6 @@
 -- The command line, and what its words ask for.
-use Rattle.std.specs.Prelude.{◌≡◌, ◌⊎◌, ℕ, Bool, false, ◌||◌, not, List, [], ◌∷◌, Option, Some, codes}
+use Rattle.std.specs.Prelude.{◌≡◌, ◌⊎◌, ℕ, Bool, false, ◌||◌, not, List, [], ◌∷◌, Option, Some}
+use Rattle.std.specs.Prelude.{codes}
 use Rattle.std.specs.Prelude.{true}
 use Rattle.std.specs.Prelude.{is_some, map, option_map, pos, unwrap_or}
 use Rattle.std.specs.Option.{option_map_or}

@@ -78,7 +78,8 @@ fn advance(
     token: [u8; 16],
     moment: u64,
 ) -> Result<bool, NoMemory>
-    ensures live { IfOk result (λ live. live ≡ is_after_last (last_of last.old.entries token) moment) }
+    ensures live { IfOk result (λ live.
+        live ≡ is_after_last (last_of last.old.entries token) moment) }
     ensures last { IfOk result (λ live. (other : List ℕ) → last_of last.new.entries other
         ≡ (if live && bytes_eq token other then Some moment else last_of last.old.entries other)) }
     ensures err { OnErr result (last.new.entries ≡ last.old.entries) }

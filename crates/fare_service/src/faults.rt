@@ -47,9 +47,9 @@ pub enum RunFault {
 
 impl From<NoMemory> for OpenFault {
     ghost use Rattle.std.specs.Prelude.{◌≡◌};
-    ghost use Rattle.fare_service.specs.declared.faults.OpenFault.TheVariants.{NoMemory as ForMemory};
+    ghost use Rattle.fare_service.specs.declared.faults.OpenFault.TheVariants as faults;
 
-    ghost from_gives = { λ _ e. e ≡ ForMemory };
+    ghost from_gives = { λ _ e. e ≡ faults.NoMemory };
 
     fn from(_: NoMemory) -> Self {
         OpenFault::NoMemory
@@ -58,9 +58,9 @@ impl From<NoMemory> for OpenFault {
 
 impl From<NoMemory> for GatherFault {
     ghost use Rattle.std.specs.Prelude.{◌≡◌};
-    ghost use Rattle.fare_service.specs.declared.faults.GatherFault.TheVariants.{NoMemory as ForMemory};
+    ghost use Rattle.fare_service.specs.declared.faults.GatherFault.TheVariants as faults;
 
-    ghost from_gives = { λ _ e. e ≡ ForMemory };
+    ghost from_gives = { λ _ e. e ≡ faults.NoMemory };
 
     fn from(_: NoMemory) -> Self {
         GatherFault::NoMemory
@@ -69,9 +69,9 @@ impl From<NoMemory> for GatherFault {
 
 impl From<NoMemory> for RunFault {
     ghost use Rattle.std.specs.Prelude.{◌≡◌};
-    ghost use Rattle.fare_service.specs.declared.faults.RunFault.TheVariants.{NoMemory as ForMemory};
+    ghost use Rattle.fare_service.specs.declared.faults.RunFault.TheVariants as faults;
 
-    ghost from_gives = { λ _ e. e ≡ ForMemory };
+    ghost from_gives = { λ _ e. e ≡ faults.NoMemory };
 
     fn from(_: NoMemory) -> Self {
         RunFault::NoMemory
@@ -91,9 +91,9 @@ impl From<GatherFault> for RunFault {
 
 impl From<AllocError> for GatherFault {
     ghost use Rattle.std.specs.Prelude.{◌≡◌};
-    ghost use Rattle.fare_service.specs.declared.faults.GatherFault.TheVariants.{NoMemory as ForMemory};
+    ghost use Rattle.fare_service.specs.declared.faults.GatherFault.TheVariants as faults;
 
-    ghost from_gives = { λ _ e. e ≡ ForMemory };
+    ghost from_gives = { λ _ e. e ≡ faults.NoMemory };
 
     fn from(_: AllocError) -> Self {
         GatherFault::NoMemory
@@ -102,9 +102,9 @@ impl From<AllocError> for GatherFault {
 
 impl From<AllocError> for RunFault {
     ghost use Rattle.std.specs.Prelude.{◌≡◌};
-    ghost use Rattle.fare_service.specs.declared.faults.RunFault.TheVariants.{NoMemory as ForMemory};
+    ghost use Rattle.fare_service.specs.declared.faults.RunFault.TheVariants as faults;
 
-    ghost from_gives = { λ _ e. e ≡ ForMemory };
+    ghost from_gives = { λ _ e. e ≡ faults.NoMemory };
 
     fn from(_: AllocError) -> Self {
         RunFault::NoMemory

@@ -1,7 +1,7 @@
 //! Opening the shards' books, and splitting the passes to them.
 
-ghost use Rattle.std.specs.Prelude.{◌≡◌, ℕ, ◌<◌, ◌≤◌, IfOk, IsOk, OnOk, length, map, [], slice_get, Some};
-ghost use Rattle.std.specs.Prelude.{vec_len, vec_capacity};
+ghost use Rattle.std.specs.Prelude.{◌≡◌, ℕ, ◌<◌, ◌≤◌, IfOk, IsOk, OnOk, length, map, [], slice_get};
+ghost use Rattle.std.specs.Prelude.{Some, vec_len, vec_capacity};
 ghost use Rattle.shared_books.specs.Passes.{new_pass};
 ghost use Rattle.fare_service.specs.inside.ServiceView.{AreOpened};
 

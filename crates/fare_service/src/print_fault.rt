@@ -14,10 +14,10 @@ pub enum PrintFault {
 }
 
 impl From<NoMemory> for PrintFault {
-    ghost use Rattle.fare_service.specs.declared.print_fault.PrintFault.TheVariants.{NoMemory as ForMemory};
+    ghost use Rattle.fare_service.specs.declared.print_fault.PrintFault.TheVariants as faults;
     ghost use Rattle.std.specs.Prelude.{◌≡◌};
 
-    ghost from_gives = { λ _ e. e ≡ ForMemory };
+    ghost from_gives = { λ _ e. e ≡ faults.NoMemory };
 
     fn from(_: NoMemory) -> Self {
         PrintFault::NoMemory

@@ -156,7 +156,8 @@ impl<'a> Service<'a> {
         ensures clock { buffers.new.clock ≡ buffers.old.clock }
         ensures few { posting.new.totals.taps ≤ posting.old.totals.taps + 4096 }
         ensures full { TellsFull result posting.old.passes.items posting.new.passes.items }
-        ensures memory { TellsMemory shard result posting.old.passes.items posting.new.passes.items }
+        ensures memory { TellsMemory shard result posting.old.passes.items
+            posting.new.passes.items }
     {
         let run = cut.run(batch, shard);
         let len = run.len();

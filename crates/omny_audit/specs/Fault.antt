@@ -1,5 +1,6 @@
 -- The fault lines, without their line feeds. Each has the status 1.
-use Rattle.std.specs.Prelude.{◌≡◌, ◌⊎◌, ℕ, List, [], ◌∷◌, ◌++◌, Bool, true, false, codes, Option, None, Some}
+use Rattle.std.specs.Prelude.{◌≡◌, ◌⊎◌, ℕ, List, [], ◌∷◌, ◌++◌, Bool, true, false, codes}
+use Rattle.std.specs.Prelude.{Option, None, Some}
 use Rattle.std.specs.Prelude.{IfSome}
 use Rattle.fare_table.specs.Key.{key_name}
 use Rattle.fare_table.specs.declared.fault.TableFault.{TableFault}

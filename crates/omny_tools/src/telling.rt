@@ -159,8 +159,8 @@ fn make<'a>(rt: &HostRuntime, name: Name<'a>, bytes: &[u8]) -> Result<(), Fault<
     }
 }
 
-/// Writes what the upload has and, where that is asked for, how many tokens; and makes a file of its
-/// batches before its layout fault.
+/// Writes what the upload has and, where that is asked for, how many tokens; and makes a file of
+/// its batches before its layout fault.
 pub(crate) fn tell_and_keep<'a, W: Write + Drop>(
     rt: &HostRuntime,
     name: Name<'a>,

@@ -57,8 +57,8 @@ pub const BUS: u32 = 2000;
 /// When the taps' day begins: 2024-03-08T17:00:00.000Z, in milliseconds since 1970-01-01T00:00Z.
 pub const START: u64 = 1_709_917_200_000;
 
-/// The report of two uploads: subway, bus, bus, subway of one token within an hour; of another token
-/// a tap that no validator of the table made, and then an earlier one.
+/// The report of two uploads: subway, bus, bus, subway of one token within an hour; of another
+/// token a tap that no validator of the table made, and then an earlier one.
 pub const REPORT: &str = "uploads 2
 upload 0 posted 4
 upload 1 posted 2

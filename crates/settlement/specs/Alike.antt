@@ -14,7 +14,8 @@ pub record HaveSameTaps (uploads others : List (List ℕ)) : Type 0 where
   pub other_taps : List (List Tap)
   pub of_uploads : AreTapsOfEach uploads taps
   pub of_others : AreTapsOfEach others other_taps
-  pub moved : IsPermutation (map fields_of (uploads_joined taps)) (map fields_of (uploads_joined other_taps))
+  pub moved : IsPermutation (map fields_of (uploads_joined taps))
+      (map fields_of (uploads_joined other_taps))
 
 -- both texts are the same after the lines of their uploads
 pub record DifferInUploads (uploads others : List (List ℕ)) (text other : List ℕ) : Type 0 where

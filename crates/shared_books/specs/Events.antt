@@ -68,7 +68,8 @@ abbrev pub given_back_by : State (Option Boxed) View → ℕ → View → List E
 given_back_by s seat v visit book = record {
   words = slice_set s.words 0 (slice_index s.words 0 + 1);
   homes = slice_set s.homes 0 (some (Some book));
-  views = slice_set s.views seat (view v.opened v.claims false (v.marks ++ mark true visit ∷ []) v.met);
+  views = slice_set s.views seat
+      (view v.opened v.claims false (v.marks ++ mark true visit ∷ []) v.met);
 }
 
 -- a take at an even word is the event of its seat
@@ -89,4 +90,5 @@ GivesAreEvents =
     → (visit : List Entry) (book : Boxed)
     → book.value ≡ book_after k (visits_of v.marks ++ visit ∷ [])
     → IsLegal k.book.value.table (joined (visits_of v.marks ++ visit ∷ []))
-    → (u : IsTurn k (given_back_by s seat v visit book)) × (u.events ≡ t.events ++ given seat visit ∷ [])
+    → (u : IsTurn k (given_back_by s seat v visit book))
+    × (u.events ≡ t.events ++ given seat visit ∷ [])

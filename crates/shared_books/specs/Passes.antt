@@ -19,8 +19,8 @@ pub record SharedBookView : Type 0 where
   pub shard : ℕ
   pub shards : ℕ
 
--- a pass: the book that it belongs to, its claims, and the visits that it has seen, each marked with
--- whether it made it
+-- a pass: the book that it belongs to, its claims, and the visits that it has seen, each marked
+-- with whether it made it
 pub record PassView : Type 0 where
   pub book : SharedBookView
   pub claims : ℕ

@@ -52,7 +52,8 @@ left_at left key = unwrap_or (tree.get key_cmp left key) 0
 abbrev pub IsBalance : Balance → List TapFields → List TapFields → Type 0
 IsBalance balance posted struck =
     MatchOption balance.surplus
-    ((tap : TapFields) → copies_among tap posted ≡ left_at balance.left (key_of tap) + copies_among tap struck)
+    ((tap : TapFields) → copies_among tap posted
+    ≡ left_at balance.left (key_of tap) + copies_among tap struck)
     (λ tap. copies_among tap posted < copies_among tap struck)
 
 -- the others are the posted taps in some order; or the told tap is more often among the ones, or

@@ -34,7 +34,8 @@ IsTime text number = IsDecimal text number ⊎ IsUtc text number
 abbrev pub IsMoment : List ℕ → ℕ → Type 0
 IsMoment text number = IsTime text number × (number < moment_limit)
 
--- the time of day that is so many milliseconds after midnight, as `17:30:05` between a `T` and a `Z`
+-- the time of day that is so many milliseconds after midnight, as `17:30:05` between a `T` and a
+-- `Z`
 abbrev pub seconds_text : ℕ → List ℕ
 seconds_text ms =
     codes "T" ++ (pad2 (ms / 3_600_000) ++ (codes ":" ++ (pad2 (ms / 60_000 % 60) ++ (codes ":"

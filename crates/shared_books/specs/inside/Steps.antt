@@ -63,7 +63,8 @@ pub record HasSeen (before : Seat) (found : ℕ) (after : Seat) : Type 0 where
 -- is out with it
 pub record HasTakenBook (s : Step (Option Boxed)) (before after : Seat) : Type 0 where
   pub between : List (List Entry)
-  pub view_is : after.0 ≡ view before.0.opened before.0.claims true (before.0.marks ++ others between) before.0.met
+  pub view_is : after.0 ≡ view before.0.opened before.0.claims true
+      (before.0.marks ++ others between) before.0.met
   pub word : s.first ≡ 2 * (before.0.opened.first + length (before.0.marks ++ others between))
   pub legal : IsLegal before.0.opened.book.value.table
       (joined (visits_of (before.0.marks ++ others between)))
@@ -90,7 +91,8 @@ given_back (v, (slot, Some b) ∷ out) = (
 
 -- the look that ends a join: the marks of both passes lie beside one another
 pub record HasSettled (before after : Seat) : Type 0 where
-  pub view_is : after.0 ≡ view before.0.opened before.0.claims before.0.turn (merged before.0.marks before.0.met) []
+  pub view_is : after.0 ≡ view before.0.opened before.0.claims before.0.turn
+      (merged before.0.marks before.0.met) []
   pub apart : Apart before.0.marks before.0.met
   pub begins : Begins (visits_of before.0.marks) (visits_of before.0.met)
       ⊎ Begins (visits_of before.0.met) (visits_of before.0.marks)

@@ -27,7 +27,8 @@ pub record SeesMore (before after : Seat) : Type 0 where
 -- empty
 pub record HasBookOut (before after : Seat) (number : ℕ) (book : Book) : Type 0 where
   pub between : List (List Entry)
-  pub view_is : after.0 ≡ view before.0.opened before.0.claims true (before.0.marks ++ others between) []
+  pub view_is : after.0 ≡ view before.0.opened before.0.claims true
+      (before.0.marks ++ others between) []
   pub number_is : number ≡ before.0.opened.first + length (before.0.marks ++ others between)
   pub few : number < 2 ^ 62
   pub legal : IsLegal before.0.opened.book.value.table

@@ -9,8 +9,8 @@ impl SharedBook {
     ghost use Rattle.shared_books.specs.Claims.{all_claims};
     ghost use Rattle.shared_books.specs.Passes.{book_of, HasMadeAll, LacksVisits};
 
-    /// The book, where the pass made all visits; otherwise both are dropped. So it is where the pass
-    /// has all claims. A turn that was taken and not given back counts as a visit.
+    /// The book, where the pass made all visits; otherwise both are dropped. So it is where the
+    /// pass has all claims. A turn that was taken and not given back counts as a visit.
     pub fn close(self, pass: Pass) -> Result<ShardBook, Missing>
         requires own { pass.book ≡ self }
         ensures ok { IfOk result (HasMadeAll pass) }
