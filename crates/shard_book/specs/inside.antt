@@ -3,6 +3,7 @@ pub mod Accounts
 pub mod Counting
 pub mod Grouping
 pub mod Groups
+pub mod Keys
 pub mod Packed
 pub mod Places
 pub mod Shown

@@ -49,7 +49,7 @@ impl GroupKey for u32 {
     ghost use Rattle.shard_book.specs.Groups.{validator_of};
     ghost use Rattle.shard_book.specs.Shown.{validator_sum};
     ghost use Rattle.shard_book.specs.Sums.{sums_of};
-    ghost use Rattle.shard_book.specs.Keys.{same_number};
+    ghost use Rattle.shard_book.specs.inside.Keys.{same_number};
 
     type Sum = ValidatorSum;
 

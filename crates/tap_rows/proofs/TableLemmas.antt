@@ -16,7 +16,7 @@ use Rattle.tap_views.specs.Layout.{Tap}
 use Rattle.tap_parts.specs.Parts.{IsFileOf}
 use Rattle.tap_parts.proofs.Texts.{no_text}
 use Rattle.tap_rows.specs.Rows.{IsRow, IsNoRow}
-use Rattle.tap_rows.specs.Tables.{IsHead, BeginsWithRows, IsTable, IsTableOf, IsRefused, IsEncoded, IsOfTable}
+use Rattle.tap_rows.specs.Tables.{IsHead, BeginsWithRows, IsTable, IsTableOf, IsRowsFault, IsEncoded, IsOfTable}
 use Rattle.tap_rows.specs.inside.Tables.{IsEncodedAs, IsNextRow}
 use Rattle.tap_rows.specs.declared.column.Column.{Column}
 use Rattle.tap_rows.specs.declared.fault.RowsFault.{RowsFault}
@@ -97,10 +97,10 @@ reached_end text now new number taps reached next =
 
 -- a fault tells of the row behind those that were read
 pub reached_fault : (text : List ℕ) (now new : Option (List ℕ)) (number : ℕ) (taps : List TapFields) (fault : RowsFault) → Reached text now taps → number ≡ length taps + 2
-    → IfSome now (λ left. IsNextRow left number new (Err fault)) → IsRefused text fault
+    → IfSome now (λ left. IsNextRow left number new (Err fault)) → IsRowsFault text fault
 reached_fault text now new number taps fault reached place next = by_fault fault (known (λ left. IsNextRow left number new (Err fault)) now reached.left reached.now_is next)
   where
-    by_fault : (fault : RowsFault) → IsNextRow reached.left number new (Err fault) → IsRefused text fault
+    by_fault : (fault : RowsFault) → IsNextRow reached.left number new (Err fault) → IsRowsFault text fault
     by_fault Head is = elim is [ ]
     by_fault (Row at column) is = record {
       head_line = reached.head_line;
@@ -135,7 +135,7 @@ no_bad_rest text (tap ∷ taps) [] rest column is also some bad =
 no_bad_rest text (tap ∷ taps) (other ∷ before) rest column is also some bad = no_bad_rest (drop_through 10 text) taps before rest column is.1 also.1 some bad
 
 -- a table is not refused by a fault of its own
-pub no_fault : (text : List ℕ) (taps : List TapFields) (fault : RowsFault) → IsTable text taps → IsOfTable fault → ¬ (IsRefused text fault)
+pub no_fault : (text : List ℕ) (taps : List TapFields) (fault : RowsFault) → IsTable text taps → IsOfTable fault → ¬ (IsRowsFault text fault)
 no_fault text taps Head table own refused = refused table.head_line
 no_fault text taps (Row number column) table own refused =
     no_bad_rest (drop_through 10 text) taps refused.before refused.rest column table.rows refused.rows refused.some refused.wrong
@@ -274,12 +274,12 @@ same_count (Some text) second old new count written some same table encoded =
     omega (arith, ap length taps, table.number, again.number)
 
 pub no_change : (first second : Option (List ℕ)) (count : ℕ) (fault answer : RowsFault) → (IsOfTable fault → answer ≡ Changed) → (¬ (IsOfTable fault) → answer ≡ fault) → answer ≡ Changed
-    → IsSome first → first ≡ second → IfSome first (λ text. IsTableOf text count) → IfSome second (λ text. IsRefused text fault) → ⊥
+    → IsSome first → first ≡ second → IfSome first (λ text. IsTableOf text count) → IfSome second (λ text. IsRowsFault text fault) → ⊥
 no_change None second count fault answer own other is some same table refused = absurd (cc)
 no_change (Some text) second count fault answer own other is some same table refused =
-    by_fault fault other (subst (λ o. IfSome o (λ text. IsRefused text fault)) (sym same) refused)
+    by_fault fault other (subst (λ o. IfSome o (λ text. IsRowsFault text fault)) (sym same) refused)
   where
-    by_fault : (fault : RowsFault) → (¬ (IsOfTable fault) → answer ≡ fault) → IsRefused text fault → ⊥
+    by_fault : (fault : RowsFault) → (¬ (IsOfTable fault) → answer ≡ fault) → IsRowsFault text fault → ⊥
     by_fault Head other refused = no_fault text table.taps Head table.table tt refused
     by_fault (Row number column) other refused = no_fault text table.taps (Row number column) table.table tt refused
     by_fault Changed other refused = refused

@@ -49,13 +49,13 @@ pub record IsBadRow (text : List ℕ) (number : ℕ) (column : Column) : Type 0 
 
 -- what a fault says of the table; that a read, a write or a growth of memory failed says nothing of
 -- it
-abbrev pub IsRefused : List ℕ → RowsFault → Type 0
-IsRefused text Head = ¬ (IsHead (first_line text))
-IsRefused text (Row number column) = IsBadRow text number column
-IsRefused text Changed = ⊥
-IsRefused text Unread = Unit {0}
-IsRefused text Write = Unit {0}
-IsRefused text NoMemory = Unit {0}
+abbrev pub IsRowsFault : List ℕ → RowsFault → Type 0
+IsRowsFault text Head = ¬ (IsHead (first_line text))
+IsRowsFault text (Row number column) = IsBadRow text number column
+IsRowsFault text Changed = ⊥
+IsRowsFault text Unread = Unit {0}
+IsRowsFault text Write = Unit {0}
+IsRowsFault text NoMemory = Unit {0}
 
 -- the fault is one of the table's own
 abbrev pub IsOfTable : RowsFault → Type 0

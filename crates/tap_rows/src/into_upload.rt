@@ -5,7 +5,7 @@ ghost use Rattle.std.specs.Prelude.{IfSome, IsSome};
 ghost use Rattle.std.specs.Prelude.{IsErrOf, OnOk, length};
 ghost use Rattle.std.specs.Io.KnownBytes.{Appends};
 ghost use Rattle.tap_parts.specs.Parts.{IsFileOf};
-ghost use Rattle.tap_rows.specs.Tables.{IsEncoded, IsOfTable, IsRefused};
+ghost use Rattle.tap_rows.specs.Tables.{IsEncoded, IsOfTable, IsRowsFault};
 ghost use Rattle.tap_rows.specs.inside.Tables.{IsBatchFault, IsEncodedAs};
 ghost use Rattle.tap_views.specs.Encoding.{AreEncodable};
 
@@ -57,7 +57,7 @@ fn write_taps<R: BufRead, W: Write>(
         (λ count. IfSome (R.remaining table.old)
         (λ text. IsEncoded text (W.contents out.old) (W.contents out.new) count)) }
     ensures refused { IfErr result
-        (λ fault. IfSome (R.remaining table.old) (λ text. IsRefused text fault)) }
+        (λ fault. IfSome (R.remaining table.old) (λ text. IsRowsFault text fault)) }
 {
     let mut line = Vec::new(alloc);
     let mut taps = Vec::with_capacity(alloc, BATCH_TAPS)?;
@@ -104,7 +104,7 @@ pub fn encode<R: BufRead, S: BufRead, W: Write>(
         (λ count. IfSome (S.remaining again.old)
         (λ text. IsEncoded text (W.contents out.old) (W.contents out.new) count)) }
     ensures refused { IfErr result (λ fault. IsOfTable fault
-        → IfSome (R.remaining table.old) (λ text. IsRefused text fault)) }
+        → IfSome (R.remaining table.old) (λ text. IsRowsFault text fault)) }
     ensures nothing { IfErr result (λ fault. IsOfTable fault → out.new ≡ out.old) }
     ensures same { IsErrOf result RowsFault.Changed → IsSome (R.remaining table.old)
         → R.remaining table.old ≡ S.remaining again.old → ⊥ }

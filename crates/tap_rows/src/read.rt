@@ -5,7 +5,7 @@ ghost use Rattle.std.specs.Prelude.{IsTrue, OnOk};
 ghost use Rattle.std.specs.Prelude.{if◌then◌else◌, length, true, false};
 ghost use Rattle.std.specs.Io.BufRead.{drop_through, ends_with_byte, first_line, strip_last};
 ghost use Rattle.std.specs.Io.BufRead.{take_through};
-ghost use Rattle.tap_rows.specs.Tables.{IsHead, IsRefused, IsTableOf};
+ghost use Rattle.tap_rows.specs.Tables.{IsHead, IsRowsFault, IsTableOf};
 ghost use Rattle.tap_rows.specs.inside.Tables.{IsHeadFault, IsNextRow};
 ghost use Rattle.tap_views.specs.Layout.{moment_limit};
 
@@ -113,7 +113,7 @@ pub fn check<R: BufRead>(alloc: Global, table: &mut R) -> Result<u64, RowsFault>
     ensures table { IfOk result
         (λ count. IfSome (R.remaining table.old) (λ text. IsTableOf text count)) }
     ensures refused { IfErr result
-        (λ fault. IfSome (R.remaining table.old) (λ text. IsRefused text fault)) }
+        (λ fault. IfSome (R.remaining table.old) (λ text. IsRowsFault text fault)) }
 {
     let mut line = Vec::new(alloc);
     read_head(table, &mut line)?;

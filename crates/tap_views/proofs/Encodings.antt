@@ -12,7 +12,8 @@ use Rattle.tap_views.specs.Layout.{num, moment_limit, Tap, IsTap, Tap1, Tap2, Is
 use Rattle.tap_views.specs.Layout.{spelling}
 use Rattle.tap_views.specs.declared.fault.LayoutFault.{LayoutFault}
 use Rattle.tap_views.specs.Encoding.{fields_of, fields_2_of, with_validator, Encodes, Encodes2}
-use Rattle.tap_views.specs.Encoding.{AreEarly, written, written_2, IsFields, IsFields2}
+use Rattle.tap_views.specs.Encoding.{AreEarly}
+use Rattle.tap_views.specs.inside.Encoding.{written, written_2, IsFields, IsFields2}
 use Rattle.tap_views.specs.declared.encoder.TapFields.{TapFields}
 use Rattle.tap_views.specs.declared.encoder.Tap2Fields.{Tap2Fields}
 

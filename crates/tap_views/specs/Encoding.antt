@@ -1,7 +1,6 @@
 -- What the encoders write, by what a reader gets back, and when they refuse.
-use Rattle.std.specs.Prelude.{◌≡◌, ℕ, ◌^◌, ◌<◌, ◌≤◌, List, length, map, take, slice_get, All}
+use Rattle.std.specs.Prelude.{◌≡◌, ℕ, ◌<◌, ◌≤◌, List, length, map, take, slice_get, All}
 use Rattle.std.specs.Prelude.{IsSomeAnd}
-use Rattle.byteorder.specs.Endian.{big_bytes}
 use Rattle.tap_views.specs.Layout.{num, moment_limit, Tap, Tap1, Tap2, IsBatchIn}
 use Rattle.tap_views.specs.declared.encoder.TapFields.{TapFields}
 use Rattle.tap_views.specs.declared.encoder.Tap2Fields.{Tap2Fields}
@@ -55,31 +54,3 @@ module _ {Fields : Type 0} (moment : Fields → ℕ) (taps : List Fields) where
   IsRefused TooMany = 4096 < length taps
   IsRefused (Moment index) = (length taps ≤ 4096) × IsFirstLate index
   IsRefused NoMemory = AreEncodable
-
--- ---- what the private functions tell each other
--- the taps that are written for these fields
-abbrev pub written : TapFields → Tap
-written fields =
-    record {
-      token = fields.token;
-      validator = big_bytes 4 fields.validator;
-      moment = big_bytes 8 fields.moment;
-    }
-
--- the tap that is written for these fields with the validator of its whole batch
-abbrev pub written_2 : ℕ → Tap2Fields → Tap
-written_2 validator fields =
-    record {
-      token = fields.token;
-      validator = big_bytes 4 validator;
-      moment = big_bytes 8 fields.moment;
-    }
-
--- what the types of the fields say
-pub record IsFields (fields : TapFields) : Type 0 where
-  pub token : length fields.token ≡ 16
-  pub validator : fields.validator < 2 ^ 32
-
--- what the type of the fields says: a token has 16 bytes
-abbrev pub IsFields2 : Tap2Fields → Type 0
-IsFields2 fields = length fields.token ≡ 16

@@ -4,8 +4,9 @@ ghost use Rattle.std.specs.Prelude.{◌≡◌, ◌≤◌, ◌++◌, ◌∷◌, [
 ghost use Rattle.std.specs.Prelude.{OnOk, flat_map};
 ghost use Rattle.byteorder.specs.Endian.{big_bytes};
 ghost use Rattle.tap_views.specs.Layout.{magic, Tap1, Tap2, spelling};
-ghost use Rattle.tap_views.specs.Encoding.{AreEarly, AreEncodable, Encodes, Encodes2, IsFields};
-ghost use Rattle.tap_views.specs.Encoding.{IsFields2, IsRefused, fields_of, written, written_2};
+ghost use Rattle.tap_views.specs.Encoding.{AreEarly, AreEncodable, Encodes, Encodes2};
+ghost use Rattle.tap_views.specs.Encoding.{IsRefused, fields_of};
+ghost use Rattle.tap_views.specs.inside.Encoding.{IsFields, IsFields2, written, written_2};
 
 use crate::layout::{
     MAX_TAPS, MOMENT_LIMIT_MS, TAP1, TAP1_HEADER_BYTES, TAP1_TAP_BYTES, TAP2, TAP2_HEADER_BYTES,

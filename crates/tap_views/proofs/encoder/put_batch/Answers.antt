@@ -4,7 +4,7 @@ use Rattle.std.specs.Prelude.{All}
 use Rattle.std.proofs.lemmas.List.Elements.{All-more}
 use Rattle.byteorder.specs.Endian.{big_bytes}
 use Rattle.tap_views.specs.Layout.{magic, Tap1, spelling}
-use Rattle.tap_views.specs.Encoding.{IsFields, written}
+use Rattle.tap_views.specs.inside.Encoding.{IsFields, written}
 use Rattle.tap_views.specs.declared.encoder.TapFields.{TapFields}
 use Rattle.tap_views.proofs.Encodings.{encodes, put_more}
 use Rattle.tap_views.proofs.encoder.put_batch.Goals as goal

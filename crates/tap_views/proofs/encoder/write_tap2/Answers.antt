@@ -2,7 +2,7 @@ use Rattle.std.proofs.Common.{◌++◌, ◌∷◌, [], length}
 use Rattle.std.proofs.lemmas.List.Elements.{All-more}
 use Rattle.byteorder.specs.Endian.{big_bytes}
 use Rattle.tap_views.specs.Layout.{magic, Tap2, spelling}
-use Rattle.tap_views.specs.Encoding.{IsFields2, written_2}
+use Rattle.tap_views.specs.inside.Encoding.{IsFields2, written_2}
 use Rattle.tap_views.proofs.Encodings.{put_more}
 use Rattle.tap_views.proofs.encoder.write_tap2.Goals as goal
 

@@ -2,7 +2,7 @@ use Rattle.std.proofs.Common.{◌≡◌, ◌++◌, ◌∷◌, [], take, length, 
 use Rattle.std.specs.Prelude.{All}
 use Rattle.byteorder.specs.Endian.{big_bytes}
 use Rattle.tap_views.specs.Layout.{magic, Tap2, spelling}
-use Rattle.tap_views.specs.Encoding.{IsFields2, written_2}
+use Rattle.tap_views.specs.inside.Encoding.{IsFields2, written_2}
 use Rattle.tap_views.proofs.encoder.write_tap2.Given as goal
 
 abbrev pub invariant-loop-tap : goal.invariant-loop-tap

@@ -1,0 +1,7 @@
+-- Keys: what private functions alone cite.
+use Rattle.std.specs.Prelude.{◌≡◌, ℕ, true, ◌==◌}
+use Rattle.std.proofs.Common.{arith}
+use Rattle.std.proofs.lemmas.Bool.Decides.{nat_tests}
+
+pub same_number : (a b : ℕ) → (a == b) ≡ true → a ≡ b
+same_number a b h = grind (arith, nat_tests)
