@@ -21,7 +21,8 @@ use Rattle.fare_texts.specs.StatementText.{answer_text}
 -- the head line
 abbrev pub head_text : List ℕ
 head_text =
-    codes "token,line,moment,validator,mode,answer,cents,window_start,window_end,ride,reason,points_at\n"
+    codes
+    "token,line,moment,validator,mode,answer,cents,window_start,window_end,ride,reason,points_at\n"
 
 -- the name of a mode by its place, or nothing for none
 abbrev pub name_or_empty : List (List ℕ) → Option ℕ → List ℕ
