@@ -3,7 +3,7 @@ use Rattle.std.specs.Prelude.{ℕ, ◌≡◌, ◌+◌, ◌-◌, ◌<◌, List, �
 use Rattle.std.proofs.Common.{sym, subst, arith}
 use Rattle.shard_book.specs.Sums.{Sums}
 use Rattle.shared_books.specs.Passes.{PassView}
-use Rattle.fare_service.specs.declared.working.Stop.{Stop}
+use Rattle.fare_service.specs.declared.service.working.Stop.{Stop}
 use Rattle.fare_service.specs.Runs.{PlacedTap, of_shard, Run, if_any, runs_below, Visit, ArePosted, AreCut}
 use Rattle.fare_service.specs.inside.Runs.{WerePosted}
 use Rattle.fare_service.specs.Shares.{Made}

@@ -8,8 +8,8 @@ use Rattle.shard_book.specs.declared.entry.Entry.{Entry}
 use Rattle.shared_books.specs.declared.turns.rule.Mark.{Mark}
 use Rattle.shared_books.specs.Marks.{mark, others}
 use Rattle.shared_books.specs.Passes.{PassView, IsFull, IsLater, Visits, seen_by}
-use Rattle.fare_service.specs.declared.working.Stop.{Stop}
-use Rattle.fare_service.specs.declared.working.Stop.TheVariants.{Memory, Full}
+use Rattle.fare_service.specs.declared.service.working.Stop.{Stop}
+use Rattle.fare_service.specs.declared.service.working.Stop.TheVariants.{Memory, Full}
 use Rattle.fare_service.specs.Shares.{own_visits, own_at}
 use Rattle.fare_service.specs.Stopping.{KnowsFull, SomeFull}
 use Rattle.fare_service.specs.inside.Stopping.{TellsFull}

@@ -15,7 +15,7 @@ use Rattle.shard_book.specs.Sums.{Sums, sums}
 use Rattle.shared_books.specs.Drawing.{AllBelow, NoneTwice, times}
 use Rattle.fare_service.specs.Closing.{IsHistoryOf}
 use Rattle.fare_service.specs.inside.Closing.{IsClosedWork}
-use Rattle.fare_service.specs.declared.share.Done.{Done}
+use Rattle.fare_service.specs.declared.service.share.Done.{Done}
 use Rattle.fare_service.specs.declared.upload_end.UploadEnd.{UploadEnd}
 use Rattle.fare_service.specs.declared.upload_end.UploadEnd.TheVariants.{Posted, Refused, Cut, Undrawn}
 use Rattle.fare_service.specs.Headline.{end_of, HasOutcome, HasRun}

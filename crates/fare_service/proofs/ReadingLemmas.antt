@@ -10,7 +10,7 @@ use Rattle.tap_views.specs.declared.fault.LayoutFault.{LayoutFault}
 use Rattle.shard_book.specs.Entry.{reply_of}
 use Rattle.shard_book.specs.Sums.{Sums}
 use Rattle.shared_books.specs.Passes.{PassView}
-use Rattle.fare_service.specs.declared.working.Stop.{Stop}
+use Rattle.fare_service.specs.declared.service.working.Stop.{Stop}
 use Rattle.fare_service.specs.Runs.{Run, Visit, placed_from, runs_below, runs_of, AreCut, entries_of, taps_posted}
 use Rattle.fare_service.specs.inside.Runs.{WerePosted}
 use Rattle.fare_service.specs.Shares.{Made, IsRefusal, IsFaultOf}

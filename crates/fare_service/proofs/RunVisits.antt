@@ -15,7 +15,7 @@ use Rattle.shard_book.specs.Entry.{IsEntryOf}
 use Rattle.shard_book.specs.Sums.{Sums, sums, add_sums}
 use Rattle.shard_book.specs.Visits.{AreEntriesOf, IsVisit}
 use Rattle.shared_books.specs.Passes.{PassView, SharedBookView, IsLater, Visits}
-use Rattle.fare_service.specs.declared.working.Stop.{Stop}
+use Rattle.fare_service.specs.declared.service.working.Stop.{Stop}
 use Rattle.fare_service.specs.ServiceView.{ServiceView, shards_of}
 use Rattle.fare_service.specs.inside.ServiceView.{IsService, IsBookOf}
 use Rattle.fare_service.specs.Runs.{PlacedTap, placed_from, of_shard, Run, if_any, Visit, IsEntered, ArePosted, AreCut, entries_to}

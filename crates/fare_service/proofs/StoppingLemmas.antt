@@ -6,7 +6,7 @@ use Rattle.std.specs.Option.{option_to_list}
 use Rattle.shard_book.specs.Sums.{Sums}
 use Rattle.shared_books.specs.Drawing.{DrawerView}
 use Rattle.shared_books.specs.Passes.{PassView}
-use Rattle.fare_service.specs.declared.share.Done.{Done}
+use Rattle.fare_service.specs.declared.service.share.Done.{Done}
 use Rattle.fare_service.specs.ServiceView.{ServiceView, shards_of}
 use Rattle.fare_service.specs.ShareView.{ShareView}
 use Rattle.fare_service.specs.Plain.{WasWhole}

@@ -10,7 +10,7 @@ use Rattle.shard_book.specs.Sums.{Sums}
 use Rattle.shared_books.specs.Passes.{PassView}
 use Rattle.fare_service.specs.declared.upload_end.UploadEnd.{UploadEnd}
 use Rattle.fare_service.specs.declared.upload_end.UploadEnd.TheVariants.{Cut}
-use Rattle.fare_service.specs.declared.working.Stop.{Stop}
+use Rattle.fare_service.specs.declared.service.working.Stop.{Stop}
 use Rattle.fare_service.specs.Ends.{end_by}
 use Rattle.fare_service.specs.ServiceView.{ServiceView, shards_of}
 use Rattle.fare_service.specs.inside.ServiceView.{upload_at}

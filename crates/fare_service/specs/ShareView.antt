@@ -3,7 +3,7 @@ use Rattle.std.specs.Prelude.{List}
 use Rattle.shard_book.specs.Sums.{Sums}
 use Rattle.shared_books.specs.Drawing.{DrawerView}
 use Rattle.shared_books.specs.Passes.{PassView}
-use Rattle.fare_service.specs.declared.share.Done.{Done}
+use Rattle.fare_service.specs.declared.service.share.Done.{Done}
 
 -- a share: its drawer, its pass to each shard's book, the totals of its replies, and the uploads
 -- that it drew with their ends

@@ -14,7 +14,7 @@ use Rattle.shared_books.specs.Passes.{SharedBookView, PassView}
 use Rattle.fare_service.specs.declared.upload_end.UploadEnd.{UploadEnd}
 use Rattle.fare_service.specs.declared.upload_end.UploadEnd.TheVariants.{Posted, Refused, Cut}
 use Rattle.fare_service.specs.declared.upload_end.UploadEnd.TheVariants.{Undrawn}
-use Rattle.fare_service.specs.declared.share.Done.{Done}
+use Rattle.fare_service.specs.declared.service.share.Done.{Done}
 use Rattle.fare_service.specs.Claims.{claims_of}
 use Rattle.fare_service.specs.ServiceView.{ServiceView, shards_of}
 use Rattle.fare_service.specs.ShareView.{ShareView}

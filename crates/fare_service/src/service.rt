@@ -1,14 +1,21 @@
 //! A service: uploads that workers draw, and a shared book for each shard.
 
 use crate::faults::OpenFault;
-use crate::opening::open_books;
-use crate::share::{Posting, Share};
+use crate::service::opening::open_books;
+use crate::service::share::{Posting, Share};
 use fare_table::{FareTable, NoMemory};
 use shard_book::{TokenKeys, Totals};
 use shared_books::{Draw, SharedBook};
 use std::alloc::Global;
 use std::marker::Model;
 use std::random::RandomSource;
+
+pub(crate) mod adding;
+pub(crate) mod gathering;
+pub(crate) mod opening;
+pub(crate) mod running;
+pub(crate) mod share;
+pub(crate) mod working;
 
 /// The most shards of a service.
 const MOST_SHARDS: u32 = 64;

@@ -6,7 +6,7 @@ use Rattle.shared_books.specs.declared.turns.rule.Mark.{Mark}
 use Rattle.shared_books.specs.Drawing.{Drawing, DrawerView}
 use Rattle.shared_books.specs.Marks.{visits_of, merged, Apart, Begins}
 use Rattle.shared_books.specs.Passes.{SharedBookView, PassView}
-use Rattle.fare_service.specs.declared.share.Done.{Done}
+use Rattle.fare_service.specs.declared.service.share.Done.{Done}
 use Rattle.fare_service.specs.declared.upload_end.UploadEnd.{UploadEnd}
 use Rattle.fare_service.specs.Claims.{claims_at}
 use Rattle.fare_service.specs.Faults.{visits_held}

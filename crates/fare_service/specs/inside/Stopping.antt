@@ -5,8 +5,8 @@ use Rattle.shared_books.specs.Passes.{PassView}
 use Rattle.fare_service.specs.ServiceView.{ServiceView}
 use Rattle.fare_service.specs.ShareView.{ShareView}
 use Rattle.fare_service.specs.Shares.{own_at, WentOn}
-use Rattle.fare_service.specs.declared.working.Stop.{Stop}
-use Rattle.fare_service.specs.declared.working.Stop.TheVariants.{Memory, Full}
+use Rattle.fare_service.specs.declared.service.working.Stop.{Stop}
+use Rattle.fare_service.specs.declared.service.working.Stop.TheVariants.{Memory, Full}
 use Rattle.fare_service.specs.Stopping.{SomeFull, StoppedWell}
 
 -- What was known of a full shard is still known. Where a full shard stopped the work, it is known

@@ -9,7 +9,7 @@ use Rattle.shard_book.specs.Entry.{reply_of}
 use Rattle.shard_book.specs.Sums.{sums_of, sums_of_replies, add_sums}
 use Rattle.shard_book.specs.Visits.{IsVisit, limits_by}
 use Rattle.shared_books.specs.Passes.{PassView}
-use Rattle.fare_service.specs.declared.working.Stop.TheVariants.{Memory}
+use Rattle.fare_service.specs.declared.service.working.Stop.TheVariants.{Memory}
 use Rattle.fare_service.specs.ServiceView.{shards_of}
 use Rattle.fare_service.proofs.RunVisits.{same_run, run_empty, run_refused, run_full, run_visited, visit_length, book_at}
 use Rattle.fare_service.proofs.VisitLemmas.{taps_after}

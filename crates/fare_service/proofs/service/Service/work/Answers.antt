@@ -3,7 +3,7 @@ use Rattle.std.specs.Prelude.{OnOk, Result}
 use Rattle.std.specs.Result.{is_err}
 use Rattle.std.proofs.lemmas.List.{length-map}
 use Rattle.shard_book.specs.Sums.{sums_of}
-use Rattle.fare_service.specs.declared.share.Posting.{Posting}
+use Rattle.fare_service.specs.declared.service.share.Posting.{Posting}
 use Rattle.fare_service.specs.ShareView.{ShareView}
 use Rattle.fare_service.specs.Shares.{IsShareOf, WentOn}
 use Rattle.fare_service.specs.Stopping.{StoppedWell}

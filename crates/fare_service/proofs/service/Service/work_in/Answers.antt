@@ -3,8 +3,8 @@ use Rattle.std.proofs.lemmas.List.{map-append}
 use Rattle.std.proofs.lemmas.List.Elements.{All-nil, All-cons, All-append}
 use Rattle.std.specs.Vec.Iter.{into_iter_items}
 use Rattle.std.specs.declared.thread.PromisedHandle.{PromisedHandle}
-use Rattle.fare_service.specs.declared.running.OfShare.{OfShare}
-use Rattle.fare_service.specs.declared.share.Share.{Share}
+use Rattle.fare_service.specs.declared.service.running.OfShare.{OfShare}
+use Rattle.fare_service.specs.declared.service.share.Share.{Share}
 use Rattle.std.specs.List.{AllZip}
 use Rattle.fare_service.specs.ShareView.{ShareView}
 use Rattle.fare_service.specs.inside.Stopping.{WorkedOn}

@@ -1,0 +1,271 @@
+//! Gathering shares: what each worker did is joined, and the books are closed.
+
+ghost use Rattle.std.specs.Prelude.{◌≡◌, ℕ, ◌+◌, ◌<◌, ◌≤◌, List, All, IfOk, IfErr, OnOk, length};
+ghost use Rattle.std.specs.Prelude.{map, slice_get, Some, [], ◌∷◌, replicate, vec_capacity};
+ghost use Rattle.std.specs.List.{flat_map};
+ghost use Rattle.shard_book.specs.Sums.{sums_of};
+ghost use Rattle.shared_books.specs.Passes.{PassView};
+ghost use Rattle.fare_service.specs.Claims.{claims_at, HaveAllClaims};
+ghost use Rattle.fare_service.specs.Closing.{IsFirst};
+ghost use Rattle.fare_service.specs.inside.Closing.{AreClosed, AreUnseen, IsClosedWork};
+ghost use Rattle.fare_service.specs.inside.Closing.{IsFirstMissing, IsFirstUnseen, IsMissing};
+ghost use Rattle.fare_service.specs.inside.Closing.{LacksClaims, NoneMissing};
+ghost use Rattle.fare_service.specs.inside.Joining.{AreJoinedAt, Belongs, IsJoinedOf, told};
+ghost use Rattle.fare_service.specs.inside.Joining.{told_all};
+ghost use Rattle.fare_service.specs.Faults.{IsForMemory, IsGatherFault};
+ghost use Rattle.fare_service.specs.Shares.{books_of, own_at};
+
+use crate::service::adding::{added, entries_in};
+use crate::faults::GatherFault;
+use crate::outcome::Outcome;
+use crate::service::Service;
+use crate::service::share::{Done, Posting, Share};
+use crate::upload_end::UploadEnd;
+use fare_table::NoMemory;
+use shard_book::{ShardBook, Totals, laws};
+use shared_books::{Draw, Drawer, Pass, SharedBook};
+use std::alloc::Global;
+
+/// Writes down how the uploads ended.
+fn mark_ends(ends: &mut Vec<UploadEnd>, done: &[Done])
+    requires { All (λ d. d.upload < length ends.old.items) done.now }
+    ensures ends { ends.new.items ≡ told ends.old.items done.now }
+    ensures number { length ends.new.items ≡ length ends.old.items }
+{
+    for one in done {
+        ends[one.upload as usize] = one.end;
+    }
+}
+
+/// How each upload ended, as the shares tell.
+fn ends_of(alloc: Global, uploads: usize, shares: &[Share]) -> Result<Vec<UploadEnd>, NoMemory>
+    requires { All (λ share. All (λ d. d.upload < uploads) share.done) shares.now }
+    ensures ends { IfOk result
+        (λ r. r.items ≡ told_all (replicate uploads UploadEnd.Undrawn) shares.now) }
+    ensures number { IfOk result (λ r. length r.items ≡ uploads) }
+{
+    let mut ends = vec![in alloc; UploadEnd::Undrawn; uploads]?;
+    for share in shares {
+        mark_ends(&mut ends, share.done.as_slice());
+    }
+    Ok(ends)
+}
+
+/// The totals of each share's replies.
+fn workers_of(alloc: Global, shares: &[Share]) -> Result<Vec<Totals>, NoMemory>
+    ensures { IfOk result (λ r. map sums_of r.items ≡ map (λ share. share.totals) shares.now) }
+{
+    let mut workers = Vec::new(alloc);
+    for share in shares {
+        workers.push(share.sums())?;
+    }
+    Ok(workers)
+}
+
+/// Joins the passes of another share, shard by shard.
+fn join_passes(books: &[SharedBook], into: &mut Vec<Pass>, other: Vec<Pass>)
+    requires into { books_of into.old.items ≡ books.now }
+    requires other { books_of other.items ≡ books.now }
+    ensures books { books_of into.new.items ≡ books.now }
+    ensures joined { (shard : ℕ) → AreJoinedAt shard into.old.items other.items into.new.items }
+    ensures claims { (shard : ℕ) → claims_at shard into.new.items
+        ≡ claims_at shard into.old.items + claims_at shard other.items }
+{
+    let mut shard = 0;
+    for pass in other {
+        books[shard].join(&mut into[shard], pass);
+        shard += 1;
+    }
+}
+
+/// Joins the other shares into the first.
+fn join_shares(
+    draw: &Draw,
+    books: &[SharedBook],
+    first: Share,
+    others: Vec<Share>,
+) -> (Drawer, Vec<Pass>)
+    requires first { Belongs draw.now books.now first }
+    requires others { All (Belongs draw.now books.now) others.items }
+    ensures { IsJoinedOf draw.now books.now (length others.items + 1)
+        (first ∷ others.items) result.0 result.1.items }
+{
+    let Share {
+        mut drawer,
+        posting,
+        done: _,
+    } = first;
+    let Posting {
+        mut passes,
+        totals: _,
+    } = posting;
+    for share in others {
+        let Share {
+            drawer: other,
+            posting,
+            done: _,
+        } = share;
+        draw.join(&mut drawer, other);
+        join_passes(books, &mut passes, posting.passes);
+    }
+    (drawer, passes)
+}
+
+/// Closes each shard's book with its pass, by rising shard.
+fn close_all(
+    books: Vec<SharedBook>,
+    passes: Vec<Pass>,
+    closed: &mut Vec<ShardBook>,
+) -> Result<(), GatherFault>
+    requires own { books_of passes.items ≡ books.items }
+    requires few { length books.items ≤ 64 }
+    requires empty { closed.old.items ≡ [] }
+    requires room { length books.items ≤ vec_capacity closed.old }
+    ensures ok { OnOk result (AreClosed passes.items closed.new.items) }
+    ensures number { OnOk result (length closed.new.items ≡ length books.items) }
+    ensures missing { IfErr result (IsMissing (length books.items) passes.items) }
+    ensures claims { IfErr result (LacksClaims (length books.items) passes.items) }
+    ensures first { IfErr result (IsFirstMissing passes.items closed.new.items) }
+{
+    let mut passes = passes.into_iter();
+    let mut shard = 0;
+    for book in books {
+        let Some(pass) = passes.next() else {
+            unreachable!()
+        };
+        match book.close(pass) {
+            Ok(book) => {
+                let _entries = book.len();
+                laws::windows(&book);
+                closed.push_reserved(book);
+            }
+            Err(missing) => {
+                return Err(GatherFault::Missing {
+                    shard,
+                    held: missing.held,
+                    kept: missing.kept,
+                });
+            }
+        }
+        shard += 1;
+    }
+    Ok(())
+}
+
+/// Closes each shard's book where there is no share, by rising shard.
+fn close_unseen(books: Vec<SharedBook>, closed: &mut Vec<ShardBook>) -> Result<(), GatherFault>
+    requires few { length books.items ≤ 64 }
+    requires empty { closed.old.items ≡ [] }
+    requires room { length books.items ≤ vec_capacity closed.old }
+    ensures ok { OnOk result (AreUnseen books.items closed.new.items) }
+    ensures number { OnOk result (length closed.new.items ≡ length books.items) }
+    ensures missing { IfErr result (NoneMissing (length books.items)) }
+    ensures first { IfErr result (IsFirstUnseen books.items closed.new.items) }
+{
+    let mut shard = 0;
+    for book in books {
+        match book.close_unseen() {
+            Ok(book) => {
+                let _entries = book.len();
+                laws::windows(&book);
+                closed.push_reserved(book);
+            }
+            Err(missing) => {
+                return Err(GatherFault::Missing {
+                    shard,
+                    held: missing.held,
+                    kept: missing.kept,
+                });
+            }
+        }
+        shard += 1;
+    }
+    Ok(())
+}
+
+/// Closes all books and the drawing, with what the shares hold.
+fn close_with(
+    draw: Draw,
+    books: Vec<SharedBook>,
+    mut shares: Vec<Share>,
+    closed: &mut Vec<ShardBook>,
+) -> Result<(), GatherFault>
+    requires shares { All (Belongs draw books.items) shares.items }
+    requires few { length books.items ≤ 64 }
+    requires empty { closed.old.items ≡ [] }
+    requires room { length books.items ≤ vec_capacity closed.old }
+    ensures ok { OnOk result (IsClosedWork books.items shares.items closed.new.items) }
+    ensures fault { IfErr result (IsGatherFault (length books.items) shares.items) }
+    ensures first { IfErr result (IsFirst books.items draw.numbers shares.items) }
+    ensures claims { IfErr result (λ _. HaveAllClaims (length books.items) shares.items → ⊥) }
+{
+    if shares.is_empty() {
+        if let Err(fault) = close_unseen(books, closed) {
+            return Err(fault);
+        }
+        return match draw.finish_unseen() {
+            Ok(()) => Ok(()),
+            Err(missing) => Err(GatherFault::Drawn {
+                held: missing.held,
+                drawn: missing.drawn,
+            }),
+        };
+    }
+    let first = shares.remove(0);
+    let (drawer, passes) = join_shares(&draw, books.as_slice(), first, shares);
+    if let Err(fault) = close_all(books, passes, closed) {
+        return Err(fault);
+    }
+    match draw.finish(drawer) {
+        Ok(_) => Ok(()),
+        Err(missing) => Err(GatherFault::Drawn {
+            held: missing.held,
+            drawn: missing.drawn,
+        }),
+    }
+}
+
+impl<'a> Service<'a> {
+    ghost use Rattle.fare_service.specs.ServiceView.{shards_of};
+    ghost use Rattle.fare_service.specs.Headline.{HasOutcome, ToldUndrawn};
+    ghost use Rattle.fare_service.specs.Shares.{IsShareOf};
+    ghost use Rattle.fare_service.specs.Stopping.{FullIsMade};
+
+    /// Gathers shares: joins what their workers did, closes the shards' books, and gives these with
+    /// the end of each upload and the totals of each share, in the order of the shares. All memory
+    /// is taken first; then missing visits are told, of the first shard that misses some, and then
+    /// missing uploads. Shares that have all claims together miss nothing. On a fault service and
+    /// shares are dropped.
+    pub fn gather(self, alloc: Global, shares: Vec<Share>) -> Result<Outcome, GatherFault>
+        requires { All (IsShareOf self) shares.items }
+        ensures headline { IfOk result (HasOutcome self.entry shares.items) }
+        ensures undrawn { IfOk result (ToldUndrawn shares.items) }
+        ensures full { IfOk result (λ _. FullIsMade shares.items) }
+        ensures fault { IfErr result (IsGatherFault (shards_of self.entry) shares.items) }
+        ensures first { IfErr result
+            (IsFirst self.entry.books (length self.entry.uploads) shares.items) }
+        ensures claims { HaveAllClaims (shards_of self.entry) shares.items
+            → IfErr result IsForMemory }
+    {
+        let mut closed = Vec::with_capacity(alloc, self.books.len())?;
+        let ends = ends_of(alloc, self.uploads.len(), shares.as_slice())?;
+        let workers = workers_of(alloc, shares.as_slice())?;
+        let Service {
+            table: _,
+            draw,
+            books,
+            uploads: _,
+        } = self;
+        close_with(draw, books, shares, &mut closed)?;
+        // the books have few entries, so that the sums of the workers' totals fit; they are those
+        // of the books
+        let _entries = entries_in(closed.as_slice());
+        let totals = added(workers.as_slice());
+        Ok(Outcome {
+            books: closed,
+            ends,
+            workers,
+            totals,
+        })
+    }
+}

@@ -1,0 +1,159 @@
+//! A run: a thread for each worker, and the gathering of their shares.
+
+ghost use Rattle.std.specs.Prelude.{◌≡◌, ◌<◌, ◌≤◌, All, IfOk, IfErr, length};
+ghost use Rattle.std.specs.List.{AllZip};
+ghost use Rattle.fare_service.specs.Claims.{HasAllClaims, HaveAllClaims};
+ghost use Rattle.fare_service.specs.Faults.{IsRunFault, MissesNothing};
+ghost use Rattle.fare_service.specs.ServiceView.{shards_of};
+ghost use Rattle.fare_service.specs.Headline.{HasRun};
+ghost use Rattle.fare_service.specs.Refusals.{WasNotGathered};
+ghost use Rattle.fare_service.specs.Shares.{IsFresh, IsShareOf};
+ghost use Rattle.fare_service.specs.Stopping.{HaveStopped};
+ghost use Rattle.fare_service.specs.inside.Stopping.{WorkedOn};
+
+use crate::faults::RunFault;
+use crate::outcome::Outcome;
+use crate::service::Service;
+use crate::service::share::Share;
+use crate::service::working::Gate;
+use fare_table::NoMemory;
+use std::alloc::{AllocError, Global};
+use std::marker::Sync;
+use std::snapshot::Snapshot;
+use std::sync::Wait;
+use std::thread;
+use std::thread::{Promise, Scope, Threads};
+
+/// The most workers of a run.
+const MOST_WORKERS: u32 = 16;
+
+/// The service that a thread gives a share of, and the share that it began with.
+#[derive(Drop)]
+struct OfShare<'s, 'a> {
+    service: &'s Service<'a>,
+    began: Snapshot<Share>,
+}
+
+impl<'s, 'a> Promise<Share> for OfShare<'s, 'a> {
+    ghost kept_by = { λ p share. IsShareOf p.service.now share
+        × WorkedOn p.service.now p.began.value share };
+}
+
+impl<'a> Service<'a> {
+    /// A share for each worker, of which the given one is the first.
+    fn share_out(&self, alloc: Global, first: Share, workers: u32) -> Result<Vec<Share>, NoMemory>
+        requires first { IsShareOf self.now first }
+        requires some { 0 < workers }
+        requires few { workers ≤ 16 }
+        ensures shares { IfOk result (λ r. All (IsShareOf self.now) r.items) }
+        ensures number { IfOk result (λ r. length r.items ≡ workers) }
+        ensures fresh { IfOk result (λ r. IsFresh first → All IsFresh r.items) }
+        ensures claims { IfOk result (λ r. HasAllClaims (shards_of self.now) first
+            → HaveAllClaims (shards_of self.now) r.items) }
+    {
+        let mut first = first;
+        let mut shares = Vec::new(alloc);
+        for _ in 1..workers {
+            let share = self.share(alloc, &mut first)?;
+            shares.push(share)?;
+        }
+        shares.insert(0, first)?;
+        Ok(shares)
+    }
+
+    /// Starts a thread for each share, and joins them. Where one is refused, those that were
+    /// started end with the scope.
+    fn work_in<'s, E, R: Threads + Wait + Sync, G: Gate + Sync>(
+        &'s self,
+        scope: &Scope<'s, E>,
+        rt: &'s R,
+        alloc: Global,
+        shares: Vec<Share>,
+        gate: &'s G,
+    ) -> Result<Vec<Share>, NoMemory>
+        requires { All (IsShareOf self.now) shares.items }
+        ensures shares { IfOk result (λ r. All (IsShareOf self.now) r.items) }
+        ensures number { IfOk result (λ r. length r.items ≡ length shares.items) }
+        ensures worked { IfOk result (λ r. AllZip (WorkedOn self.now) shares.items r.items) }
+    {
+        let mut threads = Vec::new(alloc);
+        for share in shares {
+            let began = Snapshot::of(&share);
+            let started = scope.spawn_with(
+                OfShare {
+                    service: self,
+                    began,
+                },
+                move || -> Share
+                    requires { IsShareOf self.now share }
+                    ensures { IsShareOf self.entry.now result
+                        × WorkedOn self.entry.now share result }
+                { self.work(rt, alloc, share, gate) },
+            );
+            let Ok(thread) = started else {
+                return Err(NoMemory);
+            };
+            threads.push(thread)?;
+        }
+        let Ok(worked) = thread::join_promised(rt, threads) else {
+            return Err(NoMemory);
+        };
+        Ok(worked)
+    }
+
+    /// Works with each share, in a thread of its own.
+    fn work_all<R: Threads + Wait + Sync, G: Gate + Sync>(
+        &self,
+        rt: &R,
+        alloc: Global,
+        shares: Vec<Share>,
+        gate: &G,
+    ) -> Result<Vec<Share>, NoMemory>
+        requires { All (IsShareOf self.now) shares.items }
+        ensures shares { IfOk result (λ r. All (IsShareOf self.now) r.items) }
+        ensures number { IfOk result (λ r. length r.items ≡ length shares.items) }
+        ensures worked { IfOk result (λ r. AllZip (WorkedOn self.now) shares.items r.items) }
+    {
+        let worked = thread::scope(
+            thread::scope_env(),
+            rt,
+            |scope| -> Result<Vec<Share>, NoMemory>
+                requires { All (IsShareOf self.now) shares.items }
+                ensures { IfOk result (λ r. All (IsShareOf self.entry.now) r.items)
+                    × IfOk result (λ r. length r.items ≡ length shares.items)
+                    × IfOk result
+                    (λ r. AllZip (WorkedOn self.entry.now) shares.items r.items) }
+            { self.work_in(scope, rt, alloc, shares, gate) },
+        )?;
+        Ok(worked)
+    }
+
+    /// Runs the service with so many workers, 1 to 16, each in a thread of its own, and gathers
+    /// their shares. The given share is the first worker's. If it has all claims, nothing is
+    /// missing.
+    pub fn run<R: Threads + Wait + Sync, G: Gate + Sync>(
+        self,
+        rt: &R,
+        alloc: Global,
+        share: Share,
+        workers: u32,
+        gate: &G,
+    ) -> Result<Outcome, RunFault>
+        requires { IsShareOf self share }
+        ensures headline { IfOk result
+            (HasRun self.entry.table (shards_of self.entry) self.entry.uploads workers) }
+        ensures stopped { IfOk result (λ outcome. IsFresh share → HaveStopped workers outcome) }
+        ensures fault { IfErr result (IsRunFault workers) }
+        ensures gathered { IfErr result (WasNotGathered self.entry workers) }
+        ensures claims { HasAllClaims (shards_of self.entry) share
+            → IfErr result MissesNothing }
+    {
+        if workers == 0 || workers > MOST_WORKERS {
+            return Err(RunFault::Workers);
+        }
+        let shares = self.share_out(alloc, share, workers)?;
+        let shares = self.work_all(rt, alloc, shares, gate)?;
+        let outcome = self.gather(alloc, shares)?;
+        Ok(outcome)
+    }
+}

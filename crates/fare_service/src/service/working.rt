@@ -1,0 +1,393 @@
+//! The work of one thread: it draws uploads and posts their batches, run by run.
+
+ghost use Rattle.std.specs.Prelude.{◌≡◌, ◌⊎◌, ℕ, ◌+◌, ◌*◌, ◌^◌, ◌<◌, ◌≤◌, List, length, OnOk, IfOk};
+ghost use Rattle.std.specs.Prelude.{IfNone, IfSome, is_ok, is_some, map, true, false, ◌++◌, ◌∷◌};
+ghost use Rattle.std.specs.Prelude.{[]};
+ghost use Rattle.shard_book.specs.Sums.{sums_of, sums_of_replies, add_sums};
+ghost use Rattle.fare_service.specs.Ends.{end_by};
+
+use crate::service::Service;
+use crate::service::share::{Done, Posting, Share};
+use crate::upload_end::UploadEnd;
+use fare_table::{Clock, NoMemory};
+use shard_book::{Ends, Replies, RunEnd, Tally, Totals};
+use shared_books::{Drawer, Full};
+use std::alloc::Global;
+use std::sync::Wait;
+use tap_views::{Batch, Cut, LayoutFault, batches};
+
+/// Where workers tell that they begin an upload and that they are done with it.
+pub trait Gate {
+    ghost use Rattle.std.specs.Prelude.{ℕ, ◌≡◌};
+
+    /// What shows that an upload was begun. A worker cannot post the upload without it, nor let it
+    /// go: only `before` gives it, and only `after` takes it.
+    type Begun;
+
+    // The upload that was begun.
+    ghost begins: { Self.Begun → ℕ };
+
+    /// The upload was drawn, and nothing of it is posted yet.
+    fn before(&self, upload: u32) -> Self::Begun
+        ensures { begins result ≡ upload };
+
+    /// Nothing more of the upload that was begun will be posted.
+    fn after(&self, begun: Self::Begun);
+}
+
+/// What a worker makes once: its clock, and the buffers that it keeps from run to run.
+#[derive(Drop)]
+pub(crate) struct RunBuffers {
+    pub(crate) clock: Clock,
+    pub(crate) replies: Replies,
+    pub(crate) ends: Ends,
+}
+
+/// What a worker makes once: a cut that it fills for each batch, and what it keeps from run to run.
+#[derive(Drop)]
+pub(crate) struct Buffers {
+    pub(crate) cut: Cut,
+    pub(crate) run: RunBuffers,
+}
+
+/// Why an upload ends before its last run.
+#[derive(Clone, Copy, Debug, PartialEq, Eq)]
+pub(crate) enum Stop {
+    /// Memory was refused.
+    Memory,
+    /// A shard takes no more visits.
+    Full,
+}
+
+impl From<NoMemory> for Stop {
+    ghost use Rattle.std.specs.Prelude.{◌≡◌};
+    ghost use Rattle.fare_service.specs.declared.service.working.Stop.TheVariants.{Memory as ForMemory};
+
+    ghost from_gives = { λ _ stop. stop ≡ ForMemory };
+
+    fn from(_: NoMemory) -> Self {
+        Stop::Memory
+    }
+}
+
+impl From<Full> for Stop {
+    ghost use Rattle.std.specs.Prelude.{◌≡◌};
+    ghost use Rattle.fare_service.specs.declared.service.working.Stop.TheVariants.{Full as ForFull};
+
+    ghost from_gives = { λ _ stop. stop ≡ ForFull };
+
+    fn from(_: Full) -> Self {
+        Stop::Full
+    }
+}
+
+/// Counts the replies.
+fn count(totals: &mut Totals, replies: &Replies)
+    requires { totals.old.taps + length replies.now.items ≤ 2 ^ 95 }
+    ensures { sums_of totals.new
+        ≡ add_sums (sums_of totals.old) (sums_of_replies replies.now.items) }
+{
+    let mut tally = Tally::new();
+    for place in 0..replies.len() {
+        tally.add(replies.get(place));
+    }
+    totals.add_all(&tally.totals());
+}
+
+/// The end of an upload whose batches before its fault, if it has one, were posted whole.
+fn end_of(taps: u64, found: Option<(u64, LayoutFault)>) -> UploadEnd
+    ensures { result ≡ end_by taps found }
+{
+    match found {
+        None => UploadEnd::Posted { taps },
+        Some((offset, fault)) => UploadEnd::Refused {
+            taps,
+            offset,
+            fault,
+        },
+    }
+}
+
+/// How many bytes the file has.
+fn bytes_in(file: &[u8]) -> usize
+    ensures { result ≡ length file.now }
+{
+    file.len()
+}
+
+impl<'a> Service<'a> {
+    ghost use Rattle.fare_service.specs.ServiceView.{shards_of};
+    ghost use Rattle.tap_views.specs.Cut.{IsCut};
+    ghost use Rattle.tap_views.specs.Layout.{Tap};
+    ghost use Rattle.tap_views.specs.Files.{IsFile};
+    ghost use Rattle.fare_service.specs.Runs.{Visit, if_any, of_shard, placed_from, runs_below};
+    ghost use Rattle.fare_service.specs.Runs.{runs_of};
+    ghost use Rattle.fare_service.specs.inside.Runs.{WerePosted};
+    ghost use Rattle.fare_service.specs.Shares.{Made, books_of, IsFaultOf, IsShareOf, IsWorked};
+    ghost use Rattle.fare_service.specs.Shares.{WentOn};
+    ghost use Rattle.fare_service.specs.inside.Shares.{worked};
+    ghost use Rattle.fare_service.specs.Plain.{WasWhole};
+    ghost use Rattle.fare_service.specs.Stopping.{SomeFull, StoppedWell, WasCut};
+    ghost use Rattle.fare_service.specs.inside.Stopping.{TellsFull, TellsMemory};
+
+    /// Posts a run of the batch that was cut, if it has a tap. Memory is taken, and the limits of
+    /// windows are made, before the turn.
+    fn post_run<'b, R: Wait>(
+        &self,
+        rt: &R,
+        posting: &mut Posting,
+        buffers: &mut RunBuffers,
+        cut: &'b Cut,
+        batch: &'b Batch<'_>,
+        shard: u32,
+    ) -> Result<(), Stop>
+        requires shard { shard < shards_of self.now }
+        requires cut { IsCut batch.now cut.now }
+        requires shards { length cut.now ≡ shards_of self.now }
+        requires passes { books_of posting.old.passes.items ≡ self.now.books }
+        requires clock { buffers.old.clock ≡ self.now.table.zone }
+        requires room { posting.old.totals.taps + 4096 ≤ 2 ^ 95 }
+        ensures made { (place : ℕ) → (more : List Visit)
+            × Made (shards_of self.now) posting.old.passes.items posting.new.passes.items
+            (sums_of posting.old.totals) (sums_of posting.new.totals) more
+            × WerePosted (if_any shard
+            (of_shard shard (shards_of self.now) (placed_from place batch.now)))
+            (is_ok result) more }
+        ensures clock { buffers.new.clock ≡ buffers.old.clock }
+        ensures few { posting.new.totals.taps ≤ posting.old.totals.taps + 4096 }
+        ensures full { TellsFull result posting.old.passes.items posting.new.passes.items }
+        ensures memory { TellsMemory shard result posting.old.passes.items
+            posting.new.passes.items }
+    {
+        let run = cut.run(batch, shard);
+        let len = run.len();
+        if len == 0 {
+            return Ok(());
+        }
+        buffers.replies.clear();
+        buffers.replies.reserve(len)?;
+        buffers.ends.fill(&buffers.clock, &run)?;
+        let visit = self.books[shard as usize].visit(
+            rt,
+            &mut posting.passes[shard as usize],
+            &run,
+            &buffers.ends,
+            &mut buffers.replies,
+        )?;
+        count(&mut posting.totals, &buffers.replies);
+        match visit.how {
+            RunEnd::Whole => Ok(()),
+            RunEnd::Cut { posted: _ } => Err(Stop::Memory),
+        }
+    }
+
+    /// Posts the runs of a batch, by rising shard.
+    fn post_batch<R: Wait>(
+        &self,
+        rt: &R,
+        posting: &mut Posting,
+        buffers: &mut Buffers,
+        batch: &Batch<'_>,
+    ) -> Result<(), Stop>
+        requires passes { books_of posting.old.passes.items ≡ self.now.books }
+        requires clock { buffers.old.run.clock ≡ self.now.table.zone }
+        requires cut { length buffers.old.cut ≡ shards_of self.now }
+        requires room { posting.old.totals.taps + 2 ^ 18 ≤ 2 ^ 95 }
+        ensures made { (place : ℕ) → (more : List Visit)
+            × Made (shards_of self.now) posting.old.passes.items posting.new.passes.items
+            (sums_of posting.old.totals) (sums_of posting.new.totals) more
+            × WerePosted (runs_below (shards_of self.now) (shards_of self.now)
+            (placed_from place batch.now)) (is_ok result) more }
+        ensures clock { buffers.new.run.clock ≡ buffers.old.run.clock }
+        ensures cut { length buffers.new.cut ≡ length buffers.old.cut }
+        ensures full { TellsFull result posting.old.passes.items posting.new.passes.items }
+    {
+        buffers.cut.fill(batch);
+        for shard in 0..self.shards() {
+            self.post_run(rt, posting, &mut buffers.run, &buffers.cut, &*batch, shard)?;
+        }
+        Ok(())
+    }
+
+    /// Posts the batches of an upload before its first layout fault, and answers that fault with
+    /// the offset of its batch.
+    fn post_batches<R: Wait>(
+        &self,
+        rt: &R,
+        posting: &mut Posting,
+        buffers: &mut Buffers,
+        file: &[u8],
+    ) -> Result<Option<(u64, LayoutFault)>, Stop>
+        requires passes { books_of posting.old.passes.items ≡ self.now.books }
+        requires clock { buffers.old.run.clock ≡ self.now.table.zone }
+        requires cut { length buffers.old.cut ≡ shards_of self.now }
+        requires room { posting.old.totals.taps + 2 ^ 60 ≤ 2 ^ 94 }
+        ensures made { (batches : List (List Tap)) × (rest : List ℕ) × IsFile file.now batches rest
+            × ((more : List Visit) × Made
+            (shards_of self.now) posting.old.passes.items posting.new.passes.items
+            (sums_of posting.old.totals) (sums_of posting.new.totals) more
+            × WerePosted (runs_of (shards_of self.now) 0 batches) (is_ok result) more)
+            × IfOk result (IsFaultOf file.now rest) }
+        ensures clock { buffers.new.run.clock ≡ buffers.old.run.clock }
+        ensures cut { length buffers.new.cut ≡ length buffers.old.cut }
+        ensures few { posting.new.totals.taps ≤ posting.old.totals.taps + 2 ^ 60 }
+        ensures full { TellsFull result posting.old.passes.items posting.new.passes.items }
+    {
+        // a file has fewer than 2^64 bytes, so that the counts of its taps fit
+        let _bytes = bytes_in(file);
+        for item in batches(file) {
+            match item {
+                Ok(batch) => self.post_batch(rt, posting, buffers, &batch)?,
+                Err(fault) => return Ok(Some(fault)),
+            }
+        }
+        Ok(None)
+    }
+
+    /// Posts an upload that was begun at the gate. Tells how it ended, and whether the worker may
+    /// go on.
+    fn post_upload<R: Wait, G: Gate>(
+        &self,
+        rt: &R,
+        posting: &mut Posting,
+        buffers: &mut Buffers,
+        upload: u32,
+        _begun: &G::Begun,
+    ) -> (UploadEnd, bool)
+        requires begun { G.begins _begun.now ≡ upload }
+        requires upload { upload < length self.now.uploads }
+        requires passes { books_of posting.old.passes.items ≡ self.now.books }
+        requires clock { buffers.old.run.clock ≡ self.now.table.zone }
+        requires cut { length buffers.old.cut ≡ shards_of self.now }
+        requires room { posting.old.totals.taps + 2 ^ 60 ≤ 2 ^ 94 }
+        ensures worked { (visits : List Visit)
+            × Made (shards_of self.now) posting.old.passes.items posting.new.passes.items
+            (sums_of posting.old.totals) (sums_of posting.new.totals) visits
+            × IsWorked self.now (worked upload result.0 visits) }
+        ensures clock { buffers.new.run.clock ≡ buffers.old.run.clock }
+        ensures cut { length buffers.new.cut ≡ length buffers.old.cut }
+        ensures few { posting.new.totals.taps ≤ posting.old.totals.taps + 2 ^ 60 }
+        ensures full { SomeFull posting.old.passes.items → SomeFull posting.new.passes.items }
+        ensures goes_on { result.1 ≡ true → WasWhole result.0 ⊎ SomeFull posting.new.passes.items }
+        ensures stops { result.1 ≡ false → WasCut result.0 }
+    {
+        let before = posting.totals.taps;
+        let file = self.uploads[upload as usize].as_slice();
+        let posted = self.post_batches(rt, posting, buffers, file);
+        let taps = (posting.totals.taps - before) as u64;
+        match posted {
+            Ok(found) => (end_of(taps, found), true),
+            Err(stop) => (UploadEnd::Cut { taps }, stop == Stop::Full),
+        }
+    }
+
+    /// Draws an upload and posts it, where one is left. Tells how it ended, and whether the worker
+    /// may go on.
+    fn next_upload<R: Wait, G: Gate>(
+        &self,
+        rt: &R,
+        drawer: &mut Drawer,
+        posting: &mut Posting,
+        buffers: &mut Buffers,
+        gate: &G,
+    ) -> Option<(Done, bool)>
+        requires drawer { drawer.old.source ≡ self.now.drawing }
+        requires passes { books_of posting.old.passes.items ≡ self.now.books }
+        requires clock { buffers.old.run.clock ≡ self.now.table.zone }
+        requires cut { length buffers.old.cut ≡ shards_of self.now }
+        requires room { posting.old.totals.taps + 2 ^ 60 ≤ 2 ^ 94 }
+        ensures none { IfNone result
+            ((drawer.new ≡ record drawer.old { seen = length self.now.uploads })
+            × (posting.new ≡ posting.old)) }
+        ensures drawn { IfSome result (λ next. (drawer.old.seen ≤ next.0.upload)
+            × (next.0.upload < length self.now.uploads)
+            × (drawer.new ≡ record drawer.old {
+              seen = next.0.upload + 1;
+              drawn = drawer.old.drawn ++ next.0.upload ∷ [];
+            })) }
+        ensures worked { IfSome result (λ next. (visits : List Visit)
+            × Made (shards_of self.now) posting.old.passes.items posting.new.passes.items
+            (sums_of posting.old.totals) (sums_of posting.new.totals) visits
+            × IsWorked self.now (worked next.0.upload next.0.end visits)) }
+        ensures few { posting.new.totals.taps ≤ posting.old.totals.taps + 2 ^ 60 }
+        ensures full { SomeFull posting.old.passes.items → SomeFull posting.new.passes.items }
+        ensures goes_on { IfSome result (λ next. next.1 ≡ true
+            → WasWhole next.0.end ⊎ SomeFull posting.new.passes.items) }
+        ensures stops { IfSome result (λ next. next.1 ≡ false → WasCut next.0.end) }
+        ensures clock { buffers.new.run.clock ≡ buffers.old.run.clock }
+        ensures cut { length buffers.new.cut ≡ length buffers.old.cut }
+    {
+        let Some(upload) = self.draw.draw(drawer) else {
+            return None;
+        };
+        let begun = gate.before(upload);
+        let (end, goes_on) = self.post_upload::<R, G>(rt, posting, buffers, upload, &begun);
+        gate.after(begun);
+        Some((Done { upload, end }, goes_on))
+    }
+
+    /// Draws uploads and posts their batches, until all are drawn or memory is refused. A refusal
+    /// after the draw ends that upload as cut. Where a shard takes no more visits the upload ends
+    /// as cut, and the work goes on. Memory for the results of all uploads is taken first: where it
+    /// is refused, the share is given back as it was.
+    ///
+    /// Gives the share back with the uploads that it drew, the visits that it made and the totals
+    /// of their replies. It waits for turns at the shards' books.
+    pub fn work<R: Wait, G: Gate>(&self, rt: &R, alloc: Global, share: Share, gate: &G) -> Share
+        requires { IsShareOf self.now share }
+        ensures share { IsShareOf self.now result }
+        ensures went_on { WentOn self.now share result }
+        ensures stopped { (result ≡ share) ⊎ StoppedWell self.now share result }
+    {
+        let Ok(clock) = self.table.clock(alloc) else {
+            return share;
+        };
+        let Ok(cut) = Cut::new(alloc, self.shards()) else {
+            return share;
+        };
+        let run = RunBuffers {
+            clock,
+            replies: Replies::new(alloc),
+            ends: Ends::new(alloc),
+        };
+        let mut buffers = Buffers { cut, run };
+        let Share {
+            mut drawer,
+            mut posting,
+            mut done,
+        } = share;
+        if done.reserve(self.uploads.len()).is_err() {
+            return Share {
+                drawer,
+                posting,
+                done,
+            };
+        }
+        for _ in rt.forever() {
+            // proof: it holds fewer than 2^32 uploads, so that the totals have room
+            let _held = drawer.held();
+            let Some((next, goes_on)) = self.next_upload(
+                rt,
+                &mut drawer,
+                &mut posting,
+                &mut buffers,
+                gate,
+            ) else {
+                return Share {
+                    drawer,
+                    posting,
+                    done,
+                };
+            };
+            done.push_reserved(next);
+            if !goes_on {
+                return Share {
+                    drawer,
+                    posting,
+                    done,
+                };
+            }
+        }
+        unreachable!()
+    }
+}

@@ -1,0 +1,25 @@
+//! What printing may meet.
+
+use fare_table::NoMemory;
+
+/// Why a report or a statement was not printed.
+#[derive(Debug, Drop, thiserror::Error)]
+pub enum PrintFault {
+    /// The writer failed. Nothing is known of how much of the text went out.
+    #[error("cannot write")]
+    Write,
+    /// The text could not be made, and nothing was written.
+    #[error("out of memory")]
+    NoMemory,
+}
+
+impl From<NoMemory> for PrintFault {
+    ghost use Rattle.fare_service.specs.declared.text.print_fault.PrintFault.TheVariants as faults;
+    ghost use Rattle.std.specs.Prelude.{◌≡◌};
+
+    ghost from_gives = { λ _ e. e ≡ faults.NoMemory };
+
+    fn from(_: NoMemory) -> Self {
+        PrintFault::NoMemory
+    }
+}

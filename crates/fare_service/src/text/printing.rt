@@ -1,0 +1,130 @@
+//! Printing: all memory is taken before the first byte is written.
+
+ghost use Rattle.std.specs.Prelude.{◌≡◌, ℕ, ◌≤◌, List, ◌++◌, OnOk, IfOk, IfErr, string_bytes};
+ghost use Rattle.std.specs.Prelude.{vec_capacity};
+ghost use Rattle.std.specs.Io.KnownBytes.{Appends};
+ghost use Rattle.std.specs.List.{flat_map};
+ghost use Rattle.fare_service.specs.Text.{token_line};
+ghost use Rattle.fare_service.specs.Printed.{report_of, report_with, IsStatementOf};
+ghost use Rattle.fare_service.specs.Printed.{KeepsUnlessWrite};
+ghost use Rattle.fare_service.specs.declared.text.print_fault.PrintFault.TheVariants.{Write as ForWrite};
+
+use crate::outcome::Outcome;
+use crate::text::print_fault::PrintFault;
+use crate::text::report::report_front;
+use crate::text::token_lines::write_lines;
+use crate::upload_end::UploadEnd;
+use fare_table::NoMemory;
+use fare_texts::statement_text;
+use shard_book::{Token, TokenSums, sums_by_validator};
+use std::alloc::Global;
+use std::io::Write;
+use std::marker::Sync;
+use std::thread::Threads;
+use tap_views::shard_of;
+
+/// How much room there is at least for lines of a report that wait to be written: so many that a
+/// write is little beside them.
+const PIECE: usize = 65_536;
+
+/// Writes the text at once.
+pub(crate) fn write_out<W: Write>(text: &[u8], out: &mut W) -> Result<(), PrintFault>
+    ensures ok { OnOk result (Appends (W.contents out.old) (W.contents out.new) text.now) }
+    ensures fault { IfErr result (λ fault. fault ≡ ForWrite) }
+{
+    if out.write_all(text).is_err() {
+        return Err(PrintFault::Write);
+    }
+    Ok(())
+}
+
+impl Outcome {
+    /// The text of the report with these ends of uploads, up to the lines of the tokens, with room
+    /// for one of these at least, and the sums of the tokens.
+    fn begun<R: Threads + Sync>(
+        &self,
+        rt: &R,
+        alloc: Global,
+        ends: &[UploadEnd],
+    ) -> Result<(Vec<u8>, TokenSums), NoMemory>
+        ensures text { IfOk result
+            (λ begun. begun.0.items ++ flat_map token_line begun.1
+            ≡ report_with ends.now self.now) }
+        ensures room { IfOk result (λ begun. 384 ≤ vec_capacity begun.0) }
+    {
+        let totals = self.totals();
+        let validators = sums_by_validator(rt, alloc, self.books.as_slice())?;
+        let tokens = TokenSums::of(alloc, self.books.as_slice())?;
+        let mut text = report_front(alloc, ends, &totals, validators.as_slice(), &tokens)?;
+        text.reserve(PIECE)?;
+        Ok((text, tokens))
+    }
+
+    /// The text of a token's statement.
+    fn statement(&self, alloc: Global, token: &Token) -> Result<String, NoMemory>
+        ensures { IfOk result (λ text. IsStatementOf self.now token.now (string_bytes text)) }
+    {
+        let bytes = token.bytes();
+        let book = self.book(shard_of(&bytes, self.shards()));
+        let statement = book.statement(alloc, token)?;
+        let text = statement_text(alloc, book.table(), &statement)?;
+        Ok(text)
+    }
+
+    /// Writes the report: the end of each upload, the totals of all books, the sums of each
+    /// validator, by rising validator, and those of each token, by rising token. Of many entries,
+    /// threads sum up a quarter of the books each; where one is refused, another does its part. On
+    /// a fault of memory nothing was written.
+    pub fn write_report<R: Threads + Sync, W: Write>(
+        &self,
+        rt: &R,
+        alloc: Global,
+        out: &mut W,
+    ) -> Result<(), PrintFault>
+        ensures ok { OnOk result
+            (Appends (W.contents out.old) (W.contents out.new) (report_of self.now)) }
+        ensures fault { IfErr result (λ fault. KeepsUnlessWrite fault (out.new ≡ out.old)) }
+    {
+        self.write_report_with(rt, alloc, self.ends.as_slice(), out)
+    }
+
+    /// Writes the report as `write_report` does, with these ends of uploads in place of the
+    /// outcome's own: of the uploads that were given, where others were made of them and posted.
+    pub fn write_report_with<R: Threads + Sync, W: Write>(
+        &self,
+        rt: &R,
+        alloc: Global,
+        ends: &[UploadEnd],
+        out: &mut W,
+    ) -> Result<(), PrintFault>
+        ensures ok { OnOk result
+            (Appends (W.contents out.old) (W.contents out.new) (report_with ends.now self.now)) }
+        ensures fault { IfErr result (λ fault. KeepsUnlessWrite fault (out.new ≡ out.old)) }
+    {
+        let Ok((mut text, tokens)) = self.begun(rt, alloc, ends) else {
+            return Err(PrintFault::NoMemory);
+        };
+        write_lines(&mut text, &tokens, out)?;
+        Ok(())
+    }
+
+    /// Writes the statement of a token: its entries in the order of its shard's book, their totals
+    /// and its last window. A token without entries has a statement of no entries. On a fault of
+    /// memory nothing was written.
+    pub fn write_statement<W: Write>(
+        &self,
+        alloc: Global,
+        token: &Token,
+        out: &mut W,
+    ) -> Result<(), PrintFault>
+        ensures ok { OnOk result ((text : List ℕ) × IsStatementOf self.now token.now text
+            × Appends (W.contents out.old) (W.contents out.new) text) }
+        ensures fault { IfErr result (λ fault. KeepsUnlessWrite fault (out.new ≡ out.old)) }
+    {
+        let Ok(text) = self.statement(alloc, token) else {
+            return Err(PrintFault::NoMemory);
+        };
+        write_out(text.as_bytes(), out)?;
+        Ok(())
+    }
+}
