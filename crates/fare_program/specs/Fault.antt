@@ -40,6 +40,7 @@ gather_text (gather.Missing shard held kept) = codes "fault: run U3 G1"
 gather_text (gather.Drawn held drawn) = codes "fault: run U3 G4"
 gather_text gather.NoMemory = codes "fault: out of memory"
 
+-- the line that the program writes of a fault
 abbrev pub fault_text : Fault → List ℕ
 fault_text Digits = codes "fault: --token needs 32 hexadecimal digits"
 fault_text NoTable = codes "fault: --token needs --table"
@@ -95,6 +96,7 @@ token_fault_of (Some digits) table =
     if is_ok (decode_sized digits 16) then (if is_some table then None else Some NoTable)
     else Some Digits
 
+-- what is wrong with `--token` among these words
 abbrev pub token_fault : Asked → Option Fault
 token_fault asked = token_fault_of asked.token asked.table
 
@@ -106,6 +108,7 @@ settle_fault_of true list None = Some SettleNoTable
 settle_fault_of true false (Some name) = None
 settle_fault_of true true (Some name) = Some SettleList
 
+-- what is wrong with `--settle` among them
 abbrev pub settle_fault : Asked → Option Fault
 settle_fault asked = settle_fault_of asked.settle asked.list asked.table
 
@@ -117,6 +120,7 @@ ledger_fault_of true list None = Some LedgerNoTable
 ledger_fault_of true false (Some name) = None
 ledger_fault_of true true (Some name) = Some LedgerList
 
+-- what is wrong with `--ledger` among them
 abbrev pub ledger_fault : Asked → Option Fault
 ledger_fault asked = ledger_fault_of asked.ledger asked.list asked.table
 
@@ -129,6 +133,7 @@ explain_fault_of true true ledger (Some digits) = Some ExplainList
 explain_fault_of true false true (Some digits) = Some ExplainLedger
 explain_fault_of true false false (Some digits) = None
 
+-- what is wrong with `--explain` among them
 abbrev pub explain_fault : Asked → Option Fault
 explain_fault asked = explain_fault_of asked.explain asked.list asked.ledger asked.token
 

@@ -8,6 +8,7 @@ use Rattle.fare_program.specs.declared.listing.Word.{Word}
 use Rattle.fare_program.specs.declared.listing.Word.TheVariants.{Live, Stale, Unknown}
 use Rattle.fare_program.specs.declared.listing.ListCounts.{ListCounts}
 
+-- the word as it is printed
 abbrev pub word_text : Word → List ℕ
 word_text Live = codes "live"
 word_text Stale = codes "stale"
@@ -25,6 +26,7 @@ unfoldable pub refused_line : ℕ → ℕ → LayoutFault → List ℕ
 refused_line upload offset fault = decimal upload ++ (codes " refused " ++ (decimal offset
     ++ (codes " L" ++ (decimal (fault_order fault) ++ codes "\n"))))
 
+-- `taps 5 live 3 stale 1 unknown 1`
 unfoldable pub counts_line : ListCounts → List ℕ
 counts_line counts = codes "taps " ++ (decimal counts.taps ++ (codes " live "
     ++ (decimal counts.live ++ (codes " stale " ++ (decimal counts.stale ++ (codes " unknown "

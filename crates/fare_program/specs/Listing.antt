@@ -14,6 +14,7 @@ pub record Listed : Type 0 where
   pub tap : Tap
   pub known : Bool
 
+-- a tap, and whether its validator is known
 abbrev pub listed_of : Tap → Bool → Listed
 listed_of tap known = record { tap = tap; known = known }
 
@@ -24,6 +25,7 @@ listed_moment listed = num listed.tap.moment
 abbrev pub known_of : List ℕ → List Listed → List Listed
 known_of token taps = filter (λ t. t.known && bytes_eq t.tap.token token) taps
 
+-- whether all these taps have moments before this one
 abbrev pub are_before : ℕ → List Listed → Bool
 are_before moment taps = list_all (λ t. nat_lt (listed_moment t) moment) taps
 
@@ -31,6 +33,7 @@ are_before moment taps = list_all (λ t. nat_lt (listed_moment t) moment) taps
 abbrev pub is_live : List Listed → Listed → Bool
 is_live before tap = are_before (listed_moment tap) (known_of tap.tap.token before)
 
+-- what the listing says of a tap, after the taps before it
 abbrev pub word_of : List Listed → Listed → Word
 word_of before tap =
     if tap.known then (if is_live before tap then Live else Stale) else Unknown
@@ -40,6 +43,7 @@ abbrev pub words_after : List Listed → List Listed → List Word
 words_after before [] = []
 words_after before (tap ∷ taps) = word_of before tap ∷ words_after (before ++ tap ∷ []) taps
 
+-- whether the two words are the same
 abbrev pub is_word : Word → Word → Bool
 is_word Live Live = true
 is_word Stale Stale = true
@@ -50,6 +54,7 @@ is_word _ _ = false
 abbrev pub count_of : Word → List Listed → ℕ
 count_of word taps = count_by (is_word word) (words_after [] taps)
 
+-- how many taps there are, and how many of each word
 abbrev pub counts_of : List Listed → ListCounts
 counts_of taps = record {
   taps = length taps;
@@ -63,6 +68,7 @@ pub record Kept : Type 0 where
   pub last : List (List ℕ × ℕ)
   pub counts : ListCounts
 
+-- the last moment that is kept of the token, if there is one
 abbrev pub last_of : List (List ℕ × ℕ) → List ℕ → Option ℕ
 last_of last token = lookup (bytes_eq token) last
 

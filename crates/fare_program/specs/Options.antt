@@ -79,6 +79,7 @@ file_rule = record (new_rule (codes "FILE")) { action = Some Append }
 abbrev pub named_app : App
 named_app = on_top (λ s. record s { has_version = true }) (new_app (codes "omny_cli"))
 
+-- the program's options, without its files
 abbrev pub app_of_options : App
 app_of_options =
     with_rule (with_rule (with_rule (with_rule
@@ -86,6 +87,7 @@ app_of_options =
     table_rule) list_rule) workers_rule) shards_rule) token_rule) settle_rule) ledger_rule)
     explain_rule
 
+-- all words that the program takes
 unfoldable pub program : App
 program = with_rule app_of_options file_rule
 
@@ -138,6 +140,7 @@ pub record Asked : Type 0 where
   pub explain : Bool
   pub files : List Text
 
+-- what these words ask for
 abbrev pub asked_by : List Text → Asked
 asked_by words = record {
   table = table_named words;

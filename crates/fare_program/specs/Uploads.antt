@@ -13,6 +13,7 @@ abbrev pub is_known : Option Fares → Tap → Bool
 is_known None tap = true
 is_known (Some fares) tap = is_some (mode_at fares (num tap.validator))
 
+-- a tap as it is listed under this table, if there is one
 abbrev pub listed : Option Fares → Tap → Listed
 listed fares tap = listed_of tap (is_known fares tap)
 

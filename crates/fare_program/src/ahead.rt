@@ -42,8 +42,8 @@ pub fn take_next(early: &mut Vec<Early>, name: &str) -> Option<Result<Vec<u8>, L
     Some(next.loaded)
 }
 
-// How many files may be read before their turns. The first that may not keeps all behind it
-// waiting: they may be made while it is read.
+/// How many files may be read before their turns. The first that may not keeps all behind it
+/// waiting: they may be made while it is read.
 fn count_early<D: Disk>(disk: &D, names: &[&str]) -> usize
     ensures { result ≤ length names.now }
 {
@@ -55,9 +55,9 @@ fn count_early<D: Disk>(disk: &D, names: &[&str]) -> usize
     names.len()
 }
 
-// Keeps what came of a file, and says whether the next one is to be read too: a fault ends all
-// loading when its turn comes. Where memory was refused, nothing is kept, so that the file is read
-// when its turn comes.
+/// Keeps what came of a file, and says whether the next one is to be read too: a fault ends all
+/// loading when its turn comes. Where memory was refused, nothing is kept, so that the file is read
+/// when its turn comes.
 fn keep(
     part: &mut Vec<Early>,
     name: String,
@@ -71,7 +71,7 @@ fn keep(
     Ok(is_whole)
 }
 
-// Reads one more file, as `keep` tells.
+/// Reads one more file, as `keep` tells.
 fn read_one<D: Disk>(
     alloc: Global,
     disk: &D,
@@ -82,7 +82,7 @@ fn read_one<D: Disk>(
     keep(part, String::from_str(alloc, name)?, loaded)
 }
 
-// Reads these files, up to the first that is not whole.
+/// Reads these files, up to the first that is not whole.
 fn read_part<D: Disk>(alloc: Global, disk: &D, names: &[&str]) -> Vec<Early> {
     let mut part = Vec::new(alloc);
     for name in names {
@@ -93,7 +93,7 @@ fn read_part<D: Disk>(alloc: Global, disk: &D, names: &[&str]) -> Vec<Early> {
     part
 }
 
-// Reads these files by so many threads at most, each a part of them.
+/// Reads these files by so many threads at most, each a part of them.
 fn read_parts<R: Threads + Sync, D: Disk + Sync>(
     rt: &R,
     alloc: Global,

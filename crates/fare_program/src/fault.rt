@@ -146,7 +146,7 @@ impl From<LedgerFault> for Fault<'_> {
     }
 }
 
-// The line of a fault of the table.
+/// The line of a fault of the table.
 #[derive(Clone, Copy)]
 struct TableLine(TableFault);
 
@@ -168,7 +168,7 @@ impl fmt::Display for TableLine {
     }
 }
 
-// The line of a run that was not gathered.
+/// The line of a run that was not gathered.
 #[derive(Clone, Copy)]
 struct GatherLine(GatherFault);
 

@@ -21,7 +21,7 @@ impl fmt::Display for Word {
     }
 }
 
-// The 16 bytes of a token as 32 lower-case hexadecimal digits, made in no memory of the heap.
+/// The 16 bytes of a token as 32 lower-case hexadecimal digits, made in no memory of the heap.
 #[derive(Drop)]
 struct Digits<'a> {
     token: &'a [u8],
@@ -41,7 +41,7 @@ impl fmt::Display for Digits<'_> {
     }
 }
 
-// The row of a layout fault in the table of layout faults, from 1.
+/// The row of a layout fault in the table of layout faults, from 1.
 fn row_of(fault: &LayoutFault) -> u8
     ensures { result ≡ fault_order fault.now }
 {

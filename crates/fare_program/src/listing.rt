@@ -40,6 +40,7 @@ pub struct ListCounts {
 }
 
 impl ListCounts {
+    /// No taps.
     const NONE: ListCounts = ListCounts {
         taps: 0,
         live: 0,
@@ -47,7 +48,7 @@ impl ListCounts {
         unknown: 0,
     };
 
-    // Counts a tap with this word.
+    /// Counts a tap with this word.
     fn count(&mut self, word: Word)
         requires sums { AddsUp self.old }
         requires room { self.old.taps < 2 ^ 127 }
@@ -62,7 +63,7 @@ impl ListCounts {
     }
 }
 
-// Whether the moment is later than the last one of the token, if there is one.
+/// Whether the moment is later than the last one of the token, if there is one.
 fn is_later(last: &BTreeMap<[u8; 16], u64>, token: &[u8; 16], moment: u64) -> bool
     ensures { result ≡ is_after_last (last_of last.now.entries token.now) moment }
 {
@@ -72,7 +73,7 @@ fn is_later(last: &BTreeMap<[u8; 16], u64>, token: &[u8; 16], moment: u64) -> bo
     }
 }
 
-// Keeps the moment as the token's last one where it is later than that, and says whether it is.
+/// Keeps the moment as the token's last one where it is later than that, and says whether it is.
 fn advance(
     last: &mut BTreeMap<[u8; 16], u64>,
     token: [u8; 16],
@@ -91,7 +92,7 @@ fn advance(
     Ok(is_live)
 }
 
-// The word of a tap by the last moments, of which a live tap's becomes one.
+/// The word of a tap by the last moments, of which a live tap's becomes one.
 fn word_next(
     last: &mut BTreeMap<[u8; 16], u64>,
     tap: &TapView,

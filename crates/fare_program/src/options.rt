@@ -15,12 +15,14 @@ use clap::{Arg, ArgAction, ArgMatches, Command, Error, value_parser};
 use program_version::VERSION;
 use std::alloc::{AllocError, Global};
 
+/// What the program is for, as the help says it first.
 const ABOUT: &str = "Charges the taps of upload files by a fare table, and reports what they cost.
 
 With --table the uploads are posted to accounts, by worker threads, and the report is printed, or
 with --token the statement of one token, or with --ledger the ledger. Without --table, or with --list, the taps are only listed,
 each as live, stale or unknown.";
 
+/// What the help says last: what is printed, and the exit status.
 const NOTES: &str = "What is printed:
   report     how each upload ended, then the sums of all taps, of each validator, of each token
   statement  each tap of the token, what it was and cost, the token's sums, its last window
@@ -46,29 +48,39 @@ Exit status:
      failed, as a line `fault: ..` on the standard error tells, and nothing is printed
   2  the command line is wrong";
 
+/// The help of `--table`.
 const TABLE_HELP: &str = "The fare table, a TOML file [default: every validator is known]";
 
+/// The help of `--list`.
 const LIST_HELP: &str = "List the taps, also where there is a fare table";
 
+/// The help of `--workers`.
 const WORKERS_HELP: &str = "How many threads post the uploads, 1 to 16";
 
+/// The help of `--shards`.
 const SHARDS_HELP: &str = "Over how many shards the accounts are spread, 1 to 64";
 
+/// The help of `--token`.
 const TOKEN_HELP: &str =
     "Print the statement of this token, 32 hexadecimal digits of either case, not the report";
 
+/// The help of `--settle`.
 const SETTLE_HELP: &str =
     "Post the taps of all uploads in order of token, moment and validator; needs --table";
 
+/// The help of `--ledger`.
 const LEDGER_HELP: &str =
     "Print the ledger, of all tokens or of that of --token, not the report; needs --table";
 
+/// The help of `--explain`.
 const EXPLAIN_HELP: &str =
     "Print the statement of --token with the reason of each line, the terms and all windows";
 
+/// The help of the files.
 const FILE_HELP: &str =
     "Uploads, files of TAP1 and TAP2 batches of at most 67108864 bytes [default: standard input]";
 
+/// `--table FILE`.
 fn table_arg<'a>(alloc: Global) -> Arg<'a>
     ensures rule { rule_of result ≡ table_rule }
     ensures local { result.global ≡ false }
@@ -80,6 +92,7 @@ fn table_arg<'a>(alloc: Global) -> Arg<'a>
         .help(TABLE_HELP)
 }
 
+/// `--list`.
 fn list_arg<'a>(alloc: Global) -> Arg<'a>
     ensures rule { rule_of result ≡ list_rule }
     ensures local { result.global ≡ false }
@@ -90,6 +103,7 @@ fn list_arg<'a>(alloc: Global) -> Arg<'a>
         .help(LIST_HELP)
 }
 
+/// `--workers N`.
 fn workers_arg<'a>(alloc: Global) -> Arg<'a>
     ensures rule { rule_of result ≡ workers_rule }
     ensures local { result.global ≡ false }
@@ -103,6 +117,7 @@ fn workers_arg<'a>(alloc: Global) -> Arg<'a>
         .help(WORKERS_HELP)
 }
 
+/// `--shards N`.
 fn shards_arg<'a>(alloc: Global) -> Arg<'a>
     ensures rule { rule_of result ≡ shards_rule }
     ensures local { result.global ≡ false }
@@ -116,6 +131,7 @@ fn shards_arg<'a>(alloc: Global) -> Arg<'a>
         .help(SHARDS_HELP)
 }
 
+/// `--token HEX`.
 fn token_arg<'a>(alloc: Global) -> Arg<'a>
     ensures rule { rule_of result ≡ token_rule }
     ensures local { result.global ≡ false }
@@ -127,6 +143,7 @@ fn token_arg<'a>(alloc: Global) -> Arg<'a>
         .help(TOKEN_HELP)
 }
 
+/// `--settle`.
 fn settle_arg<'a>(alloc: Global) -> Arg<'a>
     ensures rule { rule_of result ≡ settle_rule }
     ensures local { result.global ≡ false }
@@ -137,6 +154,7 @@ fn settle_arg<'a>(alloc: Global) -> Arg<'a>
         .help(SETTLE_HELP)
 }
 
+/// `--ledger`.
 fn ledger_arg<'a>(alloc: Global) -> Arg<'a>
     ensures rule { rule_of result ≡ ledger_rule }
     ensures local { result.global ≡ false }
@@ -147,6 +165,7 @@ fn ledger_arg<'a>(alloc: Global) -> Arg<'a>
         .help(LEDGER_HELP)
 }
 
+/// `--explain`.
 fn explain_arg<'a>(alloc: Global) -> Arg<'a>
     ensures rule { rule_of result ≡ explain_rule }
     ensures local { result.global ≡ false }
@@ -157,6 +176,7 @@ fn explain_arg<'a>(alloc: Global) -> Arg<'a>
         .help(EXPLAIN_HELP)
 }
 
+/// The uploads' files.
 fn file_arg<'a>(alloc: Global) -> Arg<'a>
     ensures rule { rule_of result ≡ file_rule }
     ensures local { result.global ≡ false }
@@ -166,7 +186,7 @@ fn file_arg<'a>(alloc: Global) -> Arg<'a>
         .help(FILE_HELP)
 }
 
-// The command line, as clap reads it.
+/// The command line, as clap reads it.
 fn command<'a>(alloc: Global) -> Result<Command<'a>, AllocError>
     ensures { IfOk result (λ command. app_of command ≡ program) }
 {
@@ -194,7 +214,7 @@ fn command<'a>(alloc: Global) -> Result<Command<'a>, AllocError>
         .arg(file)
 }
 
-// The words read by clap.
+/// The words read by clap.
 fn matched<'a>(alloc: Global, words: &'a [String]) -> Result<ArgMatches<'a>, Error>
     ensures rows { IfOk result (λ matches. rows_of (found_of matches)
         ≡ matches_of program (map string_bytes words.entry.now)) }
@@ -207,7 +227,7 @@ fn matched<'a>(alloc: Global, words: &'a [String]) -> Result<ArgMatches<'a>, Err
     command(alloc)?.try_get_matches_from(words)
 }
 
-// The values of FILE.
+/// The values of FILE.
 fn files_in<'a>(alloc: Global, matches: &ArgMatches<'a>) -> Result<Vec<&'a str>, AllocError>
     ensures { IfOk result (λ files. map (λ f. f.now) files.items
         ≡ unwrap_or (all_of (codes "FILE") (rows_of (found_of matches.now))) []) }
@@ -218,14 +238,14 @@ fn files_in<'a>(alloc: Global, matches: &ArgMatches<'a>) -> Result<Vec<&'a str>,
     }
 }
 
-// Whether a flag was given. The contract of `get_flag` says less of what it answers.
+/// Whether a flag was given. The contract of `get_flag` says less of what it answers.
 fn flag_in<'a>(matches: &ArgMatches<'a>, name: &str) -> bool
     ensures { result ≡ is_given name.now (rows_of (found_of matches.now)) }
 {
     matches.get_one(name).unwrap_or(false)
 }
 
-// The number of an option that has a default.
+/// The number of an option that has a default.
 fn number_in<'a>(matches: &ArgMatches<'a>, name: &str) -> u32
     requires { HasNumber 64 name.now (rows_of (found_of matches.now)) }
     ensures number { result ≡ number_of name.now (rows_of (found_of matches.now)) }

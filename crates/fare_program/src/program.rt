@@ -43,7 +43,7 @@ const STANDARD_INPUT: &str = "standard input";
 /// is loaded does not depend on it.
 const READERS: u32 = 4;
 
-// All bytes of the file of this name.
+/// All bytes of the file of this name.
 fn load_named<'a, S: Source>(source: &mut S, name: &'a str) -> Result<Vec<u8>, Fault<'a>>
     ensures ok { IfOk result (λ bytes. TellsOne (S.loaded source.old) (S.loaded source.new)
         (Some name.entry.now) bytes.items) }
@@ -56,7 +56,7 @@ fn load_named<'a, S: Source>(source: &mut S, name: &'a str) -> Result<Vec<u8>, F
     }
 }
 
-// All bytes of standard input.
+/// All bytes of standard input.
 fn load_input<'a, S: Source>(source: &mut S) -> Result<Vec<u8>, Fault<'a>>
     ensures ok { IfOk result (λ bytes. TellsOne (S.loaded source.old) (S.loaded source.new)
         None bytes.items) }
@@ -69,7 +69,7 @@ fn load_input<'a, S: Source>(source: &mut S) -> Result<Vec<u8>, Fault<'a>>
     }
 }
 
-// The table of this name, read, where one is named.
+/// The table of this name, read, where one is named.
 fn load_table<'a, S: Source>(
     alloc: Global,
     name: Option<&'a str>,
@@ -89,8 +89,8 @@ fn load_table<'a, S: Source>(
     Ok(Some(table))
 }
 
-// The files of these names, in their order, or standard input where there is none. Several files
-// may be read at once.
+/// The files of these names, in their order, or standard input where there is none. Several files
+/// may be read at once.
 fn load_files<'a, R: Threads + Sync, D: Disk + Sync, S: Source>(
     rt: &R,
     alloc: Global,
@@ -118,6 +118,7 @@ fn load_files<'a, R: Threads + Sync, D: Disk + Sync, S: Source>(
     Ok(files)
 }
 
+/// Adds a file's bytes.
 fn push(files: &mut Vec<Vec<u8>>, bytes: Vec<u8>) -> Result<(), NoMemory>
     ensures { OnOk result (files.new.items ≡ files.old.items ++ bytes ∷ []) }
 {
@@ -125,7 +126,7 @@ fn push(files: &mut Vec<Vec<u8>>, bytes: Vec<u8>) -> Result<(), NoMemory>
     Ok(())
 }
 
-// Table and files, the table first.
+/// Table and files, the table first.
 fn load<'a, R: Threads + Sync, D: Disk + Sync, S: Source>(
     rt: &R,
     alloc: Global,
@@ -143,7 +144,7 @@ fn load<'a, R: Threads + Sync, D: Disk + Sync, S: Source>(
     Ok((table, files))
 }
 
-// The token whose statement is asked for, if any: 32 hexadecimal digits, and a table to charge by.
+/// The token whose statement is asked for, if any: 32 hexadecimal digits, and a table to charge by.
 fn token_of<'a>(options: &Options<'a>) -> Result<Option<Token>, Fault<'a>>
     ensures token { IfOk result (IsTokenIn (asked_of options.now).token) }
     ensures right { OnOk result (token_fault (asked_of options.now) ≡ None) }
@@ -162,8 +163,8 @@ fn token_of<'a>(options: &Options<'a>) -> Result<Option<Token>, Fault<'a>>
     Ok(Some(Token::of(&token)))
 }
 
-// Looks whether the taps may be settled, where that is asked for: there is a table to charge by,
-// and they are not to be listed.
+/// Looks whether the taps may be settled, where that is asked for: there is a table to charge by,
+/// and they are not to be listed.
 fn check_settling<'a>(options: &Options<'a>) -> Result<(), Fault<'a>>
     ensures right { OnOk result (settle_fault (asked_of options.now) ≡ None) }
     ensures fault { IfErr result (λ fault. settle_fault (asked_of options.now) ≡ Some fault) }
@@ -181,8 +182,8 @@ fn check_settling<'a>(options: &Options<'a>) -> Result<(), Fault<'a>>
     Ok(())
 }
 
-// Looks whether the ledger may be printed, where that is asked for: there is a table to charge by,
-// and the taps are not to be listed.
+/// Looks whether the ledger may be printed, where that is asked for: there is a table to charge by,
+/// and the taps are not to be listed.
 fn check_ledger<'a>(options: &Options<'a>) -> Result<(), Fault<'a>>
     ensures right { OnOk result (ledger_fault (asked_of options.now) ≡ None) }
     ensures fault { IfErr result (λ fault. ledger_fault (asked_of options.now) ≡ Some fault) }
@@ -200,8 +201,8 @@ fn check_ledger<'a>(options: &Options<'a>) -> Result<(), Fault<'a>>
     Ok(())
 }
 
-// Looks whether the statement may be explained, where that is asked for: there is a token, and
-// neither a listing nor the ledger is asked for.
+/// Looks whether the statement may be explained, where that is asked for: there is a token, and
+/// neither a listing nor the ledger is asked for.
 fn check_explain<'a>(options: &Options<'a>) -> Result<(), Fault<'a>>
     ensures right { OnOk result (explain_fault (asked_of options.now) ≡ None) }
     ensures fault { IfErr result (λ fault. explain_fault (asked_of options.now) ≡ Some fault) }
@@ -222,7 +223,7 @@ fn check_explain<'a>(options: &Options<'a>) -> Result<(), Fault<'a>>
     Ok(())
 }
 
-// Looks for a mistake in what is asked for, and gives the token whose statement is, if any.
+/// Looks for a mistake in what is asked for, and gives the token whose statement is, if any.
 fn checked<'a>(options: &Options<'a>) -> Result<Option<Token>, Fault<'a>>
     ensures token { IfOk result (IsTokenIn (asked_of options.now).token) }
     ensures right { OnOk result (mistake (asked_of options.now) ≡ None) }
@@ -236,8 +237,8 @@ fn checked<'a>(options: &Options<'a>) -> Result<Option<Token>, Fault<'a>>
     Ok(token)
 }
 
-// Lists the files, and says whether none of them has a layout fault. The whole text is made before
-// it is written.
+/// Lists the files, and says whether none of them has a layout fault. The whole text is made before
+/// it is written.
 fn list<'a, W: Write>(
     alloc: Global,
     table: Option<FareTable>,
@@ -256,9 +257,9 @@ fn list<'a, W: Write>(
     Ok(clean)
 }
 
-// Does what is asked for, and says whether each upload was listed without a layout fault, or posted
-// whole. The token is looked at first, then settling, then the table is loaded, then the files, and
-// all memory is taken before the first byte is written.
+/// Does what is asked for, and says whether each upload was listed without a layout fault, or posted
+/// whole. The token is looked at first, then settling, then the table is loaded, then the files, and
+/// all memory is taken before the first byte is written.
 fn work<'a, R: Threads + Wait + RandomSource + Sync, D: Disk + Sync, S: Source, W: Write>(
     rt: &R,
     alloc: Global,
@@ -290,7 +291,7 @@ fn work<'a, R: Threads + Wait + RandomSource + Sync, D: Disk + Sync, S: Source, 
     }
 }
 
-// Says why the program gives up, where that can be written, and gives the status.
+/// Says why the program gives up, where that can be written, and gives the status.
 fn tell<E: Write>(err: &mut Complaints<E>, fault: &Fault) -> u8
     ensures status { result ≡ status_of fault.now }
     ensures line { Told (E.contents err.old.writer) (E.contents err.new.writer) err.new.failed
@@ -300,7 +301,7 @@ fn tell<E: Write>(err: &mut Complaints<E>, fault: &Fault) -> u8
     fault.status()
 }
 
-// Prints clap's help or version, through to where the writer brings it.
+/// Prints clap's help or version, through to where the writer brings it.
 fn show_text<'a, W: Write>(error: &Error, out: &mut W) -> Result<(), Fault<'a>>
     ensures { IfErr result (λ fault. fault ≡ Fault.Write) }
 {
@@ -310,8 +311,8 @@ fn show_text<'a, W: Write>(error: &Error, out: &mut W) -> Result<(), Fault<'a>>
     flush(out)
 }
 
-// Shows what clap answers when there is nothing to run: help and version on `out`, else the mistake
-// on `err`.
+/// Shows what clap answers when there is nothing to run: help and version on `out`, else the mistake
+/// on `err`.
 fn show<W: Write, E: Write>(error: &Error, out: &mut W, err: &mut Complaints<E>) -> u8
     ensures help { result ≡ 0 → IsRequest (kind_of error.now) }
     ensures memory { kind_of error.now ≡ ErrorKind.OutOfMemory → result ≡ 1 }

@@ -18,7 +18,7 @@ use std::random::RandomSource;
 use std::sync::Wait;
 use std::thread::Threads;
 
-// A gate that keeps nobody waiting.
+/// A gate that keeps nobody waiting.
 #[derive(Drop)]
 struct Open;
 
@@ -56,8 +56,8 @@ pub fn outcome_of<'a, R: Threads + Wait + RandomSource + Sync>(
     }
 }
 
-// The law that where no token has taps in two files, what is shown of an outcome is shown over the
-// plain history of the files. Reads no tap and no entry.
+/// The law that where no token has taps in two files, what is shown of an outcome is shown over the
+/// plain history of the files. Reads no tap and no entry.
 fn shows_plain(files: &[Vec<u8>], outcome: &Outcome)
     ensures { (fares : Fares) (shards workers : ℕ) (explain : Bool) (token : Option Token)
         (text : List ℕ) → IsRun fares shards workers (map (λ f. f.items) files.now) outcome.now
@@ -94,6 +94,7 @@ pub fn post_live<'a, R: Threads + Wait + RandomSource + Sync>(
     })
 }
 
+/// Whether the upload was posted whole.
 fn is_posted(end: UploadEnd) -> bool
     ensures { result ≡ is_posted end }
 {

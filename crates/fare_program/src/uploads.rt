@@ -12,7 +12,7 @@ use fare_table::{FareTable, NoMemory};
 use std::alloc::Global;
 use tap_views::{Batch, TapView, batches};
 
-// Whether the tap's validator is known.
+/// Whether the tap's validator is known.
 fn is_known(table: Option<&FareTable>, tap: &TapView) -> bool
     ensures { result ≡ is_known (option_copied table.entry) tap.now }
 {
@@ -22,7 +22,7 @@ fn is_known(table: Option<&FareTable>, tap: &TapView) -> bool
     }
 }
 
-// Lists one tap, with its line.
+/// Lists one tap, with its line.
 fn list_tap(
     text: &mut String,
     listing: &mut Listing,
@@ -41,7 +41,7 @@ fn list_tap(
     write_tap(text, upload, number, tap, word)
 }
 
-// Lists the taps of a batch, the first of which has this number in its upload.
+/// Lists the taps of a batch, the first of which has this number in its upload.
 fn list_batch(
     text: &mut String,
     listing: &mut Listing,
@@ -66,8 +66,8 @@ fn list_batch(
     Ok(number)
 }
 
-// Lists an upload, of which the file is given: the taps of its batches up to the first layout
-// fault, and that fault. Says whether there is none.
+/// Lists an upload, of which the file is given: the taps of its batches up to the first layout
+/// fault, and that fault. Says whether there is none.
 fn list_upload(
     text: &mut String,
     listing: &mut Listing,
@@ -96,8 +96,8 @@ fn list_upload(
     Ok(whole)
 }
 
-// Lists uploads, of which the files are given, from the first on. Says whether none has a layout
-// fault.
+/// Lists uploads, of which the files are given, from the first on. Says whether none has a layout
+/// fault.
 fn list_uploads(
     text: &mut String,
     listing: &mut Listing,

@@ -21,6 +21,7 @@ IsOpenFault shards uploads NoMemory = (0 < shards) × (shards ≤ 64) × (upload
 abbrev pub visits_held : ℕ → List ShareView → ℕ
 visits_held shard shares = sum_by (λ share. length (own_at shard share.passes)) shares
 
+-- how many uploads the shares drew
 abbrev pub uploads_held : List ShareView → ℕ
 uploads_held shares = sum_by (λ share. length share.drawer.drawn) shares
 

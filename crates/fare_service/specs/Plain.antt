@@ -57,6 +57,7 @@ unanswered tap =
       cents = 0;
     }
 
+-- the entry with another answer and other cents
 abbrev pub with_reply : Entry → Reply → Entry
 with_reply entry replied =
     record {
@@ -134,6 +135,7 @@ pub record IsPlainEnd (file : List ℕ) (end : UploadEnd) : Type 0 where
   pub is_fault : IsFaultOf file rest fault
   pub ended : end ≡ end_by (length (flat_map (λ batch. batch) batches)) fault
 
+-- each upload has such an end
 abbrev pub ArePlainEnds : List (List ℕ) → List UploadEnd → Type 0
 ArePlainEnds uploads ends = AllZip IsPlainEnd uploads ends
 

@@ -30,6 +30,7 @@ pub record Run : Type 0 where
   pub shard : ℕ
   pub taps : List PlacedTap
 
+-- a run of this shard, with these taps
 abbrev pub run : ℕ → List PlacedTap → Run
 run shard taps = record { shard = shard; taps = taps }
 
@@ -62,6 +63,7 @@ pub record IsEntered (shards : ℕ) (visit : Visit) : Type 0 where
   pub within : visit.shard < shards
   pub fields : AllZip IsEntryOf (taps_of_placed visit.taps) visit.entries
 
+-- the run that a visit posted
 abbrev pub run_of_visit : Visit → Run
 run_of_visit visit = run visit.shard visit.taps
 

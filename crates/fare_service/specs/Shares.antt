@@ -43,6 +43,7 @@ pub record Worked : Type 0 where
   pub end : UploadEnd
   pub visits : List Visit
 
+-- the visits of all these uploads, upload by upload
 abbrev pub all_visits : List Worked → List Visit
 all_visits works = flat_map (λ w. w.visits) works
 
@@ -50,6 +51,7 @@ all_visits works = flat_map (λ w. w.visits) works
 abbrev pub all_works : List (List Worked) → List Worked
 all_works works = flat_map (λ done. done) works
 
+-- the upload and how it ended
 abbrev pub done_of : Worked → Done
 done_of w = record { upload = w.upload; end = w.end }
 

@@ -8,6 +8,7 @@ Outcome A = Result A TableFault
 
 -- steps one after the other, up to the first fault
 infixl 10 ◌>>=◌
+-- the first fault, or what comes of the value
 abbrev pub ◌>>=◌ : {A B : Type 0} → Result A TableFault → (A → Result B TableFault)
     → Result B TableFault
 Ok x >>= f = f x

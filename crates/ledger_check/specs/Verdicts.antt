@@ -53,6 +53,7 @@ IsTrueOf fares lines (NoLine number) =
 abbrev pub IsVerdict : Fares → List ℕ → Verdict → Type 0
 IsVerdict fares text verdict = IsTrueOf fares (lines_of text) verdict
 
+-- whether the verdict is that the ledger is legal
 abbrev pub is_legal : Verdict → Bool
 is_legal (Legal number) = true
 is_legal (Wants number wanted) = false

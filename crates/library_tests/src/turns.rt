@@ -15,8 +15,8 @@ use std::thread;
 use std::thread::Threads;
 use tap_views::{Batch, TapFields};
 
-// A book that is the only one of its service, shared from the number on, with its first pass and
-// its clock.
+/// A book that is the only one of its service, shared from the number on, with its first pass and
+/// its clock.
 fn shared_from<R: RandomSource>(
     rt: &R,
     alloc: Global,
@@ -34,7 +34,7 @@ fn shared_from<R: RandomSource>(
     Ok((shared, pass, clock))
 }
 
-// Visits with one run of these taps: the visit's number and end, or nothing where the book is full.
+/// Visits with one run of these taps: the visit's number and end, or nothing where the book is full.
 fn visit<R: Wait>(
     rt: &R,
     alloc: Global,
@@ -60,7 +60,7 @@ fn visit<R: Wait>(
     }
 }
 
-// Row by row: a subway ride and a bus ride at the limit of two hours.
+/// Row by row: a subway ride and a bus ride at the limit of two hours.
 fn ride_and_transfer() -> [TapFields; 2] {
     [tap(0xa1, SUBWAY, START), tap(0xa1, BUS, START + 7_200_000)]
 }
@@ -90,7 +90,7 @@ fn the_last_number_is_given_and_then_the_book_is_full(rt: HostRuntime) -> Result
     Ok(())
 }
 
-// Visit 0 of one token, a read of it, and visit 2 of another token by a new pass.
+/// Visit 0 of one token, a read of it, and visit 2 of another token by a new pass.
 fn three_turns<R: Wait + RandomSource + Abort>(
     rt: &R,
     alloc: Global,
@@ -162,7 +162,7 @@ fn an_owner_without_a_pass_closes_too(rt: HostRuntime) -> Result<(), Fail> {
     Ok(())
 }
 
-// Whether the first lines begin the second ones.
+/// Whether the first lines begin the second ones.
 fn begin(first: &Lines, second: &Lines) -> bool {
     if first.len() > second.len() {
         return false;
@@ -177,8 +177,8 @@ fn begin(first: &Lines, second: &Lines) -> bool {
 
 const TURNS: u64 = 100;
 
-// Reads the token again and again. Nothing where a read has no answer, or does not begin with the
-// lines of the one before.
+/// Reads the token again and again. Nothing where a read has no answer, or does not begin with the
+/// lines of the one before.
 fn read_often<R: Wait>(rt: &R, alloc: Global, shared: &SharedBook, mut pass: Pass) -> Option<Pass>
     requires own { pass.book ≡ shared.now }
     ensures { IfSome result (λ pass. pass.book ≡ shared.now) }
@@ -199,7 +199,7 @@ fn read_often<R: Wait>(rt: &R, alloc: Global, shared: &SharedBook, mut pass: Pas
     Some(pass)
 }
 
-// Visits with one tap of the token again and again. Nothing where a visit has no answer.
+/// Visits with one tap of the token again and again. Nothing where a visit has no answer.
 fn visit_often<R: Wait>(
     rt: &R,
     alloc: Global,
@@ -255,8 +255,8 @@ fn a_reader_beside_a_visitor_sees_the_history_grow(rt: HostRuntime) -> Result<()
     Ok(())
 }
 
-// What one of several threads does: as many visits of these taps as it is told, or fewer where the
-// book gets full.
+/// What one of several threads does: as many visits of these taps as it is told, or fewer where the
+/// book gets full.
 #[derive(Drop)]
 struct Job<'a> {
     shared: &'a SharedBook,
@@ -269,7 +269,7 @@ struct Job<'a> {
     ghost only: { (shared.now.shard ≡ 0) × (shared.now.shards ≡ 1) },
 }
 
-// How many visits were made.
+/// How many visits were made.
 fn work<R: AllocGlobal + Wait>(rt: &R, job: Job<'_>) -> Result<u64, NoMemory> {
     let Job {
         shared,
@@ -288,7 +288,7 @@ fn work<R: AllocGlobal + Wait>(rt: &R, job: Job<'_>) -> Result<u64, NoMemory> {
 
 const THREADS: u64 = 4;
 
-// A job for each thread, with a pass of its own.
+/// A job for each thread, with a pass of its own.
 fn jobs_of<'a>(
     alloc: Global,
     shared: &'a SharedBook,
@@ -315,8 +315,8 @@ fn jobs_of<'a>(
     Ok(jobs)
 }
 
-// Visits by several threads, each so long that whoever waits for it falls asleep: how many were
-// made in all, and are counted.
+/// Visits by several threads, each so long that whoever waits for it falls asleep: how many were
+/// made in all, and are counted.
 fn visits_by_all<R: AllocGlobal + RandomSource + Threads + Wait + Sync>(
     rt: &R,
     first: u64,
@@ -335,7 +335,7 @@ fn visits_by_all<R: AllocGlobal + RandomSource + Threads + Wait + Sync>(
     Ok((made, shared.head(&mut pass)))
 }
 
-// A wake that is forgotten leaves a thread asleep, and the test does not end.
+/// A wake that is forgotten leaves a thread asleep, and the test does not end.
 #[test]
 fn a_waiting_visit_is_woken(rt: HostRuntime) -> Result<(), Fail> {
     let (made, head) = visits_by_all(&rt, 0, 20)?;

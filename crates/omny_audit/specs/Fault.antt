@@ -23,6 +23,7 @@ table_text table.Rider = codes "fault: table F7"
 table_text table.NoMemory = codes "fault: out of memory"
 table_text table.Zone = codes "fault: table F9"
 
+-- the line that the program writes of a fault
 abbrev pub fault_text : Fault → List ℕ
 fault_text (Unread name) = codes "fault: cannot read " ++ name.now
 fault_text (TooLong name) = codes "fault: " ++ (name.now ++ codes " is too long")

@@ -37,6 +37,7 @@ ledger_rule = record (new_rule (codes "LEDGER")) { action = Some Set }
 abbrev pub named_app : App
 named_app = on_top (λ s. record s { has_version = true }) (new_app (codes "omny_audit"))
 
+-- all words that the program takes
 unfoldable pub program : App
 program = with_rule (with_rule (with_rule named_app table_rule) uploads_rule) ledger_rule
 

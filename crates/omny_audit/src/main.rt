@@ -42,6 +42,7 @@ fn words_of<R: Env + AllocGlobal>(rt: &R) -> io::Result<Vec<String>> {
     Ok(words)
 }
 
+/// The program.
 fn main(rt: HostRuntime) -> ExitCode {
     let mut err = Complaints::new(Escaping::new(rt.stderr()));
     let status = match words_of(&rt) {

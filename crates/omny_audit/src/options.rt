@@ -10,6 +10,7 @@ use clap::{Arg, ArgAction, ArgMatches, Command, Error};
 use program_version::VERSION;
 use std::alloc::{AllocError, Global};
 
+/// What the program is for, as the help says it first.
 const ABOUT: &str = "Checks a ledger under a fare table, and against uploads.
 
 A ledger has a head line, and for each token, rising, a line for each of its taps: what it cost and
@@ -17,6 +18,7 @@ why. It is legal where each line is the one that the fare rules give its tap aft
 With --uploads its taps must be those of the uploads before their layout faults, each as often as
 there, in whatever order.";
 
+/// What the help says last: what is printed, and the exit status.
 const NOTES: &str = "What is printed:
   legal N lines              the text is, whole, a ledger; N does not count the head line
   line N wants LINE          the first line that no ledger has there, and the one that its tap should
@@ -50,12 +52,15 @@ pub struct Options<'a> {
     pub ledger: Option<&'a str>,
 }
 
+/// The help of `--table`.
 const TABLE_HELP: &str = "The fare table, a TOML file";
 
+/// The help of `--uploads`.
 const UPLOADS_HELP: &str =
     "Uploads of at most 67108864 bytes, whose taps the ledger should have; the list ends at the \
      next option, at --, or with the line";
 
+/// The help of the ledger.
 const LEDGER_HELP: &str = "The ledger, a CSV file of any length [default: standard input, as -]";
 
 /// `--table F`.

@@ -13,15 +13,18 @@ use jiff::Timestamp;
 use program_version::VERSION;
 use std::alloc::{AllocError, Global};
 
+/// What the program is for, as the help says it first.
 const ABOUT: &str =
     "Turns tables of taps into uploads and back, and tells what uploads and fare tables have.";
 
+/// The exit status, as the help says it last.
 const STATUS: &str = "Exit status:
   0  all is done
   1  a file has a fault, or could not be read or written, as a line `fault: ..` on the standard
      error tells
   2  the command line is wrong";
 
+/// What `encode` does.
 const ENCODE_ABOUT: &str = "Writes the upload of a table of taps to standard output.
 
 The table is CSV. Its first line is token,validator,moment. Each other line is a tap: 32
@@ -33,30 +36,38 @@ The taps come out in the order of their lines, in TAP1 batches of 4096, the last
 If a line is wrong, nothing is written, and its number is told. So a file is read twice, and may be
 larger than memory. Standard input and pipes are held in memory whole.";
 
+/// The help of `encode`'s table.
 const ENCODE_HELP: &str = "The table; - stands for standard input [default: standard input]";
 
+/// What `decode` does.
 const DECODE_ABOUT: &str = "Writes the taps of uploads to standard output, as one table for encode.
 
 Tokens have lower-case digits, moments are milliseconds. Of an upload with a layout fault the taps
 before it are written, and the fault is told.";
 
+/// The help of `decode`'s uploads.
 const DECODE_HELP: &str =
     "Uploads of at most 67108864 bytes; - stands for standard input [default: standard input]";
 
+/// What `uploads` does.
 const UPLOADS_ABOUT: &str =
     "Tells what uploads have: batches, taps, first and last moment, and the layout fault, if any, with
 its batch, its tap (both from 0), the offset of its batch in bytes, and what to do.
 
 An upload with a layout fault is told up to it, and the status is 1.";
 
+/// The help of `--tokens`.
 const TOKENS_HELP: &str =
     "Tell how many tokens each upload has, and how many of these stand in another FILE, too";
 
+/// The help of the uploads.
 const UPLOADS_HELP: &str = "Uploads of at most 67108864 bytes; - stands for standard input";
 
+/// The help of `--good-part`.
 const GOOD_PART_HELP: &str =
     "Make the file OUT of the batches before the layout fault; it must not be there; needs one FILE";
 
+/// What `table` does.
 const TABLE_ABOUT: &str =
     "Tells a fare table as it is understood: the zone with its next changes of clocks, the modes, the
 transfers, the classes with the price of each ride of a window, the ranges of validators with the
@@ -67,16 +78,21 @@ are given, ranges that no validator of theirs is in, and validators of theirs th
 Faults tell each wrong value: its whole path, its line and column, and what is wanted. Both are told
 on the standard error, and of a table with a fault nothing else.";
 
+/// The help of the table.
 const TABLE_HELP: &str =
     "The fare table, a TOML file of at most 67108864 bytes; - stands for standard input";
 
+/// The help of `table`'s `--uploads`.
 const TABLE_UPLOADS_HELP: &str =
     "Uploads of at most 67108864 bytes, whose validators are held against the ranges";
 
+/// The help of `--strict`.
 const STRICT_HELP: &str = "Let the status be 1 also where there is a warning";
 
+/// The help of `--riders`.
 const RIDERS_HELP: &str = "Tell each rider with its class";
 
+/// The help of `--from`.
 const FROM_HELP: &str =
     "Tell the changes of clocks after this moment, as 2026-03-01T00:00:00Z [default: now]";
 

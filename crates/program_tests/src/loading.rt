@@ -72,8 +72,8 @@ fn loads_up_to_the_limit(rt: HostRuntime) -> Result<(), Fail> {
     Ok(())
 }
 
-// Each file holds its own name. One is named twice, and they are also loaded in another order than
-// that in which they were read.
+/// Each file holds its own name. One is named twice, and they are also loaded in another order than
+/// that in which they were read.
 #[test]
 fn loads_each_early_file_under_its_name(rt: HostRuntime) -> Result<(), Fail> {
     let [a, b, c] = ["each_a.tap", "each_b.tap", "each_c.tap"];
@@ -96,8 +96,8 @@ fn loads_each_early_file_under_its_name(rt: HostRuntime) -> Result<(), Fail> {
     Ok(())
 }
 
-// What a file holds at first, and when its turn comes, says when it was read: here of files with a
-// folder between them.
+/// What a file holds at first, and when its turn comes, says when it was read: here of files with a
+/// folder between them.
 #[test]
 fn reads_files_early_by_several_threads_alone(rt: HostRuntime) -> Result<(), Fail> {
     let [a, b, c, folder] = ["early_a.tap", "early_b.tap", "early_c.tap", "early_folder"];
@@ -160,8 +160,8 @@ fn early_names<R: Threads + Sync + Abort>(
     Ok(text)
 }
 
-// Each thread's part ends behind the first fault, and before the first file for which there is no
-// memory.
+/// Each thread's part ends behind the first fault, and before the first file for which there is no
+/// memory.
 #[test]
 fn reads_parts_up_to_a_fault(rt: HostRuntime) -> Result<(), Fail> {
     let alloc = rt.alloc();

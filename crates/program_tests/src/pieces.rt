@@ -103,7 +103,7 @@ fn a_long_report_goes_out_in_pieces(rt: HostRuntime) -> Result<(), Fail> {
     Ok(())
 }
 
-// Would catch a later piece whose fault is dropped.
+/// Would catch a later piece whose fault is dropped.
 #[test]
 fn each_piece_may_fail(rt: HostRuntime) -> Result<(), Fail> {
     let alloc = rt.alloc();

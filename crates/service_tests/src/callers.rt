@@ -17,8 +17,8 @@ use std::sync::Wait;
 use std::test::Fail;
 use std::thread::Threads;
 
-// Runs a service of these uploads, and knows of the outcome that its report is that of their plain
-// history.
+/// Runs a service of these uploads, and knows of the outcome that its report is that of their plain
+/// history.
 fn run<R: Threads + Wait + Sync, G: Gate + Sync>(
     service: Service,
     uploads: &[Vec<u8>],
@@ -51,7 +51,7 @@ fn report_text<R: Threads + Sync>(
     Ok(text)
 }
 
-// The outcome of a service of so many shards.
+/// The outcome of a service of so many shards.
 fn posted<R: Threads + Wait + RandomSource + Sync>(
     rt: &R,
     alloc: Global,

@@ -38,8 +38,8 @@ fn end_of_a_cut_file(bytes: usize) -> UploadEnd {
     }
 }
 
-// Would catch an offset or a count that is one batch or one byte off in the service, which hands
-// the views' fault on.
+/// Would catch an offset or a count that is one batch or one byte off in the service, which hands
+/// the views' fault on.
 #[test]
 fn a_file_cut_at_every_length(rt: HostRuntime) -> Result<(), Fail> {
     let alloc = rt.alloc();
@@ -88,7 +88,7 @@ fn end_of_a_turned_bit(byte: usize, bit: u32) -> UploadEnd {
     }
 }
 
-// Would catch a service that posts the taps of a batch whose header is damaged.
+/// Would catch a service that posts the taps of a batch whose header is damaged.
 #[test]
 fn every_bit_of_a_header_turned(rt: HostRuntime) -> Result<(), Fail> {
     let alloc = rt.alloc();

@@ -31,7 +31,7 @@ validators 0
 tokens 0
 ";
 
-// The outcome has this report.
+/// The outcome has this report.
 fn is_reported<R: Abort + Threads + Sync>(
     rt: &R,
     alloc: Global,
@@ -61,11 +61,11 @@ fn no_uploads_are_reported(rt: HostRuntime) -> Result<(), Fail> {
     is_reported(&rt, alloc, &outcome, NO_REPORT)
 }
 
-// The most turns that a gate waits.
+/// The most turns that a gate waits.
 const TURNS: u64 = 1_000_000_000;
 
-// The first upload waits for the end of the second, which waits for the start of the first: so two
-// workers draw one each.
+/// The first upload waits for the end of the second, which waits for the start of the first: so two
+/// workers draw one each.
 #[derive(Drop)]
 struct Both {
     started: AtomicBool,
@@ -114,7 +114,7 @@ impl Gate for Both {
     }
 }
 
-// Each upload was posted whole, by one worker or the other.
+/// Each upload was posted whole, by one worker or the other.
 fn were_both_posted<R: Abort>(rt: &R, outcome: &Outcome) {
     assert_eq!(rt;
         (end_of(outcome, 0), end_of(outcome, 1)),
@@ -139,7 +139,7 @@ fn two_workers_post_at_once(rt: HostRuntime) -> Result<(), Fail> {
     is_reported(&rt, alloc, &outcome, REPORT)
 }
 
-// A service of one shard whose two shares have posted one upload each.
+/// A service of one shard whose two shares have posted one upload each.
 fn both_worked<'a, R: Threads + Wait + RandomSource + Sync>(
     rt: &R,
     alloc: Global,
@@ -164,10 +164,10 @@ fn both_worked<'a, R: Threads + Wait + RandomSource + Sync>(
     Ok((service, one, two))
 }
 
-// How often shares are held back: each time the schedule is another.
+/// How often shares are held back: each time the schedule is another.
 const TIMES: u32 = 100;
 
-// Of two shares that posted so many taps each, only so many are gathered: one or none.
+/// Of two shares that posted so many taps each, only so many are gathered: one or none.
 fn fault_with<R: Threads + Wait + RandomSource + Sync + Abort>(
     rt: &R,
     alloc: Global,
@@ -185,7 +185,7 @@ fn fault_with<R: Threads + Wait + RandomSource + Sync + Abort>(
     Ok(service.gather(alloc, Vec::new(alloc)).err())
 }
 
-// Of the two visits to the only shard only those of the gathered shares are told.
+/// Of the two visits to the only shard only those of the gathered shares are told.
 #[test]
 fn a_share_held_back_is_missing(rt: HostRuntime) -> Result<(), Fail> {
     let alloc = rt.alloc();
@@ -203,7 +203,7 @@ fn a_share_held_back_is_missing(rt: HostRuntime) -> Result<(), Fail> {
     Ok(())
 }
 
-// Two shares of a service, to be gathered.
+/// Two shares of a service, to be gathered.
 fn pair(service: &Service, alloc: Global, one: Share, two: Share) -> Result<Vec<Share>, Fail>
     requires one { IsShareOf service.now one }
     requires two { IsShareOf service.now two }
@@ -215,7 +215,7 @@ fn pair(service: &Service, alloc: Global, one: Share, two: Share) -> Result<Vec<
     Ok(shares)
 }
 
-// How many workers and taps there are where both shares are gathered.
+/// How many workers and taps there are where both shares are gathered.
 fn gathered_of_both<R: Threads + Wait + RandomSource + Sync>(
     rt: &R,
     alloc: Global,
@@ -237,7 +237,7 @@ fn both_shares_are_gathered(rt: HostRuntime) -> Result<(), Fail> {
     Ok(())
 }
 
-// Of the two uploads without taps that were drawn only those of the gathered shares are told.
+/// Of the two uploads without taps that were drawn only those of the gathered shares are told.
 #[test]
 fn an_upload_held_back_is_missing(rt: HostRuntime) -> Result<(), Fail> {
     let alloc = rt.alloc();
@@ -250,7 +250,7 @@ fn an_upload_held_back_is_missing(rt: HostRuntime) -> Result<(), Fail> {
     Ok(())
 }
 
-// The outcome where nobody works.
+/// The outcome where nobody works.
 fn unused<R: RandomSource>(rt: &R, alloc: Global, uploads: &[Vec<u8>]) -> Result<Outcome, Fail> {
     let (service, share) = opened(rt, alloc, uploads, 8)?;
     Ok(service.gather(alloc, vec![in alloc; share]?)?)

@@ -36,8 +36,8 @@ fn report_by_all_workers<R: Threads + Wait + RandomSource + Sync + Abort>(
     Ok(())
 }
 
-// Would catch a worker that stops while uploads are left, or that gives up where others hold the
-// turn it wants: the contracts let a gathering tell of uploads that nobody drew.
+/// Would catch a worker that stops while uploads are left, or that gives up where others hold the
+/// turn it wants: the contracts let a gathering tell of uploads that nobody drew.
 #[test]
 fn the_report_is_the_same_for_every_number_of_workers(rt: HostRuntime) -> Result<(), Fail> {
     let alloc = rt.alloc();
@@ -68,8 +68,8 @@ fn are_posted<R: Abort>(rt: &R, outcome: &Outcome) {
     }
 }
 
-// Would catch an upload that two workers draw, and batches that are lost where both workers want
-// one shard.
+/// Would catch an upload that two workers draw, and batches that are lost where both workers want
+/// one shard.
 #[test]
 fn twenty_uploads_by_two_workers(rt: HostRuntime) -> Result<(), Fail> {
     let alloc = rt.alloc();

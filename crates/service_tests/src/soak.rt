@@ -139,9 +139,9 @@ fn taps_of_workers(outcome: &Outcome) -> u128 {
     taps
 }
 
-// Would catch what only many threads meet: a turn that two have at once, a wake that is lost (the
-// test would not end), a worker that leaves uploads undrawn; also that an order which the service
-// shows is not one that the account rule explains.
+/// Would catch what only many threads meet: a turn that two have at once, a wake that is lost (the
+/// test would not end), a worker that leaves uploads undrawn; also that an order which the service
+/// shows is not one that the account rule explains.
 #[test]
 fn sixteen_workers_share_tokens(rt: HostRuntime) -> Result<(), Fail> {
     let alloc = rt.alloc();

@@ -38,7 +38,7 @@ impl Write for Narrow {
     }
 }
 
-// Would catch a text that is said to be written where its end was not.
+/// Would catch a text that is said to be written where its end was not.
 #[test]
 fn a_writer_that_fails_after_some_bytes(rt: HostRuntime) -> Result<(), Fail> {
     let alloc = rt.alloc();

@@ -9,9 +9,11 @@ use Rattle.shard_book.specs.Rising.{rising}
 use Rattle.shard_book.specs.Sums.{Sums, sums}
 use Rattle.fare_table.specs.Token.{token_cmp}
 
+-- the validator of an entry
 abbrev pub validator_of : Entry → ℕ
 validator_of entry = entry.validator
 
+-- the token of an entry
 abbrev pub token_of : Entry → Token
 token_of entry = entry.token
 

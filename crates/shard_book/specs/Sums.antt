@@ -8,22 +8,27 @@ use Rattle.shard_book.specs.declared.entry.Entry.{Entry}
 use Rattle.shard_book.specs.declared.sums.totals.Totals.{Totals}
 use Rattle.shard_book.specs.Entry.{reply_of}
 
+-- whether the answer is that the ride is paid
 abbrev pub is_paid : Answer → Bool
 is_paid Paid = true
 is_paid _ = false
 
+-- whether it is that the tap is a transfer
 abbrev pub is_transfer : Answer → Bool
 is_transfer Transfer = true
 is_transfer _ = false
 
+-- whether it is that the limits make the ride free
 abbrev pub is_capped : Answer → Bool
 is_capped Capped = true
 is_capped _ = false
 
+-- whether it is that the tap is stale
 abbrev pub is_stale : Answer → Bool
 is_stale Stale = true
 is_stale _ = false
 
+-- whether it is that the validator is unknown
 abbrev pub is_unknown : Answer → Bool
 is_unknown Unknown = true
 is_unknown _ = false

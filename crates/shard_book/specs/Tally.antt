@@ -16,5 +16,6 @@ sums_of_places counts cents = record {
   cents = cents;
 }
 
+-- the sums that a tally stands for
 abbrev pub sums_of_tally : Tally → Sums
 sums_of_tally tally = sums_of_places tally.counts tally.cents

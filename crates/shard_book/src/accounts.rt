@@ -106,7 +106,7 @@ impl Accounts {
         }
     }
 
-    // Whether the token's account is at this place.
+    /// Whether the token's account is at this place.
     #[inline(always)]
     #[tactic(auto, unfolding(crate::specs::inside::Accounts::kept_at))]
     fn is_at(&self, place: u32, token: Token) -> bool
@@ -118,8 +118,8 @@ impl Accounts {
         }
     }
 
-    // The place of the token's account, which is opened where there is none. No look-up is needed
-    // where it is at `known`.
+    /// The place of the token's account, which is opened where there is none. No look-up is needed
+    /// where it is at `known`.
     #[inline(always)]
     fn place(&mut self, token: Token, known: u32) -> Result<u32, NoMemory>
         ensures made { IfOk result (IsMade self.old self.new token) }
@@ -222,4 +222,5 @@ impl Accounts {
     }
 }
 
+/// A kept account fills a line of the caches.
 const _: () = prove!(size_of::<Kept>() == 64);

@@ -99,4 +99,5 @@ impl PackedEntry {
     }
 }
 
+/// A packed entry has 16 bytes.
 const _: () = prove!(size_of::<PackedEntry>() == 16);

@@ -19,6 +19,7 @@ claims_left claims = claims - max 1 (claims / 2)
 -- Between any two steps: a claim was lost, or all views together have all claims, and whoever has
 -- none was joined into another.
 module _ {V : Type 0} where
+  -- Fewer than all claims are held, or exactly all, and then who holds none has spent them.
   abbrev pub AreClaims : (V → ℕ) → (V → Type 0) → List V → Type 0
   AreClaims claims Spent views =
       (sum_by claims views < all_claims)

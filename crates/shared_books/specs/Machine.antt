@@ -15,6 +15,7 @@ pub data Event : Type 0 where
   taken : ℕ → Event
   given : ℕ → List Entry → Event
 
+-- nobody has the turn, and there are no visits yet
 abbrev pub start : ℕ → Machine
 start first = record { count = first; holder = none; visits = [] }
 
@@ -23,11 +24,13 @@ abbrev pub May : Machine → Event → Type 0
 May m (taken seat) = m.holder ≡ none
 May m (given seat visit) = m.holder ≡ some seat
 
+-- after a turn was taken, or given back with its visit
 abbrev pub next : Machine → Event → Machine
 next m (taken seat) = record { count = m.count; holder = some seat; visits = m.visits }
 next m (given seat visit) =
     record { count = m.count + 1; holder = none; visits = m.visits ++ visit ∷ [] }
 
+-- after all these events
 abbrev pub after : Machine → List Event → Machine
 after m [] = m
 after m (e ∷ es) = after (next m e) es

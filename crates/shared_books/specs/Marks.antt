@@ -5,6 +5,7 @@ use Rattle.std.specs.Prelude.{◌++◌, map}
 use Rattle.shard_book.specs.declared.entry.Entry.{Entry}
 use Rattle.shared_books.specs.declared.turns.rule.Mark.{Mark}
 
+-- a visit, and whether it is the pass's own
 abbrev pub mark : Bool → List Entry → Mark
 mark mine visit = record { mine = mine; visit = visit }
 
@@ -12,6 +13,7 @@ mark mine visit = record { mine = mine; visit = visit }
 abbrev pub others : List (List Entry) → List Mark
 others visits = map (mark false) visits
 
+-- the visits that are marked
 abbrev pub visits_of : List Mark → List (List Entry)
 visits_of marks = map (λ m. m.visit) marks
 

@@ -4,6 +4,7 @@ use Rattle.shared_books.specs.declared.turns.rule.Opening.{Opening}
 use Rattle.shared_books.specs.declared.turns.rule.Mark.{Mark}
 use Rattle.shared_books.specs.declared.turns.rule.View.{View}
 
+-- what a pass knows while it lives
 abbrev pub view : Opening → ℕ → Bool → List Mark → List Mark → View
 view o claims turn marks met =
     record { live = true; opened = o; claims = claims; turn = turn; marks = marks; met = met }

@@ -21,9 +21,11 @@ IsValidator text number = IsDecimal text number × (number < 2 ^ 32)
 abbrev pub TellsToken : List ℕ → List ℕ → Type 0
 TellsToken text token = FieldStandsForSome (λ value. IsToken value token) text
 
+-- it stands for a validator's number
 abbrev pub TellsValidator : List ℕ → ℕ → Type 0
 TellsValidator text number = FieldStandsForSome (λ value. IsValidator value number) text
 
+-- it stands for a moment
 abbrev pub TellsMoment : List ℕ → ℕ → Type 0
 TellsMoment text number = FieldStandsForSome (λ value. IsMoment value number) text
 

@@ -22,6 +22,7 @@ pub record IsClosedBy (passes : List PassView) (shard : ℕ) (book : Book) : Typ
   pub legal : IsLegal book.table book.entries
   pub limits : KeepsLimits book
 
+-- each book is what closing it by these passes gives
 abbrev pub AreClosed : List PassView → List Book → Type 0
 AreClosed passes books =
     (shard : ℕ) (book : Book) → slice_get books shard ≡ Some book → IsClosedBy passes shard book
@@ -34,6 +35,7 @@ pub record IsUnseen (opened : List SharedBookView) (shard : ℕ) (book : Book) :
   pub legal : IsLegal book.table book.entries
   pub limits : KeepsLimits book
 
+-- each book is as it was opened
 abbrev pub AreUnseen : List SharedBookView → List Book → Type 0
 AreUnseen opened books =
     (shard : ℕ) (book : Book) → slice_get books shard ≡ Some book → IsUnseen opened shard book

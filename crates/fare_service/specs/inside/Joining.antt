@@ -20,6 +20,7 @@ abbrev pub told : List UploadEnd → List Done → List UploadEnd
 told ends [] = ends
 told ends (d ∷ done) = told (slice_set ends d.upload d.end) done
 
+-- the ends, with those that all shares tell
 abbrev pub told_all : List UploadEnd → List ShareView → List UploadEnd
 told_all ends [] = ends
 told_all ends (share ∷ shares) = told_all (told ends share.done) shares
@@ -30,6 +31,7 @@ pub record IsSign (i nobody : ℕ) (s : Signed) (m : Mark) : Type 0 where
   pub mine : m.mine ≡ nat_lt s.worker i
   pub other : m.mine ≡ false → s.worker ≡ nobody
 
+-- each sign is that of its mark
 abbrev pub AreSigns : ℕ → ℕ → List Signed → List Mark → Type 0
 AreSigns i nobody signs marks = AllZip (IsSign i nobody) signs marks
 

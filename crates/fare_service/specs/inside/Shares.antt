@@ -4,5 +4,6 @@ use Rattle.fare_service.specs.declared.upload_end.UploadEnd.{UploadEnd}
 use Rattle.fare_service.specs.Runs.{Visit}
 use Rattle.fare_service.specs.Shares.{Worked}
 
+-- an upload with its end and its visits
 abbrev pub worked : ℕ → UploadEnd → List Visit → Worked
 worked upload end visits = record { upload = upload; end = end; visits = visits }

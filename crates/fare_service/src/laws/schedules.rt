@@ -47,6 +47,7 @@ pub fn cuts(uploads: &[Vec<u8>])
     }
 }
 
+/// A file has taps before its first layout fault, and its bytes are bytes.
 fn taps_of(file: &[u8])
     ensures taps { (taps : List Tap) × AreTapsOf file.now taps }
     ensures bytes { All (λ byte. byte < 256) file.now }
@@ -141,6 +142,7 @@ pub fn same_texts(uploads: &[Vec<u8>], one: &Outcome, other: &Outcome)
     statements(uploads, other);
 }
 
+/// Whether the upload ended by itself: posted, or refused by a layout fault.
 fn was_whole(end: UploadEnd) -> bool
     ensures { Decides result (WasWhole end) }
 {

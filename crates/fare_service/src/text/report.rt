@@ -45,6 +45,7 @@ fn write_uploads(text: &mut String, ends: &[UploadEnd]) -> Result<(), AllocError
     write_upload_lines(text, ends)
 }
 
+/// The line `uploads 2`.
 #[tactic(auto, unfolding(crate::specs::Text::uploads_head))]
 fn write_uploads_head(text: &mut String, count: usize) -> Result<(), AllocError>
     ensures { OnOk result (string_bytes text.new ≡ string_bytes text.old ++ uploads_head count) }
@@ -52,6 +53,7 @@ fn write_uploads_head(text: &mut String, count: usize) -> Result<(), AllocError>
     writeln!(text, "uploads {count}")
 }
 
+/// A line for each upload.
 #[tactic(auto, using(crate::proofs::Parts::lines_more))]
 fn write_upload_lines(text: &mut String, ends: &[UploadEnd]) -> Result<(), AllocError>
     ensures { OnOk result (string_bytes text.new ≡ string_bytes text.old
@@ -63,6 +65,7 @@ fn write_upload_lines(text: &mut String, ends: &[UploadEnd]) -> Result<(), Alloc
     Ok(())
 }
 
+/// The line `upload 0 posted 4`.
 #[tactic(auto, unfolding(crate::specs::Text::upload_line))]
 fn write_upload(text: &mut String, upload: usize, end: &UploadEnd) -> Result<(), AllocError>
     ensures { OnOk result (string_bytes text.new ≡ string_bytes text.old
@@ -81,6 +84,7 @@ fn write_validators(text: &mut String, sums: &[ValidatorSum]) -> Result<(), Allo
     write_validator_lines(text, sums)
 }
 
+/// The line `validators 3`.
 #[tactic(auto, unfolding(crate::specs::Text::validators_head))]
 fn write_validators_head(text: &mut String, count: usize) -> Result<(), AllocError>
     ensures { OnOk result (string_bytes text.new ≡ string_bytes text.old ++ validators_head count) }
@@ -88,6 +92,7 @@ fn write_validators_head(text: &mut String, count: usize) -> Result<(), AllocErr
     writeln!(text, "validators {count}")
 }
 
+/// A line for each validator.
 #[tactic(auto, using(std::proofs::lemmas::List::flat_map_more))]
 fn write_validator_lines(text: &mut String, sums: &[ValidatorSum]) -> Result<(), AllocError>
     ensures { OnOk result (string_bytes text.new ≡ string_bytes text.old
@@ -99,6 +104,7 @@ fn write_validator_lines(text: &mut String, sums: &[ValidatorSum]) -> Result<(),
     Ok(())
 }
 
+/// The line `validator 9 taps 1 paid 0 ..`.
 #[tactic(auto, using(crate::proofs::Parts::in_parts))]
 fn write_validator(text: &mut String, sum: &ValidatorSum) -> Result<(), AllocError>
     ensures { OnOk result (string_bytes text.new ≡ string_bytes text.old
@@ -108,6 +114,7 @@ fn write_validator(text: &mut String, sum: &ValidatorSum) -> Result<(), AllocErr
     write_counts(text, &sum.totals)
 }
 
+/// The front of that line: `validator 9 `.
 fn write_validator_name(text: &mut String, validator: u32) -> Result<(), AllocError>
     ensures { OnOk result (string_bytes text.new ≡ string_bytes text.old
         ++ (codes "validator " ++ (decimal validator ++ codes " "))) }
@@ -115,6 +122,7 @@ fn write_validator_name(text: &mut String, validator: u32) -> Result<(), AllocEr
     write!(text, "validator {validator} ")
 }
 
+/// The line `tokens 2`.
 #[tactic(auto, unfolding(crate::specs::Text::tokens_head))]
 fn write_tokens_head(text: &mut String, count: usize) -> Result<(), AllocError>
     ensures { OnOk result (string_bytes text.new ≡ string_bytes text.old ++ tokens_head count) }

@@ -85,6 +85,7 @@ fn make_line(line: &mut Line, sum: &TokenSum)
     put_name(line, sum.token);
 }
 
+/// Puts ` stale 0 unknown 0 cents 300` and the end of the line.
 #[inline(always)]
 #[tactic(auto, unfolding(fare_texts::specs::Counts::other_counts))]
 fn put_other_counts(line: &mut Line, totals: &Totals)
@@ -98,6 +99,7 @@ fn put_other_counts(line: &mut Line, totals: &Totals)
     line.put_count(b" stale ", totals.stale);
 }
 
+/// Puts `taps 2 paid 1 transfers 1 capped 0` before what the line has.
 #[inline(always)]
 fn put_live_counts(line: &mut Line, totals: &Totals)
     requires { length line.old ≤ 144 }
@@ -110,6 +112,7 @@ fn put_live_counts(line: &mut Line, totals: &Totals)
     line.put_count(b"taps ", totals.taps);
 }
 
+/// Puts the token's name before what the line has.
 #[inline(always)]
 fn put_name(line: &mut Line, token: Token)
     requires { length line.old ≤ 334 }

@@ -124,4 +124,5 @@ impl TokenCounts {
     }
 }
 
+/// Counts have 16 bytes.
 const _: () = prove!(size_of::<Counts>() == 16);

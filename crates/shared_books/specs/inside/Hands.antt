@@ -6,9 +6,11 @@ use Rattle.shared_books.specs.declared.drawing.rule.Hand.{Hand}
 use Rattle.shared_books.specs.Claims.{claims_given, claims_left}
 use Rattle.shared_books.specs.Drawing.{NoneTwice, AllBelow}
 
+-- what a drawer knows while it lives
 abbrev pub hand : ℕ → ℕ → ℕ → List ℕ → Hand
 hand c n d xs = record { live = true; claims = c; numbers = n; seen = d; drawn = xs }
 
+-- what it knows before it has drawn
 abbrev pub empty_hand : ℕ → ℕ → ℕ → Hand
 empty_hand c n d = hand c n d []
 
@@ -16,6 +18,7 @@ empty_hand c n d = hand c n d []
 abbrev pub left_hand : Hand → Hand
 left_hand h = hand (claims_left h.claims) h.numbers h.seen h.drawn
 
+-- what a drawer that was split off knows
 abbrev pub new_hand : Hand → Hand
 new_hand h = empty_hand (claims_given h.claims) h.numbers h.seen
 
@@ -23,6 +26,7 @@ new_hand h = empty_hand (claims_given h.claims) h.numbers h.seen
 abbrev pub spent_hand : Hand
 spent_hand = record { live = false; claims = 0; numbers = 0; seen = 0; drawn = [] }
 
+-- what two drawers know together
 abbrev pub both_hands : Hand → Hand → Hand
 both_hands h k =
     hand (h.claims + k.claims) h.numbers (max h.seen k.seen) (h.drawn ++ k.drawn)

@@ -4,6 +4,7 @@ use Rattle.std.specs.Prelude.{[], None}
 use Rattle.fare_table.specs.Fares.{Fares}
 use Rattle.shard_book.specs.Book.{Book}
 
+-- a table without modes, ranges and riders
 abbrev pub no_fares : Fares
 no_fares = record {
   rules =
@@ -18,5 +19,6 @@ no_fares = record {
   zone = None;
 }
 
+-- an empty book under it
 abbrev pub no_book : Book
 no_book = record { table = no_fares; shard = 0; shards = 1; entries = [] }

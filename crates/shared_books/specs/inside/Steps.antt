@@ -13,6 +13,7 @@ use Rattle.shared_books.specs.Turns.{Boxed, book_after}
 use Rattle.shared_books.specs.Views.{view}
 use Rattle.shared_books.specs.inside.Nobody.{no_book}
 
+-- a seat at the table of turns
 abbrev pub Seat : Type 0
 Seat = Me (Option Boxed) View
 
