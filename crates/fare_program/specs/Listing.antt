@@ -18,6 +18,7 @@ pub record Listed : Type 0 where
 abbrev pub listed_of : Tap → Bool → Listed
 listed_of tap known = record { tap = tap; known = known }
 
+-- the moment of a listed tap
 abbrev pub listed_moment : Listed → ℕ
 listed_moment listed = num listed.tap.moment
 
@@ -72,6 +73,7 @@ pub record Kept : Type 0 where
 abbrev pub last_of : List (List ℕ × ℕ) → List ℕ → Option ℕ
 last_of last token = lookup (bytes_eq token) last
 
+-- whether the moment is after the last one, if there is one
 abbrev pub is_after_last : Option ℕ → ℕ → Bool
 is_after_last None moment = true
 is_after_last (Some last) moment = nat_lt last moment

@@ -18,6 +18,7 @@ abbrev pub placed_from : ℕ → List Tap → List PlacedTap
 placed_from place [] = []
 placed_from place (tap ∷ taps) = record { place = place; tap = tap } ∷ placed_from (place + 1) taps
 
+-- the taps without their places
 abbrev pub taps_of_placed : List PlacedTap → List Tap
 taps_of_placed placed = map (λ p. p.tap) placed
 

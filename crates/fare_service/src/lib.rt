@@ -11,8 +11,8 @@ mod upload_end;
 
 pub use faults::{GatherFault, OpenFault, RunFault};
 pub use outcome::Outcome;
-pub use text::print_fault::PrintFault;
 pub use service::Service;
 pub use service::share::{Done, Share};
-pub use upload_end::UploadEnd;
 pub use service::working::Gate;
+pub use text::print_fault::PrintFault;
+pub use upload_end::UploadEnd;

@@ -15,6 +15,7 @@ abbrev pub last_after : Word → List ℕ → ℕ → List (List ℕ × ℕ) →
 last_after word token moment last other =
     if is_word Live word && bytes_eq token other then Some moment else last_of last other
 
+-- the counts with one tap more, of which the listing says this word
 abbrev pub word_counted : Word → ListCounts → ListCounts
 word_counted Live counts = record counts { taps = counts.taps + 1; live = counts.live + 1 }
 word_counted Stale counts = record counts { taps = counts.taps + 1; stale = counts.stale + 1 }

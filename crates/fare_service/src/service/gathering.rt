@@ -15,10 +15,10 @@ ghost use Rattle.fare_service.specs.inside.Joining.{told_all};
 ghost use Rattle.fare_service.specs.Faults.{IsForMemory, IsGatherFault};
 ghost use Rattle.fare_service.specs.Shares.{books_of, own_at};
 
-use crate::service::adding::{added, entries_in};
 use crate::faults::GatherFault;
 use crate::outcome::Outcome;
 use crate::service::Service;
+use crate::service::adding::{added, entries_in};
 use crate::service::share::{Done, Posting, Share};
 use crate::upload_end::UploadEnd;
 use fare_table::NoMemory;
