@@ -81,7 +81,7 @@ ends_quoted (x ∷ text) value some quote (inr is) =
     (omega (arith, at), ap (λ k. slice_index (x ∷ text) k) at ∙ ap (λ bytes. slice_index bytes (suc (length value))) is ∙ last)
 
 -- what is found in the value is told by the text
-pub told : {A : Type 0} (P : List ℕ → A → Type 0) (text value : List ℕ) (found : Option A) → FieldStandsFor text value
+told : {A : Type 0} (P : List ℕ → A → Type 0) (text value : List ℕ) (found : Option A) → FieldStandsFor text value
     → MatchOption found ((one : A) → ¬ (P value one)) (λ one. P value one)
     → MatchOption found ((one : A) → ¬ (FieldStandsForSome (λ v. P v one) text)) (λ one. FieldStandsForSome (λ v. P v one) text)
 told {A = A} P text value None stands none = nothing_told
@@ -91,8 +91,16 @@ told {A = A} P text value None stands none = nothing_told
 told P text value (Some one) stands is = (value, stands, is)
 
 -- a text that stands for no value tells nothing
-pub untold : {A : Type 0} (P : List ℕ → A → Type 0) (text : List ℕ) → ((value : List ℕ) → ¬ (FieldStandsFor text value)) → (one : A) → ¬ (FieldStandsForSome (λ v. P v one) text)
+untold : {A : Type 0} (P : List ℕ → A → Type 0) (text : List ℕ) → ((value : List ℕ) → ¬ (FieldStandsFor text value)) → (one : A) → ¬ (FieldStandsForSome (λ v. P v one) text)
 untold P text none one (value, stands, is) = none value stands
+
+-- what is found in the value of a field, if it has one, is told by its text
+pub told_of : {A V : Type 0} (P : List ℕ → A → Type 0) (now : V → List ℕ) (text : List ℕ) (value : Option V) (found : Option A)
+    → MatchOption value ((v : List ℕ) → ¬ (FieldStandsFor text v)) (λ v. FieldStandsFor text (now v))
+    → MatchOption value (found ≡ None) (λ v. MatchOption found ((one : A) → ¬ (P (now v) one)) (λ one. P (now v) one))
+    → MatchOption found ((one : A) → ¬ (FieldStandsForSome (λ v. P v one) text)) (λ one. FieldStandsForSome (λ v. P v one) text)
+told_of P now text None found none is = subst (λ o. MatchOption o ((one : _) → ¬ (FieldStandsForSome (λ v. P v one) text)) (λ one. FieldStandsForSome (λ v. P v one) text)) (sym is) (untold P text none)
+told_of P now text (Some value) found stands is = told P text (now value) found stands is
 
 -- the names that stand in the fields of a head line
 pub names_of : (line token validator moment : List ℕ) → AreFields line token validator moment → IsHead line

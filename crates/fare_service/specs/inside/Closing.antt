@@ -1,9 +1,11 @@
 -- Closing: what private functions alone cite.
-use Rattle.std.specs.Prelude.{◌≡◌, ℕ, ◌<◌, ◌≤◌, List, [], length, All, slice_get, Some}
+use Rattle.std.specs.Prelude.{◌≡◌, ℕ, ◌<◌, ◌≤◌, List, [], ◌∷◌, ◌++◌, length, All, slice_get, Some}
+use Rattle.std.specs.Prelude.{Result, Ok, Err}
 use Rattle.std.specs.List.{flat_map}
 use Rattle.shard_book.specs.Book.{Book}
 use Rattle.shard_book.specs.History.{IsLegal}
 use Rattle.shared_books.specs.Passes.{SharedBookView, PassView, HasMadeAll, book_of}
+use Rattle.shared_books.specs.declared.turns.answers.Missing.{Missing as LackingVisits}
 use Rattle.fare_service.specs.declared.faults.GatherFault.{GatherFault}
 use Rattle.fare_service.specs.declared.faults.GatherFault.TheVariants.{NoMemory, Missing, Drawn}
 use Rattle.shared_books.specs.Drawing.{AllBelow, NoneTwice, times}
@@ -39,6 +41,21 @@ pub record IsUnseen (opened : List SharedBookView) (shard : ℕ) (book : Book) :
 abbrev pub AreUnseen : List SharedBookView → List Book → Type 0
 AreUnseen opened books =
     (shard : ℕ) (book : Book) → slice_get books shard ≡ Some book → IsUnseen opened shard book
+
+-- a closing gave a book, which was appended
+pub record IsAppended (end : Result Book LackingVisits) (before after : List Book) : Type 0 where
+  pub book : Book
+  pub is : end ≡ Ok book
+  pub appended : after ≡ before ++ book ∷ []
+  pub legal : IsLegal book.table book.entries
+  pub limits : KeepsLimits book
+
+-- a closing lacked visits to the shard, as many as the fault says
+pub record TellsMissing (shard : ℕ) (end : Result Book LackingVisits) (fault : GatherFault)
+    : Type 0 where
+  pub lacking : LackingVisits
+  pub is : end ≡ Err lacking
+  pub told : fault ≡ Missing shard lacking.held lacking.kept
 
 -- visits to a shard are missing
 abbrev pub IsMissing : ℕ → List PassView → GatherFault → Type 0

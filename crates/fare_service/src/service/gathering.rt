@@ -1,13 +1,14 @@
 //! Gathering shares: what each worker did is joined, and the books are closed.
 
-ghost use Rattle.std.specs.Prelude.{◌≡◌, ℕ, ◌+◌, ◌<◌, ◌≤◌, List, All, IfOk, IfErr, OnOk, length};
-ghost use Rattle.std.specs.Prelude.{map, slice_get, Some, [], ◌∷◌, replicate, vec_capacity};
+ghost use Rattle.std.specs.Prelude.{◌≡◌, ℕ, ◌+◌, ◌<◌, ◌≤◌, List, All, IfOk, IfErr, OnOk, OnErr};
+ghost use Rattle.std.specs.Prelude.{length, map, slice_get, Some, [], ◌∷◌, replicate, vec_capacity};
 ghost use Rattle.std.specs.List.{flat_map};
 ghost use Rattle.shard_book.specs.Sums.{sums_of};
 ghost use Rattle.shared_books.specs.Passes.{PassView};
 ghost use Rattle.fare_service.specs.Claims.{claims_at, HaveAllClaims};
 ghost use Rattle.fare_service.specs.Closing.{IsFirst};
 ghost use Rattle.fare_service.specs.inside.Closing.{AreClosed, AreUnseen, IsClosedWork};
+ghost use Rattle.fare_service.specs.inside.Closing.{IsAppended, TellsMissing};
 ghost use Rattle.fare_service.specs.inside.Closing.{IsFirstMissing, IsFirstUnseen, IsMissing};
 ghost use Rattle.fare_service.specs.inside.Closing.{LacksClaims, NoneMissing};
 ghost use Rattle.fare_service.specs.inside.Joining.{AreJoinedAt, Belongs, IsJoinedOf, told};
@@ -23,7 +24,7 @@ use crate::service::share::{Done, Posting, Share};
 use crate::upload_end::UploadEnd;
 use fare_table::NoMemory;
 use shard_book::{ShardBook, Totals, laws};
-use shared_books::{Draw, Drawer, Pass, SharedBook};
+use shared_books::{Draw, Drawer, Missing, Pass, SharedBook};
 use std::alloc::Global;
 
 /// Writes down how the uploads ended.
@@ -133,19 +134,8 @@ fn close_all(
         let Some(pass) = passes.next() else {
             unreachable!()
         };
-        match book.close(pass) {
-            Ok(book) => {
-                let _entries = book.len();
-                laws::windows(&book);
-                closed.push_reserved(book);
-            }
-            Err(missing) => {
-                return Err(GatherFault::Missing {
-                    shard,
-                    held: missing.held,
-                    kept: missing.kept,
-                });
-            }
+        if let Err(fault) = push_closed(shard, book.close(pass), closed) {
+            return Err(fault);
         }
         shard += 1;
     }
@@ -164,23 +154,39 @@ fn close_unseen(books: Vec<SharedBook>, closed: &mut Vec<ShardBook>) -> Result<(
 {
     let mut shard = 0;
     for book in books {
-        match book.close_unseen() {
-            Ok(book) => {
-                let _entries = book.len();
-                laws::windows(&book);
-                closed.push_reserved(book);
-            }
-            Err(missing) => {
-                return Err(GatherFault::Missing {
-                    shard,
-                    held: missing.held,
-                    kept: missing.kept,
-                });
-            }
+        if let Err(fault) = push_closed(shard, book.close_unseen(), closed) {
+            return Err(fault);
         }
         shard += 1;
     }
     Ok(())
+}
+
+/// Appends the book of a shard that was closed; else tells how many visits to it are missing.
+fn push_closed(
+    shard: u32,
+    end: Result<ShardBook, Missing>,
+    closed: &mut Vec<ShardBook>,
+) -> Result<(), GatherFault>
+    requires room { length closed.old.items < vec_capacity closed.old }
+    ensures ok { OnOk result (IsAppended end closed.old.items closed.new.items) }
+    ensures capacity { vec_capacity closed.old ≤ vec_capacity closed.new }
+    ensures missing { IfErr result (TellsMissing shard end) }
+    ensures same { OnErr result (closed.new.items ≡ closed.old.items) }
+{
+    match end {
+        Ok(book) => {
+            let _entries = book.len();
+            laws::windows(&book);
+            closed.push_reserved(book);
+            Ok(())
+        }
+        Err(missing) => Err(GatherFault::Missing {
+            shard,
+            held: missing.held,
+            kept: missing.kept,
+        }),
+    }
 }
 
 /// Closes all books and the drawing, with what the shares hold.

@@ -1,8 +1,16 @@
 //! How a shared book is closed: whoever made all visits gets the book.
 
+ghost use Rattle.std.specs.Prelude.{◌≡◌};
+ghost use Rattle.std.specs.Mem.Slots.{slots_items, slots_len, IsFull};
+ghost use mathlib.Core.Option.{some};
+ghost use lib.ListN.{get_elem?};
+
 use super::answers::Missing;
+use super::rule::Slot;
 use super::{Pass, SharedBook};
+use atomic_table::Closed;
 use shard_book::ShardBook;
+use std::alloc::Global;
 
 impl SharedBook {
     ghost use Rattle.std.specs.Prelude.{◌≡◌, ◌<◌, [], IfOk, IfErr};
@@ -17,17 +25,9 @@ impl SharedBook {
         ensures err { IfErr result (λ missing. LacksVisits pass missing.held missing.kept) }
         ensures claims { IfErr result (λ _. pass.claims < all_claims) }
     {
-        let SharedBook {
-            table,
-            first,
-            asleep: _,
-            sleepers: _,
-        } = self;
+        let SharedBook { table, first, .. } = self;
         let Pass { seat, held, .. } = pass;
-        let mut closed = table.close_with(seat);
-        let word = closed.word(0);
-        let slot = closed.take(0);
-        closed.free();
+        let (word, slot) = taken_from(table.close_with(seat));
         let kept = word / 2 + word % 2 - first;
         if held < kept {
             return Err(Missing { held, kept });
@@ -43,16 +43,8 @@ impl SharedBook {
         ensures ok { IfOk result (λ book. book ≡ book_of self []) }
         ensures err { IfErr result (λ missing. (missing.held ≡ 0) × (0 < missing.kept)) }
     {
-        let SharedBook {
-            table,
-            first,
-            asleep: _,
-            sleepers: _,
-        } = self;
-        let mut closed = table.close();
-        let word = closed.word(0);
-        let slot = closed.take(0);
-        closed.free();
+        let SharedBook { table, first, .. } = self;
+        let (word, slot) = taken_from(table.close());
         let kept = word / 2 + word % 2 - first;
         if kept > 0 {
             return Err(Missing { held: 0, kept });
@@ -62,4 +54,17 @@ impl SharedBook {
             None => unreachable!(),
         }
     }
+}
+
+/// The word and the slot of a closed table. Its memory is given back.
+fn taken_from(mut closed: Closed<Slot, Global>) -> (u64, Slot)
+    requires sizes { (slots_len closed.words ≡ 1) × (slots_len closed.slots ≡ 1) }
+    requires full { IsFull closed.words × IsFull closed.slots }
+    ensures word { get_elem? (slots_items closed.words) 0 ≡ some result.0 }
+    ensures slot { get_elem? (slots_items closed.slots) 0 ≡ some result.1 }
+{
+    let word = closed.word(0);
+    let slot = closed.take(0);
+    closed.free();
+    (word, slot)
 }

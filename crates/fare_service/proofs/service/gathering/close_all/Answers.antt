@@ -1,15 +1,13 @@
-use Rattle.std.proofs.Common.{ℕ, ◌≡◌, ◌<◌, List, ◌∷◌, [], ◌++◌, length, sym, ◌∙◌, ap, subst, arith, append_assoc, length-append}
+use Rattle.std.proofs.Common.{ℕ, ◌≡◌, List, ◌∷◌, [], ◌++◌, length, sym, ◌∙◌, ap, subst, arith, append_assoc, length-append}
 use Rattle.std.specs.Prelude.{slice_get, Some}
 use Rattle.std.proofs.lemmas.List.{length-map, map-append}
 use Rattle.std.specs.Vec.Iter.{into_iter_items}
 use Rattle.shard_book.specs.Book.{Book}
 use Rattle.shared_books.specs.declared.turns.rule.Mark.{Mark}
 use Rattle.shared_books.specs.Passes.{PassView}
-use Rattle.shared_books.specs.Claims.{all_claims}
-use Rattle.fare_service.specs.Claims.{claims_at}
-use Rattle.fare_service.specs.inside.Closing.{AreClosed, IsClosedBy}
+use Rattle.fare_service.specs.declared.faults.GatherFault.{GatherFault}
+use Rattle.fare_service.specs.inside.Closing.{AreClosed, IsClosedBy, IsFirstMissing, IsMissing}
 use Rattle.fare_service.specs.Shares.{marks_at, own_visits}
-use Rattle.fare_service.proofs.ClaimLemmas.{claims_mid}
 use Rattle.fare_service.proofs.PlaceLemmas.{place_more}
 use Rattle.fare_service.proofs.Signing.{made_own}
 use Rattle.fare_service.proofs.JoinLemmas.{next_book, at_end, marks_mid}
@@ -24,7 +22,10 @@ returns-in-Err-clause-missing c =
     let place : length p.0 ≡ c.loop-book.shard = omega (arith, ap length p.2, length-map p.0 (λ (k : PassView). k.book), c.loop-book.invariant.shard) in
     let marks : marks_at c.loop-book.shard c.args.passes.items ≡ c.in-Some-next.pass.marks =
     ap (λ s. marks_at s c.args.passes.items) (sym place) ∙ ap (marks_at (length p.0)) (sym all) ∙ marks_mid p.0 c.in-Some-next.pass rest in
-    let missing = c.in-Err.ensures.err in (
+    let m = c.in-Err.ensures.missing in
+    let missing = rw m.is at c.close.ensures.err in
+    let F : GatherFault → Type 0 = IsMissing (length c.args.books.items) c.args.passes.items in
+    subst F (sym m.told) (
       omega (arith, c.loop-book.invariant.shard, ap length c.loop-book.invariant.left, length-append c.loop-book.yielded (into_iter_items c.loop-book.book-iterator), ap length steps.0),
       missing.own ∙ made_own c.in-Some-next.pass.book.first c.in-Some-next.pass.marks ∙ sym (ap (λ ms. length (own_visits ms)) marks),
       missing.fewer,
@@ -38,27 +39,18 @@ returns-in-Err-clause-first c =
     let place : length p.0 ≡ c.loop-book.shard = omega (arith, ap length p.2, length-map p.0 (λ (k : PassView). k.book), c.loop-book.invariant.shard) in
     let marks : marks_at c.loop-book.shard c.args.passes.items ≡ c.in-Some-next.pass.marks =
     ap (λ s. marks_at s c.args.passes.items) (sym place) ∙ ap (marks_at (length p.0)) (sym all) ∙ marks_mid p.0 c.in-Some-next.pass rest in
-    let missing = c.in-Err.ensures.err in (
+    let m = c.in-Err.ensures.missing in
+    let missing = rw m.is at c.close.ensures.err in
+    let F : List Book → GatherFault → Type 0 = IsFirstMissing c.args.passes.items in
+    subst (λ bs. F bs c.in-Err.fault) (sym c.in-Err.ensures.same) (subst (F c.loop-book.closed.items) (sym m.told) (
       c.loop-book.invariant.shard ∙ sym c.loop-book.invariant.number,
       c.loop-book.invariant.closed,
       omega (arith, missing.seen, length-map c.in-Some-next.pass.marks (λ (m : Mark). m.visit), ap length marks),
-    )
-
-pub returns-in-Err-clause-claims : goal.returns-in-Err-clause-claims
-returns-in-Err-clause-claims c =
-    let steps = c.in-Some.ensures.steps in
-    let p = c.loop-book.invariant.passes in
-    let rest = into_iter_items c.next-in-loop-book.new.self in
-    let all : p.0 ++ c.in-Some-next.pass ∷ rest ≡ c.args.passes.items = ap (λ ps. p.0 ++ ps) (sym c.in-Some-next.ensures.items) ∙ p.1 in
-    let place : length p.0 ≡ c.loop-book.shard = omega (arith, ap length p.2, length-map p.0 (λ (k : PassView). k.book), c.loop-book.invariant.shard) in
-    let claims : claims_at c.loop-book.shard c.args.passes.items ≡ c.in-Some-next.pass.claims =
-    ap (λ s. claims_at s c.args.passes.items) (sym place) ∙ ap (claims_at (length p.0)) (sym all) ∙ claims_mid p.0 c.in-Some-next.pass rest in (
-      omega (arith, c.loop-book.invariant.shard, ap length c.loop-book.invariant.left, length-append c.loop-book.yielded (into_iter_items c.loop-book.book-iterator), ap length steps.0),
-      subst (λ n. n < all_claims) (sym claims) c.in-Err.ensures.claims,
-    )
+    ))
 
 pub loop-book-preserved : goal.loop-book-preserved
 loop-book-preserved c =
+    let done = c.in_default-push_closed.ensures.ok in
     let steps = c.in-Some.ensures.steps in
     let p = c.loop-book.invariant.passes in
     let rest = into_iter_items c.next-in-loop-book.new.self in
@@ -68,8 +60,8 @@ loop-book-preserved c =
     let place : length p.0 ≡ length c.loop-book.closed.items = omega (arith, ap length p.2, length-map p.0 (λ (k : PassView). k.book), c.loop-book.invariant.number) in
     let A : List PassView → Type 0 = λ ps. slice_get ps (length c.loop-book.closed.items) ≡ Some c.in-Some-next.pass in
     let N : ℕ → Type 0 = λ n. slice_get (p.0 ++ c.in-Some-next.pass ∷ rest) n ≡ Some c.in-Some-next.pass in
-    let here : IsClosedBy c.args.passes.items (length c.loop-book.closed.items) c.in-Ok.book =
-    record { pass = c.in-Some-next.pass; at = subst A all (subst N place (at_end p.0 c.in-Some-next.pass rest)); all = c.in-Ok.ensures.ok; legal = c.len-entries.ensures.legal; limits = record { windows = c.windows.ensures } } in
+    let here : IsClosedBy c.args.passes.items (length c.loop-book.closed.items) done.book =
+    record { pass = c.in-Some-next.pass; at = subst A all (subst N place (at_end p.0 c.in-Some-next.pass rest)); all = rw done.is at c.close.ensures.ok; legal = done.legal; limits = done.limits } in
     let P : List Book → Type 0 = AreClosed c.args.passes.items in
     record {
       may = tt;
@@ -83,7 +75,7 @@ loop-book-preserved c =
       );
       passes_len = omega (arith, c.in-Some-next.ensures.len, c.loop-book.invariant.passes_len, ap length c.in-Some-next.ensures.items);
       shard = omega (arith, c.loop-book.invariant.shard, length-append c.loop-book.yielded (c.in-Some.book ∷ []));
-      number = omega (arith, ap length c.push_reserved.ensures.items, length-append c.loop-book.closed.items (c.in-Ok.book ∷ []), c.loop-book.invariant.number, length-append c.loop-book.yielded (c.in-Some.book ∷ []));
-      room = omega (arith, c.push_reserved.ensures.capacity, c.loop-book.invariant.room);
-      closed = subst P (sym c.push_reserved.ensures.items) (place_more (λ i b. IsClosedBy c.args.passes.items i b) c.loop-book.closed.items c.in-Ok.book c.loop-book.invariant.closed here);
+      number = omega (arith, ap length done.appended, length-append c.loop-book.closed.items (done.book ∷ []), c.loop-book.invariant.number, length-append c.loop-book.yielded (c.in-Some.book ∷ []));
+      room = omega (arith, c.push_closed.ensures.capacity, c.loop-book.invariant.room);
+      closed = subst P (sym done.appended) (place_more (λ i b. IsClosedBy c.args.passes.items i b) c.loop-book.closed.items done.book c.loop-book.invariant.closed here);
     }

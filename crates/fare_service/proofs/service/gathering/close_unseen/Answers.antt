@@ -10,13 +10,14 @@ use Rattle.fare_service.proofs.service.gathering.close_unseen.Goals as goal
 
 pub loop-book-preserved : goal.loop-book-preserved
 loop-book-preserved c =
+    let done = c.in_default.ensures.ok in
     let steps = c.in-Some.ensures.steps in
     let rest = into_iter_items c.next.new.self in
     let books : c.loop-book.yielded ++ c.in-Some.book ∷ rest ≡ c.args.books.items = ap (λ bs. c.loop-book.yielded ++ bs) (sym steps.0) ∙ c.loop-book.invariant.left in
     let A : List SharedBookView → Type 0 = λ bs. slice_get bs (length c.loop-book.closed.items) ≡ Some c.in-Some.book in
     let N : ℕ → Type 0 = λ n. slice_get (c.loop-book.yielded ++ c.in-Some.book ∷ rest) n ≡ Some c.in-Some.book in
-    let here : IsUnseen c.args.books.items (length c.loop-book.closed.items) c.in-Ok.book =
-    record { shared = c.in-Some.book; at = subst A books (subst N (sym c.loop-book.invariant.number) (at_end c.loop-book.yielded c.in-Some.book rest)); none = c.in-Ok.ensures.ok; legal = c.len-entries.ensures.legal; limits = record { windows = c.windows.ensures } } in
+    let here : IsUnseen c.args.books.items (length c.loop-book.closed.items) done.book =
+    record { shared = c.in-Some.book; at = subst A books (subst N (sym c.loop-book.invariant.number) (at_end c.loop-book.yielded c.in-Some.book rest)); none = rw done.is at c.close_unseen.ensures.ok; legal = done.legal; limits = done.limits } in
     let P : List Book → Type 0 = AreUnseen c.args.books.items in
     record {
       may = tt;
@@ -24,7 +25,7 @@ loop-book-preserved c =
       left = append_assoc c.loop-book.yielded (c.in-Some.book ∷ []) rest ∙ books;
       left_len = omega (arith, steps.1, c.loop-book.invariant.left_len, ap length steps.0);
       shard = omega (arith, c.loop-book.invariant.shard, length-append c.loop-book.yielded (c.in-Some.book ∷ []));
-      number = omega (arith, ap length c.push_reserved.ensures.items, length-append c.loop-book.closed.items (c.in-Ok.book ∷ []), c.loop-book.invariant.number, length-append c.loop-book.yielded (c.in-Some.book ∷ []));
-      room = omega (arith, c.push_reserved.ensures.capacity, c.loop-book.invariant.room);
-      closed = subst P (sym c.push_reserved.ensures.items) (place_more (λ i b. IsUnseen c.args.books.items i b) c.loop-book.closed.items c.in-Ok.book c.loop-book.invariant.closed here);
+      number = omega (arith, ap length done.appended, length-append c.loop-book.closed.items (done.book ∷ []), c.loop-book.invariant.number, length-append c.loop-book.yielded (c.in-Some.book ∷ []));
+      room = omega (arith, c.push_closed.ensures.capacity, c.loop-book.invariant.room);
+      closed = subst P (sym done.appended) (place_more (λ i b. IsUnseen c.args.books.items i b) c.loop-book.closed.items done.book c.loop-book.invariant.closed here);
     }
