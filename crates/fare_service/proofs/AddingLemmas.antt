@@ -19,7 +19,8 @@ use Rattle.shared_books.specs.Marks.{joined}
 use Rattle.fare_table.specs.Fares.{Fares}
 use Rattle.fare_service.specs.declared.upload_end.UploadEnd.{UploadEnd}
 use Rattle.fare_service.specs.declared.upload_end.UploadEnd.TheVariants.{Posted, Refused, Cut, Undrawn}
-use Rattle.fare_service.specs.Adding.{add_all, taps_told, AddUp}
+use Rattle.fare_service.specs.Adding.{taps_told, AddUp}
+use Rattle.shard_book.specs.Sums.{add_all}
 use Rattle.fare_service.specs.Headline.{Signed, end_of}
 use Rattle.fare_service.specs.inside.Closing.{IsClosedWork}
 use Rattle.fare_service.specs.ServiceView.{ServiceView}

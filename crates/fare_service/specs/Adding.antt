@@ -1,17 +1,12 @@
 -- Totals that add up: over the books, over the workers and, of taps, over the uploads.
-use Rattle.std.specs.Prelude.{◌≡◌, ℕ, List, [], ◌∷◌, map, sum_by}
-use Rattle.shard_book.specs.Sums.{Sums, sums, add_sums}
+use Rattle.std.specs.Prelude.{◌≡◌, ℕ, List, map, sum_by}
+use Rattle.shard_book.specs.Sums.{Sums, sums, add_all}
 use Rattle.fare_service.specs.declared.upload_end.UploadEnd.{UploadEnd}
 use Rattle.fare_service.specs.declared.upload_end.UploadEnd.TheVariants.{Posted, Refused, Cut}
 use Rattle.fare_service.specs.declared.upload_end.UploadEnd.TheVariants.{Undrawn}
 use Rattle.fare_service.specs.Outcomes.{OutcomeView}
 use Rattle.fare_service.specs.Runs.{entries_of}
 use Rattle.fare_service.specs.Shares.{Worked, all_visits}
-
--- some sums, added up
-abbrev pub add_all : List Sums → Sums
-add_all [] = sums []
-add_all (s ∷ more) = add_sums s (add_all more)
 
 -- how many taps of an upload were posted, as its end tells
 abbrev pub taps_told : UploadEnd → ℕ

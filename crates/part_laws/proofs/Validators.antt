@@ -13,7 +13,7 @@ use Rattle.shard_book.specs.Entry.{is_at}
 use Rattle.shard_book.specs.Groups.{at, validators, sums_by_validator, validator_of}
 use Rattle.shard_book.specs.Rising.{rising}
 use Rattle.shard_book.specs.Sums.{Sums, sums, add_sums}
-use Rattle.fare_service.specs.Adding.{add_all}
+use Rattle.shard_book.specs.Sums.{add_all}
 use Rattle.part_laws.specs.Split.{Part, IsSplit, entries_of_parts, sums_at}
 use Rattle.part_laws.proofs.Merging.{RisingNumbers, same_sums, same_at, same_entries, own_all}
 

@@ -10,9 +10,8 @@ use Rattle.fare_table.specs.Fares.{Fares}
 use Rattle.shard_book.specs.declared.entry.Entry.{Entry}
 use Rattle.fare_table.specs.declared.token.Token.{Token}
 use Rattle.shard_book.specs.Groups.{at, sums_by_token, validator_of}
-use Rattle.shard_book.specs.Sums.{Sums, sums}
+use Rattle.shard_book.specs.Sums.{Sums, add_all, sums}
 use Rattle.fare_table.specs.Token.{token_cmp}
-use Rattle.fare_service.specs.Adding.{add_all}
 use Rattle.tap_parts.specs.Parts.{of_part}
 use Rattle.settlement.specs.Settled.{IsSettledHistory}
 use Rattle.tap_parts.specs.Parts.{uploads_joined}

@@ -11,7 +11,7 @@ use Rattle.std.proofs.lemmas.Cmp.{nat_cmp_total, on_total, then_total}
 use Rattle.std.proofs.lemmas.Option.{slice_get-get_or, slice_get_within}
 use Rattle.fare_table.specs.Token.{token_cmp}
 use Rattle.fare_table.specs.declared.token.Token.{Token}
-use Rattle.part_reports.specs.Merging.{IsBelowOthers, IsLeast, IsTwin, StandsAt}
+use Rattle.part_reports.specs.inside.Least.{IsBelowOthers, IsLeast, IsTwin, StandsAt}
 
 -- of the places before the end, the one found has the least token
 abbrev pub IsLeastBelow : List (Option Token) → ℕ → Option (ℕ × Token) → Type 0

@@ -1,2 +1,6 @@
+pub mod Faults
+pub mod Ledgers
 pub mod Lines
-pub mod Merging
+pub mod Reports
+pub mod TokenLines
+pub mod inside

@@ -1,8 +1,9 @@
--- The lines of a report, as lists of bytes.
-use Rattle.std.specs.Prelude.{ℕ, List, ◌++◌, codes}
+-- The lines of a report, as lists of bytes, and what their numbers can be.
+use Rattle.std.specs.Prelude.{◌≡◌, ℕ, ◌+◌, ◌*◌, ◌<◌, ◌≤◌, ◌^◌, List, [], ◌∷◌, ◌++◌, codes}
+use Rattle.std.specs.Prelude.{Option, Some, None}
 use Rattle.std.specs.Fmt.{decimal}
 use Rattle.hex.specs.Hex.{encode_lower}
-use Rattle.fare_table.specs.Token.{bytes_of}
+use Rattle.fare_table.specs.Token.{Fits, bytes_of}
 use Rattle.shard_book.specs.Sums.{Sums}
 use Rattle.fare_table.specs.declared.token.Token.{Token}
 use Rattle.fare_texts.specs.Counts.{counts}
@@ -11,6 +12,28 @@ use Rattle.fare_texts.specs.Counts.{counts}
 abbrev pub head_line : List ℕ → ℕ → List ℕ
 head_line word number = word ++ (decimal number ++ codes "\n")
 
+-- how an upload ended: how many of its taps were posted, and, where it has a layout fault, the
+-- offset of the fault's batch and the number in the fault's name
+pub record End : Type 0 where
+  pub taps : ℕ
+  pub fault : Option (ℕ × ℕ)
+
+-- ` posted 4`, or ` refused 2 at 64 L5`, with the end of the line
+abbrev pub end_text : ℕ → Option (ℕ × ℕ) → List ℕ
+end_text taps None = codes " posted " ++ (decimal taps ++ codes "\n")
+end_text taps (Some fault) =
+    codes " refused " ++ (decimal taps ++ (codes " at " ++ (decimal fault.0
+    ++ (codes " L" ++ (decimal fault.1 ++ codes "\n")))))
+
+-- `upload 7 posted 4`, for the upload of this number
+abbrev pub end_line : ℕ → End → List ℕ
+end_line number end = codes "upload " ++ (decimal number ++ end_text end.taps end.fault)
+
+-- a line for each upload, the first of which has the number `first`
+abbrev pub end_lines : ℕ → List End → List ℕ
+end_lines first [] = []
+end_lines first (end ∷ ends) = end_line first end ++ end_lines (first + 1) ends
+
 -- `validator 9 taps 1 paid 0 ..`
 abbrev pub validator_line : ℕ × Sums → List ℕ
 validator_line sum = codes "validator " ++ (decimal sum.0 ++ (codes " " ++ counts sum.1))
@@ -18,3 +41,37 @@ validator_line sum = codes "validator " ++ (decimal sum.0 ++ (codes " " ++ count
 -- `token 000000000000000000000000000000a1 taps 4 paid 2 ..`
 abbrev pub token_line : Token × Sums → List ℕ
 token_line sum = codes "token " ++ (encode_lower (bytes_of sum.0) ++ (codes " " ++ counts sum.1))
+
+-- ---- what the numbers can be
+-- the offset has 64 bits, and the name is one of `L1` to `L6`
+pub record IsFault (fault : ℕ × ℕ) : Type 0 where
+  pub offset : fault.0 < 2 ^ 64
+  pub least : 1 ≤ fault.1
+  pub most : fault.1 ≤ 6
+
+-- there is no layout fault, or it is such a one
+abbrev pub IsNoneOrFault : Option (ℕ × ℕ) → Type 0
+IsNoneOrFault None = Unit {0}
+IsNoneOrFault (Some fault) = IsFault fault
+
+-- the numbers of an upload's end have 64 bits
+pub record IsEnd (end : End) : Type 0 where
+  pub taps : end.taps < 2 ^ 64
+  pub fault : IsNoneOrFault end.fault
+
+-- The counts have 64 bits. Each tap has one answer, and no more cents than 32 bits hold.
+pub record AreCounts (sums : Sums) : Type 0 where
+  pub taps : sums.taps < 2 ^ 64
+  pub answers : sums.taps ≡ sums.paid + sums.transfers + sums.capped + sums.stale + sums.unknown
+  pub cents : sums.cents < 2 ^ 64
+  pub most : sums.cents ≤ sums.taps * 4294967295
+
+-- a validator has 32 bits, and its counts are such ones
+pub record IsValidatorSum (sum : ℕ × Sums) : Type 0 where
+  pub validator : sum.0 < 2 ^ 32
+  pub counts : AreCounts sum.1
+
+-- a token has 16 bytes, and its counts are such ones
+pub record IsTokenSum (sum : Token × Sums) : Type 0 where
+  pub token : Fits sum.0
+  pub counts : AreCounts sum.1

@@ -1,7 +1,7 @@
 //! Lines of several texts by rising tokens, merged into one text.
 
 ghost use Rattle.std.specs.Prelude.{MatchResult};
-ghost use Rattle.part_reports.specs.Merging.{IsLeast, IsTwin};
+ghost use Rattle.part_reports.specs.inside.Least.{IsLeast, IsTwin};
 
 use crate::fault::{MergeFault, Wrong};
 use crate::form::{ledger_token_of, token_sum_of};

@@ -1,5 +1,6 @@
 -- Sums over replies and over entries.
-use Rattle.std.specs.Prelude.{ℕ, ◌+◌, Bool, true, false, List, length, map, count_by, sum_by}
+use Rattle.std.specs.Prelude.{ℕ, ◌+◌, Bool, true, false, List, [], ◌∷◌, length, map}
+use Rattle.std.specs.Prelude.{count_by, sum_by}
 use Rattle.account_rule.specs.declared.reply.Answer.{Answer}
 use Rattle.account_rule.specs.declared.reply.Answer.TheVariants.{Paid, Transfer, Capped, Stale}
 use Rattle.account_rule.specs.declared.reply.Answer.TheVariants.{Unknown}
@@ -82,3 +83,8 @@ add_sums a b = record {
   unknown = a.unknown + b.unknown;
   cents = a.cents + b.cents;
 }
+
+-- some sums, added up
+abbrev pub add_all : List Sums → Sums
+add_all [] = sums []
+add_all (s ∷ more) = add_sums s (add_all more)

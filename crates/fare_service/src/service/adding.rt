@@ -3,7 +3,7 @@
 ghost use Rattle.std.specs.Prelude.{◌≡◌, ◌<◌, ◌≤◌, ◌^◌, length, map};
 ghost use Rattle.shard_book.specs.Groups.{all_entries};
 ghost use Rattle.shard_book.specs.Sums.{sums_of};
-ghost use Rattle.fare_service.specs.Adding.{add_all};
+ghost use Rattle.shard_book.specs.Sums.{add_all};
 
 use shard_book::{ShardBook, Totals};
 

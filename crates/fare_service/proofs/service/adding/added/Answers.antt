@@ -1,6 +1,6 @@
 use Rattle.std.proofs.Common.{◌≡◌, ◌+◌, sym, ap, ◌∙◌, arith, map, drop}
 use Rattle.shard_book.specs.Sums.{Sums, sums_of, add_sums}
-use Rattle.fare_service.specs.Adding.{add_all}
+use Rattle.shard_book.specs.Sums.{add_all}
 use Rattle.fare_service.proofs.AddingLemmas.{next_worker, none_left, from_nothing}
 use Rattle.fare_service.proofs.VisitLemmas.{add_add}
 use Rattle.fare_service.proofs.service.adding.added.Goals as goal

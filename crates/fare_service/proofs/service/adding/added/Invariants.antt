@@ -1,6 +1,6 @@
 use Rattle.std.proofs.Common.{◌≡◌, map, drop}
 use Rattle.shard_book.specs.Sums.{sums_of, add_sums}
-use Rattle.fare_service.specs.Adding.{add_all}
+use Rattle.shard_book.specs.Sums.{add_all}
 use Rattle.fare_service.proofs.service.adding.added.Given as goal
 
 abbrev pub invariant-loop-worker : goal.invariant-loop-worker

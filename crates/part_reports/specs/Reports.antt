@@ -1,0 +1,106 @@
+-- Reports of parts, and the report of the whole that they are merged into.
+use Rattle.std.specs.Prelude.{◌≡◌, ℕ, ◌+◌, ◌<◌, ◌^◌, List, [], ◌∷◌, ◌++◌, codes}
+use Rattle.std.specs.Prelude.{All, ◌==◌, filter, length, map, flat_map, sum_by, None}
+use Rattle.std.specs.List.Sorted.{IsPermutation, IsStrictlySortedBy}
+use Rattle.std.specs.Map.{keys_of}
+use Rattle.std.specs.Ordering.{eq_by_cmp, nat_cmp}
+use Rattle.std.specs.Set.{is_member}
+use Rattle.shard_book.specs.Sums.{Sums, add_all}
+use Rattle.fare_table.specs.Token.{token_cmp}
+use Rattle.fare_table.specs.declared.token.Token.{Token}
+use Rattle.fare_texts.specs.Counts.{totals_line}
+use Rattle.part_reports.specs.Lines.{End, IsEnd, AreCounts, IsValidatorSum, IsTokenSum}
+use Rattle.part_reports.specs.Lines.{end_lines, head_line, token_line, validator_line}
+
+-- what a report tells: how each upload ended, the totals, and the sums of each validator and of
+-- each token
+pub record Report : Type 0 where
+  pub ends : List End
+  pub totals : Sums
+  pub validators : List (ℕ × Sums)
+  pub tokens : List (Token × Sums)
+
+-- the report's text, up to the lines of its tokens
+abbrev pub front_text : List End → Sums → List (ℕ × Sums) → ℕ → List ℕ
+front_text ends totals validators tokens =
+    head_line (codes "uploads ") (length ends) ++ (end_lines 0 ends ++ (totals_line totals
+    ++ (head_line (codes "validators ") (length validators)
+    ++ (flat_map validator_line validators ++ head_line (codes "tokens ") tokens))))
+
+-- the report's text
+abbrev pub report_text : Report → List ℕ
+report_text report =
+    front_text report.ends report.totals report.validators (length report.tokens)
+    ++ flat_map token_line report.tokens
+
+-- The report of a part: each of its uploads was posted, its validators rise and its tokens rise, and
+-- the numbers of its lines can be those of taps.
+pub record IsPartReport (report : Report) : Type 0 where
+  pub number : length report.ends < 2 ^ 64
+  pub ends : All IsEnd report.ends
+  pub posted : All (λ end. end.fault ≡ None) report.ends
+  pub totals : AreCounts report.totals
+  pub validators_number : length report.validators < 2 ^ 64
+  pub validators : All IsValidatorSum report.validators
+  pub validators_rise : IsStrictlySortedBy nat_cmp (keys_of report.validators)
+  pub tokens_number : length report.tokens < 2 ^ 64
+  pub tokens : All IsTokenSum report.tokens
+  pub tokens_rise : IsStrictlySortedBy token_cmp (keys_of report.tokens)
+
+-- the texts of the uploads' ends: in each text the lines of the next uploads
+abbrev pub end_texts : ℕ → List (List End) → List (List ℕ)
+end_texts first [] = []
+end_texts first (ends ∷ more) = end_lines first ends ∷ end_texts (first + length ends) more
+
+-- the ends of all texts
+abbrev pub joined_ends : List (List End) → List End
+joined_ends ends = flat_map (λ some. some) ends
+
+-- The texts tell how the uploads ended, and they tell reports of parts. The reports have as many
+-- taps as the uploads.
+pub record AreTold (end_files report_files : List (List ℕ)) (ends : List (List End))
+    (parts : List Report) : Type 0 where
+  pub ends_told : end_files ≡ end_texts 0 ends
+  pub ends_fit : All IsEnd (joined_ends ends)
+  pub parts_told : report_files ≡ map report_text parts
+  pub parts_fit : All IsPartReport parts
+  pub taps : sum_by (λ part. part.totals.taps) parts ≡ sum_by (λ end. end.taps) (joined_ends ends)
+
+-- the validators of all parts, and the tokens of all parts, with their sums, part by part
+abbrev pub validators_of : List Report → List (ℕ × Sums)
+validators_of parts = flat_map (λ part. part.validators) parts
+
+abbrev pub tokens_of : List Report → List (Token × Sums)
+tokens_of parts = flat_map (λ part. part.tokens) parts
+
+-- the sums that this validator has in the list, added up
+abbrev pub sums_at : ℕ → List (ℕ × Sums) → Sums
+sums_at validator list = add_all (map (λ sum. sum.1) (filter (λ sum. sum.0 == validator) list))
+
+-- The whole's report: the ends of the uploads, the totals of all parts added up, each validator of
+-- the parts once with its sums in all of them, and the tokens of all parts. Validators rise and
+-- tokens rise, so no token is in two parts.
+pub record IsWhole (ends : List End) (parts : List Report) (whole : Report) : Type 0 where
+  pub ends : whole.ends ≡ ends
+  pub totals : whole.totals ≡ add_all (map (λ part. part.totals) parts)
+  pub validators_rise : IsStrictlySortedBy nat_cmp (keys_of whole.validators)
+  pub validators_same : (validator : ℕ)
+      → is_member (eq_by_cmp nat_cmp) (keys_of whole.validators) validator
+      ≡ is_member (eq_by_cmp nat_cmp) (keys_of (validators_of parts)) validator
+  pub validators_sums : All (λ sum. sum.1 ≡ sums_at sum.0 (validators_of parts)) whole.validators
+  pub tokens_moved : IsPermutation (tokens_of parts) whole.tokens
+  pub tokens_rise : IsStrictlySortedBy token_cmp (keys_of whole.tokens)
+
+-- the text is the report of the whole, of the parts whose reports these texts are and of the uploads
+-- whose ends these texts tell
+pub record IsMerged (end_files report_files : List (List ℕ)) (text : List ℕ) : Type 0 where
+  pub ends : List (List End)
+  pub parts : List Report
+  pub told : AreTold end_files report_files ends parts
+  pub whole : Report
+  pub is : IsWhole (joined_ends ends) parts whole
+  pub shown : text ≡ report_text whole
+
+-- there is no such text
+abbrev pub CannotBeMerged : List (List ℕ) → List (List ℕ) → Type 0
+CannotBeMerged end_files report_files = (text : List ℕ) → ¬ (IsMerged end_files report_files text)
