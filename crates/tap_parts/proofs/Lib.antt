@@ -1,4 +1,5 @@
 pub mod Adding
-pub mod Bytes
+pub mod Buckets
 pub mod Texts
+pub mod TokenOrder
 pub mod Total

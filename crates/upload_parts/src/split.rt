@@ -3,14 +3,13 @@
 ghost use Rattle.std.specs.Prelude.{◌≡◌, ◌<◌, ◌≤◌, ◌++◌, ◌∷◌, [], ℕ, List, IfOk, OnOk, length};
 ghost use Rattle.std.specs.Prelude.{slice_index_or};
 ghost use Rattle.tap_views.specs.Encoding.{AreEarly};
-ghost use Rattle.tap_parts.specs.Canonical.{IsCanonical};
 ghost use Rattle.upload_parts.specs.Split.{AreSplit, IsAdded, IsSplitEnd, IsSplitFile};
 
 use crate::end::UploadEnd;
 use std::alloc::{AllocError, Global};
 use std::marker::Model;
-use tap_parts::{Parts, sort, text_of};
-use tap_views::{TapFields, batches};
+use tap_parts::{Parts, arranged, text_of};
+use tap_views::batches;
 
 /// The number of bytes.
 fn size(upload: &[u8]) -> u64
@@ -42,16 +41,6 @@ fn add_upload(parts: &mut Parts, upload: &[u8]) -> Result<UploadEnd, AllocError>
         }
     }
     Ok(UploadEnd { taps, fault: None })
-}
-
-/// These taps in canonical order.
-fn sorted(alloc: Global, taps: &[TapFields]) -> Result<Vec<TapFields>, AllocError>
-    ensures { IfOk result (λ list. IsCanonical taps.now list.items) }
-{
-    let mut list = Vec::new(alloc);
-    list.extend_from_slice(taps)?;
-    sort(&mut list);
-    Ok(list)
 }
 
 /// The taps of uploads, split by token into parts. Contracts see the taps of each part, in the
@@ -112,7 +101,7 @@ impl Split {
         ensures { IfOk result (λ file. (parts : ℕ) (uploads : List (List ℕ))
             → AreSplit parts uploads self.now → IsSplitFile uploads parts part file.items) }
     {
-        let taps = sorted(alloc, self.parts.part(part))?;
+        let taps = arranged(alloc, self.parts.part(part))?;
         let file = text_of(alloc, &taps)?;
         Ok(file)
     }
