@@ -7,8 +7,8 @@ use Rattle.fare_table.specs.declared.fault.TableFault.{TableFault}
 use Rattle.fare_table.specs.declared.fault.TableFault.TheVariants as table
 use Rattle.fare_service.specs.declared.faults.GatherFault.{GatherFault}
 use Rattle.fare_service.specs.declared.faults.GatherFault.TheVariants as gather
-use Rattle.fare_service.specs.declared.text.print_fault.PrintFault.{PrintFault}
-use Rattle.fare_service.specs.declared.text.print_fault.PrintFault.TheVariants as print
+use Rattle.fare_service.specs.declared.print_fault.PrintFault.{PrintFault}
+use Rattle.fare_service.specs.declared.print_fault.PrintFault.TheVariants as print
 use Rattle.ledger_texts.specs.declared.fault.LedgerFault.{LedgerFault}
 use Rattle.ledger_texts.specs.declared.fault.LedgerFault.TheVariants as ledger
 use Rattle.fare_program.specs.Options.{Asked}

@@ -8,8 +8,8 @@ use Rattle.shard_book.specs.Groups.{all_entries, sums_by_validator, sums_by_toke
 use Rattle.shard_book.specs.Statement.{IsStatement}
 use Rattle.shard_book.specs.Sums.{sums}
 use Rattle.fare_table.specs.Token.{bytes_of}
-use Rattle.fare_service.specs.declared.text.print_fault.PrintFault.{PrintFault}
-use Rattle.fare_service.specs.declared.text.print_fault.PrintFault.TheVariants.{Write, NoMemory}
+use Rattle.fare_service.specs.declared.print_fault.PrintFault.{PrintFault}
+use Rattle.fare_service.specs.declared.print_fault.PrintFault.TheVariants.{Write, NoMemory}
 use Rattle.fare_service.specs.declared.upload_end.UploadEnd.{UploadEnd}
 use Rattle.fare_service.specs.Outcomes.{OutcomeView}
 use Rattle.fare_texts.specs.StatementText.{IsStatementText}

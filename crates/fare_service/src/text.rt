@@ -1,7 +1,6 @@
 //! The texts: the report, statements, and how they are written.
 
 pub(crate) mod line;
-pub(crate) mod print_fault;
 pub(crate) mod printing;
 pub(crate) mod report;
 pub(crate) mod shown;

@@ -34,7 +34,8 @@ fn shared_from<R: RandomSource>(
     Ok((shared, pass, clock))
 }
 
-/// Visits with one run of these taps: the visit's number and end, or nothing where the book is full.
+/// Visits with one run of these taps: the visit's number and end, or nothing where the book is
+/// full.
 fn visit<R: Wait>(
     rt: &R,
     alloc: Global,

@@ -3,7 +3,7 @@ use Rattle.std.specs.Prelude.{◌≡◌, ℕ, List, MatchOption}
 use Rattle.fare_table.specs.declared.fault.TableFault.{TableFault}
 use Rattle.fare_table.specs.declared.fault.TableFault.TheVariants as table
 use Rattle.fare_service.specs.declared.faults.GatherFault.TheVariants as gather
-use Rattle.fare_service.specs.declared.text.print_fault.PrintFault.TheVariants as print
+use Rattle.fare_service.specs.declared.print_fault.PrintFault.TheVariants as print
 use Rattle.ledger_texts.specs.declared.fault.LedgerFault.TheVariants as ledger
 use Rattle.fare_program.specs.declared.load.LoadFault.{LoadFault}
 use Rattle.fare_program.specs.declared.load.LoadFault.TheVariants as load

@@ -61,9 +61,9 @@ pub(crate) enum Stop {
 
 impl From<NoMemory> for Stop {
     ghost use Rattle.std.specs.Prelude.{◌≡◌};
-    ghost use Rattle.fare_service.specs.declared.service.working.Stop.TheVariants.{Memory as ForMemory};
+    ghost use Rattle.fare_service.specs.declared.service.working.Stop.TheVariants as why;
 
-    ghost from_gives = { λ _ stop. stop ≡ ForMemory };
+    ghost from_gives = { λ _ stop. stop ≡ why.Memory };
 
     fn from(_: NoMemory) -> Self {
         Stop::Memory

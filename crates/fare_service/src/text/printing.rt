@@ -7,10 +7,10 @@ ghost use Rattle.std.specs.List.{flat_map};
 ghost use Rattle.fare_service.specs.Text.{token_line};
 ghost use Rattle.fare_service.specs.Printed.{report_of, report_with, IsStatementOf};
 ghost use Rattle.fare_service.specs.Printed.{KeepsUnlessWrite};
-ghost use Rattle.fare_service.specs.declared.text.print_fault.PrintFault.TheVariants.{Write as ForWrite};
+ghost use Rattle.fare_service.specs.declared.print_fault.PrintFault.TheVariants.{Write as ForWrite};
 
 use crate::outcome::Outcome;
-use crate::text::print_fault::PrintFault;
+use crate::print_fault::PrintFault;
 use crate::text::report::report_front;
 use crate::text::token_lines::write_lines;
 use crate::upload_end::UploadEnd;

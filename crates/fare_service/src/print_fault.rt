@@ -14,7 +14,7 @@ pub enum PrintFault {
 }
 
 impl From<NoMemory> for PrintFault {
-    ghost use Rattle.fare_service.specs.declared.text.print_fault.PrintFault.TheVariants as faults;
+    ghost use Rattle.fare_service.specs.declared.print_fault.PrintFault.TheVariants as faults;
     ghost use Rattle.std.specs.Prelude.{◌≡◌};
 
     ghost from_gives = { λ _ e. e ≡ faults.NoMemory };
