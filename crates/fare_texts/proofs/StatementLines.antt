@@ -4,10 +4,8 @@ use Rattle.std.proofs.Common.{refl, sym, ◌∙◌, ap, subst, append_assoc, app
 use Rattle.std.proofs.lemmas.List.{take_more}
 use Rattle.std.proofs.lemmas.Option.{slice_get_within, get_or_from_slice_get}
 use Rattle.fare_table.specs.Fares.{Fares}
-use Rattle.account_rule.specs.declared.window.WindowView.{WindowView}
 use Rattle.shard_book.specs.declared.entry.Entry.{Entry}
-use Rattle.fare_texts.specs.Moments.{IsMomentText}
-use Rattle.fare_texts.specs.StatementText.{AreEntryLines, IsEntryLine, window_rest}
+use Rattle.fare_texts.specs.StatementText.{AreEntryLines, IsEntryLine}
 
 -- one entry more
 entries_more : (fares : Fares) (entries : List Entry) (entry : Entry) (text line : List ℕ)
@@ -34,18 +32,3 @@ next_line fares entries i entry text line at are is =
     (ap (λ e. take i entries ++ e ∷ []) (sym (get_or_from_slice_get entries i entry entry at))
     ∙ sym (take_more entries i entry (slice_get_within entries i entry at)))
     (entries_more fares (take i entries) entry text line are is)
-
--- the three parts of the line of a window after its word
-pub in_window : (window : WindowView) (start one two three four done first until : List ℕ)
-    → IsMomentText window.start first → IsMomentText window.until until → (word between : List ℕ)
-    → one ≡ start ++ word → two ≡ one ++ first → three ≡ two ++ between → four ≡ three ++ until
-    → done ≡ four ++ window_rest window
-    → done ≡ start ++ (word ++ (first ++ (between ++ (until ++ window_rest window))))
-in_window window start one two three four done first until a b word between e1 e2 e3 e4 e5 =
-    let last = window_rest window in
-    e5 ∙ ap (λ t. t ++ last) (e4
-    ∙ ap (λ t. t ++ until) (e3 ∙ ap (λ t. t ++ between) (e2 ∙ ap (λ t. t ++ first) e1)))
-    ∙ append_assoc (((start ++ word) ++ first) ++ between) until last
-    ∙ append_assoc ((start ++ word) ++ first) between (until ++ last)
-    ∙ append_assoc (start ++ word) first (between ++ (until ++ last))
-    ∙ append_assoc start word (first ++ (between ++ (until ++ last)))

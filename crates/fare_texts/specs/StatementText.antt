@@ -37,18 +37,17 @@ mode_text fares validator = name_of fares.rules.modes (mode_at fares validator)
 unfoldable pub statement_head : Token → List ℕ
 statement_head token = codes "statement " ++ (encode_lower (bytes_of token) ++ codes "\n")
 
--- ` subway 1000 paid 300`, with the end of the line
-unfoldable pub entry_rest : Fares → Entry → List ℕ
-entry_rest fares entry =
+-- ` subway 1000 paid 300`: what a line has of the entry behind its moment
+unfoldable pub entry_words : Fares → Entry → List ℕ
+entry_words fares entry =
     codes " " ++ (mode_text fares entry.validator ++ (codes " " ++ (decimal entry.validator
-    ++ (codes " " ++ (answer_text entry.answer
-    ++ (codes " " ++ (decimal entry.cents ++ codes "\n")))))))
+    ++ (codes " " ++ (answer_text entry.answer ++ (codes " " ++ decimal entry.cents))))))
 
 -- `2024-03-08T17:00:00.000Z subway 1000 paid 300`
 pub record IsEntryLine (fares : Fares) (entry : Entry) (line : List ℕ) : Type 0 where
   pub moment : List ℕ
   pub is : IsMomentText entry.moment moment
-  pub shown : line ≡ moment ++ entry_rest fares entry
+  pub shown : line ≡ moment ++ (entry_words fares entry ++ codes "\n")
 
 -- a line for each entry, in order
 abbrev pub AreEntryLines : Fares → List Entry → List ℕ → Type 0
@@ -58,11 +57,10 @@ AreEntryLines fares (entry ∷ entries) text =
     × AreEntryLines fares entries rest
     × (text ≡ line ++ rest)
 
--- ` paid 1 cents 300`, with the end of the line
-unfoldable pub window_rest : WindowView → List ℕ
-window_rest window =
-    codes " paid " ++ (decimal window.paid
-    ++ (codes " cents " ++ (decimal window.cents ++ codes "\n")))
+-- ` paid 1 cents 300`: what a line has of the window behind its end
+unfoldable pub window_words : WindowView → List ℕ
+window_words window =
+    codes " paid " ++ (decimal window.paid ++ (codes " cents " ++ decimal window.cents))
 
 -- `window 2024-03-08T17:00:00.000Z 2024-03-15T17:00:00.000Z paid 1 cents 300`
 pub record IsLineOf (window : WindowView) (line : List ℕ) : Type 0 where
@@ -70,7 +68,8 @@ pub record IsLineOf (window : WindowView) (line : List ℕ) : Type 0 where
   pub starts : IsMomentText window.start start
   pub until : List ℕ
   pub ends : IsMomentText window.until until
-  pub shown : line ≡ codes "window " ++ (start ++ (codes " " ++ (until ++ window_rest window)))
+  pub shown : line ≡ codes "window " ++ (start ++ (codes " "
+      ++ (until ++ (window_words window ++ codes "\n"))))
 
 -- the line of the last window, or `window none`
 abbrev pub IsWindowLine : Option WindowView → List ℕ → Type 0

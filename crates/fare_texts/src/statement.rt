@@ -5,7 +5,7 @@ ghost use Rattle.std.specs.Prelude.{string_bytes};
 ghost use Rattle.fare_texts.specs.Moments.{IsMomentText};
 ghost use Rattle.fare_texts.specs.StatementText.{IsStatementText, IsWindowLine, IsLineOf};
 ghost use Rattle.fare_texts.specs.StatementText.{IsEntryLine, AreEntryLines, statement_head};
-ghost use Rattle.fare_texts.specs.StatementText.{entry_rest, window_rest};
+ghost use Rattle.fare_texts.specs.StatementText.{entry_words, window_words};
 
 use crate::counts::write_totals;
 use crate::digits::Digits;
@@ -25,7 +25,7 @@ pub fn statement_text(
     ensures { IfOk result (λ text. IsStatementText table.now statement.now (string_bytes text)) }
 {
     let mut text = String::new(alloc);
-    write_head(&mut text, statement.token)?;
+    write_statement_head(&mut text, statement.token)?;
     write_lines(&mut text, table, &statement.lines)?;
     write_totals(&mut text, &statement.totals)?;
     write_window(&mut text, statement.window)?;
@@ -34,7 +34,7 @@ pub fn statement_text(
 
 /// Appends the head line, `statement` and the token.
 #[tactic(auto, unfolding(crate::specs::StatementText::statement_head))]
-fn write_head(text: &mut String, token: Token) -> Result<(), AllocError>
+pub fn write_statement_head(text: &mut String, token: Token) -> Result<(), AllocError>
     ensures { OnOk result (string_bytes text.new ≡ string_bytes text.old ++ statement_head token) }
 {
     let digits = Digits(token);
@@ -58,21 +58,27 @@ fn write_entry(text: &mut String, table: &FareTable, entry: &Entry) -> Result<()
         × (string_bytes text.new ≡ string_bytes text.old ++ line)) }
 {
     write_moment(text, entry.moment)?;
-    write_entry_rest(text, table, entry)?;
+    write_entry_words(text, table, entry)?;
+    text.push_str("\n")?;
     Ok(())
 }
 
-/// Appends what an entry's line has behind its moment.
-#[tactic(auto, unfolding(crate::specs::StatementText::entry_rest))]
-fn write_entry_rest(text: &mut String, table: &FareTable, entry: &Entry) -> Result<(), AllocError>
+/// Appends what an entry's line has behind its moment: the mode, the validator, the answer and the
+/// cents.
+#[tactic(auto, unfolding(crate::specs::StatementText::entry_words))]
+pub fn write_entry_words(
+    text: &mut String,
+    table: &FareTable,
+    entry: &Entry,
+) -> Result<(), AllocError>
     ensures { OnOk result (string_bytes text.new ≡ string_bytes text.old
-        ++ entry_rest table.now entry.now) }
+        ++ entry_words table.now entry.now) }
 {
     let mode = mode_name(table, entry.validator);
     let validator = entry.validator;
     let answer = answer_name(entry.answer);
     let cents = entry.cents;
-    writeln!(text, " {mode} {validator} {answer} {cents}")
+    write!(text, " {mode} {validator} {answer} {cents}")
 }
 
 /// Appends the line of the last window, or `window none`.
@@ -95,16 +101,17 @@ fn write_last_window(text: &mut String, window: WindowView) -> Result<(), AllocE
     write_moment(text, window.start)?;
     text.push_str(" ")?;
     write_moment(text, window.until)?;
-    write_window_rest(text, window)?;
+    write_window_words(text, window)?;
+    text.push_str("\n")?;
     Ok(())
 }
 
-/// Appends what a window's line has behind its end.
-#[tactic(auto, unfolding(crate::specs::StatementText::window_rest))]
-fn write_window_rest(text: &mut String, window: WindowView) -> Result<(), AllocError>
-    ensures { OnOk result (string_bytes text.new ≡ string_bytes text.old ++ window_rest window) }
+/// Appends what a window's line has behind its end: how many rides were paid, and what they cost.
+#[tactic(auto, unfolding(crate::specs::StatementText::window_words))]
+pub fn write_window_words(text: &mut String, window: WindowView) -> Result<(), AllocError>
+    ensures { OnOk result (string_bytes text.new ≡ string_bytes text.old ++ window_words window) }
 {
     let paid = window.paid;
     let cents = window.cents;
-    writeln!(text, " paid {paid} cents {cents}")
+    write!(text, " paid {paid} cents {cents}")
 }

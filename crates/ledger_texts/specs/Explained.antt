@@ -22,7 +22,7 @@ use Rattle.fare_table.specs.declared.token.Token.{Token}
 use Rattle.fare_texts.specs.Counts.{totals_line}
 use Rattle.fare_texts.specs.Local.{IsLocal}
 use Rattle.fare_texts.specs.Moments.{IsMomentText}
-use Rattle.fare_texts.specs.StatementText.{answer_text, mode_text, statement_head}
+use Rattle.fare_texts.specs.StatementText.{entry_words, statement_head, window_words}
 use Rattle.reason_texts.specs.Ledger.{reason_after}
 use Rattle.reason_texts.specs.Why.{IsWhy}
 
@@ -42,12 +42,6 @@ unfoldable pub terms_line : Terms → List ℕ
 terms_line terms =
     codes "terms fare " ++ (decimal terms.fare ++ (codes " rides " ++ (decimal terms.rides
     ++ (codes " ceiling " ++ (decimal terms.ceiling ++ codes "\n")))))
-
--- ` subway 1000 paid 300`: what the plain statement has of the entry behind its moment
-unfoldable pub entry_words : Fares → Entry → List ℕ
-entry_words fares entry =
-    codes " " ++ (mode_text fares entry.validator ++ (codes " " ++ (decimal entry.validator
-    ++ (codes " " ++ (answer_text entry.answer ++ (codes " " ++ decimal entry.cents))))))
 
 -- the entry's plain line, then its reason, and under a zone what clocks showed, as
 -- `2024-03-08T17:00:00.000Z subway 1000 paid 300 because .., local 2024-03-08T12:00:00-05:00`
@@ -70,11 +64,6 @@ AreExplainedAfter fares token earlier (entry ∷ entries) text =
     × IsExplainedLine fares entry (reason_after fares token earlier entry) line
     × AreExplainedAfter fares token (earlier ++ entry ∷ []) entries rest
     × (text ≡ line ++ rest)
-
--- ` paid 1 cents 300`
-unfoldable pub window_words : WindowView → List ℕ
-window_words window =
-    codes " paid " ++ (decimal window.paid ++ (codes " cents " ++ decimal window.cents))
 
 -- the words, the window as `2024-03-08T17:00:00.000Z 2024-03-15T17:00:00.000Z paid 1 cents 300`,
 -- and

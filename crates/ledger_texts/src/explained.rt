@@ -5,7 +5,6 @@ ghost use Rattle.std.specs.Prelude.{length};
 ghost use Rattle.std.specs.Prelude.{string_bytes};
 ghost use Rattle.std.specs.Io.KnownBytes.{Appends};
 ghost use Rattle.shard_book.specs.Sums.{sums, sums_of};
-ghost use Rattle.fare_texts.specs.StatementText.{statement_head};
 ghost use Rattle.ledger_texts.specs.Explained.{IsExplained, IsExplainedOf, terms_line};
 ghost use Rattle.ledger_texts.specs.Fault.{KeepsUnlessLedgerWrite};
 
@@ -19,22 +18,13 @@ use crate::fault::LedgerFault;
 use crate::ledger::table_of;
 use crate::lines::pass_on;
 use fare_table::{FareTable, NoMemory, Terms};
-use fare_texts::{Digits, write_totals};
+use fare_texts::{write_statement_head, write_totals};
 use lines::write_lines;
 use shard_book::{Entry, ShardBook, Token};
 use std::alloc::{AllocError, Global};
 use std::io::Write;
 use totals::totals_of;
 use window_lines::write_windows;
-
-/// Appends the head line, which is the plain statement's.
-#[tactic(auto, unfolding(fare_texts::specs::StatementText::statement_head))]
-fn write_head(text: &mut String, token: Token) -> Result<(), AllocError>
-    ensures { OnOk result (string_bytes text.new ≡ string_bytes text.old ++ statement_head token) }
-{
-    let digits = Digits(token);
-    writeln!(text, "statement {digits}")
-}
 
 /// Appends the line of the token's terms.
 #[tactic(auto, unfolding(crate::specs::Explained::terms_line))]
@@ -59,7 +49,7 @@ fn text_of(
     let clock = table.clock(alloc)?;
     let bytes = token.bytes();
     let mut text = String::new(alloc);
-    write_head(&mut text, token)?;
+    write_statement_head(&mut text, token)?;
     write_terms(&mut text, table.terms_of(&bytes))?;
     write_lines(&mut text, table, &clock, token, entries)?;
     write_totals(&mut text, &totals_of(entries))?;

@@ -4,27 +4,14 @@ ghost use Rattle.std.specs.Prelude.{◌≡◌, ◌<◌, ◌++◌, List, [], ℕ,
 ghost use Rattle.std.specs.Prelude.{string_bytes};
 ghost use Rattle.std.specs.Option.{ForSome};
 ghost use Rattle.reason_texts.specs.Why.{HasModeOf};
-ghost use Rattle.ledger_texts.specs.Explained.{AreExplainedAfter, IsExplainedLine, entry_words};
+ghost use Rattle.ledger_texts.specs.Explained.{AreExplainedAfter, IsExplainedLine};
 
 use account_rule::{Account, Reason};
 use fare_table::{Clock, FareTable, NoMemory};
-use fare_texts::{answer_name, mode_name, write_local, write_moment};
+use fare_texts::{write_entry_words, write_local, write_moment};
 use reason_texts::{tap_of, write_why};
 use shard_book::{Entry, Token};
 use std::alloc::AllocError;
-
-/// Appends what the plain statement has of the entry behind its moment.
-#[tactic(auto, unfolding(crate::specs::Explained::entry_words))]
-fn write_words(text: &mut String, table: &FareTable, entry: &Entry) -> Result<(), AllocError>
-    ensures { OnOk result (string_bytes text.new ≡ string_bytes text.old
-        ++ entry_words table.now entry.now) }
-{
-    let mode = mode_name(table, entry.validator);
-    let validator = entry.validator;
-    let answer = answer_name(entry.answer);
-    let cents = entry.cents;
-    write!(text, " {mode} {validator} {answer} {cents}")
-}
 
 /// Appends the line of an entry that has this reason.
 fn write_line(
@@ -40,7 +27,7 @@ fn write_line(
         × (string_bytes text.new ≡ string_bytes text.old ++ line)) }
 {
     write_moment(text, entry.moment)?;
-    write_words(text, table, entry)?;
+    write_entry_words(text, table, entry)?;
     write_why(text, table, reason)?;
     write_local(text, clock, ", local ", entry.moment)?;
     text.push_str("\n")?;

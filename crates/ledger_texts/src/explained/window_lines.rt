@@ -5,24 +5,14 @@ ghost use Rattle.account_rule.specs.Rules.{rules_of};
 ghost use Rattle.shard_book.specs.Entry.{tap_of};
 ghost use Rattle.fare_table.specs.Token.{bytes_of};
 ghost use Rattle.ledger_texts.specs.Explained.{AreEarlierLines, AreWindowLines, IsLastLine};
-ghost use Rattle.ledger_texts.specs.Explained.{IsExplainedWindow, window_words};
+ghost use Rattle.ledger_texts.specs.Explained.{IsExplainedWindow};
 
 use super::windows::windows_of;
 use account_rule::WindowView;
 use fare_table::{Clock, FareTable, NoMemory};
-use fare_texts::{write_local, write_moment};
+use fare_texts::{write_local, write_moment, write_window_words};
 use shard_book::{Entry, Token};
 use std::alloc::{AllocError, Global};
-
-/// Appends how many rides of the window were paid, and what they cost.
-#[tactic(auto, unfolding(crate::specs::Explained::window_words))]
-fn write_words(text: &mut String, window: WindowView) -> Result<(), AllocError>
-    ensures { OnOk result (string_bytes text.new ≡ string_bytes text.old ++ window_words window) }
-{
-    let paid = window.paid;
-    let cents = window.cents;
-    write!(text, " paid {paid} cents {cents}")
-}
 
 /// Appends the line of a window behind its first word.
 fn write_line(
@@ -38,7 +28,7 @@ fn write_line(
     write_moment(text, window.start)?;
     text.push_str(" ")?;
     write_moment(text, window.until)?;
-    write_words(text, window)?;
+    write_window_words(text, window)?;
     write_local(text, clock, " because it lasts from local ", window.start)?;
     write_local(text, clock, " until local ", window.until)?;
     text.push_str("\n")?;

@@ -1,7 +1,7 @@
 use Rattle.std.proofs.Common.{◌++◌, refl, string_bytes}
 use Rattle.std.specs.Prelude.{codes}
 use Rattle.fare_texts.proofs.Parts.{in_parts}
-use Rattle.ledger_texts.specs.Explained.{entry_words}
+use Rattle.fare_texts.specs.StatementText.{entry_words}
 use Rattle.ledger_texts.proofs.explained.lines.write_line.Goals as goal
 
 -- the five parts of the line
@@ -25,9 +25,9 @@ returns c =
       },
       in_parts (string_bytes c.args.text.now) (string_bytes c.write_moment.new.text) done moment.0
           (words ++ (because.0 ++ (local.0 ++ last))) moment.2
-          (in_parts (string_bytes c.write_moment.new.text) (string_bytes c.write_words.new.text)
-          done words (because.0 ++ (local.0 ++ last)) c.in_ok-write_words.ensures
-          (in_parts (string_bytes c.write_words.new.text) (string_bytes c.write_why.new.text) done
+          (in_parts (string_bytes c.write_moment.new.text) (string_bytes c.write_entry_words.new.text)
+          done words (because.0 ++ (local.0 ++ last)) c.in_ok-write_entry_words.ensures
+          (in_parts (string_bytes c.write_entry_words.new.text) (string_bytes c.write_why.new.text) done
           because.0 (local.0 ++ last) because.2
           (in_parts (string_bytes c.write_why.new.text) (string_bytes c.write_local.new.text) done
           local.0 last local.2 c.in_ok-push_str.ensures.bytes))),

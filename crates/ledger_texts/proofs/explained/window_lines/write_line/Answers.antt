@@ -1,7 +1,7 @@
 use Rattle.std.proofs.Common.{◌++◌, refl, string_bytes}
 use Rattle.std.specs.Prelude.{codes}
 use Rattle.fare_texts.proofs.Parts.{in_parts}
-use Rattle.ledger_texts.specs.Explained.{window_words}
+use Rattle.fare_texts.specs.StatementText.{window_words}
 use Rattle.ledger_texts.proofs.explained.window_lines.write_line.Goals as goal
 
 -- the eight parts of the line
@@ -38,9 +38,9 @@ returns c =
           c.in_ok-push_str-2.ensures.bytes
           (in_parts (string_bytes c.push_str-2.new.self) (string_bytes c.write_moment-2.new.text)
           done until.0 (words ++ (from.0 ++ (to.0 ++ last))) until.2
-          (in_parts (string_bytes c.write_moment-2.new.text) (string_bytes c.write_words.new.text)
-          done words (from.0 ++ (to.0 ++ last)) c.in_ok-write_words.ensures
-          (in_parts (string_bytes c.write_words.new.text) (string_bytes c.write_local.new.text) done
+          (in_parts (string_bytes c.write_moment-2.new.text) (string_bytes c.write_window_words.new.text)
+          done words (from.0 ++ (to.0 ++ last)) c.in_ok-write_window_words.ensures
+          (in_parts (string_bytes c.write_window_words.new.text) (string_bytes c.write_local.new.text) done
           from.0 (to.0 ++ last) from.2
           (in_parts (string_bytes c.write_local.new.text) (string_bytes c.write_local-2.new.text)
           done to.0 last to.2 c.in_ok-push_str-3.ensures.bytes)))))),
