@@ -4,9 +4,7 @@ use Rattle.std.specs.Prelude.{ℕ, ◌+◌, List, [], ◌∷◌, ◌++◌, lengt
 use Rattle.std.specs.Fmt.{decimal}
 use Rattle.std.specs.List.{flat_map}
 use Rattle.hex.specs.Hex.{encode_lower}
-use Rattle.tap_views.specs.declared.fault.LayoutFault.{LayoutFault}
-use Rattle.tap_views.specs.declared.fault.LayoutFault.TheVariants.{Short, Magic, Flags, TooMany}
-use Rattle.tap_views.specs.declared.fault.LayoutFault.TheVariants.{Length, Moment}
+use Rattle.tap_views.specs.Names.{fault_name}
 use Rattle.fare_table.specs.Token.{bytes_of}
 use Rattle.shard_book.specs.Sums.{Sums}
 use Rattle.fare_table.specs.declared.token.Token.{Token}
@@ -14,15 +12,6 @@ use Rattle.fare_texts.specs.Counts.{counts, totals_line}
 use Rattle.fare_service.specs.declared.upload_end.UploadEnd.{UploadEnd}
 use Rattle.fare_service.specs.declared.upload_end.UploadEnd.TheVariants.{Posted, Refused, Cut}
 use Rattle.fare_service.specs.declared.upload_end.UploadEnd.TheVariants.{Undrawn}
-
--- the layout faults by their names
-abbrev pub fault_name : LayoutFault → List ℕ
-fault_name (Short have) = codes "L1"
-fault_name Magic = codes "L2"
-fault_name Flags = codes "L3"
-fault_name (TooMany count) = codes "L4"
-fault_name (Length want have) = codes "L5"
-fault_name (Moment index) = codes "L6"
 
 -- the end of an upload, as `refused 2 at 64 L5`
 abbrev pub end_text : UploadEnd → List ℕ

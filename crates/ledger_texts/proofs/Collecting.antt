@@ -1,5 +1,5 @@
 -- Entries that are collected one after another.
-use Rattle.std.proofs.Common.{◌≡◌, ℕ, ◌+◌, List, [], ◌∷◌, ◌++◌, Option, Some, None, unwrap_or, take, sym, ap, ◌∙◌, append_assoc, append-nil, ◌<◌, length, get_or}
+use Rattle.std.proofs.Common.{◌≡◌, ℕ, ◌+◌, List, [], ◌∷◌, ◌++◌, Option, Some, None, unwrap_or, take, sym, ap, ◌∙◌, append_assoc, ◌<◌, length, get_or}
 use Rattle.std.specs.Prelude.{option_and_then, slice_get}
 use Rattle.std.proofs.lemmas.List.{flat_map_more, map-append, take_more}
 use Rattle.std.proofs.lemmas.Option.{slice_get_within, slice_get-get_or, get_or_from_slice_get}
@@ -10,7 +10,7 @@ use Rattle.shard_book.specs.declared.entry.Entry.{Entry}
 use Rattle.fare_table.specs.declared.token.Token.{Token}
 use Rattle.ledger_texts.specs.inside.Spots.{book_at, entry_in, entry_at_spot, no_entry, place_at, seen}
 use Rattle.ledger_texts.specs.declared.spot.Spot.{Spot}
-use Rattle.ledger_texts.proofs.Rising.{own_both, own_none}
+use Rattle.ledger_texts.proofs.Rising.{own_both}
 
 -- the entries before a place, and the one there
 taken_at : (entries : List Entry) (i : ℕ) (entry : Entry) → slice_get entries i ≡ Some entry → take i entries ++ entry ∷ [] ≡ take (i + 1) entries
@@ -50,15 +50,6 @@ seen_books books old new i book at so_far is =
     let more : take i books ++ book ∷ [] ≡ take (i + 1) books = ap (λ (b : Book). take i books ++ b ∷ []) (sym (get_or_from_slice_get books i book book at)) ∙ sym (take_more books i book (slice_get_within books i book at)) in
     is ∙ ap (λ (es : List Entry). es ++ book.entries) so_far
     ∙ flat_map_more (λ (b : Book). b.entries) [] (take i books) book ∙ ap all_entries more
-
-pub own_first : (first : List Entry) (token : Token) → first ≡ first ++ own token []
-own_first first token = sym (ap (λ (es : List Entry). first ++ es) (own_none token) ∙ append-nil first)
-
-pub own_more : (first old new : List Entry) (token : Token) (entries : List Entry) (i : ℕ) (entry : Entry) → new ≡ old ++ own token (entry ∷ []) → old ≡ first ++ own token (take i entries)
-    → slice_get entries i ≡ Some entry → new ≡ first ++ own token (take (i + 1) entries)
-own_more first old new token entries i entry is so_far at =
-    is ∙ ap (λ (es : List Entry). es ++ own token (entry ∷ [])) so_far ∙ append_assoc first (own token (take i entries)) (own token (entry ∷ []))
-    ∙ ap (λ (es : List Entry). first ++ es) (sym (own_both token (take i entries) (entry ∷ [])) ∙ ap (own token) (taken_at entries i entry at))
 
 pub own_books : (books : List Book) (i : ℕ) (book : Book) (token : Token) (old new : List Entry) → i < length books → book ≡ get_or books i book
     → old ≡ own token (all_entries (take i books)) → new ≡ old ++ own token book.entries → new ≡ own token (all_entries (take (i + 1) books))

@@ -1,6 +1,6 @@
 //! The entries of all books, in order of token.
 
-ghost use Rattle.std.specs.Prelude.{◌≡◌, ◌∷◌, [], ◌++◌, IfOk, OnOk, Some};
+ghost use Rattle.std.specs.Prelude.{◌≡◌, ◌++◌, IfOk, OnOk, Some};
 ghost use Rattle.std.specs.Prelude.{slice_get};
 ghost use Rattle.shard_book.specs.Entry.{own};
 ghost use Rattle.shard_book.specs.Groups.{all_entries};
@@ -72,27 +72,6 @@ pub(crate) fn by_token(alloc: Global, books: &[ShardBook]) -> Result<Vec<Spot>, 
     Ok(list)
 }
 
-/// Appends the entry, where it is the token's.
-#[tactic(auto, unfolding(shard_book::specs::Entry::own))]
-fn push_if_own(list: &mut Vec<Entry>, entry: Entry, token: Token) -> Result<(), NoMemory>
-    ensures { OnOk result (list.new.items ≡ list.old.items ++ own token (entry ∷ [])) }
-{
-    if entry.token == token {
-        list.push(entry)?;
-    }
-    Ok(())
-}
-
-/// Appends the token's entries of a book, in history order.
-fn push_own(list: &mut Vec<Entry>, book: &ShardBook, token: Token) -> Result<(), NoMemory>
-    ensures { OnOk result (list.new.items ≡ list.old.items ++ own token book.now.entries) }
-{
-    for place in 0..book.len() {
-        push_if_own(list, book.entry(place), token)?;
-    }
-    Ok(())
-}
-
 /// The token's entries of all books, book by book.
 pub(crate) fn own_of(
     alloc: Global,
@@ -103,7 +82,7 @@ pub(crate) fn own_of(
 {
     let mut list = Vec::new(alloc);
     for book in books {
-        push_own(&mut list, book, token)?;
+        book.push_own(&mut list, token)?;
     }
     Ok(list)
 }

@@ -3,20 +3,22 @@
 use std::fmt;
 use tap_views::LayoutFault;
 
-/// The number of a layout fault, from L1 to L6, with its cause.
+/// The name of a layout fault, from L1 to L6, with its cause.
 #[derive(Clone, Copy)]
 pub(crate) struct Cause(pub(crate) LayoutFault);
 
 impl fmt::Display for Cause {
     fn fmt<W: fmt::Write>(&self, f: &mut fmt::Formatter<W>) -> fmt::Result {
-        f.write_str(match self.0 {
-            LayoutFault::Short { .. } => "L1, the file ends inside a batch's header",
-            LayoutFault::Magic => "L2, a batch does not begin with TAP1 or TAP2",
-            LayoutFault::Flags => "L3, the flags of a batch are not 0",
-            LayoutFault::TooMany { .. } => "L4, a batch counts more than 4096 taps",
-            LayoutFault::Length { .. } => "L5, the file ends inside a batch's taps",
-            LayoutFault::Moment { .. } => "L6, a tap is dated 2100 or later",
-        })
+        let name = self.0.name();
+        let cause = match self.0 {
+            LayoutFault::Short { .. } => "the file ends inside a batch's header",
+            LayoutFault::Magic => "a batch does not begin with TAP1 or TAP2",
+            LayoutFault::Flags => "the flags of a batch are not 0",
+            LayoutFault::TooMany { .. } => "a batch counts more than 4096 taps",
+            LayoutFault::Length { .. } => "the file ends inside a batch's taps",
+            LayoutFault::Moment { .. } => "a tap is dated 2100 or later",
+        };
+        write!(f, "{name}, {cause}")
     }
 }
 

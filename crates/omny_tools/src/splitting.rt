@@ -7,8 +7,7 @@ use crate::output::Output;
 use crate::progress::Progress;
 use std::alloc::{AllocError, Global};
 use std::io::Write;
-use std::{fmt, fs, io};
-use tap_views::LayoutFault;
+use std::{fs, io};
 use upload_parts::{Split, UploadEnd};
 
 /// The most parts.
@@ -27,30 +26,13 @@ pub(crate) struct SplitWords<'a> {
     pub(crate) uploads: Vec<Name<'a>>,
 }
 
-/// The name of a layout fault in a report.
-#[derive(Clone, Copy)]
-struct FaultName(LayoutFault);
-
-impl fmt::Display for FaultName {
-    fn fmt<W: fmt::Write>(&self, f: &mut fmt::Formatter<W>) -> fmt::Result {
-        f.write_str(match self.0 {
-            LayoutFault::Short { .. } => "L1",
-            LayoutFault::Magic => "L2",
-            LayoutFault::Flags => "L3",
-            LayoutFault::TooMany { .. } => "L4",
-            LayoutFault::Length { .. } => "L5",
-            LayoutFault::Moment { .. } => "L6",
-        })
-    }
-}
-
 /// Appends the line that says how the upload of this number ends, as a report has it.
 fn push_end(text: &mut String, upload: u128, end: &UploadEnd) -> Result<(), AllocError> {
     let taps = end.taps;
     match end.fault {
         None => write!(text, "upload {upload} posted {taps}\n"),
         Some((offset, fault)) => {
-            let name = FaultName(fault);
+            let name = fault.name();
             write!(text, "upload {upload} refused {taps} at {offset} {name}\n")
         }
     }

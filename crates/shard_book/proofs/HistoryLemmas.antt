@@ -22,14 +22,15 @@ sums-read entries i entry answered old new at is before added =
     sums-more entries i entry answered old new (slice_get_within entries i entry at)
     (is ∙ ap reply_of (sym (get_or_from_slice_get entries i entry entry at))) before added
 
--- the token's own of one entry more
-pub own-read : (entries old new : List Entry) (token : Token) (i : ℕ) (entry : Entry) → slice_get entries i ≡ Some entry → old ≡ own token (take i entries) → new ≡ old ++ own token (entry ∷ []) → new ≡ own token (take (i + 1) entries)
+-- the token's own of one entry more, behind others
+pub own-read : (first entries old new : List Entry) (token : Token) (i : ℕ) (entry : Entry) → slice_get entries i ≡ Some entry → old ≡ first ++ own token (take i entries) → new ≡ old ++ own token (entry ∷ []) → new ≡ first ++ own token (take (i + 1) entries)
 unfolding own
-own-read entries old new token i entry at before pushed =
+own-read first entries old new token i entry at before pushed =
     pushed
     ∙ ap (λ (es : List Entry). es ++ own token (entry ∷ [])) before
-    ∙ sym (filter-append (is_of token) (take i entries) (entry ∷ []))
-    ∙ ap (own token) (taken_at entries i entry at)
+    ∙ append_assoc first (own token (take i entries)) (own token (entry ∷ []))
+    ∙ ap (λ (es : List Entry). first ++ es) (sym (filter-append (is_of token) (take i entries) (entry ∷ []))
+    ∙ ap (own token) (taken_at entries i entry at))
 
 -- one entry more behind others
 pub grown-read : (before entries : List Entry) (i : ℕ) (entry : Entry) → slice_get entries i ≡ Some entry → (before ++ take i entries) ++ entry ∷ [] ≡ before ++ take (i + 1) entries

@@ -43,13 +43,21 @@ fn own_entries(alloc: Global, book: &ShardBook, token: Token) -> Result<Vec<Entr
     ensures { IfOk result (λ list. list.items ≡ own token book.now.entries) }
 {
     let mut list = Vec::new(alloc);
-    for i in 0..book.len() {
-        push_if_own(&mut list, book.entry(i), token)?;
-    }
+    book.push_own(&mut list, token)?;
     Ok(list)
 }
 
 impl ShardBook {
+    /// Appends the token's entries, in history order, in one pass over the history.
+    pub fn push_own(&self, list: &mut Vec<Entry>, token: Token) -> Result<(), NoMemory>
+        ensures { OnOk result (list.new.items ≡ list.old.items ++ own token self.now.entries) }
+    {
+        for i in 0..self.len() {
+            push_if_own(list, self.entry(i), token)?;
+        }
+        Ok(())
+    }
+
     /// The token's statement: its entries in history order, their totals and its last window, in
     /// one pass over the history. A token without entries has an empty statement.
     pub fn statement(&self, alloc: Global, token: &Token) -> Result<Statement, NoMemory>

@@ -3,5 +3,6 @@ pub mod Encoding
 pub mod Faults
 pub mod Files
 pub mod Layout
+pub mod Names
 pub mod Shards
 pub mod inside

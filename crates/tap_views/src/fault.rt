@@ -39,3 +39,22 @@ pub enum LayoutFault {
         index: u64,
     },
 }
+
+impl LayoutFault {
+    ghost use Rattle.std.specs.Prelude.{◌≡◌};
+    ghost use Rattle.tap_views.specs.Names.{fault_name};
+
+    /// The fault's name in reports, `L1` to `L6`.
+    pub fn name(&self) -> &'static str
+        ensures { result.now ≡ fault_name self.now }
+    {
+        match self {
+            LayoutFault::Short { .. } => "L1",
+            LayoutFault::Magic => "L2",
+            LayoutFault::Flags => "L3",
+            LayoutFault::TooMany { .. } => "L4",
+            LayoutFault::Length { .. } => "L5",
+            LayoutFault::Moment { .. } => "L6",
+        }
+    }
+}
