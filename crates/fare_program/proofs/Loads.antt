@@ -2,7 +2,7 @@
 use Rattle.std.proofs.Common.{◌≡◌, ◌∙◌, ◌<◌, ℕ, List, [], ◌∷◌, ◌++◌, length, map, refl, ap, arith, append_assoc, Option, Some, None, Bor}
 use Rattle.std.proofs.lemmas.List.{map-append}
 use Rattle.fare_program.specs.Program.{LoadsFiles, wanted}
-use Rattle.fare_program.specs.Source.{Loaded, Tells, TellsOne}
+use Rattle.program_manners.specs.Loads.{Loaded, Tells, TellsOne}
 
 tells_on : (told told' told'' : Option (List Loaded)) (loads more : List Loaded) → Tells told told' loads → Tells told' told'' more → Tells told told'' (loads ++ more)
 tells_on None told' told'' loads more first then = tt

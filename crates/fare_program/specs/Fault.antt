@@ -1,38 +1,22 @@
 -- The fault lines, without their line feeds, and their statuses.
-use Rattle.std.specs.Prelude.{◌<◌, ℕ, List, ◌++◌, Bool, true, false, Option, Some, None, codes}
+use Rattle.std.specs.Prelude.{◌<◌, ℕ, List, Bool, true, false, Option, Some, None, codes}
 use Rattle.std.specs.Prelude.{if◌then◌else◌, is_ok, is_some}
 use Rattle.hex.specs.Hex.{decode_sized}
-use Rattle.fare_table.specs.Key.{key_name}
-use Rattle.fare_table.specs.declared.fault.TableFault.{TableFault}
-use Rattle.fare_table.specs.declared.fault.TableFault.TheVariants as table
 use Rattle.fare_service.specs.declared.faults.GatherFault.{GatherFault}
 use Rattle.fare_service.specs.declared.faults.GatherFault.TheVariants as gather
 use Rattle.fare_service.specs.declared.print_fault.PrintFault.{PrintFault}
 use Rattle.fare_service.specs.declared.print_fault.PrintFault.TheVariants as print
 use Rattle.ledger_texts.specs.declared.fault.LedgerFault.{LedgerFault}
 use Rattle.ledger_texts.specs.declared.fault.LedgerFault.TheVariants as ledger
+use Rattle.program_manners.specs.Lines.{load_text, table_text}
 use Rattle.fare_program.specs.Options.{Asked}
-use Rattle.fare_program.specs.declared.load.LoadFault.{LoadFault}
-use Rattle.fare_program.specs.declared.load.LoadFault.TheVariants as load
 use Rattle.fare_program.specs.declared.fault.Fault.{Fault}
 use Rattle.fare_program.specs.declared.fault.Fault.TheVariants.{Digits, NoTable, SettleNoTable}
 use Rattle.fare_program.specs.declared.fault.Fault.TheVariants.{SettleList, LedgerNoTable}
 use Rattle.fare_program.specs.declared.fault.Fault.TheVariants.{LedgerList, ExplainNoToken}
-use Rattle.fare_program.specs.declared.fault.Fault.TheVariants.{ExplainList, ExplainLedger, Unread}
-use Rattle.fare_program.specs.declared.fault.Fault.TheVariants.{TooLong, Table}
+use Rattle.fare_program.specs.declared.fault.Fault.TheVariants.{ExplainList, ExplainLedger}
+use Rattle.fare_program.specs.declared.fault.Fault.TheVariants.{File, Table}
 use Rattle.fare_program.specs.declared.fault.Fault.TheVariants.{Uploads, Gather, Write, NoMemory}
-
--- a fault of a table by its number, and the key where it has one
-abbrev pub table_text : TableFault → List ℕ
-table_text table.Text = codes "fault: table F1"
-table_text (table.Missing key) = codes "fault: table F2 " ++ key_name key
-table_text (table.Kind key) = codes "fault: table F3 " ++ key_name key
-table_text (table.Range key) = codes "fault: table F4 " ++ key_name key
-table_text table.Mode = codes "fault: table F5"
-table_text table.Overlap = codes "fault: table F6"
-table_text table.Rider = codes "fault: table F7"
-table_text table.NoMemory = codes "fault: out of memory"
-table_text table.Zone = codes "fault: table F9"
 
 -- a run whose workers' shares were not gathered
 abbrev pub gather_text : GatherFault → List ℕ
@@ -51,8 +35,7 @@ fault_text LedgerList = codes "fault: --ledger cannot be used with --list"
 fault_text ExplainNoToken = codes "fault: --explain needs --token"
 fault_text ExplainList = codes "fault: --explain cannot be used with --list"
 fault_text ExplainLedger = codes "fault: --explain cannot be used with --ledger"
-fault_text (Unread name) = codes "fault: cannot read " ++ name.now
-fault_text (TooLong name) = codes "fault: " ++ (name.now ++ codes " is too long")
+fault_text (File file) = load_text file.name.now file.fault
 fault_text (Table fault) = table_text fault
 fault_text Uploads = codes "fault: too many uploads"
 fault_text (Gather fault) = gather_text fault
@@ -82,12 +65,6 @@ abbrev pub told_as : LedgerFault → Fault
 told_as ledger.Write = Write
 told_as ledger.NoMemory = NoMemory
 
--- the line of a file of this name that was not loaded
-abbrev pub load_text : List ℕ → LoadFault → List ℕ
-load_text name load.Unread = codes "fault: cannot read " ++ name
-load_text name load.TooLong = codes "fault: " ++ (name ++ codes " is too long")
-load_text name load.NoMemory = codes "fault: out of memory"
-
 -- What is wrong with the token that is asked for, if anything: first its digits, and then that
 -- there is no table.
 abbrev pub token_fault_of : Option (List ℕ) → Option (List ℕ) → Option Fault
@@ -100,29 +77,23 @@ token_fault_of (Some digits) table =
 abbrev pub token_fault : Asked → Option Fault
 token_fault asked = token_fault_of asked.token asked.table
 
--- What is wrong with settling where it is asked for: first that there is no table, and then that
--- the taps are to be listed.
-abbrev pub settle_fault_of : Bool → Bool → Option (List ℕ) → Option Fault
-settle_fault_of false list table = None
-settle_fault_of true list None = Some SettleNoTable
-settle_fault_of true false (Some name) = None
-settle_fault_of true true (Some name) = Some SettleList
+-- What is wrong with what is asked for and needs a table: first that there is none, and then that the
+-- taps are to be listed.
+abbrev pub charge_fault_of : Fault → Fault → Bool → Bool → Option (List ℕ) → Option Fault
+charge_fault_of untabled listed false list table = None
+charge_fault_of untabled listed true list None = Some untabled
+charge_fault_of untabled listed true false (Some name) = None
+charge_fault_of untabled listed true true (Some name) = Some listed
 
--- what is wrong with `--settle` among them
+-- what is wrong with settling where it is asked for
 abbrev pub settle_fault : Asked → Option Fault
-settle_fault asked = settle_fault_of asked.settle asked.list asked.table
+settle_fault asked =
+    charge_fault_of SettleNoTable SettleList asked.settle asked.list asked.table
 
--- What is wrong with the ledger where it is asked for: first that there is no table, and then that
--- the taps are to be listed.
-abbrev pub ledger_fault_of : Bool → Bool → Option (List ℕ) → Option Fault
-ledger_fault_of false list table = None
-ledger_fault_of true list None = Some LedgerNoTable
-ledger_fault_of true false (Some name) = None
-ledger_fault_of true true (Some name) = Some LedgerList
-
--- what is wrong with `--ledger` among them
+-- what is wrong with the ledger where it is asked for
 abbrev pub ledger_fault : Asked → Option Fault
-ledger_fault asked = ledger_fault_of asked.ledger asked.list asked.table
+ledger_fault asked =
+    charge_fault_of LedgerNoTable LedgerList asked.ledger asked.list asked.table
 
 -- What is wrong with an explained statement where it is asked for: first that there is no token,
 -- then that the taps are to be listed, and then that the ledger is asked for.

@@ -6,6 +6,5 @@ pub mod Options
 pub mod Posted
 pub mod Program
 pub mod Settling
-pub mod Source
 pub mod Uploads
 pub mod inside

@@ -1,89 +1,66 @@
 -- The command line, and what its words ask for.
-use Rattle.std.specs.Prelude.{◌≡◌, ◌⊎◌, ℕ, Bool, false, ◌||◌, not, List, [], ◌∷◌, Option, Some}
+use Rattle.std.specs.Prelude.{◌≡◌, ◌⊎◌, ℕ, ℤ, Bool, false, ◌||◌, not, List, [], ◌∷◌, Option, Some}
 use Rattle.std.specs.Prelude.{codes}
-use Rattle.std.specs.Prelude.{true}
 use Rattle.std.specs.Prelude.{is_some, map, option_map, pos, unwrap_or}
 use Rattle.std.specs.Option.{option_map_or}
 use Rattle.std.specs.Str.{bytes_eq}
 use Rattle.std.specs.Str.Parse.{digits_value, without_leading_plus}
 use Rattle.clap.specs.Words.{App, IsAmong, Row, Rule, Text, all_of, fault_of, first_of, matches_of}
-use Rattle.clap.specs.Words.{new_app}
-use Rattle.clap.specs.Words.{new_rule, one_of, with_rule}
-use Rattle.clap.specs.declared.builder.action.ArgAction.TheVariants.{Set, SetTrue, Append}
+use Rattle.clap.specs.Words.{one_of, with_rule}
+use Rattle.clap.specs.declared.builder.action.ArgAction.TheVariants.{Append}
 use Rattle.clap.specs.declared.builder.value_parser.ValueParser.TheVariants.{Signed}
-use Rattle.clap.specs.Simple.{on_top}
-use Rattle.clap.specs.declared.error.kind.ErrorKind.{ErrorKind}
 use Rattle.clap.specs.declared.error.kind.ErrorKind.TheVariants.{DisplayHelp, DisplayVersion}
+use Rattle.program_manners.specs.Words.{flag_rule, named_app, option_rule, place_rule}
 use Rattle.fare_program.specs.declared.asked.Options.{Options}
 
 -- `--table F`
 abbrev pub table_rule : Rule
-table_rule = record (new_rule (codes "table")) {
-  long = Some (codes "table");
-  action = Some Set;
-  value_names = 1;
-}
+table_rule = option_rule (codes "table")
 
 -- `--list`
 abbrev pub list_rule : Rule
-list_rule = record (new_rule (codes "list")) { long = Some (codes "list"); action = Some SetTrue }
+list_rule = flag_rule (codes "list")
+
+-- an option with a number of 1 to `most`, and its default
+abbrev pub number_rule : Text → ℤ → Text → Rule
+number_rule name most default = record (option_rule name) {
+  parser = Some (Signed (pos 1) most);
+  defaults = default ∷ [];
+}
 
 -- `--workers N`, a number of 1 to 16; 2 where it is not given
 abbrev pub workers_rule : Rule
-workers_rule = record (new_rule (codes "workers")) {
-  long = Some (codes "workers");
-  action = Some Set;
-  value_names = 1;
-  parser = Some (Signed (pos 1) (pos 16));
-  defaults = codes "2" ∷ [];
-}
+workers_rule = number_rule (codes "workers") (pos 16) (codes "2")
 
 -- `--shards N`, a number of 1 to 64; 8 where it is not given
 abbrev pub shards_rule : Rule
-shards_rule = record (new_rule (codes "shards")) {
-  long = Some (codes "shards");
-  action = Some Set;
-  value_names = 1;
-  parser = Some (Signed (pos 1) (pos 64));
-  defaults = codes "8" ∷ [];
-}
+shards_rule = number_rule (codes "shards") (pos 64) (codes "8")
 
 -- `--token HEX`
 abbrev pub token_rule : Rule
-token_rule = record (new_rule (codes "token")) {
-  long = Some (codes "token");
-  action = Some Set;
-  value_names = 1;
-}
+token_rule = option_rule (codes "token")
 
 -- `--settle`
 abbrev pub settle_rule : Rule
-settle_rule =
-    record (new_rule (codes "settle")) { long = Some (codes "settle"); action = Some SetTrue }
+settle_rule = flag_rule (codes "settle")
 
 -- `--ledger`
 abbrev pub ledger_rule : Rule
-ledger_rule =
-    record (new_rule (codes "ledger")) { long = Some (codes "ledger"); action = Some SetTrue }
+ledger_rule = flag_rule (codes "ledger")
 
 -- `--explain`
 abbrev pub explain_rule : Rule
-explain_rule =
-    record (new_rule (codes "explain")) { long = Some (codes "explain"); action = Some SetTrue }
+explain_rule = flag_rule (codes "explain")
 
 -- `FILE`, as often as wanted
 abbrev pub file_rule : Rule
-file_rule = record (new_rule (codes "FILE")) { action = Some Append }
-
--- the program's name, and that it has a version
-abbrev pub named_app : App
-named_app = on_top (λ s. record s { has_version = true }) (new_app (codes "omny_cli"))
+file_rule = place_rule (codes "FILE") Append
 
 -- the program's options, without its files
 abbrev pub app_of_options : App
 app_of_options =
     with_rule (with_rule (with_rule (with_rule
-    (with_rule (with_rule (with_rule (with_rule named_app
+    (with_rule (with_rule (with_rule (with_rule (named_app (codes "omny_cli"))
     table_rule) list_rule) workers_rule) shards_rule) token_rule) settle_rule) ledger_rule)
     explain_rule
 
@@ -94,10 +71,6 @@ program = with_rule app_of_options file_rule
 -- the words after the program's name are a command line of the program
 abbrev pub Parses : List Text → Type 0
 Parses words = fault_of program words ≡ []
-
--- the kind of what is no mistake: help or the version is asked for
-abbrev pub IsRequest : ErrorKind → Type 0
-IsRequest kind = (kind ≡ DisplayHelp) ⊎ (kind ≡ DisplayVersion)
 
 -- reading the words ends at a word that asks for help or for the version
 abbrev pub AsksForText : List Text → Type 0

@@ -1,6 +1,6 @@
 -- What a run of the program does.
-use Rattle.std.specs.Prelude.{◌≡◌, ◌≢◌, ℕ, Bool, true, false, List, [], ◌∷◌, ◌++◌, map, Option}
-use Rattle.std.specs.Prelude.{None, Some, Ok, MatchBool, codes}
+use Rattle.std.specs.Prelude.{◌≡◌, ◌≢◌, ℕ, Bool, true, false, List, [], ◌∷◌, map, Option}
+use Rattle.std.specs.Prelude.{None, Some, Ok, MatchBool}
 use Rattle.std.specs.Io.KnownBytes.{Appends, Keeps}
 use Rattle.hex.specs.Hex.{decode_sized}
 use Rattle.fare_table.specs.Fares.{Fares}
@@ -22,7 +22,8 @@ use Rattle.fare_program.specs.declared.fault.Fault.{Fault}
 use Rattle.fare_program.specs.declared.fault.Fault.TheVariants.{Write}
 use Rattle.ledger_texts.specs.Explained.{IsExplainedOf}
 use Rattle.ledger_texts.specs.Ledger.{IsLedgerOfBooks}
-use Rattle.fare_program.specs.Source.{Loaded, Tells, TellsOne}
+use Rattle.program_manners.specs.Loads.{Loaded, Tells, TellsOne}
+use Rattle.program_manners.specs.Told.{Told}
 use Rattle.fare_program.specs.Uploads.{IsListing}
 
 -- The text's rules, and the zone that it names, are those of these fares.
@@ -147,10 +148,6 @@ abbrev pub Does : Asked → Option (List Loaded) → Option (List Loaded) → Op
 Does asked told told' out out' well = MatchBool (lists asked)
     (RunsListing asked.table asked.files told told' out out' well)
     (RunsService asked told told' out out' well)
-
--- The line was told, unless a write of it failed.
-abbrev pub Told : Option (List ℕ) → Option (List ℕ) → Bool → List ℕ → Type 0
-Told said said' failed line = failed ≡ false → Appends said said' (line ++ codes "\n")
 
 -- The program gave up: the fault's line was told, and nothing was written but where a write failed.
 pub record GaveUp (fault : Fault) (said said' : Option (List ℕ)) (failed : Bool)

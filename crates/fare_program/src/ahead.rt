@@ -3,7 +3,7 @@ ghost use Rattle.std.specs.Prelude.{◌≡◌, ◌<◌, ◌≤◌, ◌++◌, ◌
 ghost use Rattle.std.specs.Prelude.{string_bytes};
 ghost use Rattle.fare_program.specs.Ahead.{IsNotNext};
 
-use crate::load::LoadFault;
+use program_manners::LoadFault;
 use std::alloc::{AllocError, Global};
 use std::marker::Sync;
 use std::thread;

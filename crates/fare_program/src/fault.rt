@@ -1,13 +1,13 @@
 //! Why the program gives up, with the line that says so and the status.
 ghost use Rattle.std.specs.Prelude.{◌≡◌, ◌≢◌, Some};
 ghost use Rattle.fare_service.specs.declared.faults.GatherFault.{GatherFault};
-ghost use Rattle.fare_program.specs.Fault.{fault_text, gather_text, load_text, status_of};
-ghost use Rattle.fare_program.specs.Fault.{table_text};
+ghost use Rattle.fare_program.specs.Fault.{fault_text, gather_text, status_of};
+ghost use Rattle.program_manners.specs.Lines.{load_text, table_text};
 
-use crate::load::LoadFault;
 use fare_service::{GatherFault, OpenFault, PrintFault, RunFault};
 use fare_table::{NoMemory, TableFault};
 use ledger_texts::LedgerFault;
+use program_manners::{FileFault, LoadFault, TableLine};
 use std::fmt;
 
 /// Why the program gives up. Its `Display` is the fault line without its line feed.
@@ -31,10 +31,8 @@ pub enum Fault<'a> {
     ExplainList,
     /// An explained statement is asked for, and the ledger.
     ExplainLedger,
-    /// The file of this name could not be read.
-    Unread(&'a str),
-    /// The file of this name is longer than the limit.
-    TooLong(&'a str),
+    /// A file or standard input was not loaded.
+    File(FileFault<'a>),
     /// The fare table's text is no table.
     Table(TableFault),
     /// There are more uploads than a service takes.
@@ -53,11 +51,7 @@ impl<'a> Fault<'a> {
         ensures line { fault_text result ≡ load_text name.entry.now fault }
         ensures status { status_of result ≡ 1 }
     {
-        match fault {
-            LoadFault::Unread => Fault::Unread(name),
-            LoadFault::TooLong => Fault::TooLong(name),
-            LoadFault::NoMemory => Fault::NoMemory,
-        }
+        Fault::File(FileFault { name, fault })
     }
 
     /// Why the service was not opened, with a number of shards that it takes.
@@ -146,28 +140,6 @@ impl From<LedgerFault> for Fault<'_> {
     }
 }
 
-/// The line of a fault of the table.
-#[derive(Clone, Copy)]
-struct TableLine(TableFault);
-
-impl fmt::Display for TableLine {
-    ghost output = { λ line. Some (table_text line.0) };
-
-    fn fmt<W: fmt::Write>(&self, f: &mut fmt::Formatter<W>) -> fmt::Result {
-        match self.0 {
-            TableFault::Text => f.write_str("fault: table F1"),
-            TableFault::Missing { key } => write!(f, "fault: table F2 {}", key.name()),
-            TableFault::Kind { key } => write!(f, "fault: table F3 {}", key.name()),
-            TableFault::Range { key } => write!(f, "fault: table F4 {}", key.name()),
-            TableFault::Mode => f.write_str("fault: table F5"),
-            TableFault::Overlap => f.write_str("fault: table F6"),
-            TableFault::Rider => f.write_str("fault: table F7"),
-            TableFault::NoMemory => f.write_str("fault: out of memory"),
-            TableFault::Zone => f.write_str("fault: table F9"),
-        }
-    }
-}
-
 /// The line of a run that was not gathered.
 #[derive(Clone, Copy)]
 struct GatherLine(GatherFault);
@@ -198,8 +170,7 @@ impl fmt::Display for Fault<'_> {
             Fault::ExplainNoToken => f.write_str("fault: --explain needs --token"),
             Fault::ExplainList => f.write_str("fault: --explain cannot be used with --list"),
             Fault::ExplainLedger => f.write_str("fault: --explain cannot be used with --ledger"),
-            Fault::Unread(name) => write!(f, "fault: cannot read {name}"),
-            Fault::TooLong(name) => write!(f, "fault: {name} is too long"),
+            Fault::File(fault) => fault.fmt(f),
             Fault::Table(fault) => TableLine(*fault).fmt(f),
             Fault::Uploads => f.write_str("fault: too many uploads"),
             Fault::Gather(fault) => GatherLine(*fault).fmt(f),

@@ -1,7 +1,8 @@
 //! The files and the standard input of the system.
 
 use crate::ahead::{Disk, Early, take_next};
-use crate::load::{LONGEST, LoadFault, Source, load_from};
+use crate::source::Source;
+use program_manners::{LONGEST, LoadFault, load_from};
 use std::alloc::Global;
 use std::{fs, io};
 

@@ -3,16 +3,13 @@ ghost use Rattle.std.specs.Prelude.{◌≡◌, ◌≤◌, ◌^◌, ◌<◌, ℕ,
 ghost use Rattle.std.specs.Prelude.{string_bytes, unwrap_or};
 ghost use Rattle.clap.specs.Words.{FailsBy, all_of, app_of, fault_of, found_of, matches_of};
 ghost use Rattle.clap.specs.Words.{rows_of, rule_of};
-ghost use Rattle.fare_program.specs.Options.{asked_by, asked_of, explain_rule, file_rule, is_given};
-ghost use Rattle.fare_program.specs.Options.{list_rule};
-ghost use Rattle.fare_program.specs.Options.{number_of, program};
+ghost use Rattle.fare_program.specs.Options.{asked_by, asked_of, is_given, number_of};
+ghost use Rattle.fare_program.specs.Options.{program, shards_rule, workers_rule};
 ghost use Rattle.fare_program.specs.inside.Options.{HasNumber};
-ghost use Rattle.fare_program.specs.Options.{ledger_rule, settle_rule, shards_rule, table_rule};
-ghost use Rattle.fare_program.specs.Options.{token_rule, workers_rule};
 
 use crate::asked::Options;
 use clap::{Arg, ArgAction, ArgMatches, Command, Error, value_parser};
-use program_version::VERSION;
+use program_manners::{flag_arg, names_in, new_command, option_arg, place_arg};
 use std::alloc::{AllocError, Global};
 
 /// What the program is for, as the help says it first.
@@ -80,29 +77,6 @@ const EXPLAIN_HELP: &str =
 const FILE_HELP: &str =
     "Uploads, files of TAP1 and TAP2 batches of at most 67108864 bytes [default: standard input]";
 
-/// `--table FILE`.
-fn table_arg<'a>(alloc: Global) -> Arg<'a>
-    ensures rule { rule_of result ≡ table_rule }
-    ensures local { result.global ≡ false }
-{
-    Arg::new(alloc, "table")
-        .long("table")
-        .value_name("F")
-        .action(ArgAction::Set)
-        .help(TABLE_HELP)
-}
-
-/// `--list`.
-fn list_arg<'a>(alloc: Global) -> Arg<'a>
-    ensures rule { rule_of result ≡ list_rule }
-    ensures local { result.global ≡ false }
-{
-    Arg::new(alloc, "list")
-        .long("list")
-        .action(ArgAction::SetTrue)
-        .help(LIST_HELP)
-}
-
 /// `--workers N`.
 fn workers_arg<'a>(alloc: Global) -> Arg<'a>
     ensures rule { rule_of result ≡ workers_rule }
@@ -131,78 +105,20 @@ fn shards_arg<'a>(alloc: Global) -> Arg<'a>
         .help(SHARDS_HELP)
 }
 
-/// `--token HEX`.
-fn token_arg<'a>(alloc: Global) -> Arg<'a>
-    ensures rule { rule_of result ≡ token_rule }
-    ensures local { result.global ≡ false }
-{
-    Arg::new(alloc, "token")
-        .long("token")
-        .value_name("HEX")
-        .action(ArgAction::Set)
-        .help(TOKEN_HELP)
-}
-
-/// `--settle`.
-fn settle_arg<'a>(alloc: Global) -> Arg<'a>
-    ensures rule { rule_of result ≡ settle_rule }
-    ensures local { result.global ≡ false }
-{
-    Arg::new(alloc, "settle")
-        .long("settle")
-        .action(ArgAction::SetTrue)
-        .help(SETTLE_HELP)
-}
-
-/// `--ledger`.
-fn ledger_arg<'a>(alloc: Global) -> Arg<'a>
-    ensures rule { rule_of result ≡ ledger_rule }
-    ensures local { result.global ≡ false }
-{
-    Arg::new(alloc, "ledger")
-        .long("ledger")
-        .action(ArgAction::SetTrue)
-        .help(LEDGER_HELP)
-}
-
-/// `--explain`.
-fn explain_arg<'a>(alloc: Global) -> Arg<'a>
-    ensures rule { rule_of result ≡ explain_rule }
-    ensures local { result.global ≡ false }
-{
-    Arg::new(alloc, "explain")
-        .long("explain")
-        .action(ArgAction::SetTrue)
-        .help(EXPLAIN_HELP)
-}
-
-/// The uploads' files.
-fn file_arg<'a>(alloc: Global) -> Arg<'a>
-    ensures rule { rule_of result ≡ file_rule }
-    ensures local { result.global ≡ false }
-{
-    Arg::new(alloc, "FILE")
-        .action(ArgAction::Append)
-        .help(FILE_HELP)
-}
-
 /// The command line, as clap reads it.
 fn command<'a>(alloc: Global) -> Result<Command<'a>, AllocError>
     ensures { IfOk result (λ command. app_of command ≡ program) }
 {
-    let table = table_arg(alloc);
-    let list = list_arg(alloc);
+    let table = option_arg(alloc, "table", "F", TABLE_HELP);
+    let list = flag_arg(alloc, "list", LIST_HELP);
     let workers = workers_arg(alloc);
     let shards = shards_arg(alloc);
-    let token = token_arg(alloc);
-    let settle = settle_arg(alloc);
-    let ledger = ledger_arg(alloc);
-    let explain = explain_arg(alloc);
-    let file = file_arg(alloc);
-    Command::new(alloc, "omny_cli")
-        .version(VERSION)
-        .about(ABOUT)
-        .after_help(NOTES)
+    let token = option_arg(alloc, "token", "HEX", TOKEN_HELP);
+    let settle = flag_arg(alloc, "settle", SETTLE_HELP);
+    let ledger = flag_arg(alloc, "ledger", LEDGER_HELP);
+    let explain = flag_arg(alloc, "explain", EXPLAIN_HELP);
+    let file = place_arg(alloc, "FILE", ArgAction::Append, FILE_HELP);
+    new_command(alloc, "omny_cli", ABOUT, NOTES)
         .arg(table)?
         .arg(list)?
         .arg(workers)?
@@ -225,17 +141,6 @@ fn matched<'a>(alloc: Global, words: &'a [String]) -> Result<ArgMatches<'a>, Err
     ensures kinds { FailsBy (fault_of program (map string_bytes words.entry.now)) result }
 {
     command(alloc)?.try_get_matches_from(words)
-}
-
-/// The values of FILE.
-fn files_in<'a>(alloc: Global, matches: &ArgMatches<'a>) -> Result<Vec<&'a str>, AllocError>
-    ensures { IfOk result (λ files. map (λ f. f.now) files.items
-        ≡ unwrap_or (all_of (codes "FILE") (rows_of (found_of matches.now))) []) }
-{
-    match matches.get_strs("FILE") {
-        Some(files) => Vec::from_slice(alloc, files),
-        None => Ok(Vec::new(alloc)),
-    }
 }
 
 /// Whether a flag was given. The contract of `get_flag` says less of what it answers.
@@ -276,7 +181,7 @@ impl<'a> Options<'a> {
             settle: flag_in(&matches, "settle"),
             ledger: flag_in(&matches, "ledger"),
             explain: flag_in(&matches, "explain"),
-            files: files_in(alloc, &matches)?,
+            files: names_in(alloc, &matches, "FILE")?,
         })
     }
 }

@@ -135,27 +135,6 @@ fn print_asked<'a, R: Threads + Sync, W: Write>(
     Ok(())
 }
 
-/// Writes what is asked for, through to where the writer brings it.
-fn write_asked<'a, R: Threads + Sync, W: Write>(
-    rt: &R,
-    alloc: Global,
-    options: &Options<'a>,
-    outcome: &Outcome,
-    ends: &[UploadEnd],
-    token: Option<Token>,
-    out: &mut W,
-) -> Result<(), Fault<'a>>
-    ensures ok { OnOk result ((text : List ℕ)
-        × ShowsOf (asked_of options.now) token ends.now outcome.now text
-        × Appends (W.contents out.old) (W.contents out.new) text) }
-    ensures status { IfErr result (λ fault. status_of fault ≡ 1) }
-    ensures fault { IfErr result (λ fault. fault ≢ Fault.Write
-        → Keeps (W.contents out.old) (W.contents out.new)) }
-{
-    print_asked(rt, alloc, options, outcome, ends, token, out)?;
-    flush(out)
-}
-
 /// Posts the files, settled where that is asked for, and writes what is asked for. Says whether
 /// each file was posted whole.
 pub fn charge<'a, R: Threads + Wait + RandomSource + Sync, W: Write>(
@@ -176,6 +155,7 @@ pub fn charge<'a, R: Threads + Wait + RandomSource + Sync, W: Write>(
 {
     let posted = post(rt, alloc, table, options, files)?;
     let ends = posted.ends();
-    write_asked(rt, alloc, options, &posted.outcome, ends, token, out)?;
+    print_asked(rt, alloc, options, &posted.outcome, ends, token, out)?;
+    flush(out)?;
     Ok(are_posted(ends))
 }

@@ -4,33 +4,32 @@ ghost use Rattle.std.specs.Prelude.{List, true, false, None, Some, IfErr, IfOk, 
 ghost use Rattle.std.specs.Prelude.{is_some, map, option_map, string_bytes};
 ghost use Rattle.clap.specs.Words.{kind_of};
 ghost use Rattle.std.specs.Io.KnownBytes.{Appends, Keeps};
-ghost use Rattle.std.specs.IoError.{error_kind};
-ghost use Rattle.fare_program.specs.Fault.{explain_fault, fault_text, ledger_fault, mistake};
-ghost use Rattle.fare_program.specs.Fault.{settle_fault};
+ghost use Rattle.fare_program.specs.Fault.{charge_fault_of, explain_fault, fault_text, mistake};
 ghost use Rattle.fare_program.specs.Fault.{status_of, token_fault};
 ghost use Rattle.fare_program.specs.inside.Fault.{IsLoadLine, IsTableLine, IsWhyOf};
-ghost use Rattle.fare_program.specs.Options.{AsksForText, IsRequest, Parses, asked_by, asked_of};
+ghost use Rattle.fare_program.specs.Options.{AsksForText, Parses, asked_by, asked_of};
 ghost use Rattle.fare_program.specs.Program.{Does, GaveUp, IsTokenIn, Loads, LoadsFiles};
-ghost use Rattle.fare_program.specs.Program.{LoadsTable, Told, wanted};
-ghost use Rattle.fare_program.specs.Source.{TellsOne};
+ghost use Rattle.fare_program.specs.Program.{LoadsTable, wanted};
+ghost use Rattle.program_manners.specs.Loads.{TellsOne};
+ghost use Rattle.program_manners.specs.Told.{Told};
+ghost use Rattle.program_manners.specs.Words.{IsRequest};
 ghost use Rattle.fare_program.specs.Uploads.{IsListing};
 
 use crate::ahead::{Disk, read_early};
 use crate::asked::Options;
-use crate::complaints::Complaints;
 use crate::fault::Fault;
-use crate::load::Source;
-use crate::output::{flush, write_text};
+use crate::output::write_text;
 use crate::posting::charge;
+use crate::source::Source;
 use crate::uploads::listing_text;
 use clap::Error;
 use clap::error::ErrorKind;
 use fare_table::{FareTable, NoMemory};
 use hex::FromHex;
+use program_manners::{Complaints, Shown, show_answer};
 use shard_book::Token;
 use std::alloc::Global;
-use std::io;
-use std::io::{ErrorKind as ReadKind, Write};
+use std::io::Write;
 use std::marker::Sync;
 use std::random::RandomSource;
 use std::sync::Wait;
@@ -163,40 +162,30 @@ fn token_of<'a>(options: &Options<'a>) -> Result<Option<Token>, Fault<'a>>
     Ok(Some(Token::of(&token)))
 }
 
-/// Looks whether the taps may be settled, where that is asked for: there is a table to charge by,
-/// and they are not to be listed.
-fn check_settling<'a>(options: &Options<'a>) -> Result<(), Fault<'a>>
-    ensures right { OnOk result (settle_fault (asked_of options.now) ≡ None) }
-    ensures fault { IfErr result (λ fault. settle_fault (asked_of options.now) ≡ Some fault) }
+/// Looks whether what needs a table may be done, where that is asked for: there is a table to charge
+/// by, and the taps are not to be listed.
+fn check_charged<'a>(
+    options: &Options<'a>,
+    asked: bool,
+    untabled: Fault<'a>,
+    listed: Fault<'a>,
+) -> Result<(), Fault<'a>>
+    requires untabled { status_of untabled ≡ 2 }
+    requires listed { status_of listed ≡ 2 }
+    ensures right { OnOk result (charge_fault_of untabled.entry listed.entry asked
+        (asked_of options.now).list (asked_of options.now).table ≡ None) }
+    ensures fault { IfErr result (λ fault. charge_fault_of untabled.entry listed.entry asked
+        (asked_of options.now).list (asked_of options.now).table ≡ Some fault) }
     ensures status { IfErr result (λ fault. status_of fault ≡ 2) }
 {
-    if !options.settle {
+    if !asked {
         return Ok(());
     }
     if options.table.is_none() {
-        return Err(Fault::SettleNoTable);
+        return Err(untabled);
     }
     if options.list {
-        return Err(Fault::SettleList);
-    }
-    Ok(())
-}
-
-/// Looks whether the ledger may be printed, where that is asked for: there is a table to charge by,
-/// and the taps are not to be listed.
-fn check_ledger<'a>(options: &Options<'a>) -> Result<(), Fault<'a>>
-    ensures right { OnOk result (ledger_fault (asked_of options.now) ≡ None) }
-    ensures fault { IfErr result (λ fault. ledger_fault (asked_of options.now) ≡ Some fault) }
-    ensures status { IfErr result (λ fault. status_of fault ≡ 2) }
-{
-    if !options.ledger {
-        return Ok(());
-    }
-    if options.table.is_none() {
-        return Err(Fault::LedgerNoTable);
-    }
-    if options.list {
-        return Err(Fault::LedgerList);
+        return Err(listed);
     }
     Ok(())
 }
@@ -231,8 +220,18 @@ fn checked<'a>(options: &Options<'a>) -> Result<Option<Token>, Fault<'a>>
     ensures status { IfErr result (λ fault. status_of fault ≡ 2) }
 {
     let token = token_of(options)?;
-    check_settling(options)?;
-    check_ledger(options)?;
+    check_charged(
+        options,
+        options.settle,
+        Fault::SettleNoTable,
+        Fault::SettleList,
+    )?;
+    check_charged(
+        options,
+        options.ledger,
+        Fault::LedgerNoTable,
+        Fault::LedgerList,
+    )?;
     check_explain(options)?;
     Ok(token)
 }
@@ -301,16 +300,6 @@ fn tell<E: Write>(err: &mut Complaints<E>, fault: &Fault) -> u8
     fault.status()
 }
 
-/// Prints clap's help or version, through to where the writer brings it.
-fn show_text<'a, W: Write>(error: &Error, out: &mut W) -> Result<(), Fault<'a>>
-    ensures { IfErr result (λ fault. fault ≡ Fault.Write) }
-{
-    if write!(out, "{error}").is_err() {
-        return Err(Fault::Write);
-    }
-    flush(out)
-}
-
 /// Shows what clap answers when there is nothing to run: help and version on `out`, else the mistake
 /// on `err`.
 fn show<W: Write, E: Write>(error: &Error, out: &mut W, err: &mut Complaints<E>) -> u8
@@ -329,16 +318,11 @@ fn show<W: Write, E: Write>(error: &Error, out: &mut W, err: &mut Complaints<E>)
         (W.contents out.old) (W.contents out.new) }
     ensures status { result ≤ 2 }
 {
-    match error.kind() {
-        ErrorKind::OutOfMemory => tell(err, &Fault::NoMemory),
-        ErrorKind::DisplayHelp | ErrorKind::DisplayVersion => match show_text(error, out) {
-            Ok(()) => 0,
-            Err(unwritten) => tell(err, &unwritten),
-        },
-        _ => {
-            err.tell(error);
-            2
-        }
+    match show_answer(error, out, err) {
+        Shown::Text => 0,
+        Shown::Mistake => 2,
+        Shown::NoMemory => tell(err, &Fault::NoMemory),
+        Shown::Unwritten(_) => tell(err, &Fault::Write),
     }
 }
 
@@ -411,21 +395,4 @@ pub fn main_over<
         Ok(false) => 1,
         Err(fault) => tell(err, &fault),
     }
-}
-
-/// Says why the words could not be had, and gives the status: 1 for want of memory, and 2 for a
-/// word that is not UTF-8.
-pub fn unread_words<E: Write>(error: &io::Error, err: &mut Complaints<E>) -> u8
-    ensures memory { error_kind error.now ≡ ReadKind.OutOfMemory → (result ≡ 1)
-        × Told (E.contents err.old.writer) (E.contents err.new.writer) err.new.failed
-        (fault_text Fault.NoMemory) }
-    ensures word { error_kind error.now ≢ ReadKind.OutOfMemory → (result ≡ 2)
-        × Told (E.contents err.old.writer) (E.contents err.new.writer) err.new.failed
-        (codes "error: an argument is not UTF-8") }
-{
-    if error.kind() == ReadKind::OutOfMemory {
-        return tell(err, &Fault::NoMemory);
-    }
-    err.tell_line("error: an argument is not UTF-8");
-    2
 }

@@ -4,21 +4,15 @@ use Rattle.std.specs.Prelude.{if◌then◌else◌, option_and_then, option_map, 
 use Rattle.std.specs.Str.{bytes_eq}
 use Rattle.clap.specs.Lexer.{usize_max}
 use Rattle.clap.specs.Words.{App, IsAmong, Rule, Text, all_of, fault_of, first_of, matches_of}
-use Rattle.clap.specs.Words.{new_app, new_rule, with_rule}
-use Rattle.clap.specs.Simple.{on_top}
+use Rattle.clap.specs.Words.{new_rule, with_rule}
 use Rattle.clap.specs.declared.builder.action.ArgAction.TheVariants.{Set, Append}
-use Rattle.clap.specs.declared.error.kind.ErrorKind.{ErrorKind}
 use Rattle.clap.specs.declared.error.kind.ErrorKind.TheVariants.{DisplayHelp, DisplayVersion}
+use Rattle.program_manners.specs.Words.{named_app, option_rule, place_rule}
 use Rattle.omny_audit.specs.declared.options.Options.{Options}
 
 -- `--table F`, which has to be given
 abbrev pub table_rule : Rule
-table_rule = record (new_rule (codes "table")) {
-  long = Some (codes "table");
-  action = Some Set;
-  value_names = 1;
-  required = true;
-}
+table_rule = record (option_rule (codes "table")) { required = true }
 
 -- `--uploads FILE..`, as often as wanted
 abbrev pub uploads_rule : Rule
@@ -31,23 +25,15 @@ uploads_rule = record (new_rule (codes "uploads")) {
 
 -- `LEDGER`
 abbrev pub ledger_rule : Rule
-ledger_rule = record (new_rule (codes "LEDGER")) { action = Some Set }
-
--- the program's name, and that it has a version
-abbrev pub named_app : App
-named_app = on_top (λ s. record s { has_version = true }) (new_app (codes "omny_audit"))
+ledger_rule = place_rule (codes "LEDGER") Set
 
 -- all words that the program takes
 unfoldable pub program : App
-program = with_rule (with_rule (with_rule named_app table_rule) uploads_rule) ledger_rule
+program = with_rule (with_rule (with_rule (named_app (codes "omny_audit")) table_rule) uploads_rule) ledger_rule
 
 -- the words after the program's name are a command line of the program
 abbrev pub Parses : List Text → Type 0
 Parses words = fault_of program words ≡ []
-
--- the kind of what is no mistake: help or the version is asked for
-abbrev pub IsRequest : ErrorKind → Type 0
-IsRequest kind = (kind ≡ DisplayHelp) ⊎ (kind ≡ DisplayVersion)
 
 -- reading the words ends at a word that asks for help or for the version
 abbrev pub AsksForText : List Text → Type 0

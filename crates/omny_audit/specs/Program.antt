@@ -1,6 +1,6 @@
 -- What a run of the program does.
 use Rattle.std.specs.Prelude.{◌≡◌, ℕ, Bool, false, List, [], ◌∷◌, ◌++◌, map, Option, None, Some, Ok}
-use Rattle.std.specs.Prelude.{MatchBool, codes}
+use Rattle.std.specs.Prelude.{MatchBool}
 use Rattle.std.specs.Io.KnownBytes.{Appends, Keeps}
 use Rattle.clap.specs.Words.{Text}
 use Rattle.fare_table.specs.Fares.{Fares}
@@ -11,7 +11,8 @@ use Rattle.tap_views.specs.declared.encoder.TapFields.{TapFields}
 use Rattle.omny_audit.specs.Answers.{IsAnswer}
 use Rattle.omny_audit.specs.Fault.{fault_text, is_quiet, is_unwritten}
 use Rattle.omny_audit.specs.Options.{Asked}
-use Rattle.omny_audit.specs.Source.{Loaded, Tells, TellsOne}
+use Rattle.program_manners.specs.Loads.{Loaded, Tells, TellsOne}
+use Rattle.program_manners.specs.Told.{Told as IsTold}
 use Rattle.omny_audit.specs.declared.fault.Fault.{Fault}
 
 -- The text's rules, and the zone that it names, are those of these fares.
@@ -68,7 +69,7 @@ pub record Audits (asked : Asked) (told told' : Option (List Loaded)) (out out' 
 -- nothing is told.
 abbrev pub Told : Fault → Option (List ℕ) → Option (List ℕ) → Bool → Type 0
 Told fault said said' failed = MatchBool (is_quiet fault) (said' ≡ said)
-    (failed ≡ false → Appends said said' (fault_text fault ++ codes "\n"))
+    (IsTold said said' failed (fault_text fault))
 
 -- The program gave up: the fault was told, and nothing was written but where a write failed.
 pub record GaveUp (fault : Fault) (said said' : Option (List ℕ)) (failed : Bool)

@@ -1,20 +1,18 @@
 //! Why the program gives up, with the line that says so.
 ghost use Rattle.std.specs.Prelude.{◌≡◌, IfSome, Some, false};
-ghost use Rattle.omny_audit.specs.Fault.{fault_text, is_quiet, is_unwritten, load_text, named_by};
-ghost use Rattle.omny_audit.specs.Fault.{table_text};
+ghost use Rattle.omny_audit.specs.Fault.{fault_text, is_quiet, is_unwritten, named_by};
+ghost use Rattle.program_manners.specs.Lines.{load_text};
 
-use crate::source::LoadFault;
 use fare_table::{NoMemory, TableFault};
+use program_manners::{FileFault, LoadFault, TableLine};
 use std::alloc::AllocError;
 use std::fmt;
 
 /// Why the program gives up. Its `Display` is the fault line without its line feed.
 #[derive(Clone, Copy, Debug)]
 pub enum Fault<'a> {
-    /// The file of this name could not be opened or read.
-    Unread(&'a str),
-    /// The file of this name is longer than a table or an upload may be.
-    TooLong(&'a str),
+    /// A file was not loaded, or the ledger not opened.
+    File(FileFault<'a>),
     /// A read of the ledger failed.
     Ledger,
     /// The fare table's text is no table.
@@ -34,11 +32,7 @@ impl<'a> Fault<'a> {
         ensures named { IfSome (named_by result) (λ told. told ≡ name.entry.now) }
         ensures unwritten { is_unwritten result ≡ false }
     {
-        match fault {
-            LoadFault::Unread => Fault::Unread(name),
-            LoadFault::TooLong => Fault::TooLong(name),
-            LoadFault::NoMemory => Fault::NoMemory,
-        }
+        Fault::File(FileFault { name, fault })
     }
 
     /// Whether who reads the text has closed it, so that nothing is told.
@@ -47,8 +41,8 @@ impl<'a> Fault<'a> {
     {
         match self {
             Fault::Closed => true,
-            Fault::Unread(_) | Fault::TooLong(_) | Fault::Ledger => false,
-            Fault::Table(_) | Fault::Write | Fault::NoMemory => false,
+            Fault::File(_) | Fault::Ledger | Fault::Table(_) => false,
+            Fault::Write | Fault::NoMemory => false,
         }
     }
 }
@@ -83,35 +77,12 @@ impl From<TableFault> for Fault<'_> {
     }
 }
 
-/// The line of a fault of the table.
-#[derive(Clone, Copy)]
-struct TableLine(TableFault);
-
-impl fmt::Display for TableLine {
-    ghost output = { λ line. Some (table_text line.0) };
-
-    fn fmt<W: fmt::Write>(&self, f: &mut fmt::Formatter<W>) -> fmt::Result {
-        match self.0 {
-            TableFault::Text => f.write_str("fault: table F1"),
-            TableFault::Missing { key } => write!(f, "fault: table F2 {}", key.name()),
-            TableFault::Kind { key } => write!(f, "fault: table F3 {}", key.name()),
-            TableFault::Range { key } => write!(f, "fault: table F4 {}", key.name()),
-            TableFault::Mode => f.write_str("fault: table F5"),
-            TableFault::Overlap => f.write_str("fault: table F6"),
-            TableFault::Rider => f.write_str("fault: table F7"),
-            TableFault::NoMemory => f.write_str("fault: out of memory"),
-            TableFault::Zone => f.write_str("fault: table F9"),
-        }
-    }
-}
-
 impl fmt::Display for Fault<'_> {
     ghost output = { λ fault. Some (fault_text fault) };
 
     fn fmt<W: fmt::Write>(&self, f: &mut fmt::Formatter<W>) -> fmt::Result {
         match self {
-            Fault::Unread(name) => write!(f, "fault: cannot read {name}"),
-            Fault::TooLong(name) => write!(f, "fault: {name} is too long"),
+            Fault::File(fault) => fault.fmt(f),
             Fault::Ledger => f.write_str("fault: cannot read the ledger"),
             Fault::Table(fault) => TableLine(*fault).fmt(f),
             Fault::Write | Fault::Closed => f.write_str("fault: cannot write"),

@@ -1,6 +1,7 @@
 //! The files and the standard input of the system.
 
-use crate::source::{LoadFault, Source, load_from};
+use crate::source::Source;
+use program_manners::{LoadFault, load_from};
 use std::fs::File;
 use std::io::{ErrorKind, Input, Read, StdinLock};
 use std::{fs, io};

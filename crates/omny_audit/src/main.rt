@@ -12,12 +12,11 @@
 //! | `text` | the lines of an answer |
 //! | `output` | texts, written out |
 //! | `fault` | why the program gives up, and the line that says so |
-//! | `complaints`, `escaping` | where mistakes and faults are told; their control characters |
+//! | `escaping` | the control characters of mistakes and faults |
 //! | `program` | the whole |
 #![tactic(auto)]
 
 mod audit;
-mod complaints;
 mod escaping;
 mod fault;
 mod files;
@@ -28,10 +27,10 @@ mod program;
 mod source;
 mod text;
 
-use complaints::Complaints;
 use escaping::Escaping;
 use files::Host;
-use program::{main_over, unread_words};
+use program::main_over;
+use program_manners::{Complaints, unread_words};
 use std::env::Env;
 use std::process::ExitCode;
 use std::{env, io};

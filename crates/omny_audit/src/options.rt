@@ -3,11 +3,11 @@ ghost use Rattle.std.specs.Prelude.{◌≡◌, IfOk, [], codes, false, map, opti
 ghost use Rattle.std.specs.Prelude.{string_bytes, unwrap_or};
 ghost use Rattle.clap.specs.Words.{FailsBy, all_of, app_of, fault_of, found_of, matches_of};
 ghost use Rattle.clap.specs.Words.{rows_of, rule_of};
-ghost use Rattle.omny_audit.specs.Options.{asked_by, asked_of, ledger_rule, not_dash, program};
+ghost use Rattle.omny_audit.specs.Options.{asked_by, asked_of, not_dash, program};
 ghost use Rattle.omny_audit.specs.Options.{table_rule, uploads_rule};
 
 use clap::{Arg, ArgAction, ArgMatches, Command, Error};
-use program_version::VERSION;
+use program_manners::{names_in, new_command, option_arg, place_arg};
 use std::alloc::{AllocError, Global};
 
 /// What the program is for, as the help says it first.
@@ -68,12 +68,7 @@ fn table_arg<'a>(alloc: Global) -> Arg<'a>
     ensures rule { rule_of result ≡ table_rule }
     ensures local { result.global ≡ false }
 {
-    Arg::new(alloc, "table")
-        .long("table")
-        .value_name("F")
-        .required(true)
-        .action(ArgAction::Set)
-        .help(TABLE_HELP)
+    option_arg(alloc, "table", "F", TABLE_HELP).required(true)
 }
 
 /// `--uploads FILE..`.
@@ -89,27 +84,14 @@ fn uploads_arg<'a>(alloc: Global) -> Arg<'a>
         .help(UPLOADS_HELP)
 }
 
-/// `LEDGER`.
-fn ledger_arg<'a>(alloc: Global) -> Arg<'a>
-    ensures rule { rule_of result ≡ ledger_rule }
-    ensures local { result.global ≡ false }
-{
-    Arg::new(alloc, "LEDGER")
-        .action(ArgAction::Set)
-        .help(LEDGER_HELP)
-}
-
 /// The command line, as clap reads it.
 fn command<'a>(alloc: Global) -> Result<Command<'a>, AllocError>
     ensures { IfOk result (λ command. app_of command ≡ program) }
 {
     let table = table_arg(alloc);
     let uploads = uploads_arg(alloc);
-    let ledger = ledger_arg(alloc);
-    Command::new(alloc, "omny_audit")
-        .version(VERSION)
-        .about(ABOUT)
-        .after_help(NOTES)
+    let ledger = place_arg(alloc, "LEDGER", ArgAction::Set, LEDGER_HELP);
+    new_command(alloc, "omny_audit", ABOUT, NOTES)
         .arg(table)?
         .arg(uploads)?
         .arg(ledger)
@@ -122,17 +104,6 @@ fn matched<'a>(alloc: Global, words: &'a [String]) -> Result<ArgMatches<'a>, Err
     ensures kinds { FailsBy (fault_of program (map string_bytes words.entry.now)) result }
 {
     command(alloc)?.try_get_matches_from(words)
-}
-
-/// The names of the uploads.
-fn uploads_in<'a>(alloc: Global, matches: &ArgMatches<'a>) -> Result<Vec<&'a str>, AllocError>
-    ensures { IfOk result (λ files. map (λ f. f.now) files.items
-        ≡ unwrap_or (all_of (codes "uploads") (rows_of (found_of matches.now))) []) }
-{
-    match matches.get_strs("uploads") {
-        Some(uploads) => Vec::from_slice(alloc, uploads),
-        None => Ok(Vec::new(alloc)),
-    }
 }
 
 /// The name, but where it is `-`.
@@ -163,7 +134,7 @@ impl<'a> Options<'a> {
         let matches = matched(alloc, words)?;
         Ok(Options {
             table: matches.get_str("table").unwrap_or(""),
-            uploads: uploads_in(alloc, &matches)?,
+            uploads: names_in(alloc, &matches, "uploads")?,
             ledger: ledger_in(matches.get_str("LEDGER")),
         })
     }

@@ -3,29 +3,29 @@ ghost use Rattle.std.specs.Prelude.{◌≡◌, ◌≢◌, ◌≤◌, ◌⊎◌, 
 ghost use Rattle.std.specs.Prelude.{IfSome, None, Some, codes, false, map, option_map};
 ghost use Rattle.std.specs.Prelude.{string_bytes, true, unwrap_or};
 ghost use Rattle.std.specs.Io.KnownBytes.{Appends, Keeps};
-ghost use Rattle.std.specs.IoError.{error_kind};
 ghost use Rattle.clap.specs.Words.{kind_of};
 ghost use Rattle.tap_balance.specs.Balances.{IsBalance};
 ghost use Rattle.tap_views.specs.declared.encoder.TapFields.{TapFields};
 ghost use Rattle.omny_audit.specs.Fault.{NamesOneOf, is_unwritten, named_by};
-ghost use Rattle.omny_audit.specs.Options.{AsksForText, IsRequest, Parses, asked_by, asked_of};
+ghost use Rattle.omny_audit.specs.Options.{AsksForText, Parses, asked_by, asked_of};
 ghost use Rattle.omny_audit.specs.Options.{files_of};
 ghost use Rattle.omny_audit.specs.Program.{ArePostedOfAll, Audits, GaveUp, LoadsFiles, LoadsTable};
 ghost use Rattle.omny_audit.specs.Program.{Told};
-ghost use Rattle.omny_audit.specs.Source.{OpensOne, TellsOne};
+ghost use Rattle.omny_audit.specs.Source.{OpensOne};
+ghost use Rattle.program_manners.specs.Loads.{TellsOne};
+ghost use Rattle.program_manners.specs.Words.{IsRequest};
 
 use crate::audit::audit_over;
-use crate::complaints::Complaints;
 use crate::fault::Fault;
 use crate::options::Options;
-use crate::output::{flush, unwritten};
+use crate::output::unwritten;
 use crate::source::Source;
 use clap::Error;
 use clap::error::ErrorKind;
 use fare_table::FareTable;
+use program_manners::{Complaints, Shown, show_answer};
 use std::alloc::Global;
-use std::io;
-use std::io::{ErrorKind as WriteKind, Write};
+use std::io::Write;
 use tap_balance::Balance;
 
 /// What standard input is called in a fault line.
@@ -142,17 +142,6 @@ fn tell<E: Write>(err: &mut Complaints<E>, fault: &Fault) -> u8
     1
 }
 
-/// Prints clap's text, through to where the writer brings it.
-fn show_text<'a, W: Write>(error: &Error, out: &mut W) -> Result<(), Fault<'a>>
-    ensures fault { IfErr result (λ fault. is_unwritten fault ≡ true) }
-    ensures named { IfErr result (λ fault. named_by fault ≡ None) }
-{
-    match write!(out, "{error}") {
-        Ok(()) => flush(out),
-        Err(error) => Err(unwritten(&error)),
-    }
-}
-
 /// Shows what clap answers when there is nothing to run: help and version on `out`, else the
 /// mistake on `err`.
 fn show<W: Write, E: Write>(error: &Error, out: &mut W, err: &mut Complaints<E>) -> u8
@@ -170,16 +159,11 @@ fn show<W: Write, E: Write>(error: &Error, out: &mut W, err: &mut Complaints<E>)
         (W.contents out.old) (W.contents out.new) }
     ensures status { result ≤ 2 }
 {
-    match error.kind() {
-        ErrorKind::OutOfMemory => tell(err, &Fault::NoMemory),
-        ErrorKind::DisplayHelp | ErrorKind::DisplayVersion => match show_text(error, out) {
-            Ok(()) => 0,
-            Err(fault) => tell(err, &fault),
-        },
-        _ => {
-            err.tell(error);
-            2
-        }
+    match show_answer(error, out, err) {
+        Shown::Text => 0,
+        Shown::Mistake => 2,
+        Shown::NoMemory => tell(err, &Fault::NoMemory),
+        Shown::Unwritten(error) => tell(err, &unwritten(&error)),
     }
 }
 
@@ -242,19 +226,4 @@ pub fn main_over<S: Source, W: Write, E: Write>(
         Ok(false) => 1,
         Err(fault) => tell(err, &fault),
     }
-}
-
-/// Says why the words could not be had, and gives the status: 1 for want of memory, and 2 for a
-/// word that is not UTF-8.
-pub fn unread_words<E: Write>(error: &io::Error, err: &mut Complaints<E>) -> u8
-    ensures memory { error_kind error.now ≡ WriteKind.OutOfMemory → (result ≡ 1)
-        × Told Fault.NoMemory (E.contents err.old.writer) (E.contents err.new.writer)
-        err.new.failed }
-    ensures word { error_kind error.now ≢ WriteKind.OutOfMemory → result ≡ 2 }
-{
-    if error.kind() == WriteKind::OutOfMemory {
-        return tell(err, &Fault::NoMemory);
-    }
-    err.tell_line("error: an argument is not UTF-8");
-    2
 }

@@ -1,13 +1,9 @@
 -- Fault: what private functions alone cite.
 use Rattle.std.specs.Prelude.{◌≡◌, ℕ, List, MatchOption}
 use Rattle.fare_table.specs.declared.fault.TableFault.{TableFault}
-use Rattle.fare_table.specs.declared.fault.TableFault.TheVariants as table
-use Rattle.fare_service.specs.declared.faults.GatherFault.TheVariants as gather
-use Rattle.fare_service.specs.declared.print_fault.PrintFault.TheVariants as print
-use Rattle.ledger_texts.specs.declared.fault.LedgerFault.TheVariants as ledger
-use Rattle.fare_program.specs.declared.load.LoadFault.{LoadFault}
-use Rattle.fare_program.specs.declared.load.LoadFault.TheVariants as load
-use Rattle.fare_program.specs.Fault.{load_text, mistake, status_of, table_text}
+use Rattle.program_manners.specs.Lines.{load_text, table_text}
+use Rattle.program_manners.specs.declared.loading.LoadFault.{LoadFault}
+use Rattle.fare_program.specs.Fault.{mistake, status_of}
 use Rattle.fare_program.specs.Options.{Asked}
 use Rattle.fare_program.specs.declared.fault.Fault.{Fault}
 

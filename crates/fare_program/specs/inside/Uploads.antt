@@ -1,5 +1,5 @@
 -- Uploads: what private functions alone cite.
-use Rattle.std.specs.Prelude.{◌≡◌, ◌+◌, ℕ, Bool, List, [], ◌++◌, flat_map, Option, is_ok}
+use Rattle.std.specs.Prelude.{◌≡◌, ℕ, Bool, List, [], ◌++◌, flat_map, Option, is_ok}
 use Rattle.std.specs.List.{list_all}
 use Rattle.tap_views.specs.Files.{IsReading, Item}
 use Rattle.fare_table.specs.Fares.{Fares}

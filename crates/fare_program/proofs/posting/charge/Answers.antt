@@ -1,4 +1,5 @@
-use Rattle.std.proofs.Common.{◌≡◌, ◌∙◌, ℕ, List, ap, map, subst}
+use Rattle.std.proofs.Common.{◌∙◌, List, ap, map, subst}
+use Rattle.std.proofs.KnownBytes.{Appends-kept}
 use Rattle.fare_service.specs.declared.upload_end.UploadEnd.{UploadEnd}
 use Rattle.fare_program.specs.Options.{asked_of}
 use Rattle.fare_program.specs.Posted.{are_posted}
@@ -11,8 +12,8 @@ pub returns-clause-ok : goal.returns-clause-ok
 returns-clause-ok g c =
     let asked = asked_of c.args.options.now in
     let posted = c.in_ok-posted.posted in
-    let written = c.in_ok-write_asked.ensures.ok in
+    let written = c.in_ok-print_asked.ensures.ok in
     let S : List UploadEnd → Type 0 = λ ends. ShowsOf asked c.args.token ends posted.outcome written.0 in
     let shown = subst S c.ends-ends.ensures written.1 in
     let well = c.are_posted.ensures ∙ ap are_posted c.ends-ends.ensures in
-    (written.0, shows_asked asked c.args.table (map (λ f. f.items) c.args.files.items) _ posted.outcome c.args.token written.0 _ shown well c.in_ok-posted.ensures.posted, written.2)
+    (written.0, shows_asked asked c.args.table (map (λ f. f.items) c.args.files.items) _ posted.outcome c.args.token written.0 _ shown well c.in_ok-posted.ensures.posted, Appends-kept _ _ _ written.0 written.2 c.flush.ensures.kept)

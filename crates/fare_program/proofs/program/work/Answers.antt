@@ -6,7 +6,7 @@ use Rattle.fare_table.specs.Fares.{Fares}
 use Rattle.fare_table.specs.declared.token.Token.{Token}
 use Rattle.fare_program.specs.Options.{Asked}
 use Rattle.fare_program.specs.Program.{Does, IsTokenIn, Loads, LoadsTable, RunsListing, RunsService, ShowsAsked}
-use Rattle.fare_program.specs.Source.{Loaded}
+use Rattle.program_manners.specs.Loads.{Loaded}
 use Rattle.fare_program.proofs.program.work.Goals as goal
 
 -- with fares, and without the flag, the service is asked for

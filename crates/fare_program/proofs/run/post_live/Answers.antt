@@ -1,4 +1,4 @@
-use Rattle.std.proofs.Common.{◌≡◌, ℕ, List, Vec, Global, Option, map, refl, subst}
+use Rattle.std.proofs.Common.{ℕ, List, Vec, Global, map, refl, subst}
 use Rattle.fare_program.specs.Program.{IsRun, ShowsPlain}
 use Rattle.fare_program.proofs.run.post_live.Goals as goal
 

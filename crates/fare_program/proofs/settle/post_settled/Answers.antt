@@ -1,5 +1,4 @@
 use Rattle.std.proofs.Common.{ℕ, List, Vec, Global, map, sym, subst}
-use Rattle.fare_service.specs.Headline.{HasRun}
 use Rattle.settlement.specs.Settled.{IsSettled}
 use Rattle.fare_program.proofs.settle.post_settled.Goals as goal
 

@@ -17,5 +17,5 @@ returns-clause-asked c =
     let settle = c.flag_in-2.ensures ∙ ap (is_given (codes "settle")) rows in
     let ledger = c.flag_in-3.ensures ∙ ap (is_given (codes "ledger")) rows in
     let explain = c.flag_in-4.ensures ∙ ap (is_given (codes "explain")) rows in
-    let files = c.in_ok-files_in.ensures ∙ ap (λ r. unwrap_or (all_of (codes "FILE") r) []) rows in
+    let files = c.in_ok-names_in.ensures ∙ ap (λ r. unwrap_or (all_of (codes "FILE") r) []) rows in
     λ i. record { table = table i; list = list i; workers = workers i; shards = shards i; token = token i; settle = settle i; ledger = ledger i; explain = explain i; files = files i }

@@ -1,7 +1,7 @@
 use Rattle.std.proofs.Common.{◌≡◌, refl}
 use Rattle.fare_program.specs.Fault.{status_of}
 use Rattle.fare_program.specs.declared.fault.Fault.{Fault}
-use Rattle.fare_program.specs.declared.fault.Fault.TheVariants.{Digits, NoTable, SettleNoTable, SettleList, LedgerNoTable, LedgerList, ExplainNoToken, ExplainList, ExplainLedger, Unread, TooLong, Table, Uploads, Gather, Write, NoMemory}
+use Rattle.fare_program.specs.declared.fault.Fault.TheVariants.{Digits, NoTable, SettleNoTable, SettleList, LedgerNoTable, LedgerList, ExplainNoToken, ExplainList, ExplainLedger, File, Table, Uploads, Gather, Write, NoMemory}
 use Rattle.fare_program.proofs.fault.Fault.status.Goals as goal
 
 other : (fault : Fault) → (fault ≡ Digits → ⊥) → (fault ≡ NoTable → ⊥) → (fault ≡ SettleNoTable → ⊥) → (fault ≡ SettleList → ⊥) → (fault ≡ LedgerNoTable → ⊥) → (fault ≡ LedgerList → ⊥) → (fault ≡ ExplainNoToken → ⊥) → (fault ≡ ExplainList → ⊥) → (fault ≡ ExplainLedger → ⊥)
@@ -15,8 +15,7 @@ other LedgerList digits table none list bare listed alone shown told = absurd (l
 other ExplainNoToken digits table none list bare listed alone shown told = absurd (alone refl)
 other ExplainList digits table none list bare listed alone shown told = absurd (shown refl)
 other ExplainLedger digits table none list bare listed alone shown told = absurd (told refl)
-other (Unread name) digits table none list bare listed alone shown told = refl
-other (TooLong name) digits table none list bare listed alone shown told = refl
+other (File file) digits table none list bare listed alone shown told = refl
 other (Table fault) digits table none list bare listed alone shown told = refl
 other Uploads digits table none list bare listed alone shown told = refl
 other (Gather fault) digits table none list bare listed alone shown told = refl

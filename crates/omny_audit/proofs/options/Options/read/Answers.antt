@@ -18,5 +18,5 @@ returns-clause-asked c =
     let table = ap (λ (n : Bor (List ℕ)). n.now) c.unwrap_or.ensures ∙ or_empty c.get_str.result _ refl ∙ ap (λ (o : Option (List ℕ)). unwrap_or o []) first in
     let named = c.get_str-2.ensures ∙ first_value-rows found (codes "LEDGER") ∙ ap (first_of (codes "LEDGER")) rows in
     let ledger = c.ledger_in.ensures ∙ ap (option_and_then not_dash) named in
-    let uploads = c.in_ok-uploads_in.ensures ∙ ap (λ r. unwrap_or (all_of (codes "uploads") r) []) rows in
+    let uploads = c.in_ok-names_in.ensures ∙ ap (λ r. unwrap_or (all_of (codes "uploads") r) []) rows in
     λ i. record { table = table i; uploads = uploads i; ledger = ledger i }

@@ -1,9 +1,9 @@
 //! Whole files, up to a limit.
-ghost use Rattle.std.specs.Prelude.{◌≡◌, ◌<◌, ◌≤◌, List, length, IfOk, IfSome, Some, None, IsErrOf};
-ghost use Rattle.fare_program.specs.Source.{TellsOne};
+ghost use Rattle.std.specs.Prelude.{◌≡◌, ◌<◌, ◌≤◌, length, IfOk, IfSome, Some, IsErrOf};
+ghost use Rattle.program_manners.specs.Lines.{load_text};
 
-use crate::ahead::Early;
 use std::alloc::{AllocError, Global};
+use std::fmt;
 use std::io::{ErrorKind, Read};
 use thiserror::Error;
 
@@ -25,7 +25,7 @@ pub enum LoadFault {
 }
 
 impl From<AllocError> for LoadFault {
-    ghost use Rattle.fare_program.specs.declared.load.LoadFault.TheVariants.{NoMemory};
+    ghost use Rattle.program_manners.specs.declared.loading.LoadFault.TheVariants.{NoMemory};
 
     ghost from_gives = { λ _ fault. fault ≡ NoMemory };
 
@@ -34,28 +34,25 @@ impl From<AllocError> for LoadFault {
     }
 }
 
-/// Where the program's bytes come from.
-pub trait Source {
-    ghost use Rattle.std.specs.Prelude.{◌≡◌, List, Option, None};
-    ghost use Rattle.fare_program.specs.Source.{Loaded};
+/// A file that was not loaded. Its `Display` is the fault line without its line feed.
+#[derive(Clone, Copy, Debug)]
+pub struct FileFault<'a> {
+    /// The name of the file, or what standard input is called.
+    pub name: &'a str,
+    /// Why it was not loaded.
+    pub fault: LoadFault,
+}
 
-    // What was loaded so far, in order, by a source that keeps it.
-    ghost loaded: { Self → Option (List Loaded) } = { λ _. None };
+impl fmt::Display for FileFault<'_> {
+    ghost output = { λ file. Some (load_text file.name.now file.fault) };
 
-    /// Takes what was read of the next files before their turns, the first one last. None is loaded
-    /// by it: each is given, or its fault told, when it is loaded by its name.
-    fn keep_early(&mut self, early: Vec<Early>)
-        ensures { loaded self.new ≡ loaded self.old };
-
-    /// All bytes of the file of this name. What a fault leaves loaded is not told.
-    fn load(&mut self, name: &str) -> Result<Vec<u8>, LoadFault>
-        ensures { IfOk result (λ bytes.
-            TellsOne (loaded self.old) (loaded self.new) (Some name.now) bytes.items) };
-
-    /// All bytes of standard input. What a fault leaves loaded is not told.
-    fn input(&mut self) -> Result<Vec<u8>, LoadFault>
-        ensures { IfOk result (λ bytes.
-            TellsOne (loaded self.old) (loaded self.new) None bytes.items) };
+    fn fmt<W: fmt::Write>(&self, f: &mut fmt::Formatter<W>) -> fmt::Result {
+        match self.fault {
+            LoadFault::Unread => write!(f, "fault: cannot read {}", self.name),
+            LoadFault::TooLong => write!(f, "fault: {} is too long", self.name),
+            LoadFault::NoMemory => f.write_str("fault: out of memory"),
+        }
+    }
 }
 
 /// All bytes that the reader has left, to its end. Reading stops at the first read that fails (and

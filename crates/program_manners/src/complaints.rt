@@ -1,7 +1,7 @@
 //! Where mistakes and faults are told.
 ghost use Rattle.std.specs.Prelude.{◌≡◌, IfSome, false};
 ghost use Rattle.std.specs.Io.KnownBytes.{Appends};
-ghost use Rattle.fare_program.specs.Program.{Told};
+ghost use Rattle.program_manners.specs.Told.{Told};
 
 use std::fmt::Display;
 use std::io::Write;

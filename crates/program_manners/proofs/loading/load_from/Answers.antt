@@ -2,7 +2,7 @@ use Rattle.std.proofs.Common.{◌≡◌, ◌∙◌, ◌<◌, ◌≤◌, ℕ, Lis
 use Rattle.std.specs.Prelude.{option_map}
 use Rattle.std.specs.Vec.{vec_len}
 use Rattle.std.proofs.lemmas.List.{length-take, take_all}
-use Rattle.fare_program.proofs.load.load_from.Goals as goal
+use Rattle.program_manners.proofs.loading.load_from.Goals as goal
 
 -- bytes that end before the limit are all that there were
 all_left : (known : Option (List ℕ)) (limit : ℕ) (old bytes : List ℕ) → old ≡ [] → IfSome (option_map (take limit) known) (λ xs. bytes ≡ old ++ xs)

@@ -1,0 +1,28 @@
+//! Where the program's bytes come from.
+
+use crate::ahead::Early;
+use program_manners::LoadFault;
+
+/// Where the program's bytes come from.
+pub trait Source {
+    ghost use Rattle.std.specs.Prelude.{◌≡◌, List, IfOk, Option, None, Some};
+    ghost use Rattle.program_manners.specs.Loads.{Loaded, TellsOne};
+
+    // What was loaded so far, in order, by a source that keeps it.
+    ghost loaded: { Self → Option (List Loaded) } = { λ _. None };
+
+    /// Takes what was read of the next files before their turns, the first one last. None is loaded
+    /// by it: each is given, or its fault told, when it is loaded by its name.
+    fn keep_early(&mut self, early: Vec<Early>)
+        ensures { loaded self.new ≡ loaded self.old };
+
+    /// All bytes of the file of this name. What a fault leaves loaded is not told.
+    fn load(&mut self, name: &str) -> Result<Vec<u8>, LoadFault>
+        ensures { IfOk result (λ bytes.
+            TellsOne (loaded self.old) (loaded self.new) (Some name.now) bytes.items) };
+
+    /// All bytes of standard input. What a fault leaves loaded is not told.
+    fn input(&mut self) -> Result<Vec<u8>, LoadFault>
+        ensures { IfOk result (λ bytes.
+            TellsOne (loaded self.old) (loaded self.new) None bytes.items) };
+}

@@ -1,0 +1,5 @@
+pub mod Answers
+pub mod Lines
+pub mod Loads
+pub mod Told
+pub mod Words

@@ -1,0 +1,7 @@
+-- What is told of a mistake or a fault.
+use Rattle.std.specs.Prelude.{◌≡◌, ℕ, Bool, false, List, ◌++◌, Option, codes}
+use Rattle.std.specs.Io.KnownBytes.{Appends}
+
+-- The line was told, unless a write of it failed.
+abbrev pub Told : Option (List ℕ) → Option (List ℕ) → Bool → List ℕ → Type 0
+Told said said' failed line = failed ≡ false → Appends said said' (line ++ codes "\n")

@@ -1,0 +1,32 @@
+-- The rules of a command line's options, and what is no mistake in its words.
+use Rattle.std.specs.Prelude.{◌≡◌, ◌⊎◌, Some, true}
+use Rattle.clap.specs.Words.{App, Rule, Text, new_app, new_rule}
+use Rattle.clap.specs.Simple.{on_top}
+use Rattle.clap.specs.declared.builder.action.ArgAction.{ArgAction}
+use Rattle.clap.specs.declared.builder.action.ArgAction.TheVariants.{Set, SetTrue}
+use Rattle.clap.specs.declared.error.kind.ErrorKind.{ErrorKind}
+use Rattle.clap.specs.declared.error.kind.ErrorKind.TheVariants.{DisplayHelp, DisplayVersion}
+
+-- `--NAME VALUE`
+abbrev pub option_rule : Text → Rule
+option_rule name = record (new_rule name) {
+  long = Some name;
+  action = Some Set;
+  value_names = 1;
+}
+
+-- `--NAME`
+abbrev pub flag_rule : Text → Rule
+flag_rule name = record (new_rule name) { long = Some name; action = Some SetTrue }
+
+-- `NAME`, told by its place, with this action
+abbrev pub place_rule : Text → ArgAction → Rule
+place_rule name action = record (new_rule name) { action = Some action }
+
+-- a program's name, and that it has a version
+abbrev pub named_app : Text → App
+named_app name = on_top (λ s. record s { has_version = true }) (new_app name)
+
+-- the kind of what is no mistake: help or the version is asked for
+abbrev pub IsRequest : ErrorKind → Type 0
+IsRequest kind = (kind ≡ DisplayHelp) ⊎ (kind ≡ DisplayVersion)

@@ -1,0 +1,65 @@
+//! A command and its options, as `clap` takes them.
+ghost use Rattle.std.specs.Prelude.{◌≡◌, IfOk, [], false, map, unwrap_or};
+ghost use Rattle.clap.specs.Simple.{app_of};
+ghost use Rattle.clap.specs.Words.{all_of, found_of, rows_of, rule_of};
+ghost use Rattle.program_manners.specs.Words.{flag_rule, named_app, option_rule, place_rule};
+
+use clap::{Arg, ArgAction, ArgMatches, Command};
+use program_version::VERSION;
+use std::alloc::{AllocError, Global};
+
+/// An option with a value: `--NAME VALUE`.
+pub fn option_arg<'a>(alloc: Global, name: &'a str, value: &'a str, help: &'a str) -> Arg<'a>
+    ensures rule { rule_of result ≡ option_rule name.entry.now }
+    ensures local { result.global ≡ false }
+{
+    Arg::new(alloc, name)
+        .long(name)
+        .value_name(value)
+        .action(ArgAction::Set)
+        .help(help)
+}
+
+/// A flag: `--NAME`.
+pub fn flag_arg<'a>(alloc: Global, name: &'a str, help: &'a str) -> Arg<'a>
+    ensures rule { rule_of result ≡ flag_rule name.entry.now }
+    ensures local { result.global ≡ false }
+{
+    Arg::new(alloc, name)
+        .long(name)
+        .action(ArgAction::SetTrue)
+        .help(help)
+}
+
+/// What is told by its place: `NAME`.
+pub fn place_arg<'a>(alloc: Global, name: &'a str, action: ArgAction, help: &'a str) -> Arg<'a>
+    ensures rule { rule_of result ≡ place_rule name.entry.now action }
+    ensures local { result.global ≡ false }
+{
+    Arg::new(alloc, name).action(action).help(help)
+}
+
+/// A command of this name that tells the version, and has no options yet.
+pub fn new_command<'a>(alloc: Global, name: &'a str, about: &'a str, notes: &'a str) -> Command<'a>
+    ensures { app_of result ≡ named_app name.entry.now }
+{
+    Command::new(alloc, name)
+        .version(VERSION)
+        .about(about)
+        .after_help(notes)
+}
+
+/// All values under this name, in order.
+pub fn names_in<'a>(
+    alloc: Global,
+    matches: &ArgMatches<'a>,
+    name: &str,
+) -> Result<Vec<&'a str>, AllocError>
+    ensures { IfOk result (λ names. map (λ n. n.now) names.items
+        ≡ unwrap_or (all_of name.now (rows_of (found_of matches.now))) []) }
+{
+    match matches.get_strs(name) {
+        Some(names) => Vec::from_slice(alloc, names),
+        None => Ok(Vec::new(alloc)),
+    }
+}
