@@ -8,9 +8,9 @@ use Rattle.clap.specs.Words.{Text}
 use Rattle.tap_balance.specs.Balances.{ArePostedTaps}
 use Rattle.tap_views.specs.declared.encoder.TapFields.{TapFields}
 use Rattle.omny_audit.specs.Fault.{IsOneOf, NamesOneOf, named_by}
-use Rattle.omny_audit.specs.Options.{Asked, files_of}
+use Rattle.omny_audit.specs.Options.{AuditAsked, files_of}
 use Rattle.omny_audit.specs.declared.fault.Fault.{Fault}
-use Rattle.omny_audit.specs.Program.{ArePostedOfAll, LoadsFiles, compared}
+use Rattle.omny_audit.specs.Program.{ArePostedOfAll, LoadsNamedFiles, compared}
 use Rattle.omny_audit.specs.Source.{IsAllOf, OpensOne}
 use Rattle.program_manners.specs.Loads.{Loaded, Tells, TellsOne}
 
@@ -26,7 +26,7 @@ tells_on (Some before) (Some now) (Some after) loads more first next = next ∙ 
 
 -- one more file that was loaded
 pub loads_push : (names : List Text) (name : Text) (told told' told'' : Option (List Loaded)) (files : List (List ℕ)) (bytes : List ℕ)
-    → LoadsFiles names told told' files → TellsOne told' told'' (Some name) bytes → LoadsFiles (names ++ name ∷ []) told told'' (files ++ bytes ∷ [])
+    → LoadsNamedFiles names told told' files → TellsOne told' told'' (Some name) bytes → LoadsNamedFiles (names ++ name ∷ []) told told'' (files ++ bytes ∷ [])
 loads_push names name told told' told'' files bytes all one = record {
   loads = all.loads ++ record { name = Some name; bytes = bytes } ∷ [];
   named = map-append (λ (load : Loaded). load.name) all.loads _ ∙ ap (λ (xs : List (Option Text)). xs ++ Some name ∷ []) all.named ∙ sym (map-append Some names (name ∷ []));
@@ -89,21 +89,21 @@ is_one_last name [] last is = inl is
 is_one_last name (n ∷ names) last is = inr (is_one_last name names last is)
 
 -- of the files that are asked for
-pub at_table : (asked : Asked) (fault : Fault) → IfSome (named_by fault) (λ told. told ≡ asked.table) → NamesOneOf (files_of asked) fault
+pub at_table : (asked : AuditAsked) (fault : Fault) → IfSome (named_by fault) (λ told. told ≡ asked.table) → NamesOneOf (files_of asked) fault
 at_table asked fault is = weaker (named_by fault) is
   where
     weaker : (o : Option Text) → IfSome o (λ told. told ≡ asked.table) → IfSome o (λ name. IsOneOf name (files_of asked))
     weaker None is = tt
     weaker (Some name) is = inl is
 
-pub at_uploads : (asked : Asked) (fault : Fault) → NamesOneOf asked.uploads fault → NamesOneOf (files_of asked) fault
+pub at_uploads : (asked : AuditAsked) (fault : Fault) → NamesOneOf asked.uploads fault → NamesOneOf (files_of asked) fault
 at_uploads asked fault is = weaker (named_by fault) is
   where
     weaker : (o : Option Text) → IfSome o (λ name. IsOneOf name asked.uploads) → IfSome o (λ name. IsOneOf name (files_of asked))
     weaker None is = tt
     weaker (Some name) is = inr (is_one_left name asked.uploads _ is)
 
-pub at_ledger : (asked : Asked) (fault : Fault) → IfSome (named_by fault) (λ told. told ≡ unwrap_or asked.ledger (codes "standard input")) → NamesOneOf (files_of asked) fault
+pub at_ledger : (asked : AuditAsked) (fault : Fault) → IfSome (named_by fault) (λ told. told ≡ unwrap_or asked.ledger (codes "standard input")) → NamesOneOf (files_of asked) fault
 at_ledger asked fault is = weaker (named_by fault) is
   where
     weaker : (o : Option Text) → IfSome o (λ told. told ≡ unwrap_or asked.ledger (codes "standard input")) → IfSome o (λ name. IsOneOf name (files_of asked))
@@ -121,8 +121,8 @@ handed_on (Err e) fault P same is = subst P (sym same) is
 
 -- the same names, lent twice
 pub loads_same : (names same : List (Bor Text)) (told told' : Option (List Loaded)) (files : List (List ℕ)) → names ≡ same
-    → LoadsFiles (map (λ n. n.now) names) told told' files → LoadsFiles (map (λ n. n.now) same) told told' files
-loads_same names same told told' files is loads = subst (λ (ns : List (Bor Text)). LoadsFiles (map (λ n. n.now) ns) told told' files) is loads
+    → LoadsNamedFiles (map (λ n. n.now) names) told told' files → LoadsNamedFiles (map (λ n. n.now) same) told told' files
+loads_same names same told told' files is loads = subst (λ (ns : List (Bor Text)). LoadsNamedFiles (map (λ n. n.now) ns) told told' files) is loads
 
 pub names_same : (names same : List (Bor Text)) (fault : Fault) → names ≡ same → NamesOneOf (map (λ n. n.now) names) fault → NamesOneOf (map (λ n. n.now) same) fault
 names_same names same fault is one = subst (λ (ns : List (Bor Text)). NamesOneOf (map (λ n. n.now) ns) fault) is one

@@ -8,13 +8,13 @@ use Rattle.omny_audit.specs.declared.fault.Fault.TheVariants.{File, Ledger, Tabl
 use Rattle.omny_audit.specs.declared.fault.Fault.TheVariants.{Write, Closed, NoMemory}
 
 -- the line that the program writes of a fault
-abbrev pub fault_text : Fault → List ℕ
-fault_text (File file) = load_text file.name.now file.fault
-fault_text Ledger = codes "fault: cannot read the ledger"
-fault_text (Table fault) = table_text fault
-fault_text Write = codes "fault: cannot write"
-fault_text Closed = codes "fault: cannot write"
-fault_text NoMemory = codes "fault: out of memory"
+abbrev pub audit_fault_text : Fault → List ℕ
+audit_fault_text (File file) = load_text file.name.now file.fault
+audit_fault_text Ledger = codes "fault: cannot read the ledger"
+audit_fault_text (Table fault) = table_text fault
+audit_fault_text Write = codes "fault: cannot write"
+audit_fault_text Closed = codes "fault: cannot write"
+audit_fault_text NoMemory = codes "fault: out of memory"
 
 -- whether a write failed
 abbrev pub is_unwritten : Fault → Bool

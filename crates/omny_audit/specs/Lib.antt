@@ -4,3 +4,4 @@ pub mod Options
 pub mod Program
 pub mod Source
 pub mod Text
+pub mod inside

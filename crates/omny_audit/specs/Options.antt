@@ -1,6 +1,6 @@
 -- The command line, and what its words ask for.
-use Rattle.std.specs.Prelude.{◌≡◌, ◌⊎◌, List, [], ◌∷◌, ◌++◌, Option, None, Some, codes, true, map}
-use Rattle.std.specs.Prelude.{if◌then◌else◌, option_and_then, option_map, unwrap_or}
+use Rattle.std.specs.Prelude.{◌≡◌, ◌⊎◌, List, [], ◌∷◌, ◌++◌, Option, None, Some, codes, true}
+use Rattle.std.specs.Prelude.{if◌then◌else◌, option_and_then, unwrap_or}
 use Rattle.std.specs.Str.{bytes_eq}
 use Rattle.clap.specs.Lexer.{usize_max}
 use Rattle.clap.specs.Words.{App, IsAmong, Rule, Text, all_of, fault_of, first_of, matches_of}
@@ -8,11 +8,10 @@ use Rattle.clap.specs.Words.{new_rule, with_rule}
 use Rattle.clap.specs.declared.builder.action.ArgAction.TheVariants.{Set, Append}
 use Rattle.clap.specs.declared.error.kind.ErrorKind.TheVariants.{DisplayHelp, DisplayVersion}
 use Rattle.program_manners.specs.Words.{named_app, option_rule, place_rule}
-use Rattle.omny_audit.specs.declared.options.Options.{Options}
 
 -- `--table F`, which has to be given
-abbrev pub table_rule : Rule
-table_rule = record (option_rule (codes "table")) { required = true }
+abbrev pub required_table_rule : Rule
+required_table_rule = record (option_rule (codes "table")) { required = true }
 
 -- `--uploads FILE..`, as often as wanted
 abbrev pub uploads_rule : Rule
@@ -24,50 +23,42 @@ uploads_rule = record (new_rule (codes "uploads")) {
 }
 
 -- `LEDGER`
-abbrev pub ledger_rule : Rule
-ledger_rule = place_rule (codes "LEDGER") Set
+abbrev pub ledger_place_rule : Rule
+ledger_place_rule = place_rule (codes "LEDGER") Set
 
 -- all words that the program takes
-unfoldable pub program : App
-program = with_rule (with_rule (with_rule (named_app (codes "omny_audit")) table_rule) uploads_rule) ledger_rule
+unfoldable pub audit_program : App
+audit_program = with_rule (with_rule (with_rule (named_app (codes "omny_audit")) required_table_rule) uploads_rule) ledger_place_rule
 
 -- the words after the program's name are a command line of the program
-abbrev pub Parses : List Text → Type 0
-Parses words = fault_of program words ≡ []
+abbrev pub ParsesForAudit : List Text → Type 0
+ParsesForAudit words = fault_of audit_program words ≡ []
 
 -- reading the words ends at a word that asks for help or for the version
-abbrev pub AsksForText : List Text → Type 0
-AsksForText words =
-    IsAmong DisplayHelp (fault_of program words) ⊎ IsAmong DisplayVersion (fault_of program words)
+abbrev pub AsksForAuditText : List Text → Type 0
+AsksForAuditText words =
+    IsAmong DisplayHelp (fault_of audit_program words) ⊎ IsAmong DisplayVersion (fault_of audit_program words)
 
 -- nothing for `-`, which stands for standard input
 abbrev pub not_dash : Text → Option Text
 not_dash text = if bytes_eq text (codes "-") then None else Some text
 
 -- what a command line asks for
-pub record Asked : Type 0 where
+pub record AuditAsked : Type 0 where
   pub table : Text
   pub uploads : List Text
   pub ledger : Option Text
 
 -- the words' table, which no command line goes without; their uploads, in order; and the ledger's
 -- file, where one is named
-abbrev pub asked_by : List Text → Asked
-asked_by words = record {
-  table = unwrap_or (first_of (codes "table") (matches_of program words)) [];
-  uploads = unwrap_or (all_of (codes "uploads") (matches_of program words)) [];
-  ledger = option_and_then not_dash (first_of (codes "LEDGER") (matches_of program words));
+abbrev pub audit_asked_by : List Text → AuditAsked
+audit_asked_by words = record {
+  table = unwrap_or (first_of (codes "table") (matches_of audit_program words)) [];
+  uploads = unwrap_or (all_of (codes "uploads") (matches_of audit_program words)) [];
+  ledger = option_and_then not_dash (first_of (codes "LEDGER") (matches_of audit_program words));
 }
 
 -- the files that are asked for: the table, the uploads in order, and the ledger
-abbrev pub files_of : Asked → List Text
+abbrev pub files_of : AuditAsked → List Text
 files_of asked =
     asked.table ∷ (asked.uploads ++ unwrap_or asked.ledger (codes "standard input") ∷ [])
-
--- what the options ask for
-abbrev pub asked_of : Options → Asked
-asked_of options = record {
-  table = options.table.now;
-  uploads = map (λ f. f.now) options.uploads.items;
-  ledger = option_map (λ f. f.now) options.ledger;
-}

@@ -9,8 +9,8 @@ use Rattle.fare_table.specs.Zone.{IsZoneOf}
 use Rattle.tap_balance.specs.Balances.{ArePostedTaps}
 use Rattle.tap_views.specs.declared.encoder.TapFields.{TapFields}
 use Rattle.omny_audit.specs.Answers.{IsAnswer}
-use Rattle.omny_audit.specs.Fault.{fault_text, is_quiet, is_unwritten}
-use Rattle.omny_audit.specs.Options.{Asked}
+use Rattle.omny_audit.specs.Fault.{audit_fault_text, is_quiet, is_unwritten}
+use Rattle.omny_audit.specs.Options.{AuditAsked}
 use Rattle.program_manners.specs.Loads.{Loaded, Tells, TellsOne}
 use Rattle.program_manners.specs.Told.{Told as IsTold}
 use Rattle.omny_audit.specs.declared.fault.Fault.{Fault}
@@ -20,14 +20,14 @@ abbrev pub Means : List ℕ → Fares → Type 0
 Means text fares = (rules_in text ≡ Ok fares.rules) × IsZoneOf fares.rules.zone fares.zone
 
 -- The file of this name was loaded, and its text means these fares.
-pub record LoadsTable (name : Text) (told told' : Option (List Loaded)) (fares : Fares) : Type 0
+pub record LoadsRequiredTable (name : Text) (told told' : Option (List Loaded)) (fares : Fares) : Type 0
   where
     pub bytes : List ℕ
     pub told_is : TellsOne told told' (Some name) bytes
     pub means : Means bytes fares
 
 -- A file of each of these names was loaded, in their order.
-pub record LoadsFiles (names : List Text) (told told' : Option (List Loaded))
+pub record LoadsNamedFiles (names : List Text) (told told' : Option (List Loaded))
     (files : List (List ℕ)) : Type 0 where
   pub loads : List Loaded
   pub named : map (λ load. load.name) loads ≡ map Some names
@@ -49,14 +49,14 @@ compared (name ∷ names) posted = Some posted
 -- The table was loaded, then the uploads, and then all of the ledger; what was appended to the
 -- writer is the answer on the ledger's text beside the posted taps of the uploads, if uploads are
 -- named. It says that all is well, or not.
-pub record Audits (asked : Asked) (told told' : Option (List Loaded)) (out out' : Option (List ℕ))
+pub record Audits (asked : AuditAsked) (told told' : Option (List Loaded)) (out out' : Option (List ℕ))
     (well : Bool) : Type 0 where
   pub after_table : Option (List Loaded)
   pub after_uploads : Option (List Loaded)
   pub fares : Fares
-  pub loads_table : LoadsTable asked.table told after_table fares
+  pub loads_table : LoadsRequiredTable asked.table told after_table fares
   pub uploads : List (List ℕ)
-  pub loads_uploads : LoadsFiles asked.uploads after_table after_uploads uploads
+  pub loads_uploads : LoadsNamedFiles asked.uploads after_table after_uploads uploads
   pub posted : List TapFields
   pub are_posted : ArePostedOfAll uploads posted
   pub ledger : List ℕ
@@ -67,12 +67,12 @@ pub record Audits (asked : Asked) (told told' : Option (List Loaded)) (out out' 
 
 -- The fault's line was told, unless a write of it failed. Where who reads the text has closed it,
 -- nothing is told.
-abbrev pub Told : Fault → Option (List ℕ) → Option (List ℕ) → Bool → Type 0
-Told fault said said' failed = MatchBool (is_quiet fault) (said' ≡ said)
-    (IsTold said said' failed (fault_text fault))
+abbrev pub IsFaultTold : Fault → Option (List ℕ) → Option (List ℕ) → Bool → Type 0
+IsFaultTold fault said said' failed = MatchBool (is_quiet fault) (said' ≡ said)
+    (IsTold said said' failed (audit_fault_text fault))
 
 -- The program gave up: the fault was told, and nothing was written but where a write failed.
-pub record GaveUp (fault : Fault) (said said' : Option (List ℕ)) (failed : Bool)
+pub record AuditGaveUp (fault : Fault) (said said' : Option (List ℕ)) (failed : Bool)
     (out out' : Option (List ℕ)) : Type 0 where
-  pub told : Told fault said said' failed
+  pub told : IsFaultTold fault said said' failed
   pub kept : is_unwritten fault ≡ false → Keeps out out'

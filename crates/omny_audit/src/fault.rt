@@ -1,6 +1,6 @@
 //! Why the program gives up, with the line that says so.
 ghost use Rattle.std.specs.Prelude.{◌≡◌, IfSome, Some, false};
-ghost use Rattle.omny_audit.specs.Fault.{fault_text, is_quiet, is_unwritten, named_by};
+ghost use Rattle.omny_audit.specs.Fault.{audit_fault_text, is_quiet, is_unwritten, named_by};
 ghost use Rattle.program_manners.specs.Lines.{load_text};
 
 use fare_table::{NoMemory, TableFault};
@@ -28,7 +28,7 @@ pub enum Fault<'a> {
 impl<'a> Fault<'a> {
     /// Why the file of this name was not loaded.
     pub fn of_load(name: &'a str, fault: LoadFault) -> Fault<'a>
-        ensures line { fault_text result ≡ load_text name.entry.now fault }
+        ensures line { audit_fault_text result ≡ load_text name.entry.now fault }
         ensures named { IfSome (named_by result) (λ told. told ≡ name.entry.now) }
         ensures unwritten { is_unwritten result ≡ false }
     {
@@ -78,7 +78,7 @@ impl From<TableFault> for Fault<'_> {
 }
 
 impl fmt::Display for Fault<'_> {
-    ghost output = { λ fault. Some (fault_text fault) };
+    ghost output = { λ fault. Some (audit_fault_text fault) };
 
     fn fmt<W: fmt::Write>(&self, f: &mut fmt::Formatter<W>) -> fmt::Result {
         match self {

@@ -3,8 +3,9 @@ ghost use Rattle.std.specs.Prelude.{◌≡◌, IfOk, [], codes, false, map, opti
 ghost use Rattle.std.specs.Prelude.{string_bytes, unwrap_or};
 ghost use Rattle.clap.specs.Words.{FailsBy, all_of, app_of, fault_of, found_of, matches_of};
 ghost use Rattle.clap.specs.Words.{rows_of, rule_of};
-ghost use Rattle.omny_audit.specs.Options.{asked_by, asked_of, not_dash, program};
-ghost use Rattle.omny_audit.specs.Options.{table_rule, uploads_rule};
+ghost use Rattle.omny_audit.specs.Options.{audit_asked_by, not_dash, audit_program};
+ghost use Rattle.omny_audit.specs.inside.Options.{audit_asked_of};
+ghost use Rattle.omny_audit.specs.Options.{required_table_rule, uploads_rule};
 
 use clap::{Arg, ArgAction, ArgMatches, Command, Error};
 use program_manners::{names_in, new_command, option_arg, place_arg};

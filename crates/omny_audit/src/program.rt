@@ -7,10 +7,11 @@ ghost use Rattle.clap.specs.Words.{kind_of};
 ghost use Rattle.tap_balance.specs.Balances.{IsBalance};
 ghost use Rattle.tap_views.specs.declared.encoder.TapFields.{TapFields};
 ghost use Rattle.omny_audit.specs.Fault.{NamesOneOf, is_unwritten, named_by};
-ghost use Rattle.omny_audit.specs.Options.{AsksForText, Parses, asked_by, asked_of};
+ghost use Rattle.omny_audit.specs.Options.{AsksForAuditText, ParsesForAudit, audit_asked_by};
+ghost use Rattle.omny_audit.specs.inside.Options.{audit_asked_of};
 ghost use Rattle.omny_audit.specs.Options.{files_of};
-ghost use Rattle.omny_audit.specs.Program.{ArePostedOfAll, Audits, GaveUp, LoadsFiles, LoadsTable};
-ghost use Rattle.omny_audit.specs.Program.{Told};
+ghost use Rattle.omny_audit.specs.Program.{ArePostedOfAll, Audits, AuditGaveUp, LoadsNamedFiles, LoadsRequiredTable};
+ghost use Rattle.omny_audit.specs.Program.{IsFaultTold};
 ghost use Rattle.omny_audit.specs.Source.{OpensOne};
 ghost use Rattle.program_manners.specs.Loads.{TellsOne};
 ghost use Rattle.program_manners.specs.Words.{IsRequest};
@@ -52,7 +53,7 @@ fn load_table<'a, S: Source>(
     source: &mut S,
 ) -> Result<FareTable, Fault<'a>>
     ensures ok { IfOk result (λ table.
-        LoadsTable name.entry.now (S.loaded source.old) (S.loaded source.new) table) }
+        LoadsRequiredTable name.entry.now (S.loaded source.old) (S.loaded source.new) table) }
     ensures fault { IfErr result (λ fault. is_unwritten fault ≡ false) }
     ensures named { IfErr result (λ fault. IfSome (named_by fault)
         (λ told. told ≡ name.entry.now)) }
@@ -69,7 +70,7 @@ fn load_balance<'a, S: Source>(
     source: &mut S,
 ) -> Result<Balance, Fault<'a>>
     ensures ok { IfOk result (λ balance. (files : List (List ℕ)) × (posted : List TapFields)
-        × LoadsFiles (map (λ n. n.now) names.now) (S.loaded source.old) (S.loaded source.new) files
+        × LoadsNamedFiles (map (λ n. n.now) names.now) (S.loaded source.old) (S.loaded source.new) files
         × ArePostedOfAll files posted × IsBalance balance posted []) }
     ensures fault { IfErr result (λ fault. is_unwritten fault ≡ false) }
     ensures named { IfErr result (λ fault. NamesOneOf (map (λ n. n.now) names.now) fault) }
@@ -105,13 +106,13 @@ fn audit<'a, S: Source, W: Write>(
     out: &mut W,
 ) -> Result<bool, Fault<'a>>
     ensures ok { IfOk result (λ well.
-        Audits (asked_of options.now) (S.loaded source.old) (S.loaded source.new)
+        Audits (audit_asked_of options.now) (S.loaded source.old) (S.loaded source.new)
         (W.contents out.old) (W.contents out.new) well) }
 
     // Only a write that fails leaves something of a text behind.
     ensures fault { IfErr result (λ fault. is_unwritten fault ≡ false
         → Keeps (W.contents out.old) (W.contents out.new)) }
-    ensures named { IfErr result (λ fault. NamesOneOf (files_of (asked_of options.now)) fault) }
+    ensures named { IfErr result (λ fault. NamesOneOf (files_of (audit_asked_of options.now)) fault) }
 {
     let table = load_table(alloc, options.table, source)?;
     let clock = table.clock(alloc)?;
@@ -133,7 +134,7 @@ fn audit<'a, S: Source, W: Write>(
 /// Says why the program gives up, but where the reader has gone, and gives the status.
 fn tell<E: Write>(err: &mut Complaints<E>, fault: &Fault) -> u8
     ensures status { result ≡ 1 }
-    ensures told { Told fault.now (E.contents err.old.writer) (E.contents err.new.writer)
+    ensures told { IsFaultTold fault.now (E.contents err.old.writer) (E.contents err.new.writer)
         err.new.failed }
 {
     if !fault.is_quiet() {
@@ -147,7 +148,7 @@ fn tell<E: Write>(err: &mut Complaints<E>, fault: &Fault) -> u8
 fn show<W: Write, E: Write>(error: &Error, out: &mut W, err: &mut Complaints<E>) -> u8
     ensures help { result ≡ 0 → IsRequest (kind_of error.now) }
     ensures memory { kind_of error.now ≡ ErrorKind.OutOfMemory → (result ≡ 1)
-        × GaveUp Fault.NoMemory (E.contents err.old.writer) (E.contents err.new.writer)
+        × AuditGaveUp Fault.NoMemory (E.contents err.old.writer) (E.contents err.new.writer)
         err.new.failed (W.contents out.old) (W.contents out.new) }
     ensures words { (¬ IsRequest (kind_of error.now))
         → kind_of error.now ≢ ErrorKind.OutOfMemory → result ≡ 2 }
@@ -155,7 +156,7 @@ fn show<W: Write, E: Write>(error: &Error, out: &mut W, err: &mut Complaints<E>)
     ensures mistake { result ≡ 2 → Keeps (W.contents out.old) (W.contents out.new) }
     ensures quiet { result ≡ 0 → err.new ≡ err.old }
     ensures fault { result ≡ 1 → (fault : Fault) × (named_by fault ≡ None)
-        × GaveUp fault (E.contents err.old.writer) (E.contents err.new.writer) err.new.failed
+        × AuditGaveUp fault (E.contents err.old.writer) (E.contents err.new.writer) err.new.failed
         (W.contents out.old) (W.contents out.new) }
     ensures status { result ≤ 2 }
 {
@@ -179,35 +180,35 @@ pub fn main_over<S: Source, W: Write, E: Write>(
     err: &mut Complaints<E>,
 ) -> u8
     // With status 0 the answer was written, and says that all is well.
-    ensures done { Parses (map string_bytes words.now) → result ≡ 0
-        → Audits (asked_by (map string_bytes words.now)) (S.loaded source.old)
+    ensures done { ParsesForAudit (map string_bytes words.now) → result ≡ 0
+        → Audits (audit_asked_by (map string_bytes words.now)) (S.loaded source.old)
         (S.loaded source.new) (W.contents out.old) (W.contents out.new) true }
 
     // With status 1 the answer was written, and says that not all is well, and nothing was said on
     // `err`; or a fault was told, which names no other file than one that the words name, and
     // nothing was written but where a write failed.
     ensures faults { result ≡ 1
-        → (Parses (map string_bytes words.now)
-        × Audits (asked_by (map string_bytes words.now)) (S.loaded source.old)
+        → (ParsesForAudit (map string_bytes words.now)
+        × Audits (audit_asked_by (map string_bytes words.now)) (S.loaded source.old)
         (S.loaded source.new) (W.contents out.old) (W.contents out.new) false
         × (err.new ≡ err.old))
-        ⊎ ((fault : Fault) × NamesOneOf (files_of (asked_by (map string_bytes words.now))) fault
-        × GaveUp fault (E.contents err.old.writer) (E.contents err.new.writer) err.new.failed
+        ⊎ ((fault : Fault) × NamesOneOf (files_of (audit_asked_by (map string_bytes words.now))) fault
+        × AuditGaveUp fault (E.contents err.old.writer) (E.contents err.new.writer) err.new.failed
         (W.contents out.old) (W.contents out.new)) }
 
     // Words that are no command line end well only where they ask for help or the version.
-    ensures helped { ¬ Parses (map string_bytes words.now) → result ≡ 0
-        → AsksForText (map string_bytes words.now) }
+    ensures helped { ¬ ParsesForAudit (map string_bytes words.now) → result ≡ 0
+        → AsksForAuditText (map string_bytes words.now) }
 
     // Words that are no command line have status 2, if they ask for neither. Only want of memory,
     // where the words are read, may come before it.
-    ensures mistaken { ¬ Parses (map string_bytes words.now)
-        → (¬ AsksForText (map string_bytes words.now))
-        → (result ≡ 2) ⊎ ((result ≡ 1) × GaveUp Fault.NoMemory (E.contents err.old.writer)
+    ensures mistaken { ¬ ParsesForAudit (map string_bytes words.now)
+        → (¬ AsksForAuditText (map string_bytes words.now))
+        → (result ≡ 2) ⊎ ((result ≡ 1) × AuditGaveUp Fault.NoMemory (E.contents err.old.writer)
         (E.contents err.new.writer) err.new.failed (W.contents out.old) (W.contents out.new)) }
 
     // Only such words have status 2.
-    ensures right { result ≡ 2 → ¬ Parses (map string_bytes words.now) }
+    ensures right { result ≡ 2 → ¬ ParsesForAudit (map string_bytes words.now) }
 
     // Nothing is said on `err` where all is well.
     ensures quiet { result ≡ 0 → err.new ≡ err.old }

@@ -11,7 +11,8 @@ use Rattle.tap_views.specs.Layout.{Tap, Layout, Tap1, Tap2, IsTapOf, num, moment
 use Rattle.tap_views.specs.declared.encoder.TapFields.{TapFields}
 use Rattle.tap_parts.specs.Parts.{part_of_token, of_part}
 use Rattle.upload_facts.proofs.ReadingLemmas.{taps_more}
-use Rattle.upload_parts.specs.Split.{AreSplit, AreAllEarly, HasTaps, IsAdded}
+use Rattle.upload_parts.specs.Split.{AreSplit, AreAllEarly, HasTaps}
+use Rattle.upload_parts.specs.inside.Split.{IsAdded}
 use Rattle.tap_parts.specs.Parts.{uploads_joined}
 use Rattle.upload_parts.specs.declared.end.UploadEnd.{UploadEnd}
 

@@ -6,7 +6,7 @@ use Rattle.tap_views.specs.Encoding.{fields_of, AreEarly}
 use Rattle.tap_views.specs.Layout.{Tap}
 use Rattle.tap_views.specs.declared.encoder.TapFields.{TapFields}
 use Rattle.tap_views.specs.declared.fault.LayoutFault.{LayoutFault}
-use Rattle.tap_parts.specs.Parts.{AreAdded, IsFileOf, of_part, uploads_joined}
+use Rattle.tap_parts.specs.Parts.{IsFileOf, of_part, uploads_joined}
 use Rattle.upload_facts.specs.Facts.{IsReadAs, taps_of_batches}
 use Rattle.tap_parts.specs.Canonical.{IsCanonical}
 use Rattle.upload_parts.specs.declared.end.UploadEnd.{UploadEnd}
@@ -41,15 +41,6 @@ pub record IsSplitFile (uploads : List (List ℕ)) (parts part : ℕ) (file : Li
   pub list : List TapFields
   pub canonical : IsCanonical (map fields_of (of_part part parts (uploads_joined taps))) list
   pub reads : IsFileOf file list
-
--- ---- what the private functions tell each other
--- the upload's taps before its first layout fault were added, each to its part, and it ends so
-pub record IsAdded (upload : List ℕ) (old new : List (List TapFields)) (end : UploadEnd)
-    : Type 0 where
-  pub taps : List Tap
-  pub of_upload : HasTaps upload taps
-  pub added : AreAdded taps old new
-  pub ended : IsSplitEnd upload end
 
 -- the taps of all parts have moments that a file can have
 abbrev pub AreAllEarly : List (List TapFields) → Type 0

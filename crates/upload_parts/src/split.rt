@@ -3,7 +3,8 @@
 ghost use Rattle.std.specs.Prelude.{◌≡◌, ◌<◌, ◌≤◌, ◌++◌, ◌∷◌, [], ℕ, List, IfOk, OnOk, length};
 ghost use Rattle.std.specs.Prelude.{slice_index_or};
 ghost use Rattle.tap_views.specs.Encoding.{AreEarly};
-ghost use Rattle.upload_parts.specs.Split.{AreSplit, IsAdded, IsSplitEnd, IsSplitFile};
+ghost use Rattle.upload_parts.specs.Split.{AreSplit, IsSplitEnd, IsSplitFile};
+ghost use Rattle.upload_parts.specs.inside.Split.{IsAdded};
 
 use crate::end::UploadEnd;
 use std::alloc::{AllocError, Global};

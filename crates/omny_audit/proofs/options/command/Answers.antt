@@ -1,11 +1,11 @@
 use Rattle.std.proofs.Common.{◌∙◌, ap₂}
 use Rattle.std.proofs.lemmas.Result.{IfOk-weaker}
 use Rattle.clap.specs.Words.{with_rule}
-use Rattle.omny_audit.specs.Options.{program}
+use Rattle.omny_audit.specs.Options.{audit_program}
 use Rattle.omny_audit.proofs.options.command.Goals as goal
 
 pub returns : goal.returns
-unfolding program
+unfolding audit_program
 returns c =
     let one = c.in_ok-arg.ensures.shape c.table_arg-table.ensures.local ∙ ap₂ with_rule c.new_command.ensures c.table_arg-table.ensures.rule in
     let two = c.in_ok-arg-2.ensures.shape c.uploads_arg-uploads.ensures.local ∙ ap₂ with_rule one c.uploads_arg-uploads.ensures.rule in

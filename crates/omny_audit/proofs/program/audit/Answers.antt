@@ -3,7 +3,8 @@ use Rattle.std.proofs.lemmas.Result.{IfOk-weaker}
 use Rattle.tap_views.specs.declared.encoder.TapFields.{TapFields}
 use Rattle.omny_audit.specs.Answers.{IsAnswer}
 use Rattle.omny_audit.specs.Fault.{NamesOneOf}
-use Rattle.omny_audit.specs.Options.{asked_of, files_of}
+use Rattle.omny_audit.specs.Options.{files_of}
+use Rattle.omny_audit.specs.inside.Options.{audit_asked_of}
 use Rattle.omny_audit.specs.Program.{compared}
 use Rattle.omny_audit.proofs.ProgramLemmas.{at_ledger, at_uploads, compared_is, handed_on, loads_same, names_same, opened}
 use Rattle.omny_audit.proofs.program.audit.Goals as goal
@@ -37,7 +38,7 @@ returns-clause-ok g c =
 pub returns-in_err-balance-clause-named : goal.returns-in_err-balance-clause-named
 returns-in_err-balance-clause-named g c =
     let fault = c.in_err-balance.field-0.0 in
-    let asked = asked_of c.args.options.now in
+    let asked = audit_asked_of c.args.options.now in
     handed_on c.from_residual-in_err-balance.result fault (λ f. NamesOneOf (files_of asked) f) c.from_residual-in_err-balance.ensures.1
     (at_uploads asked fault
     (names_same c.as_slice-names.result.now c.args.options.now.uploads.items fault c.as_slice-names.ensures.value c.in_err-balance.ensures.named))
@@ -45,6 +46,6 @@ returns-in_err-balance-clause-named g c =
 pub returns-in_err-ledger-clause-named : goal.returns-in_err-ledger-clause-named
 returns-in_err-ledger-clause-named g c =
     let fault = c.in_err-ledger.field-0.0 in
-    let asked = asked_of c.args.options.now in
+    let asked = audit_asked_of c.args.options.now in
     handed_on c.from_residual-in_err-ledger.result fault (λ f. NamesOneOf (files_of asked) f) c.from_residual-in_err-ledger.ensures.1
     (at_ledger asked fault c.in_err-ledger.ensures.named)
