@@ -77,8 +77,8 @@ token_fault_of (Some digits) table =
 abbrev pub token_fault : Asked → Option Fault
 token_fault asked = token_fault_of asked.token asked.table
 
--- What is wrong with what is asked for and needs a table: first that there is none, and then that the
--- taps are to be listed.
+-- What is wrong with what is asked for and needs a table: first that there is none, and then that
+-- the taps are to be listed.
 abbrev pub charge_fault_of : Fault → Fault → Bool → Bool → Option (List ℕ) → Option Fault
 charge_fault_of untabled listed false list table = None
 charge_fault_of untabled listed true list None = Some untabled

@@ -162,8 +162,8 @@ fn token_of<'a>(options: &Options<'a>) -> Result<Option<Token>, Fault<'a>>
     Ok(Some(Token::of(&token)))
 }
 
-/// Looks whether what needs a table may be done, where that is asked for: there is a table to charge
-/// by, and the taps are not to be listed.
+/// Looks whether what needs a table may be done, where that is asked for: there is a table to
+/// charge by, and the taps are not to be listed.
 fn check_charged<'a>(
     options: &Options<'a>,
     asked: bool,
@@ -256,9 +256,9 @@ fn list<'a, W: Write>(
     Ok(clean)
 }
 
-/// Does what is asked for, and says whether each upload was listed without a layout fault, or posted
-/// whole. The token is looked at first, then settling, then the table is loaded, then the files, and
-/// all memory is taken before the first byte is written.
+/// Does what is asked for, and says whether each upload was listed without a layout fault, or
+/// posted whole. The token is looked at first, then settling, then the table is loaded, then the
+/// files, and all memory is taken before the first byte is written.
 fn work<'a, R: Threads + Wait + RandomSource + Sync, D: Disk + Sync, S: Source, W: Write>(
     rt: &R,
     alloc: Global,
@@ -300,8 +300,8 @@ fn tell<E: Write>(err: &mut Complaints<E>, fault: &Fault) -> u8
     fault.status()
 }
 
-/// Shows what clap answers when there is nothing to run: help and version on `out`, else the mistake
-/// on `err`.
+/// Shows what clap answers when there is nothing to run: help and version on `out`, else the
+/// mistake on `err`.
 fn show<W: Write, E: Write>(error: &Error, out: &mut W, err: &mut Complaints<E>) -> u8
     ensures help { result ≡ 0 → IsRequest (kind_of error.now) }
     ensures memory { kind_of error.now ≡ ErrorKind.OutOfMemory → result ≡ 1 }

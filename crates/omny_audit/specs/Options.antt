@@ -28,7 +28,9 @@ ledger_place_rule = place_rule (codes "LEDGER") Set
 
 -- all words that the program takes
 unfoldable pub audit_program : App
-audit_program = with_rule (with_rule (with_rule (named_app (codes "omny_audit")) required_table_rule) uploads_rule) ledger_place_rule
+audit_program =
+    with_rule (with_rule (with_rule (named_app (codes "omny_audit")) required_table_rule)
+    uploads_rule) ledger_place_rule
 
 -- the words after the program's name are a command line of the program
 abbrev pub ParsesForAudit : List Text → Type 0
