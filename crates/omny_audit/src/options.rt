@@ -66,7 +66,7 @@ const LEDGER_HELP: &str = "The ledger, a CSV file of any length [default: standa
 
 /// `--table F`.
 fn table_arg<'a>(alloc: Global) -> Arg<'a>
-    ensures rule { rule_of result ≡ table_rule }
+    ensures rule { rule_of result ≡ required_table_rule }
     ensures local { result.global ≡ false }
 {
     option_arg(alloc, "table", "F", TABLE_HELP).required(true)
@@ -101,8 +101,8 @@ fn command<'a>(alloc: Global) -> Result<Command<'a>, AllocError>
 /// The words read by clap.
 fn matched<'a>(alloc: Global, words: &'a [String]) -> Result<ArgMatches<'a>, Error>
     ensures rows { IfOk result (λ matches. rows_of (found_of matches)
-        ≡ matches_of program (map string_bytes words.entry.now)) }
-    ensures kinds { FailsBy (fault_of program (map string_bytes words.entry.now)) result }
+        ≡ matches_of audit_program (map string_bytes words.entry.now)) }
+    ensures kinds { FailsBy (fault_of audit_program (map string_bytes words.entry.now)) result }
 {
     command(alloc)?.try_get_matches_from(words)
 }
@@ -129,8 +129,8 @@ impl<'a> Options<'a> {
     /// What the words ask for; else clap's error, which may be a call for help.
     pub fn read(alloc: Global, words: &'a [String]) -> Result<Options<'a>, Error>
         ensures asked { IfOk result
-            (λ options. asked_of options ≡ asked_by (map string_bytes words.entry.now)) }
-        ensures kinds { FailsBy (fault_of program (map string_bytes words.entry.now)) result }
+            (λ options. audit_asked_of options ≡ audit_asked_by (map string_bytes words.entry.now)) }
+        ensures kinds { FailsBy (fault_of audit_program (map string_bytes words.entry.now)) result }
     {
         let matches = matched(alloc, words)?;
         Ok(Options {
