@@ -10,29 +10,13 @@ ghost use Rattle.fare_program.specs.inside.PostedFiles.{IsLive, ends_of};
 use crate::asked::Options;
 use crate::fault::Fault;
 use crate::posting::Posted;
-use fare_service::{Gate, Outcome, Service, UploadEnd, laws};
+use fare_service::{OpenGate, Outcome, Service, UploadEnd, laws};
 use fare_table::FareTable;
 use std::alloc::Global;
 use std::marker::Sync;
 use std::random::RandomSource;
 use std::sync::Wait;
 use std::thread::Threads;
-
-/// A gate that keeps nobody waiting.
-#[derive(Drop)]
-struct Open;
-
-impl Gate for Open {
-    type Begun = u32;
-
-    ghost begins = { λ begun. begun };
-
-    fn before(&self, upload: u32) -> u32 {
-        upload
-    }
-
-    fn after(&self, _: u32) {}
-}
 
 /// What the service comes to over these uploads, by this table.
 pub fn outcome_of<'a, R: Threads + Wait + RandomSource + Sync>(
@@ -50,7 +34,7 @@ pub fn outcome_of<'a, R: Threads + Wait + RandomSource + Sync>(
         Ok(opened) => opened,
         Err(fault) => return Err(Fault::of_open(fault)),
     };
-    match service.run(rt, alloc, share, options.workers, &Open) {
+    match service.run(rt, alloc, share, options.workers, &OpenGate) {
         Ok(outcome) => Ok(outcome),
         Err(fault) => Err(Fault::of_run(fault)),
     }

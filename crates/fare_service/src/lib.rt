@@ -15,5 +15,5 @@ pub use outcome::Outcome;
 pub use print_fault::PrintFault;
 pub use service::Service;
 pub use service::share::{Done, Share};
-pub use service::working::Gate;
+pub use service::working::{Gate, OpenGate};
 pub use upload_end::UploadEnd;

@@ -2,7 +2,7 @@
 
 use crate::sample::{STATEMENT, table, uploads};
 use crate::stop::{Case, Stop, again, promise};
-use fare_service::{Gate, Outcome, PrintFault, Service, UploadEnd};
+use fare_service::{Gate, OpenGate, Outcome, PrintFault, Service, UploadEnd};
 use sample_table::{REPORT, bytes_of};
 use shard_book::Token;
 use std::alloc::Global;
@@ -10,22 +10,6 @@ use std::marker::Sync;
 use std::random::RandomSource;
 use std::sync::Wait;
 use std::thread::Threads;
-
-/// A gate that keeps nobody waiting.
-#[derive(Drop)]
-struct Open;
-
-impl Gate for Open {
-    type Begun = u32;
-
-    ghost begins = { λ begun. begun };
-
-    fn before(&self, upload: u32) -> u32 {
-        upload
-    }
-
-    fn after(&self, _: u32) {}
-}
 
 /// A gate that prints which uploads have ended, so that whoever refuses memory knows what was
 /// refused before and what after.
@@ -55,7 +39,7 @@ fn outcome_of<R: Threads + Wait + RandomSource + Sync>(
     uploads: &[Vec<u8>],
 ) -> Result<Outcome, Stop> {
     let (service, share) = Service::open(rt, alloc, table(alloc)?, 8, uploads)?;
-    Ok(service.run(rt, alloc, share, 1, &Open)?)
+    Ok(service.run(rt, alloc, share, 1, &OpenGate)?)
 }
 
 /// A service opens, and its first share is gathered: both uploads are undrawn.
@@ -133,7 +117,7 @@ pub fn run<R: Threads + Wait + RandomSource + Sync + Print>(rt: &R, alloc: Globa
     let uploads = uploads(alloc)?;
     let first = runs(rt, alloc, uploads.as_slice(), &Telling { rt });
     if first == Err(Stop::Refused) || first == Err(Stop::Less) {
-        let second = runs(rt, alloc, uploads.as_slice(), &Open);
+        let second = runs(rt, alloc, uploads.as_slice(), &OpenGate);
         promise(second == Ok(()), "a second run does not post all")?;
     }
     first

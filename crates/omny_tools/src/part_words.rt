@@ -3,6 +3,7 @@
 use crate::merging::MergeWords;
 use crate::names::Name;
 use crate::splitting::SplitWords;
+use crate::words::names_at;
 use clap::{Arg, ArgAction, ArgMatches, Command, value_parser};
 use std::alloc::{AllocError, Global};
 
@@ -108,21 +109,6 @@ pub(crate) fn split_command<'a>(alloc: Global) -> Result<Command<'a>, AllocError
         .arg(file)
 }
 
-/// The names that an argument was given.
-fn names_of<'a>(
-    alloc: Global,
-    matches: &ArgMatches<'a>,
-    id: &str,
-) -> Result<Vec<Name<'a>>, AllocError> {
-    let mut names = Vec::new(alloc);
-    if let Some(words) = matches.get_strs(id) {
-        for word in words {
-            names.push(Name(word))?;
-        }
-    }
-    Ok(names)
-}
-
 /// What `split` is asked for.
 pub(crate) fn split_words<'a>(
     alloc: Global,
@@ -134,7 +120,7 @@ pub(crate) fn split_words<'a>(
             .get_str("part-files")
             .map_or(Name::here(), |word| Name(word)),
         first: matches.get_one("first").unwrap_or(0),
-        uploads: names_of(alloc, matches, "FILE")?,
+        uploads: names_at(alloc, matches, "FILE")?,
     })
 }
 
@@ -179,8 +165,8 @@ pub(crate) fn merge_words<'a>(
     matches: &ArgMatches<'a>,
 ) -> Result<MergeWords<'a>, AllocError> {
     Ok(MergeWords {
-        ends: names_of(alloc, matches, "ends")?,
-        reports: names_of(alloc, matches, "reports")?,
+        ends: names_at(alloc, matches, "ends")?,
+        reports: names_at(alloc, matches, "reports")?,
     })
 }
 
@@ -189,5 +175,5 @@ pub(crate) fn merge_ledgers_words<'a>(
     alloc: Global,
     matches: &ArgMatches<'a>,
 ) -> Result<Vec<Name<'a>>, AllocError> {
-    names_of(alloc, matches, "FILE")
+    names_at(alloc, matches, "FILE")
 }

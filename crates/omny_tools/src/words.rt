@@ -228,7 +228,7 @@ fn command<'a>(alloc: Global) -> Result<Command<'a>, AllocError> {
 }
 
 /// The names at an argument.
-fn names_at<'a>(
+pub(crate) fn names_at<'a>(
     alloc: Global,
     matches: &ArgMatches<'a>,
     argument: &str,

@@ -6,8 +6,8 @@ ghost use Rattle.fare_service.specs.Plain.{AreApart, IsPlain, IsReportOver, WasW
 ghost use Rattle.fare_service.specs.Printed.{report_of};
 ghost use Rattle.fare_service.specs.Shares.{IsShareOf};
 
-use crate::sample::{Open, SAMPLE, two_taps};
-use fare_service::{Gate, Outcome, RunFault, Service, Share, laws};
+use crate::sample::{SAMPLE, two_taps};
+use fare_service::{Gate, OpenGate, Outcome, RunFault, Service, Share, laws};
 use fare_table::FareTable;
 use std::alloc::Global;
 use std::marker::Sync;
@@ -61,7 +61,7 @@ fn posted<R: Threads + Wait + RandomSource + Sync>(
 ) -> Result<Outcome, Fail> {
     let table = FareTable::read(alloc, SAMPLE.as_bytes())?;
     let (service, share) = Service::open(rt, alloc, table, shards, uploads)?;
-    Ok(run(service, uploads, rt, alloc, share, workers, &Open)?)
+    Ok(run(service, uploads, rt, alloc, share, workers, &OpenGate)?)
 }
 
 fn have_one_text<R: Abort + Threads + Sync>(

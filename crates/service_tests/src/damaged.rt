@@ -1,7 +1,7 @@
 //! Damaged uploads through the whole service.
 
-use crate::sample::{BUS, Open, SUBWAY, end_of, run, tap};
-use fare_service::UploadEnd;
+use crate::sample::{BUS, SUBWAY, end_of, run, tap};
+use fare_service::{OpenGate, UploadEnd};
 use std::alloc::Global;
 use std::test::Fail;
 use tap_views::{LayoutFault, encode};
@@ -53,7 +53,7 @@ fn a_file_cut_at_every_length(rt: HostRuntime) -> Result<(), Fail> {
         cut.push(left)?;
     }
     cut.push(file)?;
-    let outcome = run(&rt, alloc, cut.as_slice(), 8, 1, &Open)?;
+    let outcome = run(&rt, alloc, cut.as_slice(), 8, 1, &OpenGate)?;
     for bytes in 0..=100u32 {
         assert_eq!(rt;
             end_of(&outcome, bytes),
@@ -102,7 +102,7 @@ fn every_bit_of_a_header_turned(rt: HostRuntime) -> Result<(), Fail> {
             files.push(file)?;
         }
     }
-    let outcome = run(&rt, alloc, files.as_slice(), 8, 1, &Open)?;
+    let outcome = run(&rt, alloc, files.as_slice(), 8, 1, &OpenGate)?;
     for byte in 0..8usize {
         for bit in 0..8u32 {
             let wanted = end_of_a_turned_bit(byte, bit);

@@ -3,8 +3,10 @@
 ghost use Rattle.std.specs.Prelude.{All, IfOk};
 ghost use Rattle.fare_service.specs.Shares.{IsShareOf};
 
-use crate::sample::{Open, REPORT, SAMPLE, end_of, opened, run, two_taps, two_uploads, uploads_of};
-use fare_service::{Gate, GatherFault, OpenFault, Outcome, RunFault, Service, Share, UploadEnd};
+use crate::sample::{REPORT, SAMPLE, end_of, opened, run, two_taps, two_uploads, uploads_of};
+use fare_service::{
+    Gate, GatherFault, OpenFault, OpenGate, Outcome, RunFault, Service, Share, UploadEnd,
+};
 use fare_table::FareTable;
 use shard_book::Totals;
 use std::alloc::Global;
@@ -56,7 +58,7 @@ fn a_cut_upload_is_reported(rt: HostRuntime) -> Result<(), Fail> {
 fn no_uploads_are_reported(rt: HostRuntime) -> Result<(), Fail> {
     let alloc = rt.alloc();
     let uploads = Vec::new(alloc);
-    let outcome = run(&rt, alloc, uploads.as_slice(), 64, 16, &Open)?;
+    let outcome = run(&rt, alloc, uploads.as_slice(), 64, 16, &OpenGate)?;
     assert_eq!(rt; (outcome.uploads(), outcome.totals()), (0, Totals::new()));
     is_reported(&rt, alloc, &outcome, NO_REPORT)
 }
@@ -286,7 +288,7 @@ fn running_fault<R: Threads + Wait + RandomSource + Sync>(
     workers: u32,
 ) -> Result<Option<RunFault>, Fail> {
     let (service, share) = opened(rt, alloc, &[], 1)?;
-    Ok(service.run(rt, alloc, share, workers, &Open).err())
+    Ok(service.run(rt, alloc, share, workers, &OpenGate).err())
 }
 
 #[test]

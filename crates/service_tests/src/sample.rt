@@ -50,22 +50,6 @@ pub fn two_taps(alloc: Global) -> Result<Vec<Vec<u8>>, Fail> {
     uploads_of(alloc, &[one], &[other])
 }
 
-/// A gate that keeps nobody waiting.
-#[derive(Drop)]
-pub struct Open;
-
-impl Gate for Open {
-    type Begun = u32;
-
-    ghost begins = { λ begun. begun };
-
-    fn before(&self, upload: u32) -> u32 {
-        upload
-    }
-
-    fn after(&self, _: u32) {}
-}
-
 /// A service over the uploads, with its first share.
 pub fn opened<'a, R: RandomSource>(
     rt: &R,

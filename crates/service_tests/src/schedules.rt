@@ -1,7 +1,7 @@
 //! The same answers for every number of workers and of shards.
 
-use crate::sample::{Open, REPORT, SUBWAY, run, tap, two_uploads};
-use fare_service::{Outcome, UploadEnd};
+use crate::sample::{REPORT, SUBWAY, run, tap, two_uploads};
+use fare_service::{OpenGate, Outcome, UploadEnd};
 use std::alloc::Global;
 use std::marker::Sync;
 use std::process::Abort;
@@ -19,7 +19,7 @@ fn report_by_all_workers<R: Threads + Wait + RandomSource + Sync + Abort>(
     shards: u32,
 ) -> Result<(), Fail> {
     for workers in 1..=16u32 {
-        let outcome = run(rt, alloc, uploads, shards, workers, &Open)?;
+        let outcome = run(rt, alloc, uploads, shards, workers, &OpenGate)?;
         let mut text = Vec::new(alloc);
         outcome.write_report(rt, alloc, &mut text)?;
         assert_eq!(rt;
@@ -78,7 +78,7 @@ fn twenty_uploads_by_two_workers(rt: HostRuntime) -> Result<(), Fail> {
         uploads.push(ten_rides(alloc, upload)?)?;
     }
     for shards in [1, 2, 8, 64] {
-        let outcome = run(&rt, alloc, uploads.as_slice(), shards, 2, &Open)?;
+        let outcome = run(&rt, alloc, uploads.as_slice(), shards, 2, &OpenGate)?;
         assert_eq!(rt; outcome.uploads(), 20);
         are_posted(&rt, &outcome);
         let totals = outcome.totals();

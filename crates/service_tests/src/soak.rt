@@ -3,8 +3,8 @@
 ghost use Rattle.std.specs.Prelude.{◌<◌};
 
 use crate::plain::PlainAccount;
-use crate::sample::{Open, START, bytes_of, run};
-use fare_service::{Outcome, UploadEnd};
+use crate::sample::{START, bytes_of, run};
+use fare_service::{OpenGate, Outcome, UploadEnd};
 use shard_book::{ShardBook, Statement};
 use std::alloc::Global;
 use std::process::Abort;
@@ -151,7 +151,7 @@ fn sixteen_workers_share_tokens(rt: HostRuntime) -> Result<(), Fail> {
         uploads.push(some_upload(alloc, &mut numbers)?)?;
     }
     for _ in 0..ROUNDS {
-        let outcome = run(&rt, alloc, uploads.as_slice(), 64, 16, &Open)?;
+        let outcome = run(&rt, alloc, uploads.as_slice(), 64, 16, &OpenGate)?;
         are_posted(&rt, &outcome);
         are_explained(&rt, alloc, &outcome)?;
         assert_eq!(rt; taps_of_workers(&outcome), outcome.totals().taps);

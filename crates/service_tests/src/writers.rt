@@ -1,7 +1,7 @@
 //! Writers that fail.
 
-use crate::sample::{Open, REPORT, bytes_of, run, two_uploads};
-use fare_service::PrintFault;
+use crate::sample::{REPORT, bytes_of, run, two_uploads};
+use fare_service::{OpenGate, PrintFault};
 use shard_book::Token;
 use std::io;
 use std::io::Write;
@@ -43,7 +43,7 @@ impl Write for Narrow {
 fn a_writer_that_fails_after_some_bytes(rt: HostRuntime) -> Result<(), Fail> {
     let alloc = rt.alloc();
     let uploads = two_uploads(alloc)?;
-    let outcome = run(&rt, alloc, uploads.as_slice(), 8, 1, &Open)?;
+    let outcome = run(&rt, alloc, uploads.as_slice(), 8, 1, &OpenGate)?;
     for room in 0..REPORT.len() {
         let written = outcome.write_report(&rt, alloc, &mut Narrow { room });
         assert!(rt;
