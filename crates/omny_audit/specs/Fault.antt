@@ -1,7 +1,6 @@
 -- The fault lines, without their line feeds. Each has the status 1.
-use Rattle.std.specs.Prelude.{◌≡◌, ◌⊎◌, ℕ, List, [], ◌∷◌, ◌++◌, Bool, true, false, codes}
-use Rattle.std.specs.Prelude.{Option, None, Some}
-use Rattle.std.specs.Prelude.{IfSome}
+use Rattle.std.specs.Prelude.{◌≡◌, ◌⊎◌, ℕ, List, [], ◌∷◌, Bool, true, false, codes}
+use Rattle.std.specs.Prelude.{Option, None, Some, IfSome}
 use Rattle.program_manners.specs.Lines.{load_text, table_text}
 use Rattle.omny_audit.specs.declared.fault.Fault.{Fault}
 use Rattle.omny_audit.specs.declared.fault.Fault.TheVariants.{File, Ledger, Table}
