@@ -169,8 +169,8 @@ def told(kind, number):
 def say(line):
     """A line on the standard error, which may lie on the disk that is full. Names may be in it."""
     try:
-        print(re.sub("[\0-\x1f\x7f]", lambda it: f"\\x{ord(it[0]):02x}", line), file=sys.stderr,
-              flush=True)
+        line = re.sub("[\0-\x1f\x7f]", lambda it: f"\\x{ord(it[0]):02x}", line)
+        print(line, file=sys.stderr, flush=True)
     except OSError:
         pass
 
