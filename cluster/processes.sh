@@ -1,4 +1,5 @@
-# Sourced by the scripts that start processes.
+# Sourced by the bash scripts that start processes.
+# shellcheck shell=bash disable=SC2046
 
 # end_all PID..: kills these and all that they started, by their ids
 end_all() {
