@@ -2,7 +2,7 @@
 use Rattle.std.specs.Prelude.{ℕ, List, ◌++◌, codes, decimal}
 use Rattle.hex.specs.Hex.{encode_lower}
 use Rattle.tap_views.specs.Layout.{Tap, num}
-use Rattle.tap_views.specs.Faults.{fault_order}
+use Rattle.tap_views.specs.Names.{fault_name}
 use Rattle.tap_views.specs.declared.fault.LayoutFault.{LayoutFault}
 use Rattle.fare_program.specs.declared.listing.Word.{Word}
 use Rattle.fare_program.specs.declared.listing.Word.TheVariants.{Live, Stale, Unknown}
@@ -20,11 +20,10 @@ tap_line upload number tap word = decimal upload ++ (codes " " ++ (decimal numbe
     ++ (encode_lower tap.token ++ (codes " " ++ (decimal (num tap.validator) ++ (codes " "
     ++ (decimal (num tap.moment) ++ (codes " " ++ (word_text word ++ codes "\n"))))))))))
 
--- the number of the upload, the offset of the batch that was refused, and the row of its fault in
--- the table of layout faults
+-- the number of the upload, the offset of the batch that was refused, and the name of its fault
 unfoldable pub refused_line : ℕ → ℕ → LayoutFault → List ℕ
 refused_line upload offset fault = decimal upload ++ (codes " refused " ++ (decimal offset
-    ++ (codes " L" ++ (decimal (fault_order fault) ++ codes "\n"))))
+    ++ (codes " " ++ (fault_name fault ++ codes "\n"))))
 
 -- `taps 5 live 3 stale 1 unknown 1`
 unfoldable pub counts_line : ListCounts → List ℕ

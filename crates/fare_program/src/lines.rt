@@ -1,11 +1,10 @@
 //! The lines of a listing.
-ghost use Rattle.std.specs.Prelude.{◌≡◌, ◌++◌, OnOk, Some, length, string_bytes};
-ghost use Rattle.hex.specs.Hex.{encode_lower};
-ghost use Rattle.tap_views.specs.Faults.{fault_order};
+ghost use Rattle.std.specs.Prelude.{◌≡◌, ◌++◌, OnOk, Some, string_bytes};
 ghost use Rattle.fare_program.specs.Lines.{counts_line, refused_line, tap_line, word_text};
 
 use crate::listing::{ListCounts, Word};
-use fare_table::NoMemory;
+use fare_table::{NoMemory, Token};
+use fare_texts::Digits;
 use std::fmt;
 use tap_views::{LayoutFault, TapView};
 
@@ -21,40 +20,6 @@ impl fmt::Display for Word {
     }
 }
 
-/// The 16 bytes of a token as 32 lower-case hexadecimal digits, made in no memory of the heap.
-#[derive(Drop)]
-struct Digits<'a> {
-    token: &'a [u8],
-    ghost wide: { length token.now ≡ 16 },
-}
-
-impl fmt::Display for Digits<'_> {
-    ghost output = { λ digits. Some (encode_lower digits.token.now) };
-
-    fn fmt<W: fmt::Write>(&self, f: &mut fmt::Formatter<W>) -> fmt::Result {
-        let mut digits = [0u8; 32];
-        let _ = hex::encode_to_slice(self.token, &mut digits);
-        match std::str::from_utf8(&digits) {
-            Ok(text) => f.write_str(text),
-            Err(_) => Err(fmt::Error),
-        }
-    }
-}
-
-/// The row of a layout fault in the table of layout faults, from 1.
-fn row_of(fault: &LayoutFault) -> u8
-    ensures { result ≡ fault_order fault.now }
-{
-    match fault {
-        LayoutFault::Short { .. } => 1,
-        LayoutFault::Magic => 2,
-        LayoutFault::Flags => 3,
-        LayoutFault::TooMany { .. } => 4,
-        LayoutFault::Length { .. } => 5,
-        LayoutFault::Moment { .. } => 6,
-    }
-}
-
 /// Writes the line of a tap.
 #[tactic(auto, unfolding(crate::specs::Lines::tap_line))]
 pub fn write_tap(
@@ -67,7 +32,7 @@ pub fn write_tap(
     ensures { OnOk result (string_bytes text.new
         ≡ string_bytes text.old ++ tap_line upload number tap.now word) }
 {
-    let token = Digits { token: tap.token() };
+    let token = Digits(Token::of(tap.token()));
     let validator = tap.validator_number();
     let moment = tap.moment_ms();
     write!(
@@ -88,8 +53,8 @@ pub fn write_refused(
     ensures { OnOk result (string_bytes text.new
         ≡ string_bytes text.old ++ refused_line upload offset fault.now) }
 {
-    let row = row_of(fault);
-    write!(text, "{upload} refused {offset} L{row}\n")?;
+    let name = fault.name();
+    write!(text, "{upload} refused {offset} {name}\n")?;
     Ok(())
 }
 

@@ -1,9 +1,8 @@
 //! The files and the standard input of the system.
 
 use crate::source::Source;
-use program_manners::{LoadFault, load_from};
-use std::fs::File;
-use std::io::{ErrorKind, Input, Read, StdinLock};
+use program_manners::{LoadFault, Opened, load_from};
+use std::io::{ErrorKind, Input};
 use std::{fs, io};
 
 /// Loads from the system's files and standard input. It does not keep what it loaded.
@@ -16,24 +15,6 @@ impl<'a> Host<'a> {
     /// What this runtime reaches.
     pub fn new(rt: &'a HostRuntime) -> Host<'a> {
         Host { rt }
-    }
-}
-
-/// A ledger of the system: a file or standard input.
-#[derive(Drop)]
-pub enum Opened {
-    /// The file that was named.
-    File(File),
-    /// Standard input, where none was named.
-    Input(StdinLock<'static>),
-}
-
-impl Read for Opened {
-    fn read(&mut self, buf: &mut [u8]) -> io::Result<usize> {
-        match self {
-            Opened::File(file) => file.read(buf),
-            Opened::Input(input) => input.read(buf),
-        }
     }
 }
 

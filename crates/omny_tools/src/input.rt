@@ -3,8 +3,9 @@
 use crate::fault::Fault;
 use crate::names::Name;
 use crate::progress::{Progress, Watched};
+use program_manners::Opened;
 use std::alloc::Global;
-use std::io::{BufReader, Input, Read, StdinLock};
+use std::io::{BufReader, Input, Read};
 use std::{fs, io};
 
 /// The most bytes of an upload: 64 MiB.
@@ -45,24 +46,6 @@ pub(crate) fn open<'a>(rt: &HostRuntime, name: Name<'a>) -> Result<fs::File, Fau
     match fs::open(rt, name.0) {
         Ok(file) => Ok(file),
         Err(_) => Err(Fault::Unread(name)),
-    }
-}
-
-/// A file or standard input.
-#[derive(Drop)]
-pub(crate) enum Opened {
-    /// The file that is named.
-    File(fs::File),
-    /// Standard input.
-    Input(StdinLock<'static>),
-}
-
-impl Read for Opened {
-    fn read(&mut self, buf: &mut [u8]) -> io::Result<usize> {
-        match self {
-            Opened::File(file) => file.read(buf),
-            Opened::Input(input) => input.read(buf),
-        }
     }
 }
 

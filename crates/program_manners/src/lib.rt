@@ -5,6 +5,7 @@
 //! |---|---|
 //! | `complaints` | where mistakes and faults are told |
 //! | `loading` | whole files up to a limit, and the line of one that was not loaded |
+//! | `opened` | a file or standard input, to be read in pieces |
 //! | `table_line` | the line of a fault of the fare table |
 //! | `answers` | what clap answers where there is nothing to run, and words that are no text |
 //! | `words` | a command and its options, as `clap` takes them |
@@ -13,11 +14,13 @@
 mod answers;
 mod complaints;
 mod loading;
+mod opened;
 mod table_line;
 mod words;
 
 pub use answers::{Shown, show_answer, unread_words};
 pub use complaints::Complaints;
 pub use loading::{FileFault, LONGEST, LoadFault, load_from};
+pub use opened::Opened;
 pub use table_line::TableLine;
 pub use words::{flag_arg, names_in, new_command, option_arg, place_arg};

@@ -2,7 +2,7 @@
 
 use super::running::{NoDisk, run_over};
 use super::shelf::{Content, SAMPLE, Shelf};
-use super::writers::Full;
+use sample_table::Narrow;
 use std::alloc::Global;
 use std::io;
 use std::io::Write;
@@ -110,7 +110,7 @@ fn each_piece_may_fail(rt: HostRuntime) -> Result<(), Fail> {
     let upload = upload(alloc)?;
     let length = report(alloc)?.len();
     for room in [60_000, 70_000, 131_000, length.saturating_sub(1)] {
-        let (status, err) = print(&rt, alloc, &upload, &mut Full { room })?;
+        let (status, err) = print(&rt, alloc, &upload, &mut Narrow { room })?;
         assert_eq!(rt; status, 1, "with room for {room}");
         assert_eq!(rt;
             err.as_slice(),
@@ -118,7 +118,7 @@ fn each_piece_may_fail(rt: HostRuntime) -> Result<(), Fail> {
             "with room for {room}"
         );
     }
-    let (status, err) = print(&rt, alloc, &upload, &mut Full { room: length })?;
+    let (status, err) = print(&rt, alloc, &upload, &mut Narrow { room: length })?;
     assert_eq!(rt; (status, err.len()), (0, 0));
     Ok(())
 }

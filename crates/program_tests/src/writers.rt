@@ -3,6 +3,7 @@
 use super::running::{NoDisk, run_over};
 use super::shelf::{Content, FIRST, SAMPLE, Shelf};
 use fare_program::{Complaints, LoadFault, main_over, unread_words};
+use sample_table::Narrow;
 use std::alloc::Global;
 use std::io;
 use std::io::Write;
@@ -32,28 +33,6 @@ token 000000000000000000000000000000a1 taps 2 paid 1 transfers 1 capped 0 stale 
 
 /// The line of a write that failed.
 const CANNOT_WRITE: &[u8] = b"fault: cannot write\n";
-
-/// A writer that takes this many bytes and then fails.
-#[derive(Drop)]
-pub struct Full {
-    /// How many more it takes.
-    pub room: usize,
-}
-
-impl Write for Full {
-    fn write(&mut self, buf: &[u8]) -> io::Result<usize> {
-        if self.room == 0 {
-            return Err(io::Error::from(io::ErrorKind::Other));
-        }
-        let count = buf.len().min(self.room);
-        self.room -= count;
-        Ok(count)
-    }
-
-    fn flush(&mut self) -> io::Result<()> {
-        Ok(())
-    }
-}
 
 /// A writer that takes all bytes and brings none of them anywhere.
 #[derive(Drop)]
@@ -89,7 +68,7 @@ fn run_with_room<R: Threads + Wait + RandomSource + Sync>(
     words: &[&str],
     room: usize,
 ) -> Result<(u8, Vec<u8>), Fail> {
-    let mut out = Full { room };
+    let mut out = Narrow { room };
     run_first(rt, alloc, words, &mut out)
 }
 
@@ -170,8 +149,8 @@ fn ends_with_its_status_where_the_fault_cannot_be_told(rt: HostRuntime) -> Resul
         &words,
         &NoDisk,
         &mut shelf,
-        &mut Full { room: 9 },
-        &mut Complaints::new(Full { room: 9 }),
+        &mut Narrow { room: 9 },
+        &mut Complaints::new(Narrow { room: 9 }),
     );
     assert_eq!(rt; status, 1);
     Ok(())

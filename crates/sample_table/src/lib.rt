@@ -1,9 +1,12 @@
 //! The sample fare table of the tests, its variants, and taps of its day.
 //!
 //! The tests of all libraries read this one text, so that a row of one test can be followed in
-//! another.
+//! another. They write to one writer that fails.
 #![tactic(auto)]
 
+mod narrow;
+
+pub use narrow::Narrow;
 use tap_views::TapFields;
 
 /// The sample after a first line: two modes, three kinds of transfer, the classes `full` and

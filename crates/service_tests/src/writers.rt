@@ -2,9 +2,8 @@
 
 use crate::sample::{REPORT, bytes_of, run, two_uploads};
 use fare_service::{OpenGate, PrintFault};
+use sample_table::Narrow;
 use shard_book::Token;
-use std::io;
-use std::io::Write;
 use std::test::Fail;
 
 /// The statement of the first upload's token.
@@ -16,27 +15,6 @@ const STATEMENT: &str = "statement 000000000000000000000000000000a1
 totals taps 4 paid 2 transfers 2 capped 0 stale 0 unknown 0 cents 600
 window 2024-03-08T17:00:00.000Z 2024-03-15T17:00:00.000Z paid 2 cents 600
 ";
-
-/// A writer that takes so many bytes more and then fails. It takes no memory.
-#[derive(Drop)]
-struct Narrow {
-    room: usize,
-}
-
-impl Write for Narrow {
-    fn write(&mut self, buf: &[u8]) -> io::Result<usize> {
-        if self.room == 0 {
-            return Err(io::Error::from(io::ErrorKind::Other));
-        }
-        let count = buf.len().min(self.room);
-        self.room -= count;
-        Ok(count)
-    }
-
-    fn flush(&mut self) -> io::Result<()> {
-        Ok(())
-    }
-}
 
 /// Would catch a text that is said to be written where its end was not.
 #[test]

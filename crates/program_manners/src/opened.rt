@@ -1,0 +1,23 @@
+//! A file of the system, or its standard input.
+
+use std::fs::File;
+use std::io;
+use std::io::{Read, StdinLock};
+
+/// A file or standard input, to be read in pieces.
+#[derive(Drop)]
+pub enum Opened {
+    /// The file that was named.
+    File(File),
+    /// Standard input.
+    Input(StdinLock<'static>),
+}
+
+impl Read for Opened {
+    fn read(&mut self, buf: &mut [u8]) -> io::Result<usize> {
+        match self {
+            Opened::File(file) => file.read(buf),
+            Opened::Input(input) => input.read(buf),
+        }
+    }
+}
