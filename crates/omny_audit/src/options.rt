@@ -87,7 +87,7 @@ fn uploads_arg<'a>(alloc: Global) -> Arg<'a>
 
 /// The command line, as clap reads it.
 fn command<'a>(alloc: Global) -> Result<Command<'a>, AllocError>
-    ensures { IfOk result (λ command. app_of command ≡ program) }
+    ensures { IfOk result (λ command. app_of command ≡ audit_program) }
 {
     let table = table_arg(alloc);
     let uploads = uploads_arg(alloc);
