@@ -1,5 +1,5 @@
 //! Why the program gives up, with the line that says so and the status.
-ghost use Rattle.std.specs.Prelude.{◌≡◌, ◌≢◌, Some};
+ghost use Rattle.std.specs.Prelude.{◌≡◌, ◌≢◌, Some, if◌then◌else◌};
 ghost use Rattle.fare_service.specs.declared.faults.GatherFault.{GatherFault};
 ghost use Rattle.fare_program.specs.Fault.{fault_text, gather_text, status_of};
 ghost use Rattle.program_manners.specs.Lines.{load_text, table_text};
@@ -81,6 +81,17 @@ impl<'a> Fault<'a> {
         }
     }
 
+    /// Why a text was not printed: a write failed, or memory was refused.
+    fn unprinted(is_write: bool) -> Fault<'a>
+        ensures { result ≡ (if is_write then Fault.Write else Fault.NoMemory) }
+    {
+        if is_write {
+            Fault::Write
+        } else {
+            Fault::NoMemory
+        }
+    }
+
     /// The status with which the program ends.
     pub fn status(&self) -> u8
         ensures { result ≡ status_of self.now }
@@ -120,10 +131,7 @@ impl From<PrintFault> for Fault<'_> {
     ghost from_gives = { λ refused fault. fault ≡ printed_as refused };
 
     fn from(fault: PrintFault) -> Self {
-        match fault {
-            PrintFault::Write => Fault::Write,
-            PrintFault::NoMemory => Fault::NoMemory,
-        }
+        Fault::unprinted(matches!(fault, PrintFault::Write))
     }
 }
 
@@ -133,10 +141,7 @@ impl From<LedgerFault> for Fault<'_> {
     ghost from_gives = { λ refused fault. fault ≡ told_as refused };
 
     fn from(fault: LedgerFault) -> Self {
-        match fault {
-            LedgerFault::Write => Fault::Write,
-            LedgerFault::NoMemory => Fault::NoMemory,
-        }
+        Fault::unprinted(matches!(fault, LedgerFault::Write))
     }
 }
 
