@@ -1,11 +1,11 @@
 //! `merge` and `merge-ledgers`.
 
 use crate::fault::Fault;
-use crate::input::open_in_pieces;
+use crate::input::{Opened, open_in_pieces};
 use crate::names::Name;
 use crate::output::Output;
-use part_reports::{Ends, Ledgers, MergeFault, Reports};
-use std::io::Write;
+use part_reports::MergeFault;
+use std::io::{BufReader, Write};
 
 /// What `merge` is asked for.
 #[derive(Drop)]
@@ -16,9 +16,18 @@ pub(crate) struct MergeWords<'a> {
     pub(crate) reports: Vec<Name<'a>>,
 }
 
+/// The name of the text of this number. Texts are numbered through both lists.
+fn name_of<'a>(first: &[Name<'a>], second: &[Name<'a>], text: usize) -> Option<Name<'a>> {
+    match text.checked_sub(first.len()) {
+        Some(at) => second.get(at).copied(),
+        None => first.get(text).copied(),
+    }
+}
+
 /// Why the texts of these files were not merged.
 fn fault_of<'a, W: Write + Drop>(
-    names: &[Name<'a>],
+    first: &[Name<'a>],
+    second: &[Name<'a>],
     fault: MergeFault,
     out: &Output<W>,
 ) -> Fault<'a> {
@@ -27,13 +36,13 @@ fn fault_of<'a, W: Write + Drop>(
             text,
             number,
             wrong,
-        } => match names.get(text) {
-            Some(name) => Fault::Line(*name, number, wrong),
+        } => match name_of(first, second, text) {
+            Some(name) => Fault::Line(name, number, wrong),
             None => Fault::NoMemory,
         },
         MergeFault::Taps { reports, uploads } => Fault::Taps(reports, uploads),
-        MergeFault::Unread(text) => match names.get(text) {
-            Some(name) => Fault::Unread(*name),
+        MergeFault::Unread(text) => match name_of(first, second, text) {
+            Some(name) => Fault::Unread(name),
             None => Fault::NoMemory,
         },
         MergeFault::Write => out.failed(),
@@ -41,20 +50,16 @@ fn fault_of<'a, W: Write + Drop>(
     }
 }
 
-/// Reads how the uploads ended.
-fn read_ends<'a, W: Write + Drop>(
-    rt: &HostRuntime,
-    names: &[Name<'a>],
-    out: &Output<W>,
-) -> Result<Ends, Fault<'a>> {
-    let mut ends = Ends::new(rt.alloc());
-    for (number, name) in names.iter().enumerate() {
-        let from = open_in_pieces(rt, *name)?;
-        if let Err(fault) = ends.add(from, number) {
-            return Err(fault_of(names, fault, out));
+/// Opens each of these files.
+fn open_all<'a>(rt: &HostRuntime, names: &[Name<'a>]) -> Result<Vec<BufReader<Opened>>, Fault<'a>> {
+    let mut texts = Vec::new(rt.alloc());
+    for name in names {
+        let text = open_in_pieces(rt, *name)?;
+        if texts.push(text).is_err() {
+            return Err(Fault::NoMemory);
         }
     }
-    Ok(ends)
+    Ok(texts)
 }
 
 /// Writes the report of the whole. Says whether no upload has a layout fault.
@@ -63,18 +68,11 @@ pub(crate) fn merge<'a, W: Write + Drop>(
     words: &MergeWords<'a>,
     out: &mut Output<W>,
 ) -> Result<bool, Fault<'a>> {
-    let names = words.reports.as_slice();
-    let ends = read_ends(rt, &words.ends, out)?;
-    let mut reports = Reports::new(rt.alloc());
-    for name in names {
-        let from = open_in_pieces(rt, *name)?;
-        if let Err(fault) = reports.add(from) {
-            return Err(fault_of(names, fault, out));
-        }
-    }
-    match reports.write(&ends, out) {
-        Ok(()) => Ok(ends.are_posted()),
-        Err(fault) => Err(fault_of(names, fault, out)),
+    let ends = open_all(rt, &words.ends)?;
+    let reports = open_all(rt, &words.reports)?;
+    match part_reports::merge(rt.alloc(), ends, reports, out) {
+        Ok(are_posted) => Ok(are_posted),
+        Err(fault) => Err(fault_of(&words.ends, &words.reports, fault, out)),
     }
 }
 
@@ -84,15 +82,9 @@ pub(crate) fn merge_ledgers<'a, W: Write + Drop>(
     names: &[Name<'a>],
     out: &mut Output<W>,
 ) -> Result<(), Fault<'a>> {
-    let mut ledgers = Ledgers::new(rt.alloc());
-    for name in names {
-        let from = open_in_pieces(rt, *name)?;
-        if let Err(fault) = ledgers.add(from) {
-            return Err(fault_of(names, fault, out));
-        }
-    }
-    match ledgers.write(out) {
+    let ledgers = open_all(rt, names)?;
+    match part_reports::merge_ledgers(rt.alloc(), ledgers, out) {
         Ok(()) => Ok(()),
-        Err(fault) => Err(fault_of(names, fault, out)),
+        Err(fault) => Err(fault_of(names, &[], fault, out)),
     }
 }

@@ -21,7 +21,7 @@ IsLeastBelow heads end (Some (place, token)) =
     × ((k : ℕ) (above : Token) → k < end → k ≢ place → StandsAt heads k above
     → token_cmp token above ≡ Less)
 
-token_total : IsTotalOrder token_cmp
+pub token_total : IsTotalOrder token_cmp
 token_total = then_total (on_total (λ (t : Token). t.high) nat_cmp_total)
     (on_total (λ (t : Token). t.low) nat_cmp_total)
 
@@ -30,7 +30,7 @@ first_equal Less s e = absurd (let h : Less ≡ Equal = e in cc)
 first_equal Equal s e = (refl, e)
 first_equal Greater s e = absurd (let h : Greater ≡ Equal = e in cc)
 
-same_token : (a b : Token) → token_cmp a b ≡ Equal → a ≡ b
+pub same_token : (a b : Token) → token_cmp a b ≡ Equal → a ≡ b
 same_token a b e =
     let (high, low) = first_equal (nat_cmp a.high b.high) (nat_cmp a.low b.low) e in
     let is = nat_cmp-IsAntisymmetric a.high b.high high in

@@ -80,8 +80,8 @@ sums_at validator list = add_all (map (λ sum. sum.1) (filter (λ sum. sum.0 == 
 -- The whole's report: the ends of the uploads, the totals of all parts added up, each validator of
 -- the parts once with its sums in all of them, and the tokens of all parts. Validators rise and
 -- tokens rise, so no token is in two parts.
-pub record IsWhole (ends : List End) (parts : List Report) (whole : Report) : Type 0 where
-  pub ends : whole.ends ≡ ends
+pub record IsWhole (uploads : List End) (parts : List Report) (whole : Report) : Type 0 where
+  pub ends : whole.ends ≡ uploads
   pub totals : whole.totals ≡ add_all (map (λ part. part.totals) parts)
   pub validators_rise : IsStrictlySortedBy nat_cmp (keys_of whole.validators)
   pub validators_same : (validator : ℕ)

@@ -1,3 +1,13 @@
 -- What only private functions cite. Who reads the contracts of public calls need not read it.
+pub mod Begun
+pub mod Counted
+pub mod Ended
+pub mod Ends
+pub mod Fronts
 pub mod Kinds
 pub mod Least
+pub mod Parts
+pub mod Reading
+pub mod Sources
+pub mod Sums
+pub mod Whole

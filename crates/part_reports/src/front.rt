@@ -1,7 +1,20 @@
 //! What a part's report has before the lines of its tokens.
 
+ghost use Rattle.std.specs.Prelude.{◌≡◌, ◌<◌, ◌^◌, ◌↔◌, IfErr, IsTrue, codes, flat_map, map};
+ghost use Rattle.fare_texts.specs.Counts.{totals_line};
+ghost use Rattle.shard_book.specs.Shown.{validator_sum};
+ghost use Rattle.shard_book.specs.Sums.{sums_of};
+ghost use Rattle.part_reports.specs.Faults.{IsOfTaps};
+ghost use Rattle.part_reports.specs.Lines.{AreCounts, IsEnd, IsValidatorSum};
+ghost use Rattle.part_reports.specs.Lines.{end_line, end_lines, head_line, validator_line};
+ghost use Rattle.part_reports.specs.inside.Ended.{ended};
+ghost use Rattle.part_reports.specs.inside.Fronts.{AreEnds, ArePosted, AreRising, AreSums};
+ghost use Rattle.part_reports.specs.inside.Fronts.{AreValidators, IsFront, MayBePart, MayFollow};
+ghost use Rattle.part_reports.specs.inside.Fronts.{ends_text, told_text, validators_text};
+ghost use Rattle.part_reports.specs.inside.Reading.{IsRead};
+
 use crate::fault::{MergeFault, Wrong};
-use crate::form::{end_of, tokens_of, totals_of, uploads_of, validator_sum_of, validators_of};
+use crate::form::{End, end_of, tokens_of, totals_of, uploads_of, validator_sum_of, validators_of};
 use crate::reading::Reading;
 use shard_book::{Totals, ValidatorSum};
 use std::alloc::Global;
@@ -18,52 +31,155 @@ pub(crate) struct Front {
     pub(crate) tokens: u64,
 }
 
-/// Reads the lines of a part's uploads, each of which was posted.
-fn read_uploads<R: BufRead + Drop>(reading: &mut Reading<R>) -> Result<(), MergeFault> {
+/// Reads the line `uploads N`.
+fn next_uploads<R: BufRead + Drop>(reading: &mut Reading<R>) -> Result<u64, MergeFault>
+    ensures read { IsRead (λ told number. told ≡ number) (λ number. number < 2 ^ 64)
+        (head_line (codes "uploads ")) (R.remaining reading.old.from)
+        (R.remaining reading.new.from) result }
+    ensures other { IfErr result (λ fault. ¬ (IsOfTaps fault)) }
+{
     reading.next()?;
-    let uploads = reading.told(uploads_of(reading.line()))?;
+    reading.told(uploads_of(reading.line()))
+}
+
+/// Reads the line of an upload's end.
+pub(crate) fn next_end<R: BufRead + Drop>(
+    reading: &mut Reading<R>,
+    upload: u64,
+) -> Result<End, MergeFault>
+    ensures read { IsRead (λ end told. ended end ≡ told) IsEnd (end_line upload) (R.remaining reading.old.from)
+        (R.remaining reading.new.from) result }
+    ensures other { IfErr result (λ fault. ¬ (IsOfTaps fault)) }
+{
+    reading.next()?;
+    reading.told(end_of(reading.line(), upload))
+}
+
+/// Reads the line of totals.
+fn next_totals<R: BufRead + Drop>(reading: &mut Reading<R>) -> Result<Totals, MergeFault>
+    ensures read { IsRead (λ totals told. sums_of totals ≡ told) AreCounts totals_line (R.remaining reading.old.from)
+        (R.remaining reading.new.from) result }
+    ensures other { IfErr result (λ fault. ¬ (IsOfTaps fault)) }
+{
+    reading.next()?;
+    reading.told(totals_of(reading.line()))
+}
+
+/// Reads the line `validators N`.
+fn next_validators<R: BufRead + Drop>(reading: &mut Reading<R>) -> Result<u64, MergeFault>
+    ensures read { IsRead (λ told number. told ≡ number) (λ number. number < 2 ^ 64)
+        (head_line (codes "validators ")) (R.remaining reading.old.from)
+        (R.remaining reading.new.from) result }
+    ensures other { IfErr result (λ fault. ¬ (IsOfTaps fault)) }
+{
+    reading.next()?;
+    reading.told(validators_of(reading.line()))
+}
+
+/// Reads the line of a validator.
+fn next_validator<R: BufRead + Drop>(reading: &mut Reading<R>) -> Result<ValidatorSum, MergeFault>
+    ensures read { IsRead (λ sum told. validator_sum sum ≡ told) IsValidatorSum validator_line
+        (R.remaining reading.old.from) (R.remaining reading.new.from) result }
+    ensures other { IfErr result (λ fault. ¬ (IsOfTaps fault)) }
+{
+    reading.next()?;
+    reading.told(validator_sum_of(reading.line()))
+}
+
+/// Reads the line `tokens N`.
+fn next_tokens<R: BufRead + Drop>(reading: &mut Reading<R>) -> Result<u64, MergeFault>
+    ensures read { IsRead (λ told number. told ≡ number) (λ number. number < 2 ^ 64)
+        (head_line (codes "tokens ")) (R.remaining reading.old.from)
+        (R.remaining reading.new.from) result }
+    ensures other { IfErr result (λ fault. ¬ (IsOfTaps fault)) }
+{
+    reading.next()?;
+    reading.told(tokens_of(reading.line()))
+}
+
+/// Reads the lines of so many uploads, each of which was posted.
+fn read_posted<R: BufRead + Drop>(reading: &mut Reading<R>, uploads: u64) -> Result<(), MergeFault>
+    ensures read { IsRead (λ _ _. Unit {0}) (ArePosted uploads) (end_lines 0)
+        (R.remaining reading.old.from) (R.remaining reading.new.from) result }
+    ensures other { IfErr result (λ fault. ¬ (IsOfTaps fault)) }
+{
     for upload in 0..uploads {
-        reading.next()?;
-        let end = reading.told(end_of(reading.line(), upload))?;
-        if !end.is_posted {
+        let end = next_end(reading, upload)?;
+        if end.fault.is_some() {
             return Err(reading.fault(Wrong::NotPosted));
         }
     }
     Ok(())
 }
 
-/// Reads the lines of a part's validators, which rise.
-fn read_validators<R: BufRead + Drop>(
+/// Reads the number of a part's uploads and their lines. Each was posted.
+fn read_uploads<R: BufRead + Drop>(reading: &mut Reading<R>) -> Result<(), MergeFault>
+    ensures read { IsRead (λ _ _. Unit {0}) AreEnds ends_text
+        (R.remaining reading.old.from) (R.remaining reading.new.from) result }
+    ensures other { IfErr result (λ fault. ¬ (IsOfTaps fault)) }
+{
+    let uploads = next_uploads(reading)?;
+    read_posted(reading, uploads)
+}
+
+/// Whether a validator may follow the last of these.
+fn may_follow(sums: &[ValidatorSum], sum: &ValidatorSum) -> bool
+    ensures { IsTrue result ↔ MayFollow (map validator_sum sums.now) sum.now.validator }
+{
+    match sums.last() {
+        Some(before) => before.validator < sum.validator,
+        None => true,
+    }
+}
+
+/// Reads the lines of so many validators, which rise.
+fn read_rising<R: BufRead + Drop>(
     alloc: Global,
     reading: &mut Reading<R>,
-) -> Result<Vec<ValidatorSum>, MergeFault> {
-    reading.next()?;
-    let number = reading.told(validators_of(reading.line()))?;
+    number: u64,
+) -> Result<Vec<ValidatorSum>, MergeFault>
+    ensures read { IsRead (λ sums told. AreSums sums.items told) (AreRising number)
+        (flat_map validator_line)
+        (R.remaining reading.old.from) (R.remaining reading.new.from) result }
+    ensures other { IfErr result (λ fault. ¬ (IsOfTaps fault)) }
+{
     let mut sums: Vec<ValidatorSum> = Vec::new(alloc);
     for _ in 0..number {
-        reading.next()?;
-        let sum = reading.told(validator_sum_of(reading.line()))?;
-        if let Some(before) = sums.last() {
-            if sum.validator <= before.validator {
-                return Err(reading.fault(Wrong::Order));
-            }
+        let sum = next_validator(reading)?;
+        if !may_follow(&sums, &sum) {
+            return Err(reading.fault(Wrong::Order));
         }
         sums.push(sum)?;
     }
     Ok(sums)
 }
 
+/// Reads the number of a part's validators and their lines. They rise.
+fn read_validators<R: BufRead + Drop>(
+    alloc: Global,
+    reading: &mut Reading<R>,
+) -> Result<Vec<ValidatorSum>, MergeFault>
+    ensures read { IsRead (λ sums told. AreSums sums.items told) AreValidators validators_text
+        (R.remaining reading.old.from) (R.remaining reading.new.from) result }
+    ensures other { IfErr result (λ fault. ¬ (IsOfTaps fault)) }
+{
+    let number = next_validators(reading)?;
+    read_rising(alloc, reading, number)
+}
+
 /// Reads a part's report up to the lines of its tokens.
 pub(crate) fn read_front<R: BufRead + Drop>(
     alloc: Global,
     reading: &mut Reading<R>,
-) -> Result<Front, MergeFault> {
+) -> Result<Front, MergeFault>
+    ensures read { IsRead IsFront MayBePart told_text
+        (R.remaining reading.old.from) (R.remaining reading.new.from) result }
+    ensures other { IfErr result (λ fault. ¬ (IsOfTaps fault)) }
+{
     read_uploads(reading)?;
-    reading.next()?;
-    let totals = reading.told(totals_of(reading.line()))?;
+    let totals = next_totals(reading)?;
     let validators = read_validators(alloc, reading)?;
-    reading.next()?;
-    let tokens = reading.told(tokens_of(reading.line()))?;
+    let tokens = next_tokens(reading)?;
     Ok(Front {
         totals,
         validators,

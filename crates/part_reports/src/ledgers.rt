@@ -1,48 +1,80 @@
 //! Ledgers of parts, merged.
 
-use crate::fault::MergeFault;
+ghost use Rattle.std.specs.Prelude.{◌≡◌, ℕ, List, Some, IfErr, IfOk, IfSome, OnOk, map};
+ghost use Rattle.std.specs.Io.KnownBytes.{Appends};
+ghost use Rattle.part_reports.specs.Faults.{IsOfTaps, IsOfTexts};
+ghost use Rattle.part_reports.specs.Ledgers.{IsMergedLedger};
+ghost use Rattle.part_reports.specs.inside.Begun.{AreBegun, IsBegun, IsNoLedger};
+ghost use Rattle.part_reports.specs.inside.Sources.{standing};
+
+use crate::fault::{MergeFault, Wrong};
 use crate::merging::{Lines, Source, write_merged};
 use crate::reading::Reading;
 use reason_texts::head_line;
 use std::alloc::Global;
 use std::io::{BufRead, Write};
 
-/// The ledgers of parts, which are read as they are written.
-#[derive(Drop)]
-pub struct Ledgers<R: BufRead + Drop> {
-    /// Where memory is taken.
+/// Reads the head line of a ledger, and the line behind it.
+fn begin_ledger<R: BufRead + Drop>(
     alloc: Global,
-    /// Each ledger behind its head line.
-    sources: Vec<Source<R>>,
+    from: R,
+    text: usize,
+) -> Result<Source<R>, MergeFault>
+    ensures begun { IfOk result (λ source. IfSome (R.remaining from)
+        (λ file. IsBegun file (standing R.remaining source))) }
+    ensures refused { IfErr result (λ fault. IsOfTexts fault
+        → IfSome (R.remaining from) IsNoLedger) }
+    ensures no_taps { IfErr result (λ fault. ¬ (IsOfTaps fault)) }
+{
+    let mut reading = Reading::new(alloc, from, text);
+    reading.next()?;
+    if reading.line() == head_line().as_bytes() {
+        Source::begin(reading, Lines::Entries)
+    } else {
+        Err(reading.fault(Wrong::Form))
+    }
 }
 
-impl<R: BufRead + Drop> Ledgers<R> {
-    /// No ledgers.
-    pub fn new(alloc: Global) -> Ledgers<R> {
-        Ledgers {
-            alloc,
-            sources: Vec::new(alloc),
-        }
+/// The same of each ledger.
+fn begin_ledgers<R: BufRead + Drop>(
+    alloc: Global,
+    ledgers: Vec<R>,
+) -> Result<Vec<Source<R>>, MergeFault>
+    ensures begun { IfOk result (λ sources. AreBegun (map R.remaining ledgers.items)
+        (map (standing R.remaining) sources.items)) }
+    ensures refused { IfErr result (λ fault. IsOfTexts fault → (files : List (List ℕ))
+        → map (λ text. R.remaining text) ledgers.items ≡ map (λ text. Some text) files
+        → (text : List ℕ) → ¬ (IsMergedLedger files text)) }
+    ensures no_taps { IfErr result (λ fault. ¬ (IsOfTaps fault)) }
+{
+    let mut sources = Vec::new(alloc);
+    for from in ledgers {
+        let text = sources.len();
+        sources.push(begin_ledger(alloc, from, text)?)?;
     }
+    Ok(sources)
+}
 
-    /// Adds a ledger, whose head line is read.
-    pub fn add(&mut self, from: R) -> Result<(), MergeFault> {
-        let mut reading = Reading::new(self.alloc, from, self.sources.len());
-        reading.next()?;
-        reading.told(if reading.line() == head_line().as_bytes() {
-            Some(())
-        } else {
-            None
-        })?;
-        self.sources.push(Source::begin(reading, Lines::Entries)?)?;
-        Ok(())
+/// Merges the ledgers of parts, and writes the ledger of all: the head line, and the lines of all
+/// ledgers by rising tokens. A fault names a ledger by its number, from 0.
+pub fn merge_ledgers<R: BufRead + Drop, W: Write>(
+    alloc: Global,
+    ledgers: Vec<R>,
+    out: &mut W,
+) -> Result<(), MergeFault>
+    ensures whole { OnOk result ((files : List (List ℕ))
+        → map (λ text. R.remaining text) ledgers.items ≡ map (λ text. Some text) files
+        → (text : List ℕ) × IsMergedLedger files text
+        × Appends (W.contents out.old) (W.contents out.new) text) }
+    // A fault of the texts comes only where no text is the ledger of the whole.
+    ensures refused { IfErr result (λ fault. IsOfTexts fault → (files : List (List ℕ))
+        → map (λ text. R.remaining text) ledgers.items ≡ map (λ text. Some text) files
+        → (text : List ℕ) → ¬ (IsMergedLedger files text)) }
+    ensures no_taps { IfErr result (λ fault. ¬ (IsOfTaps fault)) }
+{
+    let mut sources = begin_ledgers(alloc, ledgers)?;
+    if out.write_all(head_line().as_bytes()).is_err() {
+        return Err(MergeFault::Write);
     }
-
-    /// Writes the ledger of all: the head line, and the lines of all ledgers by rising tokens.
-    pub fn write<W: Write>(&mut self, out: &mut W) -> Result<(), MergeFault> {
-        if out.write_all(head_line().as_bytes()).is_err() {
-            return Err(MergeFault::Write);
-        }
-        write_merged(self.alloc, &mut self.sources, out)
-    }
+    write_merged(alloc, &mut sources, out)
 }

@@ -10,13 +10,15 @@ mod ends;
 mod fault;
 mod form;
 mod front;
+pub mod laws;
 mod ledgers;
 mod merging;
 mod reading;
 mod reports;
 mod sums;
+mod told;
 
-pub use ends::Ends;
+
 pub use fault::{MergeFault, Wrong};
-pub use ledgers::Ledgers;
-pub use reports::Reports;
+pub use ledgers::merge_ledgers;
+pub use reports::merge;

@@ -1,13 +1,23 @@
 //! Lines of several texts by rising tokens, merged into one text.
 
-ghost use Rattle.std.specs.Prelude.{MatchResult};
+ghost use Rattle.std.specs.Prelude.{◌≡◌, ℕ, List, Some, IfErr, IfOk, IfSome, MatchOption};
+ghost use Rattle.std.specs.Prelude.{IsTrue, MatchResult, OnOk, Option, ◌<◌, ◌↔◌, length, map};
+ghost use Rattle.std.specs.Io.BufRead.{take_through};
+ghost use Rattle.std.specs.Io.KnownBytes.{Appends};
+ghost use Rattle.std.specs.List.{AllZip};
+ghost use Rattle.part_reports.specs.Faults.{IsOfTaps, IsOfTexts};
+ghost use Rattle.part_reports.specs.TokenLines.{IsJoined, TokenLine, text_of};
+ghost use Rattle.part_reports.specs.inside.Kinds.{AreTexts, IsTextOf};
 ghost use Rattle.part_reports.specs.inside.Least.{IsLeast, IsTwin};
+ghost use Rattle.part_reports.specs.inside.Sources.{IsBehindOne, IsFirst, IsLineOf, IsSource};
+ghost use Rattle.part_reports.specs.inside.Sources.{MayEnd, MayFollow, MayFollowAll, MayFollowHead};
+ghost use Rattle.part_reports.specs.inside.Sources.{IsMovedAt, IsStuckAt, standing};
 
 use crate::fault::{MergeFault, Wrong};
 use crate::form::{ledger_token_of, token_sum_of};
 use crate::reading::Reading;
 use shard_book::Token;
-use std::alloc::Global;
+use std::alloc::{AllocError, Global};
 use std::cmp::Ordering;
 use std::io::{BufRead, Write};
 
@@ -32,7 +42,12 @@ pub(crate) struct Source<R: BufRead + Drop> {
 }
 
 /// The token of a line.
-fn token_in(lines: Lines, line: &[u8]) -> Option<Token> {
+fn token_in(lines: Lines, line: &[u8]) -> Option<Token>
+    ensures { MatchOption result
+        ((token : Token) → ¬ (IsLineOf lines (record { token = token; text = line.now })))
+        (λ token. (left : List ℕ) → line.now ≡ take_through 10 left
+        → IsLineOf lines (record { token = token; text = line.now })) }
+{
     match lines {
         Lines::Tokens { .. } => match token_sum_of(line) {
             Some(sum) => Some(sum.token),
@@ -43,7 +58,10 @@ fn token_in(lines: Lines, line: &[u8]) -> Option<Token> {
 }
 
 /// What the lines are behind one of them; none where no line was left.
-fn behind_one(lines: Lines) -> Option<Lines> {
+fn behind_one(lines: Lines) -> Option<Lines>
+    ensures { MatchOption result ((behind : Lines) → ¬ (IsBehindOne lines behind))
+        (λ behind. IsBehindOne lines behind) }
+{
     match lines {
         Lines::Tokens { left } => {
             let left = left.checked_sub(1)?;
@@ -54,24 +72,65 @@ fn behind_one(lines: Lines) -> Option<Lines> {
 }
 
 /// Whether the text may end here.
-fn may_end(lines: Lines) -> bool {
+fn may_end(lines: Lines) -> bool
+    ensures { IsTrue result ↔ MayEnd lines }
+{
     match lines {
         Lines::Tokens { left } => left == 0,
         Lines::Entries => true,
     }
 }
 
-/// Whether the token may follow the other one.
-fn may_follow(lines: Lines, token: Token, before: Token) -> bool {
+/// What the first line of a text tells, which is empty where the text has ended: what the lines
+/// behind it are, and its token. Nothing where such a line may not stand there.
+fn first_of(lines: Lines, line: &[u8]) -> Option<(Lines, Option<Token>)>
+    ensures { MatchOption result
+        ((behind : Lines) (head : Option Token) → ¬ (IsFirst lines line.now behind head))
+        (λ told. (left : List ℕ) → line.now ≡ take_through 10 left
+        → IsFirst lines line.now told.0 told.1) }
+{
+    if line.is_empty() {
+        return if may_end(lines) {
+            Some((lines, None))
+        } else {
+            None
+        };
+    }
+    let behind = behind_one(lines)?;
+    let token = token_in(lines, line)?;
+    Some((behind, Some(token)))
+}
+
+/// Whether a line of the token may stand behind one of the other.
+fn may_follow(lines: Lines, before: Token, token: Token) -> bool
+    ensures { IsTrue result ↔ MayFollow lines before token }
+{
     match lines {
         Lines::Tokens { .. } => before < token,
         Lines::Entries => before <= token,
     }
 }
 
+/// The same of the tokens at which a source stood and stands.
+fn may_stand(lines: Lines, before: Option<Token>, head: Option<Token>) -> bool
+    ensures { IsTrue result ↔ MayFollowHead lines before head }
+{
+    match (before, head) {
+        (Some(before), Some(token)) => may_follow(lines, before, token),
+        _ => true,
+    }
+}
+
 impl<R: BufRead + Drop> Source<R> {
     /// The text at the next line, which is the first of these lines.
-    pub(crate) fn begin(reading: Reading<R>, lines: Lines) -> Result<Source<R>, MergeFault> {
+    pub(crate) fn begin(reading: Reading<R>, lines: Lines) -> Result<Source<R>, MergeFault>
+        ensures begun { IfOk result (λ source. IfSome (R.remaining reading.from)
+            (λ left. IsSource (lines, left) (standing R.remaining source))) }
+        ensures refused { IfErr result (λ fault. IsOfTexts fault
+            → IfSome (R.remaining reading.from)
+            (λ left. (list : List TokenLine) → ¬ (IsTextOf (lines, left) list))) }
+        ensures no_taps { IfErr result (λ fault. ¬ (IsOfTaps fault)) }
+    {
         let mut source = Source {
             reading,
             lines,
@@ -82,32 +141,41 @@ impl<R: BufRead + Drop> Source<R> {
     }
 
     /// Reads the next line, or the end.
-    fn read(&mut self) -> Result<(), MergeFault> {
+    fn read(&mut self) -> Result<(), MergeFault>
+        ensures read { OnOk result (IfSome (R.remaining self.old.reading.from)
+            (λ left. IsSource (self.old.lines, left) (standing R.remaining self.new))) }
+        ensures refused { IfErr result (λ fault. IsOfTexts fault
+            → IfSome (R.remaining self.old.reading.from)
+            (λ left. (list : List TokenLine) → ¬ (IsTextOf (self.old.lines, left) list))) }
+        ensures no_taps { IfErr result (λ fault. ¬ (IsOfTaps fault)) }
+    {
         self.reading.next()?;
-        if self.reading.is_over() {
-            self.head = None;
-            if may_end(self.lines) {
-                return Ok(());
-            }
-            return Err(self.reading.fault(Wrong::Form));
-        }
-        self.lines = self.reading.told(behind_one(self.lines))?;
-        let token = self
+        let (lines, head) = self
             .reading
-            .told(token_in(self.lines, self.reading.line()))?;
-        self.head = Some(token);
+            .told(first_of(self.lines, self.reading.line()))?;
+        self.lines = lines;
+        self.head = head;
         Ok(())
     }
 
     /// Goes on to the next line. Gives its token, which is not below this line's.
-    fn advance(&mut self) -> Result<Option<Token>, MergeFault> {
-        let before = self.head;
+    fn advance(&mut self) -> Result<Option<Token>, MergeFault>
+        ensures read { OnOk result (IfSome (R.remaining self.old.reading.from)
+            (λ left. IsSource (self.old.lines, left) (standing R.remaining self.new))) }
+        ensures follows { IfOk result (λ head. MayFollowHead self.old.lines self.old.head head) }
+        ensures head { IfOk result (λ head. head ≡ self.new.head) }
+        ensures refused { IfErr result (λ fault. IsOfTexts fault
+            → IfSome (R.remaining self.old.reading.from)
+            (λ left. (list : List TokenLine) → IsTextOf (self.old.lines, left) list
+            → IfSome self.old.head (λ before. ¬ (MayFollowAll self.old.lines before list)))) }
+        ensures no_taps { IfErr result (λ fault. ¬ (IsOfTaps fault)) }
+    {
+        let (lines, before) = (self.lines, self.head);
         self.read()?;
-        match (before, self.head) {
-            (Some(before), Some(token)) if !may_follow(self.lines, token, before) => {
-                Err(self.reading.fault(Wrong::Order))
-            }
-            _ => Ok(self.head),
+        if may_stand(lines, before, self.head) {
+            Ok(self.head)
+        } else {
+            Err(self.reading.fault(Wrong::Order))
         }
     }
 }
@@ -140,7 +208,19 @@ fn least(heads: &[Option<Token>]) -> Result<Option<usize>, usize>
 fn write_line<R: BufRead + Drop, W: Write>(
     source: &mut Source<R>,
     out: &mut W,
-) -> Result<Option<Token>, MergeFault> {
+) -> Result<Option<Token>, MergeFault>
+    ensures written { OnOk result
+        (Appends (W.contents out.old) (W.contents out.new) source.old.reading.line.items) }
+    ensures read { OnOk result (IfSome (R.remaining source.old.reading.from)
+        (λ left. IsSource (source.old.lines, left) (standing R.remaining source.new))) }
+    ensures follows { IfOk result (λ head. MayFollowHead source.old.lines source.old.head head) }
+    ensures head { IfOk result (λ head. head ≡ source.new.head) }
+    ensures refused { IfErr result (λ fault. IsOfTexts fault
+        → IfSome (R.remaining source.old.reading.from)
+        (λ left. (list : List TokenLine) → IsTextOf (source.old.lines, left) list
+        → IfSome source.old.head (λ before. ¬ (MayFollowAll source.old.lines before list)))) }
+    ensures no_taps { IfErr result (λ fault. ¬ (IsOfTaps fault)) }
+{
     if out.write_all(source.reading.line()).is_err() {
         return Err(MergeFault::Write);
     }
@@ -148,11 +228,43 @@ fn write_line<R: BufRead + Drop, W: Write>(
 }
 
 /// The fault of the text of this number.
-fn fault_in<R: BufRead + Drop>(sources: &[Source<R>], at: usize, wrong: Wrong) -> MergeFault {
+fn fault_in<R: BufRead + Drop>(sources: &[Source<R>], at: usize, wrong: Wrong) -> MergeFault
+    ensures { ¬ (IsOfTaps result) }
+{
     match sources.get(at) {
         Some(source) => source.reading.fault(wrong),
         None => MergeFault::Unread(at),
     }
+}
+
+/// Where the texts stand.
+fn heads_of<R: BufRead + Drop>(
+    alloc: Global,
+    sources: &[Source<R>],
+) -> Result<Vec<Option<Token>>, AllocError>
+    ensures { IfOk result (λ heads. heads.items ≡ map (λ source. source.head) sources.now) }
+{
+    sources.iter().map(|source| source.head).collect(alloc)
+}
+
+/// Writes the line at which the text of this number stands, and goes on to the next.
+fn write_at<R: BufRead + Drop, W: Write>(
+    sources: &mut [Source<R>],
+    heads: &mut [Option<Token>],
+    at: usize,
+    out: &mut W,
+) -> Result<(), MergeFault>
+    requires within { at < length sources.old }
+    requires heads { heads.old ≡ map (λ source. source.head) sources.old }
+    ensures moved { OnOk result (IsMovedAt at (map (standing R.remaining) sources.old)
+        (map (standing R.remaining) sources.new) (W.contents out.old) (W.contents out.new)) }
+    ensures heads { OnOk result (heads.new ≡ map (λ source. source.head) sources.new) }
+    ensures refused { IfErr result (λ fault. IsOfTexts fault
+        → IsStuckAt at (map (standing R.remaining) sources.old)) }
+    ensures no_taps { IfErr result (λ fault. ¬ (IsOfTaps fault)) }
+{
+    heads[at] = write_line(&mut sources[at], out)?;
+    Ok(())
 }
 
 /// Writes the lines of all texts, by rising tokens.
@@ -160,20 +272,24 @@ pub(crate) fn write_merged<R: BufRead + Drop, W: Write>(
     alloc: Global,
     sources: &mut [Source<R>],
     out: &mut W,
-) -> Result<(), MergeFault> {
-    let mut heads = Vec::new(alloc);
-    for source in sources.iter() {
-        heads.push(source.head)?;
-    }
+) -> Result<(), MergeFault>
+    ensures merged { OnOk result ((texts : List (Lines × List ℕ))
+        → AllZip IsSource texts (map (standing R.remaining) sources.old)
+        → (lists : List (List TokenLine)) × (joined : List TokenLine) × AreTexts texts lists
+        × IsJoined lists joined
+        × Appends (W.contents out.old) (W.contents out.new) (text_of joined)) }
+    ensures refused { IfErr result (λ fault. IsOfTexts fault → (texts : List (Lines × List ℕ))
+        → AllZip IsSource texts (map (standing R.remaining) sources.old)
+        → (lists : List (List TokenLine)) (joined : List TokenLine) → AreTexts texts lists
+        → ¬ (IsJoined lists joined)) }
+    ensures no_taps { IfErr result (λ fault. ¬ (IsOfTaps fault)) }
+{
+    let mut heads = heads_of(alloc, sources)?;
     for _ in 0..u64::MAX {
-        let at = match least(&heads) {
-            Ok(Some(at)) => at,
+        match least(&heads) {
+            Ok(Some(at)) => write_at(sources, &mut heads, at, out)?,
             Ok(None) => return Ok(()),
             Err(at) => return Err(fault_in(sources, at, Wrong::Twice)),
-        };
-        match (sources.get_mut(at), heads.get_mut(at)) {
-            (Some(source), Some(head)) => *head = write_line(source, out)?,
-            _ => return Err(MergeFault::Unread(at)),
         }
     }
     Err(MergeFault::Unread(0))

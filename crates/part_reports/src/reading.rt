@@ -1,5 +1,9 @@
 //! Lines, read one after the other.
 
+ghost use Rattle.std.specs.Prelude.{◌≡◌, [], Some, None, IfErr, IfOk, IfSome, IsTrue, OnOk, ◌↔◌, length};
+ghost use Rattle.std.specs.Io.BufRead.{drop_through, take_through};
+ghost use Rattle.part_reports.specs.Faults.{IsOfTaps, IsOfTexts};
+
 use crate::fault::{MergeFault, Wrong};
 use std::alloc::Global;
 use std::io::{BufRead, ErrorKind};
@@ -19,7 +23,10 @@ pub(crate) struct Reading<R: BufRead + Drop> {
 
 impl<R: BufRead + Drop> Reading<R> {
     /// The text of this number, of which nothing was read.
-    pub(crate) fn new(alloc: Global, from: R, text: usize) -> Reading<R> {
+    pub(crate) fn new(alloc: Global, from: R, text: usize) -> Reading<R>
+        ensures from { result.from ≡ from }
+        ensures text { result.text ≡ text }
+    {
         Reading {
             from,
             text,
@@ -29,7 +36,13 @@ impl<R: BufRead + Drop> Reading<R> {
     }
 
     /// Reads the next line, or the end.
-    pub(crate) fn next(&mut self) -> Result<(), MergeFault> {
+    pub(crate) fn next(&mut self) -> Result<(), MergeFault>
+        ensures line { OnOk result (IfSome (R.remaining self.old.from)
+            (λ left. (self.new.line.items ≡ take_through 10 left)
+            × (R.remaining self.new.from ≡ Some (drop_through 10 left)))) }
+        ensures text { self.new.text ≡ self.old.text }
+        ensures fault { IfErr result (λ fault. (¬ (IsOfTexts fault)) × ¬ (IsOfTaps fault)) }
+    {
         self.line.clear();
         match self.from.read_until(b'\n', &mut self.line) {
             Ok(_) => {
@@ -42,17 +55,24 @@ impl<R: BufRead + Drop> Reading<R> {
     }
 
     /// The line that was read last.
-    pub(crate) fn line(&self) -> &[u8] {
+    pub(crate) fn line(&self) -> &[u8]
+        ensures { result.now ≡ self.now.line.items }
+    {
         &self.line
     }
 
     /// Whether the text has ended.
-    pub(crate) fn is_over(&self) -> bool {
+    pub(crate) fn is_over(&self) -> bool
+        ensures { IsTrue result ↔ (self.now.line.items ≡ []) }
+    {
         self.line.is_empty()
     }
 
     /// The fault of the line that was read last.
-    pub(crate) fn fault(&self, wrong: Wrong) -> MergeFault {
+    pub(crate) fn fault(&self, wrong: Wrong) -> MergeFault
+        ensures texts { IsOfTexts result }
+        ensures other { ¬ (IsOfTaps result) }
+    {
         MergeFault::Line {
             text: self.text,
             number: self.lines,
@@ -62,7 +82,10 @@ impl<R: BufRead + Drop> Reading<R> {
 
     /// What a form tells of the line that was read last; the line's fault where it has not that
     /// form.
-    pub(crate) fn told<T: Drop>(&self, told: Option<T>) -> Result<T, MergeFault> {
+    pub(crate) fn told<T: Drop>(&self, told: Option<T>) -> Result<T, MergeFault>
+        ensures value { IfOk result (λ value. told ≡ Some value) }
+        ensures none { IfErr result (λ fault. (told ≡ None) × ¬ (IsOfTaps fault)) }
+    {
         match told {
             Some(told) => Ok(told),
             None => Err(self.fault(Wrong::Form)),

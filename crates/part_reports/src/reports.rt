@@ -1,105 +1,167 @@
 //! Reports of parts, merged.
 
-use crate::ends::Ends;
+ghost use Rattle.std.specs.Prelude.{◌≡◌, ◌<◌, ◌≤◌, ◌^◌, ℕ, List, Some, None, All, IfErr, IfOk, IfSome, IsTrue, OnOk, ◌++◌, flat_map, length, map, ◌↔◌};
+ghost use Rattle.std.specs.Io.KnownBytes.{Appends};
+ghost use Rattle.part_reports.specs.Faults.{IsOfTaps, IsOfTexts};
+ghost use Rattle.part_reports.specs.Lines.{End, validator_line};
+ghost use Rattle.std.specs.String.{string_bytes};
+ghost use Rattle.std.specs.BTreeMap.{IsOrdered, get};
+ghost use Rattle.std.specs.Ordering.{nat_cmp};
+ghost use Rattle.part_reports.specs.Reports.{CannotBeMerged, IsMerged, IsPartReport, Report, joined_ends};
+ghost use Rattle.part_reports.specs.Reports.{report_text};
+ghost use Rattle.part_reports.specs.inside.Ends.{Have};
+ghost use Rattle.part_reports.specs.inside.Parts.{AreParts, IsNoPart, IsPart};
+ghost use Rattle.part_reports.specs.inside.Sources.{standing};
+ghost use Rattle.part_reports.specs.inside.Whole.{validators_in};
+ghost use Rattle.part_reports.specs.Reports.{front_text as text_before_tokens};
+ghost use Rattle.shard_book.specs.Sums.{sums_of};
+
+use crate::ends::read_ends;
 use crate::fault::{MergeFault, Wrong};
-use crate::front::{Front, read_front};
+use crate::front::read_front;
 use crate::merging::{Lines, Source, write_merged};
 use crate::reading::Reading;
-use crate::sums::add;
+use crate::sums::{WholeSums, add_front, no_sums};
+use crate::told::Ends;
 use fare_texts::{write_counts, write_totals};
 use shard_book::Totals;
 use std::alloc::{AllocError, Global};
 use std::collections::BTreeMap;
 use std::io::{BufRead, Write};
 
-/// The reports of parts. What stands before the tokens is read as a report is added, and the tokens
-/// as they are written.
+/// The reports of parts, each read up to the line of its first token.
 #[derive(Drop)]
-pub struct Reports<R: BufRead + Drop> {
-    /// Where memory is taken.
-    alloc: Global,
-    /// The sums of all totals.
-    totals: Totals,
-    /// The sums of each validator.
-    validators: BTreeMap<u32, Totals>,
-    /// How many tokens there are.
-    tokens: u128,
+struct Parts<R: BufRead + Drop> {
+    /// What stands before the tokens, added up.
+    sums: WholeSums,
     /// Each report behind the head of its tokens.
     sources: Vec<Source<R>>,
 }
 
-impl<R: BufRead + Drop> Reports<R> {
-    /// No reports.
-    pub fn new(alloc: Global) -> Reports<R> {
-        Reports {
-            alloc,
-            totals: Totals::new(),
-            validators: BTreeMap::new(alloc),
-            tokens: 0,
-            sources: Vec::new(alloc),
-        }
+/// Reads the report of a part up to the line of its first token, and adds what it tells.
+fn read_part<R: BufRead + Drop>(
+    alloc: Global,
+    sums: &mut WholeSums,
+    from: R,
+    text: usize,
+) -> Result<Source<R>, MergeFault>
+    ensures read { IfOk result (λ source. IfSome (R.remaining from)
+        (λ file. IsPart sums.old sums.new file (standing R.remaining source))) }
+    ensures refused { IfErr result (λ fault. IsOfTexts fault
+        → IfSome (R.remaining from) (IsNoPart sums.old)) }
+    ensures other { IfErr result (λ fault. ¬ (IsOfTaps fault)) }
+{
+    let mut reading = Reading::new(alloc, from, text);
+    let front = read_front(alloc, &mut reading)?;
+    if !add_front(sums, &front)? {
+        return Err(reading.fault(Wrong::Sums));
     }
+    let left = front.tokens;
+    Source::begin(reading, Lines::Tokens { left })
+}
 
-    /// Adds what a report has before its tokens. False where sums are more than any run has.
-    fn add_front(&mut self, front: &Front) -> Result<bool, AllocError> {
-        let mut is_well = add(&mut self.totals, &front.totals);
-        for sum in &front.validators {
-            let kept = self
-                .validators
-                .entry(sum.validator)?
-                .or_insert(Totals::new());
-            is_well &= add(kept, &sum.totals);
-        }
-        self.tokens = self.tokens.saturating_add(u128::from(front.tokens));
-        Ok(is_well)
+/// Reads the reports of parts up to the lines of their first tokens. The first of the texts has
+/// this number.
+fn read_parts<R: BufRead + Drop>(
+    alloc: Global,
+    texts: Vec<R>,
+    first: usize,
+) -> Result<Parts<R>, MergeFault>
+    ensures read { IfOk result (λ parts. (files : List (List ℕ))
+        → map (λ text. R.remaining text) texts.items ≡ map (λ text. Some text) files
+        → AreParts files parts.sums (map (standing R.remaining) parts.sources.items)) }
+    ensures refused { IfErr result (λ fault. IsOfTexts fault → (files : List (List ℕ))
+        → map (λ text. R.remaining text) texts.items ≡ map (λ text. Some text) files
+        → length files ≤ 2 ^ 31 → (parts : List Report) → All IsPartReport parts
+        → ¬ (files ≡ map report_text parts)) }
+    ensures other { IfErr result (λ fault. ¬ (IsOfTaps fault)) }
+{
+    let mut sums = no_sums(alloc);
+    let mut sources = Vec::new(alloc);
+    let mut number = first;
+    for from in texts {
+        let source = read_part(alloc, &mut sums, from, number)?;
+        sources.push(source)?;
+        number = number.saturating_add(1);
     }
+    Ok(Parts { sums, sources })
+}
 
-    /// Adds the report of a part: it is read up to the line of its first token. After a fault the
-    /// reports are of no use.
-    pub fn add(&mut self, from: R) -> Result<(), MergeFault> {
-        let mut reading = Reading::new(self.alloc, from, self.sources.len());
-        let front = read_front(self.alloc, &mut reading)?;
-        if !self.add_front(&front)? {
-            return Err(reading.fault(Wrong::Sums));
-        }
-        let left = front.tokens;
-        self.sources
-            .push(Source::begin(reading, Lines::Tokens { left })?)?;
-        Ok(())
+/// Appends the line of each validator.
+fn write_validators(
+    text: &mut String,
+    validators: &BTreeMap<u32, Totals>,
+) -> Result<(), AllocError>
+    ensures text { OnOk result (string_bytes text.new ≡ string_bytes text.old
+        ++ flat_map validator_line (validators_in validators.now)) }
+    ensures found { All (λ entry. get nat_cmp validators.now entry.0 ≡ Some entry.1)
+        validators.now.entries }
+{
+    for (validator, totals) in validators.iter() {
+        write!(text, "validator {validator} ")?;
+        write_counts(text, totals)?;
     }
+    Ok(())
+}
 
-    /// The whole's report up to the lines of its tokens.
-    fn front_text(&self, ends: &Ends) -> Result<Vec<u8>, AllocError> {
-        let uploads = ends.uploads();
-        let mut text = format!(in self.alloc; "uploads {uploads}\n")?.into_bytes();
-        text.extend_from_slice(ends.text())?;
-        let validators = self.validators.len();
-        let mut lines = String::new(self.alloc);
-        write_totals(&mut lines, &self.totals)?;
-        write!(lines, "validators {validators}\n")?;
-        for (validator, totals) in self.validators.iter() {
-            write!(lines, "validator {validator} ")?;
-            write_counts(&mut lines, totals)?;
-        }
-        let tokens = self.tokens;
-        write!(lines, "tokens {tokens}\n")?;
-        text.extend_from_slice(lines.as_bytes())?;
-        Ok(text)
-    }
+/// The whole's report up to the lines of its tokens.
+fn front_text(alloc: Global, ends: &Ends, sums: &WholeSums) -> Result<Vec<u8>, AllocError>
+    ensures text { IfOk result (λ text. (list : List End) → Have ends.now list
+        → text.items ≡ text_before_tokens list (sums_of sums.now.totals)
+        (validators_in sums.now.validators) sums.now.tokens) }
+    ensures rise { OnOk result (IsOrdered nat_cmp sums.now.validators) }
+    ensures found { OnOk result (All (λ entry. get nat_cmp sums.now.validators entry.0
+        ≡ Some entry.1) sums.now.validators.entries) }
+{
+    let uploads = ends.uploads;
+    let mut text = format!(in alloc; "uploads {uploads}\n")?.into_bytes();
+    text.extend_from_slice(&ends.text)?;
+    let validators = sums.validators.len();
+    let mut lines = String::new(alloc);
+    write_totals(&mut lines, &sums.totals)?;
+    write!(lines, "validators {validators}\n")?;
+    write_validators(&mut lines, &sums.validators)?;
+    let tokens = sums.tokens;
+    write!(lines, "tokens {tokens}\n")?;
+    text.extend_from_slice(lines.as_bytes())?;
+    Ok(text)
+}
 
-    /// Writes the whole's report, with these ends of its uploads. Nothing was written where the
-    /// reports have other taps than the uploads.
-    pub fn write<W: Write>(&mut self, ends: &Ends, out: &mut W) -> Result<(), MergeFault> {
-        if self.totals.taps != ends.taps() {
-            return Err(MergeFault::Taps {
-                reports: self.totals.taps,
-                uploads: ends.taps(),
-            });
-        }
-        let text = self.front_text(ends)?;
-        if out.write_all(&text).is_err() {
-            return Err(MergeFault::Write);
-        }
-        write_merged(self.alloc, &mut self.sources, out)
+/// Reads how the uploads ended and the reports of the parts, and writes the report of the whole:
+/// says whether no upload has a layout fault. Texts are numbered from 0, those of the ends first.
+/// Nothing was written where the reports have other taps than the uploads.
+pub fn merge<R: BufRead + Drop, W: Write>(
+    alloc: Global,
+    ends: Vec<R>,
+    reports: Vec<R>,
+    out: &mut W,
+) -> Result<bool, MergeFault>
+    ensures whole { IfOk result (λ are_posted. (end_files report_files : List (List ℕ))
+        → map (λ text. R.remaining text) ends.items ≡ map (λ text. Some text) end_files
+        → map (λ text. R.remaining text) reports.items ≡ map (λ text. Some text) report_files
+        → (text : List ℕ) × (merged : IsMerged end_files report_files text)
+        × (IsTrue are_posted ↔ All (λ end. end.fault ≡ None) (joined_ends merged.ends))
+        × Appends (W.contents out.old) (W.contents out.new) text) }
+    ensures refused { IfErr result (λ fault. IsOfTexts fault
+        → (end_files report_files : List (List ℕ))
+        → map (λ text. R.remaining text) ends.items ≡ map (λ text. Some text) end_files
+        → map (λ text. R.remaining text) reports.items ≡ map (λ text. Some text) report_files
+        → length report_files ≤ 2 ^ 31 → CannotBeMerged end_files report_files) }
+    ensures nothing { IfErr result (λ fault. IsOfTaps fault → out.new ≡ out.old) }
+{
+    let first = ends.len();
+    let ends = read_ends(alloc, ends)?;
+    let mut parts = read_parts(alloc, reports, first)?;
+    if parts.sums.totals.taps != ends.taps {
+        return Err(MergeFault::Taps {
+            reports: parts.sums.totals.taps,
+            uploads: ends.taps,
+        });
     }
+    let text = front_text(alloc, &ends, &parts.sums)?;
+    if out.write_all(&text).is_err() {
+        return Err(MergeFault::Write);
+    }
+    write_merged(alloc, &mut parts.sources, out)?;
+    Ok(ends.are_posted)
 }

@@ -1,5 +1,5 @@
 -- The lines of a text by their kind: those of a report's tokens, or a ledger's.
-use Rattle.std.specs.Prelude.{◌≡◌, ℕ, ◌×◌, List, All, length, map}
+use Rattle.std.specs.Prelude.{◌≡◌, ℕ, List, All, length, map}
 use Rattle.std.specs.List.{AllZip}
 use Rattle.std.specs.List.Sorted.{IsStrictlySortedBy}
 use Rattle.fare_table.specs.Token.{token_cmp}

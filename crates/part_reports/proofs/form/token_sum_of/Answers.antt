@@ -1,15 +1,33 @@
-use Rattle.std.proofs.Common.{List, ℕ, ◌++◌, ap, ◌∙◌, codes}
+use Rattle.std.proofs.Common.{◌++◌, ◌∙◌, codes, sym}
+use Rattle.std.proofs.lemmas.List.{append_cancel_left}
 use Rattle.hex.specs.Hex.{encode_lower}
 use Rattle.fare_table.specs.Token.{bytes_of}
+use Rattle.fare_texts.specs.Counts.{counts}
+use Rattle.part_reports.proofs.Nones.{is_none}
+use Rattle.part_reports.proofs.Tokens.{token_text_unique}
 use Rattle.part_reports.proofs.form.token_sum_of.Goals as goal
 
-pub returns : goal.returns
-returns c =
-    let rest = c.in_ok-digits.rest.now in
-    let digits = encode_lower (bytes_of c.in_ok-token.token) in
-    let counts = c.in_ok-after-2.ensures
-    ∙ ap (λ (x : List ℕ). codes " " ++ x) c.in_ok-totals.ensures in
-    c.in_ok-after.ensures
-    ∙ ap (λ (x : List ℕ). codes "token " ++ x) (c.in_ok-digits.ensures
-    ∙ ap (λ (d : List ℕ). d ++ rest) c.in_ok-token.ensures
-    ∙ ap (λ (r : List ℕ). digits ++ r) counts)
+pub returns-in_err-text : goal.returns-in_err-text
+returns-in_err-text c =
+    is_none _ _ c.from_residual-in_err-text.result c.from_residual-in_err-text.ensures
+    (λ sum fits is.
+    let behind = append_cancel_left (codes "token ") c.in_ok-behind.behind.now
+    (encode_lower (bytes_of sum.0) ++ (codes " " ++ counts sum.1)) (sym c.in_ok-behind.ensures ∙ is)
+    in
+    let (same, rest) = token_text_unique c.in_ok-token.token sum.0 c.in_ok-token.rest.now
+    (codes " " ++ counts sum.1) c.in_ok-token.ensures.0 fits.token (sym c.in_ok-token.ensures.1
+    ∙ behind) in
+    c.in_err-text.ensures (counts sum.1) rest)
+
+pub returns-in_err-totals : goal.returns-in_err-totals
+returns-in_err-totals c =
+    is_none _ _ c.from_residual-in_err-totals.result c.from_residual-in_err-totals.ensures
+    (λ sum fits is.
+    let behind = append_cancel_left (codes "token ") c.in_ok-behind.behind.now
+    (encode_lower (bytes_of sum.0) ++ (codes " " ++ counts sum.1)) (sym c.in_ok-behind.ensures ∙ is)
+    in
+    let (same, rest) = token_text_unique c.in_ok-token.token sum.0 c.in_ok-token.rest.now
+    (codes " " ++ counts sum.1) c.in_ok-token.ensures.0 fits.token (sym c.in_ok-token.ensures.1
+    ∙ behind) in
+    c.in_err-totals.ensures sum.1 fits.counts (append_cancel_left (codes " ") c.in_ok-text.text.now
+    (counts sum.1) (sym c.in_ok-text.ensures ∙ rest)))

@@ -1,0 +1,178 @@
+-- Reading how the uploads of the whole ended.
+use Rattle.std.proofs.Common.{◌≡◌, ℕ, zero, suc, ◌+◌, ◌-◌, ◌<◌, ◌≤◌, ◌^◌, List, [], ◌∷◌, ◌++◌, Option, Some, None, Result, Ok, Err, length, refl, sym, ap, subst, ◌∙◌, arith, append_assoc, length-append, Bool, true, false, if◌then◌else◌, ◌==◌}
+use Rattle.std.proofs.lemmas.List.{append-nil}
+use Rattle.std.specs.Prelude.{All, IfSome, IsTrue, sum_by, ⊤, ◌↔◌}
+use Rattle.std.specs.Io.BufRead.{take_through, drop_through}
+use Rattle.std.proofs.lemmas.List.Elements.{All-head, All-tail, All-cons, All-nil, All-push}
+use Rattle.std.proofs.lemmas.List.Sums.{sum_by-append}
+use Rattle.part_reports.specs.declared.fault.MergeFault.{MergeFault}
+use Rattle.part_reports.specs.declared.form as form
+use Rattle.part_reports.specs.declared.told.Ends.{Ends}
+use Rattle.part_reports.specs.Faults.{IsOfTexts}
+use Rattle.part_reports.specs.Lines.{End, IsEnd, end_line, end_lines}
+use Rattle.part_reports.specs.inside.Ended.{ended}
+use Rattle.part_reports.specs.inside.Ends.{IsAdded, IsEndRead, IsNextEnd, More}
+use Rattle.part_reports.specs.inside.Reading.{IsTold}
+use Rattle.part_reports.proofs.LinesRead.{through}
+use Rattle.part_reports.proofs.ListsWritten.{Next, lines_from, lines_more, lines_begin, lines_unique, end_lines_from}
+use Rattle.part_reports.proofs.OneLine.{end_line_is_one, taken_one}
+use Rattle.part_reports.proofs.Unique.{end_line_unique}
+
+never_empty : (same : Bool) (x : ℕ) (front : List ℕ) → ¬ ((if same then x ∷ [] else x ∷ front) ≡ [])
+never_empty true x front is = absurd (cc)
+never_empty false x front is = absurd (cc)
+
+no_line : (text : List ℕ) → take_through 10 text ≡ [] → text ≡ []
+no_line [] is = refl
+no_line (x ∷ text) is = absurd (never_empty (x == 10) x (take_through 10 text) is)
+
+abbrev IsLine : Option (List ℕ) → Option (List ℕ) → List ℕ → Type 0
+IsLine text after items = IfSome text (λ left. (items ≡ take_through 10 left) × (after ≡ Some (drop_through 10 left)))
+
+pub next_over : (upload : ℕ) (text after : Option (List ℕ)) (items : List ℕ) → IsLine text after items → items ≡ []
+    → IsNextEnd upload text after items (Ok None)
+next_over upload None after items line over = tt
+next_over upload (Some text) after items line over = no_line text (sym line.0 ∙ over)
+
+pub next_told : (upload : ℕ) (text after : Option (List ℕ)) (items line : List ℕ) (told : Option form.End.End) (end : form.End.End)
+    → IsLine text after items → line ≡ items → IsTold ended IsEnd (end_line upload) line told → told ≡ Some end
+    → IsNextEnd upload text after items (Ok (Some end))
+next_told upload None after items line told end is same form some = tt
+next_told upload (Some text) after items line told end is same form some =
+    let here = subst (λ told. IsTold ended IsEnd (end_line upload) line told) some form in
+    record {
+      may = here.0;
+      line_is = sym same ∙ here.1;
+      rest = drop_through 10 text;
+      shown = through 10 text ∙ ap (λ bytes. bytes ++ drop_through 10 text) (sym is.0 ∙ sym same ∙ here.1);
+      left = is.1;
+    }
+
+pub next_no : (upload : ℕ) (text after : Option (List ℕ)) (items line : List ℕ) (told : Option form.End.End) (fault : MergeFault) → upload < 2 ^ 64
+    → IsLine text after items → line ≡ items → ¬ (items ≡ []) → IsTold ended IsEnd (end_line upload) line told → told ≡ None
+    → IsNextEnd upload text after items (Err fault)
+next_no upload None after items line told fault small is same some form none = tt
+next_no upload (Some text) after items line told fault small is same some form none =
+    let here = subst (λ told. IsTold ended IsEnd (end_line upload) line told) none form in
+    λ _. (
+      λ over. some (is.0 ∙ ap (take_through 10) over),
+      λ end rest may shown. here end may (same ∙ is.0 ∙ ap (take_through 10) shown ∙ taken_one (end_line upload end) rest (end_line_is_one upload end small may)),
+    )
+
+-- ---- the lines of one text
+-- these lines were read of the text, and this is left
+pub record Adding (before now : Ends) (text : List ℕ) (left : Option (List ℕ)) : Type 0 where
+  pub more : List End
+  pub is : More before now more
+  pub rest : List ℕ
+  pub shown : text ≡ end_lines before.uploads more ++ rest
+  pub left_is : left ≡ Some rest
+
+abbrev pub AddingSome : Ends → Ends → Option (List ℕ) → Option (List ℕ) → Type 0
+AddingSome before now text left = IfSome text (λ text. Adding before now text left)
+
+pub adding_first : (ends : Ends) (text : Option (List ℕ)) → AddingSome ends ends text text
+adding_first ends None = tt
+adding_first ends (Some text) = record {
+  more = [];
+  is = record {
+    text = sym (append-nil ends.text.items);
+    uploads = omega arith;
+    taps = omega arith;
+    posted = (λ yes. (yes, All-nil (λ (end : End). end.fault ≡ None)), λ both. both.0);
+    each = All-nil IsEnd;
+  };
+  rest = text; shown = refl; left_is = refl;
+}
+
+pub All-front : {X : Type 0} (P : X → Type 0) (xs ys : List X) → All P (xs ++ ys) → All P xs
+All-front P [] ys all = All-nil P
+All-front P (x ∷ xs) ys all = All-cons P x xs (All-head P x (xs ++ ys) all) (All-front P xs ys (All-tail P x (xs ++ ys) all))
+
+pub All-behind : {X : Type 0} (P : X → Type 0) (xs ys : List X) → All P (xs ++ ys) → All P ys
+All-behind P [] ys all = all
+All-behind P (x ∷ xs) ys all = All-behind P xs ys (All-tail P x (xs ++ ys) all)
+
+All-last : {X : Type 0} (P : X → Type 0) (xs : List X) (y : X) → All P (xs ++ y ∷ []) → P y
+All-last P [] y all = All-head P y [] all
+All-last P (x ∷ xs) y all = All-last P xs y (All-tail P x (xs ++ y ∷ []) all)
+
+end_lines_more : (first : ℕ) (ends : List End) (end : End) → end_lines first (ends ++ end ∷ []) ≡ end_lines first ends ++ end_line (first + length ends) end
+end_lines_more first ends end = end_lines_from first (ends ++ end ∷ []) ∙ lines_more end_line first ends end ∙ ap (λ text. text ++ end_line (first + length ends) end) (sym (end_lines_from first ends))
+
+-- what adding a line did
+pub record OneAdded (now after : Ends) (line : List ℕ) (end : form.End.End) : Type 0 where
+  pub text : after.text.items ≡ now.text.items ++ line
+  pub uploads : after.uploads ≡ now.uploads + 1
+  pub taps : after.taps ≡ now.taps + end.taps
+  pub posted : IsTrue after.are_posted ↔ (IsTrue now.are_posted × (end.fault ≡ None))
+
+pub adding_more : (before now after : Ends) (text left then_left : Option (List ℕ)) (line items : List ℕ) (end : form.End.End) → line ≡ items
+    → AddingSome before now text left → IsNextEnd now.uploads left then_left items (Ok (Some end)) → OneAdded now after line end
+    → AddingSome before after text then_left
+adding_more before now after None left then_left line items end same adding next one = tt
+adding_more before now after (Some text) left then_left line items end same adding next one =
+    let here = subst (λ left. IsNextEnd now.uploads left then_left items (Ok (Some end))) adding.left_is next in
+    let told = ended end in
+    let number : now.uploads ≡ before.uploads + length adding.more = adding.is.uploads in
+    let line_is : line ≡ end_line (before.uploads + length adding.more) told = same ∙ here.line_is ∙ ap (λ k. end_line k told) number in
+    let sums = sum_by-append (λ (end : End). end.taps) adding.more (told ∷ []) in
+    let taps = adding.is.taps in
+    let one_taps = one.taps in
+    record {
+      more = adding.more ++ told ∷ [];
+      is = record {
+        text = one.text ∙ ap (λ text. text ++ line) adding.is.text ∙ ap (λ line. (before.text.items ++ end_lines before.uploads adding.more) ++ line) line_is
+            ∙ append_assoc before.text.items (end_lines before.uploads adding.more) (end_line (before.uploads + length adding.more) told)
+            ∙ ap (λ text. before.text.items ++ text) (sym (end_lines_more before.uploads adding.more told));
+        uploads = simp length-append (omega (arith, one.uploads, number));
+        taps = omega (arith, sums, taps, one_taps);
+        posted = (
+          λ yes. let both = one.posted.0 yes in let so_far = adding.is.posted.0 both.0 in
+              (so_far.0, All-push (λ (end : End). end.fault ≡ None) adding.more told so_far.1 both.1),
+          λ both. one.posted.1 (adding.is.posted.1 (both.0, All-front (λ (end : End). end.fault ≡ None) adding.more (told ∷ []) both.1),
+              All-last (λ (end : End). end.fault ≡ None) adding.more told both.1),
+        );
+        each = All-push IsEnd adding.more told adding.is.each here.may;
+      };
+      rest = here.rest;
+      shown = adding.shown ∙ ap (λ text. end_lines before.uploads adding.more ++ text) (here.shown ∙ ap (λ k. end_line k told ++ here.rest) number)
+          ∙ sym (append_assoc (end_lines before.uploads adding.more) (end_line (before.uploads + length adding.more) told) here.rest)
+          ∙ ap (λ text. text ++ here.rest) (sym (end_lines_more before.uploads adding.more told));
+      left_is = here.left;
+    }
+
+pub adding_done : (before now : Ends) (text left then_left : Option (List ℕ)) (items : List ℕ)
+    → AddingSome before now text left → IsNextEnd now.uploads left then_left items (Ok None) → IsAdded before now text (Ok tt)
+adding_done before now None left then_left items adding next = tt
+adding_done before now (Some text) left then_left items adding next =
+    let over : adding.rest ≡ [] = subst (λ left. IsNextEnd now.uploads left then_left items (Ok None)) adding.left_is next in
+    (adding.more, adding.is, adding.shown ∙ ap (λ rest. end_lines before.uploads adding.more ++ rest) over ∙ append-nil (end_lines before.uploads adding.more))
+
+pub some_line : (number : ℕ) (end : End) (rest : List ℕ) → ¬ ([] ≡ end_line number end ++ rest)
+some_line number end rest is = absurd (cc)
+
+-- two lists of lines, the first of which has a rest with which it may be the second
+pub lines_rest : (number : ℕ) (done ends : List End) (rest : List ℕ) → All IsEnd done → All IsEnd ends
+    → end_lines number done ++ rest ≡ end_lines number ends
+    → ¬ (rest ≡ []) → ((end : End) (more : List ℕ) → IsEnd end → ¬ (rest ≡ end_line (number + length done) end ++ more)) → ⊥
+lines_rest number [] [] rest may may_too same some absent_end = some same
+lines_rest number [] (end ∷ ends) rest may may_too same some absent_end =
+    let at : number ≡ number + 0 = omega arith in
+    absent_end end (end_lines (number + 1) ends) (All-head IsEnd end ends may_too) (same ∙ ap (λ k. end_line k end ++ end_lines (number + 1) ends) at)
+lines_rest number (a ∷ done) [] rest may may_too same some absent_end =
+    some_line number a (end_lines (number + 1) done ++ rest) (sym same ∙ append_assoc (end_line number a) (end_lines (number + 1) done) rest)
+lines_rest number (a ∷ done) (end ∷ ends) rest may may_too same some absent_end =
+    let first = end_line_unique number a end (end_lines (number + 1) done ++ rest) (end_lines (number + 1) ends) (All-head IsEnd a done may) (All-head IsEnd end ends may_too)
+        (sym (append_assoc (end_line number a) (end_lines (number + 1) done) rest) ∙ same) in
+    let at : number + 1 + length done ≡ number + suc (length done) = omega arith in
+    lines_rest (number + 1) done ends rest (All-tail IsEnd a done may) (All-tail IsEnd end ends may_too) first.1 some
+    (λ end more may is. absent_end end more may (is ∙ ap (λ k. end_line k end ++ more) at))
+
+pub adding_refused : (before now after : Ends) (text left then_left : Option (List ℕ)) (items : List ℕ) (fault : MergeFault)
+    → AddingSome before now text left → IsNextEnd now.uploads left then_left items (Err fault) → IsAdded before after text (Err fault)
+adding_refused before now after None left then_left items fault adding next = tt
+adding_refused before now after (Some text) left then_left items fault adding next = λ of_texts ends may shown.
+    let here = (subst (λ left. IsNextEnd now.uploads left then_left items (Err fault)) adding.left_is next) of_texts in
+    lines_rest before.uploads adding.more ends adding.rest adding.is.each may (sym adding.shown ∙ shown) here.0
+    (λ end more may is. here.1 end more may (is ∙ ap (λ k. end_line k end ++ more) (sym adding.is.uploads)))

@@ -1,0 +1,172 @@
+-- Ledgers that are begun, and their merge.
+use Rattle.std.proofs.Common.{◌≡◌, ◌≢◌, ◌∙◌, ℕ, List, [], ◌∷◌, ◌++◌, Some, Option, refl, sym, ap}
+use Rattle.std.proofs.Common.{subst, map}
+use Rattle.std.specs.Prelude.{Err, IfSome, Ok, OnOk, Result, false}
+use Rattle.std.specs.Result.{is_err}
+use Rattle.std.specs.Io.BufRead.{drop_through, take_through}
+use Rattle.std.specs.Io.KnownBytes.{Appends}
+use Rattle.std.specs.List.{AllZip}
+use Rattle.std.proofs.lemmas.List.{append_cancel_left}
+use Rattle.reason_texts.specs.Ledger.{head_text}
+use Rattle.part_reports.specs.Ledgers.{IsLedger, IsMergedLedger}
+use Rattle.part_reports.specs.TokenLines.{IsJoined, TokenLine, text_of}
+use Rattle.part_reports.specs.inside.Begun.{AreBegun, IsBegun, IsNoLedger}
+use Rattle.part_reports.specs.inside.Kinds.{AreTexts, IsTextOf}
+use Rattle.part_reports.specs.inside.Sources.{IsSource, Standing}
+use Rattle.part_reports.specs.declared.merging.Lines.{Lines}
+use Rattle.part_reports.specs.declared.merging.Lines.TheVariants.{Entries}
+use Rattle.part_reports.proofs.Firsts.{taken_and_left}
+use Rattle.part_reports.proofs.Merges.{appends_more}
+
+-- ---- the head line
+head_taken : (rest : List ℕ) → take_through 10 (head_text ++ rest) ≡ head_text
+head_taken rest = refl
+
+head_left : (rest : List ℕ) → drop_through 10 (head_text ++ rest) ≡ rest
+head_left rest = refl
+
+known : (P : List ℕ → Type 0) (now : Option (List ℕ)) (left : List ℕ) → now ≡ Some left
+    → IfSome now P → P left
+known P now left is holds = subst (λ now. IfSome now P) is holds
+
+pub behind_head : (file line : List ℕ) (now : Option (List ℕ)) (at : Standing)
+    → line ≡ take_through 10 file → now ≡ Some (drop_through 10 file) → line ≡ head_text
+    → IfSome now (λ left. IsSource (Entries, left) at) → IsBegun file at
+behind_head file line now at taken left head source = record {
+  left = drop_through 10 file;
+  shown = sym (taken_and_left file) ∙ ap (λ line. line ++ drop_through 10 file) (sym taken ∙ head);
+  source = known (λ left. IsSource (Entries, left) at) now (drop_through 10 file) left source;
+}
+
+pub no_head : (file line : List ℕ) → line ≡ take_through 10 file → line ≢ head_text
+    → IsNoLedger file
+no_head file line taken other lines is =
+    other (taken ∙ ap (take_through 10) is.shown ∙ head_taken (text_of lines))
+
+pub no_lines : (file : List ℕ) (now : Option (List ℕ)) → now ≡ Some (drop_through 10 file)
+    → IfSome now (λ left. (list : List TokenLine) → ¬ (IsTextOf (Entries, left) list))
+    → IsNoLedger file
+no_lines file now left none lines is =
+    known (λ left. (list : List TokenLine) → ¬ (IsTextOf (Entries, left) list)) now
+    (drop_through 10 file) left none lines
+    ((is.each, is.rise), ap (drop_through 10) is.shown ∙ head_left (text_of lines))
+
+-- ---- several ledgers
+pub begun_push : (files : List (Option (List ℕ))) (ats : List Standing)
+    (file : Option (List ℕ)) (at : Standing) → AreBegun files ats
+    → IfSome file (λ file. IsBegun file at) → AreBegun (files ++ file ∷ []) (ats ++ at ∷ [])
+begun_push [] [] file at are is = (is, tt)
+begun_push [] (other ∷ ats) file at are is = elim are [ ]
+begun_push (other ∷ files) [] file at are is = elim are [ ]
+begun_push (first ∷ files) (other ∷ ats) file at are is =
+    (are.0, begun_push files ats file at are.1 is)
+
+pub no_ledgers : (front back : List (Option (List ℕ))) (file : Option (List ℕ))
+    (files : List (List ℕ)) (parts : List (List TokenLine))
+    → front ++ file ∷ back ≡ map (λ file. Some file) files → AllZip IsLedger parts files
+    → ¬ (IfSome file IsNoLedger)
+no_ledgers [] back file [] parts same are none = absurd (cc)
+no_ledgers [] back file (first ∷ files) [] same are none = elim are [ ]
+no_ledgers [] back file (first ∷ files) (lines ∷ parts) same are none =
+    let is : file ≡ Some first = cc in
+    known IsNoLedger file first is none lines are.0
+no_ledgers (other ∷ front) back file [] parts same are none = absurd (cc)
+no_ledgers (other ∷ front) back file (first ∷ files) [] same are none = elim are [ ]
+no_ledgers (other ∷ front) back file (first ∷ files) (lines ∷ parts) same are none =
+    let rest : front ++ file ∷ back ≡ map (λ file. Some file) files = cc in
+    no_ledgers front back file files parts rest are.1 none
+
+-- the texts of ledgers behind their head lines
+record AreLefts (files : List (List ℕ)) (ats : List Standing) : Type 0 where
+  lefts : List (List ℕ)
+  shown : AllZip (λ file left. file ≡ head_text ++ left) files lefts
+  sources : AllZip IsSource (map (λ left. (Entries, left)) lefts) ats
+
+lefts_of : (files : List (List ℕ)) (known : List (Option (List ℕ))) (ats : List Standing)
+    → known ≡ map (λ file. Some file) files → AreBegun known ats → AreLefts files ats
+lefts_of [] [] [] same are = record { lefts = []; shown = tt; sources = tt }
+lefts_of [] [] (at ∷ ats) same are = elim are [ ]
+lefts_of [] (file ∷ known) ats same are = absurd (cc)
+lefts_of (first ∷ files) [] ats same are = absurd (cc)
+lefts_of (first ∷ files) (file ∷ knowns) [] same are = elim are [ ]
+lefts_of (first ∷ files) (file ∷ knowns) (at ∷ ats) same are =
+    let is : file ≡ Some first = cc in
+    let rest : knowns ≡ map (λ file. Some file) files = cc in
+    let begun : IsBegun first at = known (λ file. IsBegun file at) file first is are.0 in
+    let more = lefts_of files knowns ats rest are.1 in
+    record {
+      lefts = begun.left ∷ more.lefts;
+      shown = (begun.shown, more.shown);
+      sources = (begun.source, more.sources);
+    }
+
+texts_to : (files lefts : List (List ℕ)) (parts : List (List TokenLine))
+    → AllZip (λ file left. file ≡ head_text ++ left) files lefts → AllZip IsLedger parts files
+    → AreTexts (map (λ left. (Entries, left)) lefts) parts
+texts_to [] [] [] shown are = tt
+texts_to [] [] (lines ∷ parts) shown are = elim are [ ]
+texts_to [] (left ∷ lefts) parts shown are = elim shown [ ]
+texts_to (file ∷ files) [] parts shown are = elim shown [ ]
+texts_to (file ∷ files) (left ∷ lefts) [] shown are = elim are [ ]
+texts_to (file ∷ files) (left ∷ lefts) (lines ∷ parts) shown are = (
+  (
+    (are.0.each, are.0.rise),
+    append_cancel_left head_text left (text_of lines) (sym shown.0 ∙ are.0.shown),
+  ),
+  texts_to files lefts parts shown.1 are.1,
+)
+
+texts_from : (files lefts : List (List ℕ)) (parts : List (List TokenLine))
+    → AllZip (λ file left. file ≡ head_text ++ left) files lefts
+    → AreTexts (map (λ left. (Entries, left)) lefts) parts → AllZip IsLedger parts files
+texts_from [] [] [] shown are = tt
+texts_from [] [] (lines ∷ parts) shown are = elim are [ ]
+texts_from [] (left ∷ lefts) parts shown are = elim shown [ ]
+texts_from (file ∷ files) [] parts shown are = elim shown [ ]
+texts_from (file ∷ files) (left ∷ lefts) [] shown are = elim are [ ]
+texts_from (file ∷ files) (left ∷ lefts) (lines ∷ parts) shown are = (
+  record {
+    each = are.0.0.0;
+    rise = are.0.0.1;
+    shown = shown.0 ∙ ap (λ left. head_text ++ left) are.0.1;
+  },
+  texts_from files lefts parts shown.1 are.1,
+)
+
+pub merged_whole : (files : List (List ℕ)) (known : List (Option (List ℕ)))
+    (ats : List Standing) (old mid new : Option (List ℕ))
+    → known ≡ map (λ file. Some file) files → AreBegun known ats → Appends old mid head_text
+    → ((texts : List (Lines × List ℕ)) → AllZip IsSource texts ats
+    → (lists : List (List TokenLine)) × (joined : List TokenLine) × AreTexts texts lists
+    × IsJoined lists joined × Appends mid new (text_of joined))
+    → (text : List ℕ) × IsMergedLedger files text × Appends old new text
+merged_whole files known ats old mid new same are head merged =
+    let behind = lefts_of files known ats same are in
+    let (lists, joined, told, is, written) =
+    merged (map (λ left. (Entries, left)) behind.lefts) behind.sources in (
+      head_text ++ text_of joined,
+      record {
+        parts = lists;
+        each = texts_from files behind.lefts lists behind.shown told;
+        lines = joined;
+        is = is;
+        shown = refl;
+      },
+      appends_more old mid new head_text (text_of joined) head written,
+    )
+
+pub merged_none : (files : List (List ℕ)) (known : List (Option (List ℕ)))
+    (ats : List Standing) → known ≡ map (λ file. Some file) files → AreBegun known ats
+    → ((texts : List (Lines × List ℕ)) → AllZip IsSource texts ats
+    → (lists : List (List TokenLine)) (joined : List TokenLine) → AreTexts texts lists
+    → ¬ (IsJoined lists joined))
+    → (text : List ℕ) → ¬ (IsMergedLedger files text)
+merged_none files known ats same are none text merged =
+    let behind = lefts_of files known ats same are in
+    none (map (λ left. (Entries, left)) behind.lefts) behind.sources merged.parts merged.lines
+    (texts_to files behind.lefts merged.parts behind.shown merged.each) merged.is
+
+-- what holds where a result is `Ok`, of one that is no error
+pub ok_here : {T E P : Type 0} (r : Result T E) → false ≡ is_err r → OnOk r P → P
+ok_here (Ok x) none holds = holds
+ok_here (Err e) none holds = absurd (cc)

@@ -1,0 +1,288 @@
+-- A text that is being merged: how far it was written.
+use Rattle.std.proofs.Common.{◌≡◌, ◌∙◌, ℕ, ◌+◌, List, [], ◌∷◌, ◌++◌, Some, None}
+use Rattle.std.proofs.Common.{Option, length, refl, sym, ap, subst, arith, append_assoc}
+use Rattle.std.proofs.Common.{append-nil, length-append}
+use Rattle.std.specs.Prelude.{IfSome}
+use Rattle.std.specs.List.{AllByRecursion}
+use Rattle.std.proofs.lemmas.List.{length_push}
+use Rattle.std.proofs.lemmas.List.Concat.{flat_map-append}
+use Rattle.fare_table.specs.declared.token.Token.{Token}
+use Rattle.part_reports.specs.TokenLines.{TokenLine, text_of}
+use Rattle.part_reports.specs.inside.Kinds.{AreLines, IsTextOf}
+use Rattle.part_reports.specs.inside.Sources.{IsAtEnd, IsAtLine, IsBehindOne, IsLineOf, IsMoved}
+use Rattle.part_reports.specs.inside.Sources.{IsSource, IsSourceAt, IsStuck, MayEnd, MayFollow}
+use Rattle.part_reports.specs.inside.Sources.{MayFollowAll, MayFollowHead, Standing}
+use Rattle.part_reports.specs.declared.merging.Lines.{Lines}
+use Rattle.part_reports.specs.declared.merging.Lines.TheVariants.{Tokens, Entries}
+use Rattle.part_reports.proofs.Orders.{may_follow_trans}
+use Rattle.part_reports.proofs.Risings.{AreCounted, Rise, begins, each_behind, each_push}
+use Rattle.part_reports.proofs.Risings.{each_weaker}
+use Rattle.part_reports.proofs.Risings.{lines_count, lines_each, lines_from, lines_rise}
+use Rattle.part_reports.proofs.Risings.{rise_behind}
+use Rattle.part_reports.proofs.Risings.{rise_middle, rise_push}
+
+-- a text, where its source stands, and its lines that were written
+pub record Part : Type 0 where
+  pub text : Lines × List ℕ
+  pub at : Standing
+  pub done : List TokenLine
+
+-- after so many lines of the first kind those of the second kind are left
+abbrev pub IsBehindSo : Lines → Lines → ℕ → Type 0
+IsBehindSo (Tokens all) (Tokens left) count = all ≡ count + left
+IsBehindSo (Tokens all) Entries count = ⊥
+IsBehindSo Entries (Tokens left) count = ⊥
+IsBehindSo Entries Entries count = Unit {0}
+
+none_behind : (kind : Lines) → IsBehindSo kind kind 0
+none_behind (Tokens left) = omega arith
+none_behind Entries = tt
+
+one_behind : (all kind behind : Lines) (count : ℕ) → IsBehindSo all kind count
+    → IsBehindOne kind behind → IsBehindSo all behind (count + 1)
+one_behind (Tokens all) (Tokens left) (Tokens behind) count is one = omega (arith, is, one)
+one_behind (Tokens all) (Tokens left) Entries count is one = elim one [ ]
+one_behind (Tokens all) Entries behind count is one = elim is [ ]
+one_behind Entries (Tokens left) behind count is one = elim is [ ]
+one_behind Entries Entries (Tokens behind) count is one = elim one [ ]
+one_behind Entries Entries Entries count is one = tt
+
+all_done : (all kind : Lines) (count : ℕ) → IsBehindSo all kind count → MayEnd kind
+    → AreCounted all count
+all_done (Tokens all) (Tokens left) count is may = omega (arith, is, may)
+all_done (Tokens all) Entries count is may = elim is [ ]
+all_done Entries kind count is may = tt
+
+rest_count : (all kind : Lines) (count more : ℕ) → IsBehindSo all kind count
+    → AreCounted all (count + more) → AreCounted kind more
+rest_count (Tokens all) (Tokens left) count more is counted = omega (arith, is, counted)
+rest_count (Tokens all) Entries count more is counted = elim is [ ]
+rest_count Entries (Tokens left) count more is counted = elim is [ ]
+rest_count Entries Entries count more is counted = tt
+
+like_line : (all kind : Lines) (count : ℕ) (line : TokenLine) → IsBehindSo all kind count
+    → IsLineOf kind line → IsLineOf all line
+like_line (Tokens all) (Tokens left) count line is fits = fits
+like_line (Tokens all) Entries count line is fits = elim is [ ]
+like_line Entries (Tokens left) count line is fits = elim is [ ]
+like_line Entries Entries count line is fits = fits
+
+like_order : (all kind : Lines) (count : ℕ) (a b : Token) → IsBehindSo all kind count
+    → MayFollow kind a b → MayFollow all a b
+like_order (Tokens all) (Tokens left) count a b is may = may
+like_order (Tokens all) Entries count a b is may = elim is [ ]
+like_order Entries (Tokens left) count a b is may = elim is [ ]
+like_order Entries Entries count a b is may = may
+
+-- the lines behind so many, as lines of what is left
+rest_lines : (all kind : Lines) (count : ℕ) (lines : List TokenLine) → IsBehindSo all kind count
+    → AreCounted kind (length lines) → AllByRecursion (IsLineOf all) lines → Rise all lines
+    → AreLines kind lines
+rest_lines (Tokens all) (Tokens left) count lines is counted each rise =
+    lines_from (Tokens left) lines counted each (same_rise lines rise)
+  where
+    same_rise : (lines : List TokenLine) → Rise (Tokens all) lines → Rise (Tokens left) lines
+    same_rise [] rise = tt
+    same_rise (line ∷ lines) rise = (rise.0, same_rise lines rise.1)
+rest_lines (Tokens all) Entries count lines is counted each rise = elim is [ ]
+rest_lines Entries (Tokens left) count lines is counted each rise = elim is [ ]
+rest_lines Entries Entries count lines is counted each rise =
+    lines_from Entries lines counted each rise
+
+rest_may : (all kind : Lines) (count : ℕ) (before : Token) (lines : List TokenLine)
+    → IsBehindSo all kind count → MayFollowAll all before lines → MayFollowAll kind before lines
+rest_may (Tokens all) (Tokens left) count before [] is may = tt
+rest_may (Tokens all) (Tokens left) count before (line ∷ lines) is may = may
+rest_may (Tokens all) Entries count before lines is may = elim is [ ]
+rest_may Entries (Tokens left) count before lines is may = elim is [ ]
+rest_may Entries Entries count before [] is may = tt
+rest_may Entries Entries count before (line ∷ lines) is may = may
+
+-- the line at which a source stands
+abbrev pub line_at : Standing → Token → TokenLine
+line_at at token = record { token = token; text = at.line }
+
+-- the lines that were written are the first of the text, and the source stands at the next
+pub record IsGoing (part : Part) : Type 0 where
+  pub kind : Lines
+  pub left : List ℕ
+  pub source : IsSource (kind, left) part.at
+  pub behind : IsBehindSo part.text.0 kind (length part.done)
+  pub shown : part.text.1 ≡ text_of part.done ++ left
+  pub each : AllByRecursion (IsLineOf part.text.0) part.done
+  pub rise : Rise part.text.0 part.done
+  pub below : IfSome part.at.head
+      (λ token. AllByRecursion (λ line. MayFollow part.text.0 line.token token) part.done)
+
+nothing_below : (kind : Lines) (head : Option Token)
+    → IfSome head (λ token. AllByRecursion
+    (λ (line : TokenLine). MayFollow kind line.token token) [])
+nothing_below kind None = tt
+nothing_below kind (Some token) = tt
+
+pub going_first : (text : Lines × List ℕ) (at : Standing) → IsSource text at
+    → IsGoing (record { text = text; at = at; done = [] })
+going_first text at source = record {
+  kind = text.0;
+  left = text.1;
+  source = source;
+  behind = none_behind text.0;
+  shown = refl;
+  each = tt;
+  rise = tt;
+  below = nothing_below text.0 at.head;
+}
+
+-- the source stands at a line, if it has a token
+pub here : (part : Part) (token : Token) → (going : IsGoing part) → part.at.head ≡ Some token
+    → IsAtLine (going.kind, going.left) part.at token
+here part token going is =
+    subst (λ head. IsSourceAt (going.kind, going.left) part.at head) is going.source
+
+below_here : (part : Part) (token : Token) → IsGoing part → part.at.head ≡ Some token
+    → AllByRecursion (λ line. MayFollow part.text.0 line.token token) part.done
+below_here part token going is = subst (λ head. IfSome head
+    (λ token. AllByRecursion (λ line. MayFollow part.text.0 line.token token) part.done)) is
+    going.below
+
+one_text : (line : TokenLine) (done : List TokenLine) (rest : List ℕ)
+    → text_of done ++ (line.text ++ rest) ≡ text_of (done ++ line ∷ []) ++ rest
+one_text line done rest =
+    sym (append_assoc (text_of done) line.text rest)
+    ∙ ap (λ text. text ++ rest) (ap (λ text. text_of done ++ text) (sym (append-nil line.text))
+    ∙ sym (flat_map-append (λ (line : TokenLine). line.text) done (line ∷ [])))
+
+-- what was written, with the line at which the source stands
+pub shown_here : (part : Part) (token : Token) → (going : IsGoing part)
+    → (is : part.at.head ≡ Some token) → part.text.1
+    ≡ text_of (part.done ++ line_at part.at token ∷ []) ++ (here part token going is).rest
+shown_here part token going is =
+    going.shown ∙ ap (λ text. text_of part.done ++ text) (here part token going is).shown
+    ∙ one_text (line_at part.at token) part.done (here part token going is).rest
+
+next_below : (kind : Lines) (before : Token) (head : Option Token) (lines : List TokenLine)
+    → AllByRecursion (λ line. MayFollow kind line.token before) lines
+    → MayFollowHead kind (Some before) head
+    → IfSome head (λ token. AllByRecursion (λ line. MayFollow kind line.token token) lines)
+next_below kind before None lines below may = tt
+next_below kind before (Some token) lines below may =
+    each_weaker (λ line. MayFollow kind line.token before) (λ line. MayFollow kind line.token token)
+    lines (λ line first. may_follow_trans kind line.token before token first may) below
+
+itself_below : (kind : Lines) (line : TokenLine) (head : Option Token)
+    (lines : List TokenLine) → MayFollowHead kind (Some line.token) head
+    → IfSome head (λ token. AllByRecursion (λ line. MayFollow kind line.token token) lines)
+    → IfSome head
+    (λ token. AllByRecursion (λ line. MayFollow kind line.token token) (lines ++ line ∷ []))
+itself_below kind line None lines may below = tt
+itself_below kind line (Some token) lines may below =
+    each_push (λ line. MayFollow kind line.token token) lines line below may
+
+head_like : (all kind : Lines) (count : ℕ) (before : Token) (head : Option Token)
+    → IsBehindSo all kind count → MayFollowHead kind (Some before) head
+    → MayFollowHead all (Some before) head
+head_like all kind count before None is may = tt
+head_like all kind count before (Some token) is may = like_order all kind count before token is may
+
+-- the part behind the line at which its source stands
+abbrev pub next_part : Part → Token → Standing → Part
+next_part part token after = record {
+  text = part.text;
+  at = after;
+  done = part.done ++ line_at part.at token ∷ [];
+}
+
+pub order_next : (part : Part) (token : Token) (after : Standing) → IsGoing part
+    → part.at.head ≡ Some token → IsMoved part.at after
+    → MayFollowHead part.text.0 (Some token) after.head
+order_next part token after going is moved =
+    let at = here part token going is in
+    head_like part.text.0 part.at.behind (length part.done + 1) token after.head
+    (one_behind part.text.0 going.kind part.at.behind (length part.done) going.behind at.behind)
+    (subst (λ head. MayFollowHead part.at.behind head after.head) is moved.order)
+
+pub going_next : (part : Part) (token : Token) (after : Standing) → IsGoing part
+    → part.at.head ≡ Some token → IsMoved part.at after → IsGoing (next_part part token after)
+going_next part token after going is moved =
+    let at = here part token going is in
+    let line = line_at part.at token in
+    let behind = one_behind part.text.0 going.kind part.at.behind
+    (length part.done) going.behind at.behind in
+    let below = below_here part token going is in
+    let may = order_next part token after going is moved in
+    record {
+      kind = part.at.behind;
+      left = at.rest;
+      source = subst (λ left. IfSome left (λ text. IsSource (part.at.behind, text) after)) at.left
+          moved.read;
+      behind = subst (λ n. IsBehindSo part.text.0 part.at.behind n)
+          (sym (length_push part.done line)) behind;
+      shown = shown_here part token going is;
+      each = each_push (IsLineOf part.text.0) part.done line going.each
+          (like_line part.text.0 going.kind (length part.done) line going.behind at.line);
+      rise = rise_push part.text.0 part.done line going.rise below;
+      below = itself_below part.text.0 line after.head part.done may
+          (next_below part.text.0 token after.head part.done below may);
+    }
+
+-- at the end the lines that were written are those of the text
+pub going_end : (part : Part) → IsGoing part → part.at.head ≡ None → IsTextOf part.text part.done
+going_end part going is =
+    let end : IsAtEnd (going.kind, going.left) =
+    subst (λ head. IsSourceAt (going.kind, going.left) part.at head) is going.source in (
+      lines_from part.text.0 part.done
+          (all_done part.text.0 going.kind (length part.done) going.behind end.may) going.each
+          going.rise,
+      going.shown ∙ ap (λ left. text_of part.done ++ left) end.shown
+          ∙ append-nil (text_of part.done),
+    )
+
+-- the lines of the text, whatever they are, begin with those that were written and the one at which
+-- the source stands
+pub going_line : (part : Part) (token : Token) → (going : IsGoing part)
+    → (is : part.at.head ≡ Some token) → (list : List TokenLine) → IsTextOf part.text list
+    → (more : List TokenLine) × (list ≡ (part.done ++ line_at part.at token ∷ []) ++ more)
+    × (text_of more ≡ (here part token going is).rest)
+going_line part token going is list text =
+    let at = here part token going is in
+    let line = line_at part.at token in
+    begins part.text.0 (part.done ++ line ∷ []) list at.rest
+    (each_push (IsLineOf part.text.0) part.done line going.each
+    (like_line part.text.0 going.kind (length part.done) line going.behind at.line))
+    (lines_each part.text.0 list text.0) (sym text.1 ∙ shown_here part token going is)
+
+-- a source that is stuck has no such lines
+pub going_stuck : (part : Part) (token : Token) → IsGoing part → part.at.head ≡ Some token
+    → IsStuck part.at → (list : List TokenLine) → ¬ (IsTextOf part.text list)
+going_stuck part token going is stuck list text =
+    let at = here part token going is in
+    let line = line_at part.at token in
+    let (more, begun, rest) = going_line part token going is list text in
+    let behind = one_behind part.text.0 going.kind part.at.behind
+    (length part.done) going.behind at.behind in
+    let front = part.done ++ line ∷ [] in
+    let count : AreCounted part.text.0 ((length part.done + 1) + length more) =
+    subst (λ n. AreCounted part.text.0 n)
+    (ap length begun ∙ length-append front more
+    ∙ ap (λ n. n + length more) (length_push part.done line))
+    (lines_count part.text.0 list text.0) in
+    let rise : Rise part.text.0 (front ++ more) =
+    subst (λ lines. Rise part.text.0 lines) begun (lines_rise part.text.0 list text.0) in
+    let each : AllByRecursion (IsLineOf part.text.0) (front ++ more) =
+    subst (λ lines. AllByRecursion (IsLineOf part.text.0) lines) begun
+    (lines_each part.text.0 list text.0) in
+    let lines : AreLines part.at.behind more =
+    rest_lines part.text.0 part.at.behind (length part.done + 1) more behind
+    (rest_count part.text.0 part.at.behind (length part.done + 1) (length more) behind count)
+    (each_behind (IsLineOf part.text.0) front more each) (rise_behind part.text.0 front more rise)
+    in
+    let may : MayFollowAll part.at.behind token more =
+    rest_may part.text.0 part.at.behind (length part.done + 1) token more behind
+    (rise_middle part.text.0 part.done line more rise) in
+    let no : (list : List TokenLine) → IsTextOf (part.at.behind, at.rest) list
+    → IfSome part.at.head (λ token. ¬ (MayFollowAll part.at.behind token list)) =
+    subst (λ left. IfSome left
+    (λ text. (list : List TokenLine) → IsTextOf (part.at.behind, text) list
+    → IfSome part.at.head (λ token. ¬ (MayFollowAll part.at.behind token list)))) at.left stuck in
+    subst (λ head. IfSome head (λ token. ¬ (MayFollowAll part.at.behind token more))) is
+    (no more (lines, sym rest)) may

@@ -1,0 +1,48 @@
+use Rattle.std.proofs.Common.{◌∙◌, sym, ap, subst, get_or, map}
+use Rattle.std.specs.Prelude.{slice_set}
+use Rattle.std.proofs.lemmas.Option.{slice_get-get_or}
+use Rattle.std.proofs.lemmas.Result.{err_from_is_err_and}
+use Rattle.part_reports.specs.inside.Sources.{MayFollowHead, standing}
+use Rattle.part_reports.proofs.Places.{map_at, map_of_set}
+use Rattle.part_reports.proofs.merging.write_at.Goals as goal
+
+pub returns-in_err-heads-clause-refused : goal.returns-in_err-heads-clause-refused
+returns-in_err-heads-clause-refused g c =
+    let sources = c.args.sources.now in
+    let at = c.args.at in
+    let source = get_or sources at c.index-sources-at.result in
+    let p = err_from_is_err_and c.from_residual.result c.from_residual.ensures.1 in
+    rw (p.1, p.2) (λ of_texts. record {
+      was = standing g.R.Read.remaining source;
+      there = map_at (standing g.R.Read.remaining) sources at source
+          (slice_get-get_or sources at c.index-sources-at.result c.requires.within);
+      stuck = c.in_err-heads.ensures.refused of_texts;
+    })
+
+pub returns-clause-moved : goal.returns-clause-moved
+returns-clause-moved g c =
+    let sources = c.args.sources.now in
+    let at = c.args.at in
+    let source = get_or sources at c.index-sources-at.result in
+    record {
+      was = standing g.R.Read.remaining source;
+      is = standing g.R.Read.remaining c.write_line.new.source;
+      there = map_at (standing g.R.Read.remaining) sources at source
+          (slice_get-get_or sources at c.index-sources-at.result c.requires.within);
+      moved = map_of_set (standing g.R.Read.remaining) sources at c.write_line.new.source;
+      step = record {
+        read = c.in_ok-heads.ensures.read;
+        order = subst (λ head. MayFollowHead source.lines source.head head)
+            c.in_ok-heads.ensures.head c.in_ok-heads.ensures.follows;
+      };
+      written = c.in_ok-heads.ensures.written;
+    }
+
+pub returns-clause-heads : goal.returns-clause-heads
+returns-clause-heads g c =
+    let sources = c.args.sources.now in
+    let at = c.args.at in
+    ap (λ heads. slice_set heads at c.in_ok-heads.field-0) c.requires.heads
+    ∙ ap (λ head. slice_set (map (λ source. source.head) sources) at head)
+    c.in_ok-heads.ensures.head
+    ∙ sym (map_of_set (λ source. source.head) sources at c.write_line.new.source)

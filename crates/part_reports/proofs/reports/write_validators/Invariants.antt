@@ -1,0 +1,10 @@
+use Rattle.std.proofs.Common.{◌≡◌, ◌++◌, map}
+use Rattle.std.specs.Prelude.{flat_map}
+use Rattle.std.specs.String.{string_bytes}
+use Rattle.std.specs.Map.Iter.{deref_pair}
+use Rattle.part_reports.specs.Lines.{validator_line}
+use Rattle.part_reports.proofs.FrontWritten.{shown}
+use Rattle.part_reports.proofs.reports.write_validators.Given as goal
+
+abbrev pub invariant-loop-validator : goal.invariant-loop-validator
+invariant-loop-validator l = string_bytes l.text ≡ string_bytes l.fn.text ++ flat_map validator_line (shown (map deref_pair l.yielded))

@@ -1,0 +1,22 @@
+-- Ledgers of which the head line was read, and the line behind it.
+use Rattle.std.specs.Prelude.{◌≡◌, ℕ, List, ◌++◌, Option, IfSome}
+use Rattle.std.specs.List.{AllZip}
+use Rattle.reason_texts.specs.Ledger.{head_text}
+use Rattle.part_reports.specs.Ledgers.{IsLedger}
+use Rattle.part_reports.specs.TokenLines.{TokenLine}
+use Rattle.part_reports.specs.inside.Sources.{IsSource, Standing}
+use Rattle.part_reports.specs.declared.merging.Lines.TheVariants.{Entries}
+
+-- the source stands behind the text's head line
+pub record IsBegun (file : List ℕ) (at : Standing) : Type 0 where
+  pub left : List ℕ
+  pub shown : file ≡ head_text ++ left
+  pub source : IsSource (Entries, left) at
+
+-- each source does, where its text is known
+abbrev pub AreBegun : List (Option (List ℕ)) → List Standing → Type 0
+AreBegun files ats = AllZip (λ file at. IfSome file (λ file. IsBegun file at)) files ats
+
+-- the text is no ledger
+abbrev pub IsNoLedger : List ℕ → Type 0
+IsNoLedger file = (lines : List TokenLine) → ¬ (IsLedger lines file)

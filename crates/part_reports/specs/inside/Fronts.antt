@@ -1,0 +1,78 @@
+-- What stands in a part's report before the lines of its tokens.
+use Rattle.std.specs.Prelude.{◌≡◌, ℕ, ◌<◌, ◌^◌, List, [], ◌∷◌, ◌++◌, codes, All, None, length, map}
+use Rattle.std.specs.Prelude.{flat_map}
+use Rattle.std.specs.List.Sorted.{IsStrictlySortedBy}
+use Rattle.std.specs.Map.{keys_of}
+use Rattle.std.specs.Ordering.{nat_cmp}
+use Rattle.shard_book.specs.Shown.{validator_sum}
+use Rattle.shard_book.specs.Sums.{Sums, sums_of}
+use Rattle.shard_book.specs.declared.sums.ValidatorSum.{ValidatorSum}
+use Rattle.part_reports.specs.Lines.{End, IsEnd, AreCounts, IsValidatorSum}
+use Rattle.part_reports.specs.Lines.{end_lines, head_line, validator_line}
+use Rattle.part_reports.specs.Reports.{front_text}
+use Rattle.part_reports.specs.declared.front.Front.{Front}
+
+-- so many uploads ended so, and each was posted
+pub record ArePosted (count : ℕ) (ends : List End) : Type 0 where
+  pub number : length ends ≡ count
+  pub each : All IsEnd ends
+  pub posted : All (λ end. end.fault ≡ None) ends
+
+-- uploads ended so, each was posted, and their number has 64 bits
+pub record AreEnds (ends : List End) : Type 0 where
+  pub few : length ends < 2 ^ 64
+  pub are : ArePosted (length ends) ends
+
+-- the line of their number, and their lines
+abbrev pub ends_text : List End → List ℕ
+ends_text ends = head_line (codes "uploads ") (length ends) ++ end_lines 0 ends
+
+-- so many validators, which rise
+pub record AreRising (count : ℕ) (validators : List (ℕ × Sums)) : Type 0 where
+  pub number : length validators ≡ count
+  pub each : All IsValidatorSum validators
+  pub rise : IsStrictlySortedBy nat_cmp (keys_of validators)
+
+-- validators, which rise, and their number has 64 bits
+pub record AreValidators (validators : List (ℕ × Sums)) : Type 0 where
+  pub few : length validators < 2 ^ 64
+  pub are : AreRising (length validators) validators
+
+-- the line of their number, and their lines
+abbrev pub validators_text : List (ℕ × Sums) → List ℕ
+validators_text validators =
+    head_line (codes "validators ") (length validators) ++ flat_map validator_line validators
+
+-- the validator is above the last of these
+abbrev pub MayFollow : List (ℕ × Sums) → ℕ → Type 0
+MayFollow [] validator = Unit {0}
+MayFollow (sum ∷ []) validator = sum.0 < validator
+MayFollow (sum ∷ (next ∷ more)) validator = MayFollow (next ∷ more) validator
+
+-- these validators were read
+abbrev pub AreSums : List ValidatorSum → List (ℕ × Sums) → Type 0
+AreSums sums validators = map validator_sum sums ≡ validators
+
+-- a report up to the lines of its tokens
+pub record Told : Type 0 where
+  pub ends : List End
+  pub totals : Sums
+  pub validators : List (ℕ × Sums)
+  pub tokens : ℕ
+
+-- it may be that of a part
+pub record MayBePart (told : Told) : Type 0 where
+  pub ends : AreEnds told.ends
+  pub totals : AreCounts told.totals
+  pub validators : AreValidators told.validators
+  pub tokens : told.tokens < 2 ^ 64
+
+-- its text
+abbrev pub told_text : Told → List ℕ
+told_text told = front_text told.ends told.totals told.validators told.tokens
+
+-- this was read of it
+pub record IsFront (front : Front) (told : Told) : Type 0 where
+  pub totals : sums_of front.totals ≡ told.totals
+  pub validators : AreSums front.validators.items told.validators
+  pub tokens : front.tokens ≡ told.tokens

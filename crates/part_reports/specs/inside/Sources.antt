@@ -1,0 +1,118 @@
+-- Texts of token lines that are read line by line and merged: where each stands.
+use Rattle.std.specs.Prelude.{◌≡◌, ℕ, ◌+◌, List, [], ◌∷◌, ◌++◌, Option, Some}
+use Rattle.std.specs.Prelude.{None, IfSome, false, slice_get, slice_set}
+use Rattle.std.specs.Io.KnownBytes.{Appends}
+use Rattle.std.specs.Ordering.{is_lt}
+use Rattle.std.specs.declared.cmp.Ordering.TheVariants.{Less}
+use Rattle.fare_table.specs.Token.{token_cmp}
+use Rattle.fare_table.specs.declared.token.Token.{Token}
+use Rattle.part_reports.specs.Ledgers.{IsEntryLine}
+use Rattle.part_reports.specs.TokenLines.{TokenLine}
+use Rattle.part_reports.specs.inside.Kinds.{IsSumLine, IsTextOf}
+use Rattle.part_reports.specs.declared.merging.Lines.{Lines}
+use Rattle.part_reports.specs.declared.merging.Lines.TheVariants.{Tokens, Entries}
+use Rattle.part_reports.specs.declared.merging.Source.{Source}
+
+-- where a source stands: what is left of its text behind the line that was read last, that line, of
+-- which kind the lines behind it are, and its token; no token at the end
+pub record Standing : Type 0 where
+  pub left : Option (List ℕ)
+  pub line : List ℕ
+  pub behind : Lines
+  pub head : Option Token
+
+-- the same of a source, at what its reader says is left
+abbrev pub standing : {R : Type 0} → (R → Option (List ℕ)) → Source R → Standing
+standing remaining source = record {
+  left = remaining source.reading.from;
+  line = source.reading.line.items;
+  behind = source.lines;
+  head = source.head;
+}
+
+-- it is a line of this kind: a report's of a token, or a ledger's
+abbrev pub IsLineOf : Lines → TokenLine → Type 0
+IsLineOf (Tokens left) line = IsSumLine line
+IsLineOf Entries line = IsEntryLine line
+
+-- a line of this token may stand behind one of the other: a report's tokens rise, and a ledger's do
+-- not fall
+abbrev pub MayFollow : Lines → Token → Token → Type 0
+MayFollow (Tokens left) before token = token_cmp before token ≡ Less
+MayFollow Entries before token = is_lt (token_cmp token before) ≡ false
+
+-- no line is left to read, or it is not known how many are
+abbrev pub MayEnd : Lines → Type 0
+MayEnd (Tokens left) = left ≡ 0
+MayEnd Entries = Unit {0}
+
+-- the second is the kind of the lines behind the first of the first kind
+abbrev pub IsBehindOne : Lines → Lines → Type 0
+IsBehindOne (Tokens left) (Tokens behind) = left ≡ behind + 1
+IsBehindOne (Tokens left) Entries = ⊥
+IsBehindOne Entries (Tokens behind) = ⊥
+IsBehindOne Entries Entries = Unit {0}
+
+-- the line may stand first in a text of this kind, or be empty where the text is: of which kind the
+-- lines behind it are, and its token
+abbrev pub IsFirst : Lines → List ℕ → Lines → Option Token → Type 0
+IsFirst kind line behind None = (line ≡ []) × MayEnd kind
+IsFirst kind line behind (Some token) =
+    IsLineOf kind (record { token = token; text = line }) × IsBehindOne kind behind
+
+-- the text's first line is the one that was read, with this token, and the rest is left
+pub record IsAtLine (text : Lines × List ℕ) (at : Standing) (token : Token) : Type 0 where
+  pub rest : List ℕ
+  pub left : at.left ≡ Some rest
+  pub shown : text.1 ≡ at.line ++ rest
+  pub line : IsLineOf text.0 (record { token = token; text = at.line })
+  pub behind : IsBehindOne text.0 at.behind
+
+-- the text is empty, and may be
+pub record IsAtEnd (text : Lines × List ℕ) : Type 0 where
+  pub shown : text.1 ≡ []
+  pub may : MayEnd text.0
+
+-- the source stands at the text's first line, or the text has none
+abbrev pub IsSourceAt : Lines × List ℕ → Standing → Option Token → Type 0
+IsSourceAt text at None = IsAtEnd text
+IsSourceAt text at (Some token) = IsAtLine text at token
+
+abbrev pub IsSource : Lines × List ℕ → Standing → Type 0
+IsSource text at = IsSourceAt text at at.head
+
+-- the first of the lines, if there is one, may stand behind a line of this token
+abbrev pub MayFollowAll : Lines → Token → List TokenLine → Type 0
+MayFollowAll kind before [] = Unit {0}
+MayFollowAll kind before (line ∷ lines) = MayFollow kind before line.token
+
+-- the same of the token at which a source stands
+abbrev pub MayFollowHead : Lines → Option Token → Option Token → Type 0
+MayFollowHead kind (Some before) (Some token) = MayFollow kind before token
+MayFollowHead kind (Some before) None = Unit {0}
+MayFollowHead kind None token = Unit {0}
+
+-- a source went on to the next line, of which the token may stand behind the one before
+pub record IsMoved (before after : Standing) : Type 0 where
+  pub read : IfSome before.left (λ left. IsSource (before.behind, left) after)
+  pub order : MayFollowHead before.behind before.head after.head
+
+-- the source at the place went on to the next line, and the line at which it stood was written
+pub record IsMovedAt (at : ℕ) (before after : List Standing)
+    (old new : Option (List ℕ)) : Type 0 where
+  pub was : Standing
+  pub is : Standing
+  pub there : slice_get before at ≡ Some was
+  pub moved : after ≡ slice_set before at is
+  pub step : IsMoved was is
+  pub written : Appends old new was.line
+
+-- what is left has no lines that may stand behind the one at which the source stands
+abbrev pub IsStuck : Standing → Type 0
+IsStuck at = IfSome at.left (λ left. (list : List TokenLine) → IsTextOf (at.behind, left) list
+    → IfSome at.head (λ token. ¬ (MayFollowAll at.behind token list)))
+
+pub record IsStuckAt (at : ℕ) (all : List Standing) : Type 0 where
+  pub was : Standing
+  pub there : slice_get all at ≡ Some was
+  pub stuck : IsStuck was

@@ -1,0 +1,21 @@
+//! What the texts of reports and of ledgers promise. Each law is the contract of a function, which
+//! does nothing at run time.
+
+ghost use Rattle.std.specs.Prelude.{◌≡◌, ℕ, List};
+ghost use Rattle.part_reports.specs.Ledgers.{IsLedger};
+ghost use Rattle.part_reports.specs.Reports.{IsPartReport, Report, report_text};
+ghost use Rattle.part_reports.specs.Told.{CanBeTold};
+ghost use Rattle.part_reports.specs.TokenLines.{TokenLine};
+
+/// Two reports that tell something else have other texts.
+pub fn texts_differ()
+    ensures any { (a b : Report) → CanBeTold a → CanBeTold b → report_text a ≡ report_text b
+        → a ≡ b }
+    ensures parts { (a b : Report) → IsPartReport a → IsPartReport b
+        → report_text a ≡ report_text b → a ≡ b }
+{}
+
+/// A text is the ledger of at most one list of lines.
+pub fn ledgers_differ()
+    ensures { (a b : List TokenLine) (text : List ℕ) → IsLedger a text → IsLedger b text → a ≡ b }
+{}
