@@ -46,5 +46,5 @@ counted Is May Whole size word lines counting (Some text) now after number (Ok x
 counted Is May Whole size word lines counting (Some text) now after number (Err fault) head read = λ of_texts value rest whole shown.
     let here = subst (λ now. IsRead Is (May number) lines now after (Err fault)) head.left read in
     let same = head_line_unique word head.value (size value) head.rest (lines value ++ rest) head.may (counting.few value whole)
-        (sym head.shown ∙ shown ∙ append_assoc (head_line word (size value)) (lines value) rest) in
+    (sym head.shown ∙ shown ∙ append_assoc (head_line word (size value)) (lines value) rest) in
     here of_texts value rest (subst (λ n. May n value) (sym (head.is ∙ same.0)) (counting.are value whole)) same.1

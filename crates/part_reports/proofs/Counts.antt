@@ -6,7 +6,7 @@ use Rattle.std.specs.Fmt.{decimal}
 use Rattle.shard_book.specs.Sums.{Sums}
 use Rattle.fare_texts.specs.Counts.{counts, live_counts, other_counts}
 use Rattle.part_reports.specs.Lines.{AreCounts}
-use Rattle.part_reports.specs.inside.Counted.{IsCounted, sums_by}
+use Rattle.part_reports.specs.inside.Counted.{IsCounted, sums_with}
 use Rattle.part_reports.proofs.Digits.{counted_unique}
 
 -- what stands from each count on, with the rest x behind the line
@@ -103,7 +103,7 @@ cents_counted t x fits = record { small = fits.cents; ends = refl; shown = refl 
 pub same_sums : (t : Sums) (taps paid transfers capped stale unknown cents : ℕ) → t.taps ≡ taps
     → t.paid ≡ paid → t.transfers ≡ transfers → t.capped ≡ capped → t.stale ≡ stale
     → t.unknown ≡ unknown → t.cents ≡ cents
-    → t ≡ sums_by taps paid transfers capped stale unknown cents
+    → t ≡ sums_with taps paid transfers capped stale unknown cents
 same_sums t taps paid transfers capped stale unknown cents a b c d e f g =
     λ i. record {
       taps = a i;

@@ -9,9 +9,9 @@ use Rattle.part_reports.specs.declared.fault.MergeFault.{MergeFault}
 use Rattle.part_reports.specs.declared.form as form
 use Rattle.part_reports.specs.declared.told.Ends.{Ends}
 use Rattle.part_reports.specs.Faults.{IsOfTexts}
-use Rattle.part_reports.specs.Lines.{End, IsEnd, end_line, end_lines}
-use Rattle.part_reports.specs.inside.Ended.{ended}
-use Rattle.part_reports.specs.inside.Ends.{IsAdded, IsEndRead, IsNextEnd, More}
+use Rattle.part_reports.specs.Lines.{End, IsUploadEnd, end_line, end_lines}
+use Rattle.part_reports.specs.inside.Ended.{end_of_upload}
+use Rattle.part_reports.specs.inside.Ends.{AreEndsAdded, IsEndRead, IsNextEnd, More}
 use Rattle.part_reports.specs.inside.Reading.{IsTold}
 use Rattle.part_reports.proofs.LinesRead.{through}
 use Rattle.part_reports.proofs.ListsWritten.{Next, lines_from, lines_more, lines_begin, lines_unique, end_lines_from}
@@ -35,11 +35,11 @@ next_over upload None after items line over = tt
 next_over upload (Some text) after items line over = no_line text (sym line.0 ∙ over)
 
 pub next_told : (upload : ℕ) (text after : Option (List ℕ)) (items line : List ℕ) (told : Option form.End.End) (end : form.End.End)
-    → IsLine text after items → line ≡ items → IsTold ended IsEnd (end_line upload) line told → told ≡ Some end
+    → IsLine text after items → line ≡ items → IsTold end_of_upload IsUploadEnd (end_line upload) line told → told ≡ Some end
     → IsNextEnd upload text after items (Ok (Some end))
 next_told upload None after items line told end is same form some = tt
 next_told upload (Some text) after items line told end is same form some =
-    let here = subst (λ told. IsTold ended IsEnd (end_line upload) line told) some form in
+    let here = subst (λ told. IsTold end_of_upload IsUploadEnd (end_line upload) line told) some form in
     record {
       may = here.0;
       line_is = sym same ∙ here.1;
@@ -49,11 +49,11 @@ next_told upload (Some text) after items line told end is same form some =
     }
 
 pub next_no : (upload : ℕ) (text after : Option (List ℕ)) (items line : List ℕ) (told : Option form.End.End) (fault : MergeFault) → upload < 2 ^ 64
-    → IsLine text after items → line ≡ items → ¬ (items ≡ []) → IsTold ended IsEnd (end_line upload) line told → told ≡ None
+    → IsLine text after items → line ≡ items → ¬ (items ≡ []) → IsTold end_of_upload IsUploadEnd (end_line upload) line told → told ≡ None
     → IsNextEnd upload text after items (Err fault)
 next_no upload None after items line told fault small is same some form none = tt
 next_no upload (Some text) after items line told fault small is same some form none =
-    let here = subst (λ told. IsTold ended IsEnd (end_line upload) line told) none form in
+    let here = subst (λ told. IsTold end_of_upload IsUploadEnd (end_line upload) line told) none form in
     λ _. (
       λ over. some (is.0 ∙ ap (take_through 10) over),
       λ end rest may shown. here end may (same ∙ is.0 ∙ ap (take_through 10) shown ∙ taken_one (end_line upload end) rest (end_line_is_one upload end small may)),
@@ -80,9 +80,11 @@ adding_first ends (Some text) = record {
     uploads = omega arith;
     taps = omega arith;
     posted = (λ yes. (yes, All-nil (λ (end : End). end.fault ≡ None)), λ both. both.0);
-    each = All-nil IsEnd;
+    each = All-nil IsUploadEnd;
   };
-  rest = text; shown = refl; left_is = refl;
+  rest = text;
+  shown = refl;
+  left_is = refl;
 }
 
 pub All-front : {X : Type 0} (P : X → Type 0) (xs ys : List X) → All P (xs ++ ys) → All P xs
@@ -113,7 +115,7 @@ pub adding_more : (before now after : Ends) (text left then_left : Option (List 
 adding_more before now after None left then_left line items end same adding next one = tt
 adding_more before now after (Some text) left then_left line items end same adding next one =
     let here = subst (λ left. IsNextEnd now.uploads left then_left items (Ok (Some end))) adding.left_is next in
-    let told = ended end in
+    let told = end_of_upload end in
     let number : now.uploads ≡ before.uploads + length adding.more = adding.is.uploads in
     let line_is : line ≡ end_line (before.uploads + length adding.more) told = same ∙ here.line_is ∙ ap (λ k. end_line k told) number in
     let sums = sum_by-append (λ (end : End). end.taps) adding.more (told ∷ []) in
@@ -130,10 +132,12 @@ adding_more before now after (Some text) left then_left line items end same addi
         posted = (
           λ yes. let both = one.posted.0 yes in let so_far = adding.is.posted.0 both.0 in
               (so_far.0, All-push (λ (end : End). end.fault ≡ None) adding.more told so_far.1 both.1),
-          λ both. one.posted.1 (adding.is.posted.1 (both.0, All-front (λ (end : End). end.fault ≡ None) adding.more (told ∷ []) both.1),
-              All-last (λ (end : End). end.fault ≡ None) adding.more told both.1),
+          λ both. one.posted.1 (
+            adding.is.posted.1 (both.0, All-front (λ (end : End). end.fault ≡ None) adding.more (told ∷ []) both.1),
+            All-last (λ (end : End). end.fault ≡ None) adding.more told both.1,
+          ),
         );
-        each = All-push IsEnd adding.more told adding.is.each here.may;
+        each = All-push IsUploadEnd adding.more told adding.is.each here.may;
       };
       rest = here.rest;
       shown = adding.shown ∙ ap (λ text. end_lines before.uploads adding.more ++ text) (here.shown ∙ ap (λ k. end_line k told ++ here.rest) number)
@@ -143,7 +147,7 @@ adding_more before now after (Some text) left then_left line items end same addi
     }
 
 pub adding_done : (before now : Ends) (text left then_left : Option (List ℕ)) (items : List ℕ)
-    → AddingSome before now text left → IsNextEnd now.uploads left then_left items (Ok None) → IsAdded before now text (Ok tt)
+    → AddingSome before now text left → IsNextEnd now.uploads left then_left items (Ok None) → AreEndsAdded before now text (Ok tt)
 adding_done before now None left then_left items adding next = tt
 adding_done before now (Some text) left then_left items adding next =
     let over : adding.rest ≡ [] = subst (λ left. IsNextEnd now.uploads left then_left items (Ok None)) adding.left_is next in
@@ -153,24 +157,24 @@ pub some_line : (number : ℕ) (end : End) (rest : List ℕ) → ¬ ([] ≡ end_
 some_line number end rest is = absurd (cc)
 
 -- two lists of lines, the first of which has a rest with which it may be the second
-pub lines_rest : (number : ℕ) (done ends : List End) (rest : List ℕ) → All IsEnd done → All IsEnd ends
+pub lines_rest : (number : ℕ) (done ends : List End) (rest : List ℕ) → All IsUploadEnd done → All IsUploadEnd ends
     → end_lines number done ++ rest ≡ end_lines number ends
-    → ¬ (rest ≡ []) → ((end : End) (more : List ℕ) → IsEnd end → ¬ (rest ≡ end_line (number + length done) end ++ more)) → ⊥
+    → ¬ (rest ≡ []) → ((end : End) (more : List ℕ) → IsUploadEnd end → ¬ (rest ≡ end_line (number + length done) end ++ more)) → ⊥
 lines_rest number [] [] rest may may_too same some absent_end = some same
 lines_rest number [] (end ∷ ends) rest may may_too same some absent_end =
     let at : number ≡ number + 0 = omega arith in
-    absent_end end (end_lines (number + 1) ends) (All-head IsEnd end ends may_too) (same ∙ ap (λ k. end_line k end ++ end_lines (number + 1) ends) at)
+    absent_end end (end_lines (number + 1) ends) (All-head IsUploadEnd end ends may_too) (same ∙ ap (λ k. end_line k end ++ end_lines (number + 1) ends) at)
 lines_rest number (a ∷ done) [] rest may may_too same some absent_end =
     some_line number a (end_lines (number + 1) done ++ rest) (sym same ∙ append_assoc (end_line number a) (end_lines (number + 1) done) rest)
 lines_rest number (a ∷ done) (end ∷ ends) rest may may_too same some absent_end =
-    let first = end_line_unique number a end (end_lines (number + 1) done ++ rest) (end_lines (number + 1) ends) (All-head IsEnd a done may) (All-head IsEnd end ends may_too)
-        (sym (append_assoc (end_line number a) (end_lines (number + 1) done) rest) ∙ same) in
+    let first = end_line_unique number a end (end_lines (number + 1) done ++ rest) (end_lines (number + 1) ends) (All-head IsUploadEnd a done may) (All-head IsUploadEnd end ends may_too)
+    (sym (append_assoc (end_line number a) (end_lines (number + 1) done) rest) ∙ same) in
     let at : number + 1 + length done ≡ number + suc (length done) = omega arith in
-    lines_rest (number + 1) done ends rest (All-tail IsEnd a done may) (All-tail IsEnd end ends may_too) first.1 some
+    lines_rest (number + 1) done ends rest (All-tail IsUploadEnd a done may) (All-tail IsUploadEnd end ends may_too) first.1 some
     (λ end more may is. absent_end end more may (is ∙ ap (λ k. end_line k end ++ more) at))
 
 pub adding_refused : (before now after : Ends) (text left then_left : Option (List ℕ)) (items : List ℕ) (fault : MergeFault)
-    → AddingSome before now text left → IsNextEnd now.uploads left then_left items (Err fault) → IsAdded before after text (Err fault)
+    → AddingSome before now text left → IsNextEnd now.uploads left then_left items (Err fault) → AreEndsAdded before after text (Err fault)
 adding_refused before now after None left then_left items fault adding next = tt
 adding_refused before now after (Some text) left then_left items fault adding next = λ of_texts ends may shown.
     let here = (subst (λ left. IsNextEnd now.uploads left then_left items (Err fault)) adding.left_is next) of_texts in

@@ -12,10 +12,10 @@ use Rattle.std.proofs.lemmas.List.Elements.{All-head, All-map, All-nil, All-push
 use Rattle.std.proofs.lemmas.List.Sums.{sum_by-append}
 use Rattle.shard_book.specs.Sums.{Sums, add_all, sums}
 use Rattle.part_reports.specs.Lines.{AreCounts, IsTokenSum, IsValidatorSum, token_line}
-use Rattle.part_reports.specs.Reports.{IsPartReport, Report, report_text, sums_at, front_text}
+use Rattle.part_reports.specs.Reports.{IsPartReport, Report, report_text, sums_of_validator, front_text}
 use Rattle.part_reports.specs.declared.merging.Lines.TheVariants.{Tokens}
 use Rattle.part_reports.specs.declared.sums.WholeSums.{WholeSums}
-use Rattle.part_reports.specs.inside.Fronts.{AreEnds, AreValidators, MayBePart, Told, told_text}
+use Rattle.part_reports.specs.inside.Fronts.{AreEnds, AreValidators, MayBePart, ToldFront, told_text}
 use Rattle.part_reports.specs.inside.Parts.{AreParts, Begun, IsNoPart, begun_text, left_text}
 use Rattle.part_reports.specs.inside.Sources.{Standing}
 use Rattle.part_reports.specs.inside.Sums.{AreFew, AreSmall}
@@ -40,7 +40,7 @@ same_test x y same = grind (arith, nat_tests, same)
 other_test : (x y : ℕ) → x ≢ y → (x == y) ≡ false
 other_test x y other = grind (arith, nat_tests)
 
-one_small : (q : ℕ) (list : List (ℕ × Sums)) → All IsValidatorSum list → IsStrictlySortedBy nat_cmp (keys_of list) → (sums_at q list).taps < 2 ^ 64
+one_small : (q : ℕ) (list : List (ℕ × Sums)) → All IsValidatorSum list → IsStrictlySortedBy nat_cmp (keys_of list) → (sums_of_validator q list).taps < 2 ^ 64
 unfolding IsStrictlySortedBy
 one_small q [] all rise = let none = taps_nothing in omega (arith, none)
 one_small q (first ∷ list) all rise =
@@ -50,20 +50,20 @@ one_small q (first ∷ list) all rise =
           let test = same_test first.0 q same in
           let none = above_none q first.0 list (sym same) rise.0 in
           let is : filter (λ (sum : ℕ × Sums). sum.0 == q) (first ∷ list) ≡ first ∷ [] =
-              ap (λ b. if b then first ∷ filter (λ (sum : ℕ × Sums). sum.0 == q) list else filter (λ (sum : ℕ × Sums). sum.0 == q) list) test ∙ ap (λ more. first ∷ more) none in
-          let taps : (sums_at q (first ∷ list)).taps ≡ first.1.taps + (sums []).taps = ap (λ list. (add_all (map (λ (sum : ℕ × Sums). sum.1) list)).taps) is in
+          ap (λ b. if b then first ∷ filter (λ (sum : ℕ × Sums). sum.0 == q) list else filter (λ (sum : ℕ × Sums). sum.0 == q) list) test ∙ ap (λ more. first ∷ more) none in
+          let taps : (sums_of_validator q (first ∷ list)).taps ≡ first.1.taps + (sums []).taps = ap (λ list. (add_all (map (λ (sum : ℕ × Sums). sum.1) list)).taps) is in
           let nothing = taps_nothing in
           let small = (All-head IsValidatorSum first list all).counts.taps in
           omega (arith, taps, nothing, small)
       | inr other ↦
           let test = other_test first.0 q other in
           let is : filter (λ (sum : ℕ × Sums). sum.0 == q) (first ∷ list) ≡ filter (λ (sum : ℕ × Sums). sum.0 == q) list =
-              ap (λ b. if b then first ∷ filter (λ (sum : ℕ × Sums). sum.0 == q) list else filter (λ (sum : ℕ × Sums). sum.0 == q) list) test in
-          let taps : (sums_at q (first ∷ list)).taps ≡ (sums_at q list).taps = ap (λ list. (add_all (map (λ (sum : ℕ × Sums). sum.1) list)).taps) is in
+          ap (λ b. if b then first ∷ filter (λ (sum : ℕ × Sums). sum.0 == q) list else filter (λ (sum : ℕ × Sums). sum.0 == q) list) test in
+          let taps : (sums_of_validator q (first ∷ list)).taps ≡ (sums_of_validator q list).taps = ap (λ list. (add_all (map (λ (sum : ℕ × Sums). sum.1) list)).taps) is in
           omega (arith, taps, rest)
     ]
 
-validators_small : (q : ℕ) (fronts : List Told) → All MayBePart fronts → (sums_at q (flat_map (λ told. told.validators) fronts)).taps ≤ length fronts * 18446744073709551616
+validators_small : (q : ℕ) (fronts : List ToldFront) → All MayBePart fronts → (sums_of_validator q (flat_map (λ told. told.validators) fronts)).taps ≤ length fronts * 18446744073709551616
 validators_small q [] all = let none = taps_nothing in omega (arith, none)
 validators_small q (told ∷ fronts) all =
     let first = (All-head MayBePart told fronts all).validators.are in
@@ -72,22 +72,22 @@ validators_small q (told ∷ fronts) all =
     let parts = taps_joined q told.validators (flat_map (λ told. told.validators) fronts) in
     omega (arith, one, rest, parts)
 
-totals_small : (fronts : List Told) → All MayBePart fronts → (add_all (map (λ told. told.totals) fronts)).taps ≤ length fronts * 18446744073709551616
+totals_small : (fronts : List ToldFront) → All MayBePart fronts → (add_all (map (λ told. told.totals) fronts)).taps ≤ length fronts * 18446744073709551616
 totals_small [] all = let none = taps_nothing in omega (arith, none)
 totals_small (told ∷ fronts) all =
     let one = (All-head MayBePart told fronts all).totals.taps in
     let rest = totals_small fronts (All-tail MayBePart told fronts all) in
     omega (arith, one, rest)
 
-tokens_small : (fronts : List Told) → All MayBePart fronts → sum_by (λ told. told.tokens) fronts ≤ length fronts * 18446744073709551616
+tokens_small : (fronts : List ToldFront) → All MayBePart fronts → sum_by (λ told. told.tokens) fronts ≤ length fronts * 18446744073709551616
 tokens_small [] all = omega arith
 tokens_small (told ∷ fronts) all =
     let one = (All-head MayBePart told fronts all).tokens in
     let rest = tokens_small fronts (All-tail MayBePart told fronts all) in
-    let parts = sum_by-append (λ (told : Told). told.tokens) (told ∷ []) fronts in
+    let parts = sum_by-append (λ (told : ToldFront). told.tokens) (told ∷ []) fronts in
     omega (arith, one, rest, parts)
 
-few : (fronts : List Told) → All MayBePart fronts → length fronts ≤ 2 ^ 31 → AreFew fronts
+few : (fronts : List ToldFront) → All MayBePart fronts → length fronts ≤ 2 ^ 31 → AreFew fronts
 few fronts all short = record {
   totals = (let most = totals_small fronts all in omega (arith, most, short));
   validators = λ q. (let most = validators_small q fronts all in omega (arith, most, short));
@@ -95,7 +95,7 @@ few fronts all short = record {
 }
 
 -- ---- a part's report up to its tokens
-abbrev pub told_of : Report → Told
+abbrev pub told_of : Report → ToldFront
 told_of part = record { ends = part.ends; totals = part.totals; validators = part.validators; tokens = length part.tokens }
 
 pub told_may : (part : Report) → IsPartReport part → MayBePart (told_of part)

@@ -8,7 +8,7 @@ use Rattle.fare_table.specs.declared.token.Token.{Token}
 use Rattle.part_reports.specs.Lines.{token_line}
 use Rattle.part_reports.specs.TokenLines.{TokenLine, text_of}
 use Rattle.part_reports.specs.inside.Kinds.{IsSumLine, IsTextOf}
-use Rattle.part_reports.specs.inside.Sources.{IsAtLine, IsBehindOne, IsFirst, IsLineOf}
+use Rattle.part_reports.specs.inside.Sources.{IsAtLine, IsBehindOne, IsFirstLine, IsLineOfKind}
 use Rattle.part_reports.specs.inside.Sources.{IsSource, MayEnd, MayFollowAll, MayFollowHead}
 use Rattle.part_reports.specs.inside.Sources.{IsSourceAt, Standing}
 use Rattle.part_reports.specs.declared.merging.Lines.{Lines}
@@ -23,7 +23,7 @@ weaker None P Q f holds = tt
 weaker (Some text) P Q f holds = f text holds
 
 -- ---- single lines
-pub line_is_one : (kind : Lines) (line : TokenLine) → IsLineOf kind line → IsOneLine line.text
+pub line_is_one : (kind : Lines) (line : TokenLine) → IsLineOfKind kind line → IsOneLine line.text
 line_is_one (Tokens left) line is =
     subst IsOneLine (sym is.shown) (token_line_is_one (line.token, is.sums) is.is)
 line_is_one Entries line is = entry_line_is_one line is
@@ -35,12 +35,12 @@ not_nothing (x ∷ front) byte is = cc
 pub one_is_some : (line : List ℕ) → IsOneLine line → ¬ (line ≡ [])
 one_is_some line is none = not_nothing is.front 10 (sym is.shown ∙ none)
 
-pub line_is_some : (kind : Lines) (line : TokenLine) → IsLineOf kind line → ¬ (line.text ≡ [])
+pub line_is_some : (kind : Lines) (line : TokenLine) → IsLineOfKind kind line → ¬ (line.text ≡ [])
 line_is_some kind line is = one_is_some line.text (line_is_one kind line is)
 
 -- the kind of a line is not in how many are left
 pub same_line : (kind behind : Lines) (line : TokenLine) → IsBehindOne kind behind
-    → IsLineOf kind line → IsLineOf behind line
+    → IsLineOfKind kind line → IsLineOfKind behind line
 same_line (Tokens left) (Tokens behind) line one is = is
 same_line (Tokens left) Entries line one is = elim one [ ]
 same_line Entries (Tokens behind) line one is = elim one [ ]
@@ -57,8 +57,8 @@ sum_line_unique a b x y is also same =
     let text : a.text ≡ b.text = is.shown ∙ ap token_line sum ∙ sym also.shown in
     (λ i. record { token = token i; text = text i }, rest)
 
-pub line_unique : (kind : Lines) (a b : TokenLine) (x y : List ℕ) → IsLineOf kind a
-    → IsLineOf kind b → a.text ++ x ≡ b.text ++ y → (a ≡ b) × (x ≡ y)
+pub line_unique : (kind : Lines) (a b : TokenLine) (x y : List ℕ) → IsLineOfKind kind a
+    → IsLineOfKind kind b → a.text ++ x ≡ b.text ++ y → (a ≡ b) × (x ≡ y)
 line_unique (Tokens left) a b x y is also same = sum_line_unique a b x y is also same
 line_unique Entries a b x y is also same = entry_line_unique a b x y is also same
 
@@ -84,11 +84,11 @@ taken_none (x ∷ xs) is = absurd (some_part (x == 10) x (take_through 10 xs) is
 -- ---- the first line
 pub first_is_source : (kind : Lines) (text : List ℕ) (at : Standing) → at.line
     ≡ take_through 10 text
-    → at.left ≡ Some (drop_through 10 text) → IsFirst kind at.line at.behind at.head
+    → at.left ≡ Some (drop_through 10 text) → IsFirstLine kind at.line at.behind at.head
     → IsSource (kind, text) at
 first_is_source kind text at taken left first = by_head at.head first
   where
-    by_head : (head : Option Token) → IsFirst kind at.line at.behind head
+    by_head : (head : Option Token) → IsFirstLine kind at.line at.behind head
         → IsSourceAt (kind, text) at head
     by_head None is = record { shown = taken_none text (sym taken ∙ is.0); may = is.1 }
     by_head (Some token) is = record {
@@ -101,12 +101,12 @@ first_is_source kind text at taken left first = by_head at.head first
 
 -- no line may stand first where none does
 pub no_first_line : (kind : Lines) (token : Token)
-    → ¬ (IsLineOf kind (record { token = token; text = [] }))
+    → ¬ (IsLineOfKind kind (record { token = token; text = [] }))
 no_first_line kind token is = line_is_some kind (record { token = token; text = [] }) is refl
 
 behind_of : (kind : Lines) (line : TokenLine) (lines : List TokenLine) (text : List ℕ)
     → IsTextOf (kind, text) (line ∷ lines)
-    → (behind : Lines) × IsBehindOne kind behind × IsLineOf kind line
+    → (behind : Lines) × IsBehindOne kind behind × IsLineOfKind kind line
 behind_of (Tokens left) line lines text is = (
   Tokens (length lines),
   omega (arith, is.0.0),
@@ -119,7 +119,7 @@ may_end_of (Tokens left) text is = sym is.0.0
 may_end_of Entries text is = tt
 
 pub no_text : (kind : Lines) (text line : List ℕ) → line ≡ take_through 10 text
-    → ((behind : Lines) (head : Option Token) → ¬ (IsFirst kind line behind head))
+    → ((behind : Lines) (head : Option Token) → ¬ (IsFirstLine kind line behind head))
     → (list : List TokenLine) → ¬ (IsTextOf (kind, text) list)
 no_text kind text line taken none [] is =
     none kind None (taken ∙ ap (take_through 10) is.1, may_end_of kind text is)
@@ -128,7 +128,7 @@ no_text kind text line taken none (first ∷ list) is =
     let same : line ≡ first.text = taken ∙ ap (take_through 10) is.1
     ∙ taken_one first.text (text_of list) (line_is_one kind first fits) in
     none behind (Some first.token) (
-      subst (λ text. IsLineOf kind (record { token = first.token; text = text }))
+      subst (λ text. IsLineOfKind kind (record { token = first.token; text = text }))
           (sym same) fits,
       one,
     )

@@ -8,8 +8,8 @@ use Rattle.std.specs.Io.KnownBytes.{Appends}
 use Rattle.std.specs.List.{AllZip}
 use Rattle.std.proofs.lemmas.List.{append_cancel_left}
 use Rattle.reason_texts.specs.Ledger.{head_text}
-use Rattle.part_reports.specs.Ledgers.{IsLedger, IsMergedLedger}
-use Rattle.part_reports.specs.TokenLines.{IsJoined, TokenLine, text_of}
+use Rattle.part_reports.specs.Ledgers.{IsPartLedger, IsMergedLedger}
+use Rattle.part_reports.specs.TokenLines.{IsMergedByToken, TokenLine, text_of}
 use Rattle.part_reports.specs.inside.Begun.{AreBegun, IsBegun, IsNoLedger}
 use Rattle.part_reports.specs.inside.Kinds.{AreTexts, IsTextOf}
 use Rattle.part_reports.specs.inside.Sources.{IsSource, Standing}
@@ -63,7 +63,7 @@ begun_push (first ∷ files) (other ∷ ats) file at are is =
 
 pub no_ledgers : (front back : List (Option (List ℕ))) (file : Option (List ℕ))
     (files : List (List ℕ)) (parts : List (List TokenLine))
-    → front ++ file ∷ back ≡ map (λ file. Some file) files → AllZip IsLedger parts files
+    → front ++ file ∷ back ≡ map (λ file. Some file) files → AllZip IsPartLedger parts files
     → ¬ (IfSome file IsNoLedger)
 no_ledgers [] back file [] parts same are none = absurd (cc)
 no_ledgers [] back file (first ∷ files) [] same are none = elim are [ ]
@@ -101,7 +101,7 @@ lefts_of (first ∷ files) (file ∷ knowns) (at ∷ ats) same are =
     }
 
 texts_to : (files lefts : List (List ℕ)) (parts : List (List TokenLine))
-    → AllZip (λ file left. file ≡ head_text ++ left) files lefts → AllZip IsLedger parts files
+    → AllZip (λ file left. file ≡ head_text ++ left) files lefts → AllZip IsPartLedger parts files
     → AreTexts (map (λ left. (Entries, left)) lefts) parts
 texts_to [] [] [] shown are = tt
 texts_to [] [] (lines ∷ parts) shown are = elim are [ ]
@@ -118,7 +118,7 @@ texts_to (file ∷ files) (left ∷ lefts) (lines ∷ parts) shown are = (
 
 texts_from : (files lefts : List (List ℕ)) (parts : List (List TokenLine))
     → AllZip (λ file left. file ≡ head_text ++ left) files lefts
-    → AreTexts (map (λ left. (Entries, left)) lefts) parts → AllZip IsLedger parts files
+    → AreTexts (map (λ left. (Entries, left)) lefts) parts → AllZip IsPartLedger parts files
 texts_from [] [] [] shown are = tt
 texts_from [] [] (lines ∷ parts) shown are = elim are [ ]
 texts_from [] (left ∷ lefts) parts shown are = elim shown [ ]
@@ -138,7 +138,7 @@ pub merged_whole : (files : List (List ℕ)) (known : List (Option (List ℕ)))
     → known ≡ map (λ file. Some file) files → AreBegun known ats → Appends old mid head_text
     → ((texts : List (Lines × List ℕ)) → AllZip IsSource texts ats
     → (lists : List (List TokenLine)) × (joined : List TokenLine) × AreTexts texts lists
-    × IsJoined lists joined × Appends mid new (text_of joined))
+    × IsMergedByToken lists joined × Appends mid new (text_of joined))
     → (text : List ℕ) × IsMergedLedger files text × Appends old new text
 merged_whole files known ats old mid new same are head merged =
     let behind = lefts_of files known ats same are in
@@ -159,7 +159,7 @@ pub merged_none : (files : List (List ℕ)) (known : List (Option (List ℕ)))
     (ats : List Standing) → known ≡ map (λ file. Some file) files → AreBegun known ats
     → ((texts : List (Lines × List ℕ)) → AllZip IsSource texts ats
     → (lists : List (List TokenLine)) (joined : List TokenLine) → AreTexts texts lists
-    → ¬ (IsJoined lists joined))
+    → ¬ (IsMergedByToken lists joined))
     → (text : List ℕ) → ¬ (IsMergedLedger files text)
 merged_none files known ats same are none text merged =
     let behind = lefts_of files known ats same are in

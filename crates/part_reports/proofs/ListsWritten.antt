@@ -42,8 +42,8 @@ lines_unique MayStand show unique number [] (b ∷ vs) x y may may_too long same
 lines_unique MayStand show unique number (a ∷ us) [] x y may may_too long same = absurd (omega (arith, long))
 lines_unique MayStand show unique number (a ∷ us) (b ∷ vs) x y may may_too long same =
     let first = unique number a b (lines_from show (number + 1) us ++ x) (lines_from show (number + 1) vs ++ y)
-        (All-head MayStand a us may) (All-head MayStand b vs may_too)
-        (sym (append_assoc (show number a) (lines_from show (number + 1) us) x) ∙ same ∙ append_assoc (show number b) (lines_from show (number + 1) vs) y) in
+    (All-head MayStand a us may) (All-head MayStand b vs may_too)
+    (sym (append_assoc (show number a) (lines_from show (number + 1) us) x) ∙ same ∙ append_assoc (show number b) (lines_from show (number + 1) vs) y) in
     let rest = lines_unique MayStand show unique (number + 1) us vs x y (All-tail MayStand a us may) (All-tail MayStand b vs may_too) (omega (arith, long)) first.1 in
     (ap (λ v. v ∷ us) first.0 ∙ ap (λ more. b ∷ more) rest.0, rest.1)
 
@@ -63,17 +63,22 @@ lines_begin MayStand show unique number done [] x y may may_too less same = absu
 lines_begin MayStand show unique number [] (value ∷ values) x y may may_too less same =
     let same_number : number + 0 ≡ number = omega arith in
     record {
-      value = value; more = values; is = refl; may = All-head MayStand value values may_too;
+      value = value;
+      more = values;
+      is = refl;
+      may = All-head MayStand value values may_too;
       rest = rw same_number (same ∙ append_assoc (show number value) (lines_from show (number + 1) values) y);
     }
 lines_begin MayStand show unique number (a ∷ done) (value ∷ values) x y may may_too less same =
     let first = unique number a value (lines_from show (number + 1) done ++ x) (lines_from show (number + 1) values ++ y)
-        (All-head MayStand a done may) (All-head MayStand value values may_too)
-        (sym (append_assoc (show number a) (lines_from show (number + 1) done) x) ∙ same ∙ append_assoc (show number value) (lines_from show (number + 1) values) y) in
+    (All-head MayStand a done may) (All-head MayStand value values may_too)
+    (sym (append_assoc (show number a) (lines_from show (number + 1) done) x) ∙ same ∙ append_assoc (show number value) (lines_from show (number + 1) values) y) in
     let next = lines_begin MayStand show unique (number + 1) done values x y (All-tail MayStand a done may) (All-tail MayStand value values may_too) (omega (arith, less)) first.1 in
     let same_number : number + 1 + length done ≡ number + suc (length done) = omega arith in
     record {
-      value = next.value; more = next.more; may = next.may;
+      value = next.value;
+      more = next.more;
+      may = next.may;
       is = ap (λ v. v ∷ values) (sym first.0) ∙ ap (λ vs. a ∷ vs) next.is;
       rest = next.rest ∙ ap (λ k. show k next.value ++ (lines_from show (k + 1) next.more ++ y)) same_number;
     }

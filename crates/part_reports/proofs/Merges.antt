@@ -11,7 +11,7 @@ use Rattle.std.proofs.lemmas.List.Elements.{All-from_recursion, filter-append, r
 use Rattle.std.specs.declared.cmp.Ordering.TheVariants.{Less}
 use Rattle.fare_table.specs.Token.{token_cmp, token_eq}
 use Rattle.fare_table.specs.declared.token.Token.{Token}
-use Rattle.part_reports.specs.TokenLines.{HaveOtherTokens, IsJoined, TokenLine, lines_of}
+use Rattle.part_reports.specs.TokenLines.{HaveOtherTokens, IsMergedByToken, TokenLine, lines_of_token}
 use Rattle.part_reports.specs.TokenLines.{text_of}
 use Rattle.part_reports.specs.inside.Kinds.{AreTexts, IsTextOf}
 use Rattle.part_reports.specs.inside.Least.{IsBelowOthers, IsLeast, IsTwin, StandsAt}
@@ -74,7 +74,7 @@ pub record IsMerging (texts : List (Lines × List ℕ)) (ats : List Standing)
   pub rise : Rise Entries joined
   pub below : AllByRecursion (λ part. AreWritten part.at.head joined) parts
   pub same : (token : Token)
-      → lines_of token joined ≡ lines_of token (flat_map (λ part. part.done) parts)
+      → lines_of_token token joined ≡ lines_of_token token (flat_map (λ part. part.done) parts)
   pub written : Appends old new (text_of joined)
 
 -- ---- the beginning
@@ -141,7 +141,7 @@ merging_first texts ats old are =
       rise = tt;
       below = each_by_place (λ (part : Part). AreWritten part.at.head []) begun.parts
           (λ k part is. nothing_written part.at.head);
-      same = λ token. ap (lines_of token) (sym (nothing_done begun.parts begun.nothing));
+      same = λ token. ap (lines_of_token token) (sym (nothing_done begun.parts begun.nothing));
       written = appends_nothing old;
     }
 
@@ -155,11 +155,11 @@ token_of_eq a b is =
 
 -- where no line has the token there are none of its lines
 no_lines : (token : Token) (lines : List TokenLine)
-    → AllByRecursion (λ line. token_eq token line.token ≡ false) lines → lines_of token lines ≡ []
+    → AllByRecursion (λ line. token_eq token line.token ≡ false) lines → lines_of_token token lines ≡ []
 no_lines token [] others = refl
 no_lines token (line ∷ lines) others =
-    cond-false (token_eq token line.token) (line ∷ lines_of token lines)
-    (lines_of token lines) others.0
+    cond-false (token_eq token line.token) (line ∷ lines_of_token token lines)
+    (lines_of_token token lines) others.0
     ∙ no_lines token lines others.1
 
 differs_test : (a b : Token) → a ≢ b → token_eq a b ≡ false
@@ -180,24 +180,24 @@ no_line front done back = simp (append-nil, append_assoc)
 -- a line more in the middle, behind which no line has its token, is a line more at the end
 line_more : (token : Token) (front done back : List TokenLine) (line : TokenLine)
     → AllByRecursion (λ other. line.token ≢ other.token) back
-    → lines_of token (front ++ ((done ++ line ∷ []) ++ back))
-    ≡ lines_of token (front ++ (done ++ back)) ++ lines_of token (line ∷ [])
+    → lines_of_token token (front ++ ((done ++ line ∷ []) ++ back))
+    ≡ lines_of_token token (front ++ (done ++ back)) ++ lines_of_token token (line ∷ [])
 line_more token front done back line others =
     split_more ∙ by_test (token_eq token line.token) refl ∙ sym (ap (λ lines. lines ++ L) split)
   where
     F : List TokenLine
-    F = lines_of token front
+    F = lines_of_token token front
 
     D : List TokenLine
-    D = lines_of token done
+    D = lines_of_token token done
 
     B : List TokenLine
-    B = lines_of token back
+    B = lines_of_token token back
 
     L : List TokenLine
-    L = lines_of token (line ∷ [])
+    L = lines_of_token token (line ∷ [])
 
-    split_more : lines_of token (front ++ ((done ++ line ∷ []) ++ back)) ≡ F ++ ((D ++ L) ++ B)
+    split_more : lines_of_token token (front ++ ((done ++ line ∷ []) ++ back)) ≡ F ++ ((D ++ L) ++ B)
     split_more = filter-append (λ (other : TokenLine). token_eq token other.token) front
         ((done ++ line ∷ []) ++ back)
         ∙ ap (λ lines. F ++ lines)
@@ -206,7 +206,7 @@ line_more token front done back line others =
         ∙ ap (λ lines. lines ++ B)
         (filter-append (λ (other : TokenLine). token_eq token other.token) done (line ∷ [])))
 
-    split : lines_of token (front ++ (done ++ back)) ≡ F ++ (D ++ B)
+    split : lines_of_token token (front ++ (done ++ back)) ≡ F ++ (D ++ B)
     split = filter-append (λ (other : TokenLine). token_eq token other.token) front (done ++ back)
         ∙ ap (λ lines. F ++ lines)
         (filter-append (λ (other : TokenLine). token_eq token other.token) done back)
@@ -453,13 +453,13 @@ below_next parts k heads part token after joined next below =
 same_next : (parts : List Part) (k : ℕ) (part : Part) (token : Token) (after : Standing)
     (joined : List TokenLine) (any : Token) → slice_get parts k ≡ Some part
     → part.at.head ≡ Some token → ArePast parts
-    → lines_of any joined ≡ lines_of any (flat_map (λ part. part.done) parts)
-    → lines_of any (joined ++ line_at part.at token ∷ [])
-    ≡ lines_of any (flat_map (λ part. part.done) (slice_set parts k (next_part part token after)))
+    → lines_of_token any joined ≡ lines_of_token any (flat_map (λ part. part.done) parts)
+    → lines_of_token any (joined ++ line_at part.at token ∷ [])
+    ≡ lines_of_token any (flat_map (λ part. part.done) (slice_set parts k (next_part part token after)))
 same_next parts k part token after joined any there is past same =
     filter-append (λ (other : TokenLine). token_eq any other.token) joined (line ∷ [])
-    ∙ ap (λ lines. lines ++ lines_of any (line ∷ [])) (same ∙ ap (lines_of any) old)
-    ∙ sym (line_more any front part.done back line others) ∙ sym (ap (lines_of any) new)
+    ∙ ap (λ lines. lines ++ lines_of_token any (line ∷ [])) (same ∙ ap (lines_of_token any) old)
+    ∙ sym (line_more any front part.done back line others) ∙ sym (ap (lines_of_token any) new)
   where
     line : TokenLine
     line = line_at part.at token
@@ -582,7 +582,7 @@ no_head ats k at none is = by_head at.head refl
 pub merging_end : (texts : List (Lines × List ℕ)) (ats : List Standing) (old new : Option (List ℕ))
     → IsMerging texts ats old new → IsLeast (map (λ at. at.head) ats) None
     → (lists : List (List TokenLine)) × (joined : List TokenLine) × AreTexts texts lists
-    × IsJoined lists joined × Appends old new (text_of joined)
+    × IsMergedByToken lists joined × Appends old new (text_of joined)
 merging_end texts ats old new merging none =
     let parts = merging.parts in
     let lists = map (λ (part : Part). part.done) parts in
@@ -604,7 +604,7 @@ merging_end texts ats old new merging none =
             (others_all p.done q.done (merging.past a b p q other there there_too).others));
         rise = falls_from merging.joined merging.rise;
         same = λ token. merging.same token
-            ∙ ap (lines_of token) (sym (join_of_map (λ (part : Part). part.done) parts));
+            ∙ ap (lines_of_token token) (sym (join_of_map (λ (part : Part). part.done) parts));
       },
       merging.written,
     )
@@ -665,7 +665,7 @@ line_at_place texts ats old new merging k token stands lists are =
 pub merging_twin : (texts : List (Lines × List ℕ)) (ats : List Standing) (old new : Option (List ℕ))
     → IsMerging texts ats old new → (k : ℕ) → IsTwin (map (λ at. at.head) ats) k
     → (lists : List (List TokenLine)) (joined : List TokenLine) → AreTexts texts lists
-    → ¬ (IsJoined lists joined)
+    → ¬ (IsMergedByToken lists joined)
 merging_twin texts ats old new merging k twin lists joined are is =
     let a = line_at_place texts ats old new merging twin.earlier twin.token twin.first lists are in
     let b = line_at_place texts ats old new merging k twin.token twin.there lists are in

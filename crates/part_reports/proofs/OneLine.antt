@@ -17,10 +17,10 @@ use Rattle.fare_table.specs.Token.{bytes_of}
 use Rattle.fare_texts.specs.Counts.{counts, totals_line}
 use Rattle.shard_book.specs.Sums.{Sums}
 use Rattle.fare_table.specs.declared.token.Token.{Token}
-use Rattle.part_reports.specs.Lines.{AreCounts, End, IsEnd, IsNoneOrFault, IsTokenSum}
+use Rattle.part_reports.specs.Lines.{AreCounts, End, IsUploadEnd, IsNoneOrFault, IsTokenSum}
 use Rattle.part_reports.specs.Lines.{IsValidatorSum}
-use Rattle.part_reports.specs.Lines.{end_line, end_text, head_line, token_line, validator_line}
-use Rattle.part_reports.specs.Ledgers.{IsEntryLine}
+use Rattle.part_reports.specs.Lines.{end_line, end_words, head_line, token_line, validator_line}
+use Rattle.part_reports.specs.Ledgers.{IsLedgerEntryLine}
 use Rattle.part_reports.specs.TokenLines.{TokenLine}
 use Rattle.part_reports.proofs.Counts.{counts_read, taps_counted, paid_counted, transfers_counted}
 use Rattle.part_reports.proofs.Counts.{capped_counted, stale_counted, unknown_counted}
@@ -185,7 +185,7 @@ tokens_head_is_one number small =
     longer (codes "tokens ") _ (tested (codes "tokens ") refl) (counted number _ small over)
 
 end_text_is_one : (taps : ℕ) (fault : Option (ℕ × ℕ)) → taps < 2 ^ 64 → IsNoneOrFault fault
-    → IsOneLine (end_text taps fault)
+    → IsOneLine (end_words taps fault)
 end_text_is_one taps None small fits =
     longer (codes " posted ") _ (tested (codes " posted ") refl) (counted taps _ small over)
 end_text_is_one taps (Some fault) small fits =
@@ -194,7 +194,7 @@ end_text_is_one taps (Some fault) small fits =
     (longer (codes " L") _ (tested (codes " L") refl)
     (counted fault.1 _ (omega (arith, fits.most)) over)))))
 
-pub end_line_is_one : (number : ℕ) (end : End) → number < 2 ^ 64 → IsEnd end
+pub end_line_is_one : (number : ℕ) (end : End) → number < 2 ^ 64 → IsUploadEnd end
     → IsOneLine (end_line number end)
 end_line_is_one number end small fits =
     longer (codes "upload ") _ (tested (codes "upload ") refl) (counted number _ small
@@ -235,7 +235,7 @@ token_line_is_one sum fits =
     (longer (encode_lower (bytes_of sum.0)) _ (encoded_none (bytes_of sum.0))
     (longer (codes " ") _ (tested (codes " ") refl) (counts_are_one sum.1 fits.counts)))
 
-pub entry_line_is_one : (line : TokenLine) → IsEntryLine line → IsOneLine line.text
+pub entry_line_is_one : (line : TokenLine) → IsLedgerEntryLine line → IsOneLine line.text
 entry_line_is_one line fits =
     subst IsOneLine (sym fits.shown)
     (longer (encode_lower (bytes_of line.token)) _ (encoded_none (bytes_of line.token))

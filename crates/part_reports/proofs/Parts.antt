@@ -9,7 +9,7 @@ use Rattle.std.proofs.lemmas.List.Concat.{flat_map-append}
 use Rattle.fare_table.specs.declared.token.Token.{Token}
 use Rattle.part_reports.specs.TokenLines.{TokenLine, text_of}
 use Rattle.part_reports.specs.inside.Kinds.{AreLines, IsTextOf}
-use Rattle.part_reports.specs.inside.Sources.{IsAtEnd, IsAtLine, IsBehindOne, IsLineOf, IsMoved}
+use Rattle.part_reports.specs.inside.Sources.{IsAtEnd, IsAtLine, IsBehindOne, IsLineOfKind, IsMoved}
 use Rattle.part_reports.specs.inside.Sources.{IsSource, IsSourceAt, IsStuck, MayEnd, MayFollow}
 use Rattle.part_reports.specs.inside.Sources.{MayFollowAll, MayFollowHead, Standing}
 use Rattle.part_reports.specs.declared.merging.Lines.{Lines}
@@ -61,7 +61,7 @@ rest_count Entries (Tokens left) count more is counted = elim is [ ]
 rest_count Entries Entries count more is counted = tt
 
 like_line : (all kind : Lines) (count : ℕ) (line : TokenLine) → IsBehindSo all kind count
-    → IsLineOf kind line → IsLineOf all line
+    → IsLineOfKind kind line → IsLineOfKind all line
 like_line (Tokens all) (Tokens left) count line is fits = fits
 like_line (Tokens all) Entries count line is fits = elim is [ ]
 like_line Entries (Tokens left) count line is fits = elim is [ ]
@@ -76,7 +76,7 @@ like_order Entries Entries count a b is may = may
 
 -- the lines behind so many, as lines of what is left
 rest_lines : (all kind : Lines) (count : ℕ) (lines : List TokenLine) → IsBehindSo all kind count
-    → AreCounted kind (length lines) → AllByRecursion (IsLineOf all) lines → Rise all lines
+    → AreCounted kind (length lines) → AllByRecursion (IsLineOfKind all) lines → Rise all lines
     → AreLines kind lines
 rest_lines (Tokens all) (Tokens left) count lines is counted each rise =
     lines_from (Tokens left) lines counted each (same_rise lines rise)
@@ -109,7 +109,7 @@ pub record IsGoing (part : Part) : Type 0 where
   pub source : IsSource (kind, left) part.at
   pub behind : IsBehindSo part.text.0 kind (length part.done)
   pub shown : part.text.1 ≡ text_of part.done ++ left
-  pub each : AllByRecursion (IsLineOf part.text.0) part.done
+  pub each : AllByRecursion (IsLineOfKind part.text.0) part.done
   pub rise : Rise part.text.0 part.done
   pub below : IfSome part.at.head
       (λ token. AllByRecursion (λ line. MayFollow part.text.0 line.token token) part.done)
@@ -218,7 +218,7 @@ going_next part token after going is moved =
       behind = subst (λ n. IsBehindSo part.text.0 part.at.behind n)
           (sym (length_push part.done line)) behind;
       shown = shown_here part token going is;
-      each = each_push (IsLineOf part.text.0) part.done line going.each
+      each = each_push (IsLineOfKind part.text.0) part.done line going.each
           (like_line part.text.0 going.kind (length part.done) line going.behind at.line);
       rise = rise_push part.text.0 part.done line going.rise below;
       below = itself_below part.text.0 line after.head part.done may
@@ -247,7 +247,7 @@ going_line part token going is list text =
     let at = here part token going is in
     let line = line_at part.at token in
     begins part.text.0 (part.done ++ line ∷ []) list at.rest
-    (each_push (IsLineOf part.text.0) part.done line going.each
+    (each_push (IsLineOfKind part.text.0) part.done line going.each
     (like_line part.text.0 going.kind (length part.done) line going.behind at.line))
     (lines_each part.text.0 list text.0) (sym text.1 ∙ shown_here part token going is)
 
@@ -268,13 +268,13 @@ going_stuck part token going is stuck list text =
     (lines_count part.text.0 list text.0) in
     let rise : Rise part.text.0 (front ++ more) =
     subst (λ lines. Rise part.text.0 lines) begun (lines_rise part.text.0 list text.0) in
-    let each : AllByRecursion (IsLineOf part.text.0) (front ++ more) =
-    subst (λ lines. AllByRecursion (IsLineOf part.text.0) lines) begun
+    let each : AllByRecursion (IsLineOfKind part.text.0) (front ++ more) =
+    subst (λ lines. AllByRecursion (IsLineOfKind part.text.0) lines) begun
     (lines_each part.text.0 list text.0) in
     let lines : AreLines part.at.behind more =
     rest_lines part.text.0 part.at.behind (length part.done + 1) more behind
     (rest_count part.text.0 part.at.behind (length part.done + 1) (length more) behind count)
-    (each_behind (IsLineOf part.text.0) front more each) (rise_behind part.text.0 front more rise)
+    (each_behind (IsLineOfKind part.text.0) front more each) (rise_behind part.text.0 front more rise)
     in
     let may : MayFollowAll part.at.behind token more =
     rest_may part.text.0 part.at.behind (length part.done + 1) token more behind

@@ -14,12 +14,12 @@ use Rattle.part_reports.specs.declared.sums.WholeSums.{WholeSums}
 use Rattle.part_reports.specs.Faults.{IsOfTexts}
 use Rattle.part_reports.specs.TokenLines.{TokenLine}
 use Rattle.part_reports.specs.Lines.{AreCounts, head_line, validator_line}
-use Rattle.part_reports.specs.inside.Fronts.{IsFront, MayBePart, Told, ends_text, told_text, validators_text}
+use Rattle.part_reports.specs.inside.Fronts.{IsFront, MayBePart, ToldFront, ends_text, told_text, validators_text}
 use Rattle.part_reports.specs.inside.Kinds.{IsTextOf}
 use Rattle.part_reports.specs.inside.Parts.{AreParts, Begun, IsNoPart, IsPart, begun_text, left_text}
 use Rattle.part_reports.specs.inside.Reading.{IsRead, Stood}
 use Rattle.part_reports.specs.inside.Sources.{IsSource, Standing}
-use Rattle.part_reports.specs.inside.Sums.{AreFew, IsCounted, WithFront}
+use Rattle.part_reports.specs.inside.Sums.{AreFew, AreFrontsCounted, WithFront}
 use Rattle.part_reports.proofs.TextsRead.{AreLeft, Split, behind_front, no_files, split}
 use Rattle.part_reports.proofs.Unique.{head_line_unique, totals_line_unique}
 use Rattle.part_reports.proofs.WholeFronts.{IsUnique, behind_ends, behind_totals, ends_unique, told_parts, tokens_text, validators_unique}
@@ -58,7 +58,7 @@ no_lines before None now front fault read none_there = tt
 no_lines before (Some file) now front fault read none_there = λ fronts counted begun lines may shown is few.
     let same = told_unique read.value begun.0 read.rest begun.1 read.may may (sym read.shown ∙ shown) in
     let here = subst (λ now. IfSome now (λ left. (lines : List TokenLine) → ¬ (IsTextOf (Tokens front.tokens, left) lines))) read.left none_there in
-    let tokens : begun.0.tokens ≡ front.tokens = sym (read.is.tokens ∙ ap (λ (told : Told). told.tokens) same.0) in
+    let tokens : begun.0.tokens ≡ front.tokens = sym (read.is.tokens ∙ ap (λ (told : ToldFront). told.tokens) same.0) in
     here lines (subst (λ text. IsTextOf text lines) (ap (λ n. (Tokens n, begun.1)) tokens ∙ ap (λ left. (Tokens front.tokens, left)) (sym same.1)) is)
 
 pub is_part : (before after : WholeSums) (file now : Option (List ℕ)) (front : Front) (at : Standing)
@@ -80,11 +80,14 @@ is_part before after (Some file) now front at read added stands =
 abbrev pub BegunSo : {R : Type 0} → (R → Option (List ℕ)) → List R → WholeSums → List Standing → Type 0
 BegunSo remaining readers sums sources = (files : List (List ℕ)) → AreLeft remaining readers files → AreParts files sums sources
 
-pub begun_none : {R : Type 0} (remaining : R → Option (List ℕ)) (sums : WholeSums) (sources : List Standing) → IsCounted sums [] → sources ≡ [] → BegunSo remaining [] sums sources
+pub begun_none : {R : Type 0} (remaining : R → Option (List ℕ)) (sums : WholeSums) (sources : List Standing) → AreFrontsCounted sums [] → sources ≡ [] → BegunSo remaining [] sums sources
 begun_none remaining sums sources counted none files are =
     let no_text = no_files remaining files are in
     record {
-      begun = []; shown = no_text; may = All-nil (λ (one : Begun). MayBePart one.0); counted = counted;
+      begun = [];
+      shown = no_text;
+      may = All-nil (λ (one : Begun). MayBePart one.0);
+      counted = counted;
       stand = subst (λ sources. AllZip IsSource [] sources) (sym none) tt;
     }
 
@@ -109,7 +112,7 @@ begun_more remaining readers x before after sources all at all_is so_far part fi
       shown = parts.is ∙ ap (λ more. parts.before ++ parts.file ∷ more) none ∙ ap (λ some. some ++ parts.file ∷ []) done.shown
           ∙ ap (λ file. map begun_text done.begun ++ file ∷ []) here.shown ∙ sym (map-append begun_text done.begun (here.begun ∷ []));
       may = All-push (λ (one : Begun). MayBePart one.0) done.begun here.begun done.may here.may;
-      counted = subst (λ fronts. IsCounted after fronts) (sym (map-append (λ (one : Begun). one.0) done.begun (here.begun ∷ []))) (here.added (map (λ one. one.0) done.begun) done.counted);
+      counted = subst (λ fronts. AreFrontsCounted after fronts) (sym (map-append (λ (one : Begun). one.0) done.begun (here.begun ∷ []))) (here.added (map (λ one. one.0) done.begun) done.counted);
       stand = subst (λ sources. AllZip IsSource (map left_text (done.begun ++ here.begun ∷ [])) sources) (sym all_is)
           (subst (λ texts. AllZip IsSource texts (sources ++ at ∷ [])) (sym (map-append left_text done.begun (here.begun ∷ [])))
           (zip_push (map left_text done.begun) sources (left_text here.begun) at done.stand here.stands));

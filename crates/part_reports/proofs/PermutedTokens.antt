@@ -47,7 +47,9 @@ found token first sum sums rest true test next is =
 found token first sum sums rest false test next is =
     let at = next is in
     record {
-      front = sum ∷ at.front; back = at.back; is = ap (λ more. sum ∷ more) at.is;
+      front = sum ∷ at.front;
+      back = at.back;
+      is = ap (λ more. sum ∷ more) at.is;
       none_before = ap (λ b. if b then sum ∷ of_token token at.front else of_token token at.front) test ∙ at.none_before;
       rest_is = at.rest_is;
     }
@@ -78,13 +80,17 @@ eq_of a b is = λ i. record { high = high i; low = low i }
     first_of_both : (a b : Bool) → (a && b) ≡ true → a ≡ true
     first_of_both true b is = refl
     first_of_both false b is = is
+
     second_of_both : (a b : Bool) → (a && b) ≡ true → b ≡ true
     second_of_both true b is = is
     second_of_both false b is = absurd (cc)
+
     number : (x y : ℕ) → (x == y) ≡ true → x ≡ y
     number x y is = grind (arith, nat_tests, is)
+
     high : a.high ≡ b.high
     high = number a.high b.high (first_of_both (a.high == b.high) (a.low == b.low) is)
+
     low : a.low ≡ b.low
     low = number a.low b.low (second_of_both (a.high == b.high) (a.low == b.low) is)
 
@@ -97,9 +103,9 @@ permuted (x ∷ xs) ys same =
     let here : of_token x.0 (x ∷ xs) ≡ x ∷ of_token x.0 xs = ap (λ b. if b then x ∷ of_token x.0 xs else of_token x.0 xs) (same_token x.0) in
     let at = find x.0 x ys (of_token x.0 xs) (sym (same x.0) ∙ here) in
     let rest : (token : Token) → of_token token xs ≡ of_token token (at.front ++ at.back) =
-        λ token. sym (filter_joined token at.front at.back ∙ left_same token (token_eq token x.0) x (of_token token xs) at.front at.back
-            (sym (filter_joined token at.front (x ∷ at.back)) ∙ ap (of_token token) (sym at.is) ∙ sym (same token))
-            (λ is. subst (λ t. of_token t at.front ≡ []) (sym (eq_of token x.0 is)) at.none_before)) in
+    λ token. sym (filter_joined token at.front at.back ∙ left_same token (token_eq token x.0) x (of_token token xs) at.front at.back
+    (sym (filter_joined token at.front (x ∷ at.back)) ∙ ap (of_token token) (sym at.is) ∙ sym (same token))
+    (λ is. subst (λ t. of_token t at.front ≡ []) (sym (eq_of token x.0 is)) at.none_before)) in
     let moved = IsPermutation-cons x xs (at.front ++ at.back) (permuted xs (at.front ++ at.back) rest) in
     subst (λ ys. IsPermutation (x ∷ xs) ys) (sym at.is)
     (IsPermutation-trans (x ∷ xs) (x ∷ (at.front ++ at.back)) (at.front ++ x ∷ at.back) moved (IsPermutation-sym (at.front ++ x ∷ at.back) (x ∷ (at.front ++ at.back)) (IsPermutation-middle at.front x at.back)))

@@ -12,7 +12,7 @@ use Rattle.std.proofs.lemmas.Bool.{lt-ltb, ltb-true}
 use Rattle.shard_book.specs.Shown.{validator_sum}
 use Rattle.shard_book.specs.Sums.{Sums}
 use Rattle.shard_book.specs.declared.sums.ValidatorSum.{ValidatorSum}
-use Rattle.part_reports.specs.inside.Fronts.{MayFollow}
+use Rattle.part_reports.specs.inside.Fronts.{MayFollowValidators}
 
 pub less : (x y : ℕ) → x < y → nat_cmp x y ≡ Less
 less x y below = sym (nat_cmp_is x y Less below)
@@ -27,7 +27,7 @@ is_less x y is = ltb-true x y (less_by (nat_lt x y) (x == y) is)
 
 -- above the last of some that are above the first
 above_last : (first : ℕ) (sum : ℕ × Sums) (sums : List (ℕ × Sums)) (validator : ℕ)
-    → AllByRecursion (λ other. nat_cmp first other ≡ Less) (keys_of (sum ∷ sums)) → MayFollow (sum ∷ sums) validator → first < validator
+    → AllByRecursion (λ other. nat_cmp first other ≡ Less) (keys_of (sum ∷ sums)) → MayFollowValidators (sum ∷ sums) validator → first < validator
 above_last first sum [] validator all follow = let below = is_less first sum.0 all.0 in omega (arith, below, follow)
 above_last first sum (next ∷ sums) validator all follow = above_last first next sums validator all.1 follow
 
@@ -36,7 +36,7 @@ all_more : (first : ℕ) (sums : List (ℕ × Sums)) (sum : ℕ × Sums) → All
 all_more first [] sum all below = (less first sum.0 below, tt)
 all_more first (next ∷ sums) sum all below = (all.0, all_more first sums sum all.1 below)
 
-pub rise_more : (sums : List (ℕ × Sums)) (sum : ℕ × Sums) → IsStrictlySortedBy nat_cmp (keys_of sums) → MayFollow sums sum.0
+pub rise_more : (sums : List (ℕ × Sums)) (sum : ℕ × Sums) → IsStrictlySortedBy nat_cmp (keys_of sums) → MayFollowValidators sums sum.0
     → IsStrictlySortedBy nat_cmp (keys_of (sums ++ sum ∷ []))
 unfolding IsStrictlySortedBy
 rise_more [] sum rise follow = (tt, tt)
@@ -48,7 +48,7 @@ pub rise_none : IsStrictlySortedBy nat_cmp (keys_of {K = ℕ} {X = Sums} [])
 unfolding IsStrictlySortedBy
 rise_none = tt
 
-pub rise_follow : (done : List (ℕ × Sums)) (sum : ℕ × Sums) (more : List (ℕ × Sums)) → IsStrictlySortedBy nat_cmp (keys_of (done ++ sum ∷ more)) → MayFollow done sum.0
+pub rise_follow : (done : List (ℕ × Sums)) (sum : ℕ × Sums) (more : List (ℕ × Sums)) → IsStrictlySortedBy nat_cmp (keys_of (done ++ sum ∷ more)) → MayFollowValidators done sum.0
 unfolding IsStrictlySortedBy
 rise_follow [] sum more rise = tt
 rise_follow (first ∷ []) sum more rise = is_less first.0 sum.0 rise.0.0
@@ -56,8 +56,8 @@ rise_follow (first ∷ (next ∷ done)) sum more rise = rise_follow (next ∷ do
 
 -- the last of some
 abbrev pub FollowsLast : Option ValidatorSum → List ValidatorSum → ℕ → Type 0
-FollowsLast last sums validator = MatchOption last (MayFollow (map validator_sum sums) validator)
-    (λ before. before.validator < validator ↔ MayFollow (map validator_sum sums) validator)
+FollowsLast last sums validator = MatchOption last (MayFollowValidators (map validator_sum sums) validator)
+    (λ before. before.validator < validator ↔ MayFollowValidators (map validator_sum sums) validator)
 
 pub follows_last : (sums : List ValidatorSum) (validator : ℕ) → FollowsLast (slice_get sums (length sums - 1)) sums validator
 follows_last [] validator = tt

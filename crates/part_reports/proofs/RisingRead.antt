@@ -13,7 +13,7 @@ use Rattle.shard_book.specs.declared.sums.ValidatorSum.{ValidatorSum}
 use Rattle.part_reports.specs.declared.fault.MergeFault.{MergeFault}
 use Rattle.part_reports.specs.Faults.{IsOfTexts}
 use Rattle.part_reports.specs.Lines.{IsValidatorSum, validator_line}
-use Rattle.part_reports.specs.inside.Fronts.{AreRising, AreSums, MayFollow}
+use Rattle.part_reports.specs.inside.Fronts.{AreRising, AreSums, MayFollowValidators}
 use Rattle.part_reports.specs.inside.Reading.{IsRead, Stood}
 use Rattle.part_reports.proofs.ListsWritten.{Next, lines_from, lines_begin, flat_map_from}
 use Rattle.part_reports.proofs.Rising.{rise_more, rise_none, rise_follow}
@@ -33,7 +33,9 @@ pub rising_first : (sums : List ValidatorSum) (text : Option (List ℕ)) → sum
 rising_first sums None none = tt
 rising_first sums (Some text) none = subst (λ sums. RisingSome 0 sums (Some text) (Some text)) (sym none) (record {
   are = record { number = refl; each = All-nil IsValidatorSum; rise = rise_none };
-  rest = text; shown = refl; left = refl;
+  rest = text;
+  shown = refl;
+  left = refl;
 })
 
 map_more : (sums : List ValidatorSum) (sum : ValidatorSum) → map validator_sum (sums ++ sum ∷ []) ≡ map validator_sum sums ++ validator_sum sum ∷ []
@@ -47,7 +49,7 @@ one_line sum = simp append-nil
 pub rising_more : (count : ℕ) (sums more : List ValidatorSum) (sum : ValidatorSum) (text now after : Option (List ℕ)) → more ≡ sums ++ sum ∷ []
     → RisingSome count sums text now
     → IsRead (λ (sum : ValidatorSum) value. validator_sum sum ≡ value) IsValidatorSum validator_line now after (Ok sum)
-    → MayFollow (map validator_sum sums) sum.validator
+    → MayFollowValidators (map validator_sum sums) sum.validator
     → RisingSome (count + 1) more text after
 rising_more count sums more sum None now after is rising read follow = tt
 rising_more count sums more sum (Some text) now after is rising read follow =
@@ -73,14 +75,14 @@ rising_more count sums more sum (Some text) now after is rising read follow =
 -- no validator's line that may stand behind those that were read is there
 rising_refused : {T : Type 0} (Is : T → List (ℕ × Sums) → Type 0) (number count : ℕ) (sums : List ValidatorSum) (text now after : Option (List ℕ)) (fault : MergeFault) → count < number
     → RisingSome count sums text now
-    → ((left : List ℕ) → now ≡ Some left → IsOfTexts fault → (sum : ℕ × Sums) (more : List ℕ) → IsValidatorSum sum → MayFollow (map validator_sum sums) sum.0 → ¬ (left ≡ validator_line sum ++ more))
+    → ((left : List ℕ) → now ≡ Some left → IsOfTexts fault → (sum : ℕ × Sums) (more : List ℕ) → IsValidatorSum sum → MayFollowValidators (map validator_sum sums) sum.0 → ¬ (left ≡ validator_line sum ++ more))
     → IsRead Is (AreRising number) (flat_map validator_line) text after (Err fault)
 rising_refused Is number count sums None now after fault less rising absent = tt
 rising_refused Is number count sums (Some text) now after fault less rising absent = λ of_texts values rest may shown.
     let done = map validator_sum sums in
     let show : ℕ → ℕ × Sums → List ℕ = λ _ sum. validator_line sum in
     let next : Next IsValidatorSum show 0 done values rising.rest rest = lines_begin IsValidatorSum show (λ _ a b x y. validator_line_unique a b x y) 0 done values rising.rest rest rising.are.each may.each (omega (arith, rising.are.number, may.number, less))
-        (ap (λ text. text ++ rising.rest) (sym (flat_map_from validator_line 0 done)) ∙ sym rising.shown ∙ shown ∙ ap (λ text. text ++ rest) (flat_map_from validator_line 0 values)) in
+    (ap (λ text. text ++ rising.rest) (sym (flat_map_from validator_line 0 done)) ∙ sym rising.shown ∙ shown ∙ ap (λ text. text ++ rest) (flat_map_from validator_line 0 values)) in
     absent rising.rest rising.left of_texts next.value (lines_from show (0 + length done + 1) next.more ++ rest) next.may
     (rise_follow done next.value next.more (subst (λ values. IsStrictlySortedBy nat_cmp (keys_of values)) next.is may.rise)) next.rest
 
@@ -94,14 +96,14 @@ rising_no_line Is number count sums text now after fault less rising read = risi
 pub rising_not : {T : Type 0} (Is : T → List (ℕ × Sums) → Type 0) (number count : ℕ) (sums : List ValidatorSum) (sum : ValidatorSum) (text now after : Option (List ℕ)) (fault : MergeFault) → count < number
     → RisingSome count sums text now
     → IsRead {T = ValidatorSum} (λ sum value. validator_sum sum ≡ value) IsValidatorSum validator_line now after (Ok sum)
-    → ¬ (MayFollow (map validator_sum sums) sum.validator)
+    → ¬ (MayFollowValidators (map validator_sum sums) sum.validator)
     → IsRead Is (AreRising number) (flat_map validator_line) text after (Err fault)
 rising_not Is number count sums sum text now after fault less rising read not = rising_refused Is number count sums text now after fault less rising
     (λ left is of_texts other more may follow shown.
     let here = subst (λ now. IsRead {T = ValidatorSum} (λ sum value. validator_sum sum ≡ value) IsValidatorSum validator_line now after (Ok sum)) is read in
     let same = validator_line_unique here.value other here.rest more here.may may (sym here.shown ∙ shown) in
     let same_key : other.0 ≡ sum.validator = ap (λ (sum : ℕ × Sums). sum.0) (sym (here.is ∙ same.0)) in
-    not (subst (λ validator. MayFollow (map validator_sum sums) validator) same_key follow))
+    not (subst (λ validator. MayFollowValidators (map validator_sum sums) validator) same_key follow))
 
 pub rising_done : {T : Type 0} (Is : T → List (ℕ × Sums) → Type 0) (number count : ℕ) (sums : List ValidatorSum) (text now : Option (List ℕ)) (x : T) → count ≡ number
     → Is x (map validator_sum sums)
@@ -112,5 +114,7 @@ rising_done Is number count sums (Some text) now x same is rising = record {
   value = map validator_sum sums;
   is = is;
   may = subst (λ number. AreRising number (map validator_sum sums)) same rising.are;
-  rest = rising.rest; shown = rising.shown; left = rising.left;
+  rest = rising.rest;
+  shown = rising.shown;
+  left = rising.left;
 }

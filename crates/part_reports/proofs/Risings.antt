@@ -9,10 +9,10 @@ use Rattle.std.specs.declared.cmp.Ordering.TheVariants.{Less}
 use Rattle.std.proofs.lemmas.List.Elements.{All-from_recursion, recursion_from_All}
 use Rattle.fare_table.specs.Token.{token_cmp}
 use Rattle.fare_table.specs.declared.token.Token.{Token}
-use Rattle.part_reports.specs.Ledgers.{IsEntryLine}
+use Rattle.part_reports.specs.Ledgers.{IsLedgerEntryLine}
 use Rattle.part_reports.specs.TokenLines.{DoNotFall, TokenLine, text_of}
 use Rattle.part_reports.specs.inside.Kinds.{AreLines, IsSumLine}
-use Rattle.part_reports.specs.inside.Sources.{IsLineOf, MayFollow, MayFollowAll}
+use Rattle.part_reports.specs.inside.Sources.{IsLineOfKind, MayFollow, MayFollowAll}
 use Rattle.part_reports.specs.declared.merging.Lines.{Lines}
 use Rattle.part_reports.specs.declared.merging.Lines.TheVariants.{Tokens, Entries}
 use Rattle.part_reports.proofs.Firsts.{line_is_some, line_unique}
@@ -146,11 +146,11 @@ AreCounted (Tokens left) count = count ≡ left
 AreCounted Entries count = Unit {0}
 
 pub lines_from : (kind : Lines) (lines : List TokenLine) → AreCounted kind (length lines)
-    → AllByRecursion (IsLineOf kind) lines → Rise kind lines → AreLines kind lines
+    → AllByRecursion (IsLineOfKind kind) lines → Rise kind lines → AreLines kind lines
 lines_from (Tokens left) lines count each rise =
     (count, All-from_recursion IsSumLine lines each, strictly_from left lines rise)
 lines_from Entries lines count each rise =
-    (All-from_recursion IsEntryLine lines each, falls_from lines rise)
+    (All-from_recursion IsLedgerEntryLine lines each, falls_from lines rise)
 
 pub lines_count : (kind : Lines) (lines : List TokenLine) → AreLines kind lines
     → AreCounted kind (length lines)
@@ -158,9 +158,9 @@ lines_count (Tokens left) lines are = are.0
 lines_count Entries lines are = tt
 
 pub lines_each : (kind : Lines) (lines : List TokenLine) → AreLines kind lines
-    → AllByRecursion (IsLineOf kind) lines
+    → AllByRecursion (IsLineOfKind kind) lines
 lines_each (Tokens left) lines are = recursion_from_All IsSumLine lines are.1
-lines_each Entries lines are = recursion_from_All IsEntryLine lines are.0
+lines_each Entries lines are = recursion_from_All IsLedgerEntryLine lines are.0
 
 pub lines_rise : (kind : Lines) (lines : List TokenLine) → AreLines kind lines → Rise kind lines
 lines_rise (Tokens left) lines are = strictly_to left lines are.2
@@ -173,7 +173,7 @@ no_bytes (x ∷ line) rest is = cc
 
 -- the lines of a text begin with those that the text begins with
 pub begins : (kind : Lines) (done list : List TokenLine) (left : List ℕ)
-    → AllByRecursion (IsLineOf kind) done → AllByRecursion (IsLineOf kind) list
+    → AllByRecursion (IsLineOfKind kind) done → AllByRecursion (IsLineOfKind kind) list
     → text_of list ≡ text_of done ++ left
     → (more : List TokenLine) × (list ≡ done ++ more) × (text_of more ≡ left)
 begins kind [] list left each also same = (list, refl, same)

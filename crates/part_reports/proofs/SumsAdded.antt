@@ -16,11 +16,11 @@ use Rattle.shard_book.specs.Shown.{validator_sum}
 use Rattle.shard_book.specs.Sums.{Sums, add_all, add_sums, sums, sums_of, sums_of_replies}
 use Rattle.shard_book.specs.declared.sums.ValidatorSum.{ValidatorSum}
 use Rattle.shard_book.specs.declared.sums.totals.Totals.{Totals}
-use Rattle.part_reports.specs.Reports.{sums_at}
+use Rattle.part_reports.specs.Reports.{sums_of_validator}
 use Rattle.part_reports.specs.declared.front.Front.{Front}
 use Rattle.part_reports.specs.declared.sums.WholeSums.{WholeSums}
-use Rattle.part_reports.specs.inside.Fronts.{IsFront, Told}
-use Rattle.part_reports.specs.inside.Sums.{AreFew, AreOf, AreSmall, IsCounted, WithFront, WithOne, WithValidators, or_nothing, sums_in}
+use Rattle.part_reports.specs.inside.Fronts.{IsFront, ToldFront}
+use Rattle.part_reports.specs.inside.Sums.{AreFew, AreOf, AreSmall, AreFrontsCounted, WithFront, WithOne, WithValidators, or_nothing, sums_found}
 use Rattle.std.proofs.lemmas.List.Concat.{flat_map-append}
 use Rattle.std.proofs.lemmas.List.Sums.{sum_by-append}
 
@@ -33,14 +33,23 @@ plus_assoc a b c = omega arith
 nothing_first : (s : Sums) → add_sums s (sums []) ≡ add_sums (sums []) s
 unfolding sums_of_replies
 nothing_first s = λ i. record {
-  taps = zero_first s.taps i; paid = zero_first s.paid i; transfers = zero_first s.transfers i; capped = zero_first s.capped i;
-  stale = zero_first s.stale i; unknown = zero_first s.unknown i; cents = zero_first s.cents i;
+  taps = zero_first s.taps i;
+  paid = zero_first s.paid i;
+  transfers = zero_first s.transfers i;
+  capped = zero_first s.capped i;
+  stale = zero_first s.stale i;
+  unknown = zero_first s.unknown i;
+  cents = zero_first s.cents i;
 }
 
 add_assoc : (a b c : Sums) → add_sums a (add_sums b c) ≡ add_sums (add_sums a b) c
 add_assoc a b c = λ i. record {
-  taps = plus_assoc a.taps b.taps c.taps i; paid = plus_assoc a.paid b.paid c.paid i; transfers = plus_assoc a.transfers b.transfers c.transfers i;
-  capped = plus_assoc a.capped b.capped c.capped i; stale = plus_assoc a.stale b.stale c.stale i; unknown = plus_assoc a.unknown b.unknown c.unknown i;
+  taps = plus_assoc a.taps b.taps c.taps i;
+  paid = plus_assoc a.paid b.paid c.paid i;
+  transfers = plus_assoc a.transfers b.transfers c.transfers i;
+  capped = plus_assoc a.capped b.capped c.capped i;
+  stale = plus_assoc a.stale b.stale c.stale i;
+  unknown = plus_assoc a.unknown b.unknown c.unknown i;
   cents = plus_assoc a.cents b.cents c.cents i;
 }
 
@@ -86,30 +95,30 @@ chosen_more : (list : List (ℕ × Sums)) (sum : ℕ × Sums) (q : ℕ) → chos
 chosen_more [] sum q = refl
 chosen_more (first ∷ list) sum q =
     elim (first.0 == q) as (λ b. (map (λ (sum : ℕ × Sums). sum.1) (if b then first ∷ filter (λ (sum : ℕ × Sums). sum.0 == q) (list ++ sum ∷ []) else filter (λ (sum : ℕ × Sums). sum.0 == q) (list ++ sum ∷ [])))
-      ≡ map (λ (sum : ℕ × Sums). sum.1) (if b then first ∷ filter (λ (sum : ℕ × Sums). sum.0 == q) list else filter (λ (sum : ℕ × Sums). sum.0 == q) list) ++ chosen q (sum ∷ []))
+    ≡ map (λ (sum : ℕ × Sums). sum.1) (if b then first ∷ filter (λ (sum : ℕ × Sums). sum.0 == q) list else filter (λ (sum : ℕ × Sums). sum.0 == q) list) ++ chosen q (sum ∷ []))
     [ true ↦ ap (λ more. first.1 ∷ more) (chosen_more list sum q) | false ↦ chosen_more list sum q ]
 
-pub sums_at_same : (list : List (ℕ × Sums)) (sum : ℕ × Sums) → sums_at sum.0 (list ++ sum ∷ []) ≡ add_sums (sums_at sum.0 list) sum.1
+pub sums_at_same : (list : List (ℕ × Sums)) (sum : ℕ × Sums) → sums_of_validator sum.0 (list ++ sum ∷ []) ≡ add_sums (sums_of_validator sum.0 list) sum.1
 sums_at_same list sum =
     let same = same_number sum.0 in
     let one : chosen sum.0 (sum ∷ []) ≡ sum.1 ∷ [] = rw same refl in
     ap add_all (chosen_more list sum sum.0 ∙ ap (λ more. chosen sum.0 list ++ more) one) ∙ add_all_more (chosen sum.0 list) sum.1
 
-pub sums_at_other : (list : List (ℕ × Sums)) (sum : ℕ × Sums) (q : ℕ) → sum.0 ≢ q → sums_at q (list ++ sum ∷ []) ≡ sums_at q list
+pub sums_at_other : (list : List (ℕ × Sums)) (sum : ℕ × Sums) (q : ℕ) → sum.0 ≢ q → sums_of_validator q (list ++ sum ∷ []) ≡ sums_of_validator q list
 sums_at_other list sum q other =
     let differs = other_number sum.0 q other in
     let none : chosen q (sum ∷ []) ≡ [] = rw differs refl in
     ap add_all (chosen_more list sum q ∙ ap (λ more. chosen q list ++ more) none ∙ append-nil (chosen q list))
 
-sums_in_same : (list : List (ℕ × Sums)) (sum : ℕ × Sums) → sums_in (list ++ sum ∷ []) sum.0 ≡ Some (add_sums (sums_at sum.0 list) sum.1)
+sums_in_same : (list : List (ℕ × Sums)) (sum : ℕ × Sums) → sums_found (list ++ sum ∷ []) sum.0 ≡ Some (add_sums (sums_of_validator sum.0 list) sum.1)
 sums_in_same list sum =
     let member : is_member (eq_by_cmp nat_cmp) (keys_of (list ++ sum ∷ [])) sum.0 ≡ true = member_more list sum sum.0 ∙ ap (λ b. is_member (eq_by_cmp nat_cmp) (keys_of list) sum.0 || b) (same_key sum.0) ∙ or_true (is_member (eq_by_cmp nat_cmp) (keys_of list) sum.0) in
-    ap (λ b. if b then Some (sums_at sum.0 (list ++ sum ∷ [])) else None) member ∙ ap (λ s. Some s) (sums_at_same list sum)
+    ap (λ b. if b then Some (sums_of_validator sum.0 (list ++ sum ∷ [])) else None) member ∙ ap (λ s. Some s) (sums_at_same list sum)
 
-sums_in_other : (list : List (ℕ × Sums)) (sum : ℕ × Sums) (q : ℕ) → q ≢ sum.0 → sums_in (list ++ sum ∷ []) q ≡ sums_in list q
+sums_in_other : (list : List (ℕ × Sums)) (sum : ℕ × Sums) (q : ℕ) → q ≢ sum.0 → sums_found (list ++ sum ∷ []) q ≡ sums_found list q
 sums_in_other list sum q other =
     let member : is_member (eq_by_cmp nat_cmp) (keys_of (list ++ sum ∷ [])) q ≡ is_member (eq_by_cmp nat_cmp) (keys_of list) q = member_more list sum q ∙ ap (λ b. is_member (eq_by_cmp nat_cmp) (keys_of list) q || b) (other_key q sum.0 other) ∙ or_false (is_member (eq_by_cmp nat_cmp) (keys_of list) q) in
-    ap (λ b. if b then Some (sums_at q (list ++ sum ∷ [])) else None) member
+    ap (λ b. if b then Some (sums_of_validator q (list ++ sum ∷ [])) else None) member
     ∙ ap (λ s. if is_member (eq_by_cmp nat_cmp) (keys_of list) q then Some s else None) (sums_at_other list sum q (λ e. other (sym e)))
 
 -- a validator that is not in the list has nothing in it
@@ -124,14 +133,15 @@ not_member (first ∷ list) q absent =
     true_or : (a b : Bool) → a ≡ true → (a || b) ≡ false → ⊥
     true_or true b is absent = cc
     true_or false b is absent = cc
+
     rest_of : (a b : Bool) → (a || b) ≡ false → b ≡ false
     rest_of true b absent = absurd (cc)
     rest_of false b absent = absent
 
-pub or_nothing_in : (list : List (ℕ × Sums)) (q : ℕ) → or_nothing (sums_in list q) ≡ sums_at q list
+pub or_nothing_in : (list : List (ℕ × Sums)) (q : ℕ) → or_nothing (sums_found list q) ≡ sums_of_validator q list
 or_nothing_in list q = by_member (is_member (eq_by_cmp nat_cmp) (keys_of list) q) refl
   where
-    by_member : (b : Bool) → is_member (eq_by_cmp nat_cmp) (keys_of list) q ≡ b → or_nothing (if b then Some (sums_at q list) else None) ≡ sums_at q list
+    by_member : (b : Bool) → is_member (eq_by_cmp nat_cmp) (keys_of list) q ≡ b → or_nothing (if b then Some (sums_of_validator q list) else None) ≡ sums_of_validator q list
     by_member true is = refl
     by_member false is = ap add_all (sym (not_member list q is))
 
@@ -143,14 +153,14 @@ pub with_one : (before after : BTreeMap ℕ Totals) (sum : ValidatorSum) (kept m
     → WithOne before after sum true
 with_one before after sum kept more kept_is more_is updates list are q =
     let one = validator_sum sum in
-    let old : sums_of kept ≡ sums_at sum.validator list = kept_is ∙ ap or_nothing (are sum.validator) ∙ or_nothing_in list sum.validator in
+    let old : sums_of kept ≡ sums_of_validator sum.validator list = kept_is ∙ ap or_nothing (are sum.validator) ∙ or_nothing_in list sum.validator in
     let at = updates.0 q in
     elim (cases_eq sum.validator q) [
       | inl same ↦
           let at_it : is_at (nat_cmp sum.validator) q ≡ true = subst (λ q. is_at (nat_cmp sum.validator) q ≡ true) same (same_key sum.validator) in
           ap (option_map sums_of) (at ∙ ap (λ b. cond b (Some more) (get nat_cmp before q)) at_it)
           ∙ ap (λ s. Some s) (more_is ∙ ap (λ s. add_sums s (sums_of sum.totals)) old)
-          ∙ sym (sums_in_same list one) ∙ ap (λ q. sums_in (list ++ one ∷ []) q) same
+          ∙ sym (sums_in_same list one) ∙ ap (λ q. sums_found (list ++ one ∷ []) q) same
       | inr other ↦
           let not_at : is_at (nat_cmp sum.validator) q ≡ false = other_key sum.validator q other in
           ap (option_map sums_of) (at ∙ ap (λ b. cond b (Some more) (get nat_cmp before q)) not_at)
@@ -163,9 +173,9 @@ pub one_full : (before after : BTreeMap ℕ Totals) (sum : ValidatorSum) (kept :
     → WithOne before after sum false
 one_full before after sum kept kept_is over list are =
     let one = validator_sum sum in
-    let old : sums_of kept ≡ sums_at sum.validator list = kept_is ∙ ap or_nothing (are sum.validator) ∙ or_nothing_in list sum.validator in
-    let taps : kept.taps ≡ (sums_at sum.validator list).taps = ap (λ (s : Sums). s.taps) old in
-    let whole : (sums_at sum.validator (list ++ one ∷ [])).taps ≡ (sums_at sum.validator list).taps + sum.totals.taps = ap (λ (s : Sums). s.taps) (sums_at_same list one) in
+    let old : sums_of kept ≡ sums_of_validator sum.validator list = kept_is ∙ ap or_nothing (are sum.validator) ∙ or_nothing_in list sum.validator in
+    let taps : kept.taps ≡ (sums_of_validator sum.validator list).taps = ap (λ (s : Sums). s.taps) old in
+    let whole : (sums_of_validator sum.validator (list ++ one ∷ [])).taps ≡ (sums_of_validator sum.validator list).taps + sum.totals.taps = ap (λ (s : Sums). s.taps) (sums_at_same list one) in
     omega (arith, taps, whole, over)
 
 -- ---- several validators
@@ -173,11 +183,11 @@ pub taps_nothing : (sums []).taps ≡ 0
 unfolding sums_of_replies
 taps_nothing = refl
 
-pub taps_joined : (q : ℕ) (some more : List (ℕ × Sums)) → (sums_at q (some ++ more)).taps ≡ (sums_at q some).taps + (sums_at q more).taps
+pub taps_joined : (q : ℕ) (some more : List (ℕ × Sums)) → (sums_of_validator q (some ++ more)).taps ≡ (sums_of_validator q some).taps + (sums_of_validator q more).taps
 taps_joined q [] more = let none = taps_nothing in omega (arith, none)
 taps_joined q (first ∷ some) more =
     elim (first.0 == q) as (λ b. (add_all (map (λ (sum : ℕ × Sums). sum.1) (if b then first ∷ filter (λ (sum : ℕ × Sums). sum.0 == q) (some ++ more) else filter (λ (sum : ℕ × Sums). sum.0 == q) (some ++ more)))).taps
-      ≡ (add_all (map (λ (sum : ℕ × Sums). sum.1) (if b then first ∷ filter (λ (sum : ℕ × Sums). sum.0 == q) some else filter (λ (sum : ℕ × Sums). sum.0 == q) some))).taps + (sums_at q more).taps)
+    ≡ (add_all (map (λ (sum : ℕ × Sums). sum.1) (if b then first ∷ filter (λ (sum : ℕ × Sums). sum.0 == q) some else filter (λ (sum : ℕ × Sums). sum.0 == q) some))).taps + (sums_of_validator q more).taps)
     [ true ↦ (let rest = taps_joined q some more in omega (arith, rest)) | false ↦ taps_joined q some more ]
 
 -- fewer validators are small too
@@ -214,47 +224,47 @@ pub first_full : (before now after : BTreeMap ℕ Totals) (all : List ValidatorS
 first_full before now after all i sum within is so_far one list are small =
     let over = one (list ++ map validator_sum (take i all)) (so_far list are) in
     let parts : all ≡ (take i all ++ sum ∷ []) ++ drop (suc i) all =
-        sym (take-append-drop i all) ∙ ap (λ more. take i all ++ more) (drop-cons all i sum within ∙ ap (λ x. x ∷ drop (suc i) all) (sym is))
-        ∙ sym (append_assoc (take i all) (sum ∷ []) (drop (suc i) all)) in
+    sym (take-append-drop i all) ∙ ap (λ more. take i all ++ more) (drop-cons all i sum within ∙ ap (λ x. x ∷ drop (suc i) all) (sym is))
+    ∙ sym (append_assoc (take i all) (sum ∷ []) (drop (suc i) all)) in
     let whole : list ++ map validator_sum all ≡ (list ++ map validator_sum (take i all ++ sum ∷ [])) ++ map validator_sum (drop (suc i) all) =
-        ap (λ some. list ++ map validator_sum some) parts ∙ ap (λ more. list ++ more) (map-append validator_sum (take i all ++ sum ∷ []) (drop (suc i) all))
-        ∙ sym (append_assoc list (map validator_sum (take i all ++ sum ∷ [])) (map validator_sum (drop (suc i) all))) in
+    ap (λ some. list ++ map validator_sum some) parts ∙ ap (λ more. list ++ more) (map-append validator_sum (take i all ++ sum ∷ []) (drop (suc i) all))
+    ∙ sym (append_assoc list (map validator_sum (take i all ++ sum ∷ [])) (map validator_sum (drop (suc i) all))) in
     let front = small_front (list ++ map validator_sum (take i all ++ sum ∷ [])) (map validator_sum (drop (suc i) all)) (subst (λ some. AreSmall some) whole small) in
     let most = front sum.validator in
-    let same : (sums_at sum.validator ((list ++ map validator_sum (take i all)) ++ validator_sum sum ∷ [])).taps ≡ (sums_at sum.validator (list ++ map validator_sum (take i all ++ sum ∷ []))).taps =
-        ap (λ list. (sums_at sum.validator list).taps) (one_more list (take i all) sum) in
+    let same : (sums_of_validator sum.validator ((list ++ map validator_sum (take i all)) ++ validator_sum sum ∷ [])).taps ≡ (sums_of_validator sum.validator (list ++ map validator_sum (take i all ++ sum ∷ []))).taps =
+    ap (λ list. (sums_of_validator sum.validator list).taps) (one_more list (take i all) sum) in
     omega (arith, over, most, same)
 
 -- ---- what a report has before its tokens
-abbrev totals_in : List Told → Sums
+abbrev totals_in : List ToldFront → Sums
 totals_in fronts = add_all (map (λ told. told.totals) fronts)
 
-abbrev validators_in : List Told → List (ℕ × Sums)
+abbrev validators_in : List ToldFront → List (ℕ × Sums)
 validators_in fronts = flat_map (λ told. told.validators) fronts
 
-abbrev tokens_in : List Told → ℕ
+abbrev tokens_in : List ToldFront → ℕ
 tokens_in fronts = sum_by (λ told. told.tokens) fronts
 
-totals_more : (fronts : List Told) (told : Told) → totals_in (fronts ++ told ∷ []) ≡ add_sums (totals_in fronts) told.totals
-totals_more fronts told = ap add_all (map-append (λ (told : Told). told.totals) fronts (told ∷ [])) ∙ add_all_more (map (λ told. told.totals) fronts) told.totals
+totals_more : (fronts : List ToldFront) (told : ToldFront) → totals_in (fronts ++ told ∷ []) ≡ add_sums (totals_in fronts) told.totals
+totals_more fronts told = ap add_all (map-append (λ (told : ToldFront). told.totals) fronts (told ∷ [])) ∙ add_all_more (map (λ told. told.totals) fronts) told.totals
 
-validators_more : (fronts : List Told) (told : Told) → validators_in (fronts ++ told ∷ []) ≡ validators_in fronts ++ told.validators
-validators_more fronts told = flat_map-append (λ (told : Told). told.validators) fronts (told ∷ []) ∙ ap (λ more. validators_in fronts ++ more) (append-nil told.validators)
+validators_more : (fronts : List ToldFront) (told : ToldFront) → validators_in (fronts ++ told ∷ []) ≡ validators_in fronts ++ told.validators
+validators_more fronts told = flat_map-append (λ (told : ToldFront). told.validators) fronts (told ∷ []) ∙ ap (λ more. validators_in fronts ++ more) (append-nil told.validators)
 
-pub counted_none : (sums : WholeSums) → sums_of sums.totals ≡ sums_of_replies [] → sums.validators.entries ≡ [] → sums.tokens ≡ 0 → IsCounted sums []
+pub counted_none : (sums : WholeSums) → sums_of sums.totals ≡ sums_of_replies [] → sums.validators.entries ≡ [] → sums.tokens ≡ 0 → AreFrontsCounted sums []
 counted_none sums totals none tokens = record {
   totals = totals;
   validators = λ q. ap (λ es. option_map sums_of (lookup (is_at (nat_cmp q)) es)) none;
   tokens = tokens;
 }
 
-pub front_added : (before after : WholeSums) (front : Front) (fronts : List Told) (told : Told)
+pub front_added : (before after : WholeSums) (front : Front) (fronts : List ToldFront) (told : ToldFront)
     → after.tokens ≡ before.tokens + front.tokens
     → sums_of after.totals ≡ add_sums (sums_of before.totals) (sums_of front.totals)
     → WithValidators before.validators after.validators front.validators.items true
-    → IsCounted before fronts → IsFront front told → IsCounted after (fronts ++ told ∷ [])
+    → AreFrontsCounted before fronts → IsFront front told → AreFrontsCounted after (fronts ++ told ∷ [])
 front_added before after front fronts told tokens totals validators counted is =
-    let sums = sum_by-append (λ (told : Told). told.tokens) fronts (told ∷ []) in
+    let sums = sum_by-append (λ (told : ToldFront). told.tokens) fronts (told ∷ []) in
     let old_tokens = counted.tokens in
     let more_tokens = is.tokens in
     record {
@@ -264,24 +274,24 @@ front_added before after front fronts told tokens totals validators counted is =
       tokens = omega (arith, tokens, sums, old_tokens, more_tokens);
     }
 
-pub front_full : (before after : WholeSums) (validators_now : BTreeMap ℕ Totals) (front : Front) (fronts : List Told) (told : Told)
+pub front_full : (before after : WholeSums) (validators_now : BTreeMap ℕ Totals) (front : Front) (fronts : List ToldFront) (told : ToldFront)
     → WithValidators before.validators validators_now front.validators.items false
-    → IsCounted before fronts → IsFront front told → ¬ (AreFew (fronts ++ told ∷ []))
+    → AreFrontsCounted before fronts → IsFront front told → ¬ (AreFew (fronts ++ told ∷ []))
 front_full before after validators_now front fronts told full counted is few =
     full (validators_in fronts) counted.validators
     (subst (λ list. AreSmall list) (validators_more fronts told ∙ ap (λ more. validators_in fronts ++ more) (sym is.validators)) few.validators)
 
-pub tokens_full : (before : WholeSums) (front : Front) (fronts : List Told) (told : Told) → 2 ^ 128 ≤ before.tokens + front.tokens
-    → IsCounted before fronts → IsFront front told → ¬ (AreFew (fronts ++ told ∷ []))
+pub tokens_full : (before : WholeSums) (front : Front) (fronts : List ToldFront) (told : ToldFront) → 2 ^ 128 ≤ before.tokens + front.tokens
+    → AreFrontsCounted before fronts → IsFront front told → ¬ (AreFew (fronts ++ told ∷ []))
 tokens_full before front fronts told over counted is few =
-    let sums = sum_by-append (λ (told : Told). told.tokens) fronts (told ∷ []) in
+    let sums = sum_by-append (λ (told : ToldFront). told.tokens) fronts (told ∷ []) in
     let old_tokens = counted.tokens in
     let more_tokens = is.tokens in
     let most = few.tokens in
     absurd (omega (arith, over, sums, old_tokens, more_tokens, most))
 
-pub totals_full : (before : WholeSums) (front : Front) (fronts : List Told) (told : Told) → 2 ^ 95 < before.totals.taps + front.totals.taps
-    → IsCounted before fronts → IsFront front told → ¬ (AreFew (fronts ++ told ∷ []))
+pub totals_full : (before : WholeSums) (front : Front) (fronts : List ToldFront) (told : ToldFront) → 2 ^ 95 < before.totals.taps + front.totals.taps
+    → AreFrontsCounted before fronts → IsFront front told → ¬ (AreFew (fronts ++ told ∷ []))
 totals_full before front fronts told over counted is few =
     let sums : (totals_in (fronts ++ told ∷ [])).taps ≡ (totals_in fronts).taps + told.totals.taps = ap (λ (s : Sums). s.taps) (totals_more fronts told) in
     let old : before.totals.taps ≡ (totals_in fronts).taps = ap (λ (s : Sums). s.taps) counted.totals in

@@ -9,9 +9,9 @@ use Rattle.std.proofs.lemmas.List.Sums.{sum_by-append}
 use Rattle.part_reports.specs.declared.fault.MergeFault.{MergeFault}
 use Rattle.part_reports.specs.declared.told.Ends.{Ends}
 use Rattle.part_reports.specs.Faults.{IsOfTexts}
-use Rattle.part_reports.specs.Lines.{End, IsEnd, end_line, end_lines}
+use Rattle.part_reports.specs.Lines.{End, IsUploadEnd, end_line, end_lines}
 use Rattle.part_reports.specs.Reports.{end_texts, joined_ends}
-use Rattle.part_reports.specs.inside.Ends.{Have, IsAdded, More}
+use Rattle.part_reports.specs.inside.Ends.{Have, AreEndsAdded, More}
 use Rattle.part_reports.proofs.EndsRead.{All-behind, All-front, some_line}
 use Rattle.part_reports.proofs.ListsWritten.{end_lines_from, lines_from}
 use Rattle.part_reports.proofs.Unique.{end_line_unique}
@@ -38,10 +38,13 @@ split remaining (r ∷ front) x back (file ∷ files) are =
     let rest = split remaining front x back files (cc) in
     let first : remaining r ≡ Some file = cc in
     record {
-      before = file ∷ rest.before; file = rest.file; after = rest.after;
+      before = file ∷ rest.before;
+      file = rest.file;
+      after = rest.after;
       is = ap (λ more. file ∷ more) rest.is;
       front_is = ap (λ o. o ∷ map remaining front) first ∙ ap (λ os. Some file ∷ os) rest.front_is;
-      here = rest.here; back_is = rest.back_is;
+      here = rest.here;
+      back_is = rest.back_is;
     }
 
 -- the readers behind this one
@@ -62,31 +65,31 @@ front_more items front x is within here =
     ∙ sym (take-suc items (length front) x within) ∙ ap (λ k. take k items) (sym size)
 
 -- ---- ends
-lines_whole : (number : ℕ) (a b : List End) → All IsEnd a → All IsEnd b → end_lines number a ≡ end_lines number b → a ≡ b
+lines_whole : (number : ℕ) (a b : List End) → All IsUploadEnd a → All IsUploadEnd b → end_lines number a ≡ end_lines number b → a ≡ b
 lines_whole number [] [] may may_too same = refl
 lines_whole number [] (b ∷ bs) may may_too same = absurd (some_line number b (end_lines (number + 1) bs) same)
 lines_whole number (a ∷ more) [] may may_too same = absurd (some_line number a (end_lines (number + 1) more) (sym same))
 lines_whole number (a ∷ more) (b ∷ bs) may may_too same =
-    let first = end_line_unique number a b (end_lines (number + 1) more) (end_lines (number + 1) bs) (All-head IsEnd a more may) (All-head IsEnd b bs may_too) same in
-    let rest = lines_whole (number + 1) more bs (All-tail IsEnd a more may) (All-tail IsEnd b bs may_too) first.1 in
+    let first = end_line_unique number a b (end_lines (number + 1) more) (end_lines (number + 1) bs) (All-head IsUploadEnd a more may) (All-head IsUploadEnd b bs may_too) same in
+    let rest = lines_whole (number + 1) more bs (All-tail IsUploadEnd a more may) (All-tail IsUploadEnd b bs may_too) first.1 in
     ap (λ x. x ∷ more) first.0 ∙ ap (λ xs. b ∷ xs) rest
 
 -- the text behind some texts of ends is one of ends
-texts_at : (first : ℕ) (before lists : List (List End)) (file : List ℕ) (after : List (List ℕ)) → All IsEnd (joined_ends before) → All IsEnd (joined_ends lists)
+texts_at : (first : ℕ) (before lists : List (List End)) (file : List ℕ) (after : List (List ℕ)) → All IsUploadEnd (joined_ends before) → All IsUploadEnd (joined_ends lists)
     → end_texts first before ++ file ∷ after ≡ end_texts first lists
-    → (ends : List End) × All IsEnd ends × (file ≡ end_lines (first + length (joined_ends before)) ends)
+    → (ends : List End) × All IsUploadEnd ends × (file ≡ end_lines (first + length (joined_ends before)) ends)
 texts_at first [] [] file after may may_too same = absurd (cc)
 texts_at first [] (ends ∷ lists) file after may may_too same =
     let at : first ≡ first + 0 = omega arith in
     let is : file ≡ end_lines first ends = cc in
-    (ends, All-front IsEnd ends (joined_ends lists) may_too, is ∙ ap (λ k. end_lines k ends) at)
+    (ends, All-front IsUploadEnd ends (joined_ends lists) may_too, is ∙ ap (λ k. end_lines k ends) at)
 texts_at first (some ∷ before) [] file after may may_too same = absurd (cc)
 texts_at first (some ∷ before) (ends ∷ lists) file after may may_too same =
     let head : end_lines first some ≡ end_lines first ends = cc in
-    let is : some ≡ ends = lines_whole first some ends (All-front IsEnd some (joined_ends before) may) (All-front IsEnd ends (joined_ends lists) may_too) head in
+    let is : some ≡ ends = lines_whole first some ends (All-front IsUploadEnd some (joined_ends before) may) (All-front IsUploadEnd ends (joined_ends lists) may_too) head in
     let tail : end_texts (first + length some) before ++ file ∷ after ≡ end_texts (first + length ends) lists = cc in
-    let next = texts_at (first + length some) before lists file after (All-behind IsEnd some (joined_ends before) may) (All-behind IsEnd ends (joined_ends lists) may_too)
-        (tail ∙ ap (λ (x : List End). end_texts (first + length x) lists) (sym is)) in
+    let next = texts_at (first + length some) before lists file after (All-behind IsUploadEnd some (joined_ends before) may) (All-behind IsUploadEnd ends (joined_ends lists) may_too)
+    (tail ∙ ap (λ (x : List End). end_texts (first + length x) lists) (sym is)) in
     let at : first + length some + length (joined_ends before) ≡ first + length (some ++ joined_ends before) = simp length-append (omega arith) in
     (next.0, next.1, next.2 ∙ ap (λ k. end_lines k next.0) at)
 
@@ -109,9 +112,11 @@ end_lines_joined first (end ∷ some) more =
 
 pub have_none : (ends : Ends) → ends.text.items ≡ [] → ends.uploads ≡ 0 → ends.taps ≡ 0 → IsTrue ends.are_posted → Have ends []
 have_none ends text uploads taps posted = record {
-  text = text; uploads = uploads; taps = taps;
+  text = text;
+  uploads = uploads;
+  taps = taps;
   posted = (λ _. All-nil (λ (end : End). end.fault ≡ None), λ _. posted);
-  each = All-nil IsEnd;
+  each = All-nil IsUploadEnd;
 }
 
 have_more : (before after : Ends) (list more : List End) → Have before list → More before after more → Have after (list ++ more)
@@ -128,7 +133,7 @@ have_more before after list more have is =
         λ yes. let both = is.posted.0 yes in All-append (λ (end : End). end.fault ≡ None) list more (have.posted.0 both.0) both.1,
         λ all. is.posted.1 (have.posted.1 (All-front (λ (end : End). end.fault ≡ None) list more all), All-behind (λ (end : End). end.fault ≡ None) list more all),
       );
-      each = All-append IsEnd list more have.each is.each;
+      each = All-append IsUploadEnd list more have.each is.each;
     }
 
 -- the texts of these readers tell ends, which were added up
@@ -145,28 +150,29 @@ no_files remaining [] are = refl
 no_files remaining (file ∷ files) are = absurd (cc)
 
 pub read_next : {R : Type 0} (remaining : R → Option (List ℕ)) (readers : List R) (x : R) (before after : Ends)
-    → AreRead remaining readers before → IsAdded before after (remaining x) (Ok tt) → AreRead remaining (readers ++ x ∷ []) after
+    → AreRead remaining readers before → AreEndsAdded before after (remaining x) (Ok tt) → AreRead remaining (readers ++ x ∷ []) after
 read_next remaining readers x before after read added files are =
     let parts = split remaining readers x [] files are in
     let so_far = read parts.before parts.front_is in
-    let here = subst (λ left. IsAdded before after left (Ok tt)) parts.here added in
+    let here = subst (λ left. AreEndsAdded before after left (Ok tt)) parts.here added in
     let none : parts.after ≡ [] = no_files remaining parts.after parts.back_is in
-    let at : before.uploads ≡ 0 + length (joined_ends so_far.0) = omega (arith, so_far.2.uploads) in
-    (so_far.0 ++ here.0 ∷ [],
-    parts.is ∙ ap (λ more. parts.before ++ parts.file ∷ more) none ∙ ap (λ file. parts.before ++ file ∷ []) (here.2 ∙ ap (λ k. end_lines k here.0) at)
-        ∙ ap (λ some. some ++ end_lines (0 + length (joined_ends so_far.0)) here.0 ∷ []) so_far.1 ∙ sym (texts_more 0 so_far.0 here.0),
-    subst (λ list. Have after list) (sym (joined_more so_far.0 here.0)) (have_more before after (joined_ends so_far.0) here.0 so_far.2 here.1))
+    let at : before.uploads ≡ 0 + length (joined_ends so_far.0) = omega (arith, so_far.2.uploads) in (
+      so_far.0 ++ here.0 ∷ [],
+      parts.is ∙ ap (λ more. parts.before ++ parts.file ∷ more) none ∙ ap (λ file. parts.before ++ file ∷ []) (here.2 ∙ ap (λ k. end_lines k here.0) at)
+          ∙ ap (λ some. some ++ end_lines (0 + length (joined_ends so_far.0)) here.0 ∷ []) so_far.1 ∙ sym (texts_more 0 so_far.0 here.0),
+      subst (λ list. Have after list) (sym (joined_more so_far.0 here.0)) (have_more before after (joined_ends so_far.0) here.0 so_far.2 here.1),
+    )
 
 -- a text that tells no ends
 pub read_refused : {R : Type 0} (remaining : R → Option (List ℕ)) (items readers : List R) (x : R) (before after : Ends) (fault : MergeFault)
     → readers ≡ take (length readers) items → length readers < length items → x ≡ get_or items (length readers) x
-    → AreRead remaining readers before → IsAdded before after (remaining x) (Err fault) → IsOfTexts fault
-    → (files : List (List ℕ)) → AreLeft remaining items files → (lists : List (List End)) → All IsEnd (joined_ends lists) → ¬ (files ≡ end_texts 0 lists)
+    → AreRead remaining readers before → AreEndsAdded before after (remaining x) (Err fault) → IsOfTexts fault
+    → (files : List (List ℕ)) → AreLeft remaining items files → (lists : List (List End)) → All IsUploadEnd (joined_ends lists) → ¬ (files ≡ end_texts 0 lists)
 read_refused remaining items readers x before after fault front within here read added of_texts files are lists may told =
     let all = behind_front items readers x front within here in
     let parts = split remaining readers x (drop (suc (length readers)) items) files (subst (λ items. AreLeft remaining items files) all are) in
     let so_far = read parts.before parts.front_is in
-    let no_ends = (subst (λ left. IsAdded before after left (Err fault)) parts.here added) of_texts in
+    let no_ends = (subst (λ left. AreEndsAdded before after left (Err fault)) parts.here added) of_texts in
     let next = texts_at 0 so_far.0 lists parts.file parts.after so_far.2.each may (ap (λ some. some ++ parts.file ∷ parts.after) (sym so_far.1) ∙ sym parts.is ∙ told) in
     let at : 0 + length (joined_ends so_far.0) ≡ before.uploads = omega (arith, so_far.2.uploads) in
     no_ends next.0 next.1 (next.2 ∙ ap (λ k. end_lines k next.0) at)

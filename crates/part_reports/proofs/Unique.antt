@@ -10,10 +10,10 @@ use Rattle.fare_table.specs.Token.{bytes_of}
 use Rattle.fare_texts.specs.Counts.{counts, totals_line}
 use Rattle.shard_book.specs.Sums.{Sums}
 use Rattle.fare_table.specs.declared.token.Token.{Token}
-use Rattle.part_reports.specs.Lines.{AreCounts, End, IsEnd, IsNoneOrFault, IsTokenSum}
+use Rattle.part_reports.specs.Lines.{AreCounts, End, IsUploadEnd, IsNoneOrFault, IsTokenSum}
 use Rattle.part_reports.specs.Lines.{IsValidatorSum}
-use Rattle.part_reports.specs.Lines.{end_line, end_text, head_line, token_line, validator_line}
-use Rattle.part_reports.specs.Ledgers.{IsEntryLine}
+use Rattle.part_reports.specs.Lines.{end_line, end_words, head_line, token_line, validator_line}
+use Rattle.part_reports.specs.Ledgers.{IsLedgerEntryLine}
 use Rattle.part_reports.specs.TokenLines.{TokenLine}
 use Rattle.part_reports.specs.inside.Counted.{IsCounted}
 use Rattle.part_reports.proofs.Counts.{counted_step, counts_spelt, counts_unique}
@@ -39,7 +39,7 @@ head_line_unique word n m x y small small_too is =
 
 -- ` refused N` before ` at OFFSET L5`
 refused_counted : (taps : ℕ) (fault : ℕ × ℕ) (x : List ℕ) → taps < 2 ^ 64
-    → IsCounted (end_text taps (Some fault) ++ x) (codes " refused ") taps
+    → IsCounted (end_words taps (Some fault) ++ x) (codes " refused ") taps
     (codes " at " ++ (decimal fault.0 ++ (head_line (codes " L") fault.1 ++ x)))
 refused_counted taps fault x small = record {
   small = small;
@@ -53,7 +53,7 @@ at_counted : (offset : ℕ) (x : List ℕ) (number : ℕ) → offset < 2 ^ 64
 at_counted offset x number small = record { small = small; ends = refl; shown = refl }
 
 posted_not_refused : (a b : ℕ) (fault : ℕ × ℕ) (x y : List ℕ)
-    → ¬ (end_text a None ++ x ≡ end_text b (Some fault) ++ y)
+    → ¬ (end_words a None ++ x ≡ end_words b (Some fault) ++ y)
 posted_not_refused a b fault x y is =
     let second : 112 ≡ 114 = ap (λ (t : List ℕ). get_or t 1 0) is in absurd (omega (arith, second))
 
@@ -61,7 +61,7 @@ same_fault : (a b : ℕ × ℕ) → a.0 ≡ b.0 → a.1 ≡ b.1 → Some a ≡ S
 same_fault a b first second = λ i. Some (first i, second i)
 
 end_text_unique : (a b : ℕ) (fault other : Option (ℕ × ℕ)) (x y : List ℕ) → a < 2 ^ 64 → b < 2 ^ 64
-    → IsNoneOrFault fault → IsNoneOrFault other → end_text a fault ++ x ≡ end_text b other ++ y
+    → IsNoneOrFault fault → IsNoneOrFault other → end_words a fault ++ x ≡ end_words b other ++ y
     → (a ≡ b) × (fault ≡ other) × (x ≡ y)
 end_text_unique a b None None x y small small_too fits fits_too is =
     let (same, rest) = head_line_unique (codes " posted ") a b x y small small_too is in
@@ -71,7 +71,7 @@ end_text_unique a b None (Some other) x y small small_too fits fits_too is =
 end_text_unique a b (Some fault) None x y small small_too fits fits_too is =
     absurd (posted_not_refused b a fault y x (sym is))
 end_text_unique a b (Some fault) (Some other) x y small small_too fits fits_too is =
-    let (same, one) = counted_step (end_text a (Some fault) ++ x) (end_text b (Some other) ++ y)
+    let (same, one) = counted_step (end_words a (Some fault) ++ x) (end_words b (Some other) ++ y)
     (codes " refused ") a b (codes " at " ++ (decimal fault.0
     ++ (head_line (codes " L") fault.1 ++ x)))
     (codes " at " ++ (decimal other.0 ++ (head_line (codes " L") other.1 ++ y))) is
@@ -88,16 +88,16 @@ end_text_unique a b (Some fault) (Some other) x y small small_too fits fits_too 
 same_end : (a b : End) → a.taps ≡ b.taps → a.fault ≡ b.fault → a ≡ b
 same_end a b taps fault = λ i. record { taps = taps i; fault = fault i }
 
-pub end_line_unique : (number : ℕ) (a b : End) (x y : List ℕ) → IsEnd a → IsEnd b
+pub end_line_unique : (number : ℕ) (a b : End) (x y : List ℕ) → IsUploadEnd a → IsUploadEnd b
     → end_line number a ++ x ≡ end_line number b ++ y → (a ≡ b) × (x ≡ y)
 end_line_unique number a b x y fits fits_too is =
-    let first = append_assoc (decimal number) (end_text a.taps a.fault) x in
-    let second = append_assoc (decimal number) (end_text b.taps b.fault) y in
+    let first = append_assoc (decimal number) (end_words a.taps a.fault) x in
+    let second = append_assoc (decimal number) (end_words b.taps b.fault) y in
     let behind = append_cancel_left (codes "upload ")
-    ((decimal number ++ end_text a.taps a.fault) ++ x)
-    ((decimal number ++ end_text b.taps b.fault) ++ y) is in
-    let texts = append_cancel_left (decimal number) (end_text a.taps a.fault ++ x)
-    (end_text b.taps b.fault ++ y) (sym first ∙ behind ∙ second) in
+    ((decimal number ++ end_words a.taps a.fault) ++ x)
+    ((decimal number ++ end_words b.taps b.fault) ++ y) is in
+    let texts = append_cancel_left (decimal number) (end_words a.taps a.fault ++ x)
+    (end_words b.taps b.fault ++ y) (sym first ∙ behind ∙ second) in
     let (taps, fault, rest) = end_text_unique a.taps b.taps a.fault b.fault x y fits.taps
     fits_too.taps fits.fault fits_too.fault texts in
     (same_end a b taps fault, rest)
@@ -152,7 +152,7 @@ token_line_unique a b x y fits fits_too is =
     (same_pair a b same sums, rest)
 
 -- a ledger's line determines its token
-pub entry_unique : (a b : TokenLine) → IsEntryLine a → IsEntryLine b → a.text ≡ b.text
+pub entry_unique : (a b : TokenLine) → IsLedgerEntryLine a → IsLedgerEntryLine b → a.text ≡ b.text
     → a.token ≡ b.token
 entry_unique a b fits fits_too is =
     (token_text_unique a.token b.token (codes "," ++ (fits.fields ++ codes "\n"))
@@ -162,7 +162,7 @@ entry_unique a b fits fits_too is =
 same_line : (a b : TokenLine) → a.token ≡ b.token → a.text ≡ b.text → a ≡ b
 same_line a b token text = λ i. record { token = token i; text = text i }
 
-pub entry_line_unique : (a b : TokenLine) (x y : List ℕ) → IsEntryLine a → IsEntryLine b
+pub entry_line_unique : (a b : TokenLine) (x y : List ℕ) → IsLedgerEntryLine a → IsLedgerEntryLine b
     → a.text ++ x ≡ b.text ++ y → (a ≡ b) × (x ≡ y)
 entry_line_unique a b x y fits fits_too is =
     let (text, rest) = one_line_unique a.text b.text x y (entry_line_is_one a fits)

@@ -9,11 +9,11 @@ use Rattle.hex.specs.Hex.{encode_lower}
 use Rattle.fare_table.specs.Token.{bytes_of}
 use Rattle.fare_texts.specs.Counts.{totals_line}
 use Rattle.reason_texts.specs.Ledger.{head_text}
-use Rattle.part_reports.specs.Ledgers.{IsEntryLine, IsLedger}
-use Rattle.part_reports.specs.Lines.{End, IsEnd, IsTokenSum, IsValidatorSum}
+use Rattle.part_reports.specs.Ledgers.{IsLedgerEntryLine, IsPartLedger}
+use Rattle.part_reports.specs.Lines.{End, IsUploadEnd, IsTokenSum, IsValidatorSum}
 use Rattle.part_reports.specs.Lines.{end_line, end_lines, head_line, token_line, validator_line}
 use Rattle.part_reports.specs.Reports.{IsPartReport, Report, report_text}
-use Rattle.part_reports.specs.Told.{CanBeTold}
+use Rattle.part_reports.specs.Told.{HasLegalNumbers}
 use Rattle.part_reports.specs.TokenLines.{TokenLine, text_of}
 use Rattle.part_reports.proofs.Tokens.{token_digits}
 use Rattle.part_reports.proofs.Unique.{end_line_unique, entry_line_unique, head_line_unique}
@@ -41,7 +41,7 @@ lines_unique {V} printed Legal unique (a ∷ ps) (b ∷ qs) x y size fit fit_too
     (λ i. same i ∷ rest i, over)
 
 pub ends_unique : (number : ℕ) (ps qs : List End) (x y : List ℕ) → length ps ≡ length qs
-    → AllByRecursion IsEnd ps → AllByRecursion IsEnd qs
+    → AllByRecursion IsUploadEnd ps → AllByRecursion IsUploadEnd qs
     → end_lines number ps ++ x ≡ end_lines number qs ++ y → (ps ≡ qs) × (x ≡ y)
 ends_unique number [] [] x y size fit fit_too is = (refl, is)
 ends_unique number [] (b ∷ qs) x y size fit fit_too is = absurd (omega (arith, size))
@@ -77,13 +77,13 @@ same_report : (a b : Report) → a.ends ≡ b.ends → a.totals ≡ b.totals
 same_report a b ends totals validators tokens =
     λ i. record { ends = ends i; totals = totals i; validators = validators i; tokens = tokens i }
 
-pub report_unique : (a b : Report) → CanBeTold a → CanBeTold b → report_text a ≡ report_text b
+pub report_unique : (a b : Report) → HasLegalNumbers a → HasLegalNumbers b → report_text a ≡ report_text b
     → a ≡ b
 report_unique a b fits fits_too is =
     let (number, one) = head_line_unique (codes "uploads ") (length a.ends) (length b.ends) _ _
     fits.number fits_too.number (sym (text_spelt a) ∙ is ∙ text_spelt b) in
     let (ends, two) = ends_unique 0 a.ends b.ends _ _ number
-    (recursion_from_All IsEnd a.ends fits.ends) (recursion_from_All IsEnd b.ends fits_too.ends) one
+    (recursion_from_All IsUploadEnd a.ends fits.ends) (recursion_from_All IsUploadEnd b.ends fits_too.ends) one
     in
     let (totals, three) = totals_line_unique a.totals b.totals _ _ fits.totals fits_too.totals two
     in
@@ -103,7 +103,7 @@ report_unique a b fits fits_too is =
     ∙ sym (append-nil (flat_map token_line b.tokens))) in
     same_report a b ends totals validators tokens
 
-told : (report : Report) → IsPartReport report → CanBeTold report
+told : (report : Report) → IsPartReport report → HasLegalNumbers report
 told report part = record {
   number = part.number;
   ends = part.ends;
@@ -119,7 +119,7 @@ pub part_unique : (a b : Report) → IsPartReport a → IsPartReport b
 part_unique a b part part_too is = report_unique a b (told a part) (told b part_too) is
 
 -- ---- ledgers
-some_bytes : (line : TokenLine) (x : List ℕ) → IsEntryLine line → ¬ ([] ≡ line.text ++ x)
+some_bytes : (line : TokenLine) (x : List ℕ) → IsLedgerEntryLine line → ¬ ([] ≡ line.text ++ x)
 some_bytes line x fits is =
     let digits = encode_lower (bytes_of line.token) in
     let behind = codes "," ++ (fits.fields ++ codes "\n") in
@@ -132,8 +132,8 @@ some_bytes line x fits is =
       token_digits line.token,
     ))
 
-entries_unique : (ps qs : List TokenLine) → AllByRecursion IsEntryLine ps
-    → AllByRecursion IsEntryLine qs → text_of ps ≡ text_of qs → ps ≡ qs
+entries_unique : (ps qs : List TokenLine) → AllByRecursion IsLedgerEntryLine ps
+    → AllByRecursion IsLedgerEntryLine qs → text_of ps ≡ text_of qs → ps ≡ qs
 entries_unique [] [] fit fit_too is = refl
 entries_unique [] (b ∷ qs) fit fit_too is = absurd (some_bytes b (text_of qs) fit_too.0 is)
 entries_unique (a ∷ ps) [] fit fit_too is = absurd (some_bytes a (text_of ps) fit.0 (sym is))
@@ -142,9 +142,9 @@ entries_unique (a ∷ ps) (b ∷ qs) fit fit_too is =
     let rest = entries_unique ps qs fit.1 fit_too.1 more in
     λ i. same i ∷ rest i
 
-pub ledger_unique : (a b : List TokenLine) (text : List ℕ) → IsLedger a text → IsLedger b text
+pub ledger_unique : (a b : List TokenLine) (text : List ℕ) → IsPartLedger a text → IsPartLedger b text
     → a ≡ b
 ledger_unique a b text is is_too =
-    entries_unique a b (recursion_from_All IsEntryLine a is.each)
-    (recursion_from_All IsEntryLine b is_too.each)
+    entries_unique a b (recursion_from_All IsLedgerEntryLine a is.each)
+    (recursion_from_All IsLedgerEntryLine b is_too.each)
     (append_cancel_left head_text (text_of a) (text_of b) (sym is.shown ∙ is_too.shown))

@@ -5,8 +5,8 @@ use Rattle.fare_texts.specs.Counts.{totals_line}
 use Rattle.shard_book.specs.Sums.{Sums, sums_of}
 use Rattle.part_reports.specs.declared.fault.MergeFault.{MergeFault}
 use Rattle.part_reports.specs.Faults.{IsOfTexts}
-use Rattle.part_reports.specs.Lines.{AreCounts, End, IsEnd, IsValidatorSum, end_line, end_lines, head_line, validator_line}
-use Rattle.part_reports.specs.inside.Fronts.{AreEnds, AreValidators, MayBePart, Told, ends_text, told_text, validators_text}
+use Rattle.part_reports.specs.Lines.{AreCounts, End, IsUploadEnd, IsValidatorSum, end_line, end_lines, head_line, validator_line}
+use Rattle.part_reports.specs.inside.Fronts.{AreEnds, AreValidators, MayBePart, ToldFront, ends_text, told_text, validators_text}
 use Rattle.part_reports.specs.inside.Reading.{IsRead, Stood}
 use Rattle.part_reports.proofs.ListsWritten.{lines_unique, end_lines_from, flat_map_from}
 use Rattle.part_reports.proofs.Unique.{end_line_unique, head_line_unique, totals_line_unique, validator_line_unique}
@@ -18,14 +18,14 @@ IsUnique {V = V} May written = (a b : V) (x y : List ℕ) → May a → May b �
 pub ends_unique : IsUnique AreEnds ends_text
 ends_unique a b x y may may_too same =
     let head = head_line_unique (codes "uploads ") (length a) (length b) (end_lines 0 a ++ x) (end_lines 0 b ++ y) may.few may_too.few
-        (sym (append_assoc (head_line (codes "uploads ") (length a)) (end_lines 0 a) x) ∙ same ∙ append_assoc (head_line (codes "uploads ") (length b)) (end_lines 0 b) y) in
-    lines_unique IsEnd end_line end_line_unique 0 a b x y may.are.each may_too.are.each head.0
+    (sym (append_assoc (head_line (codes "uploads ") (length a)) (end_lines 0 a) x) ∙ same ∙ append_assoc (head_line (codes "uploads ") (length b)) (end_lines 0 b) y) in
+    lines_unique IsUploadEnd end_line end_line_unique 0 a b x y may.are.each may_too.are.each head.0
     (ap (λ text. text ++ x) (sym (end_lines_from 0 a)) ∙ head.1 ∙ ap (λ text. text ++ y) (end_lines_from 0 b))
 
 pub validators_unique : IsUnique AreValidators validators_text
 validators_unique a b x y may may_too same =
     let head = head_line_unique (codes "validators ") (length a) (length b) (flat_map validator_line a ++ x) (flat_map validator_line b ++ y) may.few may_too.few
-        (sym (append_assoc (head_line (codes "validators ") (length a)) (flat_map validator_line a) x) ∙ same ∙ append_assoc (head_line (codes "validators ") (length b)) (flat_map validator_line b) y) in
+    (sym (append_assoc (head_line (codes "validators ") (length a)) (flat_map validator_line a) x) ∙ same ∙ append_assoc (head_line (codes "validators ") (length b)) (flat_map validator_line b) y) in
     lines_unique IsValidatorSum (λ _ sum. validator_line sum) (λ _ a b x y. validator_line_unique a b x y) 0 a b x y may.are.each may_too.are.each head.0
     (ap (λ text. text ++ x) (sym (flat_map_from validator_line 0 a)) ∙ head.1 ∙ ap (λ text. text ++ y) (flat_map_from validator_line 0 b))
 
@@ -36,13 +36,13 @@ parts h e t v f k rest = simp append_assoc
 abbrev pub tokens_text : ℕ → List ℕ
 tokens_text number = head_line (codes "tokens ") number
 
-abbrev pub behind_ends : Told → List ℕ → List ℕ
+abbrev pub behind_ends : ToldFront → List ℕ → List ℕ
 behind_ends told rest = totals_line told.totals ++ (validators_text told.validators ++ (tokens_text told.tokens ++ rest))
 
-abbrev pub behind_totals : Told → List ℕ → List ℕ
+abbrev pub behind_totals : ToldFront → List ℕ → List ℕ
 behind_totals told rest = validators_text told.validators ++ (tokens_text told.tokens ++ rest)
 
-pub told_parts : (told : Told) (rest : List ℕ) → told_text told ++ rest ≡ ends_text told.ends ++ behind_ends told rest
+pub told_parts : (told : ToldFront) (rest : List ℕ) → told_text told ++ rest ≡ ends_text told.ends ++ behind_ends told rest
 told_parts told rest = parts (head_line (codes "uploads ") (length told.ends)) (end_lines 0 told.ends) (totals_line told.totals)
     (head_line (codes "validators ") (length told.validators)) (flat_map validator_line told.validators) (tokens_text told.tokens) rest
 
@@ -65,13 +65,13 @@ EndsRead text now result = IsRead {T = Unit {0}} (λ _ _. Unit {0}) AreEnds ends
 abbrev NumberRead : Option (List ℕ) → Option (List ℕ) → Result ℕ MergeFault → Type 0
 NumberRead text now result = IsRead {T = ℕ} {V = ℕ} (λ told number. told ≡ number) (λ number. number < 2 ^ 64) (head_line (codes "tokens ")) text now result
 
-pub no_ends : {T : Type 0} (Is : T → Told → Type 0) (text now after : Option (List ℕ)) (fault : MergeFault)
+pub no_ends : {T : Type 0} (Is : T → ToldFront → Type 0) (text now after : Option (List ℕ)) (fault : MergeFault)
     → EndsRead text now (Err fault) → IsRead Is MayBePart told_text text after (Err fault)
 no_ends Is None now after fault ends = tt
 no_ends Is (Some text) now after fault ends = λ of_texts told rest may shown.
     ends of_texts told.ends (behind_ends told rest) may.ends (shown ∙ told_parts told rest)
 
-pub no_totals : {T A : Type 0} (Is : T → Told → Type 0) (IsA : A → Sums → Type 0) (text now then_now after : Option (List ℕ)) (fault : MergeFault)
+pub no_totals : {T A : Type 0} (Is : T → ToldFront → Type 0) (IsA : A → Sums → Type 0) (text now then_now after : Option (List ℕ)) (fault : MergeFault)
     → EndsRead text now (Ok tt) → IsRead IsA AreCounts totals_line now then_now (Err fault) → IsRead Is MayBePart told_text text after (Err fault)
 no_totals Is IsA None now then_now after fault ends totals = tt
 no_totals Is IsA (Some text) now then_now after fault ends totals = λ of_texts told rest may shown.
@@ -79,7 +79,7 @@ no_totals Is IsA (Some text) now then_now after fault ends totals = λ of_texts 
     (behind ends_unique text now told.ends (behind_ends told rest) ends may.ends (shown ∙ told_parts told rest))
 
 -- the text behind the ends and the totals
-behind_two : {A : Type 0} (IsA : A → Sums → Type 0) (a : A) (text : List ℕ) (now then_now : Option (List ℕ)) (told : Told) (rest : List ℕ)
+behind_two : {A : Type 0} (IsA : A → Sums → Type 0) (a : A) (text : List ℕ) (now then_now : Option (List ℕ)) (told : ToldFront) (rest : List ℕ)
     → EndsRead (Some text) now (Ok tt) → IsRead IsA AreCounts totals_line now then_now (Ok a) → MayBePart told → text ≡ told_text told ++ rest
     → then_now ≡ Some (behind_totals told rest)
 behind_two IsA a text now then_now told rest ends totals may shown =
@@ -87,7 +87,7 @@ behind_two IsA a text now then_now told rest ends totals may shown =
     behind totals_line_unique (behind_ends told rest) then_now told.totals (behind_totals told rest)
     (subst (λ now. IsRead IsA AreCounts totals_line now then_now (Ok a)) at totals) may.totals refl
 
-pub no_validators : {T A B : Type 0} (Is : T → Told → Type 0) (IsA : A → Sums → Type 0) (IsB : B → List (ℕ × Sums) → Type 0) (a : A)
+pub no_validators : {T A B : Type 0} (Is : T → ToldFront → Type 0) (IsA : A → Sums → Type 0) (IsB : B → List (ℕ × Sums) → Type 0) (a : A)
     (text now then_now later after : Option (List ℕ)) (fault : MergeFault)
     → EndsRead text now (Ok tt) → IsRead IsA AreCounts totals_line now then_now (Ok a) → IsRead IsB AreValidators validators_text then_now later (Err fault)
     → IsRead Is MayBePart told_text text after (Err fault)
@@ -96,7 +96,7 @@ no_validators Is IsA IsB a (Some text) now then_now later after fault ends total
     absent IsB AreValidators validators_text then_now later fault told.validators (tokens_text told.tokens ++ rest) validators of_texts may.validators
     (behind_two IsA a text now then_now told rest ends totals may shown)
 
-pub no_tokens : {T A B : Type 0} (Is : T → Told → Type 0) (IsA : A → Sums → Type 0) (IsB : B → List (ℕ × Sums) → Type 0) (a : A) (b : B)
+pub no_tokens : {T A B : Type 0} (Is : T → ToldFront → Type 0) (IsA : A → Sums → Type 0) (IsB : B → List (ℕ × Sums) → Type 0) (a : A) (b : B)
     (text now then_now later last after : Option (List ℕ)) (fault : MergeFault)
     → EndsRead text now (Ok tt) → IsRead IsA AreCounts totals_line now then_now (Ok a) → IsRead IsB AreValidators validators_text then_now later (Ok b)
     → NumberRead later last (Err fault)
@@ -109,18 +109,18 @@ no_tokens Is IsA IsB a b (Some text) now then_now later last after fault ends to
     (subst (λ now. IsRead IsB AreValidators validators_text now later (Ok b)) at validators) may.validators refl)
 
 -- all parts were read
-pub whole_front : {T A B : Type 0} (Is : T → Told → Type 0) (IsA : A → Sums → Type 0) (IsB : B → List (ℕ × Sums) → Type 0) (a : A) (b : B) (number : ℕ) (x : T)
+pub whole_front : {T A B : Type 0} (Is : T → ToldFront → Type 0) (IsA : A → Sums → Type 0) (IsB : B → List (ℕ × Sums) → Type 0) (a : A) (b : B) (number : ℕ) (x : T)
     (text now then_now later last : Option (List ℕ))
     → EndsRead text now (Ok tt) → IsRead IsA AreCounts totals_line now then_now (Ok a) → IsRead IsB AreValidators validators_text then_now later (Ok b)
     → NumberRead later last (Ok number)
-    → ((told : Told) → IsA a told.totals → IsB b told.validators → number ≡ told.tokens → Is x told)
+    → ((told : ToldFront) → IsA a told.totals → IsB b told.validators → number ≡ told.tokens → Is x told)
     → IsRead Is MayBePart told_text text last (Ok x)
 whole_front Is IsA IsB a b number x None now then_now later last ends totals validators tokens is = tt
 whole_front Is IsA IsB a b number x (Some text) now then_now later last ends totals validators tokens is =
     let second = subst (λ now. IsRead IsA AreCounts totals_line now then_now (Ok a)) ends.left totals in
     let third = subst (λ now. IsRead IsB AreValidators validators_text now later (Ok b)) second.left validators in
     let fourth = subst (λ now. NumberRead now last (Ok number)) third.left tokens in
-    let told : Told = record { ends = ends.value; totals = second.value; validators = third.value; tokens = fourth.value } in
+    let told : ToldFront = record { ends = ends.value; totals = second.value; validators = third.value; tokens = fourth.value } in
     record {
       value = told;
       is = is told second.is third.is fourth.is;

@@ -19,18 +19,18 @@ use Rattle.fare_table.specs.declared.token.Token.{Token}
 use Rattle.shard_book.specs.Sums.{Sums, add_all, sums, sums_of}
 use Rattle.shard_book.specs.declared.sums.totals.Totals.{Totals}
 use Rattle.part_reports.specs.Lines.{End, IsTokenSum, token_line}
-use Rattle.part_reports.specs.Reports.{AreTold, IsMerged, IsPartReport, IsWhole, Report, end_texts, front_text, joined_ends, report_text, sums_at, tokens_of, validators_of}
-use Rattle.part_reports.specs.TokenLines.{IsJoined, TokenLine, lines_of, text_of}
+use Rattle.part_reports.specs.Reports.{AreTold, IsMerged, IsPartReport, IsWholeReport, Report, end_texts, front_text, joined_ends, report_text, sums_of_validator, tokens_of_reports, validators_of_reports}
+use Rattle.part_reports.specs.TokenLines.{IsMergedByToken, TokenLine, lines_of_token, text_of}
 use Rattle.part_reports.specs.declared.merging.Lines.{Lines}
 use Rattle.part_reports.specs.declared.merging.Lines.TheVariants.{Tokens}
 use Rattle.part_reports.specs.declared.sums.WholeSums.{WholeSums}
 use Rattle.part_reports.specs.declared.told.Ends.{Ends}
 use Rattle.part_reports.specs.inside.Ends.{Have}
-use Rattle.part_reports.specs.inside.Fronts.{MayBePart, Told}
+use Rattle.part_reports.specs.inside.Fronts.{MayBePart, ToldFront}
 use Rattle.part_reports.specs.inside.Kinds.{AreTexts, IsSumLine, IsTextOf}
 use Rattle.part_reports.specs.inside.Parts.{AreParts, Begun, begun_text, left_text}
 use Rattle.part_reports.specs.inside.Sources.{Standing}
-use Rattle.part_reports.specs.inside.Sums.{AreOf, IsCounted, sums_in}
+use Rattle.part_reports.specs.inside.Sums.{AreOf, AreFrontsCounted, sums_found}
 use Rattle.part_reports.specs.inside.Whole.{validators_in}
 use Rattle.part_reports.proofs.FewParts.{told_of}
 use Rattle.part_reports.proofs.JoinedTokens.{StandOnce, joined_each, once_all, strictly_rise}
@@ -47,7 +47,7 @@ pub record PartsOf (begun : List Begun) (lists : List (List TokenLine)) : Type 0
   pub fit : All IsPartReport parts
   pub fronts : map (λ one. one.0) begun ≡ map told_of parts
   pub sums : List Sum
-  pub sums_are : sums ≡ tokens_of parts
+  pub sums_are : sums ≡ tokens_of_reports parts
   pub lines : flat_map (λ list. list) lists ≡ map line_of sums
   pub sums_fit : All IsTokenSum sums
   pub rise : All (λ list. IsStrictlySortedBy token_cmp (map (λ line. line.token) list)) lists
@@ -55,8 +55,16 @@ pub record PartsOf (begun : List Begun) (lists : List (List TokenLine)) : Type 0
 
 parts_of : (begun : List Begun) (lists : List (List TokenLine)) → All (λ one. MayBePart one.0) begun → AllZip IsTextOf (map left_text begun) lists → PartsOf begun lists
 parts_of [] [] may are = record {
-  parts = []; shown = refl; fit = All-nil IsPartReport; fronts = refl; sums = []; sums_are = refl; lines = refl; sums_fit = All-nil IsTokenSum;
-  rise = All-nil (λ (list : List TokenLine). IsStrictlySortedBy token_cmp (map (λ line. line.token) list)); each = All-nil IsSumLine;
+  parts = [];
+  shown = refl;
+  fit = All-nil IsPartReport;
+  fronts = refl;
+  sums = [];
+  sums_are = refl;
+  lines = refl;
+  sums_fit = All-nil IsTokenSum;
+  rise = All-nil (λ (list : List TokenLine). IsStrictlySortedBy token_cmp (map (λ line. line.token) list));
+  each = All-nil IsSumLine;
 }
 parts_of [] (list ∷ lists) may are = absurd are
 parts_of (one ∷ begun) [] may are = absurd are
@@ -70,15 +78,22 @@ parts_of (one ∷ begun) (list ∷ lists) may are =
     let text : one.1 ≡ flat_map token_line of_list.sums = are.0.1 ∙ ap text_of of_list.is ∙ lines_text of_list.sums in
     let rises : IsStrictlySortedBy token_cmp (keys_of of_list.sums) = subst (λ keys. IsStrictlySortedBy token_cmp keys) (ap (map (λ (line : TokenLine). line.token)) of_list.is ∙ lines_keys of_list.sums) are.0.0.2 in
     let shown : begun_text one ≡ report_text part =
-        ap (λ n. front_text front.ends front.totals front.validators n ++ one.1) number ∙ ap (λ text. front_text front.ends front.totals front.validators (length of_list.sums) ++ text) text in
+    ap (λ n. front_text front.ends front.totals front.validators n ++ one.1) number ∙ ap (λ text. front_text front.ends front.totals front.validators (length of_list.sums) ++ text) text in
     let same_front : front ≡ told_of part = λ i. record { ends = front.ends; totals = front.totals; validators = front.validators; tokens = number i } in
     record {
       parts = part ∷ rest.parts;
       shown = ap (λ text. text ∷ map begun_text begun) shown ∙ ap (λ more. report_text part ∷ more) rest.shown;
       fit = All-cons IsPartReport part rest.parts (record {
-        number = fits.ends.few; ends = fits.ends.are.each; posted = fits.ends.are.posted; totals = fits.totals;
-        validators_number = fits.validators.few; validators = fits.validators.are.each; validators_rise = fits.validators.are.rise;
-        tokens_number = subst (λ n. n < 2 ^ 64) number fits.tokens; tokens = of_list.fit; tokens_rise = rises;
+        number = fits.ends.few;
+        ends = fits.ends.are.each;
+        posted = fits.ends.are.posted;
+        totals = fits.totals;
+        validators_number = fits.validators.few;
+        validators = fits.validators.are.each;
+        validators_rise = fits.validators.are.rise;
+        tokens_number = subst (λ n. n < 2 ^ 64) number fits.tokens;
+        tokens = of_list.fit;
+        tokens_rise = rises;
       }) rest.fit;
       fronts = ap (λ front. front ∷ map (λ (one : Begun). one.0) begun) same_front ∙ ap (λ more. told_of part ∷ more) rest.fronts;
       sums = of_list.sums ++ rest.sums;
@@ -90,10 +105,10 @@ parts_of (one ∷ begun) (list ∷ lists) may are =
     }
 
 -- ---- the tokens
-lines_filtered : (token : Token) (some : List Sum) → lines_of token (map line_of some) ≡ map line_of (of_token token some)
+lines_filtered : (token : Token) (some : List Sum) → lines_of_token token (map line_of some) ≡ map line_of (of_token token some)
 lines_filtered token [] = refl
 lines_filtered token (sum ∷ some) =
-    elim (token_eq token sum.0) as (λ b. (if b then line_of sum ∷ lines_of token (map line_of some) else lines_of token (map line_of some)) ≡ map line_of (if b then sum ∷ of_token token some else of_token token some))
+    elim (token_eq token sum.0) as (λ b. (if b then line_of sum ∷ lines_of_token token (map line_of some) else lines_of_token token (map line_of some)) ≡ map line_of (if b then sum ∷ of_token token some else of_token token some))
     [ true ↦ ap (λ more. line_of sum ∷ more) (lines_filtered token some) | false ↦ lines_filtered token some ]
 
 -- the whole's tokens
@@ -103,7 +118,7 @@ pub record WholeTokens (all : List Sum) (joined : List TokenLine) : Type 0 where
   pub moved : IsPermutation all sums
   pub rise : IsStrictlySortedBy token_cmp (keys_of sums)
 
-pub whole_tokens : (lists : List (List TokenLine)) (joined : List TokenLine) (all : List Sum) → IsJoined lists joined
+pub whole_tokens : (lists : List (List TokenLine)) (joined : List TokenLine) (all : List Sum) → IsMergedByToken lists joined
     → All (λ list. IsStrictlySortedBy token_cmp (map (λ line. line.token) list)) lists → All IsSumLine (flat_map (λ list. list) lists)
     → flat_map (λ list. list) lists ≡ map line_of all → All IsTokenSum all → WholeTokens all joined
 whole_tokens lists joined all is rise each lines fit =
@@ -111,8 +126,8 @@ whole_tokens lists joined all is rise each lines fit =
     let of_joined = told joined every in
     let once : StandOnce joined = λ token. subst (λ some. length some ≤ 1) (sym (is.same token)) (once_all lists rise is.apart token) in
     let same : (token : Token) → of_token token all ≡ of_token token of_joined.sums = λ token.
-        sums_same (of_token token all) (of_token token of_joined.sums) (All-filter (λ (sum : Sum). token_eq token sum.0) IsTokenSum all fit) (All-filter (λ (sum : Sum). token_eq token sum.0) IsTokenSum of_joined.sums of_joined.fit)
-        (sym (lines_filtered token all) ∙ ap (lines_of token) (sym lines) ∙ sym (is.same token) ∙ ap (lines_of token) of_joined.is ∙ lines_filtered token of_joined.sums) in
+    sums_same (of_token token all) (of_token token of_joined.sums) (All-filter (λ (sum : Sum). token_eq token sum.0) IsTokenSum all fit) (All-filter (λ (sum : Sum). token_eq token sum.0) IsTokenSum of_joined.sums of_joined.fit)
+    (sym (lines_filtered token all) ∙ ap (lines_of_token token) (sym lines) ∙ sym (is.same token) ∙ ap (lines_of_token token) of_joined.is ∙ lines_filtered token of_joined.sums) in
     record {
       sums = of_joined.sums;
       is = of_joined.is;
@@ -147,30 +162,30 @@ pub validators_member : (validators : BTreeMap ℕ Totals) (list : List (ℕ × 
     → is_member (eq_by_cmp nat_cmp) (keys_of (validators_in validators)) q ≡ is_member (eq_by_cmp nat_cmp) (keys_of list) q
 validators_member validators list are q =
     ap (λ keys. is_member (eq_by_cmp nat_cmp) keys q) (same_keys validators.entries)
-    ∙ sym (found_member q validators.entries) ∙ sym (some_map sums_of (get nat_cmp validators q)) ∙ ap is_some (are q) ∙ some_if (is_member (eq_by_cmp nat_cmp) (keys_of list) q) (sums_at q list)
+    ∙ sym (found_member q validators.entries) ∙ sym (some_map sums_of (get nat_cmp validators q)) ∙ ap is_some (are q) ∙ some_if (is_member (eq_by_cmp nat_cmp) (keys_of list) q) (sums_of_validator q list)
 
 pub validators_sums : (validators : BTreeMap ℕ Totals) (list : List (ℕ × Sums)) → AreOf validators list
-    → All (λ entry. get nat_cmp validators entry.0 ≡ Some entry.1) validators.entries → All (λ sum. sum.1 ≡ sums_at sum.0 list) (validators_in validators)
+    → All (λ entry. get nat_cmp validators entry.0 ≡ Some entry.1) validators.entries → All (λ sum. sum.1 ≡ sums_of_validator sum.0 list) (validators_in validators)
 validators_sums validators list are found =
-    All-map (λ (sum : ℕ × Sums). sum.1 ≡ sums_at sum.0 list) (λ (entry : ℕ × Totals). (entry.0, sums_of entry.1)) validators.entries
-    (All-weaker (λ (entry : ℕ × Totals). get nat_cmp validators entry.0 ≡ Some entry.1) (λ (entry : ℕ × Totals). sums_of entry.1 ≡ sums_at entry.0 list)
-    (λ entry is. of_if (is_member (eq_by_cmp nat_cmp) (keys_of list) entry.0) (sums_at entry.0 list) (sums_of entry.1) (ap (option_map sums_of) (sym is) ∙ are entry.0)) validators.entries found)
+    All-map (λ (sum : ℕ × Sums). sum.1 ≡ sums_of_validator sum.0 list) (λ (entry : ℕ × Totals). (entry.0, sums_of entry.1)) validators.entries
+    (All-weaker (λ (entry : ℕ × Totals). get nat_cmp validators entry.0 ≡ Some entry.1) (λ (entry : ℕ × Totals). sums_of entry.1 ≡ sums_of_validator entry.0 list)
+    (λ entry is. of_if (is_member (eq_by_cmp nat_cmp) (keys_of list) entry.0) (sums_of_validator entry.0 list) (sums_of entry.1) (ap (option_map sums_of) (sym is) ∙ are entry.0)) validators.entries found)
 
 -- ---- the whole
-fronts_totals : (parts : List Report) → map (λ (told : Told). told.totals) (map told_of parts) ≡ map (λ part. part.totals) parts
+fronts_totals : (parts : List Report) → map (λ (told : ToldFront). told.totals) (map told_of parts) ≡ map (λ part. part.totals) parts
 fronts_totals [] = refl
 fronts_totals (part ∷ parts) = ap (λ more. part.totals ∷ more) (fronts_totals parts)
 
-fronts_validators : (parts : List Report) → flat_map (λ (told : Told). told.validators) (map told_of parts) ≡ validators_of parts
+fronts_validators : (parts : List Report) → flat_map (λ (told : ToldFront). told.validators) (map told_of parts) ≡ validators_of_reports parts
 fronts_validators [] = refl
 fronts_validators (part ∷ parts) = ap (λ more. part.validators ++ more) (fronts_validators parts)
 
-fronts_tokens : (parts : List Report) → sum_by (λ (told : Told). told.tokens) (map told_of parts) ≡ length (tokens_of parts)
+fronts_tokens : (parts : List Report) → sum_by (λ (told : ToldFront). told.tokens) (map told_of parts) ≡ length (tokens_of_reports parts)
 fronts_tokens [] = refl
 fronts_tokens (part ∷ parts) =
     let rest = fronts_tokens parts in
-    let first = sum_by-append (λ (told : Told). told.tokens) (told_of part ∷ []) (map told_of parts) in
-    let size = length-append part.tokens (tokens_of parts) in
+    let first = sum_by-append (λ (told : ToldFront). told.tokens) (told_of part ∷ []) (map told_of parts) in
+    let size = length-append part.tokens (tokens_of_reports parts) in
     omega (arith, rest, first, size)
 
 parts_taps : (parts : List Report) → (add_all (map (λ part. part.totals) parts)).taps ≡ sum_by (λ part. part.totals.taps) parts
@@ -195,19 +210,19 @@ pub merged : (end_files report_files : List (List ℕ)) (lists : List (List End)
     → front ≡ front_text (joined_ends lists) (sums_of sums.totals) (validators_in sums.validators) sums.tokens
     → IsStrictlySortedBy nat_cmp (keys_of sums.validators.entries)
     → All (λ entry. get nat_cmp sums.validators entry.0 ≡ Some entry.1) sums.validators.entries
-    → AreTexts (map left_text parts.begun) token_lists → IsJoined token_lists joined
+    → AreTexts (map left_text parts.begun) token_lists → IsMergedByToken token_lists joined
     → Appends old mid front → Appends mid new (text_of joined)
     → Written end_files report_files (IsTrue ends.are_posted) old new
 merged end_files report_files lists ends sums standings front token_lists joined old mid new ends_told have parts taps front_is ordered found texts is first second =
     let of_parts = parts_of parts.begun token_lists parts.may texts in
     let tokens = whole_tokens token_lists joined of_parts.sums is of_parts.rise of_parts.each of_parts.lines of_parts.sums_fit in
     let reports = of_parts.parts in
-    let validators : AreOf sums.validators (validators_of reports) =
-        subst (λ list. AreOf sums.validators list) (ap (flat_map (λ (told : Told). told.validators)) of_parts.fronts ∙ fronts_validators reports) parts.counted.validators in
+    let validators : AreOf sums.validators (validators_of_reports reports) =
+    subst (λ list. AreOf sums.validators list) (ap (flat_map (λ (told : ToldFront). told.validators)) of_parts.fronts ∙ fronts_validators reports) parts.counted.validators in
     let totals : sums_of sums.totals ≡ add_all (map (λ (part : Report). part.totals) reports) =
-        parts.counted.totals ∙ ap (λ fronts. add_all (map (λ (told : Told). told.totals) fronts)) of_parts.fronts ∙ ap add_all (fronts_totals reports) in
+    parts.counted.totals ∙ ap (λ fronts. add_all (map (λ (told : ToldFront). told.totals) fronts)) of_parts.fronts ∙ ap add_all (fronts_totals reports) in
     let number : sums.tokens ≡ length tokens.sums =
-        parts.counted.tokens ∙ ap (sum_by (λ (told : Told). told.tokens)) of_parts.fronts ∙ fronts_tokens reports ∙ ap length (sym of_parts.sums_are) ∙ sym (length_permutation of_parts.sums tokens.sums tokens.moved) in
+    parts.counted.tokens ∙ ap (sum_by (λ (told : ToldFront). told.tokens)) of_parts.fronts ∙ fronts_tokens reports ∙ ap length (sym of_parts.sums_are) ∙ sym (length_permutation of_parts.sums tokens.sums tokens.moved) in
     let whole : Report = record { ends = joined_ends lists; totals = sums_of sums.totals; validators = validators_in sums.validators; tokens = tokens.sums } in
     let taps_of : sums.totals.taps ≡ sum_by (λ (part : Report). part.totals.taps) reports = ap (λ (s : Sums). s.taps) totals ∙ parts_taps reports in
     record {
@@ -227,8 +242,8 @@ merged end_files report_files lists ends sums standings front token_lists joined
           ends = refl;
           totals = totals;
           validators_rise = subst (λ keys. IsStrictlySortedBy nat_cmp keys) (sym (same_keys sums.validators.entries)) ordered;
-          validators_same = validators_member sums.validators (validators_of reports) validators;
-          validators_sums = validators_sums sums.validators (validators_of reports) validators found;
+          validators_same = validators_member sums.validators (validators_of_reports reports) validators;
+          validators_sums = validators_sums sums.validators (validators_of_reports reports) validators found;
           tokens_moved = subst (λ all. IsPermutation all tokens.sums) of_parts.sums_are tokens.moved;
           tokens_rise = tokens.rise;
         };

@@ -19,15 +19,15 @@ pub record End : Type 0 where
   pub fault : Option (ℕ × ℕ)
 
 -- ` posted 4`, or ` refused 2 at 64 L5`, with the end of the line
-abbrev pub end_text : ℕ → Option (ℕ × ℕ) → List ℕ
-end_text taps None = codes " posted " ++ (decimal taps ++ codes "\n")
-end_text taps (Some fault) =
+abbrev pub end_words : ℕ → Option (ℕ × ℕ) → List ℕ
+end_words taps None = codes " posted " ++ (decimal taps ++ codes "\n")
+end_words taps (Some fault) =
     codes " refused " ++ (decimal taps ++ (codes " at " ++ (decimal fault.0
     ++ (codes " L" ++ (decimal fault.1 ++ codes "\n")))))
 
 -- `upload 7 posted 4`, for the upload of this number
 abbrev pub end_line : ℕ → End → List ℕ
-end_line number end = codes "upload " ++ (decimal number ++ end_text end.taps end.fault)
+end_line number end = codes "upload " ++ (decimal number ++ end_words end.taps end.fault)
 
 -- a line for each upload, the first of which has the number `first`
 abbrev pub end_lines : ℕ → List End → List ℕ
@@ -44,7 +44,7 @@ token_line sum = codes "token " ++ (encode_lower (bytes_of sum.0) ++ (codes " " 
 
 -- ---- what the numbers can be
 -- the offset has 64 bits, and the name is one of `L1` to `L6`
-pub record IsFault (fault : ℕ × ℕ) : Type 0 where
+pub record IsNamedFault (fault : ℕ × ℕ) : Type 0 where
   pub offset : fault.0 < 2 ^ 64
   pub least : 1 ≤ fault.1
   pub most : fault.1 ≤ 6
@@ -52,10 +52,10 @@ pub record IsFault (fault : ℕ × ℕ) : Type 0 where
 -- there is no layout fault, or it is such a one
 abbrev pub IsNoneOrFault : Option (ℕ × ℕ) → Type 0
 IsNoneOrFault None = Unit {0}
-IsNoneOrFault (Some fault) = IsFault fault
+IsNoneOrFault (Some fault) = IsNamedFault fault
 
 -- the numbers of an upload's end have 64 bits
-pub record IsEnd (end : End) : Type 0 where
+pub record IsUploadEnd (end : End) : Type 0 where
   pub taps : end.taps < 2 ^ 64
   pub fault : IsNoneOrFault end.fault
 

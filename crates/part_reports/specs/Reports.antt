@@ -9,7 +9,7 @@ use Rattle.shard_book.specs.Sums.{Sums, add_all}
 use Rattle.fare_table.specs.Token.{token_cmp}
 use Rattle.fare_table.specs.declared.token.Token.{Token}
 use Rattle.fare_texts.specs.Counts.{totals_line}
-use Rattle.part_reports.specs.Lines.{End, IsEnd, AreCounts, IsValidatorSum, IsTokenSum}
+use Rattle.part_reports.specs.Lines.{End, IsUploadEnd, AreCounts, IsValidatorSum, IsTokenSum}
 use Rattle.part_reports.specs.Lines.{end_lines, head_line, token_line, validator_line}
 
 -- what a report tells: how each upload ended, the totals, and the sums of each validator and of
@@ -37,7 +37,7 @@ report_text report =
 -- the numbers of its lines can be those of taps.
 pub record IsPartReport (report : Report) : Type 0 where
   pub number : length report.ends < 2 ^ 64
-  pub ends : All IsEnd report.ends
+  pub ends : All IsUploadEnd report.ends
   pub posted : All (λ end. end.fault ≡ None) report.ends
   pub totals : AreCounts report.totals
   pub validators_number : length report.validators < 2 ^ 64
@@ -61,34 +61,34 @@ joined_ends ends = flat_map (λ some. some) ends
 pub record AreTold (end_files report_files : List (List ℕ)) (ends : List (List End))
     (parts : List Report) : Type 0 where
   pub ends_told : end_files ≡ end_texts 0 ends
-  pub ends_fit : All IsEnd (joined_ends ends)
+  pub ends_fit : All IsUploadEnd (joined_ends ends)
   pub parts_told : report_files ≡ map report_text parts
   pub parts_fit : All IsPartReport parts
   pub taps : sum_by (λ part. part.totals.taps) parts ≡ sum_by (λ end. end.taps) (joined_ends ends)
 
 -- the validators of all parts, and the tokens of all parts, with their sums, part by part
-abbrev pub validators_of : List Report → List (ℕ × Sums)
-validators_of parts = flat_map (λ part. part.validators) parts
+abbrev pub validators_of_reports : List Report → List (ℕ × Sums)
+validators_of_reports parts = flat_map (λ part. part.validators) parts
 
-abbrev pub tokens_of : List Report → List (Token × Sums)
-tokens_of parts = flat_map (λ part. part.tokens) parts
+abbrev pub tokens_of_reports : List Report → List (Token × Sums)
+tokens_of_reports parts = flat_map (λ part. part.tokens) parts
 
 -- the sums that this validator has in the list, added up
-abbrev pub sums_at : ℕ → List (ℕ × Sums) → Sums
-sums_at validator list = add_all (map (λ sum. sum.1) (filter (λ sum. sum.0 == validator) list))
+abbrev pub sums_of_validator : ℕ → List (ℕ × Sums) → Sums
+sums_of_validator validator list = add_all (map (λ sum. sum.1) (filter (λ sum. sum.0 == validator) list))
 
 -- The whole's report: the ends of the uploads, the totals of all parts added up, each validator of
 -- the parts once with its sums in all of them, and the tokens of all parts. Validators rise and
 -- tokens rise, so no token is in two parts.
-pub record IsWhole (uploads : List End) (parts : List Report) (whole : Report) : Type 0 where
+pub record IsWholeReport (uploads : List End) (parts : List Report) (whole : Report) : Type 0 where
   pub ends : whole.ends ≡ uploads
   pub totals : whole.totals ≡ add_all (map (λ part. part.totals) parts)
   pub validators_rise : IsStrictlySortedBy nat_cmp (keys_of whole.validators)
   pub validators_same : (validator : ℕ)
       → is_member (eq_by_cmp nat_cmp) (keys_of whole.validators) validator
-      ≡ is_member (eq_by_cmp nat_cmp) (keys_of (validators_of parts)) validator
-  pub validators_sums : All (λ sum. sum.1 ≡ sums_at sum.0 (validators_of parts)) whole.validators
-  pub tokens_moved : IsPermutation (tokens_of parts) whole.tokens
+      ≡ is_member (eq_by_cmp nat_cmp) (keys_of (validators_of_reports parts)) validator
+  pub validators_sums : All (λ sum. sum.1 ≡ sums_of_validator sum.0 (validators_of_reports parts)) whole.validators
+  pub tokens_moved : IsPermutation (tokens_of_reports parts) whole.tokens
   pub tokens_rise : IsStrictlySortedBy token_cmp (keys_of whole.tokens)
 
 -- the text is the report of the whole, of the parts whose reports these texts are and of the uploads
@@ -98,7 +98,7 @@ pub record IsMerged (end_files report_files : List (List ℕ)) (text : List ℕ)
   pub parts : List Report
   pub told : AreTold end_files report_files ends parts
   pub whole : Report
-  pub is : IsWhole (joined_ends ends) parts whole
+  pub is : IsWholeReport (joined_ends ends) parts whole
   pub shown : text ≡ report_text whole
 
 -- there is no such text

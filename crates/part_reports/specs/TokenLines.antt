@@ -15,8 +15,8 @@ abbrev pub text_of : List TokenLine → List ℕ
 text_of lines = flat_map (λ line. line.text) lines
 
 -- the lines of this token
-abbrev pub lines_of : Token → List TokenLine → List TokenLine
-lines_of token lines = filter (λ line. token_eq token line.token) lines
+abbrev pub lines_of_token : Token → List TokenLine → List TokenLine
+lines_of_token token lines = filter (λ line. token_eq token line.token) lines
 
 -- no line has a token below that of the line before it
 abbrev pub DoNotFall : List TokenLine → Type 0
@@ -27,15 +27,15 @@ abbrev pub HaveOtherTokens : List TokenLine → List TokenLine → Type 0
 HaveOtherTokens first second = All (λ a. All (λ b. a.token ≢ b.token) second) first
 
 -- no two of the lists have a token in common
-abbrev pub AreApart : List (List TokenLine) → Type 0
-AreApart lists = (a b : ℕ) (first second : List TokenLine) → a ≢ b
+abbrev pub ShareNoToken : List (List TokenLine) → Type 0
+ShareNoToken lists = (a b : ℕ) (first second : List TokenLine) → a ≢ b
     → slice_get lists a ≡ Some first → slice_get lists b ≡ Some second
     → HaveOtherTokens first second
 
 -- the lines of all lists by rising tokens, those of one token in the order that they have in their
 -- list
-pub record IsJoined (lists : List (List TokenLine)) (joined : List TokenLine) : Type 0 where
-  pub apart : AreApart lists
+pub record IsMergedByToken (lists : List (List TokenLine)) (joined : List TokenLine) : Type 0 where
+  pub apart : ShareNoToken lists
   pub rise : DoNotFall joined
   pub same : (token : Token)
-      → lines_of token joined ≡ lines_of token (flat_map (λ list. list) lists)
+      → lines_of_token token joined ≡ lines_of_token token (flat_map (λ list. list) lists)

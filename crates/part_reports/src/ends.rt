@@ -3,9 +3,9 @@
 ghost use Rattle.std.specs.Prelude.{◌≡◌, ◌+◌, ◌<◌, ◌≤◌, ◌↔◌, ℕ, List, [], ◌++◌, Some, None, All};
 ghost use Rattle.std.specs.Prelude.{IfErr, IfOk, IsSome, IsTrue, OnOk, length, map};
 ghost use Rattle.part_reports.specs.Faults.{IsOfTaps, IsOfTexts};
-ghost use Rattle.part_reports.specs.Lines.{End as EndOfUpload, IsEnd};
+ghost use Rattle.part_reports.specs.Lines.{End as EndOfUpload, IsUploadEnd};
 ghost use Rattle.part_reports.specs.Reports.{end_texts, joined_ends};
-ghost use Rattle.part_reports.specs.inside.Ends.{Have, IsAdded, IsNextEnd};
+ghost use Rattle.part_reports.specs.inside.Ends.{Have, AreEndsAdded, IsNextEnd};
 
 use crate::fault::MergeFault;
 use crate::form::{End, end_of};
@@ -49,11 +49,8 @@ fn next_end<R: BufRead + Drop>(
 }
 
 /// Adds the ends of the next uploads, which the lines of the text tell.
-fn read_more<R: BufRead + Drop>(
-    ends: &mut Ends,
-    lines: &mut Reading<R>,
-) -> Result<(), MergeFault>
-    ensures added { IsAdded ends.old ends.new (R.remaining lines.old.from) result }
+fn read_more<R: BufRead + Drop>(ends: &mut Ends, lines: &mut Reading<R>) -> Result<(), MergeFault>
+    ensures added { AreEndsAdded ends.old ends.new (R.remaining lines.old.from) result }
     ensures other { IfErr result (λ fault. ¬ (IsOfTaps fault)) }
 {
     for _ in 0..u64::MAX {
@@ -67,17 +64,14 @@ fn read_more<R: BufRead + Drop>(
 
 /// Reads how the uploads ended, as lines that were written where they were split: in each text
 /// those of the next uploads.
-pub(crate) fn read_ends<R: BufRead + Drop>(
-    alloc: Global,
-    texts: Vec<R>,
-) -> Result<Ends, MergeFault>
+pub(crate) fn read_ends<R: BufRead + Drop>(alloc: Global, texts: Vec<R>) -> Result<Ends, MergeFault>
     ensures told { IfOk result (λ ends. (files : List (List ℕ))
         → map (λ text. R.remaining text) texts.items ≡ map (λ text. Some text) files
         → (lists : List (List EndOfUpload)) × (files ≡ end_texts 0 lists)
         × Have ends (joined_ends lists)) }
     ensures refused { IfErr result (λ fault. IsOfTexts fault → (files : List (List ℕ))
         → map (λ text. R.remaining text) texts.items ≡ map (λ text. Some text) files
-        → (lists : List (List EndOfUpload)) → All IsEnd (joined_ends lists)
+        → (lists : List (List EndOfUpload)) → All IsUploadEnd (joined_ends lists)
         → ¬ (files ≡ end_texts 0 lists)) }
     ensures other { IfErr result (λ fault. ¬ (IsOfTaps fault)) }
 {

@@ -12,13 +12,13 @@ ghost use Rattle.shard_book.specs.Sums.{Sums, sums_of};
 ghost use Rattle.hex.specs.Hex.{encode_lower};
 ghost use Rattle.fare_table.specs.Token.{Fits, bytes_of};
 ghost use Rattle.fare_table.specs.declared.token.Token.{Token as AToken};
-ghost use Rattle.part_reports.specs.Ledgers.{IsEntryLine};
-ghost use Rattle.part_reports.specs.Lines.{AreCounts, IsEnd, IsFault, IsTokenSum};
-ghost use Rattle.part_reports.specs.Lines.{End as EndOfUpload, IsValidatorSum, end_line, end_text};
+ghost use Rattle.part_reports.specs.Ledgers.{IsLedgerEntryLine};
+ghost use Rattle.part_reports.specs.Lines.{AreCounts, IsUploadEnd, IsNamedFault, IsTokenSum};
+ghost use Rattle.part_reports.specs.Lines.{End as EndOfUpload, IsValidatorSum, end_line, end_words};
 ghost use Rattle.part_reports.specs.Lines.{head_line, token_line, validator_line};
 ghost use Rattle.part_reports.specs.TokenLines.{TokenLine};
-ghost use Rattle.part_reports.specs.inside.Counted.{IsCounted, sums_by};
-ghost use Rattle.part_reports.specs.inside.Ended.{ended, fault_text};
+ghost use Rattle.part_reports.specs.inside.Counted.{IsCounted, sums_with};
+ghost use Rattle.part_reports.specs.inside.Ended.{end_of_upload, fault_words};
 
 use itoa::Buffer;
 use shard_book::{Token, TokenSum, Totals, ValidatorSum};
@@ -117,7 +117,7 @@ fn totals_by(
     unknown: u64,
     cents: u64,
 ) -> Option<Totals>
-    ensures { let sums = sums_by taps paid transfers capped stale unknown cents in
+    ensures { let sums = sums_with taps paid transfers capped stale unknown cents in
         MatchOption result (¬ (AreCounts sums))
         (λ totals. AreCounts (sums_of totals) × (sums_of totals ≡ sums)) }
 {
@@ -286,9 +286,9 @@ pub(crate) fn token_sum_of(line: &[u8]) -> Option<TokenSum>
 /// The token of a ledger's line: of the 32 digits before its first comma.
 pub(crate) fn ledger_token_of(line: &[u8]) -> Option<Token>
     ensures { MatchOption result
-        ((entry : TokenLine) → IsEntryLine entry → ¬ (line.now ≡ entry.text))
+        ((entry : TokenLine) → IsLedgerEntryLine entry → ¬ (line.now ≡ entry.text))
         (λ token. (left : List ℕ) → line.now ≡ take_through 10 left
-        → IsEntryLine (record { token = token; text = line.now })) }
+        → IsLedgerEntryLine (record { token = token; text = line.now })) }
 {
     let (token, rest) = token_before(line)?;
     let text = after(rest, b",")?;
@@ -308,9 +308,9 @@ pub(crate) struct End {
 /// The end that ` posted N` tells.
 fn posted_of(text: &[u8]) -> Option<End>
     ensures { MatchOption result
-        ((taps : ℕ) → taps < 2 ^ 64 → ¬ (text.now ≡ end_text taps None))
-        (λ end. IsEnd (ended end) × (end.fault ≡ None)
-        × (text.now ≡ end_text end.taps end.fault)) }
+        ((taps : ℕ) → taps < 2 ^ 64 → ¬ (text.now ≡ end_words taps None))
+        (λ end. IsUploadEnd (end_of_upload end) × (end.fault ≡ None)
+        × (text.now ≡ end_words end.taps end.fault)) }
 {
     let taps = head_of(text, b" posted ")?;
     Some(End { taps, fault: None })
@@ -326,8 +326,8 @@ fn is_fault_number(number: u64) -> bool
 /// The fault that ` at OFFSET L5` tells.
 fn fault_of(text: &[u8]) -> Option<(u64, u64)>
     ensures { MatchOption result
-        ((fault : ℕ × ℕ) → IsFault fault → ¬ (text.now ≡ fault_text fault))
-        (λ fault. IsFault fault × (text.now ≡ fault_text fault)) }
+        ((fault : ℕ × ℕ) → IsNamedFault fault → ¬ (text.now ≡ fault_words fault))
+        (λ fault. IsNamedFault fault × (text.now ≡ fault_words fault)) }
 {
     let (offset, rest) = count(text, b" at ")?;
     let number = head_of(rest, b" L")?;
@@ -341,9 +341,9 @@ fn fault_of(text: &[u8]) -> Option<(u64, u64)>
 /// The end that ` refused N at OFFSET L5` tells.
 fn refused_of(text: &[u8]) -> Option<End>
     ensures { MatchOption result
-        ((taps : ℕ) (fault : ℕ × ℕ) → taps < 2 ^ 64 → IsFault fault
-        → ¬ (text.now ≡ end_text taps (Some fault)))
-        (λ end. IsEnd (ended end) × (text.now ≡ end_text end.taps end.fault)) }
+        ((taps : ℕ) (fault : ℕ × ℕ) → taps < 2 ^ 64 → IsNamedFault fault
+        → ¬ (text.now ≡ end_words taps (Some fault)))
+        (λ end. IsUploadEnd (end_of_upload end) × (text.now ≡ end_words end.taps end.fault)) }
 {
     let (taps, rest) = count(text, b" refused ")?;
     let fault = fault_of(rest)?;
@@ -357,8 +357,8 @@ fn refused_of(text: &[u8]) -> Option<End>
 /// OFFSET L5`, tells.
 pub(crate) fn end_of(line: &[u8], upload: u64) -> Option<End>
     ensures { MatchOption result
-        ((end : EndOfUpload) → IsEnd end → ¬ (line.now ≡ end_line upload end))
-        (λ end. IsEnd (ended end) × (line.now ≡ end_line upload (ended end))) }
+        ((end : EndOfUpload) → IsUploadEnd end → ¬ (line.now ≡ end_line upload end))
+        (λ end. IsUploadEnd (end_of_upload end) × (line.now ≡ end_line upload (end_of_upload end))) }
 {
     let (number, rest) = count(line, b"upload ")?;
     if number != upload {

@@ -5,11 +5,11 @@ ghost use Rattle.fare_texts.specs.Counts.{totals_line};
 ghost use Rattle.shard_book.specs.Shown.{validator_sum};
 ghost use Rattle.shard_book.specs.Sums.{sums_of};
 ghost use Rattle.part_reports.specs.Faults.{IsOfTaps};
-ghost use Rattle.part_reports.specs.Lines.{AreCounts, IsEnd, IsValidatorSum};
+ghost use Rattle.part_reports.specs.Lines.{AreCounts, IsUploadEnd, IsValidatorSum};
 ghost use Rattle.part_reports.specs.Lines.{end_line, end_lines, head_line, validator_line};
-ghost use Rattle.part_reports.specs.inside.Ended.{ended};
-ghost use Rattle.part_reports.specs.inside.Fronts.{AreEnds, ArePosted, AreRising, AreSums};
-ghost use Rattle.part_reports.specs.inside.Fronts.{AreValidators, IsFront, MayBePart, MayFollow};
+ghost use Rattle.part_reports.specs.inside.Ended.{end_of_upload};
+ghost use Rattle.part_reports.specs.inside.Fronts.{AreEnds, AreSoManyPosted, AreRising, AreSums};
+ghost use Rattle.part_reports.specs.inside.Fronts.{AreValidators, IsFront, MayBePart, MayFollowValidators};
 ghost use Rattle.part_reports.specs.inside.Fronts.{ends_text, told_text, validators_text};
 ghost use Rattle.part_reports.specs.inside.Reading.{IsRead};
 
@@ -47,7 +47,7 @@ pub(crate) fn next_end<R: BufRead + Drop>(
     reading: &mut Reading<R>,
     upload: u64,
 ) -> Result<End, MergeFault>
-    ensures read { IsRead (λ end told. ended end ≡ told) IsEnd (end_line upload) (R.remaining reading.old.from)
+    ensures read { IsRead (λ end told. end_of_upload end ≡ told) IsUploadEnd (end_line upload) (R.remaining reading.old.from)
         (R.remaining reading.new.from) result }
     ensures other { IfErr result (λ fault. ¬ (IsOfTaps fault)) }
 {
@@ -99,7 +99,7 @@ fn next_tokens<R: BufRead + Drop>(reading: &mut Reading<R>) -> Result<u64, Merge
 
 /// Reads the lines of so many uploads, each of which was posted.
 fn read_posted<R: BufRead + Drop>(reading: &mut Reading<R>, uploads: u64) -> Result<(), MergeFault>
-    ensures read { IsRead (λ _ _. Unit {0}) (ArePosted uploads) (end_lines 0)
+    ensures read { IsRead (λ _ _. Unit {0}) (AreSoManyPosted uploads) (end_lines 0)
         (R.remaining reading.old.from) (R.remaining reading.new.from) result }
     ensures other { IfErr result (λ fault. ¬ (IsOfTaps fault)) }
 {
@@ -124,7 +124,7 @@ fn read_uploads<R: BufRead + Drop>(reading: &mut Reading<R>) -> Result<(), Merge
 
 /// Whether a validator may follow the last of these.
 fn may_follow(sums: &[ValidatorSum], sum: &ValidatorSum) -> bool
-    ensures { IsTrue result ↔ MayFollow (map validator_sum sums.now) sum.now.validator }
+    ensures { IsTrue result ↔ MayFollowValidators (map validator_sum sums.now) sum.now.validator }
 {
     match sums.last() {
         Some(before) => before.validator < sum.validator,

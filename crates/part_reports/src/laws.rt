@@ -2,14 +2,14 @@
 //! does nothing at run time.
 
 ghost use Rattle.std.specs.Prelude.{◌≡◌, ℕ, List};
-ghost use Rattle.part_reports.specs.Ledgers.{IsLedger};
+ghost use Rattle.part_reports.specs.Ledgers.{IsPartLedger};
 ghost use Rattle.part_reports.specs.Reports.{IsPartReport, Report, report_text};
-ghost use Rattle.part_reports.specs.Told.{CanBeTold};
+ghost use Rattle.part_reports.specs.Told.{HasLegalNumbers};
 ghost use Rattle.part_reports.specs.TokenLines.{TokenLine};
 
 /// Two reports that tell something else have other texts.
 pub fn texts_differ()
-    ensures any { (a b : Report) → CanBeTold a → CanBeTold b → report_text a ≡ report_text b
+    ensures any { (a b : Report) → HasLegalNumbers a → HasLegalNumbers b → report_text a ≡ report_text b
         → a ≡ b }
     ensures parts { (a b : Report) → IsPartReport a → IsPartReport b
         → report_text a ≡ report_text b → a ≡ b }
@@ -17,5 +17,5 @@ pub fn texts_differ()
 
 /// A text is the ledger of at most one list of lines.
 pub fn ledgers_differ()
-    ensures { (a b : List TokenLine) (text : List ℕ) → IsLedger a text → IsLedger b text → a ≡ b }
+    ensures { (a b : List TokenLine) (text : List ℕ) → IsPartLedger a text → IsPartLedger b text → a ≡ b }
 {}

@@ -18,7 +18,6 @@ mod reports;
 mod sums;
 mod told;
 
-
 pub use fault::{MergeFault, Wrong};
 pub use ledgers::merge_ledgers;
 pub use reports::merge;

@@ -6,10 +6,10 @@ ghost use Rattle.std.specs.Io.BufRead.{take_through};
 ghost use Rattle.std.specs.Io.KnownBytes.{Appends};
 ghost use Rattle.std.specs.List.{AllZip};
 ghost use Rattle.part_reports.specs.Faults.{IsOfTaps, IsOfTexts};
-ghost use Rattle.part_reports.specs.TokenLines.{IsJoined, TokenLine, text_of};
+ghost use Rattle.part_reports.specs.TokenLines.{IsMergedByToken, TokenLine, text_of};
 ghost use Rattle.part_reports.specs.inside.Kinds.{AreTexts, IsTextOf};
 ghost use Rattle.part_reports.specs.inside.Least.{IsLeast, IsTwin};
-ghost use Rattle.part_reports.specs.inside.Sources.{IsBehindOne, IsFirst, IsLineOf, IsSource};
+ghost use Rattle.part_reports.specs.inside.Sources.{IsBehindOne, IsFirstLine, IsLineOfKind, IsSource};
 ghost use Rattle.part_reports.specs.inside.Sources.{MayEnd, MayFollow, MayFollowAll, MayFollowHead};
 ghost use Rattle.part_reports.specs.inside.Sources.{IsMovedAt, IsStuckAt, standing};
 
@@ -44,9 +44,9 @@ pub(crate) struct Source<R: BufRead + Drop> {
 /// The token of a line.
 fn token_in(lines: Lines, line: &[u8]) -> Option<Token>
     ensures { MatchOption result
-        ((token : Token) → ¬ (IsLineOf lines (record { token = token; text = line.now })))
+        ((token : Token) → ¬ (IsLineOfKind lines (record { token = token; text = line.now })))
         (λ token. (left : List ℕ) → line.now ≡ take_through 10 left
-        → IsLineOf lines (record { token = token; text = line.now })) }
+        → IsLineOfKind lines (record { token = token; text = line.now })) }
 {
     match lines {
         Lines::Tokens { .. } => match token_sum_of(line) {
@@ -85,9 +85,9 @@ fn may_end(lines: Lines) -> bool
 /// behind it are, and its token. Nothing where such a line may not stand there.
 fn first_of(lines: Lines, line: &[u8]) -> Option<(Lines, Option<Token>)>
     ensures { MatchOption result
-        ((behind : Lines) (head : Option Token) → ¬ (IsFirst lines line.now behind head))
+        ((behind : Lines) (head : Option Token) → ¬ (IsFirstLine lines line.now behind head))
         (λ told. (left : List ℕ) → line.now ≡ take_through 10 left
-        → IsFirst lines line.now told.0 told.1) }
+        → IsFirstLine lines line.now told.0 told.1) }
 {
     if line.is_empty() {
         return if may_end(lines) {
@@ -276,12 +276,12 @@ pub(crate) fn write_merged<R: BufRead + Drop, W: Write>(
     ensures merged { OnOk result ((texts : List (Lines × List ℕ))
         → AllZip IsSource texts (map (standing R.remaining) sources.old)
         → (lists : List (List TokenLine)) × (joined : List TokenLine) × AreTexts texts lists
-        × IsJoined lists joined
+        × IsMergedByToken lists joined
         × Appends (W.contents out.old) (W.contents out.new) (text_of joined)) }
     ensures refused { IfErr result (λ fault. IsOfTexts fault → (texts : List (Lines × List ℕ))
         → AllZip IsSource texts (map (standing R.remaining) sources.old)
         → (lists : List (List TokenLine)) (joined : List TokenLine) → AreTexts texts lists
-        → ¬ (IsJoined lists joined)) }
+        → ¬ (IsMergedByToken lists joined)) }
     ensures no_taps { IfErr result (λ fault. ¬ (IsOfTaps fault)) }
 {
     let mut heads = heads_of(alloc, sources)?;

@@ -88,10 +88,7 @@ fn read_parts<R: BufRead + Drop>(
 }
 
 /// Appends the line of each validator.
-fn write_validators(
-    text: &mut String,
-    validators: &BTreeMap<u32, Totals>,
-) -> Result<(), AllocError>
+fn write_validators(text: &mut String, validators: &BTreeMap<u32, Totals>) -> Result<(), AllocError>
     ensures text { OnOk result (string_bytes text.new ≡ string_bytes text.old
         ++ flat_map validator_line (validators_in validators.now)) }
     ensures found { All (λ entry. get nat_cmp validators.now entry.0 ≡ Some entry.1)

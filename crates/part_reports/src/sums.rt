@@ -2,7 +2,7 @@
 
 ghost use Rattle.std.specs.Prelude.{◌≡◌, ◌+◌, ◌<◌, ◌^◌, [], true, false, IfOk};
 ghost use Rattle.shard_book.specs.Sums.{add_sums, sums_of};
-ghost use Rattle.part_reports.specs.inside.Sums.{IsCounted, WithFront, WithOne, WithValidators, or_nothing};
+ghost use Rattle.part_reports.specs.inside.Sums.{AreFrontsCounted, WithFront, WithOne, WithValidators, or_nothing};
 ghost use Rattle.std.specs.Option.{option_map};
 ghost use Rattle.std.specs.BTreeMap.{get};
 ghost use Rattle.std.specs.Ordering.{nat_cmp};
@@ -28,7 +28,7 @@ pub(crate) struct WholeSums {
 
 /// The sums of no parts.
 pub(crate) fn no_sums(alloc: Global) -> WholeSums
-    ensures { IsCounted result [] }
+    ensures { AreFrontsCounted result [] }
 {
     WholeSums {
         totals: Totals::new(),

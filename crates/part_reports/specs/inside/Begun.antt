@@ -2,7 +2,7 @@
 use Rattle.std.specs.Prelude.{◌≡◌, ℕ, List, ◌++◌, Option, IfSome}
 use Rattle.std.specs.List.{AllZip}
 use Rattle.reason_texts.specs.Ledger.{head_text}
-use Rattle.part_reports.specs.Ledgers.{IsLedger}
+use Rattle.part_reports.specs.Ledgers.{IsPartLedger}
 use Rattle.part_reports.specs.TokenLines.{TokenLine}
 use Rattle.part_reports.specs.inside.Sources.{IsSource, Standing}
 use Rattle.part_reports.specs.declared.merging.Lines.TheVariants.{Entries}
@@ -19,4 +19,4 @@ AreBegun files ats = AllZip (λ file at. IfSome file (λ file. IsBegun file at))
 
 -- the text is no ledger
 abbrev pub IsNoLedger : List ℕ → Type 0
-IsNoLedger file = (lines : List TokenLine) → ¬ (IsLedger lines file)
+IsNoLedger file = (lines : List TokenLine) → ¬ (IsPartLedger lines file)

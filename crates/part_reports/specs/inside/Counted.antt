@@ -16,8 +16,8 @@ pub record IsCounted (text word : List ℕ) (number : ℕ) (rest : List ℕ) : T
   pub shown : text ≡ word ++ (decimal number ++ rest)
 
 -- these counts
-abbrev pub sums_by : ℕ → ℕ → ℕ → ℕ → ℕ → ℕ → ℕ → Sums
-sums_by taps paid transfers capped stale unknown cents = record {
+abbrev pub sums_with : ℕ → ℕ → ℕ → ℕ → ℕ → ℕ → ℕ → Sums
+sums_with taps paid transfers capped stale unknown cents = record {
   taps = taps;
   paid = paid;
   transfers = transfers;

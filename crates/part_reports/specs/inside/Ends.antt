@@ -5,8 +5,8 @@ use Rattle.part_reports.specs.declared.fault.MergeFault.{MergeFault}
 use Rattle.part_reports.specs.declared.form as form
 use Rattle.part_reports.specs.declared.told.Ends.{Ends}
 use Rattle.part_reports.specs.Faults.{IsOfTexts}
-use Rattle.part_reports.specs.Lines.{End, IsEnd, end_line, end_lines}
-use Rattle.part_reports.specs.inside.Ended.{ended}
+use Rattle.part_reports.specs.Lines.{End, IsUploadEnd, end_line, end_lines}
+use Rattle.part_reports.specs.inside.Ended.{end_of_upload}
 use Rattle.part_reports.specs.inside.Reading.{Stood}
 
 -- these uploads were read
@@ -15,15 +15,15 @@ pub record Have (ends : Ends) (list : List End) : Type 0 where
   pub uploads : ends.uploads ≡ length list
   pub taps : ends.taps ≡ sum_by (λ end. end.taps) list
   pub posted : IsTrue ends.are_posted ↔ All (λ end. end.fault ≡ None) list
-  pub each : All IsEnd list
+  pub each : All IsUploadEnd list
 
 -- this line was read of the text, which is the end of the upload of this number
 pub record IsEndRead (upload : ℕ) (text : List ℕ) (after : Option (List ℕ)) (line : List ℕ)
     (end : form.End.End) : Type 0 where
-  pub may : IsEnd (ended end)
-  pub line_is : line ≡ end_line upload (ended end)
+  pub may : IsUploadEnd (end_of_upload end)
+  pub line_is : line ≡ end_line upload (end_of_upload end)
   pub rest : List ℕ
-  pub shown : text ≡ end_line upload (ended end) ++ rest
+  pub shown : text ≡ end_line upload (end_of_upload end) ++ rest
   pub left : after ≡ Some rest
 
 -- the text is over, or its next line is the end of the upload of this number; or neither
@@ -34,7 +34,7 @@ IsNextEnd upload (Some text) after line (Ok None) = text ≡ []
 IsNextEnd upload (Some text) after line (Ok (Some end)) = IsEndRead upload text after line end
 IsNextEnd upload (Some text) after line (Err fault) = IsOfTexts fault
     → (¬ (text ≡ []))
-    × ((end : End) (rest : List ℕ) → IsEnd end → ¬ (text ≡ end_line upload end ++ rest))
+    × ((end : End) (rest : List ℕ) → IsUploadEnd end → ¬ (text ≡ end_line upload end ++ rest))
 
 -- from one number of uploads on, the lines of these were read
 pub record More (before after : Ends) (more : List End) : Type 0 where
@@ -43,12 +43,12 @@ pub record More (before after : Ends) (more : List End) : Type 0 where
   pub taps : after.taps ≡ before.taps + sum_by (λ end. end.taps) more
   pub posted : IsTrue after.are_posted
       ↔ (IsTrue before.are_posted × All (λ end. end.fault ≡ None) more)
-  pub each : All IsEnd more
+  pub each : All IsUploadEnd more
 
 -- the text tells the ends of the next uploads, which were added; or it does not
-abbrev pub IsAdded : Ends → Ends → Option (List ℕ) → Result (Unit {0}) MergeFault → Type 0
-IsAdded before after None result = ⊤
-IsAdded before after (Some text) (Ok x) =
+abbrev pub AreEndsAdded : Ends → Ends → Option (List ℕ) → Result (Unit {0}) MergeFault → Type 0
+AreEndsAdded before after None result = ⊤
+AreEndsAdded before after (Some text) (Ok x) =
     (more : List End) × More before after more × (text ≡ end_lines before.uploads more)
-IsAdded before after (Some text) (Err fault) = IsOfTexts fault
-    → (more : List End) → All IsEnd more → ¬ (text ≡ end_lines before.uploads more)
+AreEndsAdded before after (Some text) (Err fault) = IsOfTexts fault
+    → (more : List End) → All IsUploadEnd more → ¬ (text ≡ end_lines before.uploads more)

@@ -7,21 +7,21 @@ use Rattle.std.specs.Ordering.{nat_cmp}
 use Rattle.shard_book.specs.Shown.{validator_sum}
 use Rattle.shard_book.specs.Sums.{Sums, sums_of}
 use Rattle.shard_book.specs.declared.sums.ValidatorSum.{ValidatorSum}
-use Rattle.part_reports.specs.Lines.{End, IsEnd, AreCounts, IsValidatorSum}
+use Rattle.part_reports.specs.Lines.{End, IsUploadEnd, AreCounts, IsValidatorSum}
 use Rattle.part_reports.specs.Lines.{end_lines, head_line, validator_line}
 use Rattle.part_reports.specs.Reports.{front_text}
 use Rattle.part_reports.specs.declared.front.Front.{Front}
 
 -- so many uploads ended so, and each was posted
-pub record ArePosted (count : ℕ) (ends : List End) : Type 0 where
+pub record AreSoManyPosted (count : ℕ) (ends : List End) : Type 0 where
   pub number : length ends ≡ count
-  pub each : All IsEnd ends
+  pub each : All IsUploadEnd ends
   pub posted : All (λ end. end.fault ≡ None) ends
 
 -- uploads ended so, each was posted, and their number has 64 bits
 pub record AreEnds (ends : List End) : Type 0 where
   pub few : length ends < 2 ^ 64
-  pub are : ArePosted (length ends) ends
+  pub are : AreSoManyPosted (length ends) ends
 
 -- the line of their number, and their lines
 abbrev pub ends_text : List End → List ℕ
@@ -44,35 +44,35 @@ validators_text validators =
     head_line (codes "validators ") (length validators) ++ flat_map validator_line validators
 
 -- the validator is above the last of these
-abbrev pub MayFollow : List (ℕ × Sums) → ℕ → Type 0
-MayFollow [] validator = Unit {0}
-MayFollow (sum ∷ []) validator = sum.0 < validator
-MayFollow (sum ∷ (next ∷ more)) validator = MayFollow (next ∷ more) validator
+abbrev pub MayFollowValidators : List (ℕ × Sums) → ℕ → Type 0
+MayFollowValidators [] validator = Unit {0}
+MayFollowValidators (sum ∷ []) validator = sum.0 < validator
+MayFollowValidators (sum ∷ (next ∷ more)) validator = MayFollowValidators (next ∷ more) validator
 
 -- these validators were read
 abbrev pub AreSums : List ValidatorSum → List (ℕ × Sums) → Type 0
 AreSums sums validators = map validator_sum sums ≡ validators
 
 -- a report up to the lines of its tokens
-pub record Told : Type 0 where
+pub record ToldFront : Type 0 where
   pub ends : List End
   pub totals : Sums
   pub validators : List (ℕ × Sums)
   pub tokens : ℕ
 
 -- it may be that of a part
-pub record MayBePart (told : Told) : Type 0 where
+pub record MayBePart (told : ToldFront) : Type 0 where
   pub ends : AreEnds told.ends
   pub totals : AreCounts told.totals
   pub validators : AreValidators told.validators
   pub tokens : told.tokens < 2 ^ 64
 
 -- its text
-abbrev pub told_text : Told → List ℕ
+abbrev pub told_text : ToldFront → List ℕ
 told_text told = front_text told.ends told.totals told.validators told.tokens
 
 -- this was read of it
-pub record IsFront (front : Front) (told : Told) : Type 0 where
+pub record IsFront (front : Front) (told : ToldFront) : Type 0 where
   pub totals : sums_of front.totals ≡ told.totals
   pub validators : AreSums front.validators.items told.validators
   pub tokens : front.tokens ≡ told.tokens

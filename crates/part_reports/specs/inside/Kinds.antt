@@ -5,7 +5,7 @@ use Rattle.std.specs.List.Sorted.{IsStrictlySortedBy}
 use Rattle.fare_table.specs.Token.{token_cmp}
 use Rattle.shard_book.specs.Sums.{Sums}
 use Rattle.part_reports.specs.Lines.{IsTokenSum, token_line}
-use Rattle.part_reports.specs.Ledgers.{IsEntryLine}
+use Rattle.part_reports.specs.Ledgers.{IsLedgerEntryLine}
 use Rattle.part_reports.specs.TokenLines.{TokenLine, DoNotFall, text_of}
 use Rattle.part_reports.specs.declared.merging.Lines.{Lines}
 use Rattle.part_reports.specs.declared.merging.Lines.TheVariants.{Tokens, Entries}
@@ -22,7 +22,7 @@ abbrev pub AreLines : Lines → List TokenLine → Type 0
 AreLines (Tokens left) lines =
     (length lines ≡ left) × All IsSumLine lines
     × IsStrictlySortedBy token_cmp (map (λ line. line.token) lines)
-AreLines Entries lines = All IsEntryLine lines × DoNotFall lines
+AreLines Entries lines = All IsLedgerEntryLine lines × DoNotFall lines
 
 -- the text is lines of this kind, and nothing else
 abbrev pub IsTextOf : Lines × List ℕ → List TokenLine → Type 0

@@ -5,14 +5,14 @@ use Rattle.part_reports.specs.declared.merging.Lines.{Lines}
 use Rattle.part_reports.specs.declared.merging.Lines.TheVariants.{Tokens}
 use Rattle.part_reports.specs.declared.sums.WholeSums.{WholeSums}
 use Rattle.part_reports.specs.TokenLines.{TokenLine}
-use Rattle.part_reports.specs.inside.Fronts.{MayBePart, Told, told_text}
+use Rattle.part_reports.specs.inside.Fronts.{MayBePart, ToldFront, told_text}
 use Rattle.part_reports.specs.inside.Kinds.{IsTextOf}
 use Rattle.part_reports.specs.inside.Sources.{IsSource, Standing}
-use Rattle.part_reports.specs.inside.Sums.{AreFew, IsCounted}
+use Rattle.part_reports.specs.inside.Sums.{AreFew, AreFrontsCounted}
 
 -- what was read of a report, and what is left of it: the lines of its tokens
 abbrev pub Begun : Type 0
-Begun = Told × List ℕ
+Begun = ToldFront × List ℕ
 
 -- its text
 abbrev pub begun_text : Begun → List ℕ
@@ -27,13 +27,13 @@ pub record IsPart (before after : WholeSums) (file : List ℕ) (at : Standing) :
   pub begun : Begun
   pub may : MayBePart begun.0
   pub shown : file ≡ begun_text begun
-  pub added : (fronts : List Told) → IsCounted before fronts
-      → IsCounted after (fronts ++ begun.0 ∷ [])
+  pub added : (fronts : List ToldFront) → AreFrontsCounted before fronts
+      → AreFrontsCounted after (fronts ++ begun.0 ∷ [])
   pub stands : IsSource (left_text begun) at
 
 -- no report of a part that may be added is this text
 abbrev pub IsNoPart : WholeSums → List ℕ → Type 0
-IsNoPart before file = (fronts : List Told) → IsCounted before fronts
+IsNoPart before file = (fronts : List ToldFront) → AreFrontsCounted before fronts
     → (begun : Begun) (lines : List TokenLine) → MayBePart begun.0 → file ≡ begun_text begun
     → IsTextOf (left_text begun) lines → ¬ (AreFew (fronts ++ begun.0 ∷ []))
 
@@ -43,5 +43,5 @@ pub record AreParts (files : List (List ℕ)) (sums : WholeSums) (sources : List
   pub begun : List Begun
   pub shown : files ≡ map begun_text begun
   pub may : All (λ one. MayBePart one.0) begun
-  pub counted : IsCounted sums (map (λ one. one.0) begun)
+  pub counted : AreFrontsCounted sums (map (λ one. one.0) begun)
   pub stand : AllZip IsSource (map left_text begun) sources

@@ -6,7 +6,7 @@ use Rattle.std.specs.Ordering.{is_lt}
 use Rattle.std.specs.declared.cmp.Ordering.TheVariants.{Less}
 use Rattle.fare_table.specs.Token.{token_cmp}
 use Rattle.fare_table.specs.declared.token.Token.{Token}
-use Rattle.part_reports.specs.Ledgers.{IsEntryLine}
+use Rattle.part_reports.specs.Ledgers.{IsLedgerEntryLine}
 use Rattle.part_reports.specs.TokenLines.{TokenLine}
 use Rattle.part_reports.specs.inside.Kinds.{IsSumLine, IsTextOf}
 use Rattle.part_reports.specs.declared.merging.Lines.{Lines}
@@ -31,9 +31,9 @@ standing remaining source = record {
 }
 
 -- it is a line of this kind: a report's of a token, or a ledger's
-abbrev pub IsLineOf : Lines → TokenLine → Type 0
-IsLineOf (Tokens left) line = IsSumLine line
-IsLineOf Entries line = IsEntryLine line
+abbrev pub IsLineOfKind : Lines → TokenLine → Type 0
+IsLineOfKind (Tokens left) line = IsSumLine line
+IsLineOfKind Entries line = IsLedgerEntryLine line
 
 -- a line of this token may stand behind one of the other: a report's tokens rise, and a ledger's do
 -- not fall
@@ -55,17 +55,17 @@ IsBehindOne Entries Entries = Unit {0}
 
 -- the line may stand first in a text of this kind, or be empty where the text is: of which kind the
 -- lines behind it are, and its token
-abbrev pub IsFirst : Lines → List ℕ → Lines → Option Token → Type 0
-IsFirst kind line behind None = (line ≡ []) × MayEnd kind
-IsFirst kind line behind (Some token) =
-    IsLineOf kind (record { token = token; text = line }) × IsBehindOne kind behind
+abbrev pub IsFirstLine : Lines → List ℕ → Lines → Option Token → Type 0
+IsFirstLine kind line behind None = (line ≡ []) × MayEnd kind
+IsFirstLine kind line behind (Some token) =
+    IsLineOfKind kind (record { token = token; text = line }) × IsBehindOne kind behind
 
 -- the text's first line is the one that was read, with this token, and the rest is left
 pub record IsAtLine (text : Lines × List ℕ) (at : Standing) (token : Token) : Type 0 where
   pub rest : List ℕ
   pub left : at.left ≡ Some rest
   pub shown : text.1 ≡ at.line ++ rest
-  pub line : IsLineOf text.0 (record { token = token; text = at.line })
+  pub line : IsLineOfKind text.0 (record { token = token; text = at.line })
   pub behind : IsBehindOne text.0 at.behind
 
 -- the text is empty, and may be

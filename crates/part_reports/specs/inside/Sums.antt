@@ -13,22 +13,22 @@ use Rattle.shard_book.specs.declared.sums.ValidatorSum.{ValidatorSum}
 use Rattle.shard_book.specs.declared.sums.totals.Totals.{Totals}
 use Rattle.part_reports.specs.declared.front.Front.{Front}
 use Rattle.part_reports.specs.declared.sums.WholeSums.{WholeSums}
-use Rattle.part_reports.specs.Reports.{sums_at}
-use Rattle.part_reports.specs.inside.Fronts.{IsFront, MayBePart, Told}
+use Rattle.part_reports.specs.Reports.{sums_of_validator}
+use Rattle.part_reports.specs.inside.Fronts.{IsFront, MayBePart, ToldFront}
 
 -- the sums that this validator has in the list; none where it is not in it
-abbrev pub sums_in : List (ℕ × Sums) → ℕ → Option Sums
-sums_in list validator =
-    if is_member (eq_by_cmp nat_cmp) (keys_of list) validator then Some (sums_at validator list)
+abbrev pub sums_found : List (ℕ × Sums) → ℕ → Option Sums
+sums_found list validator =
+    if is_member (eq_by_cmp nat_cmp) (keys_of list) validator then Some (sums_of_validator validator list)
     else None
 
 -- the map has these sums
 abbrev pub AreOf : BTreeMap ℕ Totals → List (ℕ × Sums) → Type 0
 AreOf validators list =
-    (q : ℕ) → option_map sums_of (get nat_cmp validators q) ≡ sums_in list q
+    (q : ℕ) → option_map sums_of (get nat_cmp validators q) ≡ sums_found list q
 
 -- what these reports tell, added up
-pub record IsCounted (whole : WholeSums) (fronts : List Told) : Type 0 where
+pub record AreFrontsCounted (whole : WholeSums) (fronts : List ToldFront) : Type 0 where
   pub totals : sums_of whole.totals ≡ add_all (map (λ told. told.totals) fronts)
   pub validators : AreOf whole.validators (flat_map (λ told. told.validators) fronts)
   pub tokens : whole.tokens ≡ sum_by (λ told. told.tokens) fronts
@@ -43,11 +43,11 @@ abbrev pub WithOne : BTreeMap ℕ Totals → BTreeMap ℕ Totals → ValidatorSu
 WithOne before after sum true =
     (list : List (ℕ × Sums)) → AreOf before list → AreOf after (list ++ validator_sum sum ∷ [])
 WithOne before after sum false = (list : List (ℕ × Sums)) → AreOf before list
-    → 2 ^ 95 < (sums_at sum.validator (list ++ validator_sum sum ∷ [])).taps
+    → 2 ^ 95 < (sums_of_validator sum.validator (list ++ validator_sum sum ∷ [])).taps
 
 -- no validator has more taps than any run has
 abbrev pub AreSmall : List (ℕ × Sums) → Type 0
-AreSmall list = (validator : ℕ) → (sums_at validator list).taps ≤ 2 ^ 95
+AreSmall list = (validator : ℕ) → (sums_of_validator validator list).taps ≤ 2 ^ 95
 
 -- some validators' sums were added; or they would be more than any run has
 abbrev pub WithValidators : BTreeMap ℕ Totals → BTreeMap ℕ Totals → List ValidatorSum → Bool
@@ -58,14 +58,14 @@ WithValidators before after added false = (list : List (ℕ × Sums)) → AreOf 
     → ¬ (AreSmall (list ++ map validator_sum added))
 
 -- these reports have no more than any run has
-pub record AreFew (fronts : List Told) : Type 0 where
+pub record AreFew (fronts : List ToldFront) : Type 0 where
   pub totals : (add_all (map (λ told. told.totals) fronts)).taps ≤ 2 ^ 95
   pub validators : AreSmall (flat_map (λ told. told.validators) fronts)
   pub tokens : sum_by (λ told. told.tokens) fronts < 2 ^ 128
 
 -- what a report tells was added; or it would be more than any run has
 abbrev pub WithFront : WholeSums → WholeSums → Front → Bool → Type 0
-WithFront before after front true = (fronts : List Told) (told : Told)
-    → IsCounted before fronts → IsFront front told → IsCounted after (fronts ++ told ∷ [])
-WithFront before after front false = (fronts : List Told) (told : Told)
-    → IsCounted before fronts → IsFront front told → ¬ (AreFew (fronts ++ told ∷ []))
+WithFront before after front true = (fronts : List ToldFront) (told : ToldFront)
+    → AreFrontsCounted before fronts → IsFront front told → AreFrontsCounted after (fronts ++ told ∷ [])
+WithFront before after front false = (fronts : List ToldFront) (told : ToldFront)
+    → AreFrontsCounted before fronts → IsFront front told → ¬ (AreFew (fronts ++ told ∷ []))

@@ -1,5 +1,5 @@
 use Rattle.std.proofs.Common.{◌≡◌, ℕ, ◌<◌, length, get_or, refl, subst, rules, Ok, Err}
-use Rattle.part_reports.specs.inside.Ends.{IsAdded}
+use Rattle.part_reports.specs.inside.Ends.{AreEndsAdded}
 use Rattle.std.proofs.lemmas.Result.{err_from_is_err_and}
 use Rattle.std.proofs.lemmas.Iterator.Adapters.{YieldsList-from_vec}
 use Rattle.std.proofs.lemmas.Iterator.Consumers.{YieldsList-turn}
@@ -19,7 +19,7 @@ loop-from-preserved g c =
     let turn = YieldsList-turn all c.loop-from.yielded c.loop-from.from-iterator c.loop-from.yielded_by c.next.result c.next.new.self c.in-Some.from c.in-Some.is c.next.ensures.steps in
     record {
       read = read_next g.R.Read.remaining c.loop-from.yielded c.in-Some.from c.loop-from.ends c.read_more.new.ends c.loop-from.invariant.read
-          (subst (λ from. IsAdded c.loop-from.ends c.read_more.new.ends (g.R.Read.remaining from) (Ok tt)) c.new-lines.ensures.from c.in_ok-read_more.ensures.added);
+          (subst (λ from. AreEndsAdded c.loop-from.ends c.read_more.new.ends (g.R.Read.remaining from) (Ok tt)) c.new-lines.ensures.from c.in_ok-read_more.ensures.added);
       front = front_more items c.loop-from.yielded c.in-Some.from c.loop-from.invariant.front turn.0 turn.1;
     }
 
@@ -31,4 +31,4 @@ returns-in_err-read_more-clause-refused g c =
     let p = err_from_is_err_and c.from_residual.result c.from_residual.ensures.1 in
     rw (p.1, p.2) (λ of_texts files are lists may. read_refused g.R.Read.remaining items c.loop-from.yielded c.in-Some.from c.loop-from.ends c.read_more.new.ends c.in_err-read_more.field-0.0
     c.loop-from.invariant.front turn.0 turn.1 c.loop-from.invariant.read
-    (subst (λ from. IsAdded c.loop-from.ends c.read_more.new.ends (g.R.Read.remaining from) (Err c.in_err-read_more.field-0.0)) c.new-lines.ensures.from c.in_err-read_more.ensures.added) of_texts files are lists may)
+    (subst (λ from. AreEndsAdded c.loop-from.ends c.read_more.new.ends (g.R.Read.remaining from) (Err c.in_err-read_more.field-0.0)) c.new-lines.ensures.from c.in_err-read_more.ensures.added) of_texts files are lists may)

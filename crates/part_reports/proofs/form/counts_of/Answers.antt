@@ -3,7 +3,7 @@ use Rattle.std.specs.Fmt.{decimal}
 use Rattle.std.proofs.lemmas.Bool.{false≢true}
 use Rattle.fare_texts.specs.Counts.{counts}
 use Rattle.part_reports.specs.Lines.{AreCounts}
-use Rattle.part_reports.specs.inside.Counted.{sums_by}
+use Rattle.part_reports.specs.inside.Counted.{sums_with}
 use Rattle.part_reports.proofs.Counts.{counts_read, from_taps, from_paid, from_transfers}
 use Rattle.part_reports.proofs.Counts.{from_capped, from_stale, from_unknown, from_cents, same_sums}
 use Rattle.part_reports.proofs.Counts.{behind_taps, behind_paid, behind_transfers, behind_capped}
@@ -148,7 +148,7 @@ returns-in_err-totals c =
 
 pub returns : goal.returns
 returns c =
-    let s = sums_by c.in_ok-taps.taps c.in_ok-paid.paid c.in_ok-transfers.transfers
+    let s = sums_with c.in_ok-taps.taps c.in_ok-paid.paid c.in_ok-transfers.transfers
     c.in_ok-capped.capped c.in_ok-stale.stale c.in_ok-unknown.unknown c.in_ok-cents.cents in
     let last : c.in_ok-cents.text.now ≡ codes "\n" = search rules in
     let e7 : c.in_ok-unknown.text.now ≡ from_cents s [] =

@@ -1,6 +1,6 @@
 use Rattle.std.proofs.Common.{◌∙◌, codes, ap, arith, List, ℕ, ◌++◌}
 use Rattle.std.specs.Fmt.{decimal}
-use Rattle.part_reports.specs.Lines.{end_text}
+use Rattle.part_reports.specs.Lines.{end_words}
 use Rattle.part_reports.proofs.Digits.{counted_unique}
 use Rattle.part_reports.proofs.EndTexts.{end_begins, no_end}
 use Rattle.part_reports.proofs.Nones.{turned}
@@ -9,7 +9,7 @@ use Rattle.part_reports.proofs.form.end_of.Goals as goal
 pub returns-then-number-upload : goal.returns-then-number-upload
 returns-then-number-upload c = λ end fits is.
     let (same, rest) = counted_unique c.args.line.now (codes "upload ") c.in_ok-number.number
-    c.args.upload c.in_ok-number.rest.now (end_text end.taps end.fault) c.in_ok-number.ensures
+    c.args.upload c.in_ok-number.rest.now (end_words end.taps end.fault) c.in_ok-number.ensures
     (record {
       small = omega (arith, c.ranges.upload);
       ends = end_begins end.taps end.fault;
@@ -23,7 +23,7 @@ returns-in-None c =
     turned _ _ _ _ c.refused_of.result
     (λ refused end fits is.
     let (same, rest) = counted_unique c.args.line.now (codes "upload ") c.in_ok-number.number
-    c.args.upload c.in_ok-number.rest.now (end_text end.taps end.fault) c.in_ok-number.ensures
+    c.args.upload c.in_ok-number.rest.now (end_words end.taps end.fault) c.in_ok-number.ensures
     (record {
       small = omega (arith, c.ranges.upload);
       ends = end_begins end.taps end.fault;

@@ -1,7 +1,7 @@
 use Rattle.std.proofs.Common.{◌≡◌, List, ◌++◌, Some, length}
 use Rattle.std.specs.Prelude.{IfSome}
 use Rattle.part_reports.specs.Lines.{end_lines}
-use Rattle.part_reports.specs.inside.Fronts.{ArePosted}
+use Rattle.part_reports.specs.inside.Fronts.{AreSoManyPosted}
 use Rattle.part_reports.proofs.FrontsRead.{Posted}
 use Rattle.part_reports.proofs.front.read_posted.Given as goal
 

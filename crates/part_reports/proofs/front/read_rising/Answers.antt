@@ -5,7 +5,7 @@ use Rattle.std.proofs.lemmas.Result.{err_from_is_err_and}
 use Rattle.shard_book.specs.Sums.{Sums}
 use Rattle.shard_book.specs.Shown.{validator_sum}
 use Rattle.shard_book.specs.declared.sums.ValidatorSum.{ValidatorSum}
-use Rattle.part_reports.specs.inside.Fronts.{AreSums, MayFollow}
+use Rattle.part_reports.specs.inside.Fronts.{AreSums, MayFollowValidators}
 use Rattle.part_reports.proofs.RisingRead.{rising_done, rising_first, rising_more, rising_no_line, rising_not}
 use Rattle.part_reports.proofs.front.read_rising.Goals as goal
 
@@ -32,7 +32,7 @@ returns-then-not-may_follow-clause-read g c =
     let no = c.if-not-may_follow.true in
     rising_not Is c.args.number c.loop.counter c.loop.sums.items c.in_ok-sum.sum old now new c.fault.result c.loop-test.true c.loop.invariant c.in_ok-sum.ensures.read
     (λ follow.
-    let yes = c.may_follow.ensures.1 (subst (λ sums. MayFollow (map validator_sum sums) c.in_ok-sum.sum.validator) (sym at) follow) in
+    let yes = c.may_follow.ensures.1 (subst (λ sums. MayFollowValidators (map validator_sum sums) c.in_ok-sum.sum.validator) (sym at) follow) in
     absurd (cc (yes, no)))
 
 pub loop-preserved : goal.loop-preserved
@@ -41,7 +41,7 @@ loop-preserved g c =
     let now = g.R.Read.remaining c.loop.reading.from in
     let new = g.R.Read.remaining c.next_validator.new.reading.from in
     rising_more c.loop.counter c.loop.sums.items c.push.new.self.items c.in_ok-sum.sum old now new c.in_ok-push.ensures.items c.loop.invariant c.in_ok-sum.ensures.read
-    (subst (λ sums. MayFollow (map validator_sum sums) c.in_ok-sum.sum.validator) c.deref.ensures.value (c.may_follow.ensures.0 c.if-not-may_follow.false))
+    (subst (λ sums. MayFollowValidators (map validator_sum sums) c.in_ok-sum.sum.validator) c.deref.ensures.value (c.may_follow.ensures.0 c.if-not-may_follow.false))
 
 pub returns-clause-read : goal.returns-clause-read
 returns-clause-read g c =

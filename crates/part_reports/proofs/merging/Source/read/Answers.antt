@@ -1,7 +1,7 @@
 use Rattle.std.proofs.Common.{sym, ◌∙◌, subst}
 use Rattle.std.proofs.lemmas.Option.{MatchOption-at_none, MatchOption-at_some}
 use Rattle.std.proofs.lemmas.Result.{err_from_is_err_and}
-use Rattle.part_reports.specs.inside.Sources.{IsFirst}
+use Rattle.part_reports.specs.inside.Sources.{IsFirstLine}
 use Rattle.part_reports.proofs.Firsts.{first_is_source, no_text, weaker}
 use Rattle.part_reports.proofs.merging.Source.read.Goals as goal
 
@@ -16,7 +16,7 @@ returns-in_err-lines-clause-refused g c =
     (λ text read list is.
     no_text lines text c.next.new.self.line.items read.0
     (λ behind head first. none behind head
-    (subst (λ line. IsFirst lines line behind head) (sym c.line.ensures) first)) list is)
+    (subst (λ line. IsFirstLine lines line behind head) (sym c.line.ensures) first)) list is)
     c.in_ok-next.ensures.line)
 
 pub returns-clause-read : goal.returns-clause-read
@@ -31,6 +31,6 @@ returns-clause-read g c =
       behind = c.in_ok-lines.lines;
       head = c.in_ok-lines.head;
     }) read.0 read.1
-    (subst (λ line. IsFirst lines line c.in_ok-lines.lines c.in_ok-lines.head) c.line.ensures
+    (subst (λ line. IsFirstLine lines line c.in_ok-lines.lines c.in_ok-lines.head) c.line.ensures
     (first text (c.line.ensures ∙ read.0))))
     c.in_ok-next.ensures.line
