@@ -1,20 +1,21 @@
 -- Reading how the uploads of the whole ended.
-use Rattle.std.proofs.Common.{◌≡◌, ℕ, zero, suc, ◌+◌, ◌-◌, ◌<◌, ◌≤◌, ◌^◌, List, [], ◌∷◌, ◌++◌, Option, Some, None, Result, Ok, Err, length, refl, sym, ap, subst, ◌∙◌, arith, append_assoc, length-append, Bool, true, false, if◌then◌else◌, ◌==◌}
+use Rattle.std.proofs.Common.{◌≡◌, ℕ, suc, ◌+◌, ◌<◌, ◌^◌, List, [], ◌∷◌, ◌++◌, Option, Some, None}
+use Rattle.std.proofs.Common.{Ok, Err, length, refl, sym, ap, subst, ◌∙◌, arith, append_assoc}
+use Rattle.std.proofs.Common.{length-append, Bool, true, false, if◌then◌else◌, ◌==◌}
 use Rattle.std.proofs.lemmas.List.{append-nil}
-use Rattle.std.specs.Prelude.{All, IfSome, IsTrue, sum_by, ⊤, ◌↔◌}
+use Rattle.std.specs.Prelude.{All, IfSome, IsTrue, ◌↔◌}
 use Rattle.std.specs.Io.BufRead.{take_through, drop_through}
 use Rattle.std.proofs.lemmas.List.Elements.{All-head, All-tail, All-cons, All-nil, All-push}
 use Rattle.std.proofs.lemmas.List.Sums.{sum_by-append}
 use Rattle.part_reports.specs.declared.fault.MergeFault.{MergeFault}
 use Rattle.part_reports.specs.declared.form as form
 use Rattle.part_reports.specs.declared.told.Ends.{Ends}
-use Rattle.part_reports.specs.Faults.{IsOfTexts}
 use Rattle.part_reports.specs.Lines.{End, IsUploadEnd, end_line, end_lines}
 use Rattle.part_reports.specs.inside.Ended.{end_of_upload}
-use Rattle.part_reports.specs.inside.Ends.{AreEndsAdded, IsEndRead, IsNextEnd, More}
+use Rattle.part_reports.specs.inside.Ends.{AreEndsAdded, IsNextEnd, More}
 use Rattle.part_reports.specs.inside.Reading.{IsTold}
 use Rattle.part_reports.proofs.LinesRead.{through}
-use Rattle.part_reports.proofs.ListsWritten.{Next, lines_from, lines_more, lines_begin, lines_unique, end_lines_from}
+use Rattle.part_reports.proofs.ListsWritten.{lines_more, end_lines_from}
 use Rattle.part_reports.proofs.OneLine.{end_line_is_one, taken_one}
 use Rattle.part_reports.proofs.Unique.{end_line_unique}
 
@@ -27,15 +28,19 @@ no_line [] is = refl
 no_line (x ∷ text) is = absurd (never_empty (x == 10) x (take_through 10 text) is)
 
 abbrev IsLine : Option (List ℕ) → Option (List ℕ) → List ℕ → Type 0
-IsLine text after items = IfSome text (λ left. (items ≡ take_through 10 left) × (after ≡ Some (drop_through 10 left)))
+IsLine text after items = IfSome text (λ left. (items ≡ take_through 10 left)
+    × (after ≡ Some (drop_through 10 left)))
 
-pub next_over : (upload : ℕ) (text after : Option (List ℕ)) (items : List ℕ) → IsLine text after items → items ≡ []
+pub next_over : (upload : ℕ) (text after : Option (List ℕ)) (items : List ℕ)
+    → IsLine text after items → items ≡ []
     → IsNextEnd upload text after items (Ok None)
 next_over upload None after items line over = tt
 next_over upload (Some text) after items line over = no_line text (sym line.0 ∙ over)
 
-pub next_told : (upload : ℕ) (text after : Option (List ℕ)) (items line : List ℕ) (told : Option form.End.End) (end : form.End.End)
-    → IsLine text after items → line ≡ items → IsTold end_of_upload IsUploadEnd (end_line upload) line told → told ≡ Some end
+pub next_told : (upload : ℕ) (text after : Option (List ℕ)) (items line : List ℕ)
+    (told : Option form.End.End) (end : form.End.End)
+    → IsLine text after items → line ≡ items → IsTold end_of_upload IsUploadEnd (end_line upload) line told
+    → told ≡ Some end
     → IsNextEnd upload text after items (Ok (Some end))
 next_told upload None after items line told end is same form some = tt
 next_told upload (Some text) after items line told end is same form some =
@@ -44,19 +49,23 @@ next_told upload (Some text) after items line told end is same form some =
       may = here.0;
       line_is = sym same ∙ here.1;
       rest = drop_through 10 text;
-      shown = through 10 text ∙ ap (λ bytes. bytes ++ drop_through 10 text) (sym is.0 ∙ sym same ∙ here.1);
+      shown = through 10 text ∙ ap (λ bytes. bytes ++ drop_through 10 text) (sym is.0 ∙ sym same
+          ∙ here.1);
       left = is.1;
     }
 
-pub next_no : (upload : ℕ) (text after : Option (List ℕ)) (items line : List ℕ) (told : Option form.End.End) (fault : MergeFault) → upload < 2 ^ 64
-    → IsLine text after items → line ≡ items → ¬ (items ≡ []) → IsTold end_of_upload IsUploadEnd (end_line upload) line told → told ≡ None
+pub next_no : (upload : ℕ) (text after : Option (List ℕ)) (items line : List ℕ)
+    (told : Option form.End.End) (fault : MergeFault) → upload < 2 ^ 64
+    → IsLine text after items → line ≡ items → ¬ (items ≡ [])
+    → IsTold end_of_upload IsUploadEnd (end_line upload) line told → told ≡ None
     → IsNextEnd upload text after items (Err fault)
 next_no upload None after items line told fault small is same some form none = tt
 next_no upload (Some text) after items line told fault small is same some form none =
     let here = subst (λ told. IsTold end_of_upload IsUploadEnd (end_line upload) line told) none form in
     λ _. (
       λ over. some (is.0 ∙ ap (take_through 10) over),
-      λ end rest may shown. here end may (same ∙ is.0 ∙ ap (take_through 10) shown ∙ taken_one (end_line upload end) rest (end_line_is_one upload end small may)),
+      λ end rest may shown. here end may (same ∙ is.0 ∙ ap (take_through 10) shown
+          ∙ taken_one (end_line upload end) rest (end_line_is_one upload end small may)),
     )
 
 -- ---- the lines of one text
@@ -89,7 +98,8 @@ adding_first ends (Some text) = record {
 
 pub All-front : {X : Type 0} (P : X → Type 0) (xs ys : List X) → All P (xs ++ ys) → All P xs
 All-front P [] ys all = All-nil P
-All-front P (x ∷ xs) ys all = All-cons P x xs (All-head P x (xs ++ ys) all) (All-front P xs ys (All-tail P x (xs ++ ys) all))
+All-front P (x ∷ xs) ys all = All-cons P x xs (All-head P x (xs ++ ys) all)
+    (All-front P xs ys (All-tail P x (xs ++ ys) all))
 
 pub All-behind : {X : Type 0} (P : X → Type 0) (xs ys : List X) → All P (xs ++ ys) → All P ys
 All-behind P [] ys all = all
@@ -99,8 +109,12 @@ All-last : {X : Type 0} (P : X → Type 0) (xs : List X) (y : X) → All P (xs +
 All-last P [] y all = All-head P y [] all
 All-last P (x ∷ xs) y all = All-last P xs y (All-tail P x (xs ++ y ∷ []) all)
 
-end_lines_more : (first : ℕ) (ends : List End) (end : End) → end_lines first (ends ++ end ∷ []) ≡ end_lines first ends ++ end_line (first + length ends) end
-end_lines_more first ends end = end_lines_from first (ends ++ end ∷ []) ∙ lines_more end_line first ends end ∙ ap (λ text. text ++ end_line (first + length ends) end) (sym (end_lines_from first ends))
+end_lines_more : (first : ℕ) (ends : List End) (end : End)
+    → end_lines first (ends ++ end ∷ []) ≡ end_lines first ends ++ end_line (first + length ends)
+    end
+end_lines_more first ends end = end_lines_from first (ends ++ end ∷ [])
+    ∙ lines_more end_line first ends end ∙ ap (λ text. text ++ end_line (first + length ends) end)
+    (sym (end_lines_from first ends))
 
 -- what adding a line did
 pub record OneAdded (now after : Ends) (line : List ℕ) (end : form.End.End) : Type 0 where
@@ -109,74 +123,110 @@ pub record OneAdded (now after : Ends) (line : List ℕ) (end : form.End.End) : 
   pub taps : after.taps ≡ now.taps + end.taps
   pub posted : IsTrue after.are_posted ↔ (IsTrue now.are_posted × (end.fault ≡ None))
 
-pub adding_more : (before now after : Ends) (text left then_left : Option (List ℕ)) (line items : List ℕ) (end : form.End.End) → line ≡ items
-    → AddingSome before now text left → IsNextEnd now.uploads left then_left items (Ok (Some end)) → OneAdded now after line end
+pub adding_more : (before now after : Ends) (text left then_left : Option (List ℕ))
+    (line items : List ℕ) (end : form.End.End) → line ≡ items
+    → AddingSome before now text left → IsNextEnd now.uploads left then_left items (Ok (Some end))
+    → OneAdded now after line end
     → AddingSome before after text then_left
 adding_more before now after None left then_left line items end same adding next one = tt
 adding_more before now after (Some text) left then_left line items end same adding next one =
-    let here = subst (λ left. IsNextEnd now.uploads left then_left items (Ok (Some end))) adding.left_is next in
+    let here = subst (λ left. IsNextEnd now.uploads left then_left items (Ok (Some end)))
+    adding.left_is next in
     let told = end_of_upload end in
     let number : now.uploads ≡ before.uploads + length adding.more = adding.is.uploads in
-    let line_is : line ≡ end_line (before.uploads + length adding.more) told = same ∙ here.line_is ∙ ap (λ k. end_line k told) number in
+    let line_is : line ≡ end_line (before.uploads + length adding.more) told =
+    same ∙ here.line_is ∙ ap (λ k. end_line k told) number in
     let sums = sum_by-append (λ (end : End). end.taps) adding.more (told ∷ []) in
     let taps = adding.is.taps in
     let one_taps = one.taps in
     record {
       more = adding.more ++ told ∷ [];
       is = record {
-        text = one.text ∙ ap (λ text. text ++ line) adding.is.text ∙ ap (λ line. (before.text.items ++ end_lines before.uploads adding.more) ++ line) line_is
-            ∙ append_assoc before.text.items (end_lines before.uploads adding.more) (end_line (before.uploads + length adding.more) told)
-            ∙ ap (λ text. before.text.items ++ text) (sym (end_lines_more before.uploads adding.more told));
+        text = one.text ∙ ap (λ text. text ++ line) adding.is.text
+            ∙ ap (λ line. (before.text.items ++ end_lines before.uploads adding.more) ++ line)
+            line_is
+            ∙ append_assoc before.text.items (end_lines before.uploads adding.more)
+            (end_line (before.uploads + length adding.more) told)
+            ∙ ap (λ text. before.text.items ++ text)
+            (sym (end_lines_more before.uploads adding.more told));
         uploads = simp length-append (omega (arith, one.uploads, number));
         taps = omega (arith, sums, taps, one_taps);
         posted = (
-          λ yes. let both = one.posted.0 yes in let so_far = adding.is.posted.0 both.0 in
-              (so_far.0, All-push (λ (end : End). end.fault ≡ None) adding.more told so_far.1 both.1),
+          λ yes. let both = one.posted.0 yes in let so_far = adding.is.posted.0 both.0 in (
+            so_far.0,
+            All-push (λ (end : End). end.fault ≡ None) adding.more told so_far.1
+                both.1,
+          ),
           λ both. one.posted.1 (
-            adding.is.posted.1 (both.0, All-front (λ (end : End). end.fault ≡ None) adding.more (told ∷ []) both.1),
+            adding.is.posted.1 (
+              both.0,
+              All-front (λ (end : End). end.fault ≡ None) adding.more
+                  (told ∷ []) both.1,
+            ),
             All-last (λ (end : End). end.fault ≡ None) adding.more told both.1,
           ),
         );
         each = All-push IsUploadEnd adding.more told adding.is.each here.may;
       };
       rest = here.rest;
-      shown = adding.shown ∙ ap (λ text. end_lines before.uploads adding.more ++ text) (here.shown ∙ ap (λ k. end_line k told ++ here.rest) number)
-          ∙ sym (append_assoc (end_lines before.uploads adding.more) (end_line (before.uploads + length adding.more) told) here.rest)
+      shown = adding.shown ∙ ap (λ text. end_lines before.uploads adding.more ++ text) (here.shown
+          ∙ ap (λ k. end_line k told ++ here.rest) number)
+          ∙ sym (append_assoc (end_lines before.uploads adding.more)
+          (end_line (before.uploads + length adding.more) told) here.rest)
           ∙ ap (λ text. text ++ here.rest) (sym (end_lines_more before.uploads adding.more told));
       left_is = here.left;
     }
 
 pub adding_done : (before now : Ends) (text left then_left : Option (List ℕ)) (items : List ℕ)
-    → AddingSome before now text left → IsNextEnd now.uploads left then_left items (Ok None) → AreEndsAdded before now text (Ok tt)
+    → AddingSome before now text left → IsNextEnd now.uploads left then_left items (Ok None)
+    → AreEndsAdded before now text (Ok tt)
 adding_done before now None left then_left items adding next = tt
 adding_done before now (Some text) left then_left items adding next =
-    let over : adding.rest ≡ [] = subst (λ left. IsNextEnd now.uploads left then_left items (Ok None)) adding.left_is next in
-    (adding.more, adding.is, adding.shown ∙ ap (λ rest. end_lines before.uploads adding.more ++ rest) over ∙ append-nil (end_lines before.uploads adding.more))
+    let over : adding.rest ≡ [] = subst (λ left. IsNextEnd now.uploads left then_left items
+    (Ok None)) adding.left_is next in (
+      adding.more,
+      adding.is,
+      adding.shown ∙ ap
+          (λ rest. end_lines before.uploads adding.more ++ rest) over
+          ∙ append-nil (end_lines before.uploads adding.more),
+    )
 
 pub some_line : (number : ℕ) (end : End) (rest : List ℕ) → ¬ ([] ≡ end_line number end ++ rest)
 some_line number end rest is = absurd (cc)
 
 -- two lists of lines, the first of which has a rest with which it may be the second
-pub lines_rest : (number : ℕ) (done ends : List End) (rest : List ℕ) → All IsUploadEnd done → All IsUploadEnd ends
+pub lines_rest : (number : ℕ) (done ends : List End) (rest : List ℕ) → All IsUploadEnd done
+    → All IsUploadEnd ends
     → end_lines number done ++ rest ≡ end_lines number ends
-    → ¬ (rest ≡ []) → ((end : End) (more : List ℕ) → IsUploadEnd end → ¬ (rest ≡ end_line (number + length done) end ++ more)) → ⊥
+    → ¬ (rest ≡ []) → ((end : End) (more : List ℕ) → IsUploadEnd end
+    → ¬ (rest ≡ end_line (number + length done) end ++ more)) → ⊥
 lines_rest number [] [] rest may may_too same some absent_end = some same
 lines_rest number [] (end ∷ ends) rest may may_too same some absent_end =
     let at : number ≡ number + 0 = omega arith in
-    absent_end end (end_lines (number + 1) ends) (All-head IsUploadEnd end ends may_too) (same ∙ ap (λ k. end_line k end ++ end_lines (number + 1) ends) at)
+    absent_end end (end_lines (number + 1) ends) (All-head IsUploadEnd end ends may_too) (same
+    ∙ ap (λ k. end_line k end ++ end_lines (number + 1) ends) at)
 lines_rest number (a ∷ done) [] rest may may_too same some absent_end =
-    some_line number a (end_lines (number + 1) done ++ rest) (sym same ∙ append_assoc (end_line number a) (end_lines (number + 1) done) rest)
+    some_line number a (end_lines (number + 1) done ++ rest) (sym same
+    ∙ append_assoc (end_line number a) (end_lines (number + 1) done) rest)
 lines_rest number (a ∷ done) (end ∷ ends) rest may may_too same some absent_end =
-    let first = end_line_unique number a end (end_lines (number + 1) done ++ rest) (end_lines (number + 1) ends) (All-head IsUploadEnd a done may) (All-head IsUploadEnd end ends may_too)
+    let first = end_line_unique number a end (end_lines (number + 1) done ++ rest)
+    (end_lines (number + 1) ends) (All-head IsUploadEnd a done may) (All-head IsUploadEnd end ends may_too)
     (sym (append_assoc (end_line number a) (end_lines (number + 1) done) rest) ∙ same) in
     let at : number + 1 + length done ≡ number + suc (length done) = omega arith in
-    lines_rest (number + 1) done ends rest (All-tail IsUploadEnd a done may) (All-tail IsUploadEnd end ends may_too) first.1 some
+    lines_rest (number + 1) done ends rest (All-tail IsUploadEnd a done may)
+    (All-tail IsUploadEnd end ends may_too) first.1 some
     (λ end more may is. absent_end end more may (is ∙ ap (λ k. end_line k end ++ more) at))
 
-pub adding_refused : (before now after : Ends) (text left then_left : Option (List ℕ)) (items : List ℕ) (fault : MergeFault)
-    → AddingSome before now text left → IsNextEnd now.uploads left then_left items (Err fault) → AreEndsAdded before after text (Err fault)
+pub adding_refused : (before now after : Ends) (text left then_left : Option (List ℕ))
+    (items : List ℕ) (fault : MergeFault)
+    → AddingSome before now text left → IsNextEnd now.uploads left then_left items (Err fault)
+    → AreEndsAdded before after text (Err fault)
 adding_refused before now after None left then_left items fault adding next = tt
-adding_refused before now after (Some text) left then_left items fault adding next = λ of_texts ends may shown.
-    let here = (subst (λ left. IsNextEnd now.uploads left then_left items (Err fault)) adding.left_is next) of_texts in
-    lines_rest before.uploads adding.more ends adding.rest adding.is.each may (sym adding.shown ∙ shown) here.0
-    (λ end more may is. here.1 end more may (is ∙ ap (λ k. end_line k end ++ more) (sym adding.is.uploads)))
+adding_refused before now after (Some text) left then_left items fault adding next =
+    λ of_texts ends may shown.
+    let here = (subst (λ left. IsNextEnd now.uploads left then_left items (Err fault))
+    adding.left_is next) of_texts in
+    lines_rest before.uploads adding.more ends adding.rest adding.is.each may (sym adding.shown
+    ∙ shown) here.0
+    (λ end more may is. here.1 end more may (is
+    ∙ ap (λ k. end_line k end ++ more) (sym adding.is.uploads)))

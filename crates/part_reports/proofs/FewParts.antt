@@ -1,6 +1,8 @@
 -- Reports of few parts have no more than any run has.
-use Rattle.std.proofs.Common.{inl, inr, ◌≡◌, ◌≢◌, ℕ, suc, ◌+◌, ◌*◌, ◌<◌, ◌≤◌, ◌^◌, List, [], ◌∷◌, ◌++◌, length, drop, take, get_or, refl, sym, ap, subst, ◌∙◌, arith, true, false, Bool, ◌==◌, if◌then◌else◌, length-append, Option, Some, Err}
-use Rattle.std.specs.Prelude.{All, filter, flat_map, map, sum_by, nat_lt, IfSome}
+use Rattle.std.proofs.Common.{inl, inr, ◌≡◌, ◌≢◌, ℕ, suc, ◌+◌, ◌*◌, ◌<◌, ◌≤◌, ◌^◌, List, [], ◌∷◌}
+use Rattle.std.proofs.Common.{◌++◌, length, drop, take, get_or, refl, sym, ap, subst, ◌∙◌, arith}
+use Rattle.std.proofs.Common.{true, false, ◌==◌, if◌then◌else◌, length-append, Option}
+use Rattle.std.specs.Prelude.{All, filter, flat_map, map, sum_by, IfSome}
 use Rattle.std.specs.List.{AllByRecursion}
 use Rattle.std.specs.List.Sorted.{IsStrictlySortedBy}
 use Rattle.std.specs.Map.{keys_of}
@@ -8,17 +10,16 @@ use Rattle.std.specs.Ordering.{nat_cmp}
 use Rattle.std.specs.declared.cmp.Ordering.TheVariants.{Less}
 use Rattle.std.proofs.lemmas.Bool.{cases_eq}
 use Rattle.std.proofs.lemmas.Bool.Decides.{nat_tests}
-use Rattle.std.proofs.lemmas.List.Elements.{All-head, All-map, All-nil, All-push, All-tail}
+use Rattle.std.proofs.lemmas.List.Elements.{All-head, All-map, All-push, All-tail}
 use Rattle.std.proofs.lemmas.List.Sums.{sum_by-append}
 use Rattle.shard_book.specs.Sums.{Sums, add_all, sums}
-use Rattle.part_reports.specs.Lines.{AreCounts, IsTokenSum, IsValidatorSum, token_line}
-use Rattle.part_reports.specs.Reports.{IsPartReport, Report, report_text, sums_of_validator, front_text}
-use Rattle.part_reports.specs.declared.merging.Lines.TheVariants.{Tokens}
+use Rattle.part_reports.specs.Lines.{IsValidatorSum, token_line}
+use Rattle.part_reports.specs.Reports.{IsPartReport, Report, report_text, sums_of_validator}
 use Rattle.part_reports.specs.declared.sums.WholeSums.{WholeSums}
-use Rattle.part_reports.specs.inside.Fronts.{AreEnds, AreValidators, MayBePart, ToldFront, told_text}
-use Rattle.part_reports.specs.inside.Parts.{AreParts, Begun, IsNoPart, begun_text, left_text}
+use Rattle.part_reports.specs.inside.Fronts.{MayBePart, ToldFront}
+use Rattle.part_reports.specs.inside.Parts.{Begun, IsNoPart, begun_text}
 use Rattle.part_reports.specs.inside.Sources.{Standing}
-use Rattle.part_reports.specs.inside.Sums.{AreFew, AreSmall}
+use Rattle.part_reports.specs.inside.Sums.{AreFew}
 use Rattle.part_reports.proofs.PartsBegun.{BegunSo}
 use Rattle.part_reports.proofs.Rising.{is_less}
 use Rattle.part_reports.proofs.SumsAdded.{taps_joined, taps_nothing}
@@ -26,13 +27,15 @@ use Rattle.part_reports.proofs.TextsRead.{AreLeft, behind_front, split}
 use Rattle.part_reports.proofs.TokenSums.{line_of, lines_stand}
 
 -- a validator stands once among those that rise
-above_none : (q first : ℕ) (list : List (ℕ × Sums)) → q ≡ first → AllByRecursion (λ other. nat_cmp first other ≡ Less) (keys_of list)
+above_none : (q first : ℕ) (list : List (ℕ × Sums)) → q ≡ first
+    → AllByRecursion (λ other. nat_cmp first other ≡ Less) (keys_of list)
     → filter (λ (sum : ℕ × Sums). sum.0 == q) list ≡ []
 above_none q first [] same all = refl
 above_none q first (sum ∷ list) same all =
     let above = is_less first sum.0 all.0 in
     let test : (sum.0 == q) ≡ false = grind (arith, nat_tests, above, same) in
-    ap (λ b. if b then sum ∷ filter (λ (sum : ℕ × Sums). sum.0 == q) list else filter (λ (sum : ℕ × Sums). sum.0 == q) list) test ∙ above_none q first list same all.1
+    ap (λ b. if b then sum ∷ filter (λ (sum : ℕ × Sums). sum.0 == q) list else filter
+    (λ (sum : ℕ × Sums). sum.0 == q) list) test ∙ above_none q first list same all.1
 
 same_test : (x y : ℕ) → x ≡ y → (x == y) ≡ true
 same_test x y same = grind (arith, nat_tests, same)
@@ -40,7 +43,8 @@ same_test x y same = grind (arith, nat_tests, same)
 other_test : (x y : ℕ) → x ≢ y → (x == y) ≡ false
 other_test x y other = grind (arith, nat_tests)
 
-one_small : (q : ℕ) (list : List (ℕ × Sums)) → All IsValidatorSum list → IsStrictlySortedBy nat_cmp (keys_of list) → (sums_of_validator q list).taps < 2 ^ 64
+one_small : (q : ℕ) (list : List (ℕ × Sums)) → All IsValidatorSum list
+    → IsStrictlySortedBy nat_cmp (keys_of list) → (sums_of_validator q list).taps < 2 ^ 64
 unfolding IsStrictlySortedBy
 one_small q [] all rise = let none = taps_nothing in omega (arith, none)
 one_small q (first ∷ list) all rise =
@@ -50,20 +54,27 @@ one_small q (first ∷ list) all rise =
           let test = same_test first.0 q same in
           let none = above_none q first.0 list (sym same) rise.0 in
           let is : filter (λ (sum : ℕ × Sums). sum.0 == q) (first ∷ list) ≡ first ∷ [] =
-          ap (λ b. if b then first ∷ filter (λ (sum : ℕ × Sums). sum.0 == q) list else filter (λ (sum : ℕ × Sums). sum.0 == q) list) test ∙ ap (λ more. first ∷ more) none in
-          let taps : (sums_of_validator q (first ∷ list)).taps ≡ first.1.taps + (sums []).taps = ap (λ list. (add_all (map (λ (sum : ℕ × Sums). sum.1) list)).taps) is in
+          ap (λ b. if b then first ∷ filter (λ (sum : ℕ × Sums). sum.0 == q) list else filter
+          (λ (sum : ℕ × Sums). sum.0 == q) list) test ∙ ap (λ more. first ∷ more) none in
+          let taps : (sums_of_validator q (first ∷ list)).taps ≡ first.1.taps + (sums []).taps =
+          ap (λ list. (add_all (map (λ (sum : ℕ × Sums). sum.1) list)).taps) is in
           let nothing = taps_nothing in
           let small = (All-head IsValidatorSum first list all).counts.taps in
           omega (arith, taps, nothing, small)
       | inr other ↦
           let test = other_test first.0 q other in
-          let is : filter (λ (sum : ℕ × Sums). sum.0 == q) (first ∷ list) ≡ filter (λ (sum : ℕ × Sums). sum.0 == q) list =
-          ap (λ b. if b then first ∷ filter (λ (sum : ℕ × Sums). sum.0 == q) list else filter (λ (sum : ℕ × Sums). sum.0 == q) list) test in
-          let taps : (sums_of_validator q (first ∷ list)).taps ≡ (sums_of_validator q list).taps = ap (λ list. (add_all (map (λ (sum : ℕ × Sums). sum.1) list)).taps) is in
+          let is : filter (λ (sum : ℕ × Sums). sum.0 == q) (first ∷ list) ≡ filter
+          (λ (sum : ℕ × Sums). sum.0 == q) list =
+          ap (λ b. if b then first ∷ filter (λ (sum : ℕ × Sums). sum.0 == q) list else filter
+          (λ (sum : ℕ × Sums). sum.0 == q) list) test in
+          let taps : (sums_of_validator q (first ∷ list)).taps ≡ (sums_of_validator q list).taps =
+          ap (λ list. (add_all (map (λ (sum : ℕ × Sums). sum.1) list)).taps) is in
           omega (arith, taps, rest)
     ]
 
-validators_small : (q : ℕ) (fronts : List ToldFront) → All MayBePart fronts → (sums_of_validator q (flat_map (λ told. told.validators) fronts)).taps ≤ length fronts * 18446744073709551616
+validators_small : (q : ℕ) (fronts : List ToldFront) → All MayBePart fronts
+    → (sums_of_validator q (flat_map (λ told. told.validators) fronts)).taps ≤ length fronts *
+    18446744073709551616
 validators_small q [] all = let none = taps_nothing in omega (arith, none)
 validators_small q (told ∷ fronts) all =
     let first = (All-head MayBePart told fronts all).validators.are in
@@ -72,14 +83,16 @@ validators_small q (told ∷ fronts) all =
     let parts = taps_joined q told.validators (flat_map (λ told. told.validators) fronts) in
     omega (arith, one, rest, parts)
 
-totals_small : (fronts : List ToldFront) → All MayBePart fronts → (add_all (map (λ told. told.totals) fronts)).taps ≤ length fronts * 18446744073709551616
+totals_small : (fronts : List ToldFront) → All MayBePart fronts
+    → (add_all (map (λ told. told.totals) fronts)).taps ≤ length fronts * 18446744073709551616
 totals_small [] all = let none = taps_nothing in omega (arith, none)
 totals_small (told ∷ fronts) all =
     let one = (All-head MayBePart told fronts all).totals.taps in
     let rest = totals_small fronts (All-tail MayBePart told fronts all) in
     omega (arith, one, rest)
 
-tokens_small : (fronts : List ToldFront) → All MayBePart fronts → sum_by (λ told. told.tokens) fronts ≤ length fronts * 18446744073709551616
+tokens_small : (fronts : List ToldFront) → All MayBePart fronts
+    → sum_by (λ told. told.tokens) fronts ≤ length fronts * 18446744073709551616
 tokens_small [] all = omega arith
 tokens_small (told ∷ fronts) all =
     let one = (All-head MayBePart told fronts all).tokens in
@@ -96,43 +109,77 @@ few fronts all short = record {
 
 -- ---- a part's report up to its tokens
 abbrev pub told_of : Report → ToldFront
-told_of part = record { ends = part.ends; totals = part.totals; validators = part.validators; tokens = length part.tokens }
+told_of part = record {
+  ends = part.ends;
+  totals = part.totals;
+  validators =
+      part.validators;
+  tokens = length part.tokens;
+}
 
 pub told_may : (part : Report) → IsPartReport part → MayBePart (told_of part)
 told_may part is = record {
-  ends = record { few = is.number; are = record { number = refl; each = is.ends; posted = is.posted } };
+  ends = record {
+    few = is.number;
+    are = record {
+      number = refl;
+      each = is.ends;
+      posted =
+          is.posted;
+    };
+  };
   totals = is.totals;
-  validators = record { few = is.validators_number; are = record { number = refl; each = is.validators; rise = is.validators_rise } };
+  validators = record {
+    few = is.validators_number;
+    are =
+        record { number = refl; each = is.validators; rise = is.validators_rise };
+  };
   tokens = is.tokens_number;
 }
 
-part_at : (before : List (List ℕ)) (file : List ℕ) (after : List (List ℕ)) (parts : List Report) → All IsPartReport parts → before ++ file ∷ after ≡ map report_text parts
+part_at : (before : List (List ℕ)) (file : List ℕ) (after : List (List ℕ)) (parts : List Report)
+    → All IsPartReport parts → before ++ file ∷ after ≡ map report_text parts
     → (part : Report) × IsPartReport part × (file ≡ report_text part)
 part_at [] file after [] all same = absurd (cc)
 part_at [] file after (part ∷ parts) all same = (part, All-head IsPartReport part parts all, cc)
 part_at (first ∷ before) file after [] all same = absurd (cc)
-part_at (first ∷ before) file after (part ∷ parts) all same = part_at before file after parts (All-tail IsPartReport part parts all) (cc)
+part_at (first ∷ before) file after (part ∷ parts) all same =
+    part_at before file after parts (All-tail IsPartReport part parts all) (cc)
 
 map_length : {X Y : Type 0} (f : X → Y) (xs : List X) → length (map f xs) ≡ length xs
 map_length f [] = refl
 map_length f (x ∷ xs) = let rest = map_length f xs in omega (arith, rest)
 
 -- a text that is no report of a part
-pub parts_refused : {R : Type 0} (remaining : R → Option (List ℕ)) (items readers : List R) (x : R) (before : WholeSums) (sources : List Standing)
-    → readers ≡ take (length readers) items → length readers < length items → x ≡ get_or items (length readers) x
+pub parts_refused : {R : Type 0} (remaining : R → Option (List ℕ)) (items readers : List R) (x : R)
+    (before : WholeSums) (sources : List Standing)
+    → readers ≡ take (length readers) items → length readers < length items
+    → x ≡ get_or items (length readers) x
     → BegunSo remaining readers before sources → IfSome (remaining x) (IsNoPart before)
-    → (files : List (List ℕ)) → AreLeft remaining items files → length files ≤ 2 ^ 31 → (parts : List Report) → All IsPartReport parts → ¬ (files ≡ map report_text parts)
-parts_refused remaining items readers x before sources front within here so_far none_there files are short parts may told =
+    → (files : List (List ℕ)) → AreLeft remaining items files → length files ≤ 2 ^ 31
+    → (parts : List Report) → All IsPartReport parts → ¬ (files ≡ map report_text parts)
+parts_refused remaining items readers x before sources front within here so_far none_there files are
+    short parts may told =
     let all = behind_front items readers x front within here in
-    let split_files = split remaining readers x (drop (suc (length readers)) items) files (subst (λ items. AreLeft remaining items files) all are) in
+    let split_files = split remaining readers x (drop (suc (length readers)) items) files
+    (subst (λ items. AreLeft remaining items files) all are) in
     let done = so_far split_files.before split_files.front_is in
     let no_part = subst (λ left. IfSome left (IsNoPart before)) split_files.here none_there in
-    let (part, is, shown) = part_at split_files.before split_files.file split_files.after parts may (sym split_files.is ∙ told) in
+    let (part, is, shown) = part_at split_files.before split_files.file split_files.after parts may
+    (sym split_files.is ∙ told) in
     let fronts = map (λ (one : Begun). one.0) done.begun in
-    let count : length split_files.before ≡ length done.begun = ap length done.shown ∙ map_length begun_text done.begun in
-    let total : length files ≡ length split_files.before + suc (length split_files.after) = ap length split_files.is ∙ length-append split_files.before (split_files.file ∷ split_files.after) in
-    let size : length (fronts ++ told_of part ∷ []) ≡ length done.begun + 1 = length-append fronts (told_of part ∷ []) ∙ ap (λ n. n + 1) (map_length (λ (one : Begun). one.0) done.begun) in
-    let all_may : All MayBePart (fronts ++ told_of part ∷ []) = All-push MayBePart fronts (told_of part) (All-map MayBePart (λ (one : Begun). one.0) done.begun done.may) (told_may part is) in
-    no_part fronts done.counted (told_of part, flat_map token_line part.tokens) (map line_of part.tokens) (told_may part is) shown
+    let count : length split_files.before ≡ length done.begun =
+    ap length done.shown ∙ map_length begun_text done.begun in
+    let total : length files ≡ length split_files.before + suc (length split_files.after) =
+    ap length split_files.is ∙ length-append split_files.before
+    (split_files.file ∷ split_files.after) in
+    let size : length (fronts ++ told_of part ∷ []) ≡ length done.begun + 1 =
+    length-append fronts (told_of part ∷ []) ∙ ap (λ n. n + 1)
+    (map_length (λ (one : Begun). one.0) done.begun) in
+    let all_may : All MayBePart (fronts ++ told_of part ∷ []) =
+    All-push MayBePart fronts (told_of part) (All-map MayBePart (λ (one : Begun). one.0) done.begun
+    done.may) (told_may part is) in
+    no_part fronts done.counted (told_of part, flat_map token_line part.tokens)
+    (map line_of part.tokens) (told_may part is) shown
     (lines_stand part.tokens is.tokens is.tokens_rise)
     (few (fronts ++ told_of part ∷ []) all_may (omega (arith, count, total, size, short)))

@@ -1,3 +1,4 @@
+pub mod CannotMerge
 pub mod Counted
 pub mod Counts
 pub mod Digits

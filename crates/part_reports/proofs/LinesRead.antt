@@ -1,10 +1,11 @@
 -- Reading the next part of a text.
-use Rattle.std.proofs.Common.{◌≡◌, ℕ, ◌<◌, ◌^◌, List, [], ◌∷◌, ◌++◌, Option, Some, None, Result, Ok, Err, refl, sym, ap, subst, ◌∙◌, Bool, true, false, ◌==◌, if◌then◌else◌}
-use Rattle.std.specs.Prelude.{IfSome, IfOk, IfErr, MatchOption, ⊤}
+use Rattle.std.proofs.Common.{◌≡◌, ℕ, List, [], ◌∷◌, ◌++◌, Option, Some, None, Result, Ok, Err}
+use Rattle.std.proofs.Common.{refl, sym, ap, subst, ◌∙◌, Bool, true, false, ◌==◌, if◌then◌else◌}
+use Rattle.std.specs.Prelude.{IfSome, IfOk, IfErr}
 use Rattle.std.specs.Io.BufRead.{take_through, drop_through}
 use Rattle.part_reports.specs.declared.fault.MergeFault.{MergeFault}
 use Rattle.part_reports.specs.Faults.{IsOfTaps, IsOfTexts}
-use Rattle.part_reports.specs.inside.Reading.{IsRead, IsTold, Stood}
+use Rattle.part_reports.specs.inside.Reading.{IsRead, IsTold}
 use Rattle.part_reports.proofs.OneLine.{IsOneLine, taken_one}
 
 -- both choices of a text's front and back
@@ -16,10 +17,12 @@ choice false x text front back is = ap (λ bytes. x ∷ bytes) is
 -- a text is its line and what is behind it
 pub through : (byte : ℕ) (text : List ℕ) → text ≡ take_through byte text ++ drop_through byte text
 through byte [] = refl
-through byte (x ∷ text) = choice (x == byte) x text (take_through byte text) (drop_through byte text) (through byte text)
+through byte (x ∷ text) = choice (x == byte) x text (take_through byte text)
+    (drop_through byte text) (through byte text)
 
 -- a fault that is not of the texts
-pub read_other : {T V : Type 0} (IsIt : T → V → Type 0) (MayStand : V → Type 0) (written : V → List ℕ) (text after : Option (List ℕ)) (fault : MergeFault)
+pub read_other : {T V : Type 0} (IsIt : T → V → Type 0) (MayStand : V → Type 0) (written : V
+    → List ℕ) (text after : Option (List ℕ)) (fault : MergeFault)
     → ¬ (IsOfTexts fault) → IsRead IsIt MayStand written text after (Err fault)
 read_other IsIt MayStand written None after fault other = tt
 read_other IsIt MayStand written (Some text) after fault other = λ is. absurd (other is)
@@ -27,7 +30,8 @@ read_other IsIt MayStand written (Some text) after fault other = λ is. absurd (
 -- a line was read, and a form tells what it is
 pub read_line : {T V : Type 0} (of : T → V) (MayStand : V → Type 0) (written : V → List ℕ)
     → ((value : V) → MayStand value → IsOneLine (written value))
-    → (text after : Option (List ℕ)) (items line : List ℕ) (told : Option T) (result : Result T MergeFault)
+    → (text after : Option (List ℕ)) (items line : List ℕ) (told : Option T)
+    (result : Result T MergeFault)
     → IfSome text (λ left. (items ≡ take_through 10 left) × (after ≡ Some (drop_through 10 left)))
     → line ≡ items
     → IsTold of MayStand written line told
@@ -42,9 +46,12 @@ read_line of MayStand written one (Some text) after items line told (Ok x) is sa
       is = refl;
       may = here.0;
       rest = drop_through 10 text;
-      shown = through 10 text ∙ ap (λ bytes. bytes ++ drop_through 10 text) (sym is.0 ∙ sym same ∙ here.1);
+      shown = through 10 text ∙ ap (λ bytes. bytes ++ drop_through 10 text) (sym is.0 ∙ sym same
+          ∙ here.1);
       left = is.1;
     }
-read_line of MayStand written one (Some text) after items line told (Err fault) is same form ok err =
+read_line of MayStand written one (Some text) after items line told (Err fault) is same form ok err
+    =
     let none = subst (λ told. IsTold of MayStand written line told) err.0 form in
-    λ _ value rest may shown. none value may (same ∙ is.0 ∙ ap (take_through 10) shown ∙ taken_one (written value) rest (one value may))
+    λ _ value rest may shown. none value may (same ∙ is.0 ∙ ap (take_through 10) shown
+    ∙ taken_one (written value) rest (one value may))

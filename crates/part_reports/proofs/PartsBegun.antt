@@ -1,11 +1,10 @@
 -- Reading the reports of parts up to their tokens.
-use Rattle.std.proofs.Common.{◌≡◌, ℕ, zero, suc, ◌+◌, ◌-◌, ◌<◌, ◌≤◌, ◌^◌, ◌*◌, List, [], ◌∷◌, ◌++◌, Option, Some, None, Result, Ok, Err, length, get_or, take, drop, refl, sym, ap, subst, ◌∙◌, arith, append_assoc, length-append, codes, true, false, Bool}
-use Rattle.std.proofs.lemmas.List.{append-nil, map-append}
-use Rattle.std.specs.Prelude.{All, IfSome, IfOk, IfErr, flat_map, map, sum_by, ⊤}
+use Rattle.std.proofs.Common.{◌≡◌, ℕ, List, [], ◌∷◌, ◌++◌, Option, Some, None, Result, Ok, Err, sym}
+use Rattle.std.proofs.Common.{ap, subst, ◌∙◌, codes, true, false}
+use Rattle.std.proofs.lemmas.List.{map-append}
+use Rattle.std.specs.Prelude.{IfSome, map}
 use Rattle.std.specs.List.{AllZip}
-use Rattle.std.proofs.lemmas.List.Elements.{All-append, All-head, All-tail, All-nil, All-push}
-use Rattle.fare_texts.specs.Counts.{totals_line}
-use Rattle.shard_book.specs.Sums.{Sums, sums_of}
+use Rattle.std.proofs.lemmas.List.Elements.{All-nil, All-push}
 use Rattle.part_reports.specs.declared.fault.MergeFault.{MergeFault}
 use Rattle.part_reports.specs.declared.front.Front.{Front}
 use Rattle.part_reports.specs.declared.merging.Lines.{Lines}
@@ -13,61 +12,90 @@ use Rattle.part_reports.specs.declared.merging.Lines.TheVariants.{Tokens}
 use Rattle.part_reports.specs.declared.sums.WholeSums.{WholeSums}
 use Rattle.part_reports.specs.Faults.{IsOfTexts}
 use Rattle.part_reports.specs.TokenLines.{TokenLine}
-use Rattle.part_reports.specs.Lines.{AreCounts, head_line, validator_line}
-use Rattle.part_reports.specs.inside.Fronts.{IsFront, MayBePart, ToldFront, ends_text, told_text, validators_text}
+use Rattle.part_reports.specs.inside.Fronts.{IsFront, MayBePart, ToldFront, told_text}
 use Rattle.part_reports.specs.inside.Kinds.{IsTextOf}
-use Rattle.part_reports.specs.inside.Parts.{AreParts, Begun, IsNoPart, IsPart, begun_text, left_text}
-use Rattle.part_reports.specs.inside.Reading.{IsRead, Stood}
+use Rattle.part_reports.specs.inside.Parts.{AreParts, Begun, IsNoPart, IsPart, begun_text}
+use Rattle.part_reports.specs.inside.Parts.{left_text}
+use Rattle.part_reports.specs.inside.Reading.{IsRead}
 use Rattle.part_reports.specs.inside.Sources.{IsSource, Standing}
 use Rattle.part_reports.specs.inside.Sums.{AreFew, AreFrontsCounted, WithFront}
-use Rattle.part_reports.proofs.TextsRead.{AreLeft, Split, behind_front, no_files, split}
+use Rattle.part_reports.proofs.TextsRead.{AreLeft, no_files, split}
 use Rattle.part_reports.proofs.Unique.{head_line_unique, totals_line_unique}
-use Rattle.part_reports.proofs.WholeFronts.{IsUnique, behind_ends, behind_totals, ends_unique, told_parts, tokens_text, validators_unique}
+use Rattle.part_reports.proofs.WholeFronts.{IsUnique, behind_ends, behind_totals, ends_unique}
+use Rattle.part_reports.proofs.WholeFronts.{told_parts, tokens_text, validators_unique}
 
 -- what stands before the tokens is determined by the text
 pub told_unique : IsUnique MayBePart told_text
 told_unique a b x y may may_too same =
-    let ends = ends_unique a.ends b.ends (behind_ends a x) (behind_ends b y) may.ends may_too.ends (sym (told_parts a x) ∙ same ∙ told_parts b y) in
-    let totals = totals_line_unique a.totals b.totals (behind_totals a x) (behind_totals b y) may.totals may_too.totals ends.1 in
-    let validators = validators_unique a.validators b.validators (tokens_text a.tokens ++ x) (tokens_text b.tokens ++ y) may.validators may_too.validators totals.1 in
-    let tokens = head_line_unique (codes "tokens ") a.tokens b.tokens x y may.tokens may_too.tokens validators.1 in
-    (λ i. record { ends = ends.0 i; totals = totals.0 i; validators = validators.0 i; tokens = tokens.0 i }, tokens.1)
+    let ends = ends_unique a.ends b.ends (behind_ends a x) (behind_ends b y) may.ends may_too.ends
+    (sym (told_parts a x) ∙ same ∙ told_parts b y) in
+    let totals = totals_line_unique a.totals b.totals (behind_totals a x) (behind_totals b y)
+    may.totals may_too.totals ends.1 in
+    let validators = validators_unique a.validators b.validators (tokens_text a.tokens ++ x)
+    (tokens_text b.tokens ++ y) may.validators may_too.validators totals.1 in
+    let tokens = head_line_unique (codes "tokens ") a.tokens b.tokens x y may.tokens may_too.tokens
+    validators.1 in (
+      λ i. record {
+        ends = ends.0 i;
+        totals = totals.0 i;
+        validators = validators.0 i;
+        tokens =
+            tokens.0 i;
+      },
+      tokens.1,
+    )
 
 abbrev FrontRead : Option (List ℕ) → Option (List ℕ) → Result Front MergeFault → Type 0
 FrontRead text now result = IsRead IsFront MayBePart told_text text now result
 
 -- a text that begins with no report of a part
-pub no_front : (before : WholeSums) (file : Option (List ℕ)) (now : Option (List ℕ)) (fault : MergeFault)
+pub no_front : (before : WholeSums) (file : Option (List ℕ)) (now : Option (List ℕ))
+    (fault : MergeFault)
     → FrontRead file now (Err fault) → IsOfTexts fault → IfSome file (IsNoPart before)
 no_front before None now fault read of_texts = tt
-no_front before (Some file) now fault read of_texts = λ fronts counted begun lines may shown is few. read of_texts begun.0 begun.1 may shown
+no_front before (Some file) now fault read of_texts =
+    λ fronts counted begun lines may shown is few. read of_texts begun.0 begun.1 may shown
 
 -- sums that are more than any run has
-pub no_sums : (before after : WholeSums) (file : Option (List ℕ)) (now : Option (List ℕ)) (front : Front)
-    → FrontRead file now (Ok front) → WithFront before after front false → IfSome file (IsNoPart before)
+pub no_sums : (before after : WholeSums) (file : Option (List ℕ)) (now : Option (List ℕ))
+    (front : Front)
+    → FrontRead file now (Ok front) → WithFront before after front false
+    → IfSome file (IsNoPart before)
 no_sums before after None now front read full = tt
-no_sums before after (Some file) now front read full = λ fronts counted begun lines may shown is few.
-    let same = told_unique read.value begun.0 read.rest begun.1 read.may may (sym read.shown ∙ shown) in
-    full fronts read.value counted read.is (subst (λ told. AreFew (fronts ++ told ∷ [])) (sym same.0) few)
+no_sums before after (Some file) now front read full =
+    λ fronts counted begun lines may shown is few.
+    let same = told_unique read.value begun.0 read.rest begun.1 read.may may (sym read.shown
+    ∙ shown) in
+    full fronts read.value counted read.is (subst (λ told. AreFew (fronts ++ told ∷ []))
+    (sym same.0) few)
 
 -- tokens that may not stand there
-pub no_lines : (before : WholeSums) (file : Option (List ℕ)) (now : Option (List ℕ)) (front : Front) (fault : MergeFault)
+pub no_lines : (before : WholeSums) (file : Option (List ℕ)) (now : Option (List ℕ)) (front : Front)
+    (fault : MergeFault)
     → FrontRead file now (Ok front)
-    → IfSome now (λ left. (lines : List TokenLine) → ¬ (IsTextOf (Tokens front.tokens, left) lines)) → IfSome file (IsNoPart before)
+    → IfSome now (λ left. (lines : List TokenLine) → ¬ (IsTextOf (Tokens front.tokens, left) lines))
+    → IfSome file (IsNoPart before)
 no_lines before None now front fault read none_there = tt
-no_lines before (Some file) now front fault read none_there = λ fronts counted begun lines may shown is few.
-    let same = told_unique read.value begun.0 read.rest begun.1 read.may may (sym read.shown ∙ shown) in
-    let here = subst (λ now. IfSome now (λ left. (lines : List TokenLine) → ¬ (IsTextOf (Tokens front.tokens, left) lines))) read.left none_there in
-    let tokens : begun.0.tokens ≡ front.tokens = sym (read.is.tokens ∙ ap (λ (told : ToldFront). told.tokens) same.0) in
-    here lines (subst (λ text. IsTextOf text lines) (ap (λ n. (Tokens n, begun.1)) tokens ∙ ap (λ left. (Tokens front.tokens, left)) (sym same.1)) is)
+no_lines before (Some file) now front fault read none_there =
+    λ fronts counted begun lines may shown is few.
+    let same = told_unique read.value begun.0 read.rest begun.1 read.may may (sym read.shown
+    ∙ shown) in
+    let here = subst (λ now. IfSome now (λ left. (lines : List TokenLine)
+    → ¬ (IsTextOf (Tokens front.tokens, left) lines))) read.left none_there in
+    let tokens : begun.0.tokens ≡ front.tokens =
+    sym (read.is.tokens ∙ ap (λ (told : ToldFront). told.tokens) same.0) in
+    here lines (subst (λ text. IsTextOf text lines) (ap (λ n. (Tokens n, begun.1)) tokens
+    ∙ ap (λ left. (Tokens front.tokens, left)) (sym same.1)) is)
 
-pub is_part : (before after : WholeSums) (file now : Option (List ℕ)) (front : Front) (at : Standing)
+pub is_part : (before after : WholeSums) (file now : Option (List ℕ)) (front : Front)
+    (at : Standing)
     → FrontRead file now (Ok front) → WithFront before after front true
     → IfSome now (λ left. IsSource (Tokens front.tokens, left) at)
     → IfSome file (λ file. IsPart before after file at)
 is_part before after None now front at read added stands = tt
 is_part before after (Some file) now front at read added stands =
-    let here = subst (λ now. IfSome now (λ left. IsSource (Tokens front.tokens, left) at)) read.left stands in
+    let here = subst (λ now. IfSome now (λ left. IsSource (Tokens front.tokens, left) at)) read.left
+    stands in
     record {
       begun = (read.value, read.rest);
       may = read.may;
@@ -77,10 +105,13 @@ is_part before after (Some file) now front at read added stands =
     }
 
 -- ---- report after report
-abbrev pub BegunSo : {R : Type 0} → (R → Option (List ℕ)) → List R → WholeSums → List Standing → Type 0
-BegunSo remaining readers sums sources = (files : List (List ℕ)) → AreLeft remaining readers files → AreParts files sums sources
+abbrev pub BegunSo : {R : Type 0} → (R → Option (List ℕ)) → List R → WholeSums → List Standing
+    → Type 0
+BegunSo remaining readers sums sources = (files : List (List ℕ)) → AreLeft remaining readers files
+    → AreParts files sums sources
 
-pub begun_none : {R : Type 0} (remaining : R → Option (List ℕ)) (sums : WholeSums) (sources : List Standing) → AreFrontsCounted sums [] → sources ≡ [] → BegunSo remaining [] sums sources
+pub begun_none : {R : Type 0} (remaining : R → Option (List ℕ)) (sums : WholeSums)
+    (sources : List Standing) → AreFrontsCounted sums [] → sources ≡ [] → BegunSo remaining [] sums sources
 begun_none remaining sums sources counted none files are =
     let no_text = no_files remaining files are in
     record {
@@ -91,16 +122,19 @@ begun_none remaining sums sources counted none files are =
       stand = subst (λ sources. AllZip IsSource [] sources) (sym none) tt;
     }
 
-zip_push : (texts : List (Lines × List ℕ)) (ats : List Standing) (text : Lines × List ℕ) (at : Standing) → AllZip IsSource texts ats → IsSource text at
+zip_push : (texts : List (Lines × List ℕ)) (ats : List Standing) (text : Lines × List ℕ)
+    (at : Standing) → AllZip IsSource texts ats → IsSource text at
     → AllZip IsSource (texts ++ text ∷ []) (ats ++ at ∷ [])
 zip_push [] [] text at all one = (one, tt)
 zip_push [] (b ∷ ats) text at all one = absurd all
 zip_push (a ∷ texts) [] text at all one = absurd all
 zip_push (a ∷ texts) (b ∷ ats) text at all one = (all.0, zip_push texts ats text at all.1 one)
 
-pub begun_more : {R : Type 0} (remaining : R → Option (List ℕ)) (readers : List R) (x : R) (before after : WholeSums) (sources all : List Standing) (at : Standing)
+pub begun_more : {R : Type 0} (remaining : R → Option (List ℕ)) (readers : List R) (x : R)
+    (before after : WholeSums) (sources all : List Standing) (at : Standing)
     → all ≡ sources ++ at ∷ []
-    → BegunSo remaining readers before sources → IfSome (remaining x) (λ file. IsPart before after file at)
+    → BegunSo remaining readers before sources
+    → IfSome (remaining x) (λ file. IsPart before after file at)
     → BegunSo remaining (readers ++ x ∷ []) after all
 begun_more remaining readers x before after sources all at all_is so_far part files are =
     let parts = split remaining readers x [] files are in
@@ -109,11 +143,18 @@ begun_more remaining readers x before after sources all at all_is so_far part fi
     let none = no_files remaining parts.after parts.back_is in
     record {
       begun = done.begun ++ here.begun ∷ [];
-      shown = parts.is ∙ ap (λ more. parts.before ++ parts.file ∷ more) none ∙ ap (λ some. some ++ parts.file ∷ []) done.shown
-          ∙ ap (λ file. map begun_text done.begun ++ file ∷ []) here.shown ∙ sym (map-append begun_text done.begun (here.begun ∷ []));
+      shown = parts.is ∙ ap (λ more. parts.before ++ parts.file ∷ more) none
+          ∙ ap (λ some. some ++ parts.file ∷ []) done.shown
+          ∙ ap (λ file. map begun_text done.begun ++ file ∷ []) here.shown
+          ∙ sym (map-append begun_text done.begun (here.begun ∷ []));
       may = All-push (λ (one : Begun). MayBePart one.0) done.begun here.begun done.may here.may;
-      counted = subst (λ fronts. AreFrontsCounted after fronts) (sym (map-append (λ (one : Begun). one.0) done.begun (here.begun ∷ []))) (here.added (map (λ one. one.0) done.begun) done.counted);
-      stand = subst (λ sources. AllZip IsSource (map left_text (done.begun ++ here.begun ∷ [])) sources) (sym all_is)
-          (subst (λ texts. AllZip IsSource texts (sources ++ at ∷ [])) (sym (map-append left_text done.begun (here.begun ∷ [])))
-          (zip_push (map left_text done.begun) sources (left_text here.begun) at done.stand here.stands));
+      counted = subst (λ fronts. AreFrontsCounted after fronts)
+          (sym (map-append (λ (one : Begun). one.0) done.begun (here.begun ∷ [])))
+          (here.added (map (λ one. one.0) done.begun) done.counted);
+      stand = subst (λ sources. AllZip IsSource (map left_text (done.begun ++ here.begun ∷ []))
+          sources) (sym all_is)
+          (subst (λ texts. AllZip IsSource texts (sources ++ at ∷ []))
+          (sym (map-append left_text done.begun (here.begun ∷ [])))
+          (zip_push (map left_text done.begun) sources (left_text here.begun) at done.stand
+          here.stands));
     }

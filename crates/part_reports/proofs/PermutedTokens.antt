@@ -1,16 +1,13 @@
 -- Lists that have the same lines of each token have the same lines.
-use Rattle.std.proofs.Common.{inl, inr, ◌≡◌, ◌≢◌, ℕ, zero, suc, ◌+◌, ◌<◌, ◌≤◌, List, [], ◌∷◌, ◌++◌, length, refl, sym, ap, subst, ◌∙◌, arith, append_assoc, Bool, true, false, ◌==◌, ◌&&◌, if◌then◌else◌}
-use Rattle.std.specs.Prelude.{All, filter, map, ◌⊎◌}
-use Rattle.std.specs.List.{AllByRecursion}
-use Rattle.std.specs.List.Sorted.{IsPermutation, IsSortedBy, IsStrictlySortedBy}
-use Rattle.std.specs.Map.{keys_of}
-use Rattle.std.specs.Ordering.{is_lt}
-use Rattle.std.specs.declared.cmp.Ordering.{Ordering}
-use Rattle.std.specs.declared.cmp.Ordering.TheVariants.{Less, Equal, Greater}
-use Rattle.std.proofs.lemmas.Bool.{cases_eq}
+use Rattle.std.proofs.Common.{◌≡◌, ℕ, List, [], ◌∷◌, ◌++◌, refl, sym, ap, subst, ◌∙◌, arith, Bool}
+use Rattle.std.proofs.Common.{true, false, ◌==◌, ◌&&◌, if◌then◌else◌}
+use Rattle.std.specs.Prelude.{filter}
+use Rattle.std.specs.List.Sorted.{IsPermutation}
 use Rattle.std.proofs.lemmas.Bool.Decides.{nat_tests}
-use Rattle.std.proofs.lemmas.List.Sorted.{IsPermutation-refl, IsPermutation-cons, IsPermutation-middle, IsPermutation-sym, IsPermutation-trans}
-use Rattle.fare_table.specs.Token.{token_cmp, token_eq}
+use Rattle.std.proofs.lemmas.List.Sorted.{IsPermutation-refl, IsPermutation-cons}
+use Rattle.std.proofs.lemmas.List.Sorted.{IsPermutation-middle, IsPermutation-sym}
+use Rattle.std.proofs.lemmas.List.Sorted.{IsPermutation-trans}
+use Rattle.fare_table.specs.Token.{token_eq}
 use Rattle.fare_table.specs.declared.token.Token.{Token}
 use Rattle.shard_book.specs.Sums.{Sums}
 
@@ -27,7 +24,8 @@ both true false p q = q
 both false b p q = p
 
 pub same_token : (token : Token) → token_eq token token ≡ true
-same_token token = both (token.high == token.high) (token.low == token.low) (grind (arith, nat_tests)) (grind (arith, nat_tests))
+same_token token = both (token.high == token.high) (token.low == token.low)
+    (grind (arith, nat_tests)) (grind (arith, nat_tests))
 
 -- where the first of a token stands
 pub record Found (token : Token) (first : Sum) (sums : List Sum) (rest : List Sum) : Type 0 where
@@ -37,39 +35,60 @@ pub record Found (token : Token) (first : Sum) (sums : List Sum) (rest : List Su
   pub none_before : of_token token front ≡ []
   pub rest_is : of_token token back ≡ rest
 
-found : (token : Token) (first sum : Sum) (sums rest : List Sum) (b : Bool) → token_eq token sum.0 ≡ b
+found : (token : Token) (first sum : Sum) (sums rest : List Sum) (b : Bool)
+    → token_eq token sum.0 ≡ b
     → (of_token token sums ≡ first ∷ rest → Found token first sums rest)
-    → (if b then sum ∷ of_token token sums else of_token token sums) ≡ first ∷ rest → Found token first (sum ∷ sums) rest
+    → (if b then sum ∷ of_token token sums else of_token token sums) ≡ first ∷ rest
+    → Found token first (sum ∷ sums) rest
 found token first sum sums rest true test next is =
     let head : sum ≡ first = cc in
     let tail : of_token token sums ≡ rest = cc in
-    record { front = []; back = sums; is = ap (λ s. s ∷ sums) head; none_before = refl; rest_is = tail }
+    record {
+      front = [];
+      back = sums;
+      is = ap (λ s. s ∷ sums) head;
+      none_before = refl;
+      rest_is =
+          tail;
+    }
 found token first sum sums rest false test next is =
     let at = next is in
     record {
       front = sum ∷ at.front;
       back = at.back;
       is = ap (λ more. sum ∷ more) at.is;
-      none_before = ap (λ b. if b then sum ∷ of_token token at.front else of_token token at.front) test ∙ at.none_before;
+      none_before = ap (λ b. if b then sum ∷ of_token token at.front else of_token token at.front)
+          test ∙ at.none_before;
       rest_is = at.rest_is;
     }
 
-find : (token : Token) (first : Sum) (sums rest : List Sum) → of_token token sums ≡ first ∷ rest → Found token first sums rest
+find : (token : Token) (first : Sum) (sums rest : List Sum) → of_token token sums ≡ first ∷ rest
+    → Found token first sums rest
 find token first [] rest is = absurd (cc)
-find token first (sum ∷ sums) rest is = found token first sum sums rest (token_eq token sum.0) refl (find token first sums rest) is
+find token first (sum ∷ sums) rest is = found token first sum sums rest (token_eq token sum.0) refl
+    (find token first sums rest) is
 
-filter_joined : (token : Token) (some more : List Sum) → of_token token (some ++ more) ≡ of_token token some ++ of_token token more
+filter_joined : (token : Token) (some more : List Sum)
+    → of_token token (some ++ more) ≡ of_token token some ++ of_token token more
 filter_joined token [] more = refl
 filter_joined token (sum ∷ some) more =
-    elim (token_eq token sum.0) as (λ b. (if b then sum ∷ of_token token (some ++ more) else of_token token (some ++ more)) ≡ (if b then sum ∷ of_token token some else of_token token some) ++ of_token token more)
-    [ true ↦ ap (λ more. sum ∷ more) (filter_joined token some more) | false ↦ filter_joined token some more ]
+    elim (token_eq token sum.0) as (λ b. (if b then sum ∷ of_token token (some ++ more) else
+    of_token token (some ++ more)) ≡ (if b then sum ∷ of_token token some else of_token token some)
+    ++ of_token token more) [
+      | true ↦ ap (λ more. sum ∷ more) (filter_joined token some more)
+      | false ↦ filter_joined token
+          some more
+    ]
 
 -- what is left without one of each list
-left_same : (token : Token) (b : Bool) (first : Sum) (one front back : List Sum) → of_token token front ++ (if b then first ∷ of_token token back else of_token token back) ≡ (if b then first ∷ one else one)
+left_same : (token : Token) (b : Bool) (first : Sum) (one front back : List Sum)
+    → of_token token front ++ (if b then first ∷ of_token token back else of_token token back)
+    ≡ (if b then first ∷ one else one)
     → (b ≡ true → of_token token front ≡ []) → of_token token front ++ of_token token back ≡ one
 left_same token true first one front back is none_before =
     let empty = none_before refl in
-    let both_is : first ∷ of_token token back ≡ first ∷ one = ap (λ f. f ++ (first ∷ of_token token back)) (sym empty) ∙ is in
+    let both_is : first ∷ of_token token back ≡ first ∷ one =
+    ap (λ f. f ++ (first ∷ of_token token back)) (sym empty) ∙ is in
     let tails : of_token token back ≡ one = cc in
     ap (λ f. f ++ of_token token back) empty ∙ tails
 left_same token false first one front back is none_before = is
@@ -94,18 +113,25 @@ eq_of a b is = λ i. record { high = high i; low = low i }
     low : a.low ≡ b.low
     low = number a.low b.low (second_of_both (a.high == b.high) (a.low == b.low) is)
 
-pub permuted : (xs ys : List Sum) → ((token : Token) → of_token token xs ≡ of_token token ys) → IsPermutation xs ys
+pub permuted : (xs ys : List Sum) → ((token : Token) → of_token token xs ≡ of_token token ys)
+    → IsPermutation xs ys
 permuted [] [] same = IsPermutation-refl []
 permuted [] (y ∷ ys) same =
     let here = ap (λ b. if b then y ∷ of_token y.0 ys else of_token y.0 ys) (same_token y.0) in
     absurd (let is = same y.0 ∙ here in cc)
 permuted (x ∷ xs) ys same =
-    let here : of_token x.0 (x ∷ xs) ≡ x ∷ of_token x.0 xs = ap (λ b. if b then x ∷ of_token x.0 xs else of_token x.0 xs) (same_token x.0) in
+    let here : of_token x.0 (x ∷ xs) ≡ x ∷ of_token x.0 xs =
+    ap (λ b. if b then x ∷ of_token x.0 xs else of_token x.0 xs) (same_token x.0) in
     let at = find x.0 x ys (of_token x.0 xs) (sym (same x.0) ∙ here) in
     let rest : (token : Token) → of_token token xs ≡ of_token token (at.front ++ at.back) =
-    λ token. sym (filter_joined token at.front at.back ∙ left_same token (token_eq token x.0) x (of_token token xs) at.front at.back
-    (sym (filter_joined token at.front (x ∷ at.back)) ∙ ap (of_token token) (sym at.is) ∙ sym (same token))
+    λ token. sym (filter_joined token at.front at.back
+    ∙ left_same token (token_eq token x.0) x (of_token token xs) at.front at.back
+    (sym (filter_joined token at.front (x ∷ at.back)) ∙ ap (of_token token) (sym at.is)
+    ∙ sym (same token))
     (λ is. subst (λ t. of_token t at.front ≡ []) (sym (eq_of token x.0 is)) at.none_before)) in
-    let moved = IsPermutation-cons x xs (at.front ++ at.back) (permuted xs (at.front ++ at.back) rest) in
+    let moved = IsPermutation-cons x xs (at.front ++ at.back)
+    (permuted xs (at.front ++ at.back) rest) in
     subst (λ ys. IsPermutation (x ∷ xs) ys) (sym at.is)
-    (IsPermutation-trans (x ∷ xs) (x ∷ (at.front ++ at.back)) (at.front ++ x ∷ at.back) moved (IsPermutation-sym (at.front ++ x ∷ at.back) (x ∷ (at.front ++ at.back)) (IsPermutation-middle at.front x at.back)))
+    (IsPermutation-trans (x ∷ xs) (x ∷ (at.front ++ at.back)) (at.front ++ x ∷ at.back) moved
+    (IsPermutation-sym (at.front ++ x ∷ at.back) (x ∷ (at.front ++ at.back))
+    (IsPermutation-middle at.front x at.back)))

@@ -1,10 +1,11 @@
 -- Sums of validators, added up.
-use Rattle.std.proofs.Common.{inl, inr, ◌≡◌, ◌≢◌, ℕ, ◌+◌, ◌<◌, ◌≤◌, ◌^◌, List, [], ◌∷◌, ◌++◌, Option, Some, None, suc, length, get_or, take, drop, refl, sym, ap, subst, ◌∙◌, arith, append_assoc, Bool, true, false, cond, ◌==◌, eqb, ◌||◌}
+use Rattle.std.proofs.Common.{inl, inr, ◌≡◌, ◌≢◌, ℕ, ◌+◌, ◌<◌, ◌≤◌, ◌^◌, List, [], ◌∷◌, ◌++◌, Some}
+use Rattle.std.proofs.Common.{None, suc, length, get_or, take, drop, refl, sym, ap, subst, ◌∙◌}
+use Rattle.std.proofs.Common.{arith, append_assoc, Bool, true, false, cond, ◌==◌, ◌||◌}
 use Rattle.std.proofs.lemmas.List.{append-nil, map-append, take-append-drop, take_all}
 use Rattle.std.proofs.Math.Seq.{drop-cons, take-suc}
-use Rattle.std.specs.Prelude.{filter, map, flat_map, sum_by, if◌then◌else◌, ◌⊎◌, nat_lt}
+use Rattle.std.specs.Prelude.{filter, map, flat_map, sum_by, if◌then◌else◌}
 use Rattle.std.specs.Option.{option_map}
-use Rattle.std.specs.List.{list_any}
 use Rattle.std.specs.BTreeMap.{Updates, get, is_at}
 use Rattle.std.specs.BTreeMap.{BTreeMap}
 use Rattle.std.specs.Map.{keys_of, lookup}
@@ -20,7 +21,8 @@ use Rattle.part_reports.specs.Reports.{sums_of_validator}
 use Rattle.part_reports.specs.declared.front.Front.{Front}
 use Rattle.part_reports.specs.declared.sums.WholeSums.{WholeSums}
 use Rattle.part_reports.specs.inside.Fronts.{IsFront, ToldFront}
-use Rattle.part_reports.specs.inside.Sums.{AreFew, AreOf, AreSmall, AreFrontsCounted, WithFront, WithOne, WithValidators, or_nothing, sums_found}
+use Rattle.part_reports.specs.inside.Sums.{AreFew, AreOf, AreSmall, AreFrontsCounted, WithFront, WithOne}
+use Rattle.part_reports.specs.inside.Sums.{WithValidators, or_nothing, sums_found}
 use Rattle.std.proofs.lemmas.List.Concat.{flat_map-append}
 use Rattle.std.proofs.lemmas.List.Sums.{sum_by-append}
 
@@ -54,9 +56,11 @@ add_assoc a b c = λ i. record {
 }
 
 -- one more
-pub add_all_more : (list : List Sums) (more : Sums) → add_all (list ++ more ∷ []) ≡ add_sums (add_all list) more
+pub add_all_more : (list : List Sums) (more : Sums)
+    → add_all (list ++ more ∷ []) ≡ add_sums (add_all list) more
 add_all_more [] more = nothing_first more
-add_all_more (first ∷ list) more = ap (add_sums first) (add_all_more list more) ∙ add_assoc first (add_all list) more
+add_all_more (first ∷ list) more = ap (add_sums first) (add_all_more list more)
+    ∙ add_assoc first (add_all list) more
 
 -- ---- the tests of keys
 same_key : (k : ℕ) → is_eq (nat_cmp k k) ≡ true
@@ -80,55 +84,84 @@ or_true true = refl
 or_true false = refl
 
 pub member_more : (list : List (ℕ × Sums)) (sum : ℕ × Sums) (q : ℕ)
-    → is_member (eq_by_cmp nat_cmp) (keys_of (list ++ sum ∷ [])) q ≡ (is_member (eq_by_cmp nat_cmp) (keys_of list) q || is_eq (nat_cmp q sum.0))
+    → is_member (eq_by_cmp nat_cmp) (keys_of (list ++ sum ∷ [])) q
+    ≡ (is_member (eq_by_cmp nat_cmp) (keys_of list) q || is_eq (nat_cmp q sum.0))
 member_more [] sum q = or_false (is_eq (nat_cmp q sum.0))
-member_more (first ∷ list) sum q = more (is_eq (nat_cmp q first.0)) (is_member (eq_by_cmp nat_cmp) (keys_of list) q) (is_member (eq_by_cmp nat_cmp) (keys_of (list ++ sum ∷ [])) q) (is_eq (nat_cmp q sum.0)) (member_more list sum q)
+member_more (first ∷ list) sum q = more (is_eq (nat_cmp q first.0))
+    (is_member (eq_by_cmp nat_cmp) (keys_of list) q)
+    (is_member (eq_by_cmp nat_cmp) (keys_of (list ++ sum ∷ [])) q) (is_eq (nat_cmp q sum.0))
+    (member_more list sum q)
   where
-    more : (b rest with_one one : Bool) → with_one ≡ (rest || one) → (b || with_one) ≡ ((b || rest) || one)
+    more : (b rest with_one one : Bool) → with_one ≡ (rest || one)
+        → (b || with_one) ≡ ((b || rest) || one)
     more true rest with_one one is = refl
     more false rest with_one one is = is
 
 abbrev chosen : ℕ → List (ℕ × Sums) → List Sums
 chosen q list = map (λ (sum : ℕ × Sums). sum.1) (filter (λ (sum : ℕ × Sums). sum.0 == q) list)
 
-chosen_more : (list : List (ℕ × Sums)) (sum : ℕ × Sums) (q : ℕ) → chosen q (list ++ sum ∷ []) ≡ chosen q list ++ chosen q (sum ∷ [])
+chosen_more : (list : List (ℕ × Sums)) (sum : ℕ × Sums) (q : ℕ)
+    → chosen q (list ++ sum ∷ []) ≡ chosen q list ++ chosen q (sum ∷ [])
 chosen_more [] sum q = refl
 chosen_more (first ∷ list) sum q =
-    elim (first.0 == q) as (λ b. (map (λ (sum : ℕ × Sums). sum.1) (if b then first ∷ filter (λ (sum : ℕ × Sums). sum.0 == q) (list ++ sum ∷ []) else filter (λ (sum : ℕ × Sums). sum.0 == q) (list ++ sum ∷ [])))
-    ≡ map (λ (sum : ℕ × Sums). sum.1) (if b then first ∷ filter (λ (sum : ℕ × Sums). sum.0 == q) list else filter (λ (sum : ℕ × Sums). sum.0 == q) list) ++ chosen q (sum ∷ []))
+    elim (first.0 == q) as (λ b. (map (λ (sum : ℕ × Sums). sum.1)
+    (if b then first ∷ filter (λ (sum : ℕ × Sums). sum.0 == q) (list ++ sum ∷ []) else filter
+    (λ (sum : ℕ × Sums). sum.0 == q) (list ++ sum ∷ [])))
+    ≡ map (λ (sum : ℕ × Sums). sum.1) (if b then first ∷ filter (λ (sum : ℕ × Sums). sum.0 == q)
+    list else filter (λ (sum : ℕ × Sums). sum.0 == q) list) ++ chosen q (sum ∷ []))
     [ true ↦ ap (λ more. first.1 ∷ more) (chosen_more list sum q) | false ↦ chosen_more list sum q ]
 
-pub sums_at_same : (list : List (ℕ × Sums)) (sum : ℕ × Sums) → sums_of_validator sum.0 (list ++ sum ∷ []) ≡ add_sums (sums_of_validator sum.0 list) sum.1
+pub sums_at_same : (list : List (ℕ × Sums)) (sum : ℕ × Sums)
+    → sums_of_validator sum.0 (list ++ sum ∷ []) ≡ add_sums (sums_of_validator sum.0 list) sum.1
 sums_at_same list sum =
     let same = same_number sum.0 in
     let one : chosen sum.0 (sum ∷ []) ≡ sum.1 ∷ [] = rw same refl in
-    ap add_all (chosen_more list sum sum.0 ∙ ap (λ more. chosen sum.0 list ++ more) one) ∙ add_all_more (chosen sum.0 list) sum.1
+    ap add_all (chosen_more list sum sum.0 ∙ ap (λ more. chosen sum.0 list ++ more) one)
+    ∙ add_all_more (chosen sum.0 list) sum.1
 
-pub sums_at_other : (list : List (ℕ × Sums)) (sum : ℕ × Sums) (q : ℕ) → sum.0 ≢ q → sums_of_validator q (list ++ sum ∷ []) ≡ sums_of_validator q list
+pub sums_at_other : (list : List (ℕ × Sums)) (sum : ℕ × Sums) (q : ℕ) → sum.0 ≢ q
+    → sums_of_validator q (list ++ sum ∷ []) ≡ sums_of_validator q list
 sums_at_other list sum q other =
     let differs = other_number sum.0 q other in
     let none : chosen q (sum ∷ []) ≡ [] = rw differs refl in
-    ap add_all (chosen_more list sum q ∙ ap (λ more. chosen q list ++ more) none ∙ append-nil (chosen q list))
+    ap add_all (chosen_more list sum q ∙ ap (λ more. chosen q list ++ more) none
+    ∙ append-nil (chosen q list))
 
-sums_in_same : (list : List (ℕ × Sums)) (sum : ℕ × Sums) → sums_found (list ++ sum ∷ []) sum.0 ≡ Some (add_sums (sums_of_validator sum.0 list) sum.1)
+sums_in_same : (list : List (ℕ × Sums)) (sum : ℕ × Sums)
+    → sums_found (list ++ sum ∷ []) sum.0 ≡ Some (add_sums (sums_of_validator sum.0 list) sum.1)
 sums_in_same list sum =
-    let member : is_member (eq_by_cmp nat_cmp) (keys_of (list ++ sum ∷ [])) sum.0 ≡ true = member_more list sum sum.0 ∙ ap (λ b. is_member (eq_by_cmp nat_cmp) (keys_of list) sum.0 || b) (same_key sum.0) ∙ or_true (is_member (eq_by_cmp nat_cmp) (keys_of list) sum.0) in
-    ap (λ b. if b then Some (sums_of_validator sum.0 (list ++ sum ∷ [])) else None) member ∙ ap (λ s. Some s) (sums_at_same list sum)
+    let member : is_member (eq_by_cmp nat_cmp) (keys_of (list ++ sum ∷ [])) sum.0 ≡ true =
+    member_more list sum sum.0 ∙ ap (λ b. is_member (eq_by_cmp nat_cmp) (keys_of list) sum.0 || b)
+    (same_key sum.0) ∙ or_true (is_member (eq_by_cmp nat_cmp) (keys_of list) sum.0) in
+    ap (λ b. if b then Some (sums_of_validator sum.0 (list ++ sum ∷ [])) else None) member
+    ∙ ap (λ s. Some s) (sums_at_same list sum)
 
-sums_in_other : (list : List (ℕ × Sums)) (sum : ℕ × Sums) (q : ℕ) → q ≢ sum.0 → sums_found (list ++ sum ∷ []) q ≡ sums_found list q
+sums_in_other : (list : List (ℕ × Sums)) (sum : ℕ × Sums) (q : ℕ) → q ≢ sum.0
+    → sums_found (list ++ sum ∷ []) q ≡ sums_found list q
 sums_in_other list sum q other =
-    let member : is_member (eq_by_cmp nat_cmp) (keys_of (list ++ sum ∷ [])) q ≡ is_member (eq_by_cmp nat_cmp) (keys_of list) q = member_more list sum q ∙ ap (λ b. is_member (eq_by_cmp nat_cmp) (keys_of list) q || b) (other_key q sum.0 other) ∙ or_false (is_member (eq_by_cmp nat_cmp) (keys_of list) q) in
+    let member : is_member (eq_by_cmp nat_cmp) (keys_of (list ++ sum ∷ [])) q ≡ is_member
+    (eq_by_cmp nat_cmp) (keys_of list) q = member_more list sum q
+    ∙ ap (λ b. is_member (eq_by_cmp nat_cmp) (keys_of list) q || b) (other_key q sum.0 other)
+    ∙ or_false (is_member (eq_by_cmp nat_cmp) (keys_of list) q) in
     ap (λ b. if b then Some (sums_of_validator q (list ++ sum ∷ [])) else None) member
-    ∙ ap (λ s. if is_member (eq_by_cmp nat_cmp) (keys_of list) q then Some s else None) (sums_at_other list sum q (λ e. other (sym e)))
+    ∙ ap (λ s. if is_member (eq_by_cmp nat_cmp) (keys_of list) q then Some s else None)
+    (sums_at_other list sum q (λ e. other (sym e)))
 
 -- a validator that is not in the list has nothing in it
-not_member : (list : List (ℕ × Sums)) (q : ℕ) → is_member (eq_by_cmp nat_cmp) (keys_of list) q ≡ false → chosen q list ≡ []
+not_member : (list : List (ℕ × Sums)) (q : ℕ) → is_member (eq_by_cmp nat_cmp) (keys_of list) q
+    ≡ false → chosen q list ≡ []
 not_member [] q absent = refl
 not_member (first ∷ list) q absent =
-    let apart : first.0 ≢ q = λ same. let at = subst (λ k. is_eq (nat_cmp q k) ≡ true) (sym same) (same_key q) in true_or (is_eq (nat_cmp q first.0)) (is_member (eq_by_cmp nat_cmp) (keys_of list) q) at absent in
+    let apart : first.0 ≢ q = λ same. let at =
+    subst (λ k. is_eq (nat_cmp q k) ≡ true) (sym same) (same_key q) in
+    true_or (is_eq (nat_cmp q first.0)) (is_member (eq_by_cmp nat_cmp) (keys_of list) q) at absent
+    in
     let test = other_number first.0 q apart in
-    ap (λ b. map (λ (sum : ℕ × Sums). sum.1) (if b then first ∷ filter (λ (sum : ℕ × Sums). sum.0 == q) list else filter (λ (sum : ℕ × Sums). sum.0 == q) list)) test
-    ∙ not_member list q (rest_of (is_eq (nat_cmp q first.0)) (is_member (eq_by_cmp nat_cmp) (keys_of list) q) absent)
+    ap (λ b. map (λ (sum : ℕ × Sums). sum.1) (if b then first ∷ filter
+    (λ (sum : ℕ × Sums). sum.0 == q) list else filter (λ (sum : ℕ × Sums). sum.0 == q) list))
+    test
+    ∙ not_member list q (rest_of (is_eq (nat_cmp q first.0))
+    (is_member (eq_by_cmp nat_cmp) (keys_of list) q) absent)
   where
     true_or : (a b : Bool) → a ≡ true → (a || b) ≡ false → ⊥
     true_or true b is absent = cc
@@ -141,7 +174,8 @@ not_member (first ∷ list) q absent =
 pub or_nothing_in : (list : List (ℕ × Sums)) (q : ℕ) → or_nothing (sums_found list q) ≡ sums_of_validator q list
 or_nothing_in list q = by_member (is_member (eq_by_cmp nat_cmp) (keys_of list) q) refl
   where
-    by_member : (b : Bool) → is_member (eq_by_cmp nat_cmp) (keys_of list) q ≡ b → or_nothing (if b then Some (sums_of_validator q list) else None) ≡ sums_of_validator q list
+    by_member : (b : Bool) → is_member (eq_by_cmp nat_cmp) (keys_of list) q ≡ b
+        → or_nothing (if b then Some (sums_of_validator q list) else None) ≡ sums_of_validator q list
     by_member true is = refl
     by_member false is = ap add_all (sym (not_member list q is))
 
@@ -153,11 +187,13 @@ pub with_one : (before after : BTreeMap ℕ Totals) (sum : ValidatorSum) (kept m
     → WithOne before after sum true
 with_one before after sum kept more kept_is more_is updates list are q =
     let one = validator_sum sum in
-    let old : sums_of kept ≡ sums_of_validator sum.validator list = kept_is ∙ ap or_nothing (are sum.validator) ∙ or_nothing_in list sum.validator in
+    let old : sums_of kept ≡ sums_of_validator sum.validator list =
+    kept_is ∙ ap or_nothing (are sum.validator) ∙ or_nothing_in list sum.validator in
     let at = updates.0 q in
     elim (cases_eq sum.validator q) [
       | inl same ↦
-          let at_it : is_at (nat_cmp sum.validator) q ≡ true = subst (λ q. is_at (nat_cmp sum.validator) q ≡ true) same (same_key sum.validator) in
+          let at_it : is_at (nat_cmp sum.validator) q ≡ true =
+          subst (λ q. is_at (nat_cmp sum.validator) q ≡ true) same (same_key sum.validator) in
           ap (option_map sums_of) (at ∙ ap (λ b. cond b (Some more) (get nat_cmp before q)) at_it)
           ∙ ap (λ s. Some s) (more_is ∙ ap (λ s. add_sums s (sums_of sum.totals)) old)
           ∙ sym (sums_in_same list one) ∙ ap (λ q. sums_found (list ++ one ∷ []) q) same
@@ -173,9 +209,11 @@ pub one_full : (before after : BTreeMap ℕ Totals) (sum : ValidatorSum) (kept :
     → WithOne before after sum false
 one_full before after sum kept kept_is over list are =
     let one = validator_sum sum in
-    let old : sums_of kept ≡ sums_of_validator sum.validator list = kept_is ∙ ap or_nothing (are sum.validator) ∙ or_nothing_in list sum.validator in
+    let old : sums_of kept ≡ sums_of_validator sum.validator list =
+    kept_is ∙ ap or_nothing (are sum.validator) ∙ or_nothing_in list sum.validator in
     let taps : kept.taps ≡ (sums_of_validator sum.validator list).taps = ap (λ (s : Sums). s.taps) old in
-    let whole : (sums_of_validator sum.validator (list ++ one ∷ [])).taps ≡ (sums_of_validator sum.validator list).taps + sum.totals.taps = ap (λ (s : Sums). s.taps) (sums_at_same list one) in
+    let whole : (sums_of_validator sum.validator (list ++ one ∷ [])).taps ≡ (sums_of_validator sum.validator list).taps
+    + sum.totals.taps = ap (λ (s : Sums). s.taps) (sums_at_same list one) in
     omega (arith, taps, whole, over)
 
 -- ---- several validators
@@ -183,55 +221,85 @@ pub taps_nothing : (sums []).taps ≡ 0
 unfolding sums_of_replies
 taps_nothing = refl
 
-pub taps_joined : (q : ℕ) (some more : List (ℕ × Sums)) → (sums_of_validator q (some ++ more)).taps ≡ (sums_of_validator q some).taps + (sums_of_validator q more).taps
+pub taps_joined : (q : ℕ) (some more : List (ℕ × Sums))
+    → (sums_of_validator q (some ++ more)).taps ≡ (sums_of_validator q some).taps + (sums_of_validator q more).taps
 taps_joined q [] more = let none = taps_nothing in omega (arith, none)
 taps_joined q (first ∷ some) more =
-    elim (first.0 == q) as (λ b. (add_all (map (λ (sum : ℕ × Sums). sum.1) (if b then first ∷ filter (λ (sum : ℕ × Sums). sum.0 == q) (some ++ more) else filter (λ (sum : ℕ × Sums). sum.0 == q) (some ++ more)))).taps
-    ≡ (add_all (map (λ (sum : ℕ × Sums). sum.1) (if b then first ∷ filter (λ (sum : ℕ × Sums). sum.0 == q) some else filter (λ (sum : ℕ × Sums). sum.0 == q) some))).taps + (sums_of_validator q more).taps)
-    [ true ↦ (let rest = taps_joined q some more in omega (arith, rest)) | false ↦ taps_joined q some more ]
+    elim (first.0 == q) as (λ b. (add_all (map (λ (sum : ℕ × Sums). sum.1)
+    (if b then first ∷ filter (λ (sum : ℕ × Sums). sum.0 == q) (some ++ more) else filter
+    (λ (sum : ℕ × Sums). sum.0 == q) (some ++ more)))).taps
+    ≡ (add_all (map (λ (sum : ℕ × Sums). sum.1)
+    (if b then first ∷ filter (λ (sum : ℕ × Sums). sum.0 == q) some else filter
+    (λ (sum : ℕ × Sums). sum.0 == q) some))).taps + (sums_of_validator q more).taps) [
+      | true ↦ (let rest = taps_joined q some more in
+          omega (arith, rest))
+      | false ↦ taps_joined q some more
+    ]
 
 -- fewer validators are small too
 pub small_front : (some more : List (ℕ × Sums)) → AreSmall (some ++ more) → AreSmall some
-small_front some more small q = let whole = small q in let parts = taps_joined q some more in omega (arith, whole, parts)
+small_front some more small q = let whole = small q in let parts = taps_joined q some more in
+    omega (arith, whole, parts)
 
 -- the map has the sums of the first of some validators, beside those that it had
 abbrev pub WithFirst : BTreeMap ℕ Totals → BTreeMap ℕ Totals → List ValidatorSum → Type 0
-WithFirst before now some = (list : List (ℕ × Sums)) → AreOf before list → AreOf now (list ++ map validator_sum some)
+WithFirst before now some = (list : List (ℕ × Sums)) → AreOf before list
+    → AreOf now (list ++ map validator_sum some)
 
 pub first_none : (before : BTreeMap ℕ Totals) → WithFirst before before []
 first_none before list are = subst (λ list. AreOf before list) (sym (append-nil list)) are
 
 one_more : (list : List (ℕ × Sums)) (some : List ValidatorSum) (sum : ValidatorSum)
-    → (list ++ map validator_sum some) ++ validator_sum sum ∷ [] ≡ list ++ map validator_sum (some ++ sum ∷ [])
-one_more list some sum = append_assoc list (map validator_sum some) (validator_sum sum ∷ []) ∙ ap (λ more. list ++ more) (sym (map-append validator_sum some (sum ∷ [])))
+    → (list ++ map validator_sum some) ++ validator_sum sum ∷ [] ≡ list ++ map validator_sum
+    (some ++ sum ∷ [])
+one_more list some sum = append_assoc list (map validator_sum some) (validator_sum sum ∷ [])
+    ∙ ap (λ more. list ++ more) (sym (map-append validator_sum some (sum ∷ [])))
 
-pub first_more : (before now after : BTreeMap ℕ Totals) (all : List ValidatorSum) (i : ℕ) (sum : ValidatorSum) → i < length all → sum ≡ get_or all i sum
-    → WithFirst before now (take i all) → WithOne now after sum true → WithFirst before after (take (i + 1) all)
+pub first_more : (before now after : BTreeMap ℕ Totals) (all : List ValidatorSum) (i : ℕ)
+    (sum : ValidatorSum) → i < length all → sum ≡ get_or all i sum
+    → WithFirst before now (take i all) → WithOne now after sum true
+    → WithFirst before after (take (i + 1) all)
 first_more before now after all i sum within is so_far one list are =
     let taken : take (i + 1) all ≡ take i all ++ sum ∷ [] = taken_more all i sum within is in
     subst (λ some. AreOf after (list ++ map validator_sum some)) (sym taken)
-    (subst (λ list. AreOf after list) (one_more list (take i all) sum) (one (list ++ map validator_sum (take i all)) (so_far list are)))
+    (subst (λ list. AreOf after list) (one_more list (take i all) sum)
+    (one (list ++ map validator_sum (take i all)) (so_far list are)))
   where
-    taken_more : (all : List ValidatorSum) (i : ℕ) (sum : ValidatorSum) → i < length all → sum ≡ get_or all i sum → take (i + 1) all ≡ take i all ++ sum ∷ []
+    taken_more : (all : List ValidatorSum) (i : ℕ) (sum : ValidatorSum) → i < length all
+        → sum ≡ get_or all i sum → take (i + 1) all ≡ take i all ++ sum ∷ []
     taken_more all i sum within is = let at : i + 1 ≡ suc i = omega arith in
-        ap (λ k. take k all) at ∙ take-suc all i sum within ∙ ap (λ x. take i all ++ x ∷ []) (sym is)
+        ap (λ k. take k all) at ∙ take-suc all i sum within
+        ∙ ap (λ x. take i all ++ x ∷ []) (sym is)
 
-pub first_all : (before now : BTreeMap ℕ Totals) (all : List ValidatorSum) (i : ℕ) → length all ≤ i → WithFirst before now (take i all) → WithValidators before now all true
-first_all before now all i over so_far list are = subst (λ some. AreOf now (list ++ map validator_sum some)) (take_all i all over) (so_far list are)
+pub first_all : (before now : BTreeMap ℕ Totals) (all : List ValidatorSum) (i : ℕ) → length all ≤ i
+    → WithFirst before now (take i all) → WithValidators before now all true
+first_all before now all i over so_far list are =
+    subst (λ some. AreOf now (list ++ map validator_sum some)) (take_all i all over)
+    (so_far list are)
 
-pub first_full : (before now after : BTreeMap ℕ Totals) (all : List ValidatorSum) (i : ℕ) (sum : ValidatorSum) → i < length all → sum ≡ get_or all i sum
-    → WithFirst before now (take i all) → WithOne now after sum false → WithValidators before after all false
+pub first_full : (before now after : BTreeMap ℕ Totals) (all : List ValidatorSum) (i : ℕ)
+    (sum : ValidatorSum) → i < length all → sum ≡ get_or all i sum
+    → WithFirst before now (take i all) → WithOne now after sum false
+    → WithValidators before after all false
 first_full before now after all i sum within is so_far one list are small =
     let over = one (list ++ map validator_sum (take i all)) (so_far list are) in
     let parts : all ≡ (take i all ++ sum ∷ []) ++ drop (suc i) all =
-    sym (take-append-drop i all) ∙ ap (λ more. take i all ++ more) (drop-cons all i sum within ∙ ap (λ x. x ∷ drop (suc i) all) (sym is))
+    sym (take-append-drop i all) ∙ ap (λ more. take i all ++ more) (drop-cons all i sum within
+    ∙ ap (λ x. x ∷ drop (suc i) all) (sym is))
     ∙ sym (append_assoc (take i all) (sum ∷ []) (drop (suc i) all)) in
-    let whole : list ++ map validator_sum all ≡ (list ++ map validator_sum (take i all ++ sum ∷ [])) ++ map validator_sum (drop (suc i) all) =
-    ap (λ some. list ++ map validator_sum some) parts ∙ ap (λ more. list ++ more) (map-append validator_sum (take i all ++ sum ∷ []) (drop (suc i) all))
-    ∙ sym (append_assoc list (map validator_sum (take i all ++ sum ∷ [])) (map validator_sum (drop (suc i) all))) in
-    let front = small_front (list ++ map validator_sum (take i all ++ sum ∷ [])) (map validator_sum (drop (suc i) all)) (subst (λ some. AreSmall some) whole small) in
+    let whole : list ++ map validator_sum all ≡ (list ++ map validator_sum (take i all ++ sum ∷ []))
+    ++ map validator_sum (drop (suc i) all) =
+    ap (λ some. list ++ map validator_sum some) parts
+    ∙ ap (λ more. list ++ more) (map-append validator_sum (take i all ++ sum ∷ [])
+    (drop (suc i) all))
+    ∙ sym (append_assoc list (map validator_sum (take i all ++ sum ∷ []))
+    (map validator_sum (drop (suc i) all))) in
+    let front = small_front (list ++ map validator_sum (take i all ++ sum ∷ []))
+    (map validator_sum (drop (suc i) all)) (subst (λ some. AreSmall some) whole small) in
     let most = front sum.validator in
-    let same : (sums_of_validator sum.validator ((list ++ map validator_sum (take i all)) ++ validator_sum sum ∷ [])).taps ≡ (sums_of_validator sum.validator (list ++ map validator_sum (take i all ++ sum ∷ []))).taps =
+    let same : (sums_of_validator sum.validator ((list ++ map validator_sum (take i all)) ++ validator_sum sum
+    ∷ [])).taps ≡ (sums_of_validator sum.validator (list ++ map validator_sum (take i all ++ sum ∷ []))).taps
+    =
     ap (λ list. (sums_of_validator sum.validator list).taps) (one_more list (take i all) sum) in
     omega (arith, over, most, same)
 
@@ -245,13 +313,18 @@ validators_in fronts = flat_map (λ told. told.validators) fronts
 abbrev tokens_in : List ToldFront → ℕ
 tokens_in fronts = sum_by (λ told. told.tokens) fronts
 
-totals_more : (fronts : List ToldFront) (told : ToldFront) → totals_in (fronts ++ told ∷ []) ≡ add_sums (totals_in fronts) told.totals
-totals_more fronts told = ap add_all (map-append (λ (told : ToldFront). told.totals) fronts (told ∷ [])) ∙ add_all_more (map (λ told. told.totals) fronts) told.totals
+totals_more : (fronts : List ToldFront) (told : ToldFront)
+    → totals_in (fronts ++ told ∷ []) ≡ add_sums (totals_in fronts) told.totals
+totals_more fronts told = ap add_all (map-append (λ (told : ToldFront). told.totals) fronts (told ∷ []))
+    ∙ add_all_more (map (λ told. told.totals) fronts) told.totals
 
-validators_more : (fronts : List ToldFront) (told : ToldFront) → validators_in (fronts ++ told ∷ []) ≡ validators_in fronts ++ told.validators
-validators_more fronts told = flat_map-append (λ (told : ToldFront). told.validators) fronts (told ∷ []) ∙ ap (λ more. validators_in fronts ++ more) (append-nil told.validators)
+validators_more : (fronts : List ToldFront) (told : ToldFront)
+    → validators_in (fronts ++ told ∷ []) ≡ validators_in fronts ++ told.validators
+validators_more fronts told = flat_map-append (λ (told : ToldFront). told.validators) fronts (told ∷ [])
+    ∙ ap (λ more. validators_in fronts ++ more) (append-nil told.validators)
 
-pub counted_none : (sums : WholeSums) → sums_of sums.totals ≡ sums_of_replies [] → sums.validators.entries ≡ [] → sums.tokens ≡ 0 → AreFrontsCounted sums []
+pub counted_none : (sums : WholeSums) → sums_of sums.totals ≡ sums_of_replies []
+    → sums.validators.entries ≡ [] → sums.tokens ≡ 0 → AreFrontsCounted sums []
 counted_none sums totals none tokens = record {
   totals = totals;
   validators = λ q. ap (λ es. option_map sums_of (lookup (is_at (nat_cmp q)) es)) none;
@@ -268,20 +341,26 @@ front_added before after front fronts told tokens totals validators counted is =
     let old_tokens = counted.tokens in
     let more_tokens = is.tokens in
     record {
-      totals = totals ∙ ap (λ s. add_sums s (sums_of front.totals)) counted.totals ∙ ap (add_sums (totals_in fronts)) is.totals ∙ sym (totals_more fronts told);
-      validators = subst (λ list. AreOf after.validators list) (ap (λ more. validators_in fronts ++ more) is.validators ∙ sym (validators_more fronts told))
+      totals = totals ∙ ap (λ s. add_sums s (sums_of front.totals)) counted.totals
+          ∙ ap (add_sums (totals_in fronts)) is.totals ∙ sym (totals_more fronts told);
+      validators = subst (λ list. AreOf after.validators list)
+          (ap (λ more. validators_in fronts ++ more) is.validators
+          ∙ sym (validators_more fronts told))
           (validators (validators_in fronts) counted.validators);
       tokens = omega (arith, tokens, sums, old_tokens, more_tokens);
     }
 
-pub front_full : (before after : WholeSums) (validators_now : BTreeMap ℕ Totals) (front : Front) (fronts : List ToldFront) (told : ToldFront)
+pub front_full : (before after : WholeSums) (validators_now : BTreeMap ℕ Totals) (front : Front)
+    (fronts : List ToldFront) (told : ToldFront)
     → WithValidators before.validators validators_now front.validators.items false
     → AreFrontsCounted before fronts → IsFront front told → ¬ (AreFew (fronts ++ told ∷ []))
 front_full before after validators_now front fronts told full counted is few =
     full (validators_in fronts) counted.validators
-    (subst (λ list. AreSmall list) (validators_more fronts told ∙ ap (λ more. validators_in fronts ++ more) (sym is.validators)) few.validators)
+    (subst (λ list. AreSmall list) (validators_more fronts told
+    ∙ ap (λ more. validators_in fronts ++ more) (sym is.validators)) few.validators)
 
-pub tokens_full : (before : WholeSums) (front : Front) (fronts : List ToldFront) (told : ToldFront) → 2 ^ 128 ≤ before.tokens + front.tokens
+pub tokens_full : (before : WholeSums) (front : Front) (fronts : List ToldFront) (told : ToldFront)
+    → 2 ^ 128 ≤ before.tokens + front.tokens
     → AreFrontsCounted before fronts → IsFront front told → ¬ (AreFew (fronts ++ told ∷ []))
 tokens_full before front fronts told over counted is few =
     let sums = sum_by-append (λ (told : ToldFront). told.tokens) fronts (told ∷ []) in
@@ -290,20 +369,29 @@ tokens_full before front fronts told over counted is few =
     let most = few.tokens in
     absurd (omega (arith, over, sums, old_tokens, more_tokens, most))
 
-pub totals_full : (before : WholeSums) (front : Front) (fronts : List ToldFront) (told : ToldFront) → 2 ^ 95 < before.totals.taps + front.totals.taps
+pub totals_full : (before : WholeSums) (front : Front) (fronts : List ToldFront) (told : ToldFront)
+    → 2 ^ 95 < before.totals.taps + front.totals.taps
     → AreFrontsCounted before fronts → IsFront front told → ¬ (AreFew (fronts ++ told ∷ []))
 totals_full before front fronts told over counted is few =
-    let sums : (totals_in (fronts ++ told ∷ [])).taps ≡ (totals_in fronts).taps + told.totals.taps = ap (λ (s : Sums). s.taps) (totals_more fronts told) in
-    let old : before.totals.taps ≡ (totals_in fronts).taps = ap (λ (s : Sums). s.taps) counted.totals in
+    let sums : (totals_in (fronts ++ told ∷ [])).taps ≡ (totals_in fronts).taps + told.totals.taps =
+    ap (λ (s : Sums). s.taps) (totals_more fronts told) in
+    let old : before.totals.taps ≡ (totals_in fronts).taps =
+    ap (λ (s : Sums). s.taps) counted.totals in
     let more : front.totals.taps ≡ told.totals.taps = ap (λ (s : Sums). s.taps) is.totals in
     let most = few.totals in
     absurd (omega (arith, over, sums, old, more, most))
 
-pub with_front : (before after : WholeSums) (front : Front) (items : List ValidatorSum) → items ≡ front.validators.items
+pub with_front : (before after : WholeSums) (front : Front) (items : List ValidatorSum)
+    → items ≡ front.validators.items
     → after.tokens ≡ before.tokens + front.tokens
     → sums_of after.totals ≡ add_sums (sums_of before.totals) (sums_of front.totals)
-    → (well : Bool) → WithValidators before.validators after.validators items well → WithFront before after front well
+    → (well : Bool) → WithValidators before.validators after.validators items well
+    → WithFront before after front well
 with_front before after front items same tokens totals true validators = λ fronts told counted is.
-    front_added before after front fronts told tokens totals (subst (λ items. WithValidators before.validators after.validators items true) same validators) counted is
+    front_added before after front fronts told tokens totals
+    (subst (λ items. WithValidators before.validators after.validators items true) same validators)
+    counted is
 with_front before after front items same tokens totals false validators = λ fronts told counted is.
-    front_full before after after.validators front fronts told (subst (λ items. WithValidators before.validators after.validators items false) same validators) counted is
+    front_full before after after.validators front fronts told
+    (subst (λ items. WithValidators before.validators after.validators items false) same validators)
+    counted is

@@ -1,8 +1,10 @@
 -- Reading text after text.
-use Rattle.std.proofs.Common.{◌≡◌, ℕ, zero, suc, ◌+◌, ◌-◌, ◌<◌, ◌≤◌, List, [], ◌∷◌, ◌++◌, Option, Some, None, length, get_or, take, drop, Result, Ok, Err, refl, sym, ap, subst, ◌∙◌, arith, append_assoc, length-append}
-use Rattle.std.proofs.lemmas.List.{append-nil, map-append, take-append-drop}
+use Rattle.std.proofs.Common.{◌≡◌, ℕ, suc, ◌+◌, ◌<◌, List, [], ◌∷◌, ◌++◌, Option, Some, None}
+use Rattle.std.proofs.Common.{length, get_or, take, drop, Ok, Err, refl, sym, ap, subst, ◌∙◌, arith}
+use Rattle.std.proofs.Common.{append_assoc, length-append}
+use Rattle.std.proofs.lemmas.List.{append-nil, take-append-drop}
 use Rattle.std.proofs.Math.Seq.{drop-cons, take-suc}
-use Rattle.std.specs.Prelude.{All, IfSome, IsTrue, flat_map, map, sum_by, ⊤, ◌↔◌}
+use Rattle.std.specs.Prelude.{All, IsTrue, map}
 use Rattle.std.proofs.lemmas.List.Concat.{flat_map-append}
 use Rattle.std.proofs.lemmas.List.Elements.{All-append, All-head, All-tail, All-nil}
 use Rattle.std.proofs.lemmas.List.Sums.{sum_by-append}
@@ -13,14 +15,14 @@ use Rattle.part_reports.specs.Lines.{End, IsUploadEnd, end_line, end_lines}
 use Rattle.part_reports.specs.Reports.{end_texts, joined_ends}
 use Rattle.part_reports.specs.inside.Ends.{Have, AreEndsAdded, More}
 use Rattle.part_reports.proofs.EndsRead.{All-behind, All-front, some_line}
-use Rattle.part_reports.proofs.ListsWritten.{end_lines_from, lines_from}
 use Rattle.part_reports.proofs.Unique.{end_line_unique}
 
 -- what is left of each reader is known
 abbrev pub AreLeft : {R : Type 0} → (R → Option (List ℕ)) → List R → List (List ℕ) → Type 0
 AreLeft remaining readers files = map remaining readers ≡ map (λ file. Some file) files
 
-pub record Split {R : Type 0} (remaining : R → Option (List ℕ)) (front : List R) (x : R) (back : List R) (files : List (List ℕ)) : Type 0 where
+pub record Split {R : Type 0} (remaining : R → Option (List ℕ)) (front : List R) (x : R)
+    (back : List R) (files : List (List ℕ)) : Type 0 where
   pub before : List (List ℕ)
   pub file : List ℕ
   pub after : List (List ℕ)
@@ -29,10 +31,21 @@ pub record Split {R : Type 0} (remaining : R → Option (List ℕ)) (front : Lis
   pub here : remaining x ≡ Some file
   pub back_is : AreLeft remaining back after
 
-pub split : {R : Type 0} (remaining : R → Option (List ℕ)) (front : List R) (x : R) (back : List R) (files : List (List ℕ))
+pub split : {R : Type 0} (remaining : R → Option (List ℕ)) (front : List R) (x : R) (back : List R)
+    (files : List (List ℕ))
     → AreLeft remaining (front ++ x ∷ back) files → Split remaining front x back files
 split remaining [] x back [] are = absurd (cc)
-split remaining [] x back (file ∷ files) are = record { before = []; file = file; after = files; is = refl; front_is = refl; here = cc; back_is = cc }
+split remaining [] x back (file ∷ files) are =
+    record {
+      before = [];
+      file = file;
+      after = files;
+      is = refl;
+      front_is = refl;
+      here =
+          cc;
+      back_is = cc;
+    }
 split remaining (r ∷ front) x back [] are = absurd (cc)
 split remaining (r ∷ front) x back (file ∷ files) are =
     let rest = split remaining front x back files (cc) in
@@ -48,16 +61,19 @@ split remaining (r ∷ front) x back (file ∷ files) are =
     }
 
 -- the readers behind this one
-pub behind_front : {R : Type 0} (items front : List R) (x : R) → front ≡ take (length front) items → length front < length items → x ≡ get_or items (length front) x
+pub behind_front : {R : Type 0} (items front : List R) (x : R) → front ≡ take (length front) items
+    → length front < length items → x ≡ get_or items (length front) x
     → items ≡ front ++ x ∷ drop (suc (length front)) items
 behind_front items front x is within here =
     sym (take-append-drop (length front) items)
     ∙ ap (λ text. take (length front) items ++ text) (drop-cons items (length front) x within)
-    ∙ ap (λ more. more ++ (get_or items (length front) x ∷ drop (suc (length front)) items)) (sym is)
+    ∙ ap (λ more. more ++ (get_or items (length front) x ∷ drop (suc (length front)) items))
+    (sym is)
     ∙ ap (λ y. front ++ (y ∷ drop (suc (length front)) items)) (sym here)
 
 -- one reader more
-pub front_more : {R : Type 0} (items front : List R) (x : R) → front ≡ take (length front) items → length front < length items → x ≡ get_or items (length front) x
+pub front_more : {R : Type 0} (items front : List R) (x : R) → front ≡ take (length front) items
+    → length front < length items → x ≡ get_or items (length front) x
     → front ++ x ∷ [] ≡ take (length (front ++ x ∷ [])) items
 front_more items front x is within here =
     let size : length (front ++ x ∷ []) ≡ suc (length front) = simp length-append (omega arith) in
@@ -65,19 +81,26 @@ front_more items front x is within here =
     ∙ sym (take-suc items (length front) x within) ∙ ap (λ k. take k items) (sym size)
 
 -- ---- ends
-lines_whole : (number : ℕ) (a b : List End) → All IsUploadEnd a → All IsUploadEnd b → end_lines number a ≡ end_lines number b → a ≡ b
+pub lines_whole : (number : ℕ) (a b : List End) → All IsUploadEnd a → All IsUploadEnd b
+    → end_lines number a ≡ end_lines number b → a ≡ b
 lines_whole number [] [] may may_too same = refl
-lines_whole number [] (b ∷ bs) may may_too same = absurd (some_line number b (end_lines (number + 1) bs) same)
-lines_whole number (a ∷ more) [] may may_too same = absurd (some_line number a (end_lines (number + 1) more) (sym same))
+lines_whole number [] (b ∷ bs) may may_too same =
+    absurd (some_line number b (end_lines (number + 1) bs) same)
+lines_whole number (a ∷ more) [] may may_too same =
+    absurd (some_line number a (end_lines (number + 1) more) (sym same))
 lines_whole number (a ∷ more) (b ∷ bs) may may_too same =
-    let first = end_line_unique number a b (end_lines (number + 1) more) (end_lines (number + 1) bs) (All-head IsUploadEnd a more may) (All-head IsUploadEnd b bs may_too) same in
-    let rest = lines_whole (number + 1) more bs (All-tail IsUploadEnd a more may) (All-tail IsUploadEnd b bs may_too) first.1 in
+    let first = end_line_unique number a b (end_lines (number + 1) more) (end_lines (number + 1) bs)
+    (All-head IsUploadEnd a more may) (All-head IsUploadEnd b bs may_too) same in
+    let rest = lines_whole (number + 1) more bs (All-tail IsUploadEnd a more may)
+    (All-tail IsUploadEnd b bs may_too) first.1 in
     ap (λ x. x ∷ more) first.0 ∙ ap (λ xs. b ∷ xs) rest
 
 -- the text behind some texts of ends is one of ends
-texts_at : (first : ℕ) (before lists : List (List End)) (file : List ℕ) (after : List (List ℕ)) → All IsUploadEnd (joined_ends before) → All IsUploadEnd (joined_ends lists)
+texts_at : (first : ℕ) (before lists : List (List End)) (file : List ℕ) (after : List (List ℕ))
+    → All IsUploadEnd (joined_ends before) → All IsUploadEnd (joined_ends lists)
     → end_texts first before ++ file ∷ after ≡ end_texts first lists
-    → (ends : List End) × All IsUploadEnd ends × (file ≡ end_lines (first + length (joined_ends before)) ends)
+    → (ends : List End) × All IsUploadEnd ends × (file ≡ end_lines (first + length (joined_ends before))
+    ends)
 texts_at first [] [] file after may may_too same = absurd (cc)
 texts_at first [] (ends ∷ lists) file after may may_too same =
     let at : first ≡ first + 0 = omega arith in
@@ -86,31 +109,48 @@ texts_at first [] (ends ∷ lists) file after may may_too same =
 texts_at first (some ∷ before) [] file after may may_too same = absurd (cc)
 texts_at first (some ∷ before) (ends ∷ lists) file after may may_too same =
     let head : end_lines first some ≡ end_lines first ends = cc in
-    let is : some ≡ ends = lines_whole first some ends (All-front IsUploadEnd some (joined_ends before) may) (All-front IsUploadEnd ends (joined_ends lists) may_too) head in
-    let tail : end_texts (first + length some) before ++ file ∷ after ≡ end_texts (first + length ends) lists = cc in
-    let next = texts_at (first + length some) before lists file after (All-behind IsUploadEnd some (joined_ends before) may) (All-behind IsUploadEnd ends (joined_ends lists) may_too)
+    let is : some ≡ ends = lines_whole first some ends
+    (All-front IsUploadEnd some (joined_ends before) may)
+    (All-front IsUploadEnd ends (joined_ends lists) may_too) head in
+    let tail : end_texts (first + length some) before ++ file ∷ after ≡ end_texts
+    (first + length ends) lists = cc in
+    let next = texts_at (first + length some) before lists file after
+    (All-behind IsUploadEnd some (joined_ends before) may)
+    (All-behind IsUploadEnd ends (joined_ends lists) may_too)
     (tail ∙ ap (λ (x : List End). end_texts (first + length x) lists) (sym is)) in
-    let at : first + length some + length (joined_ends before) ≡ first + length (some ++ joined_ends before) = simp length-append (omega arith) in
+    let at : first + length some + length (joined_ends before) ≡ first + length
+    (some ++ joined_ends before) = simp length-append (omega arith) in
     (next.0, next.1, next.2 ∙ ap (λ k. end_lines k next.0) at)
 
 texts_more : (first : ℕ) (lists : List (List End)) (ends : List End)
-    → end_texts first (lists ++ ends ∷ []) ≡ end_texts first lists ++ end_lines (first + length (joined_ends lists)) ends ∷ []
-texts_more first [] ends = let at : first ≡ first + 0 = omega arith in ap (λ k. end_lines k ends ∷ []) at
+    → end_texts first (lists ++ ends ∷ []) ≡ end_texts first lists ++ end_lines
+    (first + length (joined_ends lists)) ends ∷ []
+texts_more first [] ends = let at : first ≡ first + 0 = omega arith in
+    ap (λ k. end_lines k ends ∷ []) at
 texts_more first (some ∷ lists) ends =
-    let at : first + length some + length (joined_ends lists) ≡ first + length (some ++ joined_ends lists) = simp length-append (omega arith) in
-    ap (λ more. end_lines first some ∷ more) (texts_more (first + length some) lists ends ∙ ap (λ k. end_texts (first + length some) lists ++ end_lines k ends ∷ []) at)
+    let at : first + length some + length (joined_ends lists) ≡ first + length
+    (some ++ joined_ends lists) = simp length-append (omega arith) in
+    ap (λ more. end_lines first some ∷ more) (texts_more (first + length some) lists ends
+    ∙ ap (λ k. end_texts (first + length some) lists ++ end_lines k ends ∷ []) at)
 
-joined_more : (lists : List (List End)) (ends : List End) → joined_ends (lists ++ ends ∷ []) ≡ joined_ends lists ++ ends
-joined_more lists ends = flat_map-append (λ (some : List End). some) lists (ends ∷ []) ∙ ap (λ more. joined_ends lists ++ more) (append-nil ends)
+joined_more : (lists : List (List End)) (ends : List End)
+    → joined_ends (lists ++ ends ∷ []) ≡ joined_ends lists ++ ends
+joined_more lists ends = flat_map-append (λ (some : List End). some) lists (ends ∷ [])
+    ∙ ap (λ more. joined_ends lists ++ more) (append-nil ends)
 
-end_lines_joined : (first : ℕ) (some more : List End) → end_lines first (some ++ more) ≡ end_lines first some ++ end_lines (first + length some) more
-end_lines_joined first [] more = let at : first ≡ first + 0 = omega arith in ap (λ k. end_lines k more) at
+end_lines_joined : (first : ℕ) (some more : List End)
+    → end_lines first (some ++ more) ≡ end_lines first some ++ end_lines (first + length some) more
+end_lines_joined first [] more = let at : first ≡ first + 0 = omega arith in
+    ap (λ k. end_lines k more) at
 end_lines_joined first (end ∷ some) more =
     let at : first + 1 + length some ≡ first + suc (length some) = omega arith in
-    ap (λ text. end_line first end ++ text) (end_lines_joined (first + 1) some more ∙ ap (λ k. end_lines (first + 1) some ++ end_lines k more) at)
-    ∙ sym (append_assoc (end_line first end) (end_lines (first + 1) some) (end_lines (first + suc (length some)) more))
+    ap (λ text. end_line first end ++ text) (end_lines_joined (first + 1) some more
+    ∙ ap (λ k. end_lines (first + 1) some ++ end_lines k more) at)
+    ∙ sym (append_assoc (end_line first end) (end_lines (first + 1) some)
+    (end_lines (first + suc (length some)) more))
 
-pub have_none : (ends : Ends) → ends.text.items ≡ [] → ends.uploads ≡ 0 → ends.taps ≡ 0 → IsTrue ends.are_posted → Have ends []
+pub have_none : (ends : Ends) → ends.text.items ≡ [] → ends.uploads ≡ 0 → ends.taps ≡ 0
+    → IsTrue ends.are_posted → Have ends []
 have_none ends text uploads taps posted = record {
   text = text;
   uploads = uploads;
@@ -119,19 +159,26 @@ have_none ends text uploads taps posted = record {
   each = All-nil IsUploadEnd;
 }
 
-have_more : (before after : Ends) (list more : List End) → Have before list → More before after more → Have after (list ++ more)
+have_more : (before after : Ends) (list more : List End) → Have before list → More before after more
+    → Have after (list ++ more)
 have_more before after list more have is =
     let sums = sum_by-append (λ (end : End). end.taps) list more in
     let taps = have.taps in
     let more_taps = is.taps in
     let at : before.uploads ≡ 0 + length list = omega (arith, have.uploads) in
     record {
-      text = is.text ∙ ap (λ text. text ++ end_lines before.uploads more) have.text ∙ ap (λ k. end_lines 0 list ++ end_lines k more) at ∙ sym (end_lines_joined 0 list more);
+      text = is.text ∙ ap (λ text. text ++ end_lines before.uploads more) have.text
+          ∙ ap (λ k. end_lines 0 list ++ end_lines k more) at ∙ sym (end_lines_joined 0 list more);
       uploads = simp length-append (omega (arith, have.uploads, is.uploads));
       taps = omega (arith, sums, taps, more_taps);
       posted = (
-        λ yes. let both = is.posted.0 yes in All-append (λ (end : End). end.fault ≡ None) list more (have.posted.0 both.0) both.1,
-        λ all. is.posted.1 (have.posted.1 (All-front (λ (end : End). end.fault ≡ None) list more all), All-behind (λ (end : End). end.fault ≡ None) list more all),
+        λ yes. let both = is.posted.0 yes in All-append (λ (end : End). end.fault ≡ None) list more
+            (have.posted.0 both.0) both.1,
+        λ all. is.posted.1 (
+          have.posted.1 (All-front (λ (end : End). end.fault ≡ None) list more
+              all),
+          All-behind (λ (end : End). end.fault ≡ None) list more all,
+        ),
       );
       each = All-append IsUploadEnd list more have.each is.each;
     }
@@ -141,38 +188,54 @@ abbrev pub AreRead : {R : Type 0} → (R → Option (List ℕ)) → List R → E
 AreRead remaining readers ends = (files : List (List ℕ)) → AreLeft remaining readers files
     → (lists : List (List End)) × (files ≡ end_texts 0 lists) × Have ends (joined_ends lists)
 
-pub read_none : {R : Type 0} (remaining : R → Option (List ℕ)) (ends : Ends) → Have ends [] → AreRead remaining [] ends
+pub read_none : {R : Type 0} (remaining : R → Option (List ℕ)) (ends : Ends) → Have ends []
+    → AreRead remaining [] ends
 read_none remaining ends have [] are = ([], refl, have)
 read_none remaining ends have (file ∷ files) are = absurd (cc)
 
-pub no_files : {R : Type 0} (remaining : R → Option (List ℕ)) (files : List (List ℕ)) → AreLeft remaining [] files → files ≡ []
+pub no_files : {R : Type 0} (remaining : R → Option (List ℕ)) (files : List (List ℕ))
+    → AreLeft remaining [] files → files ≡ []
 no_files remaining [] are = refl
 no_files remaining (file ∷ files) are = absurd (cc)
 
-pub read_next : {R : Type 0} (remaining : R → Option (List ℕ)) (readers : List R) (x : R) (before after : Ends)
-    → AreRead remaining readers before → AreEndsAdded before after (remaining x) (Ok tt) → AreRead remaining (readers ++ x ∷ []) after
+pub read_next : {R : Type 0} (remaining : R → Option (List ℕ)) (readers : List R) (x : R)
+    (before after : Ends)
+    → AreRead remaining readers before → AreEndsAdded before after (remaining x) (Ok tt)
+    → AreRead remaining (readers ++ x ∷ []) after
 read_next remaining readers x before after read added files are =
     let parts = split remaining readers x [] files are in
     let so_far = read parts.before parts.front_is in
     let here = subst (λ left. AreEndsAdded before after left (Ok tt)) parts.here added in
     let none : parts.after ≡ [] = no_files remaining parts.after parts.back_is in
-    let at : before.uploads ≡ 0 + length (joined_ends so_far.0) = omega (arith, so_far.2.uploads) in (
+    let at : before.uploads ≡ 0 + length (joined_ends so_far.0) =
+    omega (arith, so_far.2.uploads) in (
       so_far.0 ++ here.0 ∷ [],
-      parts.is ∙ ap (λ more. parts.before ++ parts.file ∷ more) none ∙ ap (λ file. parts.before ++ file ∷ []) (here.2 ∙ ap (λ k. end_lines k here.0) at)
-          ∙ ap (λ some. some ++ end_lines (0 + length (joined_ends so_far.0)) here.0 ∷ []) so_far.1 ∙ sym (texts_more 0 so_far.0 here.0),
-      subst (λ list. Have after list) (sym (joined_more so_far.0 here.0)) (have_more before after (joined_ends so_far.0) here.0 so_far.2 here.1),
+      parts.is ∙ ap (λ more. parts.before ++ parts.file ∷ more) none
+          ∙ ap (λ file. parts.before ++ file ∷ []) (here.2 ∙ ap (λ k. end_lines k here.0) at)
+          ∙ ap (λ some. some ++ end_lines (0 + length (joined_ends so_far.0)) here.0 ∷ []) so_far.1
+          ∙ sym (texts_more 0 so_far.0 here.0),
+      subst (λ list. Have after list) (sym (joined_more so_far.0 here.0))
+          (have_more before after (joined_ends so_far.0) here.0 so_far.2 here.1),
     )
 
 -- a text that tells no ends
-pub read_refused : {R : Type 0} (remaining : R → Option (List ℕ)) (items readers : List R) (x : R) (before after : Ends) (fault : MergeFault)
-    → readers ≡ take (length readers) items → length readers < length items → x ≡ get_or items (length readers) x
-    → AreRead remaining readers before → AreEndsAdded before after (remaining x) (Err fault) → IsOfTexts fault
-    → (files : List (List ℕ)) → AreLeft remaining items files → (lists : List (List End)) → All IsUploadEnd (joined_ends lists) → ¬ (files ≡ end_texts 0 lists)
-read_refused remaining items readers x before after fault front within here read added of_texts files are lists may told =
+pub read_refused : {R : Type 0} (remaining : R → Option (List ℕ)) (items readers : List R) (x : R)
+    (before after : Ends) (fault : MergeFault)
+    → readers ≡ take (length readers) items → length readers < length items
+    → x ≡ get_or items (length readers) x
+    → AreRead remaining readers before → AreEndsAdded before after (remaining x) (Err fault)
+    → IsOfTexts fault
+    → (files : List (List ℕ)) → AreLeft remaining items files → (lists : List (List End))
+    → All IsUploadEnd (joined_ends lists) → ¬ (files ≡ end_texts 0 lists)
+read_refused remaining items readers x before after fault front within here read added of_texts
+    files are lists may told =
     let all = behind_front items readers x front within here in
-    let parts = split remaining readers x (drop (suc (length readers)) items) files (subst (λ items. AreLeft remaining items files) all are) in
+    let parts = split remaining readers x (drop (suc (length readers)) items) files
+    (subst (λ items. AreLeft remaining items files) all are) in
     let so_far = read parts.before parts.front_is in
-    let no_ends = (subst (λ left. AreEndsAdded before after left (Err fault)) parts.here added) of_texts in
-    let next = texts_at 0 so_far.0 lists parts.file parts.after so_far.2.each may (ap (λ some. some ++ parts.file ∷ parts.after) (sym so_far.1) ∙ sym parts.is ∙ told) in
+    let no_ends = (subst (λ left. AreEndsAdded before after left (Err fault)) parts.here added) of_texts
+    in
+    let next = texts_at 0 so_far.0 lists parts.file parts.after so_far.2.each may
+    (ap (λ some. some ++ parts.file ∷ parts.after) (sym so_far.1) ∙ sym parts.is ∙ told) in
     let at : 0 + length (joined_ends so_far.0) ≡ before.uploads = omega (arith, so_far.2.uploads) in
     no_ends next.0 next.1 (next.2 ∙ ap (λ k. end_lines k next.0) at)

@@ -1,6 +1,5 @@
 -- The lines of a report's tokens, and the sums that they tell.
-use Rattle.std.proofs.Common.{◌≡◌, ℕ, ◌+◌, ◌<◌, ◌^◌, List, [], ◌∷◌, ◌++◌, length, refl, sym, ap, subst, ◌∙◌, arith}
-use Rattle.std.proofs.lemmas.List.{append-nil}
+use Rattle.std.proofs.Common.{◌≡◌, List, [], ◌∷◌, ◌++◌, length, refl, sym, ap, subst, ◌∙◌, arith}
 use Rattle.std.specs.Prelude.{All, flat_map, map}
 use Rattle.std.specs.List.Sorted.{IsStrictlySortedBy}
 use Rattle.std.specs.Map.{keys_of}
@@ -11,7 +10,6 @@ use Rattle.shard_book.specs.Sums.{Sums}
 use Rattle.part_reports.specs.Lines.{IsTokenSum, token_line}
 use Rattle.part_reports.specs.TokenLines.{TokenLine, text_of}
 use Rattle.part_reports.specs.inside.Kinds.{IsSumLine, IsTextOf}
-use Rattle.part_reports.specs.declared.merging.Lines.{Lines}
 use Rattle.part_reports.specs.declared.merging.Lines.TheVariants.{Tokens}
 use Rattle.part_reports.proofs.Unique.{token_line_unique}
 
@@ -26,7 +24,8 @@ pub lines_text : (sums : List Sum) → text_of (map line_of sums) ≡ flat_map t
 lines_text [] = refl
 lines_text (sum ∷ sums) = ap (λ text. token_line sum ++ text) (lines_text sums)
 
-pub lines_keys : (sums : List Sum) → map (λ (line : TokenLine). line.token) (map line_of sums) ≡ keys_of sums
+pub lines_keys : (sums : List Sum) → map (λ (line : TokenLine). line.token) (map line_of sums)
+    ≡ keys_of sums
 lines_keys [] = refl
 lines_keys (sum ∷ sums) = ap (λ keys. sum.0 ∷ keys) (lines_keys sums)
 
@@ -36,12 +35,21 @@ lines_length (sum ∷ sums) = let rest = lines_length sums in omega (arith, rest
 
 pub lines_are : (sums : List Sum) → All IsTokenSum sums → All IsSumLine (map line_of sums)
 lines_are [] all = All-nil IsSumLine
-lines_are (sum ∷ sums) all = All-cons IsSumLine (line_of sum) (map line_of sums) (record { sums = sum.1; is = All-head IsTokenSum sum sums all; shown = refl }) (lines_are sums (All-tail IsTokenSum sum sums all))
+lines_are (sum ∷ sums) all = All-cons IsSumLine (line_of sum) (map line_of sums)
+    (record { sums = sum.1; is = All-head IsTokenSum sum sums all; shown = refl })
+    (lines_are sums (All-tail IsTokenSum sum sums all))
 
 -- the lines of these sums are a report's
-pub lines_stand : (sums : List Sum) → All IsTokenSum sums → IsStrictlySortedBy token_cmp (keys_of sums) → IsTextOf (Tokens (length sums), flat_map token_line sums) (map line_of sums)
+pub lines_stand : (sums : List Sum) → All IsTokenSum sums
+    → IsStrictlySortedBy token_cmp (keys_of sums)
+    → IsTextOf (Tokens (length sums), flat_map token_line sums) (map line_of sums)
 lines_stand sums all rise = (
-  (lines_length sums, lines_are sums all, subst (λ keys. IsStrictlySortedBy token_cmp keys) (sym (lines_keys sums)) rise),
+  (
+    lines_length sums,
+    lines_are sums all,
+    subst (λ keys. IsStrictlySortedBy token_cmp keys)
+        (sym (lines_keys sums)) rise,
+  ),
   sym (lines_text sums),
 )
 
@@ -56,21 +64,27 @@ told [] all = record { sums = []; fit = All-nil IsTokenSum; is = refl }
 told (line ∷ lines) all =
     let first = All-head IsSumLine line lines all in
     let rest = told lines (All-tail IsSumLine line lines all) in
-    let same : line ≡ line_of (line.token, first.sums) = λ i. record { token = line.token; text = first.shown i } in
+    let same : line ≡ line_of (line.token, first.sums) =
+    λ i. record { token = line.token; text = first.shown i } in
     record {
       sums = (line.token, first.sums) ∷ rest.sums;
       fit = All-cons IsTokenSum (line.token, first.sums) rest.sums first.is rest.fit;
-      is = ap (λ line. line ∷ lines) same ∙ ap (λ more. line_of (line.token, first.sums) ∷ more) rest.is;
+      is = ap (λ line. line ∷ lines) same ∙ ap (λ more. line_of (line.token, first.sums) ∷ more)
+          rest.is;
     }
 
 -- lines tell their sums
-pub sums_same : (some more : List Sum) → All IsTokenSum some → All IsTokenSum more → map line_of some ≡ map line_of more → some ≡ more
+pub sums_same : (some more : List Sum) → All IsTokenSum some → All IsTokenSum more
+    → map line_of some ≡ map line_of more → some ≡ more
 sums_same [] [] fit fit_too same = refl
 sums_same [] (sum ∷ more) fit fit_too same = absurd (cc)
 sums_same (sum ∷ some) [] fit fit_too same = absurd (cc)
 sums_same (a ∷ some) (b ∷ more) fit fit_too same =
     let line : line_of a ≡ line_of b = cc in
     let rest : map line_of some ≡ map line_of more = cc in
-    let text : token_line a ++ [] ≡ token_line b ++ [] = ap (λ (line : TokenLine). line.text ++ []) line in
-    let first = token_line_unique a b [] [] (All-head IsTokenSum a some fit) (All-head IsTokenSum b more fit_too) text in
-    ap (λ sum. sum ∷ some) first.0 ∙ ap (λ rest. b ∷ rest) (sums_same some more (All-tail IsTokenSum a some fit) (All-tail IsTokenSum b more fit_too) rest)
+    let text : token_line a ++ [] ≡ token_line b ++ [] =
+    ap (λ (line : TokenLine). line.text ++ []) line in
+    let first = token_line_unique a b [] [] (All-head IsTokenSum a some fit)
+    (All-head IsTokenSum b more fit_too) text in
+    ap (λ sum. sum ∷ some) first.0 ∙ ap (λ rest. b ∷ rest)
+    (sums_same some more (All-tail IsTokenSum a some fit) (All-tail IsTokenSum b more fit_too) rest)

@@ -1,35 +1,49 @@
 -- Reading a report up to the lines of its tokens, part by part.
-use Rattle.std.proofs.Common.{◌≡◌, ℕ, ◌+◌, ◌<◌, ◌^◌, List, ◌++◌, Option, Some, None, Result, Ok, Err, length, refl, sym, ap, subst, ◌∙◌, append_assoc, codes}
-use Rattle.std.specs.Prelude.{All, flat_map, ⊤}
+use Rattle.std.proofs.Common.{◌≡◌, ℕ, ◌<◌, ◌^◌, List, ◌++◌, Option, Some, None, Result, Ok, Err}
+use Rattle.std.proofs.Common.{length, refl, sym, ap, subst, ◌∙◌, append_assoc, codes}
+use Rattle.std.specs.Prelude.{flat_map}
 use Rattle.fare_texts.specs.Counts.{totals_line}
-use Rattle.shard_book.specs.Sums.{Sums, sums_of}
+use Rattle.shard_book.specs.Sums.{Sums}
 use Rattle.part_reports.specs.declared.fault.MergeFault.{MergeFault}
 use Rattle.part_reports.specs.Faults.{IsOfTexts}
-use Rattle.part_reports.specs.Lines.{AreCounts, End, IsUploadEnd, IsValidatorSum, end_line, end_lines, head_line, validator_line}
-use Rattle.part_reports.specs.inside.Fronts.{AreEnds, AreValidators, MayBePart, ToldFront, ends_text, told_text, validators_text}
+use Rattle.part_reports.specs.Lines.{AreCounts, IsUploadEnd, IsValidatorSum, end_line, end_lines}
+use Rattle.part_reports.specs.Lines.{head_line, validator_line}
+use Rattle.part_reports.specs.inside.Fronts.{AreEnds, AreValidators, MayBePart, ToldFront, ends_text}
+use Rattle.part_reports.specs.inside.Fronts.{told_text, validators_text}
 use Rattle.part_reports.specs.inside.Reading.{IsRead, Stood}
 use Rattle.part_reports.proofs.ListsWritten.{lines_unique, end_lines_from, flat_map_from}
-use Rattle.part_reports.proofs.Unique.{end_line_unique, head_line_unique, totals_line_unique, validator_line_unique}
+use Rattle.part_reports.proofs.Unique.{end_line_unique, head_line_unique, totals_line_unique}
+use Rattle.part_reports.proofs.Unique.{validator_line_unique}
 
 -- what is written determines the value and what is behind it
 abbrev pub IsUnique : {V : Type 0} → (V → Type 0) → (V → List ℕ) → Type 0
-IsUnique {V = V} May written = (a b : V) (x y : List ℕ) → May a → May b → written a ++ x ≡ written b ++ y → (a ≡ b) × (x ≡ y)
+IsUnique {V = V} May written = (a b : V) (x y : List ℕ) → May a → May b
+    → written a ++ x ≡ written b ++ y → (a ≡ b) × (x ≡ y)
 
 pub ends_unique : IsUnique AreEnds ends_text
 ends_unique a b x y may may_too same =
-    let head = head_line_unique (codes "uploads ") (length a) (length b) (end_lines 0 a ++ x) (end_lines 0 b ++ y) may.few may_too.few
-    (sym (append_assoc (head_line (codes "uploads ") (length a)) (end_lines 0 a) x) ∙ same ∙ append_assoc (head_line (codes "uploads ") (length b)) (end_lines 0 b) y) in
+    let head = head_line_unique (codes "uploads ") (length a) (length b) (end_lines 0 a ++ x)
+    (end_lines 0 b ++ y) may.few may_too.few
+    (sym (append_assoc (head_line (codes "uploads ") (length a)) (end_lines 0 a) x) ∙ same
+    ∙ append_assoc (head_line (codes "uploads ") (length b)) (end_lines 0 b) y) in
     lines_unique IsUploadEnd end_line end_line_unique 0 a b x y may.are.each may_too.are.each head.0
-    (ap (λ text. text ++ x) (sym (end_lines_from 0 a)) ∙ head.1 ∙ ap (λ text. text ++ y) (end_lines_from 0 b))
+    (ap (λ text. text ++ x) (sym (end_lines_from 0 a)) ∙ head.1
+    ∙ ap (λ text. text ++ y) (end_lines_from 0 b))
 
 pub validators_unique : IsUnique AreValidators validators_text
 validators_unique a b x y may may_too same =
-    let head = head_line_unique (codes "validators ") (length a) (length b) (flat_map validator_line a ++ x) (flat_map validator_line b ++ y) may.few may_too.few
-    (sym (append_assoc (head_line (codes "validators ") (length a)) (flat_map validator_line a) x) ∙ same ∙ append_assoc (head_line (codes "validators ") (length b)) (flat_map validator_line b) y) in
-    lines_unique IsValidatorSum (λ _ sum. validator_line sum) (λ _ a b x y. validator_line_unique a b x y) 0 a b x y may.are.each may_too.are.each head.0
-    (ap (λ text. text ++ x) (sym (flat_map_from validator_line 0 a)) ∙ head.1 ∙ ap (λ text. text ++ y) (flat_map_from validator_line 0 b))
+    let head = head_line_unique (codes "validators ") (length a) (length b)
+    (flat_map validator_line a ++ x) (flat_map validator_line b ++ y) may.few may_too.few
+    (sym (append_assoc (head_line (codes "validators ") (length a)) (flat_map validator_line a) x)
+    ∙ same ∙ append_assoc (head_line (codes "validators ") (length b)) (flat_map validator_line b)
+    y) in
+    lines_unique IsValidatorSum (λ _ sum. validator_line sum)
+    (λ _ a b x y. validator_line_unique a b x y) 0 a b x y may.are.each may_too.are.each head.0
+    (ap (λ text. text ++ x) (sym (flat_map_from validator_line 0 a)) ∙ head.1
+    ∙ ap (λ text. text ++ y) (flat_map_from validator_line 0 b))
 
-parts : (h e t v f k rest : List ℕ) → (h ++ (e ++ (t ++ (v ++ (f ++ k))))) ++ rest ≡ (h ++ e) ++ (t ++ ((v ++ f) ++ (k ++ rest)))
+parts : (h e t v f k rest : List ℕ) → (h ++ (e ++ (t ++ (v ++ (f ++ k))))) ++ rest ≡ (h ++ e)
+    ++ (t ++ ((v ++ f) ++ (k ++ rest)))
 parts h e t v f k rest = simp append_assoc
 
 -- the parts of the text
@@ -37,96 +51,145 @@ abbrev pub tokens_text : ℕ → List ℕ
 tokens_text number = head_line (codes "tokens ") number
 
 abbrev pub behind_ends : ToldFront → List ℕ → List ℕ
-behind_ends told rest = totals_line told.totals ++ (validators_text told.validators ++ (tokens_text told.tokens ++ rest))
+behind_ends told rest = totals_line told.totals
+    ++ (validators_text told.validators ++ (tokens_text told.tokens ++ rest))
 
 abbrev pub behind_totals : ToldFront → List ℕ → List ℕ
 behind_totals told rest = validators_text told.validators ++ (tokens_text told.tokens ++ rest)
 
-pub told_parts : (told : ToldFront) (rest : List ℕ) → told_text told ++ rest ≡ ends_text told.ends ++ behind_ends told rest
-told_parts told rest = parts (head_line (codes "uploads ") (length told.ends)) (end_lines 0 told.ends) (totals_line told.totals)
-    (head_line (codes "validators ") (length told.validators)) (flat_map validator_line told.validators) (tokens_text told.tokens) rest
+pub told_parts : (told : ToldFront) (rest : List ℕ)
+    → told_text told ++ rest ≡ ends_text told.ends ++ behind_ends told rest
+told_parts told rest = parts (head_line (codes "uploads ") (length told.ends))
+    (end_lines 0 told.ends) (totals_line told.totals)
+    (head_line (codes "validators ") (length told.validators))
+    (flat_map validator_line told.validators) (tokens_text told.tokens) rest
 
 -- behind a part that was read, what is left is what is behind it
-pub behind : {V : Type 0} {IsIt May : V → Type 0} {written : V → List ℕ} (unique : IsUnique May written) (text : List ℕ) (now : Option (List ℕ)) (value : V) (more : List ℕ)
+pub behind : {V : Type 0} {IsIt May : V → Type 0} {written : V → List ℕ}
+    (unique : IsUnique May written) (text : List ℕ) (now : Option (List ℕ)) (value : V)
+    (more : List ℕ)
     → Stood IsIt May written text now → May value → text ≡ written value ++ more → (now ≡ Some more)
 behind unique text now value more stood may shown =
     let same = unique stood.value value stood.rest more stood.may may (sym stood.shown ∙ shown) in
     stood.left ∙ ap (λ rest. Some rest) same.1
 
 -- a part that is not there
-absent : {T V : Type 0} (IsIt : T → V → Type 0) (May : V → Type 0) (written : V → List ℕ) (now after : Option (List ℕ)) (fault : MergeFault) (value : V) (more : List ℕ)
-    → IsRead IsIt May written now after (Err fault) → IsOfTexts fault → May value → ¬ (now ≡ Some (written value ++ more))
+absent : {T V : Type 0} (IsIt : T → V → Type 0) (May : V → Type 0) (written : V → List ℕ)
+    (now after : Option (List ℕ)) (fault : MergeFault) (value : V) (more : List ℕ)
+    → IsRead IsIt May written now after (Err fault) → IsOfTexts fault → May value
+    → ¬ (now ≡ Some (written value ++ more))
 absent IsIt May written now after fault value more read of_texts may is =
-    (subst (λ now. IsRead IsIt May written now after (Err fault)) is read) of_texts value more may refl
+    (subst (λ now. IsRead IsIt May written now after (Err fault)) is read) of_texts value more may
+    refl
 
 abbrev EndsRead : Option (List ℕ) → Option (List ℕ) → Result (Unit {0}) MergeFault → Type 0
 EndsRead text now result = IsRead {T = Unit {0}} (λ _ _. Unit {0}) AreEnds ends_text text now result
 
 abbrev NumberRead : Option (List ℕ) → Option (List ℕ) → Result ℕ MergeFault → Type 0
-NumberRead text now result = IsRead {T = ℕ} {V = ℕ} (λ told number. told ≡ number) (λ number. number < 2 ^ 64) (head_line (codes "tokens ")) text now result
+NumberRead text now result = IsRead {T = ℕ} {V =
+    ℕ} (λ told number. told ≡ number) (λ number. number < 2 ^ 64) (head_line (codes "tokens ")) text
+    now result
 
-pub no_ends : {T : Type 0} (Is : T → ToldFront → Type 0) (text now after : Option (List ℕ)) (fault : MergeFault)
+pub no_ends : {T : Type 0} (Is : T → ToldFront → Type 0) (text now after : Option (List ℕ))
+    (fault : MergeFault)
     → EndsRead text now (Err fault) → IsRead Is MayBePart told_text text after (Err fault)
 no_ends Is None now after fault ends = tt
 no_ends Is (Some text) now after fault ends = λ of_texts told rest may shown.
     ends of_texts told.ends (behind_ends told rest) may.ends (shown ∙ told_parts told rest)
 
-pub no_totals : {T A : Type 0} (Is : T → ToldFront → Type 0) (IsA : A → Sums → Type 0) (text now then_now after : Option (List ℕ)) (fault : MergeFault)
-    → EndsRead text now (Ok tt) → IsRead IsA AreCounts totals_line now then_now (Err fault) → IsRead Is MayBePart told_text text after (Err fault)
+pub no_totals : {T A : Type 0} (Is : T → ToldFront → Type 0) (IsA : A → Sums → Type 0)
+    (text now then_now after : Option (List ℕ)) (fault : MergeFault)
+    → EndsRead text now (Ok tt) → IsRead IsA AreCounts totals_line now then_now (Err fault)
+    → IsRead Is MayBePart told_text text after (Err fault)
 no_totals Is IsA None now then_now after fault ends totals = tt
 no_totals Is IsA (Some text) now then_now after fault ends totals = λ of_texts told rest may shown.
-    absent IsA AreCounts totals_line now then_now fault told.totals (behind_totals told rest) totals of_texts may.totals
-    (behind ends_unique text now told.ends (behind_ends told rest) ends may.ends (shown ∙ told_parts told rest))
+    absent IsA AreCounts totals_line now then_now fault told.totals (behind_totals told rest) totals
+    of_texts may.totals
+    (behind ends_unique text now told.ends (behind_ends told rest) ends may.ends (shown
+    ∙ told_parts told rest))
 
 -- the text behind the ends and the totals
-behind_two : {A : Type 0} (IsA : A → Sums → Type 0) (a : A) (text : List ℕ) (now then_now : Option (List ℕ)) (told : ToldFront) (rest : List ℕ)
-    → EndsRead (Some text) now (Ok tt) → IsRead IsA AreCounts totals_line now then_now (Ok a) → MayBePart told → text ≡ told_text told ++ rest
+behind_two : {A : Type 0} (IsA : A → Sums → Type 0) (a : A) (text : List ℕ)
+    (now then_now : Option (List ℕ)) (told : ToldFront) (rest : List ℕ)
+    → EndsRead (Some text) now (Ok tt) → IsRead IsA AreCounts totals_line now then_now (Ok a)
+    → MayBePart told → text ≡ told_text told ++ rest
     → then_now ≡ Some (behind_totals told rest)
 behind_two IsA a text now then_now told rest ends totals may shown =
-    let at = behind ends_unique text now told.ends (behind_ends told rest) ends may.ends (shown ∙ told_parts told rest) in
+    let at = behind ends_unique text now told.ends (behind_ends told rest) ends may.ends (shown
+    ∙ told_parts told rest) in
     behind totals_line_unique (behind_ends told rest) then_now told.totals (behind_totals told rest)
     (subst (λ now. IsRead IsA AreCounts totals_line now then_now (Ok a)) at totals) may.totals refl
 
-pub no_validators : {T A B : Type 0} (Is : T → ToldFront → Type 0) (IsA : A → Sums → Type 0) (IsB : B → List (ℕ × Sums) → Type 0) (a : A)
+pub no_validators : {T A B : Type 0} (Is : T → ToldFront → Type 0) (IsA : A → Sums → Type 0) (IsB : B
+    → List (ℕ × Sums) → Type 0) (a : A)
     (text now then_now later after : Option (List ℕ)) (fault : MergeFault)
-    → EndsRead text now (Ok tt) → IsRead IsA AreCounts totals_line now then_now (Ok a) → IsRead IsB AreValidators validators_text then_now later (Err fault)
+    → EndsRead text now (Ok tt) → IsRead IsA AreCounts totals_line now then_now (Ok a)
+    → IsRead IsB AreValidators validators_text then_now later (Err fault)
     → IsRead Is MayBePart told_text text after (Err fault)
 no_validators Is IsA IsB a None now then_now later after fault ends totals validators = tt
-no_validators Is IsA IsB a (Some text) now then_now later after fault ends totals validators = λ of_texts told rest may shown.
-    absent IsB AreValidators validators_text then_now later fault told.validators (tokens_text told.tokens ++ rest) validators of_texts may.validators
+no_validators Is IsA IsB a (Some text) now then_now later after fault ends totals validators =
+    λ of_texts told rest may shown.
+    absent IsB AreValidators validators_text then_now later fault told.validators
+    (tokens_text told.tokens ++ rest) validators of_texts may.validators
     (behind_two IsA a text now then_now told rest ends totals may shown)
 
-pub no_tokens : {T A B : Type 0} (Is : T → ToldFront → Type 0) (IsA : A → Sums → Type 0) (IsB : B → List (ℕ × Sums) → Type 0) (a : A) (b : B)
+pub no_tokens : {T A B : Type 0} (Is : T → ToldFront → Type 0) (IsA : A → Sums → Type 0) (IsB : B
+    → List (ℕ × Sums) → Type 0) (a : A) (b : B)
     (text now then_now later last after : Option (List ℕ)) (fault : MergeFault)
-    → EndsRead text now (Ok tt) → IsRead IsA AreCounts totals_line now then_now (Ok a) → IsRead IsB AreValidators validators_text then_now later (Ok b)
+    → EndsRead text now (Ok tt) → IsRead IsA AreCounts totals_line now then_now (Ok a)
+    → IsRead IsB AreValidators validators_text then_now later (Ok b)
     → NumberRead later last (Err fault)
     → IsRead Is MayBePart told_text text after (Err fault)
 no_tokens Is IsA IsB a b None now then_now later last after fault ends totals validators tokens = tt
-no_tokens Is IsA IsB a b (Some text) now then_now later last after fault ends totals validators tokens = λ of_texts told rest may shown.
+no_tokens Is IsA IsB a b (Some text) now then_now later last after fault ends totals validators
+    tokens = λ of_texts told rest may shown.
     let at = behind_two IsA a text now then_now told rest ends totals may shown in
-    absent {T = ℕ} {V = ℕ} (λ told number. told ≡ number) (λ number. number < 2 ^ 64) (head_line (codes "tokens ")) later last fault told.tokens rest tokens of_texts may.tokens
-    (behind validators_unique (behind_totals told rest) later told.validators (tokens_text told.tokens ++ rest)
-    (subst (λ now. IsRead IsB AreValidators validators_text now later (Ok b)) at validators) may.validators refl)
+    absent {T = ℕ} {V = ℕ} (λ told number. told ≡ number) (λ number. number < 2 ^ 64)
+    (head_line (codes "tokens ")) later last fault told.tokens rest tokens of_texts may.tokens
+    (behind validators_unique (behind_totals told rest) later told.validators
+    (tokens_text told.tokens ++ rest)
+    (subst (λ now. IsRead IsB AreValidators validators_text now later (Ok b)) at validators)
+    may.validators refl)
 
 -- all parts were read
-pub whole_front : {T A B : Type 0} (Is : T → ToldFront → Type 0) (IsA : A → Sums → Type 0) (IsB : B → List (ℕ × Sums) → Type 0) (a : A) (b : B) (number : ℕ) (x : T)
+pub whole_front : {T A B : Type 0} (Is : T → ToldFront → Type 0) (IsA : A → Sums → Type 0) (IsB : B
+    → List (ℕ × Sums) → Type 0) (a : A) (b : B) (number : ℕ) (x : T)
     (text now then_now later last : Option (List ℕ))
-    → EndsRead text now (Ok tt) → IsRead IsA AreCounts totals_line now then_now (Ok a) → IsRead IsB AreValidators validators_text then_now later (Ok b)
+    → EndsRead text now (Ok tt) → IsRead IsA AreCounts totals_line now then_now (Ok a)
+    → IsRead IsB AreValidators validators_text then_now later (Ok b)
     → NumberRead later last (Ok number)
     → ((told : ToldFront) → IsA a told.totals → IsB b told.validators → number ≡ told.tokens → Is x told)
     → IsRead Is MayBePart told_text text last (Ok x)
-whole_front Is IsA IsB a b number x None now then_now later last ends totals validators tokens is = tt
-whole_front Is IsA IsB a b number x (Some text) now then_now later last ends totals validators tokens is =
-    let second = subst (λ now. IsRead IsA AreCounts totals_line now then_now (Ok a)) ends.left totals in
-    let third = subst (λ now. IsRead IsB AreValidators validators_text now later (Ok b)) second.left validators in
+whole_front Is IsA IsB a b number x None now then_now later last ends totals validators tokens is =
+    tt
+whole_front Is IsA IsB a b number x (Some text) now then_now later last ends totals validators
+    tokens is =
+    let second = subst (λ now. IsRead IsA AreCounts totals_line now then_now (Ok a)) ends.left
+    totals in
+    let third = subst (λ now. IsRead IsB AreValidators validators_text now later (Ok b)) second.left
+    validators in
     let fourth = subst (λ now. NumberRead now last (Ok number)) third.left tokens in
-    let told : ToldFront = record { ends = ends.value; totals = second.value; validators = third.value; tokens = fourth.value } in
+    let told : ToldFront = record {
+      ends = ends.value;
+      totals = second.value;
+      validators =
+          third.value;
+      tokens = fourth.value;
+    } in
     record {
       value = told;
       is = is told second.is third.is fourth.is;
-      may = record { ends = ends.may; totals = second.may; validators = third.may; tokens = fourth.may };
+      may = record {
+        ends = ends.may;
+        totals = second.may;
+        validators = third.may;
+        tokens =
+            fourth.may;
+      };
       rest = fourth.rest;
-      shown = ends.shown ∙ ap (λ text. ends_text ends.value ++ text) (second.shown ∙ ap (λ text. totals_line second.value ++ text)
-          (third.shown ∙ ap (λ text. validators_text third.value ++ text) fourth.shown)) ∙ sym (told_parts told fourth.rest);
+      shown = ends.shown ∙ ap (λ text. ends_text ends.value ++ text) (second.shown
+          ∙ ap (λ text. totals_line second.value ++ text)
+          (third.shown ∙ ap (λ text. validators_text third.value ++ text) fourth.shown))
+          ∙ sym (told_parts told fourth.rest);
       left = fourth.left;
     }

@@ -33,8 +33,8 @@ report_text report =
     front_text report.ends report.totals report.validators (length report.tokens)
     ++ flat_map token_line report.tokens
 
--- The report of a part: each of its uploads was posted, its validators rise and its tokens rise, and
--- the numbers of its lines can be those of taps.
+-- The report of a part: each of its uploads was posted, its validators rise and its tokens rise,
+-- and the numbers of its lines can be those of taps.
 pub record IsPartReport (report : Report) : Type 0 where
   pub number : length report.ends < 2 ^ 64
   pub ends : All IsUploadEnd report.ends
@@ -91,8 +91,8 @@ pub record IsWholeReport (uploads : List End) (parts : List Report) (whole : Rep
   pub tokens_moved : IsPermutation (tokens_of_reports parts) whole.tokens
   pub tokens_rise : IsStrictlySortedBy token_cmp (keys_of whole.tokens)
 
--- the text is the report of the whole, of the parts whose reports these texts are and of the uploads
--- whose ends these texts tell
+-- the text is the report of the whole, of the parts whose reports these texts are and of the
+-- uploads whose ends these texts tell
 pub record IsMerged (end_files report_files : List (List ℕ)) (text : List ℕ) : Type 0 where
   pub ends : List (List End)
   pub parts : List Report

@@ -47,8 +47,8 @@ pub(crate) fn next_end<R: BufRead + Drop>(
     reading: &mut Reading<R>,
     upload: u64,
 ) -> Result<End, MergeFault>
-    ensures read { IsRead (λ end told. end_of_upload end ≡ told) IsUploadEnd (end_line upload) (R.remaining reading.old.from)
-        (R.remaining reading.new.from) result }
+    ensures read { IsRead (λ end told. end_of_upload end ≡ told) IsUploadEnd (end_line upload)
+        (R.remaining reading.old.from) (R.remaining reading.new.from) result }
     ensures other { IfErr result (λ fault. ¬ (IsOfTaps fault)) }
 {
     reading.next()?;
@@ -57,8 +57,8 @@ pub(crate) fn next_end<R: BufRead + Drop>(
 
 /// Reads the line of totals.
 fn next_totals<R: BufRead + Drop>(reading: &mut Reading<R>) -> Result<Totals, MergeFault>
-    ensures read { IsRead (λ totals told. sums_of totals ≡ told) AreCounts totals_line (R.remaining reading.old.from)
-        (R.remaining reading.new.from) result }
+    ensures read { IsRead (λ totals told. sums_of totals ≡ told) AreCounts totals_line
+        (R.remaining reading.old.from) (R.remaining reading.new.from) result }
     ensures other { IfErr result (λ fault. ¬ (IsOfTaps fault)) }
 {
     reading.next()?;

@@ -1,5 +1,5 @@
 -- How the uploads of the whole ended, as it is read text by text.
-use Rattle.std.specs.Prelude.{◌≡◌, ℕ, ◌+◌, ◌↔◌, List, [], ◌∷◌, ◌++◌, Option, Some, None, Result, Ok, Err}
+use Rattle.std.specs.Prelude.{◌≡◌, ℕ, ◌+◌, ◌↔◌, List, [], ◌++◌, Option, Some, None, Result, Ok, Err}
 use Rattle.std.specs.Prelude.{All, IsTrue, length, sum_by, ⊤}
 use Rattle.part_reports.specs.declared.fault.MergeFault.{MergeFault}
 use Rattle.part_reports.specs.declared.form as form
@@ -7,7 +7,6 @@ use Rattle.part_reports.specs.declared.told.Ends.{Ends}
 use Rattle.part_reports.specs.Faults.{IsOfTexts}
 use Rattle.part_reports.specs.Lines.{End, IsUploadEnd, end_line, end_lines}
 use Rattle.part_reports.specs.inside.Ended.{end_of_upload}
-use Rattle.part_reports.specs.inside.Reading.{Stood}
 
 -- these uploads were read
 pub record Have (ends : Ends) (list : List End) : Type 0 where

@@ -1,5 +1,5 @@
 -- The reports of parts, each read up to the line of its first token.
-use Rattle.std.specs.Prelude.{◌≡◌, ℕ, ◌+◌, List, [], ◌∷◌, ◌++◌, Option, Some, None, All, map}
+use Rattle.std.specs.Prelude.{◌≡◌, ℕ, List, [], ◌∷◌, ◌++◌, All, map}
 use Rattle.std.specs.List.{AllZip}
 use Rattle.part_reports.specs.declared.merging.Lines.{Lines}
 use Rattle.part_reports.specs.declared.merging.Lines.TheVariants.{Tokens}

@@ -13,8 +13,10 @@ loop-preserved g c =
     let now = g.R.Read.remaining c.loop.lines.from in
     let new = g.R.Read.remaining c.next_end.new.lines.from in
     let items = c.next_end.new.lines.line.items in
-    let next = subst (λ told. IsNextEnd c.loop.ends.uploads now new items (Ok told)) c.in-Some.is c.in_ok-end.ensures.next in
-    adding_more c.args.ends.now c.loop.ends c.add.new.ends old now new c.line.result.now items c.in-Some.end c.line.ensures c.loop.invariant next
+    let next = subst (λ told. IsNextEnd c.loop.ends.uploads now new items (Ok told)) c.in-Some.is
+    c.in_ok-end.ensures.next in
+    adding_more c.args.ends.now c.loop.ends c.add.new.ends old now new c.line.result.now items
+    c.in-Some.end c.line.ensures c.loop.invariant next
     (record {
       text = c.in_ok-add-in-Some.ensures.text;
       uploads = c.in_ok-add-in-Some.ensures.uploads;
@@ -28,4 +30,6 @@ returns-in_err-end-clause-added g c =
     let now = g.R.Read.remaining c.loop.lines.from in
     let new = g.R.Read.remaining c.next_end.new.lines.from in
     let p = err_from_is_err_and c.from_residual.result c.from_residual.ensures.1 in
-    rw (p.1, p.2) (adding_refused c.args.ends.now c.loop.ends c.loop.ends old now new c.next_end.new.lines.line.items c.in_err-end.field-0.0 c.loop.invariant c.in_err-end.ensures.next)
+    rw (p.1, p.2) (adding_refused c.args.ends.now c.loop.ends c.loop.ends old now new
+    c.next_end.new.lines.line.items c.in_err-end.field-0.0 c.loop.invariant
+    c.in_err-end.ensures.next)

@@ -1,4 +1,4 @@
-use Rattle.std.proofs.Common.{ℕ, ◌<◌, ◌^◌, arith}
+use Rattle.std.proofs.Common.{◌<◌, ◌^◌, arith}
 use Rattle.part_reports.specs.Lines.{IsUploadEnd, end_line}
 use Rattle.part_reports.specs.inside.Ended.{end_of_upload}
 use Rattle.part_reports.proofs.LinesRead.{read_line}
@@ -8,5 +8,9 @@ use Rattle.part_reports.proofs.front.next_end.Goals as goal
 pub returns-clause-read : goal.returns-clause-read
 returns-clause-read g c =
     let small : c.args.upload < 2 ^ 64 = omega arith in
-    read_line end_of_upload IsUploadEnd (end_line c.args.upload) (λ end is. end_line_is_one c.args.upload end small is) (g.R.Read.remaining c.args.reading.now.from) (g.R.Read.remaining c.next.new.self.from) c.next.new.self.line.items c.line.result.now c.end_of.result c.told.result
-    c.in_ok-next.ensures.line c.line.ensures c.end_of.ensures c.told.ensures.value c.told.ensures.none
+    read_line end_of_upload IsUploadEnd (end_line c.args.upload)
+    (λ end is. end_line_is_one c.args.upload end small is)
+    (g.R.Read.remaining c.args.reading.now.from) (g.R.Read.remaining c.next.new.self.from)
+    c.next.new.self.line.items c.line.result.now c.end_of.result c.told.result
+    c.in_ok-next.ensures.line c.line.ensures c.end_of.ensures c.told.ensures.value
+    c.told.ensures.none

@@ -1,9 +1,7 @@
-use Rattle.std.proofs.Common.{◌≡◌, List, ◌++◌, Some, length}
 use Rattle.std.specs.Prelude.{IfSome}
-use Rattle.part_reports.specs.Lines.{end_lines}
-use Rattle.part_reports.specs.inside.Fronts.{AreSoManyPosted}
 use Rattle.part_reports.proofs.FrontsRead.{Posted}
 use Rattle.part_reports.proofs.front.read_posted.Given as goal
 
 abbrev pub invariant-loop-upload : goal.invariant-loop-upload
-invariant-loop-upload g l = IfSome (g.R.Read.remaining l.fn.reading.from) (λ text. Posted l.upload text (g.R.Read.remaining l.reading.from))
+invariant-loop-upload g l = IfSome (g.R.Read.remaining l.fn.reading.from)
+    (λ text. Posted l.upload text (g.R.Read.remaining l.reading.from))

@@ -1,4 +1,4 @@
-use Rattle.std.proofs.Common.{◌≡◌, ℕ, List, refl, sym, subst, arith, Global}
+use Rattle.std.proofs.Common.{ℕ, List, refl, sym, subst, arith, Global}
 use Rattle.std.specs.Prelude.{map}
 use Rattle.std.specs.declared.vec.Vec.{Vec}
 use Rattle.std.proofs.lemmas.Result.{err_from_is_err_and}
@@ -6,14 +6,16 @@ use Rattle.shard_book.specs.Sums.{Sums}
 use Rattle.shard_book.specs.Shown.{validator_sum}
 use Rattle.shard_book.specs.declared.sums.ValidatorSum.{ValidatorSum}
 use Rattle.part_reports.specs.inside.Fronts.{AreSums, MayFollowValidators}
-use Rattle.part_reports.proofs.RisingRead.{rising_done, rising_first, rising_more, rising_no_line, rising_not}
+use Rattle.part_reports.proofs.RisingRead.{rising_done, rising_first, rising_more, rising_no_line}
+use Rattle.part_reports.proofs.RisingRead.{rising_not}
 use Rattle.part_reports.proofs.front.read_rising.Goals as goal
 
 abbrev Is : Vec ValidatorSum Global → List (ℕ × Sums) → Type 0
 Is sums told = AreSums sums.items told
 
 pub loop-init : goal.loop-init
-loop-init g c = rising_first c.new-sums.result.items (g.R.Read.remaining c.args.reading.now.from) c.new-sums.ensures.items
+loop-init g c = rising_first c.new-sums.result.items (g.R.Read.remaining c.args.reading.now.from)
+    c.new-sums.ensures.items
 
 pub returns-in_err-sum-clause-read : goal.returns-in_err-sum-clause-read
 returns-in_err-sum-clause-read g c =
@@ -21,7 +23,8 @@ returns-in_err-sum-clause-read g c =
     let now = g.R.Read.remaining c.loop.reading.from in
     let new = g.R.Read.remaining c.next_validator.new.reading.from in
     let p = err_from_is_err_and c.from_residual.result c.from_residual.ensures.1 in
-    rw (p.1, p.2) (rising_no_line Is c.args.number c.loop.counter c.loop.sums.items old now new c.in_err-sum.field-0.0 c.loop-test.true c.loop.invariant c.in_err-sum.ensures.read)
+    rw (p.1, p.2) (rising_no_line Is c.args.number c.loop.counter c.loop.sums.items old now new
+    c.in_err-sum.field-0.0 c.loop-test.true c.loop.invariant c.in_err-sum.ensures.read)
 
 pub returns-then-not-may_follow-clause-read : goal.returns-then-not-may_follow-clause-read
 returns-then-not-may_follow-clause-read g c =
@@ -30,9 +33,11 @@ returns-then-not-may_follow-clause-read g c =
     let new = g.R.Read.remaining c.next_validator.new.reading.from in
     let at = c.deref.ensures.value in
     let no = c.if-not-may_follow.true in
-    rising_not Is c.args.number c.loop.counter c.loop.sums.items c.in_ok-sum.sum old now new c.fault.result c.loop-test.true c.loop.invariant c.in_ok-sum.ensures.read
+    rising_not Is c.args.number c.loop.counter c.loop.sums.items c.in_ok-sum.sum old now new
+    c.fault.result c.loop-test.true c.loop.invariant c.in_ok-sum.ensures.read
     (λ follow.
-    let yes = c.may_follow.ensures.1 (subst (λ sums. MayFollowValidators (map validator_sum sums) c.in_ok-sum.sum.validator) (sym at) follow) in
+    let yes = c.may_follow.ensures.1 (subst (λ sums. MayFollowValidators (map validator_sum sums)
+    c.in_ok-sum.sum.validator) (sym at) follow) in
     absurd (cc (yes, no)))
 
 pub loop-preserved : goal.loop-preserved
@@ -40,11 +45,14 @@ loop-preserved g c =
     let old = g.R.Read.remaining c.args.reading.now.from in
     let now = g.R.Read.remaining c.loop.reading.from in
     let new = g.R.Read.remaining c.next_validator.new.reading.from in
-    rising_more c.loop.counter c.loop.sums.items c.push.new.self.items c.in_ok-sum.sum old now new c.in_ok-push.ensures.items c.loop.invariant c.in_ok-sum.ensures.read
-    (subst (λ sums. MayFollowValidators (map validator_sum sums) c.in_ok-sum.sum.validator) c.deref.ensures.value (c.may_follow.ensures.0 c.if-not-may_follow.false))
+    rising_more c.loop.counter c.loop.sums.items c.push.new.self.items c.in_ok-sum.sum old now new
+    c.in_ok-push.ensures.items c.loop.invariant c.in_ok-sum.ensures.read
+    (subst (λ sums. MayFollowValidators (map validator_sum sums) c.in_ok-sum.sum.validator)
+    c.deref.ensures.value (c.may_follow.ensures.0 c.if-not-may_follow.false))
 
 pub returns-clause-read : goal.returns-clause-read
 returns-clause-read g c =
     let old = g.R.Read.remaining c.args.reading.now.from in
     let now = g.R.Read.remaining c.loop.reading.from in
-    rising_done Is c.args.number c.loop.counter c.loop.sums.items old now c.loop.sums (omega arith) refl c.loop.invariant
+    rising_done Is c.args.number c.loop.counter c.loop.sums.items old now c.loop.sums (omega arith)
+    refl c.loop.invariant

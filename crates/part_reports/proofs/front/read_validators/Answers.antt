@@ -1,9 +1,7 @@
 use Rattle.std.proofs.Common.{ℕ, List, codes, length}
 use Rattle.std.specs.Prelude.{flat_map}
-use Rattle.std.specs.declared.vec.Vec.{Vec}
 use Rattle.std.proofs.lemmas.Result.{err_from_is_err_and}
 use Rattle.shard_book.specs.Sums.{Sums}
-use Rattle.shard_book.specs.declared.sums.ValidatorSum.{ValidatorSum}
 use Rattle.part_reports.specs.Lines.{validator_line}
 use Rattle.part_reports.specs.inside.Fronts.{AreRising, AreSums, AreValidators}
 use Rattle.part_reports.proofs.Counted.{Counting, counted, counted_no_head}
@@ -22,11 +20,16 @@ returns-in_err-number-clause-read g c =
     let old = g.R.Read.remaining c.args.reading.now.from in
     let now = g.R.Read.remaining c.next_validators.new.reading.from in
     let p = err_from_is_err_and c.from_residual.result c.from_residual.ensures.1 in
-    rw (p.1, p.2) (counted_no_head (λ sums told. AreSums sums.items told) AreRising AreValidators (λ (sums : List (ℕ × Sums)). length sums) (codes "validators ") (flat_map validator_line) counting old now now c.in_err-number.field-0.0 c.in_err-number.ensures.read)
+    rw (p.1, p.2) (counted_no_head (λ sums told. AreSums sums.items told) AreRising AreValidators
+    (λ (sums : List (ℕ × Sums)). length sums) (codes "validators ") (flat_map validator_line)
+    counting old now now c.in_err-number.field-0.0 c.in_err-number.ensures.read)
 
 pub returns-clause-read : goal.returns-clause-read
 returns-clause-read g c =
     let old = g.R.Read.remaining c.args.reading.now.from in
     let now = g.R.Read.remaining c.next_validators.new.reading.from in
     let after = g.R.Read.remaining c.read_rising.new.reading.from in
-    counted (λ sums told. AreSums sums.items told) AreRising AreValidators (λ (sums : List (ℕ × Sums)). length sums) (codes "validators ") (flat_map validator_line) counting old now after c.in_ok-number.number c.read_rising.result c.in_ok-number.ensures.read c.read_rising.ensures.read
+    counted (λ sums told. AreSums sums.items told) AreRising AreValidators
+    (λ (sums : List (ℕ × Sums)). length sums) (codes "validators ") (flat_map validator_line)
+    counting old now after c.in_ok-number.number c.read_rising.result
+    c.in_ok-number.ensures.read c.read_rising.ensures.read

@@ -1,4 +1,4 @@
-use Rattle.std.proofs.Common.{◌≡◌, ◌++◌, ◌∷◌, [], ap, refl, rules, subst, ◌∙◌, ◌≤◌, arith, length, map}
+use Rattle.std.proofs.Common.{◌∷◌, [], ap, refl, rules, subst, ◌∙◌, ◌≤◌, arith, length, map}
 use Rattle.std.proofs.lemmas.List.{map-append, take_all}
 use Rattle.std.proofs.lemmas.Iterator.Adapters.{YieldsList-from_vec}
 use Rattle.std.proofs.lemmas.Iterator.Consumers.{YieldsList-end, YieldsList-turn}
@@ -11,7 +11,8 @@ use Rattle.part_reports.proofs.reports.read_parts.Goals as goal
 
 pub loop-from-init : goal.loop-from-init
 loop-from-init g c = record {
-  read = begun_none g.R.Read.remaining c.no_sums-sums.result (map (standing g.R.Read.remaining) c.new-sources.result.items) c.no_sums-sums.ensures
+  read = begun_none g.R.Read.remaining c.no_sums-sums.result
+      (map (standing g.R.Read.remaining) c.new-sources.result.items) c.no_sums-sums.ensures
       (ap (map (standing g.R.Read.remaining)) c.new-sources.ensures.items);
   front = refl;
 }
@@ -20,29 +21,43 @@ pub loop-from-preserved : goal.loop-from-preserved
 loop-from-preserved g c =
     let items = c.args.texts.items in
     let all = YieldsList-from_vec items (search rules) (search rules) in
-    let turn = YieldsList-turn all c.loop-from.yielded c.loop-from.from-iterator c.loop-from.yielded_by c.next.result c.next.new.self c.in-Some.from c.in-Some.is c.next.ensures.steps in
+    let turn = YieldsList-turn all c.loop-from.yielded c.loop-from.from-iterator
+    c.loop-from.yielded_by c.next.result c.next.new.self c.in-Some.from c.in-Some.is
+    c.next.ensures.steps in
     let source = c.in_ok-source.source in
     record {
-      read = begun_more g.R.Read.remaining c.loop-from.yielded c.in-Some.from c.loop-from.sums c.read_part.new.sums
-          (map (standing g.R.Read.remaining) c.loop-from.sources.items) (map (standing g.R.Read.remaining) c.push.new.self.items) (standing g.R.Read.remaining source)
-          (ap (map (standing g.R.Read.remaining)) c.in_ok-push.ensures.items ∙ map-append (standing g.R.Read.remaining) c.loop-from.sources.items (source ∷ []))
+      read = begun_more g.R.Read.remaining c.loop-from.yielded c.in-Some.from c.loop-from.sums
+          c.read_part.new.sums
+          (map (standing g.R.Read.remaining) c.loop-from.sources.items)
+          (map (standing g.R.Read.remaining) c.push.new.self.items)
+          (standing g.R.Read.remaining source)
+          (ap (map (standing g.R.Read.remaining)) c.in_ok-push.ensures.items
+          ∙ map-append (standing g.R.Read.remaining) c.loop-from.sources.items (source ∷ []))
           c.loop-from.invariant.read c.in_ok-source.ensures.read;
-      front = front_more items c.loop-from.yielded c.in-Some.from c.loop-from.invariant.front turn.0 turn.1;
+      front = front_more items c.loop-from.yielded c.in-Some.from c.loop-from.invariant.front turn.0
+          turn.1;
     }
 
 pub returns-in_err-source-clause-refused : goal.returns-in_err-source-clause-refused
 returns-in_err-source-clause-refused g c =
     let items = c.args.texts.items in
     let all = YieldsList-from_vec items (search rules) (search rules) in
-    let turn = YieldsList-turn all c.loop-from.yielded c.loop-from.from-iterator c.loop-from.yielded_by c.next.result c.next.new.self c.in-Some.from c.in-Some.is c.next.ensures.steps in
+    let turn = YieldsList-turn all c.loop-from.yielded c.loop-from.from-iterator
+    c.loop-from.yielded_by c.next.result c.next.new.self c.in-Some.from c.in-Some.is
+    c.next.ensures.steps in
     let p = err_from_is_err_and c.from_residual.result c.from_residual.ensures.1 in
-    rw (p.1, p.2) (λ of_texts. parts_refused g.R.Read.remaining items c.loop-from.yielded c.in-Some.from c.loop-from.sums (map (standing g.R.Read.remaining) c.loop-from.sources.items)
-    c.loop-from.invariant.front turn.0 turn.1 c.loop-from.invariant.read (c.in_err-source.ensures.refused of_texts))
+    rw (p.1, p.2) (λ of_texts. parts_refused g.R.Read.remaining items c.loop-from.yielded
+    c.in-Some.from c.loop-from.sums (map (standing g.R.Read.remaining) c.loop-from.sources.items)
+    c.loop-from.invariant.front turn.0 turn.1 c.loop-from.invariant.read
+    (c.in_err-source.ensures.refused of_texts))
 
 pub returns-clause-read : goal.returns-clause-read
 returns-clause-read g c =
     let items = c.args.texts.items in
     let all = YieldsList-from_vec items (search rules) (search rules) in
-    let end = YieldsList-end all c.loop-from.yielded c.loop-from.from-iterator c.loop-from.yielded_by c.next.result c.next.new.self c.in-None.is c.next.ensures.steps in
+    let end = YieldsList-end all c.loop-from.yielded c.loop-from.from-iterator
+    c.loop-from.yielded_by c.next.result c.next.new.self c.in-None.is c.next.ensures.steps in
     let size : length items ≤ length c.loop-from.yielded = omega (arith, end.1) in
-    subst (λ readers. BegunSo g.R.Read.remaining readers c.loop-from.sums (map (standing g.R.Read.remaining) c.loop-from.sources.items)) (c.loop-from.invariant.front ∙ take_all (length c.loop-from.yielded) items size) c.loop-from.invariant.read
+    subst (λ readers. BegunSo g.R.Read.remaining readers c.loop-from.sums
+    (map (standing g.R.Read.remaining) c.loop-from.sources.items)) (c.loop-from.invariant.front
+    ∙ take_all (length c.loop-from.yielded) items size) c.loop-from.invariant.read

@@ -1,9 +1,22 @@
-use Rattle.std.proofs.Common.{◌≡◌, ap, map, rules, sym, ◌∙◌, ◌++◌}
-use Rattle.part_reports.proofs.FrontWritten.{shown, shown_more}
+use Rattle.std.proofs.Common.{◌≡◌, ap, map, rules, ◌∙◌, ◌++◌}
+use Rattle.std.specs.Prelude.{flat_map}
+use Rattle.std.specs.String.{string_bytes}
+use Rattle.std.specs.Map.Iter.{deref_pair}
+use Rattle.std.proofs.lemmas.Map.Iter.{iter_end}
+use Rattle.part_reports.specs.Lines.{validator_line}
+use Rattle.part_reports.proofs.FrontWritten.{line_written, shown}
 use Rattle.part_reports.proofs.reports.write_validators.Goals as goal
 
 pub loop-validator-preserved : goal.loop-validator-preserved
-loop-validator-preserved c = ?
+loop-validator-preserved c =
+    line_written (string_bytes c.args.text.now) (string_bytes c.loop-validator.text)
+    (string_bytes c.write.new.self) (string_bytes c.write_counts.new.text)
+    c.loop-validator.yielded c.in-Some.validator c.in-Some.totals c.loop-validator.invariant
+    c.in_ok-write.ensures.bytes c.in_ok-write_counts.ensures
 
 pub returns-clause-text : goal.returns-clause-text
-returns-clause-text c = ?
+returns-clause-text c =
+    let all : map deref_pair c.loop-validator.yielded ≡ c.args.validators.now.entries =
+    search (rules, iter_end) in
+    c.loop-validator.invariant ∙ ap (λ entries. string_bytes c.args.text.now ++ flat_map
+    validator_line (shown entries)) all

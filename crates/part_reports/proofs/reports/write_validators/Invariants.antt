@@ -7,4 +7,5 @@ use Rattle.part_reports.proofs.FrontWritten.{shown}
 use Rattle.part_reports.proofs.reports.write_validators.Given as goal
 
 abbrev pub invariant-loop-validator : goal.invariant-loop-validator
-invariant-loop-validator l = string_bytes l.text ≡ string_bytes l.fn.text ++ flat_map validator_line (shown (map deref_pair l.yielded))
+invariant-loop-validator l = string_bytes l.text ≡ string_bytes l.fn.text ++ flat_map validator_line
+    (shown (map deref_pair l.yielded))
