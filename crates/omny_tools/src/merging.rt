@@ -1,10 +1,11 @@
 //! `merge` and `merge-ledgers`.
 
 use crate::fault::Fault;
-use crate::input::{Opened, open_in_pieces};
+use crate::input::open_in_pieces;
 use crate::names::Name;
 use crate::output::Output;
 use part_reports::MergeFault;
+use program_manners::Opened;
 use std::io::{BufReader, Write};
 
 /// What `merge` is asked for.
