@@ -1,4 +1,11 @@
+mod FieldsFit
+mod MergedTexts
 mod Merging
+mod PartSums
+mod ReportTexts
 mod SplitFiles
+mod SumsFit
+mod TokenMoves
 mod Tokens
 mod Validators
+mod Wholes

@@ -78,7 +78,7 @@ same_rising cmp law xs ys moved =
       same = λ key. is.same key ∙ list_any-IsPermutation (eq_by_cmp cmp key) xs ys moved;
     })
 
-token_itself : (token : Token) → token_eq token token ≡ true
+pub token_itself : (token : Token) → token_eq token token ≡ true
 token_itself token = grind (arith, nat_tests)
 
 pub same_entries : (xs ys : List Entry) → ((token : Token) → own token xs ≡ own token ys)
@@ -272,6 +272,23 @@ module _ (fares : Fares) (uploads : List (List ℕ)) (history : List Entry) (par
       ∙ same_plain fares token mine split.settled.order all
       ∙ ap (own token) (sym split.settled.entries)
 
+  -- the other parts have no entries of the token
+  pub own_elsewhere : (token : Token) (other : ℕ) (p : Part) → slice_get parts other ≡ Some p
+      → other ≢ part_of_token (bytes_of token) (length parts) → own token p.history ≡ []
+  own_elsewhere token other p is apart =
+      none_bare (own token p.history) (part_bare token other p is
+      ∙ by_test (eqb_tells (part_of_token (bytes_of token) (length parts)) other))
+    where
+      by_test : (((part_of_token (bytes_of token) (length parts) == other) ≡ true)
+          × (part_of_token (bytes_of token) (length parts) ≡ other))
+          ⊎ (((part_of_token (bytes_of token) (length parts) == other) ≡ false)
+          × (part_of_token (bytes_of token) (length parts) ≢ other))
+          → cond (part_of_token (bytes_of token) (length parts) == other)
+          (own token (map unanswered split.settled.order)) [] ≡ []
+      by_test (inl (is, same)) = absurd (apart (sym same))
+      by_test (inr (is, differ)) =
+          ap (λ b. cond b (own token (map unanswered split.settled.order)) []) is
+
   pub own_all : (token : Token) → own token (entries_of_parts parts) ≡ own token history
   own_all token =
       let number = part_of_token (bytes_of token) (length parts) in
@@ -295,18 +312,7 @@ module _ (fares : Fares) (uploads : List (List ℕ)) (history : List Entry) (par
           → other ≢ part_of_token (bytes_of token) (length parts) → es ≡ []
       elsewhere other es there apart =
           let (p, is, same) = mapped_at (λ q. own token q.history) parts other es there in
-          same ∙ none_bare (own token p.history) (part_bare token other p is
-          ∙ by_test (eqb_tells (part_of_token (bytes_of token) (length parts)) other))
-        where
-          by_test : (((part_of_token (bytes_of token) (length parts) == other) ≡ true)
-              × (part_of_token (bytes_of token) (length parts) ≡ other))
-              ⊎ (((part_of_token (bytes_of token) (length parts) == other) ≡ false)
-              × (part_of_token (bytes_of token) (length parts) ≢ other))
-              → cond (part_of_token (bytes_of token) (length parts) == other)
-              (own token (map unanswered split.settled.order)) [] ≡ []
-          by_test (inl (is, same)) = absurd (apart (sym same))
-          by_test (inr (is, differ)) =
-              ap (λ b. cond b (own token (map unanswered split.settled.order)) []) is
+          same ∙ own_elsewhere token other p is apart
 
   pub merged : RisingNumbers → RisingTokens
       → (sums (entries_of_parts parts) ≡ sums history)

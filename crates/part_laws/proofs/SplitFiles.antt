@@ -5,7 +5,7 @@ use Rattle.std.specs.List.{AllZip}
 use Rattle.std.specs.List.Sorted.{IsPermutation}
 use Rattle.std.proofs.lemmas.List.{map-append}
 use Rattle.std.proofs.lemmas.List.Concat.{flat_map-append}
-use Rattle.std.proofs.lemmas.List.Elements.{All-head, All-tail, filter-append}
+use Rattle.std.proofs.lemmas.List.Elements.{All-cons, All-head, All-nil, All-tail, filter-append}
 use Rattle.std.proofs.lemmas.List.Sorted.{IsPermutation-append, IsPermutation-refl}
 use Rattle.tap_views.specs.Encoding.{fields_of}
 use Rattle.tap_views.specs.Layout.{Tap}
@@ -15,6 +15,7 @@ use Rattle.upload_parts.specs.Split.{HasTaps, IsSplitFile}
 use Rattle.fare_service.specs.Plain.{AreTapsOf, AreTapsOfEach, HasOneCut}
 use Rattle.fare_service.proofs.PlainRuns.{AllZip-append}
 use Rattle.tap_parts.specs.Parts.{uploads_joined}
+use Rattle.part_laws.specs.Files.{HasNoFault}
 use Rattle.settlement.proofs.Histories.{read_fields}
 use Rattle.settlement.proofs.Same.{one_list}
 
@@ -112,3 +113,18 @@ module _ (number parts : ℕ) where
       let same = one_list uploads k.taps taps cuts (subst E (sym whole) k.each) each in
       subst (λ ts. IsPermutation (map fields_of (of_part number parts (uploads_joined ts)))
       (map fields_of (uploads_joined list))) same (k.own list file_cuts is)
+
+-- the files of a part are batches alone
+pub none_faulty : (number parts : ℕ) (groups : List (List (List ℕ))) (files : List (List ℕ))
+    → All HasOneCut files
+    → AllZip (λ group file. IsSplitFile group parts number file) groups files
+    → All HasNoFault files
+none_faulty number parts [] [] cuts zip = All-nil HasNoFault
+none_faulty number parts [] (file ∷ files) cuts zip = absurd zip
+none_faulty number parts (group ∷ groups) [] cuts zip = absurd zip
+none_faulty number parts (group ∷ groups) (file ∷ files) cuts zip =
+    let reads = zip.0.reads in
+    All-cons HasNoFault file files
+    (λ batches rest is. sym (All-head HasOneCut file files cuts reads.batches batches [] rest
+    reads.is_file is).1)
+    (none_faulty number parts groups files (All-tail HasOneCut file files cuts) zip.1)

@@ -31,7 +31,7 @@ use Rattle.part_laws.proofs.Merging.{IsName, RisingTokens, same_entries, own_all
 use Rattle.part_laws.proofs.Merging.{part_bare_all}
 
 -- what holds of all keys holds of them in their order
-all_rising : {K : Type 0} (cmp : K → K → Ordering) (P : K → Type 0) (keys : List K) → All P keys
+pub all_rising : {K : Type 0} (cmp : K → K → Ordering) (P : K → Type 0) (keys : List K) → All P keys
     → All P (rising cmp keys)
 unfolding rising
 all_rising cmp P [] all = All-nil P
@@ -74,7 +74,7 @@ keys-append : (xs ys : List (Token × Sums)) → keys_of (xs ++ ys) ≡ keys_of 
 keys-append [] ys = refl
 keys-append (x ∷ xs) ys = ap (λ ts. x.0 ∷ ts) (keys-append xs ys)
 
-keys-map : (f : Token → Sums) (ts : List Token) → keys_of (map (λ t. (t, f t)) ts) ≡ ts
+pub keys-map : (f : Token → Sums) (ts : List Token) → keys_of (map (λ t. (t, f t)) ts) ≡ ts
 keys-map f [] = refl
 keys-map f (t ∷ ts) = ap (λ more. t ∷ more) (keys-map f ts)
 

@@ -49,7 +49,7 @@ module _ (fares : Fares) (uploads : List (List ℕ)) (history : List Entry) (par
       ∙ same_sums (entries_of_parts parts) history
       (same_entries (entries_of_parts parts) history (own_all fares uploads history parts split))
 
-  at_history : (v : ℕ) → sums_at v parts ≡ sums (at v history)
+  pub at_history : (v : ℕ) → sums_at v parts ≡ sums (at v history)
   at_history v =
       sym (added_at law v parts) ∙ same_sums (at v (entries_of_parts parts)) (at v history)
       (same_entries (at v (entries_of_parts parts)) (at v history)

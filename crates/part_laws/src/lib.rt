@@ -2,7 +2,7 @@
 //! reports stands.
 #![tactic(auto)]
 
-ghost use Rattle.std.specs.Prelude.{◌≡◌, ℕ, List, Some, slice_get, length, map, flat_map};
+ghost use Rattle.std.specs.Prelude.{◌≡◌, ℕ, List, All, Some, slice_get, length, map, flat_map};
 ghost use Rattle.std.specs.List.{AllZip};
 ghost use Rattle.tap_views.specs.Layout.{Tap};
 ghost use Rattle.fare_table.specs.Fares.{Fares};
@@ -12,17 +12,21 @@ ghost use Rattle.shard_book.specs.Entry.{own};
 ghost use Rattle.shard_book.specs.Groups.{sums_by_token, sums_by_validator};
 ghost use Rattle.shard_book.specs.Sums.{Sums, add_all, sums};
 ghost use Rattle.fare_table.specs.Token.{bytes_of};
-ghost use Rattle.fare_service.specs.Plain.{ArePlainEnds, AreTapsOfEach, IsReportOver};
-ghost use Rattle.fare_service.specs.Text.{report};
+ghost use Rattle.fare_service.specs.Plain.{ArePlainEnds, AreTapsOfEach, HasOneCut, IsReportOver};
+ghost use Rattle.fare_service.specs.Text.{report, upload_lines};
 ghost use Rattle.fare_service.specs.declared.upload_end.UploadEnd.{UploadEnd};
 ghost use Rattle.tap_parts.specs.Parts.{part_of_token};
 ghost use Rattle.settlement.specs.Settled.{IsSettledHistory};
 ghost use Rattle.tap_parts.specs.Parts.{uploads_joined};
 ghost use Rattle.upload_parts.specs.Split.{IsSplitFile};
+ghost use Rattle.part_reports.specs.Reports.{IsMerged};
+ghost use Rattle.part_laws.specs.Files.{HasNoFault, ends_texts};
+ghost use Rattle.part_laws.specs.Sizes.{CanBeWritten, HasSize};
 ghost use Rattle.part_laws.specs.Split.{AreTokensOf, AreValidatorsOf, IsPartOf, IsSplit, Part};
 ghost use Rattle.part_laws.specs.Split.{entries_of_parts, part_of};
 
 use fare_service::laws::cuts;
+use part_reports::laws::texts_differ;
 use shard_book::laws::{rising, sums as adding};
 
 /// Uploads were split in groups, each into the same number of parts. The files that one part has of
@@ -39,6 +43,16 @@ pub fn split_part(uploads: &[Vec<u8>], files: &[Vec<u8>])
         (part_of (map (λ file. file.items) files.now) history) }
 {
     cuts(uploads);
+    cuts(files);
+}
+
+/// The files that a split makes of one part have no layout fault.
+pub fn no_faults(files: &[Vec<u8>])
+    ensures { (groups : List (List (List ℕ))) (number parts : ℕ)
+        → AllZip (λ group file. IsSplitFile group parts number file) groups
+        (map (λ file. file.items) files.now)
+        → All HasNoFault (map (λ file. file.items) files.now) }
+{
     cuts(files);
 }
 
@@ -98,4 +112,40 @@ pub fn merged_report()
 {
     merged_sums();
     merged_tokens();
+}
+
+/// Each part's file is the report of the part's settled history, and the ends' files tell how the
+/// uploads ended. Whatever is merged of these files is the report of the uploads' settled history.
+/// The files of uploads and of parts have sizes, and the parts have sums, of 64 bits.
+pub fn merged_text()
+    ensures { (fares : Fares) (uploads : List (List ℕ)) (history : List Entry)
+        (parts : List Part) → IsSplit fares uploads history parts
+        → (ends : List UploadEnd) → ArePlainEnds uploads ends
+        → All HasSize uploads → All CanBeWritten parts
+        → (end_files report_files : List (List ℕ))
+        → flat_map (λ file. file) end_files ≡ upload_lines 0 ends
+        → AllZip (λ part file. IsReportOver part.files part.history file) parts report_files
+        → (text : List ℕ) → IsMerged end_files report_files text
+        → IsReportOver uploads history text }
+{
+    texts_differ();
+    rising();
+    merged_report();
+}
+
+/// Each part's files have no layout fault, and its report file is the report of its settled history.
+/// The ends' files have the lines of the uploads' ends, each some whole lines. Such files can be
+/// merged. An upload has one cut into batches, which `fare_service::laws::cuts` tells of any bytes.
+pub fn can_be_merged()
+    ensures { (fares : Fares) (uploads : List (List ℕ)) (history : List Entry)
+        (parts : List Part) → IsSplit fares uploads history parts
+        → (lists : List (List UploadEnd)) → ArePlainEnds uploads (flat_map (λ some. some) lists)
+        → All HasSize uploads → All HasOneCut uploads → All CanBeWritten parts
+        → All (λ part. All HasNoFault part.files) parts
+        → (report_files : List (List ℕ))
+        → AllZip (λ part file. IsReportOver part.files part.history file) parts report_files
+        → (text : List ℕ) × IsMerged (ends_texts 0 lists) report_files text }
+{
+    adding();
+    rising();
 }

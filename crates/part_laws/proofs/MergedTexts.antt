@@ -1,0 +1,247 @@
+-- What is merged of the parts' reports is the report of the whole.
+use Rattle.std.specs.Prelude.{◌≡◌, ℕ, ◌+◌, List, [], ◌∷◌, ◌++◌, length, map, flat_map}
+use Rattle.std.specs.Prelude.{All, Some, slice_get, suc, ◌<◌, ◌^◌}
+use Rattle.std.specs.List.{AllByRecursion, AllZip}
+use Rattle.std.specs.List.Sorted.{IsPermutation}
+use Rattle.std.specs.Map.{keys_of}
+use Rattle.std.specs.Ordering.{eq_by_cmp, nat_cmp}
+use Rattle.std.specs.Set.{is_member}
+use Rattle.std.proofs.Common.{refl, sym, ◌∙◌, ap, subst, arith, append_assoc}
+use Rattle.std.proofs.lemmas.List.{length-map}
+use Rattle.std.proofs.lemmas.List.Elements.{All-cons, All-head, All-nil, All-tail}
+use Rattle.std.proofs.lemmas.List.Elements.{All-from_recursion, All-weaker, recursion_from_All}
+use Rattle.fare_table.specs.Fares.{Fares}
+use Rattle.fare_table.specs.declared.token.Token.{Token}
+use Rattle.shard_book.specs.declared.entry.Entry.{Entry}
+use Rattle.shard_book.specs.Groups.{sums_by_token, sums_by_validator}
+use Rattle.shard_book.specs.Sums.{Sums, add_all, sums}
+use Rattle.fare_service.specs.Plain.{ArePlainEnds, IsReportOver}
+use Rattle.fare_service.specs.Text.{report, upload_lines}
+use Rattle.fare_service.specs.declared.upload_end.UploadEnd.{UploadEnd}
+use Rattle.fare_service.proofs.RunVisits.{AllZip-length}
+use Rattle.fare_service.specs.Plain.{IsPlainEnd}
+use Rattle.part_reports.specs.Lines.{End, IsUploadEnd, end_line, end_lines}
+use Rattle.part_reports.specs.Reports.{IsMerged, IsPartReport, Report, end_texts}
+use Rattle.part_reports.specs.Reports.{joined_ends, report_text, tokens_of_reports, validators_of_reports}
+use Rattle.part_reports.specs.Reports.{sums_of_validator as listed_at}
+use Rattle.part_reports.specs.Told.{HasLegalNumbers}
+use Rattle.part_reports.proofs.Unique.{end_line_unique}
+use Rattle.part_laws.specs.Sizes.{CanBeWritten, HasSize}
+use Rattle.part_laws.specs.Split.{AreTokensOf, AreValidatorsOf, IsSplit, Part, pairs_of_parts}
+use Rattle.part_laws.specs.Split.{sums_at}
+use Rattle.part_laws.proofs.FieldsFit.{entries_fit}
+use Rattle.part_laws.proofs.Merging.{RisingNumbers}
+use Rattle.part_laws.proofs.PartSums.{by_validator, listed_parts, members}
+use Rattle.part_laws.proofs.ReportTexts.{end_of, ends_fit, lines_spelt, plain_whole, report_spelt}
+use Rattle.part_laws.proofs.ReportTexts.{told_by}
+use Rattle.part_laws.proofs.SumsFit.{CanBeSummed, EntryFits, summed}
+
+-- reports that tell something else have other texts
+abbrev pub TextsDiffer : Type 0
+TextsDiffer = (a b : Report) → HasLegalNumbers a → HasLegalNumbers b → report_text a ≡ report_text b → a ≡ b
+
+-- the report tells the part's totals, validators and tokens
+pub record TellsOf (part : Part) (told : Report) : Type 0 where
+  pub totals : told.totals ≡ sums part.history
+  pub validators : told.validators ≡ sums_by_validator part.history
+  pub tokens : told.tokens ≡ sums_by_token part.history
+
+can_be_told : (told : Report) → IsPartReport told → HasLegalNumbers told
+can_be_told told is = record {
+  number = is.number;
+  ends = is.ends;
+  totals = is.totals;
+  validators_number = is.validators_number;
+  validators = is.validators;
+  tokens_number = is.tokens_number;
+  tokens = is.tokens;
+}
+
+-- what the part's report tells has 64 bits
+pub record IsWritable (part : Part) : Type 0 where
+  pub number : length part.files < 2 ^ 64
+  pub sizes : All HasSize part.files
+  pub summed : CanBeSummed part.history
+
+all_writable : (list : List Part)
+    → ((n : ℕ) (p : Part) → slice_get list n ≡ Some p → All EntryFits p.history)
+    → All CanBeWritten list → All IsWritable list
+all_writable [] fit can = All-nil IsWritable
+all_writable (p ∷ list) fit can =
+    let here = All-head CanBeWritten p list can in
+    let written : IsWritable p = record {
+      number = here.number;
+      sizes = here.sizes;
+      summed = summed p.history here.taps here.cents here.each (fit 0 p refl);
+    } in
+    All-cons IsWritable p list written (all_writable list
+    (λ n q there. fit (suc n) q there) (All-tail CanBeWritten p list can))
+
+pub writable : (fares : Fares) (uploads : List (List ℕ)) (history : List Entry)
+    (parts : List Part) → IsSplit fares uploads history parts → All CanBeWritten parts
+    → All IsWritable parts
+writable fares uploads history parts split can =
+    all_writable parts (entries_fit fares uploads history parts split) can
+
+-- what the report of the part's history tells
+abbrev pub own_told : (part : Part) (ends : List UploadEnd) → Report
+own_told part ends =
+    told_by ends (sums part.history) (sums_by_validator part.history) (sums_by_token part.history)
+
+pub own_can_be_told : (part : Part) (ends : List UploadEnd) → IsWritable part
+    → ArePlainEnds part.files ends → HasLegalNumbers (own_told part ends)
+own_can_be_told part ends can plain = record {
+  number = omega (
+    arith,
+    can.number,
+    AllZip-length IsPlainEnd part.files ends plain,
+    length-map ends end_of,
+  );
+  ends = All-from_recursion IsUploadEnd (map end_of ends)
+      (ends_fit part.files ends (recursion_from_All HasSize part.files can.sizes) plain);
+  totals = can.summed.totals;
+  validators_number = can.summed.validators_number;
+  validators = can.summed.validators;
+  tokens_number = can.summed.tokens_number;
+  tokens = can.summed.tokens;
+}
+
+module _ (differ : TextsDiffer) where
+  tells : (part : Part) (told : Report) → IsWritable part → IsPartReport told
+      → IsReportOver part.files part.history (report_text told) → TellsOf part told
+  tells part told can is over =
+      let same : own_told part over.ends ≡ told =
+      differ (own_told part over.ends) told (own_can_be_told part over.ends can over.of_uploads)
+      (can_be_told told is)
+      (sym (over.shown ∙ report_spelt over.ends (sums part.history)
+      (sums_by_validator part.history) (sums_by_token part.history)
+      (plain_whole part.files over.ends over.of_uploads))) in
+      record {
+        totals = ap (λ (r : Report). r.totals) (sym same);
+        validators = ap (λ (r : Report). r.validators) (sym same);
+        tokens = ap (λ (r : Report). r.tokens) (sym same);
+      }
+
+  all_tell : (parts : List Part) (told : List Report) → AllByRecursion IsWritable parts
+      → AllByRecursion IsPartReport told
+      → AllZip (λ part file. IsReportOver part.files part.history file) parts
+      (map report_text told) → AllZip TellsOf parts told
+  all_tell [] [] can is over = tt
+  all_tell [] (t ∷ told) can is over = absurd over
+  all_tell (p ∷ parts) [] can is over = absurd over
+  all_tell (p ∷ parts) (t ∷ told) can is over =
+      (tells p t can.0 is.0 over.0, all_tell parts told can.1 is.1 over.1)
+
+pub totals_told : (parts : List Part) (told : List Report) → AllZip TellsOf parts told
+    → map (λ t. t.totals) told ≡ map (λ p. sums p.history) parts
+totals_told [] [] tell = refl
+totals_told [] (t ∷ told) tell = absurd tell
+totals_told (p ∷ parts) [] tell = absurd tell
+totals_told (p ∷ parts) (t ∷ told) tell =
+    λ i. tell.0.totals i ∷ totals_told parts told tell.1 i
+
+pub validators_told : (parts : List Part) (told : List Report) → AllZip TellsOf parts told
+    → validators_of_reports told ≡ by_validator parts
+validators_told [] [] tell = refl
+validators_told [] (t ∷ told) tell = absurd tell
+validators_told (p ∷ parts) [] tell = absurd tell
+validators_told (p ∷ parts) (t ∷ told) tell =
+    λ i. tell.0.validators i ++ validators_told parts told tell.1 i
+
+pub tokens_told : (parts : List Part) (told : List Report) → AllZip TellsOf parts told
+    → tokens_of_reports told ≡ pairs_of_parts parts
+tokens_told [] [] tell = refl
+tokens_told [] (t ∷ told) tell = absurd tell
+tokens_told (p ∷ parts) [] tell = absurd tell
+tokens_told (p ∷ parts) (t ∷ told) tell =
+    λ i. tell.0.tokens i ++ tokens_told parts told tell.1 i
+
+-- ---- the ends of the uploads
+ends_same : (number : ℕ) (xs ys : List End) → AllByRecursion IsUploadEnd xs → AllByRecursion IsUploadEnd ys
+    → end_lines number xs ≡ end_lines number ys → xs ≡ ys
+ends_same number [] [] fit fit_too e = refl
+ends_same number [] (b ∷ ys) fit fit_too e = absurd (cc)
+ends_same number (a ∷ xs) [] fit fit_too e = absurd (cc)
+ends_same number (a ∷ xs) (b ∷ ys) fit fit_too e =
+    let (same, rest) = end_line_unique number a b (end_lines (number + 1) xs)
+    (end_lines (number + 1) ys) fit.0 fit_too.0 e in
+    λ i. same i ∷ ends_same (number + 1) xs ys fit.1 fit_too.1 rest i
+
+lines_append : (number : ℕ) (xs ys : List End)
+    → end_lines number (xs ++ ys) ≡ end_lines number xs ++ end_lines (number + length xs) ys
+lines_append number [] ys =
+    ap (λ n. end_lines n ys) (let e : number ≡ number + 0 = omega arith in e)
+lines_append number (a ∷ xs) ys =
+    let place : number + 1 + length xs ≡ number + length (a ∷ xs) = omega arith in
+    ap (λ (t : List ℕ). end_line number a ++ t) (lines_append (number + 1) xs ys
+    ∙ ap (λ n. end_lines (number + 1) xs ++ end_lines n ys) place)
+    ∙ sym (append_assoc (end_line number a) (end_lines (number + 1) xs)
+    (end_lines (number + length (a ∷ xs)) ys))
+
+texts_joined : (number : ℕ) (ends : List (List End))
+    → flat_map (λ file. file) (end_texts number ends) ≡ end_lines number (joined_ends ends)
+texts_joined number [] = refl
+texts_joined number (some ∷ ends) =
+    ap (λ (t : List ℕ). end_lines number some ++ t) (texts_joined (number + length some) ends)
+    ∙ sym (lines_append number some (joined_ends ends))
+
+module _ (differ : TextsDiffer) (risen : RisingNumbers) (uploads : List (List ℕ))
+    (parts : List Part) (ends : List UploadEnd) (plain : ArePlainEnds uploads ends)
+    (sizes : All HasSize uploads) (can : All IsWritable parts)
+    (end_files report_files : List (List ℕ))
+    (told_ends : flat_map (λ file. file) end_files ≡ upload_lines 0 ends)
+    (told_parts : AllZip (λ part file. IsReportOver part.files part.history file) parts
+    report_files) (text : List ℕ) (is : IsMerged end_files report_files text) where
+  each_tells : AllZip TellsOf parts is.parts
+  each_tells =
+      let Z : List (List ℕ) → Type 0 =
+      AllZip (λ part file. IsReportOver part.files part.history file) parts in
+      all_tell differ parts is.parts (recursion_from_All IsWritable parts can)
+      (recursion_from_All IsPartReport is.parts is.told.parts_fit)
+      (subst Z is.told.parts_told told_parts)
+
+  same_ends : joined_ends is.ends ≡ map end_of ends
+  same_ends =
+      ends_same 0 (joined_ends is.ends) (map end_of ends)
+      (recursion_from_All IsUploadEnd (joined_ends is.ends) is.told.ends_fit)
+      (ends_fit uploads ends (recursion_from_All HasSize uploads sizes) plain)
+      (sym (ap (flat_map (λ file. file)) is.told.ends_told ∙ texts_joined 0 is.ends)
+      ∙ told_ends ∙ lines_spelt 0 ends (plain_whole uploads ends plain))
+
+  pub are_tokens : AreTokensOf parts is.whole.tokens
+  are_tokens = record {
+    moved = subst (λ (list : List (Token × Sums)). IsPermutation list is.whole.tokens)
+        (tokens_told parts is.parts each_tells) is.is.tokens_moved;
+    rise = is.is.tokens_rise;
+  }
+
+  pub are_validators : AreValidatorsOf parts is.whole.validators
+  are_validators =
+      let listed = validators_told parts is.parts each_tells in
+      record {
+        rise = is.is.validators_rise;
+        same = λ v. is.is.validators_same v
+            ∙ ap (λ (list : List (ℕ × Sums)). is_member (eq_by_cmp nat_cmp) (keys_of list) v) listed
+            ∙ members risen parts v;
+        sums = All-weaker (λ sum. sum.1 ≡ listed_at sum.0 (validators_of_reports is.parts))
+            (λ sum. sum.1 ≡ sums_at sum.0 parts)
+            (λ sum same. same ∙ ap (listed_at sum.0) listed ∙ listed_parts risen sum.0 parts)
+            is.whole.validators is.is.validators_sums;
+      }
+
+  pub shown : text ≡ report ends (add_all (map (λ part. sums part.history) parts))
+      is.whole.validators is.whole.tokens
+  shown =
+      let totals : is.whole.totals ≡ add_all (map (λ part. sums part.history) parts) =
+      is.is.totals ∙ ap add_all (totals_told parts is.parts each_tells) in
+      let whole : is.whole ≡ told_by ends (add_all (map (λ part. sums part.history) parts))
+      is.whole.validators is.whole.tokens =
+      λ i. record {
+        ends = (is.is.ends ∙ same_ends) i;
+        totals = totals i;
+        validators = is.whole.validators;
+        tokens = is.whole.tokens;
+      } in
+      is.shown ∙ ap report_text whole
+      ∙ sym (report_spelt ends (add_all (map (λ part. sums part.history) parts))
+      is.whole.validators is.whole.tokens (plain_whole uploads ends plain))

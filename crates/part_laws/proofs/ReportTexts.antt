@@ -1,0 +1,182 @@
+-- The report that a run writes is the text of what its lines tell.
+use Rattle.std.specs.Prelude.{◌≡◌, ℕ, ◌+◌, ◌≤◌, ◌<◌, ◌^◌, List, [], ◌∷◌, ◌++◌, length, map}
+use Rattle.std.specs.Prelude.{flat_map, codes, Option, Some, None}
+use Rattle.std.specs.Fmt.{decimal}
+use Rattle.std.specs.List.{AllByRecursion}
+use Rattle.std.proofs.Common.{refl, sym, ◌∙◌, ap, subst, arith, append_assoc}
+use Rattle.std.proofs.lemmas.Fmt.{decimal_digit}
+use Rattle.std.proofs.lemmas.List.{length-map}
+use Rattle.std.proofs.lemmas.List.Concat.{length-flat_map}
+use Rattle.tap_views.specs.declared.fault.LayoutFault.{LayoutFault}
+use Rattle.tap_views.specs.declared.fault.LayoutFault.TheVariants.{Short, Magic, Flags, TooMany}
+use Rattle.tap_views.specs.declared.fault.LayoutFault.TheVariants.{Length, Moment}
+use Rattle.fare_table.specs.declared.token.Token.{Token}
+use Rattle.shard_book.specs.Sums.{Sums}
+use Rattle.fare_texts.specs.Counts.{counts, totals_line}
+use Rattle.fare_service.specs.Ends.{end_by}
+use Rattle.fare_service.specs.Plain.{ArePlainEnds, IsPlainEnd, WasWhole}
+use Rattle.fare_service.specs.Shares.{IsFaultOf}
+use Rattle.fare_service.specs.Text.{fault_name, report, upload_line, upload_lines, uploads_head}
+use Rattle.fare_service.specs.Text.{tokens_head, validators_head}
+use Rattle.fare_service.specs.Text.{validator_line as validator_text, token_line as token_text}
+use Rattle.fare_service.specs.declared.upload_end.UploadEnd.{UploadEnd}
+use Rattle.fare_service.specs.declared.upload_end.UploadEnd.TheVariants.{Posted, Refused, Cut}
+use Rattle.fare_service.specs.declared.upload_end.UploadEnd.TheVariants.{Undrawn}
+use Rattle.fare_service.proofs.TapCounts.{file_room}
+use Rattle.part_reports.specs.Lines.{End, IsUploadEnd, end_line, end_lines, head_line, token_line}
+use Rattle.part_reports.specs.Lines.{validator_line}
+use Rattle.part_reports.specs.Reports.{Report, report_text}
+use Rattle.part_laws.specs.Sizes.{HasSize}
+
+-- the number in a fault's name
+abbrev pub fault_number : LayoutFault → ℕ
+fault_number (Short have) = 1
+fault_number Magic = 2
+fault_number Flags = 3
+fault_number (TooMany count) = 4
+fault_number (Length want have) = 5
+fault_number (Moment index) = 6
+
+-- how an upload ended whose batches were all posted whole
+abbrev pub end_of : UploadEnd → End
+end_of (Posted taps) = record { taps = taps; fault = None }
+end_of (Refused taps offset fault) =
+    record { taps = taps; fault = Some (offset, fault_number fault) }
+end_of (Cut taps) = record { taps = taps; fault = None }
+end_of Undrawn = record { taps = 0; fault = None }
+
+-- what the report of these ends and sums tells
+abbrev pub told_by : List UploadEnd → Sums → List (ℕ × Sums) → List (Token × Sums) → Report
+told_by ends totals validators tokens = record {
+  ends = map end_of ends;
+  totals = totals;
+  validators = validators;
+  tokens = tokens;
+}
+
+name_spelt : (fault : LayoutFault) → fault_name fault ≡ codes "L" ++ decimal (fault_number fault)
+name_spelt (Short have) = ap (λ (t : List ℕ). codes "L" ++ t) (sym (decimal_digit 1 (omega arith)))
+name_spelt Magic = ap (λ (t : List ℕ). codes "L" ++ t) (sym (decimal_digit 2 (omega arith)))
+name_spelt Flags = ap (λ (t : List ℕ). codes "L" ++ t) (sym (decimal_digit 3 (omega arith)))
+name_spelt (TooMany count) = ap (λ (t : List ℕ). codes "L" ++ t) (sym (decimal_digit 4 (omega arith)))
+name_spelt (Length want have) = ap (λ (t : List ℕ). codes "L" ++ t) (sym (decimal_digit 5 (omega arith)))
+name_spelt (Moment index) = ap (λ (t : List ℕ). codes "L" ++ t) (sym (decimal_digit 6 (omega arith)))
+
+line_spelt : (number : ℕ) (end : UploadEnd) → WasWhole end
+    → upload_line number end ≡ end_line number (end_of end)
+unfolding upload_line
+line_spelt number (Posted taps) whole = refl
+line_spelt number (Refused taps offset fault) whole =
+    let named = ap (λ (t : List ℕ). decimal offset ++ (codes " " ++ (t ++ codes "\n")))
+    (name_spelt fault) in
+    let behind = append_assoc (decimal offset) (codes " " ++ fault_name fault) (codes "\n")
+    ∙ named in
+    ap (λ (t : List ℕ). codes "upload " ++ (decimal number ++ (codes " refused " ++ t)))
+    (append_assoc (decimal taps) (codes " at "
+    ++ (decimal offset ++ (codes " " ++ fault_name fault))) (codes "\n")
+    ∙ ap (λ (t : List ℕ). decimal taps ++ (codes " at " ++ t)) behind)
+line_spelt number (Cut taps) whole = absurd whole
+line_spelt number Undrawn whole = absurd whole
+
+pub lines_spelt : (number : ℕ) (ends : List UploadEnd) → AllByRecursion WasWhole ends
+    → upload_lines number ends ≡ end_lines number (map end_of ends)
+lines_spelt number [] whole = refl
+lines_spelt number (end ∷ ends) whole =
+    λ i. line_spelt number end whole.0 i ++ lines_spelt (number + 1) ends whole.1 i
+
+validator_spelt : (sum : ℕ × Sums) → validator_text sum ≡ validator_line sum
+validator_spelt sum =
+    ap (λ (t : List ℕ). codes "validator " ++ t)
+    (append_assoc (decimal sum.0) (codes " ") (counts sum.1))
+
+token_spelt : (sum : Token × Sums) → token_text sum ≡ token_line sum
+token_spelt sum =
+    ap (λ (t : List ℕ). codes "token " ++ t)
+    (append_assoc _ (codes " ") (counts sum.1))
+
+spelt : (h e t v vs k ts : List ℕ) → (h ++ e) ++ (t ++ ((v ++ vs) ++ (k ++ ts)))
+    ≡ (h ++ (e ++ (t ++ (v ++ (vs ++ k))))) ++ ts
+spelt h e t v vs k ts = simp append_assoc
+
+pub report_spelt : (ends : List UploadEnd) (totals : Sums) (validators : List (ℕ × Sums))
+    (tokens : List (Token × Sums)) → AllByRecursion WasWhole ends
+    → report ends totals validators tokens ≡ report_text (told_by ends totals validators tokens)
+unfolding uploads_head validators_head tokens_head
+report_spelt ends totals validators tokens whole =
+    let sizes : length ends ≡ length (map end_of ends) = sym (length-map ends end_of) in
+    let texts : List ℕ → List ℕ → (ℕ × Sums → List ℕ) → (Token × Sums → List ℕ) → List ℕ =
+    λ heads lines by_validator by_token. (heads ++ lines) ++ (totals_line totals
+    ++ ((head_line (codes "validators ") (length validators) ++ flat_map by_validator validators)
+    ++ (head_line (codes "tokens ") (length tokens) ++ flat_map by_token tokens))) in
+    (λ i. texts (head_line (codes "uploads ") (sizes i)) (lines_spelt 0 ends whole i)
+    (λ sum. validator_spelt sum i) (λ sum. token_spelt sum i))
+    ∙ spelt (head_line (codes "uploads ") (length (map end_of ends)))
+    (end_lines 0 (map end_of ends)) (totals_line totals)
+    (head_line (codes "validators ") (length validators)) (flat_map validator_line validators)
+    (head_line (codes "tokens ") (length tokens)) (flat_map token_line tokens)
+
+-- ---- the ends that the bytes of uploads call for
+end_whole : (taps : ℕ) (fault : Option (ℕ × LayoutFault)) → WasWhole (end_by taps fault)
+end_whole taps None = tt
+end_whole taps (Some (offset, fault)) = tt
+
+pub plain_whole : (files : List (List ℕ)) (ends : List UploadEnd) → ArePlainEnds files ends
+    → AllByRecursion WasWhole ends
+plain_whole [] [] plain = tt
+plain_whole [] (end ∷ ends) plain = absurd plain
+plain_whole (file ∷ files) [] plain = absurd plain
+plain_whole (file ∷ files) (end ∷ ends) plain = (
+  subst WasWhole (sym plain.0.ended)
+      (end_whole (length (flat_map (λ batch. batch) plain.0.batches)) plain.0.fault),
+  plain_whole files ends plain.1,
+)
+
+least : (fault : LayoutFault) → 1 ≤ fault_number fault
+least (Short have) = omega arith
+least Magic = omega arith
+least Flags = omega arith
+least (TooMany count) = omega arith
+least (Length want have) = omega arith
+least (Moment index) = omega arith
+
+most : (fault : LayoutFault) → fault_number fault ≤ 6
+most (Short have) = omega arith
+most Magic = omega arith
+most Flags = omega arith
+most (TooMany count) = omega arith
+most (Length want have) = omega arith
+most (Moment index) = omega arith
+
+fault_fits : (file rest : List ℕ) (taps : ℕ) (fault : Option (ℕ × LayoutFault)) → HasSize file
+    → taps < 2 ^ 64 → IsFaultOf file rest fault → IsUploadEnd (end_of (end_by taps fault))
+fault_fits file rest taps None size small is = record { taps = small; fault = tt }
+fault_fits file rest taps (Some (offset, fault)) size small is = record {
+  taps = small;
+  fault = record {
+    offset = omega (arith, size, is.stands_at);
+    least = least fault;
+    most = most fault;
+  };
+}
+
+end_fits : (file : List ℕ) (end : UploadEnd) → HasSize file → IsPlainEnd file end
+    → IsUploadEnd (end_of end)
+end_fits file end size is =
+    let all = flat_map (λ batch. batch) is.batches in
+    let small : length all < 2 ^ 64 =
+    omega (
+      arith,
+      size,
+      file_room file is.batches is.rest is.is_file,
+      length-flat_map (λ batch. batch) is.batches,
+    ) in
+    subst (λ e. IsUploadEnd (end_of e)) (sym is.ended)
+    (fault_fits file is.rest (length all) is.fault size small is.is_fault)
+
+pub ends_fit : (files : List (List ℕ)) (ends : List UploadEnd) → AllByRecursion HasSize files
+    → ArePlainEnds files ends → AllByRecursion IsUploadEnd (map end_of ends)
+ends_fit [] [] sizes plain = tt
+ends_fit [] (end ∷ ends) sizes plain = absurd plain
+ends_fit (file ∷ files) [] sizes plain = absurd plain
+ends_fit (file ∷ files) (end ∷ ends) sizes plain =
+    (end_fits file end sizes.0 plain.0, ends_fit files ends sizes.1 plain.1)

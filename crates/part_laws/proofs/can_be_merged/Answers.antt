@@ -1,0 +1,12 @@
+use Rattle.part_laws.proofs.MergedTexts.{writable}
+use Rattle.part_laws.proofs.Wholes.{is_merged}
+use Rattle.part_laws.proofs.can_be_merged.Goals as goal
+
+pub returns : goal.returns
+returns c = λ fares uploads history parts split lists plain sizes cuts few none report_files
+    told_parts.
+    let can = writable fares uploads history parts split few in (
+      _,
+      is_merged fares uploads history parts split c.rising.ensures.numbers
+          c.rising.ensures.tokens c.sums.ensures lists plain sizes cuts can none report_files told_parts,
+    )
