@@ -1,3 +1,4 @@
+mod CentsFit
 mod FieldsFit
 mod MergedTexts
 mod Merging

@@ -26,15 +26,16 @@ use Rattle.part_reports.specs.Reports.{joined_ends, report_text, tokens_of_repor
 use Rattle.part_reports.specs.Reports.{sums_of_validator as listed_at}
 use Rattle.part_reports.specs.Told.{HasLegalNumbers}
 use Rattle.part_reports.proofs.Unique.{end_line_unique}
-use Rattle.part_laws.specs.Sizes.{CanBeWritten, HasSize}
+use Rattle.part_laws.specs.Sizes.{CanBeWritten, HasSize, HaveLimits}
 use Rattle.part_laws.specs.Split.{AreTokensOf, AreValidatorsOf, IsSplit, Part, pairs_of_parts}
 use Rattle.part_laws.specs.Split.{sums_at}
+use Rattle.part_laws.proofs.CentsFit.{entries_few}
 use Rattle.part_laws.proofs.FieldsFit.{entries_fit}
 use Rattle.part_laws.proofs.Merging.{RisingNumbers}
 use Rattle.part_laws.proofs.PartSums.{by_validator, listed_parts, members}
 use Rattle.part_laws.proofs.ReportTexts.{end_of, ends_fit, lines_spelt, plain_whole, report_spelt}
 use Rattle.part_laws.proofs.ReportTexts.{told_by}
-use Rattle.part_laws.proofs.SumsFit.{CanBeSummed, EntryFits, summed}
+use Rattle.part_laws.proofs.SumsFit.{CanBeSummed, CostsFew, EntryFits, summed}
 
 -- reports that tell something else have other texts
 abbrev pub TextsDiffer : Type 0
@@ -65,23 +66,26 @@ pub record IsWritable (part : Part) : Type 0 where
 
 all_writable : (list : List Part)
     → ((n : ℕ) (p : Part) → slice_get list n ≡ Some p → All EntryFits p.history)
+    → ((n : ℕ) (p : Part) → slice_get list n ≡ Some p → All CostsFew p.history)
     → All CanBeWritten list → All IsWritable list
-all_writable [] fit can = All-nil IsWritable
-all_writable (p ∷ list) fit can =
+all_writable [] fit few can = All-nil IsWritable
+all_writable (p ∷ list) fit few can =
     let here = All-head CanBeWritten p list can in
     let written : IsWritable p = record {
       number = here.number;
       sizes = here.sizes;
-      summed = summed p.history here.taps here.cents here.each (fit 0 p refl);
+      summed = summed p.history here.taps (few 0 p refl) (fit 0 p refl);
     } in
     All-cons IsWritable p list written (all_writable list
-    (λ n q there. fit (suc n) q there) (All-tail CanBeWritten p list can))
+    (λ n q there. fit (suc n) q there) (λ n q there. few (suc n) q there)
+    (All-tail CanBeWritten p list can))
 
 pub writable : (fares : Fares) (uploads : List (List ℕ)) (history : List Entry)
-    (parts : List Part) → IsSplit fares uploads history parts → All CanBeWritten parts
-    → All IsWritable parts
-writable fares uploads history parts split can =
-    all_writable parts (entries_fit fares uploads history parts split) can
+    (parts : List Part) → IsSplit fares uploads history parts → HaveLimits fares
+    → All CanBeWritten parts → All IsWritable parts
+writable fares uploads history parts split limits can =
+    all_writable parts (entries_fit fares uploads history parts split)
+    (entries_few fares uploads history parts split limits) can
 
 -- what the report of the part's history tells
 abbrev pub own_told : (part : Part) (ends : List UploadEnd) → Report

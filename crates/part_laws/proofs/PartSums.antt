@@ -180,7 +180,8 @@ module _ (risen : RisingNumbers) where
       listed_one v (λ k. sums (at k entries)) keys is.rises
       (λ none. ap sums (none_at v entries (sym (is.same v) ∙ none_member v keys none)))
 
-  pub listed_parts : (v : ℕ) (parts : List Part) → listed_at v (by_validator parts) ≡ sums_at v parts
+  pub listed_parts : (v : ℕ) (parts : List Part)
+      → listed_at v (by_validator parts) ≡ sums_at v parts
   listed_parts v [] = refl
   listed_parts v (p ∷ parts) =
       listed_append v (sums_by_validator p.history) (by_validator parts)

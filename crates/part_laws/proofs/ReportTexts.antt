@@ -54,13 +54,16 @@ told_by ends totals validators tokens = record {
   tokens = tokens;
 }
 
+named_by : (digit : ℕ) → digit < 10 → codes "L" ++ (48 + digit) ∷ [] ≡ codes "L" ++ decimal digit
+named_by digit one = ap (λ (t : List ℕ). codes "L" ++ t) (sym (decimal_digit digit one))
+
 name_spelt : (fault : LayoutFault) → fault_name fault ≡ codes "L" ++ decimal (fault_number fault)
-name_spelt (Short have) = ap (λ (t : List ℕ). codes "L" ++ t) (sym (decimal_digit 1 (omega arith)))
-name_spelt Magic = ap (λ (t : List ℕ). codes "L" ++ t) (sym (decimal_digit 2 (omega arith)))
-name_spelt Flags = ap (λ (t : List ℕ). codes "L" ++ t) (sym (decimal_digit 3 (omega arith)))
-name_spelt (TooMany count) = ap (λ (t : List ℕ). codes "L" ++ t) (sym (decimal_digit 4 (omega arith)))
-name_spelt (Length want have) = ap (λ (t : List ℕ). codes "L" ++ t) (sym (decimal_digit 5 (omega arith)))
-name_spelt (Moment index) = ap (λ (t : List ℕ). codes "L" ++ t) (sym (decimal_digit 6 (omega arith)))
+name_spelt (Short have) = named_by 1 (omega arith)
+name_spelt Magic = named_by 2 (omega arith)
+name_spelt Flags = named_by 3 (omega arith)
+name_spelt (TooMany count) = named_by 4 (omega arith)
+name_spelt (Length want have) = named_by 5 (omega arith)
+name_spelt (Moment index) = named_by 6 (omega arith)
 
 line_spelt : (number : ℕ) (end : UploadEnd) → WasWhole end
     → upload_line number end ≡ end_line number (end_of end)

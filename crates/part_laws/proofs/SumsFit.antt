@@ -1,4 +1,4 @@
--- The sums of a history have 64 bits, where its number of taps and its cents have.
+-- The sums of a history have 64 bits, where the fares have their limits.
 use Rattle.std.specs.Prelude.{◌≡◌, ℕ, ◌+◌, ◌*◌, ◌<◌, ◌≤◌, ◌^◌, Bool, true, false, cond, List, []}
 use Rattle.std.specs.Prelude.{◌∷◌, length, map, filter, All, sum_by}
 use Rattle.std.specs.BTreeSet.{insert_key}
@@ -38,9 +38,9 @@ pub record CanBeSummed (history : List Entry) : Type 0 where
 abbrev pub EntryFits : Entry → Type 0
 EntryFits entry = (entry.validator < 2 ^ 32) × Fits entry.token
 
--- 32 bits hold the entry's cents
+-- the entry costs no more than the greatest fare of a table
 abbrev pub CostsFew : Entry → Type 0
-CostsFew entry = entry.cents < 2 ^ 32
+CostsFew entry = entry.cents ≤ 100_000
 
 abbrev count : (Answer → Bool) → List Reply → ℕ
 count test replies = sum_by (λ reply. cond (test reply.answer) 1 0) replies
@@ -73,7 +73,7 @@ answers (r ∷ replies) = omega (
 )
 
 most : (entries : List Entry) → AllByRecursion CostsFew entries
-    → cents_of entries ≤ length entries * 4294967295
+    → cents_of entries ≤ length entries * 100_000
 most [] few = omega arith
 most (entry ∷ entries) few = omega (
   arith,
@@ -82,47 +82,32 @@ most (entry ∷ entries) few = omega (
   sum_by-cons (λ (reply : Reply). reply.cents) (reply_of entry) (map reply_of entries),
 )
 
-counts_fit : (entries : List Entry) → length entries < 2 ^ 64 → cents_of entries < 2 ^ 64
-    → All CostsFew entries → AreCounts (sums entries)
+counts_fit : (entries : List Entry) → length entries < 2 ^ 47 → All CostsFew entries
+    → AreCounts (sums entries)
 unfolding sums_of_replies
-counts_fit entries small cheap few = record {
-  taps = omega (arith, small, length-map entries reply_of);
-  answers = answers (map reply_of entries);
-  cents = cheap;
-  most = omega (
-    arith,
-    most entries (recursion_from_All CostsFew entries few),
-    length-map entries reply_of,
-  );
-}
+counts_fit entries small few =
+    let cheap = most entries (recursion_from_All CostsFew entries few) in
+    record {
+      taps = omega (arith, small, length-map entries reply_of);
+      answers = answers (map reply_of entries);
+      cents = omega (arith, small, cheap);
+      most = omega (arith, cheap, length-map entries reply_of);
+    }
 
 -- ---- some of the entries
-fewer : (p : Entry → Bool) (entries : List Entry) → (length (filter p entries) ≤ length entries)
-    × (cents_of (filter p entries) ≤ cents_of entries)
-fewer p [] = (omega arith, omega arith)
+fewer : (p : Entry → Bool) (entries : List Entry) → length (filter p entries) ≤ length entries
+fewer p [] = omega arith
 fewer p (entry ∷ entries) = by_test (p entry) refl (fewer p entries)
   where
-    by_test : (b : Bool) → p entry ≡ b
-        → (length (filter p entries) ≤ length entries)
-        × (cents_of (filter p entries) ≤ cents_of entries)
-        → (length (filter p (entry ∷ entries)) ≤ length (entry ∷ entries))
-        × (cents_of (filter p (entry ∷ entries)) ≤ cents_of (entry ∷ entries))
-    by_test true is (short, cheap) =
-        let all = sum_by-cons (λ (reply : Reply). reply.cents) (reply_of entry)
-        (map reply_of entries) in
-        let some = sum_by-cons (λ (reply : Reply). reply.cents) (reply_of entry)
-        (map reply_of (filter p entries)) in
-        rw is ((omega (arith, short), omega (arith, cheap, all, some)))
-    by_test false is (short, cheap) =
-        let all = sum_by-cons (λ (reply : Reply). reply.cents) (reply_of entry)
-        (map reply_of entries) in
-        rw is ((omega (arith, short), omega (arith, cheap, all)))
+    by_test : (b : Bool) → p entry ≡ b → length (filter p entries) ≤ length entries
+        → length (filter p (entry ∷ entries)) ≤ length (entry ∷ entries)
+    by_test true is short = rw is (omega (arith, short))
+    by_test false is short = rw is (omega (arith, short))
 
-some_fit : (p : Entry → Bool) (entries : List Entry) → length entries < 2 ^ 64
-    → cents_of entries < 2 ^ 64 → All CostsFew entries → AreCounts (sums (filter p entries))
-some_fit p entries small cheap few =
-    let (short, less) = fewer p entries in
-    counts_fit (filter p entries) (omega (arith, short, small)) (omega (arith, less, cheap))
+some_fit : (p : Entry → Bool) (entries : List Entry) → length entries < 2 ^ 47
+    → All CostsFew entries → AreCounts (sums (filter p entries))
+some_fit p entries small few =
+    counts_fit (filter p entries) (omega (arith, fewer p entries, small))
     (All-filter p CostsFew entries few)
 
 -- ---- how many keys there are
@@ -145,10 +130,10 @@ rising_few cmp [] = omega arith
 rising_few cmp (key ∷ keys) =
     omega (arith, rising_few cmp keys, insert_few cmp (rising cmp keys) key)
 
-pub summed : (entries : List Entry) → length entries < 2 ^ 64 → (sums entries).cents < 2 ^ 64
-    → All CostsFew entries → All EntryFits entries → CanBeSummed entries
-unfolding sums_by_validator sums_by_token validators tokens at own sums_of_replies
-summed entries small cheap few fit =
+pub summed : (entries : List Entry) → length entries < 2 ^ 47 → All CostsFew entries
+    → All EntryFits entries → CanBeSummed entries
+unfolding sums_by_validator sums_by_token validators tokens at own
+summed entries small few fit =
     let numbers = map validator_of entries in
     let names = map token_of entries in
     let by_number : ℕ → ℕ × Sums = λ v. (v, sums (filter (is_at v) entries)) in
@@ -160,7 +145,7 @@ summed entries small cheap few fit =
     (All-map Fits token_of entries
     (All-weaker EntryFits (λ e. Fits e.token) (λ e fits. fits.1) entries fit)) in
     record {
-      totals = counts_fit entries small cheap few;
+      totals = counts_fit entries small few;
       validators_number = omega (
         arith,
         small,
@@ -172,7 +157,7 @@ summed entries small cheap few fit =
           (All-weaker (λ v. v < 2 ^ 32) (λ v. IsValidatorSum (by_number v))
           (λ v fits. record {
             validator = fits;
-            counts = some_fit (is_at v) entries small cheap few;
+            counts = some_fit (is_at v) entries small few;
           }) (rising nat_cmp numbers) numbers_fit);
       tokens_number = omega (
         arith,
@@ -185,6 +170,6 @@ summed entries small cheap few fit =
           (All-weaker Fits (λ t. IsTokenSum (by_name t))
           (λ t fits. record {
             token = fits;
-            counts = some_fit (is_of t) entries small cheap few;
+            counts = some_fit (is_of t) entries small few;
           }) (rising token_cmp names) names_fit);
     }

@@ -151,7 +151,8 @@ told_taps (p ∷ parts) (t ∷ told) tell =
     sum_by-cons (λ (r : Report). r.totals.taps) t told
     ∙ (λ i. (tell.0.totals i).taps + told_taps parts told tell.1 i)
 
-all_posted : (taps : ℕ) (fault : Option (ℕ × LayoutFault)) → (end_of (end_by taps fault)).taps ≡ taps
+all_posted : (taps : ℕ) (fault : Option (ℕ × LayoutFault))
+    → (end_of (end_by taps fault)).taps ≡ taps
 all_posted taps None = refl
 all_posted taps (Some (offset, fault)) = refl
 
@@ -266,8 +267,8 @@ module _ (fares : Fares) (uploads : List (List ℕ)) (history : List Entry) (par
             ∙ ap add_all (sym (totals_told parts told tellings.tell));
         validators_rise = numbers_rise numbers history;
         validators_same = λ v. member_validators numbers history v
-            ∙ sym (list_any-IsPermutation (eq_by_cmp nat_cmp v) (map validator_of (entries_of_parts parts))
-            (map validator_of history) moved)
+            ∙ sym (list_any-IsPermutation (eq_by_cmp nat_cmp v)
+            (map validator_of (entries_of_parts parts)) (map validator_of history) moved)
             ∙ sym (ap (λ (list : List (ℕ × Sums)). is_member (eq_by_cmp nat_cmp) (keys_of list) v)
             listed ∙ members numbers parts v);
         validators_sums = all_sums history (λ sum. sum.1 ≡ listed_at sum.0 (validators_of_reports told))

@@ -21,7 +21,7 @@ ghost use Rattle.tap_parts.specs.Parts.{uploads_joined};
 ghost use Rattle.upload_parts.specs.Split.{IsSplitFile};
 ghost use Rattle.part_reports.specs.Reports.{IsMerged};
 ghost use Rattle.part_laws.specs.Files.{HasNoFault, ends_texts};
-ghost use Rattle.part_laws.specs.Sizes.{CanBeWritten, HasSize};
+ghost use Rattle.part_laws.specs.Sizes.{CanBeWritten, HasSize, HaveLimits};
 ghost use Rattle.part_laws.specs.Split.{AreTokensOf, AreValidatorsOf, IsPartOf, IsSplit, Part};
 ghost use Rattle.part_laws.specs.Split.{entries_of_parts, part_of};
 
@@ -116,12 +116,13 @@ pub fn merged_report()
 
 /// Each part's file is the report of the part's settled history, and the ends' files tell how the
 /// uploads ended. Whatever is merged of these files is the report of the uploads' settled history.
-/// The files of uploads and of parts have sizes, and the parts have sums, of 64 bits.
+/// The fares have their limits. The files have sizes of 64 bits, and each part has fewer than 2^47
+/// taps.
 pub fn merged_text()
     ensures { (fares : Fares) (uploads : List (List ℕ)) (history : List Entry)
         (parts : List Part) → IsSplit fares uploads history parts
         → (ends : List UploadEnd) → ArePlainEnds uploads ends
-        → All HasSize uploads → All CanBeWritten parts
+        → All HasSize uploads → HaveLimits fares → All CanBeWritten parts
         → (end_files report_files : List (List ℕ))
         → flat_map (λ file. file) end_files ≡ upload_lines 0 ends
         → AllZip (λ part file. IsReportOver part.files part.history file) parts report_files
@@ -133,14 +134,15 @@ pub fn merged_text()
     merged_report();
 }
 
-/// Each part's files have no layout fault, and its report file is the report of its settled history.
-/// The ends' files have the lines of the uploads' ends, each some whole lines. Such files can be
-/// merged. An upload has one cut into batches, which `fare_service::laws::cuts` tells of any bytes.
+/// Each part's files have no layout fault, and its report file is the report of its settled
+/// history. Each of the ends' files has the lines of the next uploads. Such files can be merged. An
+/// upload has one cut into batches: `fare_service::laws::cuts` says so of any bytes.
 pub fn can_be_merged()
     ensures { (fares : Fares) (uploads : List (List ℕ)) (history : List Entry)
         (parts : List Part) → IsSplit fares uploads history parts
         → (lists : List (List UploadEnd)) → ArePlainEnds uploads (flat_map (λ some. some) lists)
-        → All HasSize uploads → All HasOneCut uploads → All CanBeWritten parts
+        → All HasSize uploads → All HasOneCut uploads
+        → HaveLimits fares → All CanBeWritten parts
         → All (λ part. All HasNoFault part.files) parts
         → (report_files : List (List ℕ))
         → AllZip (λ part file. IsReportOver part.files part.history file) parts report_files
