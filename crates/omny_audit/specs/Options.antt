@@ -39,7 +39,8 @@ ParsesForAudit words = fault_of audit_program words ≡ []
 -- reading the words ends at a word that asks for help or for the version
 abbrev pub AsksForAuditText : List Text → Type 0
 AsksForAuditText words =
-    IsAmong DisplayHelp (fault_of audit_program words) ⊎ IsAmong DisplayVersion (fault_of audit_program words)
+    IsAmong DisplayHelp (fault_of audit_program words)
+    ⊎ IsAmong DisplayVersion (fault_of audit_program words)
 
 -- nothing for `-`, which stands for standard input
 abbrev pub not_dash : Text → Option Text

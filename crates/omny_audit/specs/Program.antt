@@ -20,11 +20,11 @@ abbrev pub Means : List ℕ → Fares → Type 0
 Means text fares = (rules_in text ≡ Ok fares.rules) × IsZoneOf fares.rules.zone fares.zone
 
 -- The file of this name was loaded, and its text means these fares.
-pub record LoadsRequiredTable (name : Text) (told told' : Option (List Loaded)) (fares : Fares) : Type 0
-  where
-    pub bytes : List ℕ
-    pub told_is : TellsOne told told' (Some name) bytes
-    pub means : Means bytes fares
+pub record LoadsRequiredTable (name : Text) (told told' : Option (List Loaded)) (fares : Fares)
+    : Type 0 where
+  pub bytes : List ℕ
+  pub told_is : TellsOne told told' (Some name) bytes
+  pub means : Means bytes fares
 
 -- A file of each of these names was loaded, in their order.
 pub record LoadsNamedFiles (names : List Text) (told told' : Option (List Loaded))
@@ -49,8 +49,8 @@ compared (name ∷ names) posted = Some posted
 -- The table was loaded, then the uploads, and then all of the ledger; what was appended to the
 -- writer is the answer on the ledger's text beside the posted taps of the uploads, if uploads are
 -- named. It says that all is well, or not.
-pub record Audits (asked : AuditAsked) (told told' : Option (List Loaded)) (out out' : Option (List ℕ))
-    (well : Bool) : Type 0 where
+pub record Audits (asked : AuditAsked) (told told' : Option (List Loaded))
+    (out out' : Option (List ℕ)) (well : Bool) : Type 0 where
   pub after_table : Option (List Loaded)
   pub after_uploads : Option (List Loaded)
   pub fares : Fares

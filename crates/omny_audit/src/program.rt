@@ -10,7 +10,8 @@ ghost use Rattle.omny_audit.specs.Fault.{NamesOneOf, is_unwritten, named_by};
 ghost use Rattle.omny_audit.specs.Options.{AsksForAuditText, ParsesForAudit, audit_asked_by};
 ghost use Rattle.omny_audit.specs.inside.Options.{audit_asked_of};
 ghost use Rattle.omny_audit.specs.Options.{files_of};
-ghost use Rattle.omny_audit.specs.Program.{ArePostedOfAll, Audits, AuditGaveUp, LoadsNamedFiles, LoadsRequiredTable};
+ghost use Rattle.omny_audit.specs.Program.{ArePostedOfAll, AuditGaveUp, Audits, LoadsNamedFiles};
+ghost use Rattle.omny_audit.specs.Program.{LoadsRequiredTable};
 ghost use Rattle.omny_audit.specs.Program.{IsFaultTold};
 ghost use Rattle.omny_audit.specs.Source.{OpensOne};
 ghost use Rattle.program_manners.specs.Loads.{TellsOne};
@@ -70,7 +71,8 @@ fn load_balance<'a, S: Source>(
     source: &mut S,
 ) -> Result<Balance, Fault<'a>>
     ensures ok { IfOk result (λ balance. (files : List (List ℕ)) × (posted : List TapFields)
-        × LoadsNamedFiles (map (λ n. n.now) names.now) (S.loaded source.old) (S.loaded source.new) files
+        × LoadsNamedFiles (map (λ n. n.now) names.now)
+        (S.loaded source.old) (S.loaded source.new) files
         × ArePostedOfAll files posted × IsBalance balance posted []) }
     ensures fault { IfErr result (λ fault. is_unwritten fault ≡ false) }
     ensures named { IfErr result (λ fault. NamesOneOf (map (λ n. n.now) names.now) fault) }
@@ -112,7 +114,8 @@ fn audit<'a, S: Source, W: Write>(
     // Only a write that fails leaves something of a text behind.
     ensures fault { IfErr result (λ fault. is_unwritten fault ≡ false
         → Keeps (W.contents out.old) (W.contents out.new)) }
-    ensures named { IfErr result (λ fault. NamesOneOf (files_of (audit_asked_of options.now)) fault) }
+    ensures named { IfErr result
+        (λ fault. NamesOneOf (files_of (audit_asked_of options.now)) fault) }
 {
     let table = load_table(alloc, options.table, source)?;
     let clock = table.clock(alloc)?;
@@ -192,7 +195,8 @@ pub fn main_over<S: Source, W: Write, E: Write>(
         × Audits (audit_asked_by (map string_bytes words.now)) (S.loaded source.old)
         (S.loaded source.new) (W.contents out.old) (W.contents out.new) false
         × (err.new ≡ err.old))
-        ⊎ ((fault : Fault) × NamesOneOf (files_of (audit_asked_by (map string_bytes words.now))) fault
+        ⊎ ((fault : Fault)
+        × NamesOneOf (files_of (audit_asked_by (map string_bytes words.now))) fault
         × AuditGaveUp fault (E.contents err.old.writer) (E.contents err.new.writer) err.new.failed
         (W.contents out.old) (W.contents out.new)) }
 

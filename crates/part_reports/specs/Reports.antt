@@ -75,7 +75,8 @@ tokens_of_reports parts = flat_map (λ part. part.tokens) parts
 
 -- the sums that this validator has in the list, added up
 abbrev pub sums_of_validator : ℕ → List (ℕ × Sums) → Sums
-sums_of_validator validator list = add_all (map (λ sum. sum.1) (filter (λ sum. sum.0 == validator) list))
+sums_of_validator validator list =
+    add_all (map (λ sum. sum.1) (filter (λ sum. sum.0 == validator) list))
 
 -- The whole's report: the ends of the uploads, the totals of all parts added up, each validator of
 -- the parts once with its sums in all of them, and the tokens of all parts. Validators rise and
@@ -87,7 +88,8 @@ pub record IsWholeReport (uploads : List End) (parts : List Report) (whole : Rep
   pub validators_same : (validator : ℕ)
       → is_member (eq_by_cmp nat_cmp) (keys_of whole.validators) validator
       ≡ is_member (eq_by_cmp nat_cmp) (keys_of (validators_of_reports parts)) validator
-  pub validators_sums : All (λ sum. sum.1 ≡ sums_of_validator sum.0 (validators_of_reports parts)) whole.validators
+  pub validators_sums : All
+      (λ sum. sum.1 ≡ sums_of_validator sum.0 (validators_of_reports parts)) whole.validators
   pub tokens_moved : IsPermutation (tokens_of_reports parts) whole.tokens
   pub tokens_rise : IsStrictlySortedBy token_cmp (keys_of whole.tokens)
 

@@ -358,7 +358,8 @@ fn refused_of(text: &[u8]) -> Option<End>
 pub(crate) fn end_of(line: &[u8], upload: u64) -> Option<End>
     ensures { MatchOption result
         ((end : EndOfUpload) → IsUploadEnd end → ¬ (line.now ≡ end_line upload end))
-        (λ end. IsUploadEnd (end_of_upload end) × (line.now ≡ end_line upload (end_of_upload end))) }
+        (λ end. IsUploadEnd (end_of_upload end)
+        × (line.now ≡ end_line upload (end_of_upload end))) }
 {
     let (number, rest) = count(line, b"upload ")?;
     if number != upload {

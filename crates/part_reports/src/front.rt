@@ -9,7 +9,8 @@ ghost use Rattle.part_reports.specs.Lines.{AreCounts, IsUploadEnd, IsValidatorSu
 ghost use Rattle.part_reports.specs.Lines.{end_line, end_lines, head_line, validator_line};
 ghost use Rattle.part_reports.specs.inside.Ended.{end_of_upload};
 ghost use Rattle.part_reports.specs.inside.Fronts.{AreEnds, AreSoManyPosted, AreRising, AreSums};
-ghost use Rattle.part_reports.specs.inside.Fronts.{AreValidators, IsFront, MayBePart, MayFollowValidators};
+ghost use Rattle.part_reports.specs.inside.Fronts.{AreValidators, IsFront, MayBePart};
+ghost use Rattle.part_reports.specs.inside.Fronts.{MayFollowValidators};
 ghost use Rattle.part_reports.specs.inside.Fronts.{ends_text, told_text, validators_text};
 ghost use Rattle.part_reports.specs.inside.Reading.{IsRead};
 

@@ -9,13 +9,14 @@ ghost use Rattle.part_reports.specs.TokenLines.{TokenLine};
 
 /// Two reports that tell something else have other texts.
 pub fn texts_differ()
-    ensures any { (a b : Report) → HasLegalNumbers a → HasLegalNumbers b → report_text a ≡ report_text b
-        → a ≡ b }
+    ensures any { (a b : Report) → HasLegalNumbers a → HasLegalNumbers b
+        → report_text a ≡ report_text b → a ≡ b }
     ensures parts { (a b : Report) → IsPartReport a → IsPartReport b
         → report_text a ≡ report_text b → a ≡ b }
 {}
 
 /// A text is the ledger of at most one list of lines.
 pub fn ledgers_differ()
-    ensures { (a b : List TokenLine) (text : List ℕ) → IsPartLedger a text → IsPartLedger b text → a ≡ b }
+    ensures { (a b : List TokenLine) (text : List ℕ) → IsPartLedger a text → IsPartLedger b text
+        → a ≡ b }
 {}

@@ -9,7 +9,8 @@ ghost use Rattle.part_reports.specs.Faults.{IsOfTaps, IsOfTexts};
 ghost use Rattle.part_reports.specs.TokenLines.{IsMergedByToken, TokenLine, text_of};
 ghost use Rattle.part_reports.specs.inside.Kinds.{AreTexts, IsTextOf};
 ghost use Rattle.part_reports.specs.inside.Least.{IsLeast, IsTwin};
-ghost use Rattle.part_reports.specs.inside.Sources.{IsBehindOne, IsFirstLine, IsLineOfKind, IsSource};
+ghost use Rattle.part_reports.specs.inside.Sources.{IsBehindOne, IsFirstLine, IsLineOfKind};
+ghost use Rattle.part_reports.specs.inside.Sources.{IsSource};
 ghost use Rattle.part_reports.specs.inside.Sources.{MayEnd, MayFollow, MayFollowAll, MayFollowHead};
 ghost use Rattle.part_reports.specs.inside.Sources.{IsMovedAt, IsStuckAt, standing};
 

@@ -2,7 +2,8 @@
 
 ghost use Rattle.std.specs.Prelude.{◌≡◌, ◌+◌, ◌<◌, ◌^◌, [], true, false, IfOk};
 ghost use Rattle.shard_book.specs.Sums.{add_sums, sums_of};
-ghost use Rattle.part_reports.specs.inside.Sums.{AreFrontsCounted, WithFront, WithOne, WithValidators};
+ghost use Rattle.part_reports.specs.inside.Sums.{AreFrontsCounted, WithFront, WithOne};
+ghost use Rattle.part_reports.specs.inside.Sums.{WithValidators};
 ghost use Rattle.part_reports.specs.inside.Sums.{or_nothing};
 ghost use Rattle.std.specs.Option.{option_map};
 ghost use Rattle.std.specs.BTreeMap.{get};

@@ -20,7 +20,8 @@ use Rattle.part_reports.specs.inside.Fronts.{IsFront, ToldFront}
 -- the sums that this validator has in the list; none where it is not in it
 abbrev pub sums_found : List (ℕ × Sums) → ℕ → Option Sums
 sums_found list validator =
-    if is_member (eq_by_cmp nat_cmp) (keys_of list) validator then Some (sums_of_validator validator list)
+    if is_member (eq_by_cmp nat_cmp) (keys_of list) validator
+    then Some (sums_of_validator validator list)
     else None
 
 -- the map has these sums
@@ -67,6 +68,7 @@ pub record AreFew (fronts : List ToldFront) : Type 0 where
 -- what a report tells was added; or it would be more than any run has
 abbrev pub WithFront : WholeSums → WholeSums → Front → Bool → Type 0
 WithFront before after front true = (fronts : List ToldFront) (told : ToldFront)
-    → AreFrontsCounted before fronts → IsFront front told → AreFrontsCounted after (fronts ++ told ∷ [])
+    → AreFrontsCounted before fronts → IsFront front told
+    → AreFrontsCounted after (fronts ++ told ∷ [])
 WithFront before after front false = (fronts : List ToldFront) (told : ToldFront)
     → AreFrontsCounted before fronts → IsFront front told → ¬ (AreFew (fronts ++ told ∷ []))
