@@ -16,7 +16,8 @@ use Rattle.fare_texts.specs.Counts.{counts, totals_line}
 use Rattle.fare_service.specs.Ends.{end_by}
 use Rattle.fare_service.specs.Plain.{ArePlainEnds, IsPlainEnd, WasWhole}
 use Rattle.fare_service.specs.Shares.{IsFaultOf}
-use Rattle.fare_service.specs.Text.{fault_name, report, upload_line, upload_lines, uploads_head}
+use Rattle.fare_service.specs.Text.{report, upload_line, upload_lines, uploads_head}
+use Rattle.tap_views.specs.Names.{fault_name}
 use Rattle.fare_service.specs.Text.{tokens_head, validators_head}
 use Rattle.fare_service.specs.Text.{validator_line as validator_text, token_line as token_text}
 use Rattle.fare_service.specs.declared.upload_end.UploadEnd.{UploadEnd}
