@@ -129,7 +129,8 @@ impl<'a> Options<'a> {
     /// What the words ask for; else clap's error, which may be a call for help.
     pub fn read(alloc: Global, words: &'a [String]) -> Result<Options<'a>, Error>
         ensures asked { IfOk result
-            (λ options. audit_asked_of options ≡ audit_asked_by (map string_bytes words.entry.now)) }
+            (λ options. audit_asked_of options
+            ≡ audit_asked_by (map string_bytes words.entry.now)) }
         ensures kinds { FailsBy (fault_of audit_program (map string_bytes words.entry.now)) result }
     {
         let matches = matched(alloc, words)?;
