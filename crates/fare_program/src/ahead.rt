@@ -28,7 +28,7 @@ pub struct Early {
 }
 
 /// Takes the next file of the list, which stands last there, where it has this name.
-pub fn take_next(early: &mut Vec<Early>, name: &str) -> Option<Result<Vec<u8>, LoadFault>>
+pub(crate) fn take_next(early: &mut Vec<Early>, name: &str) -> Option<Result<Vec<u8>, LoadFault>>
     ensures taken { IfSome result (λ loaded. (next : Early)
         × (early.old.items ≡ early.new.items ++ next ∷ []) × (string_bytes next.name ≡ name.now)
         × (next.loaded ≡ loaded)) }

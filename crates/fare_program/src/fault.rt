@@ -12,7 +12,7 @@ use std::fmt;
 
 /// Why the program gives up. Its `Display` is the fault line without its line feed.
 #[derive(Clone, Copy, Debug)]
-pub enum Fault<'a> {
+pub(crate) enum Fault<'a> {
     /// The token is not 32 hexadecimal digits.
     Digits,
     /// A statement is asked for without a fare table.
@@ -47,7 +47,7 @@ pub enum Fault<'a> {
 
 impl<'a> Fault<'a> {
     /// Why the file of this name was not loaded.
-    pub fn of_load(name: &'a str, fault: LoadFault) -> Fault<'a>
+    pub(crate) fn of_load(name: &'a str, fault: LoadFault) -> Fault<'a>
         ensures line { fault_text result ≡ load_text name.entry.now fault }
         ensures status { status_of result ≡ 1 }
     {
@@ -55,7 +55,7 @@ impl<'a> Fault<'a> {
     }
 
     /// Why the service was not opened, with a number of shards that it takes.
-    pub fn of_open(fault: OpenFault) -> Fault<'a>
+    pub(crate) fn of_open(fault: OpenFault) -> Fault<'a>
         requires { fault ≢ OpenFault.Shards }
         ensures uploads { fault ≡ OpenFault.Uploads → result ≡ Fault.Uploads }
         ensures memory { fault ≡ OpenFault.NoMemory → result ≡ Fault.NoMemory }
@@ -68,7 +68,7 @@ impl<'a> Fault<'a> {
     }
 
     /// Why the service was not run, with a number of workers that it takes.
-    pub fn of_run(fault: RunFault) -> Fault<'a>
+    pub(crate) fn of_run(fault: RunFault) -> Fault<'a>
         requires { fault ≢ RunFault.Workers }
         ensures memory { fault ≡ RunFault.NoMemory → result ≡ Fault.NoMemory }
         ensures gather { (why : GatherFault) → fault ≡ RunFault.Gather why
@@ -93,7 +93,7 @@ impl<'a> Fault<'a> {
     }
 
     /// The status with which the program ends.
-    pub fn status(&self) -> u8
+    pub(crate) fn status(&self) -> u8
         ensures { result ≡ status_of self.now }
     {
         match self {

@@ -22,7 +22,7 @@ impl fmt::Display for Word {
 
 /// Writes the line of a tap.
 #[tactic(auto, unfolding(crate::specs::Lines::tap_line))]
-pub fn write_tap(
+pub(crate) fn write_tap(
     text: &mut String,
     upload: u64,
     number: u64,
@@ -44,7 +44,7 @@ pub fn write_tap(
 
 /// Writes the last line of an upload whose batch at the offset was refused.
 #[tactic(auto, unfolding(crate::specs::Lines::refused_line))]
-pub fn write_refused(
+pub(crate) fn write_refused(
     text: &mut String,
     upload: u64,
     offset: u64,
@@ -60,7 +60,7 @@ pub fn write_refused(
 
 /// Writes the last line of a listing.
 #[tactic(auto, unfolding(crate::specs::Lines::counts_line))]
-pub fn write_counts(text: &mut String, counts: ListCounts) -> Result<(), NoMemory>
+pub(crate) fn write_counts(text: &mut String, counts: ListCounts) -> Result<(), NoMemory>
     ensures { OnOk result (string_bytes text.new
         ≡ string_bytes text.old ++ counts_line counts) }
 {

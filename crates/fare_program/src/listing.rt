@@ -16,7 +16,7 @@ use tap_views::TapView;
 
 /// What a listing says of a tap.
 #[derive(Clone, Copy, Debug, PartialEq, Eq)]
-pub enum Word {
+pub(crate) enum Word {
     /// The validator is known, and the tap is later than every known tap of its token before it.
     Live,
     /// The validator is known, and a known tap of the token with this moment or a later one came
@@ -28,15 +28,15 @@ pub enum Word {
 
 /// How many taps were listed, and how many with each word.
 #[derive(Clone, Copy, Debug, PartialEq, Eq)]
-pub struct ListCounts {
+pub(crate) struct ListCounts {
     /// All taps; the other three add up to it.
-    pub taps: u128,
+    pub(crate) taps: u128,
     /// Those told as live.
-    pub live: u128,
+    pub(crate) live: u128,
     /// Those told as stale.
-    pub stale: u128,
+    pub(crate) stale: u128,
     /// Those told as unknown.
-    pub unknown: u128,
+    pub(crate) unknown: u128,
 }
 
 impl ListCounts {
@@ -115,7 +115,7 @@ fn word_next(
 
 /// Gives each tap its word, from the taps that were listed before it.
 #[derive(Drop)]
-pub struct Listing {
+pub(crate) struct Listing {
     // the moment of the last live tap of each token
     last: BTreeMap<[u8; 16], u64>,
     counts: ListCounts,
@@ -134,7 +134,7 @@ impl Model for Listing {
 
 impl Listing {
     /// A listing of no taps.
-    pub fn new(alloc: Global) -> Listing
+    pub(crate) fn new(alloc: Global) -> Listing
         ensures { StandsFor result [] }
     {
         Listing {
@@ -145,7 +145,7 @@ impl Listing {
 
     /// Lists one more tap, `known` where its validator is, and says its word. A listing whose
     /// memory was refused stays as it was.
-    pub fn add(&mut self, tap: &TapView, known: bool) -> Result<Word, NoMemory>
+    pub(crate) fn add(&mut self, tap: &TapView, known: bool) -> Result<Word, NoMemory>
         requires { self.old.counts.taps < 2 ^ 127 }
         ensures word { IfOk result (λ word. (taps : List Listed) → StandsFor self.old taps
             → word ≡ word_of taps (listed_of tap.now known)) }
@@ -160,7 +160,7 @@ impl Listing {
     }
 
     /// How many taps were listed, and how many with each word.
-    pub fn counts(&self) -> ListCounts
+    pub(crate) fn counts(&self) -> ListCounts
         ensures kept { result ≡ self.now.counts }
         ensures counts { (taps : List Listed) → StandsFor self.now taps → result ≡ counts_of taps }
     {

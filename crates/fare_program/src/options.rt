@@ -166,7 +166,7 @@ fn number_in<'a>(matches: &ArgMatches<'a>, name: &str) -> u32
 
 impl<'a> Options<'a> {
     /// What the words ask for; else clap's error, which may be a call for help.
-    pub fn read(alloc: Global, words: &'a [String]) -> Result<Options<'a>, Error>
+    pub(crate) fn read(alloc: Global, words: &'a [String]) -> Result<Options<'a>, Error>
         ensures asked { IfOk result
             (λ options. asked_of options ≡ asked_by (map string_bytes words.entry.now)) }
         ensures kinds { FailsBy (fault_of program (map string_bytes words.entry.now)) result }

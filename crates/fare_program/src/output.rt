@@ -6,7 +6,7 @@ use crate::fault::Fault;
 use std::io::Write;
 
 /// Brings what was written through to where the writer brings it.
-pub fn flush<'a, W: Write>(out: &mut W) -> Result<(), Fault<'a>>
+pub(crate) fn flush<'a, W: Write>(out: &mut W) -> Result<(), Fault<'a>>
     ensures fault { IfErr result (λ fault. fault ≡ Fault.Write) }
     ensures kept { Keeps (W.contents out.old) (W.contents out.new) }
 {
@@ -17,7 +17,7 @@ pub fn flush<'a, W: Write>(out: &mut W) -> Result<(), Fault<'a>>
 }
 
 /// Writes the whole text, through to where the writer brings it.
-pub fn write_text<'a, W: Write>(out: &mut W, text: &str) -> Result<(), Fault<'a>>
+pub(crate) fn write_text<'a, W: Write>(out: &mut W, text: &str) -> Result<(), Fault<'a>>
     ensures fault { IfErr result (λ fault. fault ≡ Fault.Write) }
     ensures text { OnOk result (Appends (W.contents out.old) (W.contents out.new) text.now) }
 {

@@ -24,16 +24,16 @@ use std::thread::Threads;
 
 /// What came of posting files.
 #[derive(Drop)]
-pub struct Posted {
+pub(crate) struct Posted {
     /// What the service came to.
-    pub outcome: Outcome,
+    pub(crate) outcome: Outcome,
     /// How the files ended, where other files were posted in their place.
-    pub given: Option<Vec<UploadEnd>>,
+    pub(crate) given: Option<Vec<UploadEnd>>,
 }
 
 impl Posted {
     /// How each file ended.
-    pub fn ends(&self) -> &[UploadEnd]
+    pub(crate) fn ends(&self) -> &[UploadEnd]
         ensures { result.now ≡ ends_of self.now }
     {
         match &self.given {
@@ -137,7 +137,7 @@ fn print_asked<'a, R: Threads + Sync, W: Write>(
 
 /// Posts the files, settled where that is asked for, and writes what is asked for. Says whether
 /// each file was posted whole.
-pub fn charge<'a, R: Threads + Wait + RandomSource + Sync, W: Write>(
+pub(crate) fn charge<'a, R: Threads + Wait + RandomSource + Sync, W: Write>(
     rt: &R,
     alloc: Global,
     options: &Options<'a>,

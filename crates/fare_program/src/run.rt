@@ -19,7 +19,7 @@ use std::sync::Wait;
 use std::thread::Threads;
 
 /// What the service comes to over these uploads, by this table.
-pub fn outcome_of<'a, R: Threads + Wait + RandomSource + Sync>(
+pub(crate) fn outcome_of<'a, R: Threads + Wait + RandomSource + Sync>(
     rt: &R,
     alloc: Global,
     table: FareTable,
@@ -56,7 +56,7 @@ fn shows_plain(files: &[Vec<u8>], outcome: &Outcome)
 }
 
 /// Posts the files as they are.
-pub fn post_live<'a, R: Threads + Wait + RandomSource + Sync>(
+pub(crate) fn post_live<'a, R: Threads + Wait + RandomSource + Sync>(
     rt: &R,
     alloc: Global,
     table: FareTable,
@@ -86,7 +86,7 @@ fn is_posted(end: UploadEnd) -> bool
 }
 
 /// Whether each upload was posted whole.
-pub fn are_posted(ends: &[UploadEnd]) -> bool
+pub(crate) fn are_posted(ends: &[UploadEnd]) -> bool
     ensures { result ≡ are_posted ends.now }
 {
     ends.iter().all(|end| is_posted(*end))

@@ -43,7 +43,7 @@ fn whole_outcome_of<'a, R: Threads + Wait + RandomSource + Sync>(
 
 /// Posts the taps of the files in canonical order. How the files ended is told of those that were
 /// given.
-pub fn post_settled<'a, R: Threads + Wait + RandomSource + Sync>(
+pub(crate) fn post_settled<'a, R: Threads + Wait + RandomSource + Sync>(
     rt: &R,
     alloc: Global,
     table: FareTable,

@@ -103,7 +103,7 @@ fn post_rest(alloc: Global, book: &mut ShardBook, rest: &[TapFields], out: &mut 
 /// `post_run` of forty taps: a cut run posted exactly its first taps, and the others can be posted
 /// afterwards. Would catch a book that keeps a mark of a refusal, which no contract sees, and takes
 /// nothing more.
-pub fn cut_run<R: RandomSource>(rt: &R, alloc: Global) -> Case {
+pub(crate) fn cut_run<R: RandomSource>(rt: &R, alloc: Global) -> Case {
     let taps = forty_taps(alloc)?;
     let mut book = book(rt, alloc)?;
     let mut out = Replies::new(alloc);
@@ -160,7 +160,7 @@ fn post_twice(
 /// `post` of forty taps, one at a time. Would catch one that gives up where memory is there, as a
 /// book whose first growth is forgotten and which never takes a tap, and one that gives up for good
 /// after a refusal.
-pub fn posts<R: RandomSource>(rt: &R, alloc: Global) -> Case {
+pub(crate) fn posts<R: RandomSource>(rt: &R, alloc: Global) -> Case {
     let taps = forty_taps(alloc)?;
     let mut book = book(rt, alloc)?;
     let mut refused = false;
@@ -182,7 +182,7 @@ fn has_ends(alloc: Global, clock: &Clock, run: &Run) -> Case {
 
 /// `Ends::of` and `fill`. Would catch a list of ends that cannot be filled again after it was
 /// refused.
-pub fn window_ends(alloc: Global) -> Case {
+pub(crate) fn window_ends(alloc: Global) -> Case {
     let bytes = encode(alloc, &[tap(0xa1, SUBWAY, 0), tap(0xa1, BUS, 7_200_000)])?;
     let (batch, _) = Batch::first(&bytes)?;
     let run = batch.run_of(0, 1);
@@ -226,7 +226,7 @@ fn lists_tokens(alloc: Global, book: &ShardBook) -> Case {
 
 /// `tokens`. Would catch one that always gives up, or does so for good after a refusal, also where
 /// the book stayed the same.
-pub fn tokens<R: RandomSource>(rt: &R, alloc: Global) -> Case {
+pub(crate) fn tokens<R: RandomSource>(rt: &R, alloc: Global) -> Case {
     let book = full_book(rt, alloc)?;
     match lists_tokens(alloc, &book) {
         Err(Stop::Refused) => {
@@ -260,7 +260,7 @@ fn adds_up(alloc: Global, book: &ShardBook) -> Case {
 
 /// `by_validator` and `by_token`. Would catch one that always gives up, or does so for good after a
 /// refusal.
-pub fn sums<R: RandomSource>(rt: &R, alloc: Global) -> Case {
+pub(crate) fn sums<R: RandomSource>(rt: &R, alloc: Global) -> Case {
     let book = full_book(rt, alloc)?;
     match adds_up(alloc, &book) {
         Err(Stop::Refused) => {
@@ -287,7 +287,7 @@ fn states(alloc: Global, book: &ShardBook) -> Case {
 }
 
 /// `statement`. Would catch one that always gives up, or does so for good after a refusal.
-pub fn statement<R: RandomSource>(rt: &R, alloc: Global) -> Case {
+pub(crate) fn statement<R: RandomSource>(rt: &R, alloc: Global) -> Case {
     let book = full_book(rt, alloc)?;
     match states(alloc, &book) {
         Err(Stop::Refused) => {

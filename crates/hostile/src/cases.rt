@@ -11,7 +11,7 @@ use std::sync::Wait;
 use std::thread::Threads;
 
 /// The cases, in the order in which they are made.
-pub const CASES: [&str; 14] = [
+pub(crate) const CASES: [&str; 14] = [
     "encode",
     "read",
     "try_clone",
@@ -29,7 +29,7 @@ pub const CASES: [&str; 14] = [
 ];
 
 /// Makes the case of this name.
-pub fn made<R: Threads + Wait + RandomSource + Sync + Print>(
+pub(crate) fn made<R: Threads + Wait + RandomSource + Sync + Print>(
     rt: &R,
     alloc: Global,
     name: &str,

@@ -7,10 +7,10 @@ use std::alloc::Global;
 use tap_views::{TapFields, encode};
 
 /// Where a window that starts with the day ends: 2024-03-15T04:00Z, midnight in New York.
-pub const UNTIL: u64 = 1_710_475_200_000;
+pub(crate) const UNTIL: u64 = 1_710_475_200_000;
 
 /// The statement of the first upload's token.
-pub const STATEMENT: &str = "statement 000000000000000000000000000000a1
+pub(crate) const STATEMENT: &str = "statement 000000000000000000000000000000a1
 2024-03-08T17:00:00.000Z subway 1000 paid 300
 2024-03-08T17:20:00.000Z bus 2000 transfer 0
 2024-03-08T17:40:00.000Z bus 2000 paid 300
@@ -20,18 +20,18 @@ window 2024-03-08T17:00:00.000Z 2024-03-15T04:00:00.000Z paid 2 cents 600
 ";
 
 /// A tap so many milliseconds after the start.
-pub fn tap(last: u8, validator: u32, after: u32) -> TapFields {
+pub(crate) fn tap(last: u8, validator: u32, after: u32) -> TapFields {
     sample_table::tap(last, validator, START + u64::from(after))
 }
 
 /// The sample table under New York's civil time.
-pub fn table(alloc: Global) -> Result<FareTable, Stop> {
+pub(crate) fn table(alloc: Global) -> Result<FareTable, Stop> {
     Ok(FareTable::read(alloc, NEW_YORK.as_bytes())?)
 }
 
 /// Two uploads: subway, bus, bus, subway of one token; of another a tap that no validator of the
 /// table made, and an earlier one.
-pub fn uploads(alloc: Global) -> Result<Vec<Vec<u8>>, Stop> {
+pub(crate) fn uploads(alloc: Global) -> Result<Vec<Vec<u8>>, Stop> {
     let mut uploads = Vec::new(alloc);
     let rides = [
         tap(0xa1, SUBWAY, 0),

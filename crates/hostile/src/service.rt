@@ -59,7 +59,7 @@ fn opens<R: RandomSource>(rt: &R, alloc: Global, uploads: &[Vec<u8>]) -> Case {
 
 /// `open` and `gather`. Would catch one that always gives up, and one that does so for good after a
 /// refusal.
-pub fn opening<R: RandomSource>(rt: &R, alloc: Global) -> Case {
+pub(crate) fn opening<R: RandomSource>(rt: &R, alloc: Global) -> Case {
     let uploads = uploads(alloc)?;
     match opens(rt, alloc, uploads.as_slice()) {
         Err(Stop::Refused) => again(opens(rt, alloc, uploads.as_slice())),
@@ -113,7 +113,7 @@ fn runs<R: Threads + Wait + RandomSource + Sync + Print, G: Gate + Sync>(
 /// It prints when the run begins and which uploads have ended, and `hostile/refuse` holds it to
 /// this: memory that is refused in between leaves an upload cut or undrawn, or no outcome; and
 /// where it is refused after the last upload's end, none is.
-pub fn run<R: Threads + Wait + RandomSource + Sync + Print>(rt: &R, alloc: Global) -> Case {
+pub(crate) fn run<R: Threads + Wait + RandomSource + Sync + Print>(rt: &R, alloc: Global) -> Case {
     let uploads = uploads(alloc)?;
     let first = runs(rt, alloc, uploads.as_slice(), &Telling { rt });
     if first == Err(Stop::Refused) || first == Err(Stop::Less) {
@@ -152,7 +152,10 @@ fn is_written(answer: Result<(), PrintFault>, written: &[u8], text: &str) -> Cas
 /// `write_report`. Would catch one that always gives up, or does so for good after a refusal; also
 /// a part of the text that is written before a refusal, to a writer of which contracts know
 /// nothing.
-pub fn prints_report<R: Threads + Wait + RandomSource + Sync>(rt: &R, alloc: Global) -> Case {
+pub(crate) fn prints_report<R: Threads + Wait + RandomSource + Sync>(
+    rt: &R,
+    alloc: Global,
+) -> Case {
     let outcome = whole_outcome(rt, alloc)?;
     let mut written = Vec::with_capacity(alloc, 2000)?;
     let answer = outcome.write_report(rt, alloc, &mut written);
@@ -166,7 +169,10 @@ pub fn prints_report<R: Threads + Wait + RandomSource + Sync>(rt: &R, alloc: Glo
 }
 
 /// `write_statement`. Would catch the same as `prints_report`.
-pub fn prints_statement<R: Threads + Wait + RandomSource + Sync>(rt: &R, alloc: Global) -> Case {
+pub(crate) fn prints_statement<R: Threads + Wait + RandomSource + Sync>(
+    rt: &R,
+    alloc: Global,
+) -> Case {
     let outcome = whole_outcome(rt, alloc)?;
     let token = Token::of(&bytes_of(0xa1));
     let mut written = Vec::with_capacity(alloc, 2000)?;

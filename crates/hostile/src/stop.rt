@@ -7,7 +7,7 @@ use tap_views::{EncodeFault, LayoutFault};
 
 /// Why a case stops before all is answered.
 #[derive(Clone, Copy, Debug, PartialEq, Eq)]
-pub enum Stop {
+pub(crate) enum Stop {
     /// Memory was refused, and what stood then was as promised.
     Refused,
     /// A run was gathered, and it tells of an upload that was cut or left undrawn.
@@ -17,10 +17,10 @@ pub enum Stop {
 }
 
 /// What became of a case: `Ok` where all was answered.
-pub type Case = Result<(), Stop>;
+pub(crate) type Case = Result<(), Stop>;
 
 /// Stops with `what` where the promise does not hold.
-pub fn promise(holds: bool, what: &'static str) -> Case {
+pub(crate) fn promise(holds: bool, what: &'static str) -> Case {
     if holds {
         Ok(())
     } else {
@@ -29,13 +29,13 @@ pub fn promise(holds: bool, what: &'static str) -> Case {
 }
 
 /// How a case ends that went on after a refusal.
-pub fn ended(refused: bool) -> Case {
+pub(crate) fn ended(refused: bool) -> Case {
     if refused { Err(Stop::Refused) } else { Ok(()) }
 }
 
 /// How a case ends in which a refused call was made again: one allocation of a run is refused, so
 /// the second call must be answered.
-pub fn again(second: Case) -> Case {
+pub(crate) fn again(second: Case) -> Case {
     match second {
         Ok(()) => Err(Stop::Refused),
         Err(Stop::Refused | Stop::Less) => Err(Stop::Wrong("gives up again")),

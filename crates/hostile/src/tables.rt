@@ -41,7 +41,7 @@ fn encoded(alloc: Global, taps: &[TapFields; 2]) -> Case {
 
 /// `encode` and `encode_tap2`. Would catch one that gives up where memory is there, or that keeps a
 /// mark of a refusal and gives up from then on.
-pub fn encodes(alloc: Global) -> Case {
+pub(crate) fn encodes(alloc: Global) -> Case {
     let taps = [tap(0xa1, SUBWAY, 0), tap(0xa1, BUS, 7_200_000)];
     match encoded(alloc, &taps) {
         Err(Stop::Refused) => again(encoded(alloc, &taps)),
@@ -84,7 +84,7 @@ fn was_read(alloc: Global) -> Case {
 
 /// `FareTable::read`. Would catch one that gives up where memory is there. A refusal inside `toml`
 /// must not be told as a fault of the text, which a contract says too.
-pub fn read(alloc: Global) -> Case {
+pub(crate) fn read(alloc: Global) -> Case {
     match was_read(alloc) {
         Err(Stop::Refused) => again(was_read(alloc)),
         first => first,
@@ -100,7 +100,7 @@ fn cloned(alloc: Global, table: &FareTable) -> Case {
 }
 
 /// `try_clone`, which takes no memory of its own. Would catch one that always gives up.
-pub fn clone(alloc: Global) -> Case {
+pub(crate) fn clone(alloc: Global) -> Case {
     let table = table(alloc)?;
     match cloned(alloc, &table) {
         Err(Stop::Refused) => {
@@ -128,7 +128,7 @@ fn tells_ends(alloc: Global, table: &FareTable) -> Case {
 
 /// `clock` and `until`. Would catch a rule text that means other dates than New York's, since the
 /// contract leaves to `jiff` what a text means.
-pub fn clock(alloc: Global) -> Case {
+pub(crate) fn clock(alloc: Global) -> Case {
     let table = table(alloc)?;
     match tells_ends(alloc, &table) {
         Err(Stop::Refused) => {

@@ -28,7 +28,7 @@ const STEP: usize = 65_536;
 
 /// The verdict on all that the reader has left, whose taps are struck out. It keeps no more of it
 /// than one read gives, and reads no further than to the first wrong line.
-pub fn verdict_of<R: Read>(
+pub(crate) fn verdict_of<R: Read>(
     alloc: Global,
     table: &FareTable,
     clock: &Clock,
@@ -107,7 +107,7 @@ fn answer_text(
 
 /// Checks the ledger that the reader has left, beside the taps of uploads that the balance has, and
 /// writes the answer. Says whether all is well.
-pub fn audit_over<R: Read, W: Write>(
+pub(crate) fn audit_over<R: Read, W: Write>(
     alloc: Global,
     table: &FareTable,
     clock: &Clock,

@@ -10,7 +10,7 @@ use std::fmt;
 
 /// Why the program gives up. Its `Display` is the fault line without its line feed.
 #[derive(Clone, Copy, Debug)]
-pub enum Fault<'a> {
+pub(crate) enum Fault<'a> {
     /// A file was not loaded, or the ledger not opened.
     File(FileFault<'a>),
     /// A read of the ledger failed.
@@ -27,7 +27,7 @@ pub enum Fault<'a> {
 
 impl<'a> Fault<'a> {
     /// Why the file of this name was not loaded.
-    pub fn of_load(name: &'a str, fault: LoadFault) -> Fault<'a>
+    pub(crate) fn of_load(name: &'a str, fault: LoadFault) -> Fault<'a>
         ensures line { audit_fault_text result ≡ load_text name.entry.now fault }
         ensures named { IfSome (named_by result) (λ told. told ≡ name.entry.now) }
         ensures unwritten { is_unwritten result ≡ false }
@@ -36,7 +36,7 @@ impl<'a> Fault<'a> {
     }
 
     /// Whether who reads the text has closed it, so that nothing is told.
-    pub fn is_quiet(&self) -> bool
+    pub(crate) fn is_quiet(&self) -> bool
         ensures { result ≡ is_quiet self.now }
     {
         match self {

@@ -7,13 +7,13 @@ use std::{fs, io};
 
 /// Loads from the system's files and standard input. It does not keep what it loaded.
 #[derive(Drop)]
-pub struct Host<'a> {
+pub(crate) struct Host<'a> {
     rt: &'a HostRuntime,
 }
 
 impl<'a> Host<'a> {
     /// What this runtime reaches.
-    pub fn new(rt: &'a HostRuntime) -> Host<'a> {
+    pub(crate) fn new(rt: &'a HostRuntime) -> Host<'a> {
         Host { rt }
     }
 }

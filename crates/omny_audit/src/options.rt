@@ -44,13 +44,13 @@ Exit status:
 
 /// What the words ask for.
 #[derive(Drop)]
-pub struct Options<'a> {
+pub(crate) struct Options<'a> {
     /// The file of the fare table.
-    pub table: &'a str,
+    pub(crate) table: &'a str,
     /// The files of the uploads whose taps the ledger should have; none asks for no such check.
-    pub uploads: Vec<&'a str>,
+    pub(crate) uploads: Vec<&'a str>,
     /// The file of the ledger; none stands for standard input.
-    pub ledger: Option<&'a str>,
+    pub(crate) ledger: Option<&'a str>,
 }
 
 /// The help of `--table`.
@@ -127,7 +127,7 @@ fn ledger_in<'a>(named: Option<&'a str>) -> Option<&'a str>
 
 impl<'a> Options<'a> {
     /// What the words ask for; else clap's error, which may be a call for help.
-    pub fn read(alloc: Global, words: &'a [String]) -> Result<Options<'a>, Error>
+    pub(crate) fn read(alloc: Global, words: &'a [String]) -> Result<Options<'a>, Error>
         ensures asked { IfOk result
             (λ options. audit_asked_of options
             ≡ audit_asked_by (map string_bytes words.entry.now)) }

@@ -8,7 +8,7 @@ use std::io;
 use std::io::{ErrorKind, Write};
 
 /// Why a write failed.
-pub fn unwritten<'a>(error: &io::Error) -> Fault<'a>
+pub(crate) fn unwritten<'a>(error: &io::Error) -> Fault<'a>
     ensures unwritten { is_unwritten result ≡ true }
     ensures named { named_by result ≡ None }
 {
@@ -20,7 +20,7 @@ pub fn unwritten<'a>(error: &io::Error) -> Fault<'a>
 }
 
 /// Brings what was written through to where the writer brings it.
-pub fn flush<'a, W: Write>(out: &mut W) -> Result<(), Fault<'a>>
+pub(crate) fn flush<'a, W: Write>(out: &mut W) -> Result<(), Fault<'a>>
     ensures fault { IfErr result (λ fault. is_unwritten fault ≡ true) }
     ensures named { IfErr result (λ fault. named_by fault ≡ None) }
     ensures kept { Keeps (W.contents out.old) (W.contents out.new) }
@@ -32,7 +32,7 @@ pub fn flush<'a, W: Write>(out: &mut W) -> Result<(), Fault<'a>>
 }
 
 /// Writes the whole text, through to where the writer brings it.
-pub fn write_text<'a, W: Write>(out: &mut W, text: &str) -> Result<(), Fault<'a>>
+pub(crate) fn write_text<'a, W: Write>(out: &mut W, text: &str) -> Result<(), Fault<'a>>
     ensures fault { IfErr result (λ fault. is_unwritten fault ≡ true) }
     ensures named { IfErr result (λ fault. named_by fault ≡ None) }
     ensures text { OnOk result (Appends (W.contents out.old) (W.contents out.new) text.now) }

@@ -13,7 +13,7 @@ use tap_views::TapFields;
 
 /// The line of the verdict, with its line feed.
 #[tactic(auto, unfolding(crate::specs::Text::verdict_text))]
-pub fn verdict_line(alloc: Global, verdict: &Verdict) -> Result<String, AllocError>
+pub(crate) fn verdict_line(alloc: Global, verdict: &Verdict) -> Result<String, AllocError>
     ensures { IfOk result (λ text. string_bytes text ≡ verdict_text verdict.now) }
 {
     match verdict {
@@ -54,7 +54,7 @@ fn write_tap(text: &mut String, tap: &TapFields) -> Result<(), AllocError>
 }
 
 /// Appends the line of the difference, with its line feed.
-pub fn write_difference(
+pub(crate) fn write_difference(
     text: &mut String,
     difference: &Option<Difference>,
 ) -> Result<(), AllocError>

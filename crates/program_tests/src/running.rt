@@ -9,7 +9,7 @@ use std::sync::Wait;
 use std::thread::Threads;
 
 /// A disk of which nothing is read before its turn.
-pub struct NoDisk;
+pub(crate) struct NoDisk;
 
 impl Disk for NoDisk {
     fn may_be_early(&self, _: &str) -> bool {
@@ -23,7 +23,7 @@ impl Disk for NoDisk {
 
 /// Runs the program with these words after its name. Returns the status and what was said on the
 /// second writer.
-pub fn run_over<R: Threads + Wait + RandomSource + Sync, D: Disk + Sync, S: Source, W: Write>(
+pub(crate) fn run_over<R: Threads + Wait + RandomSource + Sync, D: Disk + Sync, S: Source, W: Write>(
     rt: &R,
     alloc: Global,
     words: &[&str],

@@ -7,12 +7,12 @@ pub use sample_table::SAMPLE;
 use std::alloc::{AllocError, Global};
 
 /// Two taps of one token: validator 1000 at 2024-03-08T17:00Z, validator 2000 two hours later.
-pub const FIRST: &str =
+pub(crate) const FIRST: &str =
     "5441503100020000000000000000000000000000000000a1000003e80000018e1f01de80000000000000000000000000000000a1000007d00000018e1f6fbb80";
 
 /// What a source has under a name.
 #[derive(Clone, Copy)]
-pub enum Content<'a> {
+pub(crate) enum Content<'a> {
     /// These bytes.
     Bytes(&'a [u8]),
     /// A file that is not loaded.
@@ -30,7 +30,7 @@ struct Given {
 
 /// A source of some named files and an input, which keeps what it loaded.
 #[derive(Drop)]
-pub struct Shelf<'a> {
+pub(crate) struct Shelf<'a> {
     alloc: Global,
     files: &'a [(&'a str, Content<'a>)],
     input: Content<'a>,
@@ -39,7 +39,7 @@ pub struct Shelf<'a> {
 
 impl<'a> Shelf<'a> {
     /// A source of these files and this input, of which nothing is loaded yet.
-    pub fn new(
+    pub(crate) fn new(
         alloc: Global,
         files: &'a [(&'a str, Content<'a>)],
         input: Content<'a>,

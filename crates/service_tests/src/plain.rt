@@ -22,14 +22,14 @@ struct Known {
 
 /// All known taps of a token, in the order in which they were posted.
 #[derive(Drop)]
-pub struct PlainAccount {
+pub(crate) struct PlainAccount {
     alloc: Global,
     known: Vec<Known>,
 }
 
 impl PlainAccount {
     /// An account without taps.
-    pub fn new(alloc: Global) -> Self {
+    pub(crate) fn new(alloc: Global) -> Self {
         PlainAccount {
             alloc,
             known: Vec::new(alloc),
@@ -37,7 +37,7 @@ impl PlainAccount {
     }
 
     /// Takes one more tap, and returns the reply to it.
-    pub fn step(&mut self, validator: u32, moment: u64) -> Result<Reply, AllocError> {
+    pub(crate) fn step(&mut self, validator: u32, moment: u64) -> Result<Reply, AllocError> {
         if !(1000..3000).contains(&validator) {
             return Ok(free(Answer::Unknown));
         }
@@ -63,7 +63,7 @@ impl PlainAccount {
     }
 
     /// The last window.
-    pub fn window(&self) -> Result<Option<WindowView>, AllocError> {
+    pub(crate) fn window(&self) -> Result<Option<WindowView>, AllocError> {
         let rides = self.rides()?;
         if rides.is_empty() {
             return Ok(None);

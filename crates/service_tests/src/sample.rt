@@ -15,12 +15,12 @@ use std::thread::Threads;
 use tap_views::{TapFields, encode};
 
 /// A tap so many milliseconds after the start.
-pub fn tap(last: u8, validator: u32, after: u64) -> TapFields {
+pub(crate) fn tap(last: u8, validator: u32, after: u64) -> TapFields {
     sample_table::tap(last, validator, START.saturating_add(after))
 }
 
 /// Two uploads of one batch each.
-pub fn uploads_of(
+pub(crate) fn uploads_of(
     alloc: Global,
     one: &[TapFields],
     other: &[TapFields],
@@ -34,7 +34,7 @@ pub fn uploads_of(
 /// The uploads of the example: subway, bus, bus, subway within an hour (paid, transfer, paid,
 /// transfer); a tap at a validator that the table does not know, and then an earlier one (unknown,
 /// paid).
-pub fn two_uploads(alloc: Global) -> Result<Vec<Vec<u8>>, Fail> {
+pub(crate) fn two_uploads(alloc: Global) -> Result<Vec<Vec<u8>>, Fail> {
     let four = [
         tap(0xa1, SUBWAY, 0),
         tap(0xa1, BUS, 1_200_000),
@@ -45,13 +45,13 @@ pub fn two_uploads(alloc: Global) -> Result<Vec<Vec<u8>>, Fail> {
 }
 
 /// Two uploads of one tap each, of two tokens.
-pub fn two_taps(alloc: Global) -> Result<Vec<Vec<u8>>, Fail> {
+pub(crate) fn two_taps(alloc: Global) -> Result<Vec<Vec<u8>>, Fail> {
     let (one, other) = (tap(0xa1, SUBWAY, 0), tap(0xb2, SUBWAY, 0));
     uploads_of(alloc, &[one], &[other])
 }
 
 /// A service over the uploads, with its first share.
-pub fn opened<'a, R: RandomSource>(
+pub(crate) fn opened<'a, R: RandomSource>(
     rt: &R,
     alloc: Global,
     uploads: &'a [Vec<u8>],
@@ -64,7 +64,7 @@ pub fn opened<'a, R: RandomSource>(
 }
 
 /// So many workers post the uploads to so many shards.
-pub fn run<R: Threads + Wait + RandomSource + Sync, G: Gate + Sync>(
+pub(crate) fn run<R: Threads + Wait + RandomSource + Sync, G: Gate + Sync>(
     rt: &R,
     alloc: Global,
     uploads: &[Vec<u8>],
@@ -77,7 +77,7 @@ pub fn run<R: Threads + Wait + RandomSource + Sync, G: Gate + Sync>(
 }
 
 /// The end of an upload, or nothing where there is no such upload.
-pub fn end_of(outcome: &Outcome, upload: u32) -> Option<UploadEnd> {
+pub(crate) fn end_of(outcome: &Outcome, upload: u32) -> Option<UploadEnd> {
     if upload < outcome.uploads() {
         Some(outcome.upload(upload))
     } else {
