@@ -6,7 +6,8 @@ use Rattle.std.proofs.lemmas.Grind.{flat_map-append}
 use Rattle.std.proofs.lemmas.List.Folds.{list_all-append}
 use Rattle.fare_table.specs.Fares.{Fares}
 use Rattle.tap_views.specs.Files.{IsReading, Item}
-use Rattle.fare_program.specs.Listing.{Kept, Listed, StandsFor}
+use Rattle.fare_program.specs.Listing.{Listed}
+use Rattle.fare_program.specs.inside.Listing.{Kept, StandsFor}
 use Rattle.fare_program.specs.Uploads.{AreReadings, lines_from, listed_in, listing_lines}
 use Rattle.fare_program.specs.inside.Uploads.{ListsUpload, ListsUploads}
 

@@ -1,6 +1,7 @@
 -- A listing that is under way: what it has come to, and what is still to come.
 use Rattle.std.proofs.Common.{◌≡◌, ◌+◌, ◌∙◌, ℕ, List, [], ◌∷◌, ◌++◌, refl, sym, ap, subst, append-nil, append_assoc, length, map, zero-add, ◌≤◌, arith, length-append, Ok, Err, Bool, true, false, ◌&&◌}
-use Rattle.fare_program.specs.Listing.{Kept, Listed, StandsFor, word_of}
+use Rattle.fare_program.specs.Listing.{Listed, word_of}
+use Rattle.fare_program.specs.inside.Listing.{Kept, StandsFor}
 use Rattle.std.specs.Prelude.{Option, is_ok}
 use Rattle.std.specs.List.{list_all}
 use Rattle.std.proofs.lemmas.List.{length-map}

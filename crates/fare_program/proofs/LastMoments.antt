@@ -15,7 +15,8 @@ use Rattle.tap_views.specs.Layout.{Tap, num}
 use Rattle.fare_program.specs.declared.listing.Word.{Word}
 use Rattle.fare_program.specs.declared.listing.Word.TheVariants.{Live, Stale, Unknown}
 use Rattle.fare_program.specs.declared.listing.ListCounts.{ListCounts}
-use Rattle.fare_program.specs.Listing.{Listed, StandsFor, are_before, count_of, counts_of, is_after_last, is_word, known_of, last_of, listed_moment, word_of, words_after}
+use Rattle.fare_program.specs.Listing.{Listed, are_before, count_of, counts_of, is_word, known_of, listed_moment, word_of, words_after}
+use Rattle.fare_program.specs.inside.Listing.{StandsFor, is_after_last, last_of}
 use Rattle.fare_program.specs.inside.Listing.{word_counted, last_after, word_by}
 
 -- the map's own look-up

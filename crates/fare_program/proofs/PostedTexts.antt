@@ -8,8 +8,10 @@ use Rattle.fare_service.specs.declared.upload_end.UploadEnd.{UploadEnd}
 use Rattle.ledger_texts.specs.Ledger.{IsLedgerOfBooks}
 use Rattle.fare_program.specs.Options.{Asked}
 use Rattle.fare_program.specs.Posted.{are_posted}
-use Rattle.fare_program.specs.Program.{Shows, ShowsAsked, ShowsLive, ShowsOf}
-use Rattle.fare_program.specs.Settling.{IsOutcomeOf, ShowsSettled}
+use Rattle.fare_program.specs.Program.{ShowsAsked, ShowsLive, ShowsOf}
+use Rattle.fare_program.specs.inside.Program.{Shows}
+use Rattle.fare_program.specs.Settling.{ShowsSettled}
+use Rattle.fare_program.specs.inside.Settling.{IsOutcomeOf}
 use Rattle.fare_program.specs.inside.PostedFiles.{IsLive, IsPosted}
 use Rattle.fare_program.proofs.Settled.{shows_settled}
 

@@ -13,7 +13,8 @@ use Rattle.ledger_texts.specs.Ledger.{IsLedgerOfBooks, IsLedgerOver}
 use Rattle.fare_program.specs.Options.{Asked}
 use Rattle.fare_program.specs.Posted.{are_posted}
 use Rattle.fare_program.specs.Program.{ShowsOf, ShowsWith}
-use Rattle.fare_program.specs.Settling.{IsOutcomeOf, ReportsOver, ShowsSettled}
+use Rattle.fare_program.specs.Settling.{ReportsOver, ShowsSettled}
+use Rattle.fare_program.specs.inside.Settling.{IsOutcomeOf}
 use Rattle.fare_program.proofs.Explains.{explained_same}
 use Rattle.fare_program.proofs.Ledgers.{ledger_same}
 

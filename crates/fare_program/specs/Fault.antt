@@ -1,12 +1,9 @@
 -- The fault lines, without their line feeds, and their statuses.
-use Rattle.std.specs.Prelude.{◌<◌, ℕ, List, Bool, true, false, Option, Some, None, codes}
+use Rattle.std.specs.Prelude.{ℕ, List, Bool, true, false, Option, Some, None, codes}
 use Rattle.std.specs.Prelude.{if◌then◌else◌, is_ok, is_some}
 use Rattle.hex.specs.Hex.{decode_sized}
 use Rattle.fare_service.specs.declared.faults.GatherFault.{GatherFault}
 use Rattle.fare_service.specs.declared.faults.GatherFault.TheVariants as gather
-use Rattle.fare_service.specs.declared.print_fault.PrintFault.{PrintFault}
-use Rattle.fare_service.specs.declared.print_fault.PrintFault.TheVariants as print
-use Rattle.ledger_texts.specs.declared.fault.LedgerFault.{LedgerFault}
 use Rattle.ledger_texts.specs.declared.fault.LedgerFault.TheVariants as ledger
 use Rattle.program_manners.specs.Lines.{load_text, table_text}
 use Rattle.fare_program.specs.Options.{Asked}
@@ -54,16 +51,6 @@ status_of ExplainNoToken = 2
 status_of ExplainList = 2
 status_of ExplainLedger = 2
 status_of _ = 1
-
--- why a report or a statement was not printed
-abbrev pub printed_as : PrintFault → Fault
-printed_as print.Write = Write
-printed_as print.NoMemory = NoMemory
-
--- why a ledger was not printed
-abbrev pub told_as : LedgerFault → Fault
-told_as ledger.Write = Write
-told_as ledger.NoMemory = NoMemory
 
 -- What is wrong with the token that is asked for, if anything: first its digits, and then that
 -- there is no table.
@@ -119,11 +106,3 @@ abbrev pub mistake : Asked → Option Fault
 mistake asked =
     first_of_two (token_fault asked) (first_of_two (settle_fault asked)
     (first_of_two (ledger_fault asked) (explain_fault asked)))
-
--- why a run over so many uploads came to nothing: there were too many of them, or memory or the
--- gathering failed
-abbrev pub IsRunFailure : ℕ → Fault → Type 0
-IsRunFailure uploads Uploads = 65535 < uploads
-IsRunFailure uploads NoMemory = Unit {0}
-IsRunFailure uploads (Gather fault) = Unit {0}
-IsRunFailure uploads _ = ⊥

@@ -1,4 +1,3 @@
-pub mod Ahead
 pub mod Fault
 pub mod Lines
 pub mod Listing

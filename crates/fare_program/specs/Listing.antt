@@ -1,9 +1,8 @@
 -- What a list of taps says of each of them: live, stale or unknown.
-use Rattle.std.specs.Prelude.{◌≡◌, ℕ, Bool, true, false, ◌&&◌, if◌then◌else◌, List, [], ◌∷◌}
-use Rattle.std.specs.Prelude.{◌++◌, length, filter, count_by, nat_lt, Option, None, Some}
+use Rattle.std.specs.Prelude.{ℕ, Bool, true, false, ◌&&◌, if◌then◌else◌, List, [], ◌∷◌}
+use Rattle.std.specs.Prelude.{◌++◌, length, filter, count_by, nat_lt}
 use Rattle.std.specs.List.{list_all}
 use Rattle.std.specs.Str.{bytes_eq}
-use Rattle.std.specs.Map.{lookup}
 use Rattle.tap_views.specs.Layout.{Tap, num}
 use Rattle.fare_program.specs.declared.listing.Word.{Word}
 use Rattle.fare_program.specs.declared.listing.Word.TheVariants.{Live, Stale, Unknown}
@@ -63,24 +62,3 @@ counts_of taps = record {
   stale = count_of Stale taps;
   unknown = count_of Unknown taps;
 }
-
--- what a listing keeps: the last known moment of each token, and the counts
-pub record Kept : Type 0 where
-  pub last : List (List ℕ × ℕ)
-  pub counts : ListCounts
-
--- the last moment that is kept of the token, if there is one
-abbrev pub last_of : List (List ℕ × ℕ) → List ℕ → Option ℕ
-last_of last token = lookup (bytes_eq token) last
-
--- whether the moment is after the last one, if there is one
-abbrev pub is_after_last : Option ℕ → ℕ → Bool
-is_after_last None moment = true
-is_after_last (Some last) moment = nat_lt last moment
-
--- What is kept answers for the taps of this list: a moment is later than the last known one of a
--- token where it is later than each known tap of that token, and the counts are those of the list.
-pub record StandsFor (kept : Kept) (taps : List Listed) : Type 0 where
-  pub last : (token : List ℕ) (moment : ℕ)
-      → is_after_last (last_of kept.last token) moment ≡ are_before moment (known_of token taps)
-  pub counts : kept.counts ≡ counts_of taps

@@ -1,7 +1,7 @@
 -- The command line, and what its words ask for.
 use Rattle.std.specs.Prelude.{◌≡◌, ◌⊎◌, ℕ, ℤ, Bool, false, ◌||◌, not, List, [], ◌∷◌, Option, Some}
 use Rattle.std.specs.Prelude.{codes}
-use Rattle.std.specs.Prelude.{is_some, map, option_map, pos, unwrap_or}
+use Rattle.std.specs.Prelude.{is_some, pos, unwrap_or}
 use Rattle.std.specs.Option.{option_map_or}
 use Rattle.std.specs.Str.{bytes_eq}
 use Rattle.std.specs.Str.Parse.{digits_value, without_leading_plus}
@@ -11,7 +11,6 @@ use Rattle.clap.specs.declared.builder.action.ArgAction.TheVariants.{Append}
 use Rattle.clap.specs.declared.builder.value_parser.ValueParser.TheVariants.{Signed}
 use Rattle.clap.specs.declared.error.kind.ErrorKind.TheVariants.{DisplayHelp, DisplayVersion}
 use Rattle.program_manners.specs.Words.{flag_rule, named_app, option_rule, place_rule}
-use Rattle.fare_program.specs.declared.asked.Options.{Options}
 
 -- `--table F`
 abbrev pub table_rule : Rule
@@ -125,20 +124,6 @@ asked_by words = record {
   ledger = is_given (codes "ledger") (matches_of program words);
   explain = is_given (codes "explain") (matches_of program words);
   files = files_named words;
-}
-
--- what the options ask for
-abbrev pub asked_of : Options → Asked
-asked_of options = record {
-  table = option_map (λ f. f.now) options.table;
-  list = options.list;
-  workers = options.workers;
-  shards = options.shards;
-  token = option_map (λ t. t.now) options.token;
-  settle = options.settle;
-  ledger = options.ledger;
-  explain = options.explain;
-  files = map (λ f. f.now) options.files.items;
 }
 
 -- The taps are listed by the flag, or where there is no table. Else the service runs.

@@ -85,10 +85,6 @@ abbrev pub ShowsWith : Bool → Option Token → List UploadEnd → OutcomeView 
 ShowsWith explain None ends outcome text = text ≡ report_with ends outcome
 ShowsWith explain (Some token) ends outcome text = ShowsStatement explain token outcome text
 
--- the text is the report, or the statement of this token, explained where that is asked for
-abbrev pub Shows : Bool → Option Token → OutcomeView → List ℕ → Type 0
-Shows explain token outcome text = ShowsWith explain token outcome.ends outcome text
-
 -- The text is what is asked for of an outcome, with these ends of uploads: the ledger of its books,
 -- or that of this token; else the report, or the statement of this token, explained where that is
 -- asked for.

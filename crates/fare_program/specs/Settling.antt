@@ -3,13 +3,11 @@ use Rattle.std.specs.Prelude.{◌≡◌, ℕ, Bool, List, Option, None, Some, Ma
 use Rattle.fare_table.specs.Fares.{Fares}
 use Rattle.shard_book.specs.declared.entry.Entry.{Entry}
 use Rattle.fare_table.specs.declared.token.Token.{Token}
-use Rattle.fare_service.specs.Outcomes.{OutcomeView}
 use Rattle.fare_service.specs.Plain.{ArePlainEnds, IsReportOver, IsStatementOver}
 use Rattle.fare_service.specs.declared.upload_end.UploadEnd.{UploadEnd}
 use Rattle.ledger_texts.specs.Explained.{IsExplainedOver}
 use Rattle.ledger_texts.specs.Ledger.{IsLedgerOver}
 use Rattle.settlement.specs.Settled.{IsSettledHistory}
-use Rattle.settlement.specs.Told.{TellsSettled}
 use Rattle.fare_program.specs.Options.{Asked}
 use Rattle.fare_program.specs.Posted.{are_posted}
 
@@ -28,12 +26,6 @@ abbrev pub ShowsOver : Asked → Option Token → Fares → List (List ℕ) → 
 ShowsOver asked token fares files history text =
     MatchBool asked.ledger (IsLedgerOver fares history token text)
     (ReportsOver asked.explain token fares files history text)
-
--- The files ended so, and the outcome tells their settled history.
-pub record IsOutcomeOf (fares : Fares) (files : List (List ℕ)) (ends : List UploadEnd)
-    (outcome : OutcomeView) : Type 0 where
-  pub ended : ArePlainEnds files ends
-  pub tells : TellsSettled fares files ends outcome
 
 -- The text shows what is asked for of the settled history of the files. It is well where each file
 -- ends posted whole.

@@ -1,6 +1,9 @@
 -- What only private functions cite. Who reads the contracts of public calls need not read it.
+pub mod Ahead
 pub mod Fault
 pub mod Listing
 pub mod Options
 pub mod PostedFiles
+pub mod Program
+pub mod Settling
 pub mod Uploads

@@ -126,7 +126,7 @@ impl From<TableFault> for Fault<'_> {
 }
 
 impl From<PrintFault> for Fault<'_> {
-    ghost use Rattle.fare_program.specs.Fault.{printed_as};
+    ghost use Rattle.fare_program.specs.inside.Fault.{printed_as};
 
     ghost from_gives = { λ refused fault. fault ≡ printed_as refused };
 
@@ -136,7 +136,7 @@ impl From<PrintFault> for Fault<'_> {
 }
 
 impl From<LedgerFault> for Fault<'_> {
-    ghost use Rattle.fare_program.specs.Fault.{told_as};
+    ghost use Rattle.fare_program.specs.inside.Fault.{told_as};
 
     ghost from_gives = { λ refused fault. fault ≡ told_as refused };
 

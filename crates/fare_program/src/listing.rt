@@ -3,9 +3,11 @@ ghost use Rattle.std.specs.Prelude.{◌≡◌, ◌+◌, ◌^◌, ◌<◌, ℕ, L
 ghost use Rattle.std.specs.Prelude.{◌&&◌, if◌then◌else◌};
 ghost use Rattle.std.specs.Str.{bytes_eq};
 ghost use Rattle.tap_views.specs.Layout.{num};
-ghost use Rattle.fare_program.specs.Listing.{Listed, StandsFor, counts_of, is_after_last};
+ghost use Rattle.fare_program.specs.Listing.{Listed, counts_of};
+ghost use Rattle.fare_program.specs.inside.Listing.{StandsFor, is_after_last};
 ghost use Rattle.fare_program.specs.inside.Listing.{AddsUp, word_counted};
-ghost use Rattle.fare_program.specs.Listing.{last_of, listed_of, word_of};
+ghost use Rattle.fare_program.specs.Listing.{listed_of, word_of};
+ghost use Rattle.fare_program.specs.inside.Listing.{last_of};
 ghost use Rattle.fare_program.specs.inside.Listing.{last_after, word_by};
 
 use fare_table::NoMemory;
@@ -122,7 +124,7 @@ pub(crate) struct Listing {
 }
 
 impl Model for Listing {
-    ghost use Rattle.fare_program.specs.Listing.{Kept};
+    ghost use Rattle.fare_program.specs.inside.Listing.{Kept};
     ghost use Rattle.fare_program.specs.inside.Listing.{AddsUp};
 
     ghost Value = { Kept };

@@ -3,7 +3,8 @@ ghost use Rattle.std.specs.Prelude.{◌≡◌, ◌≤◌, ◌^◌, ◌<◌, ℕ,
 ghost use Rattle.std.specs.Prelude.{string_bytes, unwrap_or};
 ghost use Rattle.clap.specs.Words.{FailsBy, all_of, app_of, fault_of, found_of, matches_of};
 ghost use Rattle.clap.specs.Words.{rows_of, rule_of};
-ghost use Rattle.fare_program.specs.Options.{asked_by, asked_of, is_given, number_of};
+ghost use Rattle.fare_program.specs.Options.{asked_by, is_given, number_of};
+ghost use Rattle.fare_program.specs.inside.Options.{asked_of};
 ghost use Rattle.fare_program.specs.Options.{program, shards_rule, workers_rule};
 ghost use Rattle.fare_program.specs.inside.Options.{HasNumber};
 

@@ -2,9 +2,11 @@
 ghost use Rattle.std.specs.Prelude.{◌≡◌, ℕ, Bool, true, List, Option, IfErr, IfOk, length, map};
 ghost use Rattle.fare_table.specs.Fares.{Fares};
 ghost use Rattle.fare_table.specs.declared.token.Token.{Token};
-ghost use Rattle.fare_program.specs.Fault.{IsRunFailure, status_of};
+ghost use Rattle.fare_program.specs.Fault.{status_of};
+ghost use Rattle.fare_program.specs.inside.Fault.{IsRunFailure};
 ghost use Rattle.fare_program.specs.Posted.{are_posted, is_posted};
-ghost use Rattle.fare_program.specs.Program.{IsRun, Shows, ShowsPlain};
+ghost use Rattle.fare_program.specs.Program.{IsRun, ShowsPlain};
+ghost use Rattle.fare_program.specs.inside.Program.{Shows};
 ghost use Rattle.fare_program.specs.inside.PostedFiles.{IsLive, ends_of};
 
 use crate::asked::Options;

@@ -3,7 +3,7 @@ ghost use Rattle.std.specs.Prelude.{◌≡◌, All, IfErr, IfOk, map};
 ghost use Rattle.fare_service.specs.Plain.{WasWhole};
 ghost use Rattle.fare_program.specs.Fault.{status_of};
 ghost use Rattle.fare_program.specs.Program.{IsRun};
-ghost use Rattle.fare_program.specs.Settling.{IsOutcomeOf};
+ghost use Rattle.fare_program.specs.inside.Settling.{IsOutcomeOf};
 ghost use Rattle.fare_program.specs.inside.PostedFiles.{ends_of};
 
 use crate::asked::Options;

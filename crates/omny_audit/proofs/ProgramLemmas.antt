@@ -11,7 +11,8 @@ use Rattle.omny_audit.specs.Fault.{IsOneOf, NamesOneOf, named_by}
 use Rattle.omny_audit.specs.Options.{AuditAsked, files_of}
 use Rattle.omny_audit.specs.declared.fault.Fault.{Fault}
 use Rattle.omny_audit.specs.Program.{ArePostedOfAll, LoadsNamedFiles, compared}
-use Rattle.omny_audit.specs.Source.{IsAllOf, OpensOne}
+use Rattle.omny_audit.specs.Source.{OpensOne}
+use Rattle.omny_audit.specs.inside.Source.{IsAllOf}
 use Rattle.program_manners.specs.Loads.{Loaded, Tells, TellsOne}
 
 pub tells_none : (told : Option (List Loaded)) → Tells told told []

@@ -2,7 +2,7 @@
 use Rattle.std.proofs.Common.{ℕ, List, [], ◌++◌, Option, Some, None, refl, sym, ap, ◌∙◌, append_assoc, append-nil}
 use Rattle.std.specs.Prelude.{unwrap_or}
 use Rattle.std.specs.Io.KnownBytes.{Consumes, IsAtEnd}
-use Rattle.omny_audit.specs.Source.{IsAllOf}
+use Rattle.omny_audit.specs.inside.Source.{IsAllOf}
 
 pub consumes-none : (old : Option (List ℕ)) → Consumes old old []
 consumes-none None = tt

@@ -1,7 +1,6 @@
 -- What is answered on a ledger's text.
 use Rattle.std.specs.Prelude.{◌≡◌, ◌↔◌, ℕ, Bool, true, false, List, [], ◌++◌, map, Option, None}
 use Rattle.std.specs.Prelude.{Some}
-use Rattle.std.specs.Prelude.{IsTrue}
 use Rattle.std.specs.List.Sorted.{IsPermutation}
 use Rattle.fare_table.specs.Fares.{Fares}
 use Rattle.shard_book.specs.declared.entry.Entry.{Entry}
@@ -9,18 +8,10 @@ use Rattle.ledger_check.specs.Ledger.{IsLedgerOf}
 use Rattle.ledger_check.specs.Struck.{posted_tap}
 use Rattle.ledger_check.specs.Verdicts.{IsVerdict, is_legal}
 use Rattle.ledger_check.specs.declared.checker.Verdict.{Verdict}
-use Rattle.tap_balance.specs.Balances.{IsBalance, IsDifference}
-use Rattle.tap_balance.specs.declared.balance.Balance.{Balance}
+use Rattle.tap_balance.specs.Balances.{IsDifference}
 use Rattle.tap_balance.specs.declared.balance.Difference.{Difference}
 use Rattle.tap_views.specs.declared.encoder.TapFields.{TapFields}
 use Rattle.omny_audit.specs.Text.{IsDifferenceText, verdict_text}
-
--- where the verdict is legal, the taps of the ledger were struck out of the balance
-abbrev pub StrikesOut : Fares → List ℕ → Balance → Balance → Verdict → Type 0
-StrikesOut fares text before after verdict =
-    (posted : List TapFields) → IsBalance before posted [] → IsTrue (is_legal verdict)
-    → (entries : List Entry) → IsLedgerOf fares entries text
-    → IsBalance after posted (map posted_tap entries)
 
 -- the difference is that of the posted taps and the ledger's, whatever entries the ledger has
 abbrev pub IsDifferenceOf : Fares → List ℕ → List TapFields → Option Difference → Type 0

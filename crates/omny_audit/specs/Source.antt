@@ -1,5 +1,5 @@
 -- What a source of bytes tells of what it opened.
-use Rattle.std.specs.Prelude.{◌≡◌, ⊤, ℕ, List, Option, Some, None, IfSome}
+use Rattle.std.specs.Prelude.{⊤, ℕ, List, Option, Some, None}
 use Rattle.program_manners.specs.Loads.{Loaded, TellsOne}
 
 -- One load under this name, of all that a reader that was opened has left. Where the source keeps a
@@ -9,7 +9,3 @@ abbrev pub OpensOne : Option (List Loaded) → Option (List Loaded) → Option (
 OpensOne None after name left = ⊤
 OpensOne (Some before) after name None = ⊥
 OpensOne (Some before) after name (Some text) = TellsOne (Some before) after name text
-
--- the text is all that a reader has left, where that is known
-abbrev pub IsAllOf : Option (List ℕ) → List ℕ → Type 0
-IsAllOf left text = IfSome left (λ known. known ≡ text)

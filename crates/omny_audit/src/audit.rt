@@ -10,9 +10,10 @@ ghost use Rattle.tap_views.specs.declared.encoder.TapFields.{TapFields};
 ghost use Rattle.ledger_check.specs.Ledger.{IsLedgerOf};
 ghost use Rattle.ledger_check.specs.Struck.{posted_tap};
 ghost use Rattle.ledger_check.specs.Verdicts.{IsVerdict, is_legal};
-ghost use Rattle.omny_audit.specs.Answers.{IsAnswer, StrikesOut, agrees};
+ghost use Rattle.omny_audit.specs.Answers.{IsAnswer, agrees};
+ghost use Rattle.omny_audit.specs.inside.Answers.{StrikesOut};
 ghost use Rattle.omny_audit.specs.Fault.{is_unwritten, named_by};
-ghost use Rattle.omny_audit.specs.Source.{IsAllOf};
+ghost use Rattle.omny_audit.specs.inside.Source.{IsAllOf};
 
 use crate::fault::Fault;
 use crate::output::write_text;

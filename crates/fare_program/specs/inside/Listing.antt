@@ -4,7 +4,31 @@ use Rattle.std.specs.Str.{bytes_eq}
 use Rattle.fare_program.specs.declared.listing.Word.{Word}
 use Rattle.fare_program.specs.declared.listing.Word.TheVariants.{Live, Stale, Unknown}
 use Rattle.fare_program.specs.declared.listing.ListCounts.{ListCounts}
-use Rattle.fare_program.specs.Listing.{Listed, is_after_last, is_word, last_of, listed_moment}
+use Rattle.fare_program.specs.Listing.{Listed, is_word, listed_moment}
+use Rattle.std.specs.Prelude.{Bool, true, nat_lt, None}
+use Rattle.std.specs.Map.{lookup}
+use Rattle.fare_program.specs.Listing.{are_before, known_of, counts_of}
+
+-- what a listing keeps: the last known moment of each token, and the counts
+pub record Kept : Type 0 where
+  pub last : List (List ℕ × ℕ)
+  pub counts : ListCounts
+
+-- the last moment that is kept of the token, if there is one
+abbrev pub last_of : List (List ℕ × ℕ) → List ℕ → Option ℕ
+last_of last token = lookup (bytes_eq token) last
+
+-- whether the moment is after the last one, if there is one
+abbrev pub is_after_last : Option ℕ → ℕ → Bool
+is_after_last None moment = true
+is_after_last (Some last) moment = nat_lt last moment
+
+-- What is kept answers for the taps of this list: a moment is later than the last known one of a
+-- token where it is later than each known tap of that token, and the counts are those of the list.
+pub record StandsFor (kept : Kept) (taps : List Listed) : Type 0 where
+  pub last : (token : List ℕ) (moment : ℕ)
+      → is_after_last (last_of kept.last token) moment ≡ are_before moment (known_of token taps)
+  pub counts : kept.counts ≡ counts_of taps
 
 -- the three words make up the taps
 abbrev pub AddsUp : ListCounts → Type 0

@@ -2,6 +2,23 @@
 use Rattle.std.specs.Prelude.{◌≡◌, ℕ, List, Some, pos}
 use Rattle.clap.specs.Words.{Row, Text}
 use Rattle.clap.specs.Words.{IsSignedIn, one_of, without_minus}
+use Rattle.std.specs.Prelude.{map, option_map}
+use Rattle.fare_program.specs.declared.asked.Options.{Options}
+use Rattle.fare_program.specs.Options.{Asked}
+
+-- what the options ask for
+abbrev pub asked_of : Options → Asked
+asked_of options = record {
+  table = option_map (λ f. f.now) options.table;
+  list = options.list;
+  workers = options.workers;
+  shards = options.shards;
+  token = option_map (λ t. t.now) options.token;
+  settle = options.settle;
+  ledger = options.ledger;
+  explain = options.explain;
+  files = map (λ f. f.now) options.files.items;
+}
 
 -- under the name stands a number of 1 to `most`, where a minus before it has been left out
 pub record HasNumber (most : ℕ) (name : Text) (rows : List Row) : Type 0 where

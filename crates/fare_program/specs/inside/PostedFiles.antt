@@ -7,8 +7,9 @@ use Rattle.fare_service.specs.Outcomes.{OutcomeView}
 use Rattle.fare_service.specs.declared.upload_end.UploadEnd.{UploadEnd}
 use Rattle.fare_program.specs.Options.{Asked}
 use Rattle.fare_program.specs.Posted.{are_posted}
-use Rattle.fare_program.specs.Program.{IsRun, Shows, ShowsPlain}
-use Rattle.fare_program.specs.Settling.{IsOutcomeOf}
+use Rattle.fare_program.specs.Program.{IsRun, ShowsPlain}
+use Rattle.fare_program.specs.inside.Program.{Shows}
+use Rattle.fare_program.specs.inside.Settling.{IsOutcomeOf}
 use Rattle.fare_program.specs.declared.posting.Posted.{Posted}
 
 -- how the files ended: as is told of them, or as the outcome says

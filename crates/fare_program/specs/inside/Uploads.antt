@@ -3,7 +3,8 @@ use Rattle.std.specs.Prelude.{◌≡◌, ℕ, Bool, List, [], ◌++◌, flat_map
 use Rattle.std.specs.List.{list_all}
 use Rattle.tap_views.specs.Files.{IsReading, Item}
 use Rattle.fare_table.specs.Fares.{Fares}
-use Rattle.fare_program.specs.Listing.{Kept, Listed, StandsFor}
+use Rattle.fare_program.specs.Listing.{Listed}
+use Rattle.fare_program.specs.inside.Listing.{Kept, StandsFor}
 use Rattle.fare_program.specs.Uploads.{AreReadings, are_whole, lines_from, tap_lines, listed_in}
 use Rattle.fare_program.specs.Uploads.{listing_lines}
 

@@ -1,7 +1,7 @@
 use Rattle.std.proofs.Common.{◌∙◌, List, ap, map, subst}
 use Rattle.std.proofs.KnownBytes.{Appends-kept}
 use Rattle.fare_service.specs.declared.upload_end.UploadEnd.{UploadEnd}
-use Rattle.fare_program.specs.Options.{asked_of}
+use Rattle.fare_program.specs.inside.Options.{asked_of}
 use Rattle.fare_program.specs.Posted.{are_posted}
 use Rattle.fare_program.specs.Program.{ShowsOf}
 use Rattle.fare_program.proofs.PostedTexts.{shows_asked}

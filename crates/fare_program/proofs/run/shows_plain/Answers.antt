@@ -13,7 +13,7 @@ use Rattle.fare_service.proofs.PlainSums.{own_all}
 use Rattle.ledger_texts.specs.Explained.{IsExplainedOf, IsExplainedOver}
 use Rattle.fare_program.proofs.Explains.{explained_same}
 use Rattle.fare_program.specs.Posted.{are_posted}
-use Rattle.fare_program.specs.Program.{Shows}
+use Rattle.fare_program.specs.inside.Program.{Shows}
 use Rattle.fare_program.specs.Settling.{ReportsOver}
 use Rattle.fare_program.proofs.run.shows_plain.Goals as goal
 

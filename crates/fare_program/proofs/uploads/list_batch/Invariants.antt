@@ -1,6 +1,7 @@
 use Rattle.std.proofs.Common.{◌≡◌, ◌+◌, ◌++◌, List, length, map, string_bytes}
 use Rattle.std.specs.Option.{option_copied}
-use Rattle.fare_program.specs.Listing.{Listed, StandsFor}
+use Rattle.fare_program.specs.Listing.{Listed}
+use Rattle.fare_program.specs.inside.Listing.{StandsFor}
 use Rattle.fare_program.specs.Uploads.{listed, tap_lines}
 use Rattle.fare_program.proofs.Going.{Going}
 use Rattle.fare_program.proofs.uploads.list_batch.Given as goal

@@ -1,4 +1,4 @@
--- Files that are read before their turns.
+-- Ahead: what private functions alone cite.
 use Rattle.std.specs.Prelude.{◌≡◌, ◌≢◌, ℕ, List, [], ◌∷◌, ◌++◌, string_bytes}
 use Rattle.fare_program.specs.declared.ahead.Early.{Early}
 
