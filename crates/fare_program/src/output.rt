@@ -5,7 +5,7 @@ ghost use Rattle.std.specs.Io.KnownBytes.{Appends, Keeps};
 use crate::fault::Fault;
 use std::io::Write;
 
-/// Flushes the writer. Only its writes have contracts: no contract says where bytes go.
+/// Flushes the writer. No contract says where the bytes go.
 pub fn flush<'a, W: Write>(out: &mut W) -> Result<(), Fault<'a>>
     ensures fault { IfErr result (λ fault. fault ≡ Fault.Write) }
     ensures kept { Keeps (W.contents out.old) (W.contents out.new) }

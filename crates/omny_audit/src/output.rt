@@ -19,7 +19,7 @@ pub fn unwritten<'a>(error: &io::Error) -> Fault<'a>
     }
 }
 
-/// Flushes the writer. Only its writes have contracts: no contract says where bytes go.
+/// Flushes the writer. No contract says where the bytes go.
 pub fn flush<'a, W: Write>(out: &mut W) -> Result<(), Fault<'a>>
     ensures fault { IfErr result (λ fault. is_unwritten fault ≡ true) }
     ensures named { IfErr result (λ fault. named_by fault ≡ None) }
