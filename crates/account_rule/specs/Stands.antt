@@ -41,7 +41,7 @@ pub record KeepsOf (rules : Rules) (kept : Option State) (taps : List TapIn) : T
   -- the mode that it keeps is one of the table's
   pub mode : ForSome (kept_giver kept) (λ tap. tap.mode.place < rules.modes)
 
--- the account stands for the list
+-- the account stands for the list: what it keeps decides each later reply as the list does
 unfoldable pub Stands : Rules → Account → List TapIn → Type 0
 Stands rules account taps = KeepsOf rules (kept_of account) taps
 

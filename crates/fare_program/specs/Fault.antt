@@ -39,7 +39,7 @@ fault_text (Gather fault) = gather_text fault
 fault_text Write = codes "fault: cannot write"
 fault_text NoMemory = codes "fault: out of memory"
 
--- a mistake of the command line is told from all that may happen later
+-- the status of a fault: 2 for a mistake in what is asked for, 1 for all that may happen later
 abbrev pub status_of : Fault → ℕ
 status_of Digits = 2
 status_of NoTable = 2

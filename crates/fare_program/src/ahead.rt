@@ -9,7 +9,7 @@ use std::marker::Sync;
 use std::thread;
 use std::thread::Threads;
 
-/// Where files lie. Several threads may read there at once.
+/// A disk: files by their names. Several threads may read them at once.
 pub trait Disk {
     /// Whether the file of this name may be read before its turn.
     fn may_be_early(&self, name: &str) -> bool;
@@ -71,7 +71,7 @@ fn keep(
     Ok(is_whole)
 }
 
-/// Reads one more file, as `keep` tells.
+/// Reads one more file and keeps it, as `keep` does.
 fn read_one<D: Disk>(
     alloc: Global,
     disk: &D,

@@ -5,7 +5,7 @@ ghost use Rattle.std.specs.Io.KnownBytes.{Appends, Keeps};
 use crate::fault::Fault;
 use std::io::Write;
 
-/// Brings what was written through to where the writer brings it.
+/// Flushes the writer. No contract says where the bytes go.
 pub(crate) fn flush<'a, W: Write>(out: &mut W) -> Result<(), Fault<'a>>
     ensures fault { IfErr result (λ fault. fault ≡ Fault.Write) }
     ensures kept { Keeps (W.contents out.old) (W.contents out.new) }
@@ -16,7 +16,7 @@ pub(crate) fn flush<'a, W: Write>(out: &mut W) -> Result<(), Fault<'a>>
     }
 }
 
-/// Writes the whole text, through to where the writer brings it.
+/// Writes the whole text and flushes the writer.
 pub(crate) fn write_text<'a, W: Write>(out: &mut W, text: &str) -> Result<(), Fault<'a>>
     ensures fault { IfErr result (λ fault. fault ≡ Fault.Write) }
     ensures text { OnOk result (Appends (W.contents out.old) (W.contents out.new) text.now) }

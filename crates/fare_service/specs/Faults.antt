@@ -17,7 +17,7 @@ IsOpenFault shards uploads Shards = (shards ≡ 0) ⊎ (64 < shards)
 IsOpenFault shards uploads Uploads = (0 < shards) × (shards ≤ 64) × (65535 < uploads)
 IsOpenFault shards uploads NoMemory = (0 < shards) × (shards ≤ 64) × (uploads ≤ 65535)
 
--- how many visits to a shard the shares hold, and how many uploads
+-- how many visits to a shard the shares hold
 abbrev pub visits_held : ℕ → List ShareView → ℕ
 visits_held shard shares = sum_by (λ share. length (own_at shard share.passes)) shares
 
@@ -25,8 +25,8 @@ visits_held shard shares = sum_by (λ share. length (own_at shard share.passes))
 abbrev pub uploads_held : List ShareView → ℕ
 uploads_held shares = sum_by (λ share. length share.drawer.drawn) shares
 
--- visits are missing where the shares hold fewer of a shard than were made, and then uploads where
--- they hold fewer than were drawn
+-- What a fault of gathering reports: a shard to which the shares hold fewer visits than were made,
+-- or that they hold fewer uploads than were drawn.
 abbrev pub IsGatherFault : ℕ → List ShareView → GatherFault → Type 0
 IsGatherFault shards shares NoRoom = Unit {0}
 IsGatherFault shards shares (Missing shard held kept) =
@@ -39,7 +39,7 @@ IsForMemory NoRoom = Unit {0}
 IsForMemory (Missing shard held kept) = ⊥
 IsForMemory (Drawn held drawn) = ⊥
 
--- and so is a run whose first share has all claims, but for the number of its workers
+-- a run that misses nothing is refused for memory, a thread or the number of its workers alone
 abbrev pub MissesNothing : RunFault → Type 0
 MissesNothing Workers = Unit {0}
 MissesNothing NoThread = Unit {0}

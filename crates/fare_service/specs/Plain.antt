@@ -85,7 +85,8 @@ plain_after fares earlier (tap ∷ taps) =
 abbrev pub plain : Fares → List Tap → List Entry
 plain fares taps = plain_after fares [] taps
 
--- the plain history of uploads under a table
+-- the history is the plain one of the uploads: their taps before each first layout fault, posted
+-- one after the other under the table, without shards or workers
 pub record IsPlain (fares : Fares) (uploads : List (List ℕ)) (history : List Entry) : Type 0 where
   pub taps : List (List Tap)
   pub each : AreTapsOfEach uploads taps
@@ -135,7 +136,7 @@ pub record IsPlainEnd (file : List ℕ) (end : UploadEnd) : Type 0 where
   pub is_fault : IsFaultOf file rest fault
   pub ended : end ≡ end_by (length (flat_map (λ batch. batch) batches)) fault
 
--- each upload has such an end
+-- each upload ended as its bytes call for
 abbrev pub ArePlainEnds : List (List ℕ) → List UploadEnd → Type 0
 ArePlainEnds uploads ends = AllZip IsPlainEnd uploads ends
 

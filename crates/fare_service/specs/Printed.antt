@@ -34,7 +34,7 @@ pub record IsStatementOf (o : OutcomeView) (token : Token) (text : List ℕ) : T
   pub of_book : IsStatement book.table book.entries token statement
   pub shown : IsStatementText book.table statement text
 
--- a fault of memory leaves this
+-- the statement `kept` holds, unless the fault is a write that failed
 abbrev pub KeepsUnlessWrite : PrintFault → Type 0 → Type 0
 KeepsUnlessWrite Write kept = Unit {0}
 KeepsUnlessWrite NoMemory kept = kept

@@ -336,7 +336,8 @@ rows tree =
 abbrev pub first_row : Members → List FaultRow → Option TableFault
 first_row tree listed = option_map (λ one. one.1) (find (holds tree) listed)
 
--- the same of a tree, if a text has one: else it is no TOML
+-- The fault of a table's text: the first row that holds of its TOML tree, if one does. A text that
+-- is no TOML has the text fault.
 abbrev pub first_fault : Option Members → Option TableFault
 first_fault None = Some Text
 first_fault (Some tree) = first_row tree (rows tree)

@@ -44,6 +44,6 @@ rules_of_tree tree = do
     zone = zone;
   })
 
--- the same of a table's text
+-- the meaning of a table's text, or the first fault that keeps it from having one
 abbrev pub rules_in : List ℕ → Outcome TableRules
 rules_in text = ok_or (parse_document text) Text >>= rules_of_tree

@@ -73,6 +73,6 @@ abbrev pub limit_in : Option PosixRule → ℕ → ℕ
 limit_in None start = start + 604_800_000
 limit_in (Some zone) start = civil_limit zone start
 
--- the same under a fare table
+-- the end of a window that starts at the moment, under the fare table
 abbrev pub until : Fares → ℕ → ℕ
 until fares start = limit_in fares.zone start

@@ -76,7 +76,7 @@ abbrev pub IsWindowLine : Option WindowView → List ℕ → Type 0
 IsWindowLine None line = line ≡ codes "window none\n"
 IsWindowLine (Some window) line = IsLineOf window line
 
--- the text of the statement
+-- the text of a statement: its head, a line for each entry, the totals, and the last window
 pub record IsStatementText (fares : Fares) (statement : Statement) (text : List ℕ) : Type 0 where
   pub lines : List ℕ
   pub of_entries : AreEntryLines fares statement.lines lines

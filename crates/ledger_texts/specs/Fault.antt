@@ -2,7 +2,7 @@
 use Rattle.ledger_texts.specs.declared.fault.LedgerFault.{LedgerFault}
 use Rattle.ledger_texts.specs.declared.fault.LedgerFault.TheVariants.{Write, NoMemory}
 
--- a fault of memory leaves this
+-- the statement `kept` holds, unless the fault is a write that failed
 abbrev pub KeepsUnlessLedgerWrite : LedgerFault → Type 0 → Type 0
 KeepsUnlessLedgerWrite Write kept = Unit {0}
 KeepsUnlessLedgerWrite NoMemory kept = kept

@@ -19,7 +19,7 @@ pub(crate) fn unwritten<'a>(error: &io::Error) -> Fault<'a>
     }
 }
 
-/// Brings what was written through to where the writer brings it.
+/// Flushes the writer. No contract says where the bytes go.
 pub(crate) fn flush<'a, W: Write>(out: &mut W) -> Result<(), Fault<'a>>
     ensures fault { IfErr result (λ fault. is_unwritten fault ≡ true) }
     ensures named { IfErr result (λ fault. named_by fault ≡ None) }

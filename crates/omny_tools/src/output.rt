@@ -29,7 +29,7 @@ impl<W: Write + Drop> Output<W> {
         }
     }
 
-    /// Brings what was collected through. Says why a write failed, this one or an earlier one.
+    /// Writes and flushes what was collected. Returns why this write or an earlier one failed.
     pub(crate) fn finish<'a>(&mut self) -> Result<(), Fault<'a>> {
         match self.flush() {
             Ok(()) => Ok(()),

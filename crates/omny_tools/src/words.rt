@@ -82,7 +82,7 @@ on the standard error, and of a table with a fault nothing else.";
 const TABLE_HELP: &str =
     "The fare table, a TOML file of at most 67108864 bytes; - stands for standard input";
 
-/// The help of `table`'s `--uploads`.
+/// The help of `table`'s uploads.
 const TABLE_UPLOADS_HELP: &str =
     "Uploads of at most 67108864 bytes, whose validators are held against the ranges";
 

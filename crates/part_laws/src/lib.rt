@@ -1,5 +1,5 @@
-//! What parts that were settled by runs of their own are together: the laws on which merging their
-//! reports stands.
+//! Laws of runs in parts: uploads are split by token, each part is settled by a run of its own, and
+//! what these runs print, merged by `part_reports`, is what one settled run prints.
 #![tactic(auto)]
 
 ghost use Rattle.std.specs.Prelude.{◌≡◌, ℕ, List, All, Some, slice_get, length, map, flat_map};

@@ -1,5 +1,5 @@
-//! What a fare table's text has beside its rules: keys that these pass over, and how the ranges of
-//! validators meet those of some uploads.
+//! What the rules of a fare table pass over in its text: keys without a meaning, ranges that no
+//! validator of some uploads is in, and validators of these that are in no range.
 #![tactic(auto)]
 
 mod holder;

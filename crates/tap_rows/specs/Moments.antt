@@ -30,7 +30,7 @@ pub record IsUtc (text : List ℕ) (number : ℕ) : Type 0 where
 abbrev pub IsTime : List ℕ → ℕ → Type 0
 IsTime text number = IsDecimal text number ⊎ IsUtc text number
 
--- it is below the limit of moments, too
+-- the text tells a moment that a tap can have: one below the limit
 abbrev pub IsMoment : List ℕ → ℕ → Type 0
 IsMoment text number = IsTime text number × (number < moment_limit)
 

@@ -61,7 +61,7 @@ fault_order (TooMany count) = 4
 fault_order (Length want have) = 5
 fault_order (Moment index) = 6
 
--- the first row that holds
+-- the fault is the first row of the fault table that holds of the bytes
 pub record IsFault (bytes : List ℕ) (fault : LayoutFault) : Type 0 where
   pub holds : Row fault bytes
   pub first : (other : LayoutFault) → fault_order other < fault_order fault → ¬ (Row other bytes)

@@ -18,7 +18,7 @@ pub record HasTaps (upload : List ℕ) (taps : List Tap) : Type 0 where
   pub read : IsReadAs upload batches fault
   pub all : taps ≡ taps_of_batches batches
 
--- the upload ends so, behind so many taps
+-- the upload's end has its first layout fault, if it has one, and the number of taps before it
 pub record IsSplitEnd (upload : List ℕ) (end : UploadEnd) : Type 0 where
   pub batches : List (List Tap)
   pub read : IsReadAs upload batches end.fault

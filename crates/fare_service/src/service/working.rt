@@ -16,7 +16,7 @@ use std::alloc::Global;
 use std::sync::Wait;
 use tap_views::{Batch, Cut, LayoutFault, batches};
 
-/// Where workers tell that they begin an upload and that they are done with it.
+/// What a worker calls before it posts an upload and after it. A test can make workers wait there.
 pub trait Gate {
     ghost use Rattle.std.specs.Prelude.{ℕ, ◌≡◌};
 

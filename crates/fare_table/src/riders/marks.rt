@@ -1,4 +1,5 @@
-//! Marks by which most tokens are told from some named ones.
+//! Marks: a quick test that is false for most tokens that `riders` does not name, so that few
+//! tokens are searched for.
 
 ghost use Rattle.std.specs.Prelude.{◌≡◌, ◌<◌, ◌≤◌, ◌*◌, true, All, IfOk, length};
 ghost use Rattle.std.specs.Map.{keys_of};
