@@ -16,7 +16,7 @@ use std::io::{ErrorKind as ReadKind, Write};
 /// What became of an answer of clap's.
 #[derive(Drop)]
 pub enum Shown {
-    /// Help or the version was written, through to where the writer brings it.
+    /// Help or the version was written, and the writer was flushed.
     Text,
     /// The mistake in the words was told.
     Mistake,
@@ -26,7 +26,7 @@ pub enum Shown {
     Unwritten(io::Error),
 }
 
-/// Prints clap's text, through to where the writer brings it.
+/// Prints clap's text and flushes the writer.
 fn show_text<W: Write>(error: &Error, out: &mut W) -> io::Result<()> {
     write!(out, "{error}")?;
     out.flush()
