@@ -101,19 +101,19 @@ pub(crate) fn number_at(
 pub(crate) fn are_tables(array: &Array) -> bool
     ensures { result ≡ spec.are_tables (array_view array.now) }
 {
-    array.iter().all(|value| value.is_table())
+    array.iter().all(Value::is_table)
 }
 
 /// Whether each value of a table is a table.
 pub(crate) fn hold_tables(table: &Table) -> bool
     ensures { result ≡ spec.hold_tables (table_view table.now) }
 {
-    table.values().all(|value| value.is_table())
+    table.values().all(Value::is_table)
 }
 
 /// Whether each value of a table is a string.
 pub(crate) fn hold_strings(table: &Table) -> bool
     ensures { result ≡ spec.hold_strings (table_view table.now) }
 {
-    table.values().all(|value| value.is_str())
+    table.values().all(Value::is_str)
 }

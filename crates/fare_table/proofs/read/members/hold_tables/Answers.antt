@@ -7,5 +7,5 @@ use Rattle.fare_table.proofs.read.members.hold_tables.Goals as goal
 pub returns : goal.returns
 returns c =
     all_from_yields_List is_table _ _ _ c.all.ensures.ran
-        (YieldsList-from_rest _ c.values.ensures.rest) (λ value is next ran. search rules)
+    (YieldsList-from_rest _ c.values.ensures.rest) (λ value is next ran. search rules)
     ∙ each_is_table c.args.table.now.entries
