@@ -2,6 +2,7 @@ pub mod ChainLemmas
 pub mod EntryLemmas
 pub mod FaultLemmas
 pub mod MaskLemmas
+pub mod MemberLemmas
 pub mod OrderLemmas
 pub mod OverlapLemmas
 pub mod PairLemmas

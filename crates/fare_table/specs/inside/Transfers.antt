@@ -1,7 +1,6 @@
 -- Transfers: what private functions alone cite.
 use Rattle.std.specs.Prelude.{ℕ, ◌≡◌, ◌<◌, ◌==◌, List, slice_index}
 use Rattle.std.specs.Int.{bit_at}
-use Rattle.fare_table.specs.declared.fault.Key.TheVariants as the_key
 use Rattle.fare_table.specs.Transfers.{has_pair}
 
 -- bit `to` of the word at `from` says whether the pairs have one from `from` to `to`

@@ -101,34 +101,19 @@ pub(crate) fn number_at(
 pub(crate) fn are_tables(array: &Array) -> bool
     ensures { result ≡ spec.are_tables (array_view array.now) }
 {
-    for value in array {
-        if value.as_table().is_none() {
-            return false;
-        }
-    }
-    true
+    array.iter().all(Value::is_table)
 }
 
 /// Whether each value of a table is a table.
 pub(crate) fn hold_tables(table: &Table) -> bool
     ensures { result ≡ spec.hold_tables (table_view table.now) }
 {
-    for (_key, value) in table {
-        if value.as_table().is_none() {
-            return false;
-        }
-    }
-    true
+    table.values().all(Value::is_table)
 }
 
 /// Whether each value of a table is a string.
 pub(crate) fn hold_strings(table: &Table) -> bool
     ensures { result ≡ spec.hold_strings (table_view table.now) }
 {
-    for (_key, value) in table {
-        if value.as_str().is_none() {
-            return false;
-        }
-    }
-    true
+    table.values().all(Value::is_str)
 }

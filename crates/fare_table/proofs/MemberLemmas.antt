@@ -1,0 +1,31 @@
+-- What holds of each value in turn, as the specs of a table's members tell it.
+use Rattle.std.proofs.Common.{◌≡◌, ◌&&◌, List, [], ◌∷◌, String, Global, Bool, refl, ap}
+use Rattle.std.specs.List.{list_all}
+use Rattle.std.specs.Map.{values_of}
+use Rattle.std.specs.Option.{is_some}
+use Rattle.toml.specs.Data.{as_str, as_table}
+use Rattle.toml.specs.View.{items_view, members_view, view}
+use Rattle.toml.specs.declared.value.Value.{Value}
+use Rattle.fare_table.specs.Members.{are_tables, hold_strings, hold_tables}
+
+-- the value is a table, and a string
+abbrev pub is_table : Value → Bool
+is_table value = is_some (as_table (view value))
+
+abbrev pub is_string : Value → Bool
+is_string value = is_some (as_str (view value))
+
+pub each_item_is_table : (values : List Value)
+    → list_all is_table values ≡ are_tables (items_view values)
+each_item_is_table [] = refl
+each_item_is_table (value ∷ more) = ap (λ rest. is_table value && rest) (each_item_is_table more)
+
+pub each_is_table : (entries : List (String Global × Value))
+    → list_all is_table (values_of entries) ≡ hold_tables (members_view entries)
+each_is_table [] = refl
+each_is_table (entry ∷ more) = ap (λ rest. is_table entry.1 && rest) (each_is_table more)
+
+pub each_is_string : (entries : List (String Global × Value))
+    → list_all is_string (values_of entries) ≡ hold_strings (members_view entries)
+each_is_string [] = refl
+each_is_string (entry ∷ more) = ap (λ rest. is_string entry.1 && rest) (each_is_string more)

@@ -1,0 +1,11 @@
+use Rattle.std.proofs.Common.{◌∙◌, rules}
+use Rattle.std.proofs.lemmas.Iterator.Consumers.{YieldsList-from_rest}
+use Rattle.std.proofs.lemmas.Iterator.Search.{all_from_yields_List}
+use Rattle.fare_table.proofs.MemberLemmas.{each_is_string, is_string}
+use Rattle.fare_table.proofs.read.members.hold_strings.Goals as goal
+
+pub returns : goal.returns
+returns c =
+    all_from_yields_List is_string _ _ _ c.all.ensures.ran
+    (YieldsList-from_rest _ c.values.ensures.rest) (λ value is next ran. search rules)
+    ∙ each_is_string c.args.table.now.entries
