@@ -1,9 +1,13 @@
 //! The keys `classes` and `default_class`: what rider classes pay.
 ghost use Rattle.std.specs.Prelude.{◌≡◌, ◌≤◌, IfOk, option_map};
+ghost use Rattle.toml.specs.Data.{as_table};
 ghost use Rattle.toml.specs.View.{view, table_view};
+ghost use Rattle.fare_table.specs.Members.{of_kind};
+ghost use Rattle.fare_table.specs.Outcome.{◌>>=◌};
 ghost use Rattle.fare_table.specs.Classes as spec;
 ghost use Rattle.fare_table.specs.inside.Outcome.{seen_through};
 ghost use Rattle.fare_table.specs.Terms.{HasLimits};
+ghost use Rattle.fare_table.specs.declared.fault.Key.TheVariants as the_key;
 
 use super::members::{hold_tables, number_at, number_in, optional, table_at, text_at};
 use crate::fault::{Key, TableFault};
@@ -38,12 +42,20 @@ fn checked(classes: &Table) -> Result<(), TableFault>
     ensures { result ≡ spec.checked (table_view classes.now) }
 {
     for (_name, value) in classes {
-        let Some(entry) = value.as_table() else {
-            return Err(TableFault::Kind { key: Key::Classes });
-        };
-        class_of(entry)?;
+        class_in(value)?;
     }
     Ok(())
+}
+
+/// The terms of a value, where it is a table.
+fn class_in(value: &Value) -> Result<Terms, TableFault>
+    ensures terms { result ≡ (of_kind the_key.Classes (as_table (view value.now)) >>= spec.class_of) }
+    ensures limits { IfOk result HasLimits }
+{
+    let Some(entry) = value.as_table() else {
+        return Err(TableFault::Kind { key: Key::Classes });
+    };
+    class_of(entry)
 }
 
 /// The terms of a class: its fare, its rides and its ceiling.
@@ -84,10 +96,7 @@ pub(crate) fn class_named(classes: &Table, name: &str) -> Result<Terms, TableFau
     let Some(value) = optional(classes, name) else {
         return Err(TableFault::Rider);
     };
-    let Some(entry) = value.as_table() else {
-        return Err(TableFault::Kind { key: Key::Classes });
-    };
-    class_of(entry)
+    class_in(value)
 }
 
 /// The terms of the default class.
