@@ -1,15 +1,11 @@
 //! The keys `classes` and `default_class`: what rider classes pay.
 ghost use Rattle.std.specs.Prelude.{◌≡◌, ◌≤◌, IfOk, option_map};
-ghost use Rattle.toml.specs.Data.{as_table};
 ghost use Rattle.toml.specs.View.{view, table_view};
-ghost use Rattle.fare_table.specs.Members.{of_kind};
-ghost use Rattle.fare_table.specs.Outcome.{◌>>=◌};
 ghost use Rattle.fare_table.specs.Classes as spec;
 ghost use Rattle.fare_table.specs.inside.Outcome.{seen_through};
 ghost use Rattle.fare_table.specs.Terms.{HasLimits};
-ghost use Rattle.fare_table.specs.declared.fault.Key.TheVariants as the_key;
 
-use super::members::{hold_tables, number_at, number_in, optional, table_at, text_at};
+use super::members::{hold_tables, number_at, number_in, of_kind, optional, table_at, text_at};
 use crate::fault::{Key, TableFault};
 use crate::terms::Terms;
 use toml::{Table, Value};
@@ -49,13 +45,10 @@ fn checked(classes: &Table) -> Result<(), TableFault>
 
 /// The terms of a value, where it is a table.
 fn class_in(value: &Value) -> Result<Terms, TableFault>
-    ensures terms { result ≡ (of_kind the_key.Classes (as_table (view value.now)) >>= spec.class_of) }
+    ensures terms { result ≡ spec.class_in (view value.now) }
     ensures limits { IfOk result HasLimits }
 {
-    let Some(entry) = value.as_table() else {
-        return Err(TableFault::Kind { key: Key::Classes });
-    };
-    class_of(entry)
+    class_of(of_kind(value.as_table(), Key::Classes)?)
 }
 
 /// The terms of a class: its fare, its rides and its ceiling.
