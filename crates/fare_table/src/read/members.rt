@@ -27,7 +27,7 @@ pub(crate) fn needed<'a>(table: &'a Table, name: &str, key: Key) -> Result<&'a V
     }
 }
 
-/// A part of a value that is to be of one kind.
+/// The part of a value, if the value is of the kind that the key needs.
 pub(crate) fn of_kind<T>(part: Option<T>, key: Key) -> Result<T, TableFault>
     ensures { result ≡ spec.of_kind key part }
 {
