@@ -15,8 +15,8 @@ use Rattle.toml.specs.Data.{integer, array, table, get_member, as_str, as_intege
 use Rattle.toml.specs.Data.{as_table}
 use Rattle.fare_table.proofs.PartLemmas.{bind_ok}
 use Rattle.fare_table.proofs.PayLemmas.{by_some, by_table, member-found, terms_by}
-use Rattle.fare_table.specs.Classes.{ceiling_of, checked, class_named, class_of, classes_of}
-use Rattle.fare_table.specs.Classes.{default_of, is_empty}
+use Rattle.fare_table.specs.Classes.{ceiling_of, checked, class_in, class_named, class_of}
+use Rattle.fare_table.specs.Classes.{classes_of, default_of, is_empty}
 use Rattle.fare_table.specs.Faults.{FaultRow, Where, top, class, a_row, are_pairs, are_texts, class_rows}
 use Rattle.fare_table.specs.Faults.{classes_in, first_row, holds, is_from, is_kind, is_mode}
 use Rattle.fare_table.specs.Faults.{is_in_limits, is_wrong, items_of, member_at, members_at}
@@ -408,36 +408,23 @@ classes-told tree =
     ∙ sym (told_append tree (needed_rows top the_key.Classes) (class_rows 0 (classes_in tree)))
 
 -- ---- the default class
-entry_fine : (value : Data) (inner : Members) (terms : Terms)
-    → of_kind the_key.Classes (as_table value) ≡ Ok inner → class_of inner ≡ Ok terms
-    → fault_in (of_kind the_key.Classes (as_table value) >>= class_of) ≡ None
-entry_fine value inner terms one two =
-    ap (λ (x : Outcome Members). fault_in (x >>= class_of)) one
-    ∙ ap (λ (x : Outcome Terms). fault_in x) two
-
 -- a class that was found sound has no fault where it is looked up
 named_fine : (part : Members) (name : List ℕ) (value : Data) → checked part ≡ Ok tt
-    → get_member name part ≡ Some value
-    → fault_in (of_kind the_key.Classes (as_table value) >>= class_of) ≡ None
+    → get_member name part ≡ Some value → fault_in (class_in value) ≡ None
 named_fine no_members name value sound at = absurd (cc)
 named_fine (member first one more) name value sound at =
-    let inner = bind_ok (of_kind the_key.Classes (as_table one)) (λ inner.
-    class_of inner >>= (λ terms. checked more)) tt sound in
-    let terms = bind_ok (class_of inner.0) (λ terms. checked more) tt inner.2 in
+    let terms = bind_ok (class_in one) (λ terms. checked more) tt sound in
     ⊎_elim
     (λ (same : (name ≡ first) × (one ≡ value)).
-    subst (λ (v : Data). fault_in (of_kind the_key.Classes (as_table v) >>= class_of) ≡ None)
-    same.1 (entry_fine one inner.0 terms.0 inner.1 terms.1))
+    subst (λ (v : Data). fault_in (class_in v) ≡ None) same.1
+    (ap (λ (x : Outcome Terms). fault_in x) terms.1))
     (λ (later : (is_eq (slice_cmp nat_cmp name first) ≡ false)
     × (get_member name more ≡ Some value)). named_fine more name value terms.2 later.1)
     (member-found name first one value more at)
 
-abbrev by_entry : Data → Outcome Terms
-by_entry value = of_kind the_key.Classes (as_table value) >>= (λ inner. class_of inner)
-
 found_fine : (o : Option Data)
-    → ((value : Data) → o ≡ Some value → fault_in (by_entry value) ≡ None)
-    → fault_in (ok_or o Rider >>= by_entry) ≡ cond (is_none o) (Some Rider) None
+    → ((value : Data) → o ≡ Some value → fault_in (class_in value) ≡ None)
+    → fault_in (ok_or o Rider >>= class_in) ≡ cond (is_none o) (Some Rider) None
 found_fine None fine = refl
 found_fine (Some value) fine = fine value refl
 

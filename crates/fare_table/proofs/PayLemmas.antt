@@ -17,8 +17,8 @@ use Rattle.fare_table.proofs.EntryLemmas.{if_ok}
 use Rattle.fare_table.proofs.PartLemmas.{bind_ok, parts}
 use Rattle.fare_table.proofs.ReadLemmas.{is_number, is_table, is_text, number-read, table-read}
 use Rattle.fare_table.proofs.ReadLemmas.{text-read}
-use Rattle.fare_table.specs.Classes.{ceiling_of, checked, class_named, class_of, classes_of}
-use Rattle.fare_table.specs.Classes.{default_of, is_empty}
+use Rattle.fare_table.specs.Classes.{ceiling_of, checked, class_in, class_named, class_of}
+use Rattle.fare_table.specs.Classes.{classes_of, default_of, is_empty}
 use Rattle.fare_table.specs.Fares.{Fares, terms_at}
 use Rattle.fare_table.specs.Members.{hold_strings, hold_tables, number_at, of_kind, table_at}
 use Rattle.fare_table.specs.Members.{text_at}
@@ -462,9 +462,6 @@ entry_terms classes entry class terms stands is =
           ceiling.1;
     })
 
-abbrev by_value : Data → Outcome Terms
-by_value value = of_kind the_key.Classes (as_table value) >>= class_of
-
 value_found : (o : Option Data) (value : Data) → ok_or o Rider ≡ Ok value → o ≡ Some value
 value_found None value is = absurd (cc)
 value_found (Some v) value is = let same : v ≡ value = cc in ap (λ (d : Data). Some d) same
@@ -472,7 +469,7 @@ value_found (Some v) value is = let same : v ≡ value = cc in ap (λ (d : Data)
 named_terms : (classes : Members) (class : List ℕ) (terms : Terms)
     → class_named classes class ≡ Ok terms → IsNamed classes class terms
 named_terms classes class terms is =
-    let value = bind_ok (ok_or (get_member class classes) Rider) by_value terms is in
+    let value = bind_ok (ok_or (get_member class classes) Rider) class_in terms is in
     let entry = bind_ok (of_kind the_key.Classes (as_table value.0)) class_of terms value.2 in
     entry_terms classes entry.0 class terms (value_found (get_member class classes) value.0 value.1
     ∙ ap (λ (d : Data). Some d) (is_table value.0 the_key.Classes entry.0 entry.1)) entry.2

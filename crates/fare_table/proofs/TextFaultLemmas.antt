@@ -8,8 +8,8 @@ use Rattle.hex.specs.Hex.{decode_sized}
 use Rattle.jiff.specs.Words.{read_whole}
 use Rattle.toml.specs.Data.{Data, Items, no_items, item, Members, no_members, member, get_member}
 use Rattle.toml.specs.Data.{as_str, as_integer, as_array, as_table}
-use Rattle.fare_table.specs.Classes.{ceiling_of, checked, class_named, class_of, classes_of}
-use Rattle.fare_table.specs.Classes.{default_of, is_empty}
+use Rattle.fare_table.specs.Classes.{ceiling_of, checked, class_in, class_named, class_of}
+use Rattle.fare_table.specs.Classes.{classes_of, default_of, is_empty}
 use Rattle.fare_table.specs.Members.{are_tables, array_at, hold_strings, hold_tables, needed}
 use Rattle.fare_table.specs.Members.{number_at, number_in, of_kind, table_at, text_at, within}
 use Rattle.fare_table.specs.Modes.{are_mode_names, mode_named, modes_of, strings_from}
@@ -150,13 +150,16 @@ class_of-text entry = steps (number_at (codes "fare") the_key.Fare 1 100_000 ent
     (λ rides. steps (ceiling_of (rides * fare) (get_member (codes "ceiling") entry)) _
     (ceiling_of-text (rides * fare) (get_member (codes "ceiling") entry)) (λ ceiling. an_ok _)))
 
+class_in-text : (value : Data) → NotText (class_in value)
+class_in-text value =
+    steps (of_kind the_key.Classes (as_table value)) (λ entry. class_of entry)
+    (of_kind-text the_key.Classes (as_table value)) class_of-text
+
 checked-text : (classes : Members) → NotText (checked classes)
 checked-text no_members = an_ok tt
 checked-text (member name value more) =
-    steps (of_kind the_key.Classes (as_table value)) _
-    (of_kind-text the_key.Classes (as_table value))
-    (λ entry. steps (class_of entry) (λ terms. checked more) (class_of-text entry) (λ terms.
-    checked-text more))
+    steps (class_in value) (λ terms. checked more) (class_in-text value) (λ terms.
+    checked-text more)
 
 classes_of-text : (tree : Members) → NotText (classes_of tree)
 unfolding classes_of
@@ -176,8 +179,7 @@ class_named-text : (classes : Members) (name : List ℕ) → NotText (class_name
 class_named-text classes name =
     steps (ok_or (get_member name classes) the_fault.Rider) _
     (a_part (get_member name classes) the_fault.Rider (λ is. cc))
-    (λ value. steps (of_kind the_key.Classes (as_table value)) (λ entry. class_of entry)
-    (of_kind-text the_key.Classes (as_table value)) class_of-text)
+    class_in-text
 
 default_of-text : (classes tree : Members) → NotText (default_of classes tree)
 unfolding default_of

@@ -26,12 +26,17 @@ class_of entry = do
     ceiling = ceiling;
   })
 
+-- the terms of a value that is a table
+abbrev pub class_in : Data → Outcome Terms
+class_in value = do
+  entry ← of_kind the_key.Classes (as_table value)
+  class_of entry
+
 -- the first fault of the classes, class by class
 abbrev pub checked : Members → Outcome (Unit {0})
 checked no_members = Ok tt
 checked (member name value more) = do
-  entry ← of_kind the_key.Classes (as_table value)
-  terms ← class_of entry
+  terms ← class_in value
   checked more
 
 -- there is no class
@@ -52,8 +57,7 @@ classes_of tree = do
 abbrev pub class_named : Members → List ℕ → Outcome Terms
 class_named classes name = do
   value ← ok_or (get_member name classes) Rider
-  entry ← of_kind the_key.Classes (as_table value)
-  class_of entry
+  class_in value
 
 -- the terms of the class that `default_class` names
 unfoldable pub default_of : Members → Members → Outcome Terms

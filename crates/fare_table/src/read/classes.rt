@@ -5,7 +5,7 @@ ghost use Rattle.fare_table.specs.Classes as spec;
 ghost use Rattle.fare_table.specs.inside.Outcome.{seen_through};
 ghost use Rattle.fare_table.specs.Terms.{HasLimits};
 
-use super::members::{hold_tables, number_at, number_in, optional, table_at, text_at};
+use super::members::{hold_tables, number_at, number_in, of_kind, optional, table_at, text_at};
 use crate::fault::{Key, TableFault};
 use crate::terms::Terms;
 use toml::{Table, Value};
@@ -38,12 +38,17 @@ fn checked(classes: &Table) -> Result<(), TableFault>
     ensures { result ≡ spec.checked (table_view classes.now) }
 {
     for (_name, value) in classes {
-        let Some(entry) = value.as_table() else {
-            return Err(TableFault::Kind { key: Key::Classes });
-        };
-        class_of(entry)?;
+        class_in(value)?;
     }
     Ok(())
+}
+
+/// The terms of a value, where it is a table.
+fn class_in(value: &Value) -> Result<Terms, TableFault>
+    ensures terms { result ≡ spec.class_in (view value.now) }
+    ensures limits { IfOk result HasLimits }
+{
+    class_of(of_kind(value.as_table(), Key::Classes)?)
 }
 
 /// The terms of a class: its fare, its rides and its ceiling.
@@ -84,10 +89,7 @@ pub(crate) fn class_named(classes: &Table, name: &str) -> Result<Terms, TableFau
     let Some(value) = optional(classes, name) else {
         return Err(TableFault::Rider);
     };
-    let Some(entry) = value.as_table() else {
-        return Err(TableFault::Kind { key: Key::Classes });
-    };
-    class_of(entry)
+    class_in(value)
 }
 
 /// The terms of the default class.

@@ -27,14 +27,18 @@ pub(crate) fn needed<'a>(table: &'a Table, name: &str, key: Key) -> Result<&'a V
     }
 }
 
+/// The part of a value, if the value is of the kind that the key needs.
+pub(crate) fn of_kind<T>(part: Option<T>, key: Key) -> Result<T, TableFault>
+    ensures { result ≡ spec.of_kind key part }
+{
+    part.ok_or(TableFault::Kind { key })
+}
+
 /// The string at a key.
 pub(crate) fn text_at<'a>(table: &'a Table, name: &str, key: Key) -> Result<&'a str, TableFault>
     ensures { seen_through (λ s. s.now) result ≡ spec.text_at name.now key (table_view table.now) }
 {
-    match needed(table, name, key)?.as_str() {
-        Some(text) => Ok(text),
-        None => Err(TableFault::Kind { key }),
-    }
+    of_kind(needed(table, name, key)?.as_str(), key)
 }
 
 /// The array at a key.
@@ -42,10 +46,7 @@ pub(crate) fn array_at<'a>(table: &'a Table, name: &str, key: Key) -> Result<&'a
     ensures { seen_through (λ v. array_view v.now) result
         ≡ spec.array_at name.now key (table_view table.now) }
 {
-    match needed(table, name, key)?.as_array() {
-        Some(array) => Ok(array),
-        None => Err(TableFault::Kind { key }),
-    }
+    of_kind(needed(table, name, key)?.as_array(), key)
 }
 
 /// The table at a key.
@@ -53,10 +54,7 @@ pub(crate) fn table_at<'a>(table: &'a Table, name: &str, key: Key) -> Result<&'a
     ensures { seen_through (λ m. table_view m.now) result
         ≡ spec.table_at name.now key (table_view table.now) }
 {
-    match needed(table, name, key)?.as_table() {
-        Some(members) => Ok(members),
-        None => Err(TableFault::Kind { key }),
-    }
+    of_kind(needed(table, name, key)?.as_table(), key)
 }
 
 /// Whether the number is from `low` to `high`.
@@ -72,9 +70,7 @@ pub(crate) fn number_in(value: &Value, key: Key, low: u32, high: u32) -> Result<
     ensures low { IfOk result (λ n. low ≤ n) }
     ensures high { IfOk result (λ n. n ≤ high) }
 {
-    let Some(number) = value.as_integer() else {
-        return Err(TableFault::Kind { key });
-    };
+    let number = of_kind(value.as_integer(), key)?;
     if is_within(low, number, high) {
         Ok(number as u32)
     } else {

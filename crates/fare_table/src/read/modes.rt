@@ -7,7 +7,7 @@ ghost use Rattle.toml.specs.View.{array_view, table_view};
 ghost use Rattle.fare_table.specs.Modes as spec;
 ghost use Rattle.fare_table.specs.inside.Outcome.{Answers};
 
-use super::members::array_at;
+use super::members::{array_at, of_kind};
 use crate::fault::{Key, TableFault};
 use crate::mode::MAX_MODES;
 use std::alloc::Global;
@@ -36,9 +36,7 @@ fn strings_of(alloc: Global, array: &Array) -> Result<Vec<String>, TableFault>
 {
     let mut names = Vec::new(alloc);
     for value in array {
-        let Some(name) = value.as_str() else {
-            return Err(TableFault::Kind { key: Key::Modes });
-        };
+        let name = of_kind(value.as_str(), Key::Modes)?;
         names.push(String::from_str(alloc, name)?)?;
     }
     Ok(names)

@@ -8,7 +8,7 @@ ghost use Rattle.fare_table.specs.Terms.{HasLimits};
 ghost use Rattle.fare_table.specs.Token.{Fits, by_bytes};
 
 use super::classes::class_named;
-use super::members::{hold_strings, optional};
+use super::members::{hold_strings, of_kind, optional};
 use crate::fault::{Key, TableFault};
 use crate::riders::Riders;
 use crate::terms::Terms;
@@ -28,9 +28,7 @@ pub(crate) fn riders_of(alloc: Global, classes: &Table, table: &Table) -> Result
     let Some(value) = optional(table, "riders") else {
         return Ok(Riders::new(alloc, BTreeMap::new(alloc))?);
     };
-    let Some(riders) = value.as_table() else {
-        return Err(TableFault::Kind { key: Key::Riders });
-    };
+    let riders = of_kind(value.as_table(), Key::Riders)?;
     if !hold_strings(riders) {
         return Err(TableFault::Kind { key: Key::Riders });
     }
@@ -67,9 +65,7 @@ fn rider_of(classes: &Table, key: &str, value: &Value) -> Result<([u8; 16], Term
     ensures limits { IfOk result (λ rider. HasLimits rider.1) }
 {
     let token = token_of_digits(key)?;
-    let Some(name) = value.as_str() else {
-        return Err(TableFault::Kind { key: Key::Riders });
-    };
+    let name = of_kind(value.as_str(), Key::Riders)?;
     Ok((token, class_named(classes, name)?))
 }
 

@@ -4,7 +4,7 @@ ghost use Rattle.toml.specs.View.{view, array_view, table_view};
 ghost use Rattle.fare_table.specs.inside.Outcome.{Answers};
 ghost use Rattle.fare_table.specs.Transfers as spec;
 
-use super::members::array_at;
+use super::members::{array_at, of_kind};
 use super::modes::mode_named;
 use crate::fault::{Key, TableFault};
 use crate::transfers::Transfers;
@@ -34,12 +34,7 @@ fn pairs_of(alloc: Global, array: &Array) -> Result<Vec<(&str, &str)>, TableFaul
 {
     let mut pairs = Vec::new(alloc);
     for value in array {
-        let Some(pair) = name_pair(value) else {
-            return Err(TableFault::Kind {
-                key: Key::Transfers,
-            });
-        };
-        pairs.push(pair)?;
+        pairs.push(of_kind(name_pair(value), Key::Transfers)?)?;
     }
     Ok(pairs)
 }

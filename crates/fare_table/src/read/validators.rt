@@ -8,7 +8,7 @@ ghost use Rattle.fare_table.specs.Validators.{is_chain, are_modes_below, share_n
 ghost use Rattle.fare_table.specs.Validators as spec;
 ghost use Rattle.fare_table.specs.inside.Validators.{last_begun};
 
-use super::members::{are_tables, array_at, number_at, text_at};
+use super::members::{are_tables, array_at, number_at, of_kind, text_at};
 use super::modes::mode_named;
 use crate::fault::{Key, TableFault};
 use crate::validators::{Ranges, Span};
@@ -93,12 +93,7 @@ fn range_in(modes: &[String], value: &Value) -> Result<(u32, Span), TableFault>
     ensures order { IfOk result (λ range. range.0 ≤ range.1.last) }
     ensures known { IfOk result (λ range. range.1.mode < length modes.now) }
 {
-    let Some(entry) = value.as_table() else {
-        return Err(TableFault::Kind {
-            key: Key::Validators,
-        });
-    };
-    range_of(modes, entry)
+    range_of(modes, of_kind(value.as_table(), Key::Validators)?)
 }
 
 /// The range of an entry: its first number, its last one and its mode.

@@ -7,7 +7,7 @@ ghost use Rattle.fare_table.specs.PosixRule.{posix_rule};
 ghost use Rattle.fare_table.specs.Zone.{IsZoneOf, zone_rule, zone_text};
 ghost use Rattle.fare_table.specs.Zone as spec;
 
-use super::members::optional;
+use super::members::{of_kind, optional};
 use crate::fault::{Key, TableFault};
 use crate::zone::Zone;
 use jiff::tz::TimeZone;
@@ -33,9 +33,7 @@ fn zone_in(alloc: Global, value: &Value) -> Result<Zone, TableFault>
     ensures rule { IfOk result (λ z. IsZoneOf (Some (string_bytes z.text))
         (posix_rule (plain_zone z.rule))) }
 {
-    let Some(text) = value.as_str() else {
-        return Err(TableFault::Kind { key: Key::Zone });
-    };
+    let text = of_kind(value.as_str(), Key::Zone)?;
     let Ok(rule) = TimeZone::posix(text) else {
         return Err(TableFault::Zone);
     };
