@@ -46,8 +46,7 @@ module _ {K S E : Type 0} (eq : K → K → Bool) (key_of : Entry → K) where
   chunks-tallied size books n [] all each = drop_all (n * size) books (grind arith)
   chunks-tallied size books n (result ∷ results) all each =
       let here : n + 0 ≡ n = omega arith in
-      let next : (n + 1) * size ≡ n * size + size = grind arith in
-      (
+      let next : (n + 1) * size ≡ n * size + size = grind arith in (
         subst (λ (m : ℕ). IsTallied (take size (drop (m * size) books)) result) here (each 0 result (omega arith)),
         subst (λ (bs : List Book). AreTallied size bs results) (ap (λ (m : ℕ). drop m books) next ∙ sym (drop-drop size (n * size) books))
             (chunks-tallied size books (n + 1) results (subst (λ (m : ℕ). length books ≤ m * size) (omega arith) all)

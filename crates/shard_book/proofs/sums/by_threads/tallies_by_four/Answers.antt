@@ -29,9 +29,9 @@ loop-more-init g c =
     let all : parts.items ≡ c.in-Some.first ∷ rest = sym c.into_iter-parts.ensures.rest ∙ c.in-Some.ensures.items in
     let tallied = all-tallied ◌==◌ validator_of size books parts.items some (sym parts.ok.0 ∙ c.in_ok-parts.ensures.len)
     (λ n d l.
-        let given = (c.in_ok-parts.ensures.each n d l).1 in
-        let call = given.call in
-        subst (λ (bs : List Book). IsTallied ◌==◌ validator_of bs (slice_index_or parts.items n d)) given.argument_is.value (record { grouped = search rules; few = search rules })) in
+    let given = (c.in_ok-parts.ensures.each n d l).1 in
+    let call = given.call in
+    subst (λ (bs : List Book). IsTallied ◌==◌ validator_of bs (slice_index_or parts.items n d)) given.argument_is.value (record { grouped = search rules; few = search rules })) in
     let same = c.into_iter-more-iterator.ensures.into_iter_gives in
     record {
       may = tt;
