@@ -1,4 +1,5 @@
 pub mod AccountsLemmas
+pub mod ChunkLemmas
 pub mod CountingLemmas
 pub mod GroupingLemmas
 pub mod Histories

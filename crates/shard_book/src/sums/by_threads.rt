@@ -61,46 +61,8 @@ fn add_tallies<K: GroupKey>(
     Ok(())
 }
 
-/// The tallies of all entries of the books by their validators, half of the books by a thread of
-/// their own.
-fn tallies_by_two<R: Threads + Sync>(
-    rt: &R,
-    alloc: Global,
-    keys: TokenKeys,
-    books: &[ShardBook],
-) -> Result<HashMap<u32, Tally, TokenKeys>, NoMemory>
-    requires { length books.now ≤ 64 }
-    ensures grouped { IfOk result
-        (λ tallies. IsGrouped ◌==◌ validator_of (all_entries books.now) tallies.entries) }
-    ensures few { OnOk result (length (all_entries books.now) ≤ length books.now * 2 ^ 64) }
-{
-    let (front, back) = books.split_at(books.len() / 2);
-    let (tallies, more) = thread::join(
-        rt,
-        move || -> Result<HashMap<u32, Tally, TokenKeys>, NoMemory>
-            requires { length front.now ≤ 64 }
-            ensures grouped { IfOk result
-                (λ tallies. IsGrouped ◌==◌ validator_of
-                (all_entries front.entry.now) tallies.entries) }
-            ensures few { OnOk result
-                (length (all_entries front.entry.now) ≤ length front.entry.now * 2 ^ 64) }
-        { tallies_of::<u32>(alloc, keys, front) },
-        move || -> Result<HashMap<u32, Tally, TokenKeys>, NoMemory>
-            requires { length back.now ≤ 64 }
-            ensures grouped { IfOk result
-                (λ tallies. IsGrouped ◌==◌ validator_of
-                (all_entries back.entry.now) tallies.entries) }
-            ensures few { OnOk result
-                (length (all_entries back.entry.now) ≤ length back.entry.now * 2 ^ 64) }
-        { tallies_of::<u32>(alloc, keys, back) },
-    );
-    let mut tallies = tallies?;
-    let more = more?;
-    add_tallies(&mut tallies, &more)?;
-    Ok(tallies)
-}
-
-/// The same, a quarter of the books by each of four threads.
+/// The tallies of all entries of the books by their validators, a quarter of the books by each of
+/// four threads.
 fn tallies_by_four<R: Threads + Sync>(
     rt: &R,
     alloc: Global,
@@ -112,29 +74,22 @@ fn tallies_by_four<R: Threads + Sync>(
         (λ tallies. IsGrouped ◌==◌ validator_of (all_entries books.now) tallies.entries) }
     ensures few { OnOk result (length (all_entries books.now) ≤ length books.now * 2 ^ 64) }
 {
-    let (front, back) = books.split_at(books.len() / 2);
-    let (tallies, more) = thread::join(
+    let size = books.len().div_ceil(4).max(1);
+    let parts = thread::map_chunks(
         rt,
-        move || -> Result<HashMap<u32, Tally, TokenKeys>, NoMemory>
-            requires { length front.now ≤ 64 }
-            ensures grouped { IfOk result
-                (λ tallies. IsGrouped ◌==◌ validator_of
-                (all_entries front.entry.now) tallies.entries) }
-            ensures few { OnOk result
-                (length (all_entries front.entry.now) ≤ length front.entry.now * 2 ^ 64) }
-        { tallies_by_two(rt, alloc, keys, front) },
-        move || -> Result<HashMap<u32, Tally, TokenKeys>, NoMemory>
-            requires { length back.now ≤ 64 }
-            ensures grouped { IfOk result
-                (λ tallies. IsGrouped ◌==◌ validator_of
-                (all_entries back.entry.now) tallies.entries) }
-            ensures few { OnOk result
-                (length (all_entries back.entry.now) ≤ length back.entry.now * 2 ^ 64) }
-        { tallies_by_two(rt, alloc, keys, back) },
-    );
-    let mut tallies = tallies?;
-    let more = more?;
-    add_tallies(&mut tallies, &more)?;
+        alloc,
+        books,
+        size,
+        &|_start, chunk: &[ShardBook]| { tallies_of::<u32>(alloc, keys, chunk) },
+    )?;
+    let mut parts = parts.into_iter();
+    let Some(first) = parts.next() else {
+        return Ok(HashMap::with_hasher(alloc, keys));
+    };
+    let mut tallies = first?;
+    for more in parts {
+        add_tallies(&mut tallies, &more?)?;
+    }
     Ok(tallies)
 }
 

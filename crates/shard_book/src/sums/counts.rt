@@ -84,20 +84,16 @@ impl Counts {
     pub(crate) fn totals(&self) -> Totals
         ensures { sums_of result ≡ sums_of_counts self.now }
     {
-        let paid = u128::from(self.paid);
-        let transfers = u128::from(self.transfers);
-        let capped = u128::from(self.capped);
-        let stale = u128::from(self.stale);
-        let unknown = u128::from(self.unknown);
-        Totals {
-            taps: paid + transfers + capped + stale + unknown,
-            paid,
-            transfers,
-            capped,
-            stale,
-            unknown,
-            cents: u128::from(self.cents),
-        }
+        Totals::of_counts(
+            [
+                u128::from(self.paid),
+                u128::from(self.transfers),
+                u128::from(self.capped),
+                u128::from(self.stale),
+                u128::from(self.unknown),
+            ],
+            u128::from(self.cents),
+        )
     }
 }
 

@@ -88,15 +88,6 @@ impl Tally {
         requires { (sums_of_tally self.now).taps ≤ 2 ^ 95 }
         ensures { sums_of result ≡ sums_of_tally self.now }
     {
-        let [paid, transfers, capped, stale, unknown] = self.counts;
-        Totals {
-            taps: paid + transfers + capped + stale + unknown,
-            paid,
-            transfers,
-            capped,
-            stale,
-            unknown,
-            cents: self.cents,
-        }
+        Totals::of_counts(self.counts, self.cents)
     }
 }

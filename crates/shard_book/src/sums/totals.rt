@@ -28,6 +28,9 @@ pub struct Totals {
 impl Totals {
     ghost use Rattle.std.specs.Prelude.{◌≡◌, ◌+◌, ◌^◌, ◌<◌, ◌≤◌, [], ◌∷◌};
     ghost use Rattle.shard_book.specs.Sums.{sums_of, sums_of_replies, add_sums};
+    ghost use Rattle.shard_book.specs.Tally.{sums_of_places};
+    ghost use Rattle.shard_book.specs.Places.{all_of};
+    ghost use Rattle.shard_book.specs.inside.Places.{HasFewCents};
 
     /// The totals of nothing.
     #[tactic(auto, unfolding(crate::specs::Sums::sums_of_replies))]
@@ -42,6 +45,24 @@ impl Totals {
             stale: 0,
             unknown: 0,
             cents: 0,
+        }
+    }
+
+    /// The totals of five counts, by the places of their answers, and of the cents.
+    pub(crate) fn of_counts(counts: [u128; 5], cents: u128) -> Self
+        requires room { all_of counts ≤ 2 ^ 95 }
+        requires in_cents { HasFewCents counts cents }
+        ensures { sums_of result ≡ sums_of_places counts cents }
+    {
+        let [paid, transfers, capped, stale, unknown] = counts;
+        Totals {
+            taps: paid + transfers + capped + stale + unknown,
+            paid,
+            transfers,
+            capped,
+            stale,
+            unknown,
+            cents,
         }
     }
 
