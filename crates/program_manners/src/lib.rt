@@ -18,7 +18,7 @@ mod opened;
 mod table_line;
 mod words;
 
-pub use answers::{Shown, show_answer, unread_words};
+pub use answers::{show_answer, unread_words};
 pub use complaints::Complaints;
 pub use loading::{FileFault, LONGEST, LoadFault, load_from};
 pub use opened::Opened;
