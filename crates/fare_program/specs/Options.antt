@@ -1,6 +1,5 @@
 -- The command line, and what its words ask for.
-use Rattle.std.specs.Prelude.{◌≡◌, ◌⊎◌, ℕ, ℤ, Bool, false, ◌||◌, not, List, [], ◌∷◌, Option, Some}
-use Rattle.std.specs.Prelude.{codes}
+use Rattle.std.specs.Prelude.{◌≡◌, ◌⊎◌, ℕ, Bool, false, ◌||◌, not, List, [], Option, codes}
 use Rattle.std.specs.Prelude.{is_some, pos, unwrap_or}
 use Rattle.std.specs.Option.{option_map_or}
 use Rattle.std.specs.Str.{bytes_eq}
@@ -8,9 +7,9 @@ use Rattle.std.specs.Str.Parse.{digits_value, without_leading_plus}
 use Rattle.clap.specs.Words.{App, IsAmong, Row, Rule, Text, all_of, fault_of, first_of, matches_of}
 use Rattle.clap.specs.Words.{one_of, with_rule}
 use Rattle.clap.specs.declared.builder.action.ArgAction.TheVariants.{Append}
-use Rattle.clap.specs.declared.builder.value_parser.ValueParser.TheVariants.{Signed}
 use Rattle.clap.specs.declared.error.kind.ErrorKind.TheVariants.{DisplayHelp, DisplayVersion}
-use Rattle.program_manners.specs.Words.{flag_rule, named_app, option_rule, place_rule}
+use Rattle.program_manners.specs.Words.{flag_rule, named_app, number_rule, option_rule}
+use Rattle.program_manners.specs.Words.{place_rule}
 
 -- `--table F`
 abbrev pub table_rule : Rule
@@ -19,13 +18,6 @@ table_rule = option_rule (codes "table")
 -- `--list`
 abbrev pub list_rule : Rule
 list_rule = flag_rule (codes "list")
-
--- an option with a number of 1 to `most`, and its default
-abbrev pub number_rule : Text → ℤ → Text → Rule
-number_rule name most default = record (option_rule name) {
-  parser = Some (Signed (pos 1) most);
-  defaults = default ∷ [];
-}
 
 -- `--workers N`, a number of 1 to 16; 2 where it is not given
 abbrev pub workers_rule : Rule

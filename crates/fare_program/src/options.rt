@@ -1,16 +1,13 @@
 //! The command line.
-ghost use Rattle.std.specs.Prelude.{◌≡◌, ◌≤◌, ◌^◌, ◌<◌, ℕ, IfOk, [], codes, false, map};
-ghost use Rattle.std.specs.Prelude.{string_bytes, unwrap_or};
-ghost use Rattle.clap.specs.Words.{FailsBy, all_of, app_of, fault_of, found_of, matches_of};
-ghost use Rattle.clap.specs.Words.{rows_of, rule_of};
-ghost use Rattle.fare_program.specs.Options.{asked_by, is_given, number_of};
+ghost use Rattle.std.specs.Prelude.{◌≡◌, ◌≤◌, ◌^◌, ◌<◌, ℕ, IfOk, codes, map, string_bytes};
+ghost use Rattle.clap.specs.Words.{FailsBy, app_of, fault_of, found_of, matches_of, rows_of};
+ghost use Rattle.fare_program.specs.Options.{asked_by, is_given, number_of, program};
 ghost use Rattle.fare_program.specs.inside.Options.{asked_of};
-ghost use Rattle.fare_program.specs.Options.{program, shards_rule, workers_rule};
 ghost use Rattle.fare_program.specs.inside.Options.{HasNumber};
 
 use crate::asked::Options;
-use clap::{Arg, ArgAction, ArgMatches, Command, Error, value_parser};
-use program_manners::{flag_arg, names_in, new_command, option_arg, place_arg};
+use clap::{ArgAction, ArgMatches, Command, Error};
+use program_manners::{flag_arg, names_in, new_command, number_arg, option_arg, place_arg};
 use std::alloc::{AllocError, Global};
 
 /// What the program is for, as the help says it first.
@@ -78,42 +75,14 @@ const EXPLAIN_HELP: &str =
 const FILE_HELP: &str =
     "Uploads, files of TAP1 and TAP2 batches of at most 67108864 bytes [default: standard input]";
 
-/// `--workers N`.
-fn workers_arg<'a>(alloc: Global) -> Arg<'a>
-    ensures rule { rule_of result ≡ workers_rule }
-    ensures local { result.global ≡ false }
-{
-    Arg::new(alloc, "workers")
-        .long("workers")
-        .value_name("N")
-        .action(ArgAction::Set)
-        .value_parser(value_parser!(u32).range(1..=16))
-        .default_value("2")
-        .help(WORKERS_HELP)
-}
-
-/// `--shards N`.
-fn shards_arg<'a>(alloc: Global) -> Arg<'a>
-    ensures rule { rule_of result ≡ shards_rule }
-    ensures local { result.global ≡ false }
-{
-    Arg::new(alloc, "shards")
-        .long("shards")
-        .value_name("N")
-        .action(ArgAction::Set)
-        .value_parser(value_parser!(u32).range(1..=64))
-        .default_value("8")
-        .help(SHARDS_HELP)
-}
-
 /// The command line, as clap reads it.
 fn command<'a>(alloc: Global) -> Result<Command<'a>, AllocError>
     ensures { IfOk result (λ command. app_of command ≡ program) }
 {
     let table = option_arg(alloc, "table", "F", TABLE_HELP);
     let list = flag_arg(alloc, "list", LIST_HELP);
-    let workers = workers_arg(alloc);
-    let shards = shards_arg(alloc);
+    let workers = number_arg(alloc, "workers", 16, "2", WORKERS_HELP);
+    let shards = number_arg(alloc, "shards", 64, "8", SHARDS_HELP);
     let token = option_arg(alloc, "token", "HEX", TOKEN_HELP);
     let settle = flag_arg(alloc, "settle", SETTLE_HELP);
     let ledger = flag_arg(alloc, "ledger", LEDGER_HELP);

@@ -27,7 +27,7 @@ use clap::Error;
 use clap::error::ErrorKind;
 use fare_table::{FareTable, NoMemory};
 use hex::FromHex;
-use program_manners::{Complaints, Shown, show_answer};
+use program_manners::{Complaints, show_answer};
 use shard_book::Token;
 use std::alloc::Global;
 use std::io::Write;
@@ -320,10 +320,8 @@ fn show<W: Write, E: Write>(error: &Error, out: &mut W, err: &mut Complaints<E>)
     ensures status { result ≤ 2 }
 {
     match show_answer(error, out, err) {
-        Shown::Text => 0,
-        Shown::Mistake => 2,
-        Shown::NoMemory => tell(err, &Fault::NoMemory),
-        Shown::Unwritten(_) => tell(err, &Fault::Write),
+        Ok(status) => status,
+        Err(_) => tell(err, &Fault::Write),
     }
 }
 

@@ -25,7 +25,7 @@ use crate::source::Source;
 use clap::Error;
 use clap::error::ErrorKind;
 use fare_table::FareTable;
-use program_manners::{Complaints, Shown, show_answer};
+use program_manners::{Complaints, show_answer};
 use std::alloc::Global;
 use std::io::Write;
 use tap_balance::Balance;
@@ -164,10 +164,8 @@ fn show<W: Write, E: Write>(error: &Error, out: &mut W, err: &mut Complaints<E>)
     ensures status { result ≤ 2 }
 {
     match show_answer(error, out, err) {
-        Shown::Text => 0,
-        Shown::Mistake => 2,
-        Shown::NoMemory => tell(err, &Fault::NoMemory),
-        Shown::Unwritten(error) => tell(err, &unwritten(&error)),
+        Ok(status) => status,
+        Err(error) => tell(err, &unwritten(&error)),
     }
 }
 

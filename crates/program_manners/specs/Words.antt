@@ -1,9 +1,10 @@
 -- The rules of a command line's options, and what is no mistake in its words.
-use Rattle.std.specs.Prelude.{◌≡◌, ◌⊎◌, Some, true}
+use Rattle.std.specs.Prelude.{◌≡◌, ◌⊎◌, ℤ, [], ◌∷◌, Some, pos, true}
 use Rattle.clap.specs.Words.{App, Rule, Text, new_app, new_rule}
 use Rattle.clap.specs.Simple.{on_top}
 use Rattle.clap.specs.declared.builder.action.ArgAction.{ArgAction}
 use Rattle.clap.specs.declared.builder.action.ArgAction.TheVariants.{Set, SetTrue}
+use Rattle.clap.specs.declared.builder.value_parser.ValueParser.TheVariants.{Signed}
 use Rattle.clap.specs.declared.error.kind.ErrorKind.{ErrorKind}
 use Rattle.clap.specs.declared.error.kind.ErrorKind.TheVariants.{DisplayHelp, DisplayVersion}
 
@@ -13,6 +14,13 @@ option_rule name = record (new_rule name) {
   long = Some name;
   action = Some Set;
   value_names = 1;
+}
+
+-- an option with a number of 1 to `most`, and its default
+abbrev pub number_rule : Text → ℤ → Text → Rule
+number_rule name most default = record (option_rule name) {
+  parser = Some (Signed (pos 1) most);
+  defaults = default ∷ [];
 }
 
 -- `--NAME`

@@ -1,9 +1,8 @@
 //! What clap answers where there is nothing to run, and words that are no text.
-ghost use Rattle.std.specs.Prelude.{◌≡◌, ◌≢◌, codes, false, true};
+ghost use Rattle.std.specs.Prelude.{◌≡◌, ◌≢◌, ◌≤◌, IfErr, IfOk, Ok, codes};
 ghost use Rattle.std.specs.Io.KnownBytes.{Keeps};
 ghost use Rattle.std.specs.IoError.{error_kind};
 ghost use Rattle.clap.specs.Words.{kind_of};
-ghost use Rattle.program_manners.specs.Answers.{is_text};
 ghost use Rattle.program_manners.specs.Told.{Told};
 ghost use Rattle.program_manners.specs.Words.{IsRequest};
 
@@ -13,44 +12,46 @@ use clap::error::ErrorKind;
 use std::io;
 use std::io::{ErrorKind as ReadKind, Write};
 
-/// What became of an answer of clap's.
-#[derive(Drop)]
-pub enum Shown {
-    /// Help or the version was written, and the writer was flushed.
-    Text,
-    /// The mistake in the words was told.
-    Mistake,
-    /// Memory was refused where the words were read. Nothing is told yet.
-    NoMemory,
-    /// Help or the version was not written, for this reason. Nothing is told yet.
-    Unwritten(io::Error),
-}
-
 /// Prints clap's text and flushes the writer.
 fn show_text<W: Write>(error: &Error, out: &mut W) -> io::Result<()> {
     write!(out, "{error}")?;
     out.flush()
 }
 
-/// Shows what clap answers where there is nothing to run: help and version on `out`, else the
-/// mistake on `err`.
-pub fn show_answer<W: Write, E: Write>(error: &Error, out: &mut W, err: &mut Complaints<E>) -> Shown
-    ensures help { is_text result ≡ true → IsRequest (kind_of error.now) }
-    ensures right { is_text result ≡ false → ¬ IsRequest (kind_of error.now) }
-    ensures memory { kind_of error.now ≡ ErrorKind.OutOfMemory → result ≡ Shown.NoMemory }
-    ensures refused { result ≡ Shown.NoMemory → kind_of error.now ≡ ErrorKind.OutOfMemory }
-    ensures unwritten { is_text result ≡ false → Keeps (W.contents out.old) (W.contents out.new) }
-    ensures quiet { result ≢ Shown.Mistake → err.new ≡ err.old }
+/// Shows what clap answers where there is nothing to run: help and version on `out`, else on `err`
+/// the mistake, or that memory was refused where the words were read. Gives the status: 0 for help
+/// and version, 2 for a mistake, and 1 for want of memory. An error is why help or the version was
+/// not written, and nothing is told of it yet.
+pub fn show_answer<W: Write, E: Write>(
+    error: &Error,
+    out: &mut W,
+    err: &mut Complaints<E>,
+) -> io::Result<u8>
+    ensures help { IfOk result (λ status. status ≡ 0
+        → IsRequest (kind_of error.now) × (err.new ≡ err.old)) }
+    ensures unwritten { IfErr result (λ _. IsRequest (kind_of error.now) × (err.new ≡ err.old)) }
+    ensures memory { kind_of error.now ≡ ErrorKind.OutOfMemory → result ≡ Ok 1 }
+    ensures refused { IfOk result (λ status. status ≡ 1
+        → (kind_of error.now ≡ ErrorKind.OutOfMemory)
+        × Told (E.contents err.old.writer) (E.contents err.new.writer) err.new.failed
+        (codes "fault: out of memory")) }
+    ensures mistake { IfOk result (λ status. status ≡ 2 → ¬ IsRequest (kind_of error.now)) }
+    ensures kept { IfOk result (λ status. status ≢ 0
+        → Keeps (W.contents out.old) (W.contents out.new)) }
+    ensures status { IfOk result (λ status. status ≤ 2) }
 {
     match error.kind() {
-        ErrorKind::OutOfMemory => Shown::NoMemory,
-        ErrorKind::DisplayHelp | ErrorKind::DisplayVersion => match show_text(error, out) {
-            Ok(()) => Shown::Text,
-            Err(unwritten) => Shown::Unwritten(unwritten),
-        },
+        ErrorKind::OutOfMemory => {
+            err.tell_line("fault: out of memory");
+            Ok(1)
+        }
+        ErrorKind::DisplayHelp | ErrorKind::DisplayVersion => {
+            show_text(error, out)?;
+            Ok(0)
+        }
         _ => {
             err.tell(error);
-            Shown::Mistake
+            Ok(2)
         }
     }
 }

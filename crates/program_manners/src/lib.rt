@@ -18,9 +18,9 @@ mod opened;
 mod table_line;
 mod words;
 
-pub use answers::{Shown, show_answer, unread_words};
+pub use answers::{show_answer, unread_words};
 pub use complaints::Complaints;
 pub use loading::{FileFault, LONGEST, LoadFault, load_from};
 pub use opened::Opened;
 pub use table_line::TableLine;
-pub use words::{flag_arg, names_in, new_command, option_arg, place_arg};
+pub use words::{flag_arg, names_in, new_command, number_arg, option_arg, place_arg};

@@ -1,9 +1,11 @@
 //! A command and its options, as `clap` takes them.
-ghost use Rattle.std.specs.Prelude.{◌≡◌, IfOk, [], false, map, unwrap_or};
+ghost use Rattle.std.specs.Prelude.{◌≡◌, IfOk, [], false, map, pos, unwrap_or};
 ghost use Rattle.clap.specs.Simple.{app_of};
 ghost use Rattle.clap.specs.Words.{all_of, found_of, rows_of, rule_of};
-ghost use Rattle.program_manners.specs.Words.{flag_rule, named_app, option_rule, place_rule};
+ghost use Rattle.program_manners.specs.Words.{flag_rule, named_app, number_rule, option_rule};
+ghost use Rattle.program_manners.specs.Words.{place_rule};
 
+use clap::builder::ValueParser;
 use clap::{Arg, ArgAction, ArgMatches, Command};
 use program_version::VERSION;
 use std::alloc::{AllocError, Global};
@@ -18,6 +20,22 @@ pub fn option_arg<'a>(alloc: Global, name: &'a str, value: &'a str, help: &'a st
         .value_name(value)
         .action(ArgAction::Set)
         .help(help)
+}
+
+/// An option with a number of 1 to `most`, and its default: `--NAME N`.
+pub fn number_arg<'a>(
+    alloc: Global,
+    name: &'a str,
+    most: u32,
+    default: &'a str,
+    help: &'a str,
+) -> Arg<'a>
+    ensures rule { rule_of result ≡ number_rule name.entry.now (pos most) default.entry.now }
+    ensures local { result.global ≡ false }
+{
+    option_arg(alloc, name, "N", help)
+        .value_parser(ValueParser::signed(1, i64::from(most)))
+        .default_value(default)
 }
 
 /// A flag: `--NAME`.

@@ -9,8 +9,8 @@ unfolding program
 returns c =
     let one = c.in_ok-arg.ensures.shape c.option_arg-table.ensures.local ∙ ap₂ with_rule c.new_command.ensures c.option_arg-table.ensures.rule in
     let two = c.in_ok-arg-2.ensures.shape c.flag_arg-list.ensures.local ∙ ap₂ with_rule one c.flag_arg-list.ensures.rule in
-    let three = c.in_ok-arg-3.ensures.shape c.workers_arg-workers.ensures.local ∙ ap₂ with_rule two c.workers_arg-workers.ensures.rule in
-    let four = c.in_ok-arg-4.ensures.shape c.shards_arg-shards.ensures.local ∙ ap₂ with_rule three c.shards_arg-shards.ensures.rule in
+    let three = c.in_ok-arg-3.ensures.shape c.number_arg-workers.ensures.local ∙ ap₂ with_rule two c.number_arg-workers.ensures.rule in
+    let four = c.in_ok-arg-4.ensures.shape c.number_arg-shards.ensures.local ∙ ap₂ with_rule three c.number_arg-shards.ensures.rule in
     let five = c.in_ok-arg-5.ensures.shape c.option_arg-token.ensures.local ∙ ap₂ with_rule four c.option_arg-token.ensures.rule in
     let six = c.in_ok-arg-6.ensures.shape c.flag_arg-settle.ensures.local ∙ ap₂ with_rule five c.flag_arg-settle.ensures.rule in
     let seven = c.in_ok-arg-7.ensures.shape c.flag_arg-ledger.ensures.local ∙ ap₂ with_rule six c.flag_arg-ledger.ensures.rule in

@@ -1,15 +1,14 @@
-use Rattle.std.proofs.Common.{◌≡◌, refl}
+use Rattle.std.proofs.Common.{◌≡◌, arith, refl}
 use Rattle.fare_program.specs.declared.fault.Fault.TheVariants.{NoMemory, Write}
 use Rattle.fare_program.proofs.program.show.Goals as goal
 
 -- want of memory is told, and nothing is written
-pub returns-in-NoMemory-clause-fault : goal.returns-in-NoMemory-clause-fault
-returns-in-NoMemory-clause-fault g c = λ one.
-    let quiet : c.show_answer.new.err ≡ c.args.err.now = c.in-NoMemory.ensures.quiet (λ is. cc) in
-    (NoMemory, refl, record { told = rw (← quiet) c.tell.ensures.line; kept = λ other. c.in-NoMemory.ensures.unwritten refl })
+pub returns-in-Ok-clause-fault : goal.returns-in-Ok-clause-fault
+returns-in-Ok-clause-fault g c = λ one.
+    (NoMemory, refl, record { told = (c.in-Ok.ensures.refused one).1; kept = λ other. c.in-Ok.ensures.kept (λ none. omega (arith, one, none)) })
 
 -- so is a write that fails
-pub returns-in-Unwritten-clause-fault : goal.returns-in-Unwritten-clause-fault
-returns-in-Unwritten-clause-fault g c = λ one.
-    let quiet : c.show_answer.new.err ≡ c.args.err.now = c.in-Unwritten.ensures.quiet (λ is. cc) in
-    (Write, refl, record { told = rw (← quiet) c.tell-in-Unwritten.ensures.line; kept = λ other. absurd (other refl) })
+pub returns-in-Err-clause-fault : goal.returns-in-Err-clause-fault
+returns-in-Err-clause-fault g c = λ one.
+    let quiet : c.show_answer.new.err ≡ c.args.err.now = c.in-Err.ensures.unwritten.1 in
+    (Write, refl, record { told = rw (← quiet) c.tell.ensures.line; kept = λ other. absurd (other refl) })
