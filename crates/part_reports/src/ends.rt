@@ -1,18 +1,50 @@
 //! How the uploads of the whole ended.
 
 ghost use Rattle.std.specs.Prelude.{◌≡◌, ◌+◌, ◌<◌, ◌≤◌, ◌↔◌, ℕ, List, [], ◌++◌, Some, None, All};
-ghost use Rattle.std.specs.Prelude.{IfErr, IfOk, IsSome, IsTrue, OnOk, length, map};
+ghost use Rattle.std.specs.Prelude.{◌*◌, IfErr, IfOk, IsSome, IsTrue, OnOk, length, vec_len};
 ghost use Rattle.part_reports.specs.Faults.{IsOfTaps, IsOfTexts};
 ghost use Rattle.part_reports.specs.Lines.{End as EndOfUpload, IsUploadEnd};
 ghost use Rattle.part_reports.specs.Reports.{end_texts, joined_ends};
+ghost use Rattle.part_reports.specs.Texts.{AreLeft};
 ghost use Rattle.part_reports.specs.inside.Ends.{Have, AreEndsAdded, IsNextEnd};
 
 use crate::fault::MergeFault;
 use crate::form::{End, end_of};
 use crate::reading::Reading;
-use crate::told::Ends;
 use std::alloc::{AllocError, Global};
 use std::io::BufRead;
+
+/// How the uploads of the whole ended.
+#[derive(Drop)]
+pub(crate) struct Ends {
+    /// The lines, upload after upload.
+    pub(crate) text: Vec<u8>,
+    /// How many uploads.
+    pub(crate) uploads: u64,
+    /// How many taps of them were posted.
+    pub(crate) taps: u128,
+    /// Whether none has a layout fault.
+    pub(crate) are_posted: bool,
+    ghost few: { uploads ≤ vec_len text },
+    ghost least: { taps ≤ uploads * 18446744073709551616 },
+}
+
+impl Ends {
+    /// Of no uploads.
+    pub(crate) fn new(alloc: Global) -> Ends
+        ensures text { result.text.items ≡ [] }
+        ensures uploads { result.uploads ≡ 0 }
+        ensures taps { result.taps ≡ 0 }
+        ensures posted { IsTrue result.are_posted }
+    {
+        Ends {
+            text: Vec::new(alloc),
+            uploads: 0,
+            taps: 0,
+            are_posted: true,
+        }
+    }
+}
 
 /// Adds the line of an upload's end.
 fn add(ends: &mut Ends, line: &[u8], end: End) -> Result<(), AllocError>
@@ -59,20 +91,18 @@ fn read_more<R: BufRead + Drop>(ends: &mut Ends, lines: &mut Reading<R>) -> Resu
             None => return Ok(()),
         }
     }
-    Err(MergeFault::Unread(0))
+    Err(lines.unread())
 }
 
 /// Reads how the uploads ended, as lines that were written where they were split: in each text
 /// those of the next uploads.
 pub(crate) fn read_ends<R: BufRead + Drop>(alloc: Global, texts: Vec<R>) -> Result<Ends, MergeFault>
     ensures told { IfOk result (λ ends. (files : List (List ℕ))
-        → map (λ text. R.remaining text) texts.items ≡ map (λ text. Some text) files
-        → (lists : List (List EndOfUpload)) × (files ≡ end_texts 0 lists)
-        × Have ends (joined_ends lists)) }
+        → AreLeft R.remaining texts.items files → (lists : List (List EndOfUpload))
+        × (files ≡ end_texts 0 lists) × Have ends (joined_ends lists)) }
     ensures refused { IfErr result (λ fault. IsOfTexts fault → (files : List (List ℕ))
-        → map (λ text. R.remaining text) texts.items ≡ map (λ text. Some text) files
-        → (lists : List (List EndOfUpload)) → All IsUploadEnd (joined_ends lists)
-        → ¬ (files ≡ end_texts 0 lists)) }
+        → AreLeft R.remaining texts.items files → (lists : List (List EndOfUpload))
+        → All IsUploadEnd (joined_ends lists) → ¬ (files ≡ end_texts 0 lists)) }
     ensures other { IfErr result (λ fault. ¬ (IsOfTaps fault)) }
 {
     let mut ends = Ends::new(alloc);
