@@ -44,10 +44,7 @@ fn next_head<R: BufRead + Drop>(reading: &mut Reading<R>, word: &[u8]) -> Result
 }
 
 /// Reads the line of an upload's end.
-fn next_end<R: BufRead + Drop>(
-    reading: &mut Reading<R>,
-    upload: u64,
-) -> Result<End, MergeFault>
+fn next_end<R: BufRead + Drop>(reading: &mut Reading<R>, upload: u64) -> Result<End, MergeFault>
     ensures read { IsRead (λ end told. end_of_upload end ≡ told) IsUploadEnd (end_line upload)
         (R.remaining reading.old.from) (R.remaining reading.new.from) result }
     ensures other { IfErr result (λ fault. ¬ (IsOfTaps fault)) }

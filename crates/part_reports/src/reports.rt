@@ -19,7 +19,8 @@ ghost use Rattle.part_reports.specs.inside.Whole.{validators_in};
 ghost use Rattle.part_reports.specs.Reports.{front_text as text_before_tokens};
 ghost use Rattle.shard_book.specs.Sums.{sums_of};
 
-use crate::ends::{Ends, read_ends};
+use crate::ends::Ends;
+use crate::ends::read::read_ends;
 use crate::fault::{MergeFault, Wrong};
 use crate::front::read_front;
 use crate::merging::{Lines, Source, write_merged, write_text};
