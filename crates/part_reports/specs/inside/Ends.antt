@@ -1,4 +1,4 @@
--- How uploads ended: one, as the code has it, and those of the whole, as they are read text by text.
+-- How uploads ended: one, as the code has it, and those of the whole, read text by text.
 use Rattle.std.specs.Prelude.{◌≡◌, ℕ, ◌+◌, ◌↔◌, List, [], ◌++◌, Option, Some, None, Result, Ok, Err}
 use Rattle.std.specs.Prelude.{All, IsTrue, codes, length, sum_by, ⊤}
 use Rattle.std.specs.Fmt.{decimal}

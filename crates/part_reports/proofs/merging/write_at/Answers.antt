@@ -11,13 +11,13 @@ pub returns-in_err-heads-clause-refused : goal.returns-in_err-heads-clause-refus
 returns-in_err-heads-clause-refused g c =
     let sources = c.args.sources.now in
     let at = c.args.at in
-    let source = get_or sources at c.index-source.result in
+    let source = get_or sources at c.index-sources-at.result in
     let p = err_from_is_err_and c.from_residual-in_err-heads.result
     c.from_residual-in_err-heads.ensures.1 in
     rw (p.1, p.2) (λ of_texts. record {
       was = standing g.R.Read.remaining source;
       there = map_at (standing g.R.Read.remaining) sources at source
-          (slice_get-get_or sources at c.index-source.result c.requires.within);
+          (slice_get-get_or sources at c.index-sources-at.result c.requires.within);
       stuck = c.in_err-heads.ensures.refused of_texts;
     })
 
@@ -25,21 +25,22 @@ pub returns-clause-moved : goal.returns-clause-moved
 returns-clause-moved g c =
     let sources = c.args.sources.now in
     let at = c.args.at in
-    let source = get_or sources at c.index-source.result in
+    let source = get_or sources at c.index-sources-at.result in
     let old = g.W.Write.contents c.args.out.now in
     let new = g.W.Write.contents c.write_text.new.out in
     record {
       was = standing g.R.Read.remaining source;
       is = standing g.R.Read.remaining c.advance.new.self;
       there = map_at (standing g.R.Read.remaining) sources at source
-          (slice_get-get_or sources at c.index-source.result c.requires.within);
+          (slice_get-get_or sources at c.index-sources-at.result c.requires.within);
       moved = map_of_set (standing g.R.Read.remaining) sources at c.advance.new.self;
       step = record {
         read = c.in_ok-heads.ensures.read;
         order = subst (λ head. MayFollowHead source.lines source.head head)
             c.in_ok-heads.ensures.head c.in_ok-heads.ensures.follows;
       };
-      written = subst (λ bytes. Appends old new bytes) c.line.ensures c.in_ok-write_text.ensures.written;
+      written = subst (λ bytes. Appends old new bytes) c.line.ensures
+          c.in_ok-write_text.ensures.written;
     }
 
 pub returns-clause-heads : goal.returns-clause-heads
