@@ -216,6 +216,16 @@ pub(crate) fn write_text<W: Write>(out: &mut W, text: &[u8]) -> Result<(), Merge
     }
 }
 
+/// The fault of the text of this number.
+fn fault_in<R: BufRead + Drop>(sources: &[Source<R>], at: usize, wrong: Wrong) -> MergeFault
+    ensures { ¬ (IsOfTaps result) }
+{
+    match sources.get(at) {
+        Some(source) => source.reading.fault(wrong),
+        None => MergeFault::Unread(at),
+    }
+}
+
 /// Where the texts stand.
 fn heads_of<R: BufRead + Drop>(
     alloc: Global,
@@ -270,7 +280,7 @@ pub(crate) fn write_merged<R: BufRead + Drop, W: Write>(
         match least(&heads) {
             Ok(Some(at)) => write_at(sources, &mut heads, at, out)?,
             Ok(None) => return Ok(()),
-            Err(at) => return Err(sources[at].reading.fault(Wrong::Twice)),
+            Err(at) => return Err(fault_in(sources, at, Wrong::Twice)),
         }
     }
     Err(MergeFault::Unread(0))

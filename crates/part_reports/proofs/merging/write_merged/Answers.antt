@@ -1,6 +1,5 @@
-use Rattle.std.proofs.Common.{◌≡◌, ◌∙◌, Some, None, ap, drop, length, arith, rules}
-use Rattle.std.proofs.lemmas.List.{length-map, take_at}
-use Rattle.std.proofs.lemmas.Option.{slice_get_within}
+use Rattle.std.proofs.Common.{◌≡◌, ◌∙◌, Some, None, drop, length, arith}
+use Rattle.std.proofs.lemmas.List.{take_at}
 use Rattle.std.proofs.lemmas.Result.{err_from_is_err_and}
 use Rattle.std.specs.Prelude.{map}
 use Rattle.part_reports.specs.inside.Sources.{standing}
@@ -43,19 +42,6 @@ returns-in-Ok-None-clause-merged g c =
     λ texts are. merging_end texts (map (standing remaining) sources)
     (g.W.Write.contents c.args.out.now) (g.W.Write.contents c.loop.out)
     (c.loop.invariant.merging texts are) none
-
--- the token that stands twice is that of a text
-pub bounds-sources-at : goal.bounds-sources-at
-bounds-sources-at g c =
-    let twin = c.in-Err.ensures in
-    let within = slice_get_within c.deref.result.now c.in-Err.at (Some twin.token) twin.there in
-    let same = ap length (c.deref.ensures.value ∙ c.loop.invariant.same) in
-    omega (arith, within, same, length-map c.loop.sources (λ source. source.head))
-
-pub offset_bounds-sources-at : goal.offset_bounds-sources-at
-offset_bounds-sources-at g c =
-    let within = bounds-sources-at g c in
-    search rules
 
 pub returns-in-Err-clause-refused : goal.returns-in-Err-clause-refused
 returns-in-Err-clause-refused g c =
