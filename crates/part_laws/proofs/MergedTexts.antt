@@ -21,10 +21,9 @@ use Rattle.fare_service.specs.declared.upload_end.UploadEnd.{UploadEnd}
 use Rattle.fare_service.proofs.RunVisits.{AllZip-length}
 use Rattle.fare_service.specs.Plain.{IsPlainEnd}
 use Rattle.part_reports.specs.Lines.{End, IsUploadEnd, end_line, end_lines}
-use Rattle.part_reports.specs.Reports.{IsMerged, IsPartReport, Report, end_texts}
+use Rattle.part_reports.specs.Reports.{HasLegalNumbers, IsMerged, IsPartReport, Report, end_texts}
 use Rattle.part_reports.specs.Reports.{joined_ends, report_text, tokens_of_reports, validators_of_reports}
 use Rattle.part_reports.specs.Reports.{sums_of_validator as listed_at}
-use Rattle.part_reports.specs.Told.{HasLegalNumbers}
 use Rattle.part_reports.proofs.Unique.{end_line_unique}
 use Rattle.part_laws.specs.Sizes.{CanBeWritten, HasSize, HaveLimits}
 use Rattle.part_laws.specs.Split.{AreTokensOf, AreValidatorsOf, IsSplit, Part, pairs_of_parts}

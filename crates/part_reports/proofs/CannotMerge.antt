@@ -20,7 +20,7 @@ use Rattle.part_reports.specs.TokenLines.{ShareNoToken, HaveOtherTokens, IsMerge
 use Rattle.part_reports.specs.declared.merging.Lines.{Lines}
 use Rattle.part_reports.specs.declared.merging.Lines.TheVariants.{Entries, Tokens}
 use Rattle.part_reports.specs.declared.sums.WholeSums.{WholeSums}
-use Rattle.part_reports.specs.declared.told.Ends.{Ends}
+use Rattle.part_reports.specs.declared.ends.Ends.{Ends}
 use Rattle.part_reports.specs.inside.Ends.{Have}
 use Rattle.part_reports.specs.inside.Fronts.{MayBePart, ToldFront}
 use Rattle.part_reports.specs.inside.Kinds.{AreTexts}

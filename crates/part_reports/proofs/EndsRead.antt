@@ -9,9 +9,9 @@ use Rattle.std.proofs.lemmas.List.Elements.{All-head, All-tail, All-cons, All-ni
 use Rattle.std.proofs.lemmas.List.Sums.{sum_by-append}
 use Rattle.part_reports.specs.declared.fault.MergeFault.{MergeFault}
 use Rattle.part_reports.specs.declared.form as form
-use Rattle.part_reports.specs.declared.told.Ends.{Ends}
+use Rattle.part_reports.specs.declared.ends.Ends.{Ends}
 use Rattle.part_reports.specs.Lines.{End, IsUploadEnd, end_line, end_lines}
-use Rattle.part_reports.specs.inside.Ended.{end_of_upload}
+use Rattle.part_reports.specs.inside.Ends.{end_of_upload}
 use Rattle.part_reports.specs.inside.Ends.{AreEndsAdded, IsNextEnd, More}
 use Rattle.part_reports.specs.inside.Reading.{IsTold}
 use Rattle.part_reports.proofs.LinesRead.{through}

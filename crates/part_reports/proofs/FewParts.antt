@@ -16,6 +16,7 @@ use Rattle.shard_book.specs.Sums.{Sums, add_all, sums}
 use Rattle.part_reports.specs.Lines.{IsValidatorSum, token_line}
 use Rattle.part_reports.specs.Reports.{IsPartReport, Report, report_text, sums_of_validator}
 use Rattle.part_reports.specs.declared.sums.WholeSums.{WholeSums}
+use Rattle.part_reports.specs.Texts.{AreLeft}
 use Rattle.part_reports.specs.inside.Fronts.{MayBePart, ToldFront}
 use Rattle.part_reports.specs.inside.Parts.{Begun, IsNoPart, begun_text}
 use Rattle.part_reports.specs.inside.Sources.{Standing}
@@ -23,7 +24,7 @@ use Rattle.part_reports.specs.inside.Sums.{AreFew}
 use Rattle.part_reports.proofs.PartsBegun.{BegunSo}
 use Rattle.part_reports.proofs.Rising.{is_less}
 use Rattle.part_reports.proofs.SumsAdded.{taps_joined, taps_nothing}
-use Rattle.part_reports.proofs.TextsRead.{AreLeft, behind_front, split}
+use Rattle.part_reports.proofs.TextsRead.{behind_front, split}
 use Rattle.part_reports.proofs.TokenSums.{line_of, lines_stand}
 
 -- a validator stands once among those that rise

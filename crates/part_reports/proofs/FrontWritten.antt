@@ -12,7 +12,7 @@ use Rattle.shard_book.specs.declared.sums.totals.Totals.{Totals}
 use Rattle.part_reports.specs.Lines.{End, end_lines, head_line, validator_line}
 use Rattle.part_reports.specs.Reports.{front_text}
 use Rattle.part_reports.specs.declared.sums.WholeSums.{WholeSums}
-use Rattle.part_reports.specs.declared.told.Ends.{Ends}
+use Rattle.part_reports.specs.declared.ends.Ends.{Ends}
 use Rattle.part_reports.specs.inside.Ends.{Have}
 use denote.Ref.{Bor}
 

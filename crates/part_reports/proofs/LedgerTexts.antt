@@ -1,8 +1,7 @@
 -- Ledgers that are begun, and their merge.
 use Rattle.std.proofs.Common.{◌≡◌, ◌≢◌, ◌∙◌, ℕ, List, [], ◌∷◌, ◌++◌, Some, Option, refl, sym, ap}
 use Rattle.std.proofs.Common.{subst, map}
-use Rattle.std.specs.Prelude.{Err, IfSome, Ok, OnOk, Result, false}
-use Rattle.std.specs.Result.{is_err}
+use Rattle.std.specs.Prelude.{IfSome}
 use Rattle.std.specs.Io.BufRead.{drop_through, take_through}
 use Rattle.std.specs.Io.KnownBytes.{Appends}
 use Rattle.std.specs.List.{AllZip}
@@ -165,8 +164,3 @@ merged_none files known ats same are none text merged =
     let behind = lefts_of files known ats same are in
     none (map (λ left. (Entries, left)) behind.lefts) behind.sources merged.parts merged.lines
     (texts_to files behind.lefts merged.parts behind.shown merged.each) merged.is
-
--- what holds where a result is `Ok`, of one that is no error
-pub ok_here : {T E P : Type 0} (r : Result T E) → false ≡ is_err r → OnOk r P → P
-ok_here (Ok x) none holds = holds
-ok_here (Err e) none holds = absurd (cc)

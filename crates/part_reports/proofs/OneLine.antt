@@ -112,7 +112,7 @@ none_behind [] b is = is
 none_behind (x ∷ a) b is = none_behind a b is.1
 
 -- whether no line feed is in the bytes
-abbrev has_none : List ℕ → Bool
+abbrev pub has_none : List ℕ → Bool
 has_none [] = true
 has_none (x ∷ text) = not (x == 10) && has_none text
 
@@ -126,6 +126,10 @@ tested (x ∷ text) is = (
   tested text
       (and_right (not (x == 10)) (has_none text) is),
 )
+
+-- the bytes of a word, which has none
+pub no_feed : (word : List ℕ) → has_none word ≡ true → All (λ byte. ¬ (byte ≡ 10)) word
+no_feed word is = All-from_recursion (λ byte. ¬ (byte ≡ 10)) word (tested word is)
 
 digit_no_feed : (c : ℕ) → is_ascii_digit c ≡ true → ¬ (c ≡ 10)
 digit_no_feed c is e = false≢true (subst (λ n. is_ascii_digit n ≡ true) e is)
@@ -169,20 +173,12 @@ longer text line none is = record {
 counted : (n : ℕ) (line : List ℕ) → n < 2 ^ 64 → IsOneLine line → IsOneLine (decimal n ++ line)
 counted n line small is = longer (decimal n) line (decimal_none n small) is
 
-pub uploads_head_is_one : (number : ℕ) → number < 2 ^ 64
-    → IsOneLine (head_line (codes "uploads ") number)
-uploads_head_is_one number small =
-    longer (codes "uploads ") _ (tested (codes "uploads ") refl) (counted number _ small over)
-
-pub validators_head_is_one : (number : ℕ) → number < 2 ^ 64
-    → IsOneLine (head_line (codes "validators ") number)
-validators_head_is_one number small =
-    longer (codes "validators ") _ (tested (codes "validators ") refl) (counted number _ small over)
-
-pub tokens_head_is_one : (number : ℕ) → number < 2 ^ 64
-    → IsOneLine (head_line (codes "tokens ") number)
-tokens_head_is_one number small =
-    longer (codes "tokens ") _ (tested (codes "tokens ") refl) (counted number _ small over)
+-- a word with no line feed, and a number
+pub head_is_one : (word : List ℕ) (number : ℕ) → All (λ byte. ¬ (byte ≡ 10)) word → number < 2 ^ 64
+    → IsOneLine (head_line word number)
+head_is_one word number none small =
+    longer word _ (recursion_from_All (λ byte. ¬ (byte ≡ 10)) word none)
+    (counted number _ small over)
 
 end_text_is_one : (taps : ℕ) (fault : Option (ℕ × ℕ)) → taps < 2 ^ 64 → IsNoneOrFault fault
     → IsOneLine (end_words taps fault)

@@ -11,6 +11,7 @@ use Rattle.part_reports.specs.declared.merging.Lines.{Lines}
 use Rattle.part_reports.specs.declared.merging.Lines.TheVariants.{Tokens}
 use Rattle.part_reports.specs.declared.sums.WholeSums.{WholeSums}
 use Rattle.part_reports.specs.Faults.{IsOfTexts}
+use Rattle.part_reports.specs.Texts.{AreLeft}
 use Rattle.part_reports.specs.TokenLines.{TokenLine}
 use Rattle.part_reports.specs.inside.Fronts.{IsFront, MayBePart, ToldFront, told_text}
 use Rattle.part_reports.specs.inside.Kinds.{IsTextOf}
@@ -19,7 +20,7 @@ use Rattle.part_reports.specs.inside.Parts.{left_text}
 use Rattle.part_reports.specs.inside.Reading.{IsRead}
 use Rattle.part_reports.specs.inside.Sources.{IsSource, Standing}
 use Rattle.part_reports.specs.inside.Sums.{AreFew, AreFrontsCounted, WithFront}
-use Rattle.part_reports.proofs.TextsRead.{AreLeft, no_files, split}
+use Rattle.part_reports.proofs.TextsRead.{no_files, split}
 use Rattle.part_reports.proofs.Unique.{head_line_unique, totals_line_unique}
 use Rattle.part_reports.proofs.WholeFronts.{IsUnique, behind_ends, behind_totals, ends_unique}
 use Rattle.part_reports.proofs.WholeFronts.{told_parts, tokens_text, validators_unique}

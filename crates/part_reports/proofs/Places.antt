@@ -32,11 +32,6 @@ each_at P (first ∷ xs) zero x each is = let h : Some first ≡ Some x = is in
     let same : first ≡ x = cc in subst P same each.0
 each_at P (first ∷ xs) (suc k) x each is = each_at P xs k x each.1 is
 
-pub within_at : {X : Type 0} (xs : List X) (k : ℕ) (x : X) → slice_get xs k ≡ Some x → k < length xs
-within_at [] k x is = absurd (cc)
-within_at (first ∷ xs) zero x is = omega arith
-within_at (first ∷ xs) (suc k) x is = omega (arith, within_at xs k x is)
-
 -- ---- one element is changed
 pub each_set : {X : Type 0} (P : X → Type 0) (xs : List X) (k : ℕ) (y : X) → AllByRecursion P xs
     → P y

@@ -9,17 +9,14 @@ use Rattle.std.proofs.lemmas.List.Concat.{flat_map-append}
 use Rattle.std.proofs.lemmas.List.Elements.{All-append, All-head, All-tail, All-nil}
 use Rattle.std.proofs.lemmas.List.Sums.{sum_by-append}
 use Rattle.part_reports.specs.declared.fault.MergeFault.{MergeFault}
-use Rattle.part_reports.specs.declared.told.Ends.{Ends}
+use Rattle.part_reports.specs.declared.ends.Ends.{Ends}
 use Rattle.part_reports.specs.Faults.{IsOfTexts}
 use Rattle.part_reports.specs.Lines.{End, IsUploadEnd, end_line, end_lines}
 use Rattle.part_reports.specs.Reports.{end_texts, joined_ends}
+use Rattle.part_reports.specs.Texts.{AreLeft}
 use Rattle.part_reports.specs.inside.Ends.{Have, AreEndsAdded, More}
 use Rattle.part_reports.proofs.EndsRead.{All-behind, All-front, some_line}
 use Rattle.part_reports.proofs.Unique.{end_line_unique}
-
--- what is left of each reader is known
-abbrev pub AreLeft : {R : Type 0} → (R → Option (List ℕ)) → List R → List (List ℕ) → Type 0
-AreLeft remaining readers files = map remaining readers ≡ map (λ file. Some file) files
 
 pub record Split {R : Type 0} (remaining : R → Option (List ℕ)) (front : List R) (x : R)
     (back : List R) (files : List (List ℕ)) : Type 0 where

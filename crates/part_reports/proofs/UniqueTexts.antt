@@ -13,7 +13,7 @@ use Rattle.part_reports.specs.Ledgers.{IsLedgerEntryLine, IsPartLedger}
 use Rattle.part_reports.specs.Lines.{End, IsUploadEnd, IsTokenSum, IsValidatorSum}
 use Rattle.part_reports.specs.Lines.{end_line, end_lines, head_line, token_line, validator_line}
 use Rattle.part_reports.specs.Reports.{IsPartReport, Report, report_text}
-use Rattle.part_reports.specs.Told.{HasLegalNumbers}
+use Rattle.part_reports.specs.Reports.{HasLegalNumbers}
 use Rattle.part_reports.specs.TokenLines.{TokenLine, text_of}
 use Rattle.part_reports.proofs.Tokens.{token_digits}
 use Rattle.part_reports.proofs.Unique.{end_line_unique, entry_line_unique, head_line_unique}

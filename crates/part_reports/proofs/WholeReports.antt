@@ -1,9 +1,9 @@
 -- The report of the whole, of what was read of the parts and of the joined lines of their tokens.
 use Rattle.std.proofs.Common.{◌≡◌, ℕ, ◌<◌, ◌≤◌, ◌^◌, List, [], ◌∷◌, ◌++◌, Option, Some, None}
-use Rattle.std.proofs.Common.{Result, Ok, Err, length, length-append, refl, sym, ap, subst, ◌∙◌}
+use Rattle.std.proofs.Common.{length, length-append, refl, sym, ap, subst, ◌∙◌}
 use Rattle.std.proofs.Common.{arith, true, false, Bool, if◌then◌else◌, ◌||◌}
 use Rattle.std.proofs.lemmas.List.{map-append}
-use Rattle.std.specs.Prelude.{All, flat_map, map, sum_by, IsTrue, OnOk, is_err, ◌↔◌}
+use Rattle.std.specs.Prelude.{All, flat_map, map, sum_by, IsTrue, ◌↔◌}
 use Rattle.std.specs.BTreeMap.{BTreeMap, get, is_at}
 use Rattle.std.specs.Io.KnownBytes.{Appends}
 use Rattle.std.specs.List.{AllZip, list_any}
@@ -25,7 +25,7 @@ use Rattle.part_reports.specs.Reports.{IsMerged, IsPartReport, Report, end_texts
 use Rattle.part_reports.specs.Reports.{joined_ends, report_text, sums_of_validator, tokens_of_reports, validators_of_reports}
 use Rattle.part_reports.specs.TokenLines.{IsMergedByToken, TokenLine, lines_of_token, text_of}
 use Rattle.part_reports.specs.declared.sums.WholeSums.{WholeSums}
-use Rattle.part_reports.specs.declared.told.Ends.{Ends}
+use Rattle.part_reports.specs.declared.ends.Ends.{Ends}
 use Rattle.part_reports.specs.inside.Ends.{Have}
 use Rattle.part_reports.specs.inside.Fronts.{MayBePart, ToldFront}
 use Rattle.part_reports.specs.inside.Kinds.{AreTexts, IsSumLine, IsTextOf}
@@ -341,7 +341,3 @@ merged end_files report_files lists ends sums standings front token_lists joined
           ∙ lines_text tokens.sums))
           (appends_more old mid new front (text_of joined) first second);
     }
-
-pub ok_of : {T E : Type 0} (r : Result T E) (P : Type 0) → OnOk r P → is_err r ≡ false → P
-ok_of (Ok x) P is ok = is
-ok_of (Err e) P is ok = absurd (cc)

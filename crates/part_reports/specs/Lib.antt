@@ -2,6 +2,6 @@ pub mod Faults
 pub mod Ledgers
 pub mod Lines
 pub mod Reports
-pub mod Told
+pub mod Texts
 pub mod TokenLines
 pub mod inside

@@ -33,6 +33,16 @@ report_text report =
     front_text report.ends report.totals report.validators (length report.tokens)
     ++ flat_map token_line report.tokens
 
+-- the numbers of the report's lines can be those of taps, with any ends, and in any order
+pub record HasLegalNumbers (report : Report) : Type 0 where
+  pub number : length report.ends < 2 ^ 64
+  pub ends : All IsUploadEnd report.ends
+  pub totals : AreCounts report.totals
+  pub validators_number : length report.validators < 2 ^ 64
+  pub validators : All IsValidatorSum report.validators
+  pub tokens_number : length report.tokens < 2 ^ 64
+  pub tokens : All IsTokenSum report.tokens
+
 -- The report of a part: each of its uploads was posted, its validators rise and its tokens rise,
 -- and the numbers of its lines can be those of taps.
 pub record IsPartReport (report : Report) : Type 0 where

@@ -1,7 +1,6 @@
 -- What only private functions cite. Who reads the contracts of public calls need not read it.
 pub mod Begun
 pub mod Counted
-pub mod Ended
 pub mod Ends
 pub mod Fronts
 pub mod Kinds

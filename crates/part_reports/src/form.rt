@@ -18,7 +18,7 @@ ghost use Rattle.part_reports.specs.Lines.{End as EndOfUpload, IsValidatorSum, e
 ghost use Rattle.part_reports.specs.Lines.{head_line, token_line, validator_line};
 ghost use Rattle.part_reports.specs.TokenLines.{TokenLine};
 ghost use Rattle.part_reports.specs.inside.Counted.{IsCounted, sums_with};
-ghost use Rattle.part_reports.specs.inside.Ended.{end_of_upload, fault_words};
+ghost use Rattle.part_reports.specs.inside.Ends.{end_of_upload, fault_words};
 
 use itoa::Buffer;
 use shard_book::{Token, TokenSum, Totals, ValidatorSum};
@@ -162,40 +162,13 @@ fn counts_of(text: &[u8]) -> Option<Totals>
 }
 
 /// The number of a line that is a word, a number and its end.
-fn head_of(line: &[u8], word: &[u8]) -> Option<u64>
+pub(crate) fn head_of(line: &[u8], word: &[u8]) -> Option<u64>
     ensures { MatchOption result
         ((number : ℕ) → number < 2 ^ 64 → ¬ (line.now ≡ head_line word.now number))
         (λ number. (number < 2 ^ 64) × (line.now ≡ head_line word.now number)) }
 {
     let (number, rest) = count(line, word)?;
     if is_end(rest) { Some(number) } else { None }
-}
-
-/// The number of uploads that the line `uploads N` tells.
-pub(crate) fn uploads_of(line: &[u8]) -> Option<u64>
-    ensures { MatchOption result
-        ((number : ℕ) → number < 2 ^ 64 → ¬ (line.now ≡ head_line (codes "uploads ") number))
-        (λ number. (number < 2 ^ 64) × (line.now ≡ head_line (codes "uploads ") number)) }
-{
-    head_of(line, b"uploads ")
-}
-
-/// The number of validators that the line `validators N` tells.
-pub(crate) fn validators_of(line: &[u8]) -> Option<u64>
-    ensures { MatchOption result
-        ((number : ℕ) → number < 2 ^ 64 → ¬ (line.now ≡ head_line (codes "validators ") number))
-        (λ number. (number < 2 ^ 64) × (line.now ≡ head_line (codes "validators ") number)) }
-{
-    head_of(line, b"validators ")
-}
-
-/// The number of tokens that the line `tokens N` tells.
-pub(crate) fn tokens_of(line: &[u8]) -> Option<u64>
-    ensures { MatchOption result
-        ((number : ℕ) → number < 2 ^ 64 → ¬ (line.now ≡ head_line (codes "tokens ") number))
-        (λ number. (number < 2 ^ 64) × (line.now ≡ head_line (codes "tokens ") number)) }
-{
-    head_of(line, b"tokens ")
 }
 
 /// The totals that the line `totals ..` tells.

@@ -1,13 +1,13 @@
 //! What a part's report has before the lines of its tokens.
 
-ghost use Rattle.std.specs.Prelude.{◌≡◌, ◌<◌, ◌^◌, ◌↔◌, IfErr, IsTrue, codes, flat_map, map};
+ghost use Rattle.std.specs.Prelude.{◌≡◌, ◌<◌, ◌^◌, ◌↔◌, All, IfErr, IsTrue, flat_map, map};
 ghost use Rattle.fare_texts.specs.Counts.{totals_line};
 ghost use Rattle.shard_book.specs.Shown.{validator_sum};
 ghost use Rattle.shard_book.specs.Sums.{sums_of};
 ghost use Rattle.part_reports.specs.Faults.{IsOfTaps};
 ghost use Rattle.part_reports.specs.Lines.{AreCounts, IsUploadEnd, IsValidatorSum};
 ghost use Rattle.part_reports.specs.Lines.{end_line, end_lines, head_line, validator_line};
-ghost use Rattle.part_reports.specs.inside.Ended.{end_of_upload};
+ghost use Rattle.part_reports.specs.inside.Ends.{end_of_upload};
 ghost use Rattle.part_reports.specs.inside.Fronts.{AreEnds, AreSoManyPosted, AreRising, AreSums};
 ghost use Rattle.part_reports.specs.inside.Fronts.{AreValidators, IsFront, MayBePart};
 ghost use Rattle.part_reports.specs.inside.Fronts.{MayFollowValidators};
@@ -15,7 +15,7 @@ ghost use Rattle.part_reports.specs.inside.Fronts.{ends_text, told_text, validat
 ghost use Rattle.part_reports.specs.inside.Reading.{IsRead};
 
 use crate::fault::{MergeFault, Wrong};
-use crate::form::{End, end_of, tokens_of, totals_of, uploads_of, validator_sum_of, validators_of};
+use crate::form::{End, end_of, head_of, totals_of, validator_sum_of};
 use crate::reading::Reading;
 use shard_book::{Totals, ValidatorSum};
 use std::alloc::Global;
@@ -32,22 +32,19 @@ pub(crate) struct Front {
     pub(crate) tokens: u64,
 }
 
-/// Reads the line `uploads N`.
-fn next_uploads<R: BufRead + Drop>(reading: &mut Reading<R>) -> Result<u64, MergeFault>
+/// Reads a line that is a word and a number.
+fn next_head<R: BufRead + Drop>(reading: &mut Reading<R>, word: &[u8]) -> Result<u64, MergeFault>
+    requires one_line { All (λ byte. ¬ (byte ≡ 10)) word.now }
     ensures read { IsRead (λ told number. told ≡ number) (λ number. number < 2 ^ 64)
-        (head_line (codes "uploads ")) (R.remaining reading.old.from)
-        (R.remaining reading.new.from) result }
+        (head_line word.now) (R.remaining reading.old.from) (R.remaining reading.new.from) result }
     ensures other { IfErr result (λ fault. ¬ (IsOfTaps fault)) }
 {
     reading.next()?;
-    reading.told(uploads_of(reading.line()))
+    reading.told(head_of(reading.line(), word))
 }
 
 /// Reads the line of an upload's end.
-pub(crate) fn next_end<R: BufRead + Drop>(
-    reading: &mut Reading<R>,
-    upload: u64,
-) -> Result<End, MergeFault>
+fn next_end<R: BufRead + Drop>(reading: &mut Reading<R>, upload: u64) -> Result<End, MergeFault>
     ensures read { IsRead (λ end told. end_of_upload end ≡ told) IsUploadEnd (end_line upload)
         (R.remaining reading.old.from) (R.remaining reading.new.from) result }
     ensures other { IfErr result (λ fault. ¬ (IsOfTaps fault)) }
@@ -66,17 +63,6 @@ fn next_totals<R: BufRead + Drop>(reading: &mut Reading<R>) -> Result<Totals, Me
     reading.told(totals_of(reading.line()))
 }
 
-/// Reads the line `validators N`.
-fn next_validators<R: BufRead + Drop>(reading: &mut Reading<R>) -> Result<u64, MergeFault>
-    ensures read { IsRead (λ told number. told ≡ number) (λ number. number < 2 ^ 64)
-        (head_line (codes "validators ")) (R.remaining reading.old.from)
-        (R.remaining reading.new.from) result }
-    ensures other { IfErr result (λ fault. ¬ (IsOfTaps fault)) }
-{
-    reading.next()?;
-    reading.told(validators_of(reading.line()))
-}
-
 /// Reads the line of a validator.
 fn next_validator<R: BufRead + Drop>(reading: &mut Reading<R>) -> Result<ValidatorSum, MergeFault>
     ensures read { IsRead (λ sum told. validator_sum sum ≡ told) IsValidatorSum validator_line
@@ -85,17 +71,6 @@ fn next_validator<R: BufRead + Drop>(reading: &mut Reading<R>) -> Result<Validat
 {
     reading.next()?;
     reading.told(validator_sum_of(reading.line()))
-}
-
-/// Reads the line `tokens N`.
-fn next_tokens<R: BufRead + Drop>(reading: &mut Reading<R>) -> Result<u64, MergeFault>
-    ensures read { IsRead (λ told number. told ≡ number) (λ number. number < 2 ^ 64)
-        (head_line (codes "tokens ")) (R.remaining reading.old.from)
-        (R.remaining reading.new.from) result }
-    ensures other { IfErr result (λ fault. ¬ (IsOfTaps fault)) }
-{
-    reading.next()?;
-    reading.told(tokens_of(reading.line()))
 }
 
 /// Reads the lines of so many uploads, each of which was posted.
@@ -119,7 +94,7 @@ fn read_uploads<R: BufRead + Drop>(reading: &mut Reading<R>) -> Result<(), Merge
         (R.remaining reading.old.from) (R.remaining reading.new.from) result }
     ensures other { IfErr result (λ fault. ¬ (IsOfTaps fault)) }
 {
-    let uploads = next_uploads(reading)?;
+    let uploads = next_head(reading, b"uploads ")?;
     read_posted(reading, uploads)
 }
 
@@ -164,7 +139,7 @@ fn read_validators<R: BufRead + Drop>(
         (R.remaining reading.old.from) (R.remaining reading.new.from) result }
     ensures other { IfErr result (λ fault. ¬ (IsOfTaps fault)) }
 {
-    let number = next_validators(reading)?;
+    let number = next_head(reading, b"validators ")?;
     read_rising(alloc, reading, number)
 }
 
@@ -180,7 +155,7 @@ pub(crate) fn read_front<R: BufRead + Drop>(
     read_uploads(reading)?;
     let totals = next_totals(reading)?;
     let validators = read_validators(alloc, reading)?;
-    let tokens = next_tokens(reading)?;
+    let tokens = next_head(reading, b"tokens ")?;
     Ok(Front {
         totals,
         validators,

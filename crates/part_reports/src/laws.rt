@@ -3,8 +3,7 @@
 
 ghost use Rattle.std.specs.Prelude.{◌≡◌, ℕ, List};
 ghost use Rattle.part_reports.specs.Ledgers.{IsPartLedger};
-ghost use Rattle.part_reports.specs.Reports.{IsPartReport, Report, report_text};
-ghost use Rattle.part_reports.specs.Told.{HasLegalNumbers};
+ghost use Rattle.part_reports.specs.Reports.{HasLegalNumbers, IsPartReport, Report, report_text};
 ghost use Rattle.part_reports.specs.TokenLines.{TokenLine};
 
 /// Two reports that tell something else have other texts.

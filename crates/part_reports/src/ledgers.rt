@@ -1,14 +1,15 @@
 //! Ledgers of parts, merged.
 
-ghost use Rattle.std.specs.Prelude.{◌≡◌, ℕ, List, Some, IfErr, IfOk, IfSome, OnOk, map};
+ghost use Rattle.std.specs.Prelude.{ℕ, List, IfErr, IfOk, IfSome, OnOk, map};
 ghost use Rattle.std.specs.Io.KnownBytes.{Appends};
 ghost use Rattle.part_reports.specs.Faults.{IsOfTaps, IsOfTexts};
 ghost use Rattle.part_reports.specs.Ledgers.{IsMergedLedger};
+ghost use Rattle.part_reports.specs.Texts.{AreLeft};
 ghost use Rattle.part_reports.specs.inside.Begun.{AreBegun, IsBegun, IsNoLedger};
 ghost use Rattle.part_reports.specs.inside.Sources.{standing};
 
 use crate::fault::{MergeFault, Wrong};
-use crate::merging::{Lines, Source, write_merged};
+use crate::merging::{Lines, Source, write_merged, write_text};
 use crate::reading::Reading;
 use reason_texts::head_line;
 use std::alloc::Global;
@@ -43,8 +44,8 @@ fn begin_ledgers<R: BufRead + Drop>(
     ensures begun { IfOk result (λ sources. AreBegun (map R.remaining ledgers.items)
         (map (standing R.remaining) sources.items)) }
     ensures refused { IfErr result (λ fault. IsOfTexts fault → (files : List (List ℕ))
-        → map (λ text. R.remaining text) ledgers.items ≡ map (λ text. Some text) files
-        → (text : List ℕ) → ¬ (IsMergedLedger files text)) }
+        → AreLeft R.remaining ledgers.items files → (text : List ℕ)
+        → ¬ (IsMergedLedger files text)) }
     ensures no_taps { IfErr result (λ fault. ¬ (IsOfTaps fault)) }
 {
     let mut sources = Vec::new(alloc);
@@ -63,18 +64,15 @@ pub fn merge_ledgers<R: BufRead + Drop, W: Write>(
     out: &mut W,
 ) -> Result<(), MergeFault>
     ensures whole { OnOk result ((files : List (List ℕ))
-        → map (λ text. R.remaining text) ledgers.items ≡ map (λ text. Some text) files
-        → (text : List ℕ) × IsMergedLedger files text
+        → AreLeft R.remaining ledgers.items files → (text : List ℕ) × IsMergedLedger files text
         × Appends (W.contents out.old) (W.contents out.new) text) }
     // A fault of the texts comes only where no text is the ledger of the whole.
     ensures refused { IfErr result (λ fault. IsOfTexts fault → (files : List (List ℕ))
-        → map (λ text. R.remaining text) ledgers.items ≡ map (λ text. Some text) files
-        → (text : List ℕ) → ¬ (IsMergedLedger files text)) }
+        → AreLeft R.remaining ledgers.items files → (text : List ℕ)
+        → ¬ (IsMergedLedger files text)) }
     ensures no_taps { IfErr result (λ fault. ¬ (IsOfTaps fault)) }
 {
     let mut sources = begin_ledgers(alloc, ledgers)?;
-    if out.write_all(head_line().as_bytes()).is_err() {
-        return Err(MergeFault::Write);
-    }
+    write_text(out, head_line().as_bytes())?;
     write_merged(alloc, &mut sources, out)
 }

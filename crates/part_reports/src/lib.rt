@@ -16,7 +16,6 @@ mod merging;
 mod reading;
 mod reports;
 mod sums;
-mod told;
 
 pub use fault::{MergeFault, Wrong};
 pub use ledgers::merge_ledgers;

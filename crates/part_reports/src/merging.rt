@@ -205,27 +205,15 @@ fn least(heads: &[Option<Token>]) -> Result<Option<usize>, usize>
     }
 }
 
-/// Writes the line at which the text stands, and goes on to the next.
-fn write_line<R: BufRead + Drop, W: Write>(
-    source: &mut Source<R>,
-    out: &mut W,
-) -> Result<Option<Token>, MergeFault>
-    ensures written { OnOk result
-        (Appends (W.contents out.old) (W.contents out.new) source.old.reading.line.items) }
-    ensures read { OnOk result (IfSome (R.remaining source.old.reading.from)
-        (λ left. IsSource (source.old.lines, left) (standing R.remaining source.new))) }
-    ensures follows { IfOk result (λ head. MayFollowHead source.old.lines source.old.head head) }
-    ensures head { IfOk result (λ head. head ≡ source.new.head) }
-    ensures refused { IfErr result (λ fault. IsOfTexts fault
-        → IfSome (R.remaining source.old.reading.from)
-        (λ left. (list : List TokenLine) → IsTextOf (source.old.lines, left) list
-        → IfSome source.old.head (λ before. ¬ (MayFollowAll source.old.lines before list)))) }
-    ensures no_taps { IfErr result (λ fault. ¬ (IsOfTaps fault)) }
+/// Writes these bytes.
+pub(crate) fn write_text<W: Write>(out: &mut W, text: &[u8]) -> Result<(), MergeFault>
+    ensures written { OnOk result (Appends (W.contents out.old) (W.contents out.new) text.now) }
+    ensures fault { IfErr result (λ fault. (¬ (IsOfTexts fault)) × ¬ (IsOfTaps fault)) }
 {
-    if out.write_all(source.reading.line()).is_err() {
-        return Err(MergeFault::Write);
+    match out.write_all(text) {
+        Ok(()) => Ok(()),
+        Err(_) => Err(MergeFault::Write),
     }
-    source.advance()
 }
 
 /// The fault of the text of this number.
@@ -264,7 +252,9 @@ fn write_at<R: BufRead + Drop, W: Write>(
         → IsStuckAt at (map (standing R.remaining) sources.old)) }
     ensures no_taps { IfErr result (λ fault. ¬ (IsOfTaps fault)) }
 {
-    heads[at] = write_line(&mut sources[at], out)?;
+    let source = &mut sources[at];
+    write_text(out, source.reading.line())?;
+    heads[at] = source.advance()?;
     Ok(())
 }
 

@@ -1,7 +1,6 @@
 //! Lines, read one after the other.
 
 ghost use Rattle.std.specs.Prelude.{◌≡◌, [], Some, None, IfErr, IfOk, IfSome, IsTrue, OnOk, ◌↔◌};
-ghost use Rattle.std.specs.Prelude.{length};
 ghost use Rattle.std.specs.Io.BufRead.{drop_through, take_through};
 ghost use Rattle.part_reports.specs.Faults.{IsOfTaps, IsOfTexts};
 
@@ -51,7 +50,7 @@ impl<R: BufRead + Drop> Reading<R> {
                 Ok(())
             }
             Err(error) if error.kind() == ErrorKind::OutOfMemory => Err(MergeFault::NoMemory),
-            Err(_) => Err(MergeFault::Unread(self.text)),
+            Err(_) => Err(self.unread()),
         }
     }
 
@@ -67,6 +66,13 @@ impl<R: BufRead + Drop> Reading<R> {
         ensures { IsTrue result ↔ (self.now.line.items ≡ []) }
     {
         self.line.is_empty()
+    }
+
+    /// The fault of a read that failed.
+    pub(crate) fn unread(&self) -> MergeFault
+        ensures { (¬ (IsOfTexts result)) × ¬ (IsOfTaps result) }
+    {
+        MergeFault::Unread(self.text)
     }
 
     /// The fault of the line that was read last.

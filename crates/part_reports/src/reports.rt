@@ -11,6 +11,7 @@ ghost use Rattle.std.specs.Ordering.{nat_cmp};
 ghost use Rattle.part_reports.specs.Reports.{CannotBeMerged, IsMerged, IsPartReport, Report};
 ghost use Rattle.part_reports.specs.Reports.{joined_ends};
 ghost use Rattle.part_reports.specs.Reports.{report_text};
+ghost use Rattle.part_reports.specs.Texts.{AreLeft};
 ghost use Rattle.part_reports.specs.inside.Ends.{Have};
 ghost use Rattle.part_reports.specs.inside.Parts.{AreParts, IsNoPart, IsPart};
 ghost use Rattle.part_reports.specs.inside.Sources.{standing};
@@ -18,13 +19,13 @@ ghost use Rattle.part_reports.specs.inside.Whole.{validators_in};
 ghost use Rattle.part_reports.specs.Reports.{front_text as text_before_tokens};
 ghost use Rattle.shard_book.specs.Sums.{sums_of};
 
-use crate::ends::read_ends;
+use crate::ends::Ends;
+use crate::ends::read::read_ends;
 use crate::fault::{MergeFault, Wrong};
 use crate::front::read_front;
-use crate::merging::{Lines, Source, write_merged};
+use crate::merging::{Lines, Source, write_merged, write_text};
 use crate::reading::Reading;
 use crate::sums::{WholeSums, add_front, no_sums};
-use crate::told::Ends;
 use fare_texts::{write_counts, write_totals};
 use shard_book::Totals;
 use std::alloc::{AllocError, Global};
@@ -70,12 +71,11 @@ fn read_parts<R: BufRead + Drop>(
     first: usize,
 ) -> Result<Parts<R>, MergeFault>
     ensures read { IfOk result (λ parts. (files : List (List ℕ))
-        → map (λ text. R.remaining text) texts.items ≡ map (λ text. Some text) files
+        → AreLeft R.remaining texts.items files
         → AreParts files parts.sums (map (standing R.remaining) parts.sources.items)) }
     ensures refused { IfErr result (λ fault. IsOfTexts fault → (files : List (List ℕ))
-        → map (λ text. R.remaining text) texts.items ≡ map (λ text. Some text) files
-        → length files ≤ 2 ^ 31 → (parts : List Report) → All IsPartReport parts
-        → ¬ (files ≡ map report_text parts)) }
+        → AreLeft R.remaining texts.items files → length files ≤ 2 ^ 31
+        → (parts : List Report) → All IsPartReport parts → ¬ (files ≡ map report_text parts)) }
     ensures other { IfErr result (λ fault. ¬ (IsOfTaps fault)) }
 {
     let mut sums = no_sums(alloc);
@@ -136,15 +136,13 @@ pub fn merge<R: BufRead + Drop, W: Write>(
     out: &mut W,
 ) -> Result<bool, MergeFault>
     ensures whole { IfOk result (λ are_posted. (end_files report_files : List (List ℕ))
-        → map (λ text. R.remaining text) ends.items ≡ map (λ text. Some text) end_files
-        → map (λ text. R.remaining text) reports.items ≡ map (λ text. Some text) report_files
+        → AreLeft R.remaining ends.items end_files → AreLeft R.remaining reports.items report_files
         → (text : List ℕ) × (merged : IsMerged end_files report_files text)
         × (IsTrue are_posted ↔ All (λ end. end.fault ≡ None) (joined_ends merged.ends))
         × Appends (W.contents out.old) (W.contents out.new) text) }
     ensures refused { IfErr result (λ fault. IsOfTexts fault
         → (end_files report_files : List (List ℕ))
-        → map (λ text. R.remaining text) ends.items ≡ map (λ text. Some text) end_files
-        → map (λ text. R.remaining text) reports.items ≡ map (λ text. Some text) report_files
+        → AreLeft R.remaining ends.items end_files → AreLeft R.remaining reports.items report_files
         → length report_files ≤ 2 ^ 31 → CannotBeMerged end_files report_files) }
     ensures nothing { IfErr result (λ fault. IsOfTaps fault → out.new ≡ out.old) }
 {
@@ -158,9 +156,7 @@ pub fn merge<R: BufRead + Drop, W: Write>(
         });
     }
     let text = front_text(alloc, &ends, &parts.sums)?;
-    if out.write_all(&text).is_err() {
-        return Err(MergeFault::Write);
-    }
+    write_text(out, &text)?;
     write_merged(alloc, &mut parts.sources, out)?;
     Ok(ends.are_posted)
 }

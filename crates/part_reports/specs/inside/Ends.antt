@@ -1,12 +1,20 @@
--- How the uploads of the whole ended, as it is read text by text.
+-- How uploads ended: one, as the code has it, and those of the whole, read text by text.
 use Rattle.std.specs.Prelude.{◌≡◌, ℕ, ◌+◌, ◌↔◌, List, [], ◌++◌, Option, Some, None, Result, Ok, Err}
-use Rattle.std.specs.Prelude.{All, IsTrue, length, sum_by, ⊤}
+use Rattle.std.specs.Prelude.{All, IsTrue, codes, length, sum_by, ⊤}
+use Rattle.std.specs.Fmt.{decimal}
 use Rattle.part_reports.specs.declared.fault.MergeFault.{MergeFault}
 use Rattle.part_reports.specs.declared.form as form
-use Rattle.part_reports.specs.declared.told.Ends.{Ends}
+use Rattle.part_reports.specs.declared.ends.Ends.{Ends}
 use Rattle.part_reports.specs.Faults.{IsOfTexts}
-use Rattle.part_reports.specs.Lines.{End, IsUploadEnd, end_line, end_lines}
-use Rattle.part_reports.specs.inside.Ended.{end_of_upload}
+use Rattle.part_reports.specs.Lines.{End, IsUploadEnd, end_line, end_lines, head_line}
+
+-- how the upload ended
+abbrev pub end_of_upload : form.End.End → End
+end_of_upload end = record { taps = end.taps; fault = end.fault }
+
+-- ` at 64 L5`, with the end of the line
+abbrev pub fault_words : ℕ × ℕ → List ℕ
+fault_words fault = codes " at " ++ (decimal fault.0 ++ head_line (codes " L") fault.1)
 
 -- these uploads were read
 pub record Have (ends : Ends) (list : List End) : Type 0 where

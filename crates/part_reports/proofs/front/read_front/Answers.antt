@@ -51,7 +51,7 @@ returns-in_err-tokens-clause-read g c =
     let now = g.R.Read.remaining c.read_uploads.new.reading.from in
     let second = g.R.Read.remaining c.next_totals.new.reading.from in
     let third = g.R.Read.remaining c.read_validators.new.reading.from in
-    let last = g.R.Read.remaining c.next_tokens.new.reading.from in
+    let last = g.R.Read.remaining c.next_head.new.reading.from in
     let p = err_from_is_err_and c.from_residual-in_err-tokens.result
     c.from_residual-in_err-tokens.ensures.1 in
     rw (p.1, p.2) (no_tokens IsFront AreTotals AreThese c.in_ok-totals.totals
@@ -65,7 +65,7 @@ returns-clause-read g c =
     let now = g.R.Read.remaining c.read_uploads.new.reading.from in
     let second = g.R.Read.remaining c.next_totals.new.reading.from in
     let third = g.R.Read.remaining c.read_validators.new.reading.from in
-    let last = g.R.Read.remaining c.next_tokens.new.reading.from in
+    let last = g.R.Read.remaining c.next_head.new.reading.from in
     whole_front IsFront AreTotals AreThese c.in_ok-totals.totals c.in_ok-validators.validators
     c.in_ok-tokens.tokens
     (record {

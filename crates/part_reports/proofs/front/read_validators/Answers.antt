@@ -18,7 +18,7 @@ counting = record {
 pub returns-in_err-number-clause-read : goal.returns-in_err-number-clause-read
 returns-in_err-number-clause-read g c =
     let old = g.R.Read.remaining c.args.reading.now.from in
-    let now = g.R.Read.remaining c.next_validators.new.reading.from in
+    let now = g.R.Read.remaining c.next_head.new.reading.from in
     let p = err_from_is_err_and c.from_residual.result c.from_residual.ensures.1 in
     rw (p.1, p.2) (counted_no_head (λ sums told. AreSums sums.items told) AreRising AreValidators
     (λ (sums : List (ℕ × Sums)). length sums) (codes "validators ") (flat_map validator_line)
@@ -27,7 +27,7 @@ returns-in_err-number-clause-read g c =
 pub returns-clause-read : goal.returns-clause-read
 returns-clause-read g c =
     let old = g.R.Read.remaining c.args.reading.now.from in
-    let now = g.R.Read.remaining c.next_validators.new.reading.from in
+    let now = g.R.Read.remaining c.next_head.new.reading.from in
     let after = g.R.Read.remaining c.read_rising.new.reading.from in
     counted (λ sums told. AreSums sums.items told) AreRising AreValidators
     (λ (sums : List (ℕ × Sums)). length sums) (codes "validators ") (flat_map validator_line)

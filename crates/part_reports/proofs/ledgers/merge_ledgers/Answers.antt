@@ -4,7 +4,7 @@ use Rattle.std.proofs.lemmas.Result.{IfErr-weaker, err_from_is_err_and, on_ok_we
 use Rattle.reason_texts.specs.Ledger.{head_text}
 use Rattle.part_reports.specs.inside.Begun.{AreBegun}
 use Rattle.part_reports.specs.inside.Sources.{standing}
-use Rattle.part_reports.proofs.LedgerTexts.{merged_none, merged_whole, ok_here}
+use Rattle.part_reports.proofs.LedgerTexts.{merged_none, merged_whole}
 use Rattle.part_reports.proofs.ledgers.merge_ledgers.Goals as goal
 
 pub returns-in_err-sources-clause-refused : goal.returns-in_err-sources-clause-refused
@@ -17,13 +17,13 @@ returns-clause-whole g c =
     let remaining = g.R.Read.remaining in
     let known = map remaining c.args.ledgers.items in
     let old = g.W.Write.contents c.args.out.now in
-    let mid = g.W.Write.contents c.write_all.new.self in
+    let mid = g.W.Write.contents c.write_text.new.out in
     let begun : AreBegun known (map (standing remaining) c.deref_mut.result.now) =
     subst (λ sources. AreBegun known (map (standing remaining) sources))
     (sym c.deref_mut.ensures.value) c.in_ok-sources.ensures.begun in
     let head : Appends old mid head_text =
     subst (λ bytes. Appends old mid bytes) (c.as_bytes.ensures.value ∙ c.head_line.ensures)
-    (ok_here c.write_all.result c.if-is_err.ensures.value c.write_all.ensures.bytes) in
+    c.in_ok-write_text.ensures.written in
     on_ok_weaker c.write_merged.result (λ merged files same.
     merged_whole files known (map (standing remaining) c.deref_mut.result.now) old mid
     (g.W.Write.contents c.write_merged.new.out) same begun head merged)

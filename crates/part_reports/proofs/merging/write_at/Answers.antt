@@ -1,5 +1,6 @@
 use Rattle.std.proofs.Common.{◌∙◌, sym, ap, subst, get_or, map}
 use Rattle.std.specs.Prelude.{slice_set}
+use Rattle.std.specs.Io.KnownBytes.{Appends}
 use Rattle.std.proofs.lemmas.Option.{slice_get-get_or}
 use Rattle.std.proofs.lemmas.Result.{err_from_is_err_and}
 use Rattle.part_reports.specs.inside.Sources.{MayFollowHead, standing}
@@ -11,7 +12,8 @@ returns-in_err-heads-clause-refused g c =
     let sources = c.args.sources.now in
     let at = c.args.at in
     let source = get_or sources at c.index-sources-at.result in
-    let p = err_from_is_err_and c.from_residual.result c.from_residual.ensures.1 in
+    let p = err_from_is_err_and c.from_residual-in_err-heads.result
+    c.from_residual-in_err-heads.ensures.1 in
     rw (p.1, p.2) (λ of_texts. record {
       was = standing g.R.Read.remaining source;
       there = map_at (standing g.R.Read.remaining) sources at source
@@ -24,18 +26,21 @@ returns-clause-moved g c =
     let sources = c.args.sources.now in
     let at = c.args.at in
     let source = get_or sources at c.index-sources-at.result in
+    let old = g.W.Write.contents c.args.out.now in
+    let new = g.W.Write.contents c.write_text.new.out in
     record {
       was = standing g.R.Read.remaining source;
-      is = standing g.R.Read.remaining c.write_line.new.source;
+      is = standing g.R.Read.remaining c.advance.new.self;
       there = map_at (standing g.R.Read.remaining) sources at source
           (slice_get-get_or sources at c.index-sources-at.result c.requires.within);
-      moved = map_of_set (standing g.R.Read.remaining) sources at c.write_line.new.source;
+      moved = map_of_set (standing g.R.Read.remaining) sources at c.advance.new.self;
       step = record {
         read = c.in_ok-heads.ensures.read;
         order = subst (λ head. MayFollowHead source.lines source.head head)
             c.in_ok-heads.ensures.head c.in_ok-heads.ensures.follows;
       };
-      written = c.in_ok-heads.ensures.written;
+      written = subst (λ bytes. Appends old new bytes) c.line.ensures
+          c.in_ok-write_text.ensures.written;
     }
 
 pub returns-clause-heads : goal.returns-clause-heads
@@ -45,4 +50,4 @@ returns-clause-heads g c =
     ap (λ heads. slice_set heads at c.in_ok-heads.field-0) c.requires.heads
     ∙ ap (λ head. slice_set (map (λ source. source.head) sources) at head)
     c.in_ok-heads.ensures.head
-    ∙ sym (map_of_set (λ source. source.head) sources at c.write_line.new.source)
+    ∙ sym (map_of_set (λ source. source.head) sources at c.advance.new.self)

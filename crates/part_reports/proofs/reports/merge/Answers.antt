@@ -3,7 +3,7 @@ use Rattle.std.specs.List.{AllZip}
 use Rattle.std.specs.Io.KnownBytes.{Appends}
 use Rattle.part_reports.specs.inside.Parts.{left_text}
 use Rattle.part_reports.specs.inside.Sources.{IsSource, standing}
-use Rattle.part_reports.proofs.WholeReports.{merged, ok_of}
+use Rattle.part_reports.proofs.WholeReports.{merged}
 use Rattle.std.proofs.lemmas.Result.{err_from_is_err_and}
 use Rattle.part_reports.specs.Faults.{IsOfTexts}
 use Rattle.part_reports.proofs.CannotMerge.{joined_too, same_taps}
@@ -18,14 +18,12 @@ returns-clause-whole g c = λ end_files report_files ends_are reports_are.
     let sources = c.in_ok-parts.parts.sources.items in
     let texts = map left_text parts.begun in
     let old = g.W.Write.contents c.args.out.now in
-    let mid = g.W.Write.contents c.write_all.new.self in
+    let mid = g.W.Write.contents c.write_text.new.out in
     let new = g.W.Write.contents c.write_merged.new.out in
     let merging = c.in_ok-write_merged.ensures.merged texts
     (subst (λ sources. AllZip IsSource texts (map (standing g.R.Read.remaining) sources))
     (sym c.deref_mut.ensures.value) parts.stand) in
-    let first : Appends old mid c.deref.result.now =
-    ok_of c.write_all.result (Appends old mid c.deref.result.now) c.write_all.ensures.bytes
-    (sym c.is_err.ensures.value ∙ c.if-is_err.false) in
+    let first : Appends old mid c.deref.result.now = c.in_ok-write_text.ensures.written in
     let written = merged end_files report_files told.0 ends sums
     (map (standing g.R.Read.remaining) sources) c.deref.result.now merging.0 merging.1 old mid new
     told.1 told.2 parts c.if-parts-ends.false (c.deref.ensures.value

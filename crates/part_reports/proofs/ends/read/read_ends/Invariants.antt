@@ -1,6 +1,6 @@
 use Rattle.std.proofs.Common.{◌≡◌, length, take}
 use Rattle.part_reports.proofs.TextsRead.{AreRead}
-use Rattle.part_reports.proofs.ends.read_ends.Given as goal
+use Rattle.part_reports.proofs.ends.read.read_ends.Given as goal
 
 abbrev pub invariant-loop-from : goal.invariant-loop-from
 invariant-loop-from g l = record {

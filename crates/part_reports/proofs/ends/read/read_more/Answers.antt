@@ -2,7 +2,7 @@ use Rattle.std.proofs.Common.{Ok, subst}
 use Rattle.std.proofs.lemmas.Result.{err_from_is_err_and}
 use Rattle.part_reports.specs.inside.Ends.{IsNextEnd}
 use Rattle.part_reports.proofs.EndsRead.{adding_first, adding_more, adding_refused}
-use Rattle.part_reports.proofs.ends.read_more.Goals as goal
+use Rattle.part_reports.proofs.ends.read.read_more.Goals as goal
 
 pub loop-init : goal.loop-init
 loop-init g c = adding_first c.args.ends.now (g.R.Read.remaining c.args.lines.now.from)
@@ -15,7 +15,7 @@ loop-preserved g c =
     let items = c.next_end.new.lines.line.items in
     let next = subst (λ told. IsNextEnd c.loop.ends.uploads now new items (Ok told)) c.in-Some.is
     c.in_ok-end.ensures.next in
-    adding_more c.args.ends.now c.loop.ends c.add.new.ends old now new c.line.result.now items
+    adding_more c.args.ends.now c.loop.ends c.add.new.self old now new c.line.result.now items
     c.in-Some.end c.line.ensures c.loop.invariant next
     (record {
       text = c.in_ok-add-in-Some.ensures.text;

@@ -1,5 +1,5 @@
 use Rattle.part_reports.proofs.EndsRead.{AddingSome}
-use Rattle.part_reports.proofs.ends.read_more.Given as goal
+use Rattle.part_reports.proofs.ends.read.read_more.Given as goal
 
 abbrev pub invariant-loop : goal.invariant-loop
 invariant-loop g l = AddingSome l.fn.ends l.ends (g.R.Read.remaining l.fn.lines.from)

@@ -4,7 +4,7 @@ use Rattle.std.proofs.lemmas.Result.{err_from_is_err_and}
 use Rattle.std.proofs.lemmas.Iterator.Adapters.{YieldsList-from_vec}
 use Rattle.std.proofs.lemmas.Iterator.Consumers.{YieldsList-turn}
 use Rattle.part_reports.proofs.TextsRead.{front_more, have_none, read_none, read_next, read_refused}
-use Rattle.part_reports.proofs.ends.read_ends.Goals as goal
+use Rattle.part_reports.proofs.ends.read.read_ends.Goals as goal
 
 pub loop-from-init : goal.loop-from-init
 loop-from-init g c = record {

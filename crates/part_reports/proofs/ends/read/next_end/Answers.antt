@@ -1,7 +1,7 @@
 use Rattle.std.proofs.Common.{◌<◌, ◌^◌, arith}
 use Rattle.std.proofs.lemmas.Result.{err_from_is_err_and}
 use Rattle.part_reports.proofs.EndsRead.{next_no, next_over, next_told}
-use Rattle.part_reports.proofs.ends.next_end.Goals as goal
+use Rattle.part_reports.proofs.ends.read.next_end.Goals as goal
 
 pub returns-then-is_over-clause-next : goal.returns-then-is_over-clause-next
 returns-then-is_over-clause-next g c =
