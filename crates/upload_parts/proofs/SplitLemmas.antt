@@ -1,6 +1,6 @@
 -- Taps of uploads, split into parts.
 use Rattle.std.proofs.Common.{◌≡◌, ℕ, ◌<◌, ◌==◌, List, [], ◌∷◌, ◌++◌, length, get_or, map, flat_map}
-use Rattle.std.proofs.Common.{sym, ap, ◌∙◌, subst, All}
+use Rattle.std.proofs.Common.{sym, ap, ◌∙◌, subst, All, refl}
 use Rattle.std.specs.List.{AllByRecursion, AllZip}
 use Rattle.std.proofs.lemmas.List.{map-append, get_or_default}
 use Rattle.std.proofs.lemmas.List.Elements.{All-nil, All-cons, All-append, All-filter, All-map}
@@ -10,11 +10,12 @@ use Rattle.tap_views.specs.Files.{IsFile}
 use Rattle.tap_views.specs.Layout.{Tap, Layout, Tap1, Tap2, IsTapOf, num, moment_limit}
 use Rattle.tap_views.specs.declared.encoder.TapFields.{TapFields}
 use Rattle.tap_parts.specs.Parts.{part_of_token, of_part}
+use Rattle.upload_facts.specs.Facts.{taps_of_batches}
 use Rattle.upload_facts.proofs.ReadingLemmas.{taps_more}
 use Rattle.upload_parts.specs.Split.{AreSplit, AreAllEarly, HasTaps}
-use Rattle.upload_parts.specs.inside.Split.{IsAdded}
 use Rattle.tap_parts.specs.Parts.{uploads_joined}
-use Rattle.upload_parts.specs.declared.end.UploadEnd.{UploadEnd}
+use Rattle.tap_parts.specs.Uploads.{IsUploadAdded}
+use Rattle.tap_parts.specs.declared.upload.UploadTaps.{UploadTaps}
 
 abbrev Early : Tap → Type 0
 Early tap = num tap.moment < moment_limit
@@ -51,15 +52,27 @@ part_early part parts taps early =
     All-map (λ (f : TapFields). f.moment < moment_limit) fields_of (of_part part parts taps)
     (All-filter (λ (tap : Tap). part_of_token tap.token parts == part) Early taps early)
 
+-- the taps that were added are those of the upload
+added_taps : (upload : List ℕ) (old new : List (List TapFields)) (end : UploadTaps)
+    → (is : IsUploadAdded upload old new end) → HasTaps upload (taps_of_batches is.batches)
+added_taps upload old new end is = record {
+  batches = is.batches;
+  fault = end.fault;
+  read = is.read;
+  all = refl;
+}
+
 -- parts stay early as an upload is added
-pub added_early : (upload : List ℕ) (old new : List (List TapFields)) (end : UploadEnd)
-    → IsAdded upload old new end → AreAllEarly old → AreAllEarly new
+pub added_early : (upload : List ℕ) (old new : List (List TapFields)) (end : UploadTaps)
+    → IsUploadAdded upload old new end → AreAllEarly old → AreAllEarly new
 added_early upload old new end is all = λ k d within.
     let here : k < length old = subst (λ n. k < n) is.added.number within in
-    let early = part_early k (length old) is.taps (upload_early upload is.taps is.of_upload) in
+    let taps = taps_of_batches is.batches in
+    let early = part_early k (length old) taps
+    (upload_early upload taps (added_taps upload old new end is)) in
     subst AreFieldsEarly (sym (get_or_default new k d [] within ∙ is.added.each k here))
     (All-append (λ (f : TapFields). f.moment < moment_limit) (get_or old k [])
-    (map fields_of (of_part k (length old) is.taps)) (all k [] here) early)
+    (map fields_of (of_part k (length old) taps)) (all k [] here) early)
 
 fields-append : (part parts : ℕ) (xs ys : List Tap)
     → map fields_of (of_part part parts (xs ++ ys)) ≡ map fields_of (of_part part parts xs)
@@ -78,17 +91,20 @@ zip_more (u ∷ uploads) (ts ∷ taps) upload more zip has =
     (zip.0, zip_more uploads taps upload more zip.1 has)
 
 -- one upload more
-pub more_split : (upload : List ℕ) (old new : List (List TapFields)) (end : UploadEnd)
-    → IsAdded upload old new end → (parts : ℕ) (uploads : List (List ℕ)) → AreSplit parts uploads old
+pub more_split : (upload : List ℕ) (old new : List (List TapFields)) (end : UploadTaps)
+    → IsUploadAdded upload old new end → (parts : ℕ) (uploads : List (List ℕ)) → AreSplit parts uploads old
     → AreSplit parts (uploads ++ upload ∷ []) new
-more_split upload old new end is parts uploads split = record {
-  taps = split.taps ++ is.taps ∷ [];
-  of_uploads = zip_more uploads split.taps upload is.taps split.of_uploads is.of_upload;
-  number = is.added.number ∙ split.number;
-  each = λ part within.
-      is.added.each part (subst (λ n. part < n) (sym split.number) within)
-      ∙ ap (λ n. get_or old part [] ++ map fields_of (of_part part n is.taps)) split.number
-      ∙ ap (λ fields. fields ++ map fields_of (of_part part parts is.taps)) (split.each part within)
-      ∙ sym (fields-append part parts (uploads_joined split.taps) is.taps)
-      ∙ ap (λ taps. map fields_of (of_part part parts taps)) (sym (taps_more split.taps is.taps));
-}
+more_split upload old new end is parts uploads split =
+    let taps = taps_of_batches is.batches in
+    record {
+      taps = split.taps ++ taps ∷ [];
+      of_uploads = zip_more uploads split.taps upload taps split.of_uploads
+          (added_taps upload old new end is);
+      number = is.added.number ∙ split.number;
+      each = λ part within.
+          is.added.each part (subst (λ n. part < n) (sym split.number) within)
+          ∙ ap (λ n. get_or old part [] ++ map fields_of (of_part part n taps)) split.number
+          ∙ ap (λ fields. fields ++ map fields_of (of_part part parts taps)) (split.each part within)
+          ∙ sym (fields-append part parts (uploads_joined split.taps) taps)
+          ∙ ap (λ all. map fields_of (of_part part parts all)) (sym (taps_more split.taps taps));
+    }
