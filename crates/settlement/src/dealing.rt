@@ -1,6 +1,7 @@
-//! The taps of uploads, dealt to parts by four threads.
+//! The taps of uploads, dealt to parts by several threads.
 
 ghost use Rattle.std.specs.Prelude.{◌≡◌, ◌≤◌, ◌++◌, length, IfOk, map};
+ghost use denote.Param.Send.{IsSync};
 ghost use Rattle.fare_service.specs.Ends.{end_by};
 ghost use Rattle.settlement.specs.inside.Dealt.{AreAllAdded, AreDealt};
 
@@ -107,70 +108,38 @@ fn middle_of(uploads: &[Vec<u8>]) -> usize
     uploads.len()
 }
 
-/// Deals the taps of the uploads to so many parts, half of them by a thread of its own. Where one
-/// is refused, both halves are dealt one after the other.
-fn deal_by_two<R: Threads + Sync>(
+/// Deals the taps of the uploads to so many parts. The uploads are halved so many times, and each
+/// piece is dealt by a thread of its own. Where one is refused, both halves are dealt one after the
+/// other.
+#[cycle(deals)]
+pub(crate) fn deal_by_threads<R: Threads + Sync>(
     rt: &R,
     alloc: Global,
     uploads: Vec<Vec<u8>>,
     parts: u32,
+    halvings: u32,
 ) -> Result<Dealt, AllocError>
     requires least { 1 ≤ parts }
     requires most { parts ≤ 65535 }
     ensures { IfOk result (λ dealt. AreDealt parts (map (λ upload. upload.items) uploads.items)
         dealt.lists.items dealt.ends.items) }
 {
+    if halvings == 0 {
+        return deal(alloc, uploads, parts);
+    }
+    let fewer = halvings - 1;
     let (front, back) = halves(uploads)?;
-    let (dealt, more) = thread::join(
-        rt,
-        move || -> Result<Dealt, AllocError>
-            requires { (1 ≤ parts) × (parts ≤ 65535) }
-            ensures { IfOk result (λ dealt. AreDealt parts
-                (map (λ upload. upload.items) front.items)
-                dealt.lists.items dealt.ends.items) }
-        { deal(alloc, front, parts) },
-        move || -> Result<Dealt, AllocError>
-            requires { (1 ≤ parts) × (parts ≤ 65535) }
-            ensures { IfOk result (λ dealt. AreDealt parts
-                (map (λ upload. upload.items) back.items)
-                dealt.lists.items dealt.ends.items) }
-        { deal(alloc, back, parts) },
-    );
-    let mut dealt = dealt?;
-    let mut more = more?;
-    dealt.lists.append(&mut more.lists)?;
-    dealt.ends.append(&mut more.ends)?;
-    Ok(dealt)
-}
-
-/// Deals the taps of the uploads to so many parts, a quarter of them by each of four threads.
-pub(crate) fn deal_by_four<R: Threads + Sync>(
-    rt: &R,
-    alloc: Global,
-    uploads: Vec<Vec<u8>>,
-    parts: u32,
-) -> Result<Dealt, AllocError>
-    requires least { 1 ≤ parts }
-    requires most { parts ≤ 65535 }
-    ensures { IfOk result (λ dealt. AreDealt parts (map (λ upload. upload.items) uploads.items)
-        dealt.lists.items dealt.ends.items) }
-{
-    let (front, back) = halves(uploads)?;
-    let (dealt, more) = thread::join(
-        rt,
-        move || -> Result<Dealt, AllocError>
-            requires { (1 ≤ parts) × (parts ≤ 65535) }
-            ensures { IfOk result (λ dealt. AreDealt parts
-                (map (λ upload. upload.items) front.items)
-                dealt.lists.items dealt.ends.items) }
-        { deal_by_two(rt, alloc, front, parts) },
-        move || -> Result<Dealt, AllocError>
-            requires { (1 ≤ parts) × (parts ≤ 65535) }
-            ensures { IfOk result (λ dealt. AreDealt parts
-                (map (λ upload. upload.items) back.items)
-                dealt.lists.items dealt.ends.items) }
-        { deal_by_two(rt, alloc, back, parts) },
-    );
+    let first = move || -> Result<Dealt, AllocError>
+        requires { IsSync R.row × (1 ≤ parts) × (parts ≤ 65535) }
+        ensures { IfOk result (λ dealt. AreDealt parts (map (λ upload. upload.items) front.items)
+            dealt.lists.items dealt.ends.items) }
+    { deal_by_threads(rt, alloc, front, parts, fewer) };
+    let second = move || -> Result<Dealt, AllocError>
+        requires { IsSync R.row × (1 ≤ parts) × (parts ≤ 65535) }
+        ensures { IfOk result (λ dealt. AreDealt parts (map (λ upload. upload.items) back.items)
+            dealt.lists.items dealt.ends.items) }
+    { deal_by_threads(rt, alloc, back, parts, fewer) };
+    let (dealt, more) = thread::join(rt, first, second);
     let mut dealt = dealt?;
     let mut more = more?;
     dealt.lists.append(&mut more.lists)?;

@@ -12,8 +12,8 @@ use Rattle.settlement.proofs.Files.{bytes_in, there_below, zip_length, zip_there
 use Rattle.settlement.proofs.Placed.{all_by}
 use Rattle.settlement.proofs.settled.settle.Goals as goal
 
-pub files_by_four-requires-clause-early : goal.files_by_four-requires-clause-early
-files_by_four-requires-clause-early g c =
+pub files_by_threads-requires-clause-early : goal.files_by_threads-requires-clause-early
+files_by_threads-requires-clause-early g c =
     let parts = c.parts_for-parts.result in
     let dealt = c.in_ok-lists.ensures in
     let pieces = c.in_ok-pieces.ensures in

@@ -7,7 +7,7 @@ use Rattle.tap_parts.proofs.Adding.{none_added, batch_added}
 use Rattle.upload_facts.specs.Facts.{taps_of_batches}
 use Rattle.upload_facts.proofs.ReadingLemmas.{same_items, read_all, read_fault, read_batch, few}
 use Rattle.upload_facts.proofs.ReadingLemmas.{taps_more, yielded_more}
-use Rattle.tap_parts.proofs.upload.Parts.add_upload.Goals as goal
+use Rattle.tap_parts.proofs.parts.Parts.add_upload.Goals as goal
 
 -- the room that is left for a batch, and for its taps
 room : (file : List ℕ) (done more : List (List Tap)) (rest : List ℕ) (batch : List Tap)

@@ -3,7 +3,7 @@ use Rattle.tap_views.specs.Layout.{Tap}
 use Rattle.tap_views.specs.Files.{IsReading}
 use Rattle.tap_parts.specs.Parts.{AreAdded}
 use Rattle.upload_facts.specs.Facts.{taps_of_batches}
-use Rattle.tap_parts.proofs.upload.Parts.add_upload.Given as goal
+use Rattle.tap_parts.proofs.parts.Parts.add_upload.Given as goal
 
 abbrev pub invariant-loop-item : goal.invariant-loop-item
 invariant-loop-item l = record {
