@@ -66,8 +66,11 @@ loop-upload-preserved c =
             one.added,
         subst E (sym all) (subst F (sym c.in_ok-push.ensures.items)
             (AllZip-append IsPlainEnd files c.loop-upload.ends.items (upload.items ∷ []) (end ∷ [])
-            ended (plain_end upload.items c.loop-upload.parts c.add_upload.new.self added_taps end one
-            c.end_of.ensures, tt))),
+            ended (
+              plain_end upload.items c.loop-upload.parts c.add_upload.new.self added_taps end one
+                  c.end_of.ensures,
+              tt,
+            ))),
       );
     }
 

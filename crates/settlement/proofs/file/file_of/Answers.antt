@@ -1,4 +1,4 @@
-use Rattle.std.proofs.Common.{◌<◌, sym, subst, ◌∙◌, ap}
+use Rattle.std.proofs.Common.{◌<◌, sym, subst, ◌∙◌}
 use Rattle.std.proofs.lemmas.List.Sorted.{All-permutation}
 use Rattle.tap_views.specs.Encoding.{AreEarly}
 use Rattle.tap_views.specs.Layout.{moment_limit}
@@ -8,7 +8,23 @@ use Rattle.tap_parts.specs.Parts.{IsFileOf}
 use Rattle.settlement.proofs.file.file_of.Goals as goal
 
 pub text_of-requires : goal.text_of-requires
-text_of-requires c = ?
+text_of-requires c =
+    let list = c.arrange_into.new.list.items in
+    let is = subst (λ ts. IsCanonical ts list)
+    (c.deref.ensures.value ∙ (c.in_ok-gather.ensures ∙ c.as_slice.ensures))
+    c.in_ok-arrange_into.ensures in
+    subst (λ ts. AreEarly (λ (tap : TapFields). tap.moment) ts) (sym c.deref-2.ensures.value)
+    (All-permutation (λ (tap : TapFields). tap.moment < moment_limit) c.args.pieces list is.moved
+    c.requires)
 
 pub returns : goal.returns
-returns c = ?
+returns c =
+    let list = c.arrange_into.new.list.items in
+    record {
+      list = list;
+      canonical = subst (λ ts. IsCanonical ts list)
+          (c.deref.ensures.value ∙ (c.in_ok-gather.ensures ∙ c.as_slice.ensures))
+          c.in_ok-arrange_into.ensures;
+      reads = subst (λ ts. IsFileOf c.in_ok-file.file.items ts) c.deref-2.ensures.value
+          c.in_ok-file.ensures;
+    }
