@@ -10,6 +10,8 @@ use Rattle.tap_views.specs.Files.{IsFile}
 use Rattle.tap_views.specs.Layout.{Tap, Layout, Tap1, Tap2, IsTapOf, num, moment_limit}
 use Rattle.tap_views.specs.declared.encoder.TapFields.{TapFields}
 use Rattle.tap_parts.specs.Parts.{part_of_token, of_part}
+use Rattle.tap_parts.proofs.Adding.{fields-append}
+use Rattle.tap_parts.proofs.Early.{Early, file_early, part_early}
 use Rattle.upload_facts.specs.Facts.{taps_of_batches}
 use Rattle.upload_facts.proofs.ReadingLemmas.{taps_more}
 use Rattle.upload_parts.specs.Split.{AreSplit, AreAllEarly, HasTaps}
@@ -17,40 +19,13 @@ use Rattle.tap_parts.specs.Parts.{uploads_joined}
 use Rattle.tap_parts.specs.Uploads.{IsUploadAdded}
 use Rattle.tap_parts.specs.declared.upload.UploadTaps.{UploadTaps}
 
-abbrev Early : Tap → Type 0
-Early tap = num tap.moment < moment_limit
-
 abbrev AreFieldsEarly : List TapFields → Type 0
 AreFieldsEarly taps = AreEarly (λ (tap : TapFields). tap.moment) taps
-
-tap_early : (layout : Layout) (tap : Tap) → IsTapOf layout tap → Early tap
-tap_early Tap1 tap is = is.early
-tap_early (Tap2 validator) tap is = is.0.early
-
-batch_early : (layout : Layout) (taps : List Tap) → AllByRecursion (IsTapOf layout) taps
-    → All Early taps
-batch_early layout [] all = All-nil Early
-batch_early layout (tap ∷ taps) all =
-    All-cons Early tap taps (tap_early layout tap all.0) (batch_early layout taps all.1)
-
-file_early : (file : List ℕ) (batches : List (List Tap)) (rest : List ℕ) → IsFile file batches rest
-    → All Early (flat_map (λ batch. batch) batches)
-file_early file [] rest is = All-nil Early
-file_early file (batch ∷ batches) rest is =
-    let (front, back, one, spelt, more) = is in
-    All-append Early batch (flat_map (λ (b : List Tap). b) batches)
-    (batch_early one.0 batch one.1.each) (file_early back batches rest more)
 
 upload_early : (upload : List ℕ) (taps : List Tap) → HasTaps upload taps → All Early taps
 upload_early upload taps has =
     subst (λ ts. All Early ts) (sym has.all)
     (file_early upload has.batches has.read.rest has.read.is_file)
-
-part_early : (part parts : ℕ) (taps : List Tap) → All Early taps
-    → AreFieldsEarly (map fields_of (of_part part parts taps))
-part_early part parts taps early =
-    All-map (λ (f : TapFields). f.moment < moment_limit) fields_of (of_part part parts taps)
-    (All-filter (λ (tap : Tap). part_of_token tap.token parts == part) Early taps early)
 
 -- the taps that were added are those of the upload
 added_taps : (upload : List ℕ) (old new : List (List TapFields)) (end : UploadTaps)
@@ -73,13 +48,6 @@ added_early upload old new end is all = λ k d within.
     subst AreFieldsEarly (sym (get_or_default new k d [] within ∙ is.added.each k here))
     (All-append (λ (f : TapFields). f.moment < moment_limit) (get_or old k [])
     (map fields_of (of_part k (length old) taps)) (all k [] here) early)
-
-fields-append : (part parts : ℕ) (xs ys : List Tap)
-    → map fields_of (of_part part parts (xs ++ ys)) ≡ map fields_of (of_part part parts xs)
-    ++ map fields_of (of_part part parts ys)
-fields-append part parts xs ys =
-    ap (map fields_of) (filter-append (λ tap. part_of_token tap.token parts == part) xs ys)
-    ∙ map-append fields_of (of_part part parts xs) (of_part part parts ys)
 
 zip_more : (uploads : List (List ℕ)) (taps : List (List Tap)) (upload : List ℕ) (more : List Tap)
     → AllZip HasTaps uploads taps → HasTaps upload more
