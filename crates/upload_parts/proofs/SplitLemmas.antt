@@ -1,15 +1,13 @@
 -- Taps of uploads, split into parts.
-use Rattle.std.proofs.Common.{◌≡◌, ℕ, ◌<◌, ◌==◌, List, [], ◌∷◌, ◌++◌, length, get_or, map, flat_map}
+use Rattle.std.proofs.Common.{ℕ, ◌<◌, List, [], ◌∷◌, ◌++◌, length, get_or, map}
 use Rattle.std.proofs.Common.{sym, ap, ◌∙◌, subst, All, refl}
-use Rattle.std.specs.List.{AllByRecursion, AllZip}
-use Rattle.std.proofs.lemmas.List.{map-append, get_or_default}
-use Rattle.std.proofs.lemmas.List.Elements.{All-nil, All-cons, All-append, All-filter, All-map}
-use Rattle.std.proofs.lemmas.List.Elements.{filter-append}
+use Rattle.std.specs.List.{AllZip}
+use Rattle.std.proofs.lemmas.List.{get_or_default}
+use Rattle.std.proofs.lemmas.List.Elements.{All-append}
 use Rattle.tap_views.specs.Encoding.{fields_of, AreEarly}
-use Rattle.tap_views.specs.Files.{IsFile}
-use Rattle.tap_views.specs.Layout.{Tap, Layout, Tap1, Tap2, IsTapOf, num, moment_limit}
+use Rattle.tap_views.specs.Layout.{Tap, moment_limit}
 use Rattle.tap_views.specs.declared.encoder.TapFields.{TapFields}
-use Rattle.tap_parts.specs.Parts.{part_of_token, of_part}
+use Rattle.tap_parts.specs.Parts.{of_part}
 use Rattle.tap_parts.proofs.Adding.{fields-append}
 use Rattle.tap_parts.proofs.Early.{Early, file_early, part_early}
 use Rattle.upload_facts.specs.Facts.{taps_of_batches}
