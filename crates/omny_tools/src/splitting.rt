@@ -8,7 +8,7 @@ use crate::progress::Progress;
 use std::alloc::{AllocError, Global};
 use std::io::Write;
 use std::{fs, io};
-use upload_parts::{Split, UploadEnd};
+use upload_parts::{Split, UploadTaps};
 
 /// The most parts.
 pub(crate) const MOST_PARTS: u32 = 65_535;
@@ -27,7 +27,7 @@ pub(crate) struct SplitWords<'a> {
 }
 
 /// Appends the line that says how the upload of this number ends, as a report has it.
-fn push_end(text: &mut String, upload: u128, end: &UploadEnd) -> Result<(), AllocError> {
+fn push_end(text: &mut String, upload: u128, end: &UploadTaps) -> Result<(), AllocError> {
     let taps = end.taps;
     match end.fault {
         None => write!(text, "upload {upload} posted {taps}\n"),

@@ -1,37 +1,12 @@
 -- The taps of uploads have moments that a file can have.
-use Rattle.std.proofs.Common.{◌≡◌, ℕ, ◌<◌, ◌==◌, List, [], ◌∷◌, map, flat_map, sym, subst, All}
-use Rattle.std.specs.List.{AllByRecursion}
-use Rattle.std.proofs.lemmas.List.Elements.{All-nil, All-cons, All-append, All-filter, All-map}
-use Rattle.tap_views.specs.Encoding.{fields_of, AreEarly}
-use Rattle.tap_views.specs.Files.{IsFile}
-use Rattle.tap_views.specs.Layout.{Tap, Layout, Tap1, Tap2, IsTapOf, num, moment_limit}
-use Rattle.tap_views.specs.declared.encoder.TapFields.{TapFields}
-use Rattle.tap_parts.specs.Parts.{part_of_token, of_part}
-use Rattle.fare_service.specs.Plain.{AreTapsOfEach}
+use Rattle.std.proofs.Common.{ℕ, List, [], ◌∷◌, sym, subst, All}
+use Rattle.std.proofs.lemmas.List.Elements.{All-nil, All-append}
+use Rattle.tap_views.specs.Layout.{Tap}
 use Rattle.tap_parts.specs.Parts.{uploads_joined}
+use Rattle.tap_parts.proofs.Early.{Early, file_early}
+use Rattle.fare_service.specs.Plain.{AreTapsOfEach}
 
-abbrev Early : Tap → Type 0
-Early tap = num tap.moment < moment_limit
-
-tap_early : (layout : Layout) (tap : Tap) → IsTapOf layout tap → Early tap
-tap_early Tap1 tap is = is.early
-tap_early (Tap2 validator) tap is = is.0.early
-
-batch_early : (layout : Layout) (taps : List Tap) → AllByRecursion (IsTapOf layout) taps
-    → All Early taps
-batch_early layout [] all = All-nil Early
-batch_early layout (tap ∷ taps) all =
-    All-cons Early tap taps (tap_early layout tap all.0) (batch_early layout taps all.1)
-
-file_early : (file : List ℕ) (batches : List (List Tap)) (rest : List ℕ) → IsFile file batches rest
-    → All Early (flat_map (λ batch. batch) batches)
-file_early file [] rest is = All-nil Early
-file_early file (batch ∷ batches) rest is =
-    let (front, back, one, spelt, more) = is in
-    All-append Early batch (flat_map (λ (b : List Tap). b) batches)
-    (batch_early one.0 batch one.1.each) (file_early back batches rest more)
-
-uploads_early : (uploads : List (List ℕ)) (taps : List (List Tap)) → AreTapsOfEach uploads taps
+pub uploads_early : (uploads : List (List ℕ)) (taps : List (List Tap)) → AreTapsOfEach uploads taps
     → All Early (uploads_joined taps)
 uploads_early [] [] each = All-nil Early
 uploads_early [] (t ∷ ts) each = absurd each
@@ -40,12 +15,3 @@ uploads_early (u ∷ us) (t ∷ ts) each =
     All-append Early t (uploads_joined ts)
     (subst (λ taps. All Early taps) (sym each.0.all)
     (file_early u each.0.batches each.0.rest each.0.is_file)) (uploads_early us ts each.1)
-
-pub part_early : (part parts : ℕ) (uploads : List (List ℕ)) (taps : List (List Tap))
-    → AreTapsOfEach uploads taps
-    → AreEarly (λ (f : TapFields). f.moment) (map fields_of (of_part part parts (uploads_joined taps)))
-part_early part parts uploads taps each =
-    All-map (λ (f : TapFields). f.moment < moment_limit) fields_of
-    (of_part part parts (uploads_joined taps))
-    (All-filter (λ (tap : Tap). part_of_token tap.token parts == part) Early (uploads_joined taps)
-    (uploads_early uploads taps each))

@@ -1,12 +1,12 @@
 -- Uploads that were dealt into several lists of parts.
-use Rattle.std.proofs.Common.{◌≡◌, ℕ, ◌<◌, ◌==◌, List, [], ◌++◌, length, map, get_or, sym, ap, ◌∙◌}
-use Rattle.std.proofs.lemmas.List.{map-append}
+use Rattle.std.proofs.Common.{◌≡◌, ℕ, ◌<◌, List, [], ◌++◌, length, map, get_or, sym, ap, ◌∙◌}
 use Rattle.std.proofs.lemmas.List.Concat.{flat_map-append}
-use Rattle.std.proofs.lemmas.List.Elements.{All-append, filter-append}
+use Rattle.std.proofs.lemmas.List.Elements.{All-append}
 use Rattle.tap_views.specs.Encoding.{fields_of}
 use Rattle.tap_views.specs.Layout.{Tap}
 use Rattle.tap_views.specs.declared.encoder.TapFields.{TapFields}
-use Rattle.tap_parts.specs.Parts.{part_of_token, of_part}
+use Rattle.tap_parts.specs.Parts.{of_part}
+use Rattle.tap_parts.proofs.Adding.{fields-append}
 use Rattle.fare_service.specs.Plain.{AreTapsOf, IsPlainEnd}
 use Rattle.fare_service.specs.declared.upload_end.UploadEnd.{UploadEnd}
 use Rattle.fare_service.proofs.PlainRuns.{AllZip-append}
@@ -21,10 +21,7 @@ parts_joined : (part parts : ℕ) (one other : List (List Tap))
 parts_joined part parts one other =
     ap (λ taps. map fields_of (of_part part parts taps))
     (flat_map-append (λ (upload : List Tap). upload) one other)
-    ∙ ap (map fields_of)
-    (filter-append (λ (tap : Tap). part_of_token tap.token parts == part) (uploads_joined one)
-    (uploads_joined other))
-    ∙ map-append fields_of (of_part part parts (uploads_joined one)) (of_part part parts (uploads_joined other))
+    ∙ fields-append part parts (uploads_joined one) (uploads_joined other)
 
 -- a run of uploads, and then the next run
 pub both_dealt : (parts : ℕ) (one other : List (List ℕ)) (lists more : List (List (List TapFields)))

@@ -1,7 +1,8 @@
-//! The files of the parts, made by four threads.
+//! The files of the parts, made by several threads.
 
 ghost use Rattle.std.specs.Prelude.{◌≡◌, ◌++◌, All, IfOk, map};
 ghost use Rattle.std.specs.List.{AllZip};
+ghost use denote.Param.Send.{IsSync};
 ghost use Rattle.tap_views.specs.Encoding.{AreEarly};
 ghost use Rattle.settlement.specs.Settled.{IsPartFile};
 
@@ -25,62 +26,35 @@ fn halves(parts: Vec<Pieces>) -> Result<(Vec<Pieces>, Vec<Pieces>), AllocError>
     Ok((front, back))
 }
 
-/// The files of the parts, in their order, half of them made by a thread of its own.
-/// Where one is refused, both halves are made one after the other.
-fn files_by_two<R: Threads + Sync>(
+/// The files of the parts, in their order. The parts are halved so many times, and each piece is
+/// made by a thread of its own. Where one is refused, both halves are made one after the other.
+#[cycle(files)]
+pub(crate) fn files_by_threads<R: Threads + Sync>(
     rt: &R,
     alloc: Global,
     parts: Vec<Pieces>,
+    halvings: u32,
 ) -> Result<Vec<Vec<u8>>, AllocError>
     requires early { All (AreEarly (λ tap. tap.moment)) parts.items }
     ensures { IfOk result (λ files. AllZip IsPartFile parts.items
         (map (λ file. file.items) files.items)) }
 {
+    if halvings == 0 {
+        return files_of(alloc, parts);
+    }
+    let fewer = halvings - 1;
     let (front, back) = halves(parts)?;
-    let (files, more) = thread::join(
-        rt,
-        move || -> Result<Vec<Vec<u8>>, AllocError>
-            requires { All (AreEarly (λ tap. tap.moment)) front.items }
-            ensures { IfOk result (λ files. AllZip IsPartFile front.items
-                (map (λ file. file.items) files.items)) }
-        { files_of(alloc, front) },
-        move || -> Result<Vec<Vec<u8>>, AllocError>
-            requires { All (AreEarly (λ tap. tap.moment)) back.items }
-            ensures { IfOk result (λ files. AllZip IsPartFile back.items
-                (map (λ file. file.items) files.items)) }
-        { files_of(alloc, back) },
-    );
-    let mut files = files?;
-    let mut more = more?;
-    files.append(&mut more)?;
-    Ok(files)
-}
-
-/// The files of the parts, in their order, a quarter of them made by each of four threads.
-/// Where one is refused, two halves are made one after the other.
-pub(crate) fn files_by_four<R: Threads + Sync>(
-    rt: &R,
-    alloc: Global,
-    parts: Vec<Pieces>,
-) -> Result<Vec<Vec<u8>>, AllocError>
-    requires early { All (AreEarly (λ tap. tap.moment)) parts.items }
-    ensures { IfOk result (λ files. AllZip IsPartFile parts.items
-        (map (λ file. file.items) files.items)) }
-{
-    let (front, back) = halves(parts)?;
-    let (files, more) = thread::join(
-        rt,
-        move || -> Result<Vec<Vec<u8>>, AllocError>
-            requires { All (AreEarly (λ tap. tap.moment)) front.items }
-            ensures { IfOk result (λ files. AllZip IsPartFile front.items
-                (map (λ file. file.items) files.items)) }
-        { files_by_two(rt, alloc, front) },
-        move || -> Result<Vec<Vec<u8>>, AllocError>
-            requires { All (AreEarly (λ tap. tap.moment)) back.items }
-            ensures { IfOk result (λ files. AllZip IsPartFile back.items
-                (map (λ file. file.items) files.items)) }
-        { files_by_two(rt, alloc, back) },
-    );
+    let first = move || -> Result<Vec<Vec<u8>>, AllocError>
+        requires { IsSync R.row × All (AreEarly (λ tap. tap.moment)) front.items }
+        ensures { IfOk result (λ files. AllZip IsPartFile front.items
+            (map (λ file. file.items) files.items)) }
+    { files_by_threads(rt, alloc, front, fewer) };
+    let second = move || -> Result<Vec<Vec<u8>>, AllocError>
+        requires { IsSync R.row × All (AreEarly (λ tap. tap.moment)) back.items }
+        ensures { IfOk result (λ files. AllZip IsPartFile back.items
+            (map (λ file. file.items) files.items)) }
+    { files_by_threads(rt, alloc, back, fewer) };
+    let (files, more) = thread::join(rt, first, second);
     let mut files = files?;
     let mut more = more?;
     files.append(&mut more)?;

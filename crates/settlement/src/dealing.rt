@@ -1,7 +1,9 @@
-//! The taps of uploads, dealt to parts by four threads.
+//! The taps of uploads, dealt to parts by several threads.
 
 ghost use Rattle.std.specs.Prelude.{◌≡◌, ◌≤◌, ◌++◌, length, IfOk, map};
-ghost use Rattle.settlement.specs.inside.Dealt.{AreAllAdded, AreDealt, IsDealt};
+ghost use denote.Param.Send.{IsSync};
+ghost use Rattle.fare_service.specs.Ends.{end_by};
+ghost use Rattle.settlement.specs.inside.Dealt.{AreAllAdded, AreDealt};
 
 use crate::memory::release;
 use fare_service::UploadEnd;
@@ -9,8 +11,8 @@ use std::alloc::{AllocError, Global};
 use std::marker::Sync;
 use std::thread;
 use std::thread::Threads;
-use tap_parts::Parts;
-use tap_views::{TAP2_TAP_BYTES, batches};
+use tap_parts::{Parts, UploadTaps};
+use tap_views::TAP2_TAP_BYTES;
 
 /// What a run of uploads was dealt as.
 #[derive(Drop)]
@@ -22,14 +24,6 @@ pub(crate) struct Dealt {
     pub(crate) ends: Vec<UploadEnd>,
 }
 
-/// The number of bytes.
-fn size(upload: &[u8]) -> u64
-    ensures { result ≡ length upload.now }
-{
-    // proof: an upload has fewer than 2^64 bytes, so that its taps can be counted
-    upload.len() as u64
-}
-
 /// The number of bytes of all uploads, or 2^64 - 1 where there are more.
 pub(crate) fn bytes_of(uploads: &[Vec<u8>]) -> usize {
     let mut bytes = 0usize;
@@ -39,29 +33,19 @@ pub(crate) fn bytes_of(uploads: &[Vec<u8>]) -> usize {
     bytes
 }
 
-/// Adds the taps of all batches before the upload's first layout fault, each to the part of its
-/// token, and returns how the upload ends. After an error the parts are of no use.
-fn add_upload(parts: &mut Parts, upload: &[u8]) -> Result<UploadEnd, AllocError>
-    ensures { IfOk result (λ end. IsDealt upload.now parts.old parts.new end) }
+/// How an upload ends whose taps before its first layout fault are all posted.
+fn end_of(added: UploadTaps) -> UploadEnd
+    ensures { result ≡ end_by added.taps added.fault }
 {
-    let _ = size(upload);
-    let mut taps = 0;
-    for item in batches(upload) {
-        match item {
-            Ok(batch) => {
-                parts.add(&batch)?;
-                taps += batch.len() as u64;
-            }
-            Err((offset, fault)) => {
-                return Ok(UploadEnd::Refused {
-                    taps,
-                    offset,
-                    fault,
-                });
-            }
-        }
+    let UploadTaps { taps, fault } = added;
+    match fault {
+        None => UploadEnd::Posted { taps },
+        Some((offset, fault)) => UploadEnd::Refused {
+            taps,
+            offset,
+            fault,
+        },
     }
-    Ok(UploadEnd::Posted { taps })
 }
 
 /// Adds the taps of each upload, and returns how each ends. An upload's memory is given back as
@@ -76,7 +60,8 @@ fn add_all(
 {
     let mut ends = Vec::new(alloc);
     for upload in uploads {
-        ends.push(add_upload(parts, upload.as_slice())?)?;
+        let added = parts.add_upload(upload.as_slice())?;
+        ends.push(end_of(added))?;
         release(upload);
     }
     Ok(ends)
@@ -123,70 +108,38 @@ fn middle_of(uploads: &[Vec<u8>]) -> usize
     uploads.len()
 }
 
-/// Deals the taps of the uploads to so many parts, half of them by a thread of its own. Where one
-/// is refused, both halves are dealt one after the other.
-fn deal_by_two<R: Threads + Sync>(
+/// Deals the taps of the uploads to so many parts. The uploads are halved so many times, and each
+/// piece is dealt by a thread of its own. Where one is refused, both halves are dealt one after the
+/// other.
+#[cycle(deals)]
+pub(crate) fn deal_by_threads<R: Threads + Sync>(
     rt: &R,
     alloc: Global,
     uploads: Vec<Vec<u8>>,
     parts: u32,
+    halvings: u32,
 ) -> Result<Dealt, AllocError>
     requires least { 1 ≤ parts }
     requires most { parts ≤ 65535 }
     ensures { IfOk result (λ dealt. AreDealt parts (map (λ upload. upload.items) uploads.items)
         dealt.lists.items dealt.ends.items) }
 {
+    if halvings == 0 {
+        return deal(alloc, uploads, parts);
+    }
+    let fewer = halvings - 1;
     let (front, back) = halves(uploads)?;
-    let (dealt, more) = thread::join(
-        rt,
-        move || -> Result<Dealt, AllocError>
-            requires { (1 ≤ parts) × (parts ≤ 65535) }
-            ensures { IfOk result (λ dealt. AreDealt parts
-                (map (λ upload. upload.items) front.items)
-                dealt.lists.items dealt.ends.items) }
-        { deal(alloc, front, parts) },
-        move || -> Result<Dealt, AllocError>
-            requires { (1 ≤ parts) × (parts ≤ 65535) }
-            ensures { IfOk result (λ dealt. AreDealt parts
-                (map (λ upload. upload.items) back.items)
-                dealt.lists.items dealt.ends.items) }
-        { deal(alloc, back, parts) },
-    );
-    let mut dealt = dealt?;
-    let mut more = more?;
-    dealt.lists.append(&mut more.lists)?;
-    dealt.ends.append(&mut more.ends)?;
-    Ok(dealt)
-}
-
-/// Deals the taps of the uploads to so many parts, a quarter of them by each of four threads.
-pub(crate) fn deal_by_four<R: Threads + Sync>(
-    rt: &R,
-    alloc: Global,
-    uploads: Vec<Vec<u8>>,
-    parts: u32,
-) -> Result<Dealt, AllocError>
-    requires least { 1 ≤ parts }
-    requires most { parts ≤ 65535 }
-    ensures { IfOk result (λ dealt. AreDealt parts (map (λ upload. upload.items) uploads.items)
-        dealt.lists.items dealt.ends.items) }
-{
-    let (front, back) = halves(uploads)?;
-    let (dealt, more) = thread::join(
-        rt,
-        move || -> Result<Dealt, AllocError>
-            requires { (1 ≤ parts) × (parts ≤ 65535) }
-            ensures { IfOk result (λ dealt. AreDealt parts
-                (map (λ upload. upload.items) front.items)
-                dealt.lists.items dealt.ends.items) }
-        { deal_by_two(rt, alloc, front, parts) },
-        move || -> Result<Dealt, AllocError>
-            requires { (1 ≤ parts) × (parts ≤ 65535) }
-            ensures { IfOk result (λ dealt. AreDealt parts
-                (map (λ upload. upload.items) back.items)
-                dealt.lists.items dealt.ends.items) }
-        { deal_by_two(rt, alloc, back, parts) },
-    );
+    let first = move || -> Result<Dealt, AllocError>
+        requires { IsSync R.row × (1 ≤ parts) × (parts ≤ 65535) }
+        ensures { IfOk result (λ dealt. AreDealt parts (map (λ upload. upload.items) front.items)
+            dealt.lists.items dealt.ends.items) }
+    { deal_by_threads(rt, alloc, front, parts, fewer) };
+    let second = move || -> Result<Dealt, AllocError>
+        requires { IsSync R.row × (1 ≤ parts) × (parts ≤ 65535) }
+        ensures { IfOk result (λ dealt. AreDealt parts (map (λ upload. upload.items) back.items)
+            dealt.lists.items dealt.ends.items) }
+    { deal_by_threads(rt, alloc, back, parts, fewer) };
+    let (dealt, more) = thread::join(rt, first, second);
     let mut dealt = dealt?;
     let mut more = more?;
     dealt.lists.append(&mut more.lists)?;

@@ -3,8 +3,8 @@
 ghost use Rattle.std.specs.Prelude.{◌≤◌, IfOk, map};
 ghost use Rattle.settlement.specs.Settled.{IsSettled};
 
-use crate::arranging::files_by_four;
-use crate::dealing::{Dealt, bytes_of, deal_by_four};
+use crate::arranging::files_by_threads;
+use crate::dealing::{Dealt, bytes_of, deal_by_threads};
 use crate::pieces::pieces_of;
 use fare_service::UploadEnd;
 use fare_table::NoMemory;
@@ -18,6 +18,9 @@ const BYTES_OF_PART: usize = 280_000;
 
 /// The most parts, since a service takes no more uploads.
 const MAX_PARTS: usize = 65_535;
+
+/// How many times the uploads, and then the parts, are halved: four threads share the work.
+const HALVINGS: u32 = 2;
 
 /// What uploads are settled as.
 #[derive(Drop)]
@@ -49,8 +52,8 @@ pub fn settle<R: Threads + Sync>(
         made.ends.items (map (λ file. file.items) made.files.items)) }
 {
     let parts = parts_for(&uploads);
-    let Dealt { lists, ends } = deal_by_four(rt, alloc, uploads, parts)?;
+    let Dealt { lists, ends } = deal_by_threads(rt, alloc, uploads, parts, HALVINGS)?;
     let pieces = pieces_of(alloc, lists, parts)?;
-    let files = files_by_four(rt, alloc, pieces)?;
+    let files = files_by_threads(rt, alloc, pieces, HALVINGS)?;
     Ok(Settled { ends, files })
 }

@@ -15,7 +15,8 @@ none_added lists = record {
   each = λ part within. sym (append-nil (get_or lists part []));
 }
 
-fields-append : (part parts : ℕ) (xs ys : List Tap)
+-- the fields of a part's taps, in two lists
+pub fields-append : (part parts : ℕ) (xs ys : List Tap)
     → map fields_of (of_part part parts (xs ++ ys)) ≡ map fields_of (of_part part parts xs)
     ++ map fields_of (of_part part parts ys)
 fields-append part parts xs ys =

@@ -1,72 +1,51 @@
 -- Taps of uploads, split into parts.
-use Rattle.std.proofs.Common.{◌≡◌, ℕ, ◌<◌, ◌==◌, List, [], ◌∷◌, ◌++◌, length, get_or, map, flat_map}
-use Rattle.std.proofs.Common.{sym, ap, ◌∙◌, subst, All}
-use Rattle.std.specs.List.{AllByRecursion, AllZip}
-use Rattle.std.proofs.lemmas.List.{map-append, get_or_default}
-use Rattle.std.proofs.lemmas.List.Elements.{All-nil, All-cons, All-append, All-filter, All-map}
-use Rattle.std.proofs.lemmas.List.Elements.{filter-append}
+use Rattle.std.proofs.Common.{ℕ, ◌<◌, List, [], ◌∷◌, ◌++◌, length, get_or, map}
+use Rattle.std.proofs.Common.{sym, ap, ◌∙◌, subst, All, refl}
+use Rattle.std.specs.List.{AllZip}
+use Rattle.std.proofs.lemmas.List.{get_or_default}
+use Rattle.std.proofs.lemmas.List.Elements.{All-append}
 use Rattle.tap_views.specs.Encoding.{fields_of, AreEarly}
-use Rattle.tap_views.specs.Files.{IsFile}
-use Rattle.tap_views.specs.Layout.{Tap, Layout, Tap1, Tap2, IsTapOf, num, moment_limit}
+use Rattle.tap_views.specs.Layout.{Tap, moment_limit}
 use Rattle.tap_views.specs.declared.encoder.TapFields.{TapFields}
-use Rattle.tap_parts.specs.Parts.{part_of_token, of_part}
+use Rattle.tap_parts.specs.Parts.{of_part}
+use Rattle.tap_parts.proofs.Adding.{fields-append}
+use Rattle.tap_parts.proofs.Early.{Early, file_early, part_early}
+use Rattle.upload_facts.specs.Facts.{taps_of_batches}
 use Rattle.upload_facts.proofs.ReadingLemmas.{taps_more}
 use Rattle.upload_parts.specs.Split.{AreSplit, AreAllEarly, HasTaps}
-use Rattle.upload_parts.specs.inside.Split.{IsAdded}
 use Rattle.tap_parts.specs.Parts.{uploads_joined}
-use Rattle.upload_parts.specs.declared.end.UploadEnd.{UploadEnd}
-
-abbrev Early : Tap → Type 0
-Early tap = num tap.moment < moment_limit
+use Rattle.tap_parts.specs.Uploads.{IsUploadAdded}
+use Rattle.tap_parts.specs.declared.upload.UploadTaps.{UploadTaps}
 
 abbrev AreFieldsEarly : List TapFields → Type 0
 AreFieldsEarly taps = AreEarly (λ (tap : TapFields). tap.moment) taps
-
-tap_early : (layout : Layout) (tap : Tap) → IsTapOf layout tap → Early tap
-tap_early Tap1 tap is = is.early
-tap_early (Tap2 validator) tap is = is.0.early
-
-batch_early : (layout : Layout) (taps : List Tap) → AllByRecursion (IsTapOf layout) taps
-    → All Early taps
-batch_early layout [] all = All-nil Early
-batch_early layout (tap ∷ taps) all =
-    All-cons Early tap taps (tap_early layout tap all.0) (batch_early layout taps all.1)
-
-file_early : (file : List ℕ) (batches : List (List Tap)) (rest : List ℕ) → IsFile file batches rest
-    → All Early (flat_map (λ batch. batch) batches)
-file_early file [] rest is = All-nil Early
-file_early file (batch ∷ batches) rest is =
-    let (front, back, one, spelt, more) = is in
-    All-append Early batch (flat_map (λ (b : List Tap). b) batches)
-    (batch_early one.0 batch one.1.each) (file_early back batches rest more)
 
 upload_early : (upload : List ℕ) (taps : List Tap) → HasTaps upload taps → All Early taps
 upload_early upload taps has =
     subst (λ ts. All Early ts) (sym has.all)
     (file_early upload has.batches has.read.rest has.read.is_file)
 
-part_early : (part parts : ℕ) (taps : List Tap) → All Early taps
-    → AreFieldsEarly (map fields_of (of_part part parts taps))
-part_early part parts taps early =
-    All-map (λ (f : TapFields). f.moment < moment_limit) fields_of (of_part part parts taps)
-    (All-filter (λ (tap : Tap). part_of_token tap.token parts == part) Early taps early)
+-- the taps that were added are those of the upload
+added_taps : (upload : List ℕ) (old new : List (List TapFields)) (end : UploadTaps)
+    → (is : IsUploadAdded upload old new end) → HasTaps upload (taps_of_batches is.batches)
+added_taps upload old new end is = record {
+  batches = is.batches;
+  fault = end.fault;
+  read = is.read;
+  all = refl;
+}
 
 -- parts stay early as an upload is added
-pub added_early : (upload : List ℕ) (old new : List (List TapFields)) (end : UploadEnd)
-    → IsAdded upload old new end → AreAllEarly old → AreAllEarly new
+pub added_early : (upload : List ℕ) (old new : List (List TapFields)) (end : UploadTaps)
+    → IsUploadAdded upload old new end → AreAllEarly old → AreAllEarly new
 added_early upload old new end is all = λ k d within.
     let here : k < length old = subst (λ n. k < n) is.added.number within in
-    let early = part_early k (length old) is.taps (upload_early upload is.taps is.of_upload) in
+    let taps = taps_of_batches is.batches in
+    let early = part_early k (length old) taps
+    (upload_early upload taps (added_taps upload old new end is)) in
     subst AreFieldsEarly (sym (get_or_default new k d [] within ∙ is.added.each k here))
     (All-append (λ (f : TapFields). f.moment < moment_limit) (get_or old k [])
-    (map fields_of (of_part k (length old) is.taps)) (all k [] here) early)
-
-fields-append : (part parts : ℕ) (xs ys : List Tap)
-    → map fields_of (of_part part parts (xs ++ ys)) ≡ map fields_of (of_part part parts xs)
-    ++ map fields_of (of_part part parts ys)
-fields-append part parts xs ys =
-    ap (map fields_of) (filter-append (λ tap. part_of_token tap.token parts == part) xs ys)
-    ∙ map-append fields_of (of_part part parts xs) (of_part part parts ys)
+    (map fields_of (of_part k (length old) taps)) (all k [] here) early)
 
 zip_more : (uploads : List (List ℕ)) (taps : List (List Tap)) (upload : List ℕ) (more : List Tap)
     → AllZip HasTaps uploads taps → HasTaps upload more
@@ -78,17 +57,20 @@ zip_more (u ∷ uploads) (ts ∷ taps) upload more zip has =
     (zip.0, zip_more uploads taps upload more zip.1 has)
 
 -- one upload more
-pub more_split : (upload : List ℕ) (old new : List (List TapFields)) (end : UploadEnd)
-    → IsAdded upload old new end → (parts : ℕ) (uploads : List (List ℕ)) → AreSplit parts uploads old
+pub more_split : (upload : List ℕ) (old new : List (List TapFields)) (end : UploadTaps)
+    → IsUploadAdded upload old new end → (parts : ℕ) (uploads : List (List ℕ)) → AreSplit parts uploads old
     → AreSplit parts (uploads ++ upload ∷ []) new
-more_split upload old new end is parts uploads split = record {
-  taps = split.taps ++ is.taps ∷ [];
-  of_uploads = zip_more uploads split.taps upload is.taps split.of_uploads is.of_upload;
-  number = is.added.number ∙ split.number;
-  each = λ part within.
-      is.added.each part (subst (λ n. part < n) (sym split.number) within)
-      ∙ ap (λ n. get_or old part [] ++ map fields_of (of_part part n is.taps)) split.number
-      ∙ ap (λ fields. fields ++ map fields_of (of_part part parts is.taps)) (split.each part within)
-      ∙ sym (fields-append part parts (uploads_joined split.taps) is.taps)
-      ∙ ap (λ taps. map fields_of (of_part part parts taps)) (sym (taps_more split.taps is.taps));
-}
+more_split upload old new end is parts uploads split =
+    let taps = taps_of_batches is.batches in
+    record {
+      taps = split.taps ++ taps ∷ [];
+      of_uploads = zip_more uploads split.taps upload taps split.of_uploads
+          (added_taps upload old new end is);
+      number = is.added.number ∙ split.number;
+      each = λ part within.
+          is.added.each part (subst (λ n. part < n) (sym split.number) within)
+          ∙ ap (λ n. get_or old part [] ++ map fields_of (of_part part n taps)) split.number
+          ∙ ap (λ fields. fields ++ map fields_of (of_part part parts taps)) (split.each part within)
+          ∙ sym (fields-append part parts (uploads_joined split.taps) taps)
+          ∙ ap (λ all. map fields_of (of_part part parts all)) (sym (taps_more split.taps taps));
+    }

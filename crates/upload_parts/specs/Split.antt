@@ -7,9 +7,9 @@ use Rattle.tap_views.specs.Layout.{Tap}
 use Rattle.tap_views.specs.declared.encoder.TapFields.{TapFields}
 use Rattle.tap_views.specs.declared.fault.LayoutFault.{LayoutFault}
 use Rattle.tap_parts.specs.Parts.{IsFileOf, of_part, uploads_joined}
+use Rattle.tap_parts.specs.declared.upload.UploadTaps.{UploadTaps}
 use Rattle.upload_facts.specs.Facts.{IsReadAs, taps_of_batches}
 use Rattle.tap_parts.specs.Canonical.{IsCanonical}
-use Rattle.upload_parts.specs.declared.end.UploadEnd.{UploadEnd}
 
 -- the upload has these taps before its first layout fault
 pub record HasTaps (upload : List ℕ) (taps : List Tap) : Type 0 where
@@ -19,7 +19,7 @@ pub record HasTaps (upload : List ℕ) (taps : List Tap) : Type 0 where
   pub all : taps ≡ taps_of_batches batches
 
 -- the upload's end has its first layout fault, if it has one, and the number of taps before it
-pub record IsSplitEnd (upload : List ℕ) (end : UploadEnd) : Type 0 where
+pub record IsSplitEnd (upload : List ℕ) (end : UploadTaps) : Type 0 where
   pub batches : List (List Tap)
   pub read : IsReadAs upload batches end.fault
   pub number : end.taps ≡ length (taps_of_batches batches)

@@ -2,8 +2,7 @@
 //! tell is put together again.
 #![tactic(auto)]
 
-mod end;
 mod split;
 
-pub use end::UploadEnd;
 pub use split::Split;
+pub use tap_parts::UploadTaps;

@@ -4,45 +4,10 @@ ghost use Rattle.std.specs.Prelude.{◌≡◌, ◌<◌, ◌≤◌, ◌++◌, ◌
 ghost use Rattle.std.specs.Prelude.{slice_index_or};
 ghost use Rattle.tap_views.specs.Encoding.{AreEarly};
 ghost use Rattle.upload_parts.specs.Split.{AreSplit, IsSplitEnd, IsSplitFile};
-ghost use Rattle.upload_parts.specs.inside.Split.{IsAdded};
 
-use crate::end::UploadEnd;
 use std::alloc::{AllocError, Global};
 use std::marker::Model;
-use tap_parts::{Parts, arranged, text_of};
-use tap_views::batches;
-
-/// The number of bytes.
-fn size(upload: &[u8]) -> u64
-    ensures { result ≡ length upload.now }
-{
-    // proof: an upload has fewer than 2^64 bytes, so that its taps can be counted
-    upload.len() as u64
-}
-
-/// Adds the upload's taps before its first layout fault, each to the part of its token, and returns
-/// how the upload ends. After an error the parts are of no use.
-fn add_upload(parts: &mut Parts, upload: &[u8]) -> Result<UploadEnd, AllocError>
-    ensures { IfOk result (λ end. IsAdded upload.now parts.old parts.new end) }
-{
-    let _ = size(upload);
-    let mut taps = 0;
-    for item in batches(upload) {
-        match item {
-            Ok(batch) => {
-                parts.add(&batch)?;
-                taps += u64::from(batch.len());
-            }
-            Err((offset, fault)) => {
-                return Ok(UploadEnd {
-                    taps,
-                    fault: Some((offset, fault)),
-                });
-            }
-        }
-    }
-    Ok(UploadEnd { taps, fault: None })
-}
+use tap_parts::{Parts, UploadTaps, arranged, text_of};
 
 /// The taps of uploads, split by token into parts. Contracts see the taps of each part, in the
 /// order of the uploads.
@@ -78,13 +43,13 @@ impl Split {
 
     /// With the taps of one upload more: those before its first layout fault. Gives how the upload
     /// ends, too.
-    pub fn with(self, upload: &[u8]) -> Result<(Split, UploadEnd), AllocError>
+    pub fn with(self, upload: &[u8]) -> Result<(Split, UploadTaps), AllocError>
         ensures split { IfOk result (λ more. (parts : ℕ) (uploads : List (List ℕ))
             → AreSplit parts uploads self → AreSplit parts (uploads ++ upload.now ∷ []) more.0) }
         ensures end { IfOk result (λ more. IsSplitEnd upload.now more.1) }
     {
         let mut parts = self.parts;
-        let end = add_upload(&mut parts, upload)?;
+        let end = parts.add_upload(upload)?;
         Ok((Split { parts }, end))
     }
 

@@ -5,7 +5,7 @@ use Rattle.tap_views.specs.Encoding.{fields_of}
 use Rattle.tap_views.specs.Layout.{Tap}
 use Rattle.tap_views.specs.declared.encoder.TapFields.{TapFields}
 use Rattle.tap_parts.specs.Parts.{AreAdded, of_part}
-use Rattle.fare_service.specs.Plain.{AreTapsOf, AreTapsOfEach, IsPlainEnd, ArePlainEnds}
+use Rattle.fare_service.specs.Plain.{AreTapsOfEach, ArePlainEnds}
 use Rattle.fare_service.specs.declared.upload_end.UploadEnd.{UploadEnd}
 use Rattle.tap_parts.specs.Parts.{uploads_joined}
 
@@ -18,14 +18,6 @@ pub record ArePiecesAdded (pieces old new : List (List TapFields)) : Type 0 wher
   pub number : length new ≡ length old
   pub each : (part : ℕ) → part < length old
       → slice_index_or new part [] ≡ slice_index_or old part [] ++ slice_index_or pieces part []
-
--- the upload's taps were added, each to its part, and this is the upload's end
-pub record IsDealt (upload : List ℕ) (old new : List (List TapFields)) (end : UploadEnd)
-    : Type 0 where
-  pub taps : List Tap
-  pub of_upload : AreTapsOf upload taps
-  pub added : AreAdded taps old new
-  pub ended : IsPlainEnd upload end
 
 -- the taps of each upload were added, and these are the uploads' ends
 pub record AreAllAdded (uploads : List (List ℕ)) (old new : List (List TapFields))

@@ -7,7 +7,9 @@ use Rattle.fare_service.specs.Plain.{AreTapsOfEach, IsPlainEnd, ArePlainEnds}
 use Rattle.fare_service.proofs.PlainUploads.{each_more}
 use Rattle.fare_service.proofs.PlainRuns.{AllZip-append}
 use Rattle.tap_parts.proofs.Adding.{none_added, batch_added}
-use Rattle.settlement.specs.inside.Dealt.{IsDealt}
+use Rattle.tap_parts.specs.Uploads.{IsUploadAdded}
+use Rattle.upload_facts.specs.Facts.{taps_of_batches}
+use Rattle.settlement.proofs.Ends.{plain_end, taps_added}
 use Rattle.settlement.proofs.dealing.add_all.Goals as goal
 
 abbrev bytes_in : Vec ℕ Global → List ℕ
@@ -39,13 +41,15 @@ loop-upload-preserved c =
     let upload = c.in-Some.upload in
     let yielded = c.loop-upload.yielded in
     let (taps, each, added, ended) = c.loop-upload.invariant.made in
-    let end = c.in_ok-add_upload.field-0 in
-    let one : IsDealt upload.items c.loop-upload.parts c.add_upload.new.parts end =
-    subst (λ bytes. IsDealt bytes c.loop-upload.parts c.add_upload.new.parts end)
-    c.as_slice.ensures.value c.in_ok-add_upload.ensures in
+    let added_taps = c.in_ok-added.added in
+    let one : IsUploadAdded upload.items c.loop-upload.parts c.add_upload.new.self added_taps =
+    subst (λ bytes. IsUploadAdded bytes c.loop-upload.parts c.add_upload.new.self added_taps)
+    c.as_slice.ensures.value c.in_ok-added.ensures in
+    let more = taps_of_batches one.batches in
+    let end = c.end_of.result in
     let files = map bytes_in yielded in
     let all = map-append bytes_in yielded (upload ∷ []) in
-    let T : List (List ℕ) → Type 0 = λ fs. AreTapsOfEach fs (taps ++ one.taps ∷ []) in
+    let T : List (List ℕ) → Type 0 = λ fs. AreTapsOfEach fs (taps ++ more ∷ []) in
     let E : List (List ℕ) → Type 0 = λ fs. ArePlainEnds fs c.push.new.self.items in
     let F : List UploadEnd → Type 0 = λ es. ArePlainEnds (files ++ upload.items ∷ []) es in
     record {
@@ -55,13 +59,18 @@ loop-upload-preserved c =
           ∙ ap (λ us. yielded ++ us) (sym steps.0) ∙ c.loop-upload.invariant.left;
       left_len = omega (arith, steps.1, c.loop-upload.invariant.left_len, ap length steps.0);
       made = (
-        taps ++ one.taps ∷ [],
-        subst T (sym all) (each_more files taps upload.items one.taps each one.of_upload),
-        batch_added taps one.taps c.args.parts.now c.loop-upload.parts c.add_upload.new.parts added
+        taps ++ more ∷ [],
+        subst T (sym all) (each_more files taps upload.items more each (taps_added upload.items
+            c.loop-upload.parts c.add_upload.new.self added_taps one)),
+        batch_added taps more c.args.parts.now c.loop-upload.parts c.add_upload.new.self added
             one.added,
         subst E (sym all) (subst F (sym c.in_ok-push.ensures.items)
             (AllZip-append IsPlainEnd files c.loop-upload.ends.items (upload.items ∷ []) (end ∷ [])
-            ended (one.ended, tt))),
+            ended (
+              plain_end upload.items c.loop-upload.parts c.add_upload.new.self added_taps end one
+                  c.end_of.ensures,
+              tt,
+            ))),
       );
     }
 

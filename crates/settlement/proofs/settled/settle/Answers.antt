@@ -7,21 +7,22 @@ use Rattle.tap_parts.specs.Parts.{of_part}
 use Rattle.settlement.specs.inside.Dealt.{in_part}
 use Rattle.settlement.specs.Settled.{IsPartFile}
 use Rattle.tap_parts.specs.Parts.{uploads_joined}
-use Rattle.settlement.proofs.Early.{part_early}
+use Rattle.tap_parts.proofs.Early.{part_early}
+use Rattle.settlement.proofs.Early.{uploads_early}
 use Rattle.settlement.proofs.Files.{bytes_in, there_below, zip_length, zip_there}
 use Rattle.settlement.proofs.Placed.{all_by}
 use Rattle.settlement.proofs.settled.settle.Goals as goal
 
-pub files_by_four-requires-clause-early : goal.files_by_four-requires-clause-early
-files_by_four-requires-clause-early g c =
+pub files_by_threads-requires-clause-early : goal.files_by_threads-requires-clause-early
+files_by_threads-requires-clause-early g c =
     let parts = c.parts_for-parts.result in
     let dealt = c.in_ok-lists.ensures in
     let pieces = c.in_ok-pieces.ensures in
     let E : List TapFields → Type 0 = λ taps. AreEarly (λ (tap : TapFields). tap.moment) taps in
     λ _ _. all_by E c.in_ok-pieces.pieces.items (λ part d there.
     let within : part < parts = omega (arith, there, pieces.number) in
-    let early = part_early part parts (map bytes_in c.args.uploads.items) dealt.taps
-    dealt.of_uploads in
+    let early = part_early part parts (uploads_joined dealt.taps)
+    (uploads_early (map bytes_in c.args.uploads.items) dealt.taps dealt.of_uploads) in
     subst E (sym (get_or_default c.in_ok-pieces.pieces.items part d [] there
     ∙ pieces.each part within ∙ dealt.each part within)) early)
 

@@ -1,5 +1,5 @@
-use Rattle.std.proofs.Common.{ℕ, ◌+◌, ◌*◌, ◌≤◌, List, [], ◌++◌, ◌∷◌, length, Ok, Err, Some}
-use Rattle.std.proofs.Common.{None, ap, ◌∙◌, sym, refl, subst, append_assoc, append-nil, arith}
+use Rattle.std.proofs.Common.{ℕ, ◌+◌, ◌*◌, ◌≤◌, List, [], ◌++◌, ◌∷◌, length, Ok, Err}
+use Rattle.std.proofs.Common.{ap, ◌∙◌, sym, refl, subst, append_assoc, append-nil, arith}
 use Rattle.std.proofs.Common.{length-append}
 use Rattle.tap_views.specs.Layout.{Tap}
 use Rattle.tap_views.specs.Files.{Item, IsReading}
@@ -7,7 +7,7 @@ use Rattle.tap_parts.proofs.Adding.{none_added, batch_added}
 use Rattle.upload_facts.specs.Facts.{taps_of_batches}
 use Rattle.upload_facts.proofs.ReadingLemmas.{same_items, read_all, read_fault, read_batch, few}
 use Rattle.upload_facts.proofs.ReadingLemmas.{taps_more, yielded_more}
-use Rattle.upload_parts.proofs.split.add_upload.Goals as goal
+use Rattle.tap_parts.proofs.parts.Parts.add_upload.Goals as goal
 
 -- the room that is left for a batch, and for its taps
 room : (file : List ℕ) (done more : List (List Tap)) (rest : List ℕ) (batch : List Tap)
@@ -45,7 +45,7 @@ loop-item-init c =
       ends = tt;
       reading = subst P (sym c.into_iter-item-iterator.ensures.into_iter_gives)
           c.batches-item-items.ensures;
-      made = ([], refl, none_added c.args.parts.now, refl);
+      made = ([], refl, none_added c.args.self.now, refl);
     }
 
 pub loop-item-preserved : goal.loop-item-preserved
@@ -61,7 +61,7 @@ loop-item-preserved c =
       made = (
         made.0 ++ c.in-Ok.batch ∷ [],
         yielded_more c.loop-item.yielded made.0 c.in-Some.item c.in-Ok.batch made.1 c.in-Ok.is,
-        batch_added made.0 c.in-Ok.batch c.args.parts.now c.loop-item.parts c.add.new.self made.2
+        batch_added made.0 c.in-Ok.batch c.args.self.now c.loop-item.self c.add.new.self made.2
             c.in_ok-add-in-Ok.ensures,
         omega (
           arith,
@@ -92,19 +92,10 @@ returns-in-Err c =
     (same_items c.args.upload.now c.loop-item.yielded c.next.new.self made.0 (Err (c.in-Err.offset, c.in-Err.fault))
     c.loop-item.item-iterator c.loop-item.invariant.reading made.1 step) in
     record {
-      taps = taps_of_batches made.0;
-      of_upload = record {
-        batches = made.0;
-        fault = Some (c.in-Err.offset, c.in-Err.fault);
-        read = record { rest = read.0; is_file = read.1; is_end = read.2 };
-        all = refl;
-      };
+      batches = made.0;
+      read = record { rest = read.0; is_file = read.1; is_end = read.2 };
+      number = made.3;
       added = made.2;
-      ended = record {
-        batches = made.0;
-        read = record { rest = read.0; is_file = read.1; is_end = read.2 };
-        number = made.3;
-      };
     }
 
 pub returns : goal.returns
@@ -115,17 +106,8 @@ returns c =
     (subst P (ap (λ left. c.loop-item.yielded ++ left) c.in-None.ensures.steps.0
     ∙ (append-nil c.loop-item.yielded ∙ made.1)) c.loop-item.invariant.reading) in
     record {
-      taps = taps_of_batches made.0;
-      of_upload = record {
-        batches = made.0;
-        fault = None;
-        read = record { rest = read.0; is_file = read.1; is_end = read.2 };
-        all = refl;
-      };
+      batches = made.0;
+      read = record { rest = read.0; is_file = read.1; is_end = read.2 };
+      number = made.3;
       added = made.2;
-      ended = record {
-        batches = made.0;
-        read = record { rest = read.0; is_file = read.1; is_end = read.2 };
-        number = made.3;
-      };
     }

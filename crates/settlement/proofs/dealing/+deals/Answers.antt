@@ -5,10 +5,10 @@ use Rattle.fare_service.specs.declared.upload_end.UploadEnd.{UploadEnd}
 use Rattle.settlement.specs.inside.Dealt.{AreDealt}
 use Rattle.settlement.proofs.Files.{bytes_in}
 use Rattle.settlement.proofs.Lists.{both_dealt}
-use Rattle.settlement.proofs.dealing.deal_by_four.Goals as goal
+use Rattle.settlement.proofs.dealing.+deals.Goals as goal
 
 pub returns : goal.returns
-returns g c =
+returns g t c =
     let parts = c.args.parts in
     let front = map bytes_in c.in_ok-front.front.items in
     let back = map bytes_in c.in_ok-front.back.items in

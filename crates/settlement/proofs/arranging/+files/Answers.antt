@@ -4,10 +4,10 @@ use Rattle.std.proofs.lemmas.List.{map-append}
 use Rattle.settlement.specs.Settled.{IsPartFile}
 use Rattle.fare_service.proofs.PlainRuns.{AllZip-append}
 use Rattle.settlement.proofs.Files.{bytes_in}
-use Rattle.settlement.proofs.arranging.files_by_two.Goals as goal
+use Rattle.settlement.proofs.arranging.+files.Goals as goal
 
 pub returns : goal.returns
-returns g c =
+returns g t c =
     let front = c.in_ok-front.front.items in
     let back = c.in_ok-front.back.items in
     let files = c.in_ok-files.files.items in

@@ -3,7 +3,7 @@ use Rattle.tap_views.specs.Layout.{Tap}
 use Rattle.tap_views.specs.Files.{IsReading}
 use Rattle.tap_parts.specs.Parts.{AreAdded}
 use Rattle.upload_facts.specs.Facts.{taps_of_batches}
-use Rattle.upload_parts.proofs.split.add_upload.Given as goal
+use Rattle.tap_parts.proofs.parts.Parts.add_upload.Given as goal
 
 abbrev pub invariant-loop-item : goal.invariant-loop-item
 invariant-loop-item l = record {
@@ -11,5 +11,5 @@ invariant-loop-item l = record {
   ends : (goal.iterator-loop-item).is_finite l.item-iterator;
   reading : IsReading l.upload (l.yielded ++ l.item-iterator);
   made : (done : List (List Tap)) × (l.yielded ≡ map Ok done)
-      × AreAdded (taps_of_batches done) l.fn.parts l.parts × (l.taps ≡ length (taps_of_batches done));
+      × AreAdded (taps_of_batches done) l.fn.self l.self × (l.taps ≡ length (taps_of_batches done));
 }

@@ -1,0 +1,36 @@
+-- The taps of a file have moments that a file can have.
+use Rattle.std.proofs.Common.{ℕ, ◌<◌, ◌==◌, List, [], ◌∷◌, map, flat_map, All}
+use Rattle.std.specs.List.{AllByRecursion}
+use Rattle.std.proofs.lemmas.List.Elements.{All-nil, All-cons, All-append, All-filter, All-map}
+use Rattle.tap_views.specs.Encoding.{fields_of, AreEarly}
+use Rattle.tap_views.specs.Files.{IsFile}
+use Rattle.tap_views.specs.Layout.{Tap, Layout, Tap1, Tap2, IsTapOf, num, moment_limit}
+use Rattle.tap_views.specs.declared.encoder.TapFields.{TapFields}
+use Rattle.tap_parts.specs.Parts.{part_of_token, of_part}
+
+abbrev pub Early : Tap → Type 0
+Early tap = num tap.moment < moment_limit
+
+tap_early : (layout : Layout) (tap : Tap) → IsTapOf layout tap → Early tap
+tap_early Tap1 tap is = is.early
+tap_early (Tap2 validator) tap is = is.0.early
+
+batch_early : (layout : Layout) (taps : List Tap) → AllByRecursion (IsTapOf layout) taps
+    → All Early taps
+batch_early layout [] all = All-nil Early
+batch_early layout (tap ∷ taps) all =
+    All-cons Early tap taps (tap_early layout tap all.0) (batch_early layout taps all.1)
+
+pub file_early : (file : List ℕ) (batches : List (List Tap)) (rest : List ℕ) → IsFile file batches rest
+    → All Early (flat_map (λ batch. batch) batches)
+file_early file [] rest is = All-nil Early
+file_early file (batch ∷ batches) rest is =
+    let (front, back, one, spelt, more) = is in
+    All-append Early batch (flat_map (λ (b : List Tap). b) batches)
+    (batch_early one.0 batch one.1.each) (file_early back batches rest more)
+
+pub part_early : (part parts : ℕ) (taps : List Tap) → All Early taps
+    → AreEarly (λ (f : TapFields). f.moment) (map fields_of (of_part part parts taps))
+part_early part parts taps early =
+    All-map (λ (f : TapFields). f.moment < moment_limit) fields_of (of_part part parts taps)
+    (All-filter (λ (tap : Tap). part_of_token tap.token parts == part) Early taps early)
