@@ -15,9 +15,9 @@ pub enum LedgerFault {
 
 impl From<NoMemory> for LedgerFault {
     ghost use Rattle.std.specs.Prelude.{◌≡◌};
-    ghost use Rattle.ledger_texts.specs.declared.fault.LedgerFault.TheVariants.{NoMemory as Refused};
+    ghost use Rattle.ledger_texts.specs.declared.fault.LedgerFault.TheVariants as variant;
 
-    ghost from_gives = { λ _ fault. fault ≡ Refused };
+    ghost from_gives = { λ _ fault. fault ≡ variant.NoMemory };
 
     fn from(_error: NoMemory) -> LedgerFault {
         LedgerFault::NoMemory

@@ -92,7 +92,7 @@ abbrev pub reason_after : Fares → Token → List Entry → Entry → Reason
 reason_after fares token earlier entry =
     reason (rules_of fares (bytes_of token)) (map (tap_of fares) earlier) (tap_of fares entry)
 
--- the line of the token's entry that follows the earlier ones: its number, and why it is answered so
+-- the line of the token's entry that follows the earlier ones: its number, and its reason
 abbrev pub IsTokenLine : Fares → Token → List Entry → Entry → List ℕ → Type 0
 IsTokenLine fares token earlier entry line =
     IsLedgerLine fares token (length earlier + 1) entry (reason_after fares token earlier entry)
