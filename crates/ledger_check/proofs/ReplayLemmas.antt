@@ -1,5 +1,5 @@
 -- What a check of the next line finds, by what its parts found.
-use Rattle.std.proofs.Common.{◌≡◌, ℕ, ◌+◌, ◌^◌, ◌<◌, ◌≤◌, List, [], ◌∷◌, ◌++◌, length, All, Option, Some, None, refl, sym, ap, subst, ◌∙◌, arith, length-append}
+use Rattle.std.proofs.Common.{◌≡◌, ℕ, ◌+◌, ◌^◌, ◌<◌, ◌≤◌, List, [], ◌∷◌, ◌++◌, length, All, Option, Some, refl, sym, ap, subst, ◌∙◌, arith, length-append}
 use Rattle.fare_table.specs.Fares.{Fares}
 use Rattle.account_rule.specs.declared.reason.Reason.{Reason}
 use Rattle.shard_book.specs.Entry.{own}
@@ -7,13 +7,13 @@ use Rattle.fare_table.specs.Token.{Fits}
 use Rattle.shard_book.specs.declared.entry.Entry.{Entry}
 use Rattle.fare_table.specs.declared.token.Token.{Token}
 use Rattle.reason_texts.specs.Ledger.{IsLedgerLine}
+use Rattle.reason_texts.specs.declared.teller.Teller.{Teller}
 use Rattle.ledger_check.specs.Ledger.{AreNext, IsNext, IsPostable, token_number}
 use Rattle.ledger_check.specs.Replays.{HasRead, HasTurn, IsWanted, IsWrongAfter, StandsForOwn}
 use Rattle.ledger_check.specs.inside.Replays.{GoesOn}
 use Rattle.ledger_check.specs.inside.Taps.{IsOf, TellsTap}
 use Rattle.ledger_check.specs.declared.replay.Replay.{Replay}
 use Rattle.ledger_check.specs.declared.tap.Tap.{Tap}
-use Rattle.ledger_check.specs.declared.turn.Turn.{Turn}
 use Rattle.ledger_check.proofs.EntryLists.{next-parts, next-push}
 use Rattle.ledger_check.proofs.SameLines.{next_same}
 use Rattle.ledger_check.proofs.TokenOrder.{own-few}
@@ -84,7 +84,7 @@ wrong_less fares replay lines line tap read tells less =
     less read.entries read.turn (subst (λ (t : Token). All (λ (e : Entry). token_number e.token ≤ token_number t) read.entries) of.token is.rises))
 
 -- the entry that the tap makes, and its line
-pub same_next : (fares : Fares) (turn after : Turn) (earlier : List Entry) (line wanted : List ℕ) (tap : Tap) (goes : GoesOn fares turn earlier tap.validator tap.moment wanted after)
+pub same_next : (fares : Fares) (turn after : Teller) (earlier : List Entry) (line wanted : List ℕ) (tap : Tap) (goes : GoesOn fares turn earlier tap.validator tap.moment wanted after)
     → turn.token ≡ tap.token → TellsTap fares line tap → (entry : Entry) → IsNext fares earlier entry line
     → (entry ≡ goes.entry) × (line ≡ wanted)
 same_next fares turn after earlier line wanted tap goes token tells entry is =
@@ -92,7 +92,7 @@ same_next fares turn after earlier line wanted tap goes token tells entry is =
     next_same fares earlier entry goes.entry line wanted is goes.replied goes.shown
     (of.token ∙ sym token ∙ sym goes.token) (of.validator ∙ sym goes.of_validator) (of.moment ∙ sym goes.of_moment)
 
-pub wrong_other : (fares : Fares) (replay : Replay) (lines : List (List ℕ)) (line wanted : List ℕ) (turn after : Turn) (tap : Tap)
+pub wrong_other : (fares : Fares) (replay : Replay) (lines : List (List ℕ)) (line wanted : List ℕ) (turn after : Teller) (tap : Tap)
     → (read : HasRead fares replay lines) → GoesOn fares turn read.entries tap.validator tap.moment wanted after
     → turn.token ≡ tap.token → TellsTap fares line tap → (wanted ≡ line → ⊥) → IsWrongAfter fares lines line
 wrong_other fares replay lines line wanted turn after tap read goes token tells other =
@@ -103,7 +103,7 @@ wrong_other fares replay lines line wanted turn after tap read goes token tells 
 abbrev pub CanPost : Tap → Type 0
 CanPost tap = (tap.validator < 2 ^ 32) × (tap.moment < 4_102_444_800_000)
 
-pub next_of : (fares : Fares) (turn after : Turn) (earlier : List Entry) (wanted : List ℕ) (tap : Tap)
+pub next_of : (fares : Fares) (turn after : Teller) (earlier : List Entry) (wanted : List ℕ) (tap : Tap)
     → (goes : GoesOn fares turn earlier tap.validator tap.moment wanted after) → StandsForOwn fares turn earlier → CanPost tap
     → length wanted ≤ 255 → length earlier < 2 ^ 62 → IsNext fares earlier goes.entry wanted
 next_of fares turn after earlier wanted tap goes stands can short few =
@@ -123,7 +123,7 @@ next_of fares turn after earlier wanted tap goes stands can short few =
     }
 
 -- the line is the one that its tap should have
-pub read_more : (fares : Fares) (replay next : Replay) (lines : List (List ℕ)) (line wanted : List ℕ) (turn after : Turn) (tap : Tap)
+pub read_more : (fares : Fares) (replay next : Replay) (lines : List (List ℕ)) (line wanted : List ℕ) (turn after : Teller) (tap : Tap)
     → (read : HasRead fares replay lines) → GoesOn fares turn read.entries tap.validator tap.moment wanted after
     → StandsForOwn fares turn read.entries → CanPost tap
     → turn.token ≡ tap.token → TellsTap fares line tap → wanted ≡ line → length line ≤ 255
@@ -142,10 +142,10 @@ read_more fares replay next lines line wanted turn after tap read goes stands ca
           last.2 ∙ ap (λ (e : Entry). read.entries ++ e ∷ []) (same_next fares turn after read.entries line wanted tap goes token tells last.0 last.1).0;
       counted = omega (arith, more, read.counted);
       few = omega (arith, more);
-      turn = subst (λ (t : Option Turn). HasTurn fares t (read.entries ++ goes.entry ∷ [])) (sym is_turn) (goes.stands, goes.some);
+      turn = subst (λ (t : Option Teller). HasTurn fares t (read.entries ++ goes.entry ∷ [])) (sym is_turn) (goes.stands, goes.some);
     }
 
-pub wanted_next : (fares : Fares) (replay : Replay) (lines : List (List ℕ)) (wanted : List ℕ) (turn after : Turn) (tap : Tap)
+pub wanted_next : (fares : Fares) (replay : Replay) (lines : List (List ℕ)) (wanted : List ℕ) (turn after : Teller) (tap : Tap)
     → (read : HasRead fares replay lines) → GoesOn fares turn read.entries tap.validator tap.moment wanted after
     → StandsForOwn fares turn read.entries → CanPost tap → length wanted ≤ 255 → replay.lines < 4_611_686_018_427_387_904
     → IsWanted fares lines wanted

@@ -1,28 +1,25 @@
 -- What a check knows of the lines that it has read.
-use Rattle.std.specs.Prelude.{◌≡◌, ℕ, ◌+◌, ◌^◌, ◌<◌, ◌≤◌, List, [], ◌∷◌, ◌++◌, length, All, Option}
+use Rattle.std.specs.Prelude.{◌≡◌, ℕ, ◌^◌, ◌<◌, ◌≤◌, List, [], ◌∷◌, ◌++◌, length, All, Option}
 use Rattle.std.specs.Prelude.{Some, None}
 use Rattle.fare_table.specs.Fares.{Fares}
-use Rattle.account_rule.specs.Rules.{rules_of}
-use Rattle.account_rule.specs.Stands.{Stands}
-use Rattle.shard_book.specs.Entry.{own, taps_of}
-use Rattle.fare_table.specs.Token.{Fits, bytes_of}
+use Rattle.shard_book.specs.Entry.{own}
+use Rattle.fare_table.specs.Token.{Fits}
 use Rattle.shard_book.specs.declared.entry.Entry.{Entry}
+use Rattle.reason_texts.specs.Tellers.{HasTold}
+use Rattle.reason_texts.specs.declared.teller.Teller.{Teller}
 use Rattle.ledger_check.specs.Ledger.{AreNext, IsNext, token_number}
-use Rattle.ledger_check.specs.declared.turn.Turn.{Turn}
 use Rattle.ledger_check.specs.declared.replay.Replay.{Replay}
 
--- the turn stands for its token's entries among these, which are of no greater token
-pub record StandsForOwn (fares : Fares) (turn : Turn) (entries : List Entry) : Type 0 where
-  pub fits : Fits turn.token
-  pub counted : turn.number ≡ length (own turn.token entries)
-  pub stands : Stands (rules_of fares (bytes_of turn.token)) turn.account
-      (taps_of fares turn.token entries)
-  pub up_to : All (λ entry. token_number entry.token ≤ token_number turn.token) entries
+-- the teller stands for its token's entries among these, which are of no greater token
+pub record StandsForOwn (fares : Fares) (teller : Teller) (entries : List Entry) : Type 0 where
+  pub fits : Fits teller.token
+  pub told : HasTold fares teller (own teller.token entries)
+  pub up_to : All (λ entry. token_number entry.token ≤ token_number teller.token) entries
 
--- the last turn, if there were entries, stands for them and has some
-abbrev pub HasTurn : Fares → Option Turn → List Entry → Type 0
+-- the last teller, if there were entries, stands for them and has told some
+abbrev pub HasTurn : Fares → Option Teller → List Entry → Type 0
 HasTurn fares None entries = entries ≡ []
-HasTurn fares (Some turn) entries = StandsForOwn fares turn entries × (0 < turn.number)
+HasTurn fares (Some teller) entries = StandsForOwn fares teller entries × (0 < teller.number)
 
 -- these are the lines that were read: of the entries, and of no others
 pub record HasRead (fares : Fares) (replay : Replay) (lines : List (List ℕ)) : Type 0 where

@@ -5,6 +5,7 @@
 
 use crate::bytes::field;
 use crate::moment::{read_any_moment, read_moment};
+use crate::tap::read_small_number;
 
 /// Twelve fields with the newline behind them, each a text of its kind within its range. What
 /// [`read_tap`](crate::tap::read_tap) reads of the first four is not looked at again.
@@ -73,10 +74,7 @@ fn is_number(text: &[u8]) -> bool {
 
 /// Whether the text is a number as a ledger has it, of at most 32 bits.
 fn is_small_number(text: &[u8]) -> bool {
-    match std::str::from_utf8(text) {
-        Ok(digits) => is_written_so(text) && digits.parse::<u32>().is_ok(),
-        Err(_) => false,
-    }
+    is_written_so(text) && read_small_number(text).is_some()
 }
 
 /// Whether the text has no sign, and no zero before a number.

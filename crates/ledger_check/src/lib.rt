@@ -13,6 +13,6 @@ pub mod laws;
 mod moment;
 mod replay;
 mod tap;
-mod turn;
+mod wanted;
 
 pub use checker::{Checker, Verdict};

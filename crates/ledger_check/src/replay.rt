@@ -13,8 +13,9 @@ ghost use Rattle.ledger_check.specs.inside.Replays.{IsStep};
 use crate::bytes::same_bytes;
 use crate::form::has_form;
 use crate::tap::{Tap, read_tap};
-use crate::turn::Turn;
+use crate::wanted::write_wanted;
 use fare_table::{Clock, FareTable, NoMemory};
+use reason_texts::Teller;
 use shard_book::Token;
 use std::cmp::Ordering;
 
@@ -41,7 +42,7 @@ pub(crate) struct Replay {
     /// How many lines were read.
     pub(crate) lines: u64,
     /// The turn of the last line's token; none where no line was read.
-    turn: Option<Turn>,
+    turn: Option<Teller>,
 }
 
 impl Replay {
@@ -57,7 +58,7 @@ impl Replay {
 
     /// The turn of the token, which goes on or begins here; `None` where the token is less than the
     /// last one.
-    fn turn_of(&self, token: Token) -> Option<Turn>
+    fn turn_of(&self, token: Token) -> Option<Teller>
         requires { Fits token }
         ensures token { IfSome result (λ turn. turn.token ≡ token) }
         ensures stands { IfSome result (λ turn. (fares : Fares) (entries : List Entry)
@@ -67,10 +68,10 @@ impl Replay {
             → All (λ entry. token_number entry.token ≤ token_number token) entries → ⊥) }
     {
         let Some(turn) = self.turn else {
-            return Some(Turn::first(token));
+            return Some(Teller::of(token));
         };
         match turn.token.cmp(&token) {
-            Ordering::Less => Some(Turn::first(token)),
+            Ordering::Less => Some(Teller::of(token)),
             Ordering::Equal => Some(turn),
             Ordering::Greater => None,
         }
@@ -100,7 +101,7 @@ impl Replay {
         let Some(mut turn) = self.turn_of(tap.token) else {
             return Ok(Step::NoLine);
         };
-        turn.write_next(table, clock, tap.validator, tap.moment, wanted)?;
+        write_wanted(&mut turn, table, clock, tap.validator, tap.moment, wanted)?;
         if same_bytes(wanted.as_bytes(), line) {
             self.lines += 1;
             self.turn = Some(turn);

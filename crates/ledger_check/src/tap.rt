@@ -56,7 +56,7 @@ fn read_token(digits: &[u8]) -> Option<Token>
 }
 
 /// A number of at most 32 bits.
-fn read_validator(digits: &[u8]) -> Option<u32>
+pub(crate) fn read_small_number(digits: &[u8]) -> Option<u32>
     ensures found { (number : ℕ) → number < 2 ^ 32 → digits.now ≡ decimal number
         → result ≡ Some number }
 {
@@ -82,7 +82,7 @@ pub(crate) fn read_tap(line: &[u8]) -> Option<Tap>
     let (text, rest) = field(rest)?;
     let moment = read_moment(text)?;
     let (digits, _rest) = field(rest)?;
-    let validator = read_validator(digits)?;
+    let validator = read_small_number(digits)?;
     Some(Tap {
         token,
         validator,

@@ -6,4 +6,3 @@ pub mod Whole
 pub mod Collecting
 pub mod Closing
 pub mod ExplainedLines
-pub mod Modes

@@ -1,74 +1,50 @@
 -- One line after another: what the teller has come to, and what was written.
-use Rattle.std.proofs.Common.{◌≡◌, ℕ, ◌+◌, ◌<◌, true, false, List, [], ◌∷◌, ◌++◌, Option, Some, None, length, map, take, drop, get_or, refl, sym, ap, subst, ◌∙◌, append_assoc, append-nil, add-one, drop-cons, arith}
+use Rattle.std.proofs.Common.{◌≡◌, ℕ, ◌+◌, ◌<◌, true, false, List, [], ◌∷◌, ◌++◌, Option, Some, None, length, take, drop, get_or, refl, sym, ap, subst, ◌∙◌, append_assoc, append-nil, add-one, drop-cons, arith}
 use Rattle.std.specs.Prelude.{slice_get}
 use Rattle.std.specs.Io.KnownBytes.{Appends, Keeps, append_known}
-use Rattle.std.proofs.lemmas.List.{get_or-map, length-append, length-map, map-append}
+use Rattle.std.proofs.lemmas.List.{get_or-map, length-map}
 use Rattle.std.proofs.Math.Seq.{take-suc}
 use Rattle.fare_table.specs.Fares.{Fares}
-use Rattle.account_rule.specs.Rules.{rules_of}
-use Rattle.account_rule.specs.Stands.{Stands}
-use Rattle.account_rule.specs.declared.reason.Reason.{Reason}
-use Rattle.account_rule.specs.declared.tap.TapIn.{TapIn}
-use Rattle.shard_book.specs.Entry.{own, tap_of}
-use Rattle.fare_table.specs.Token.{bytes_of, token_eq}
+use Rattle.shard_book.specs.Entry.{own}
+use Rattle.fare_table.specs.Token.{token_eq}
 use Rattle.shard_book.specs.declared.entry.Entry.{Entry}
 use Rattle.fare_table.specs.declared.token.Token.{Token}
 use Rattle.shard_book.proofs.Histories.{token_eq-refl}
-use Rattle.reason_texts.specs.Ledger.{IsLedgerLine, reason_after}
+use Rattle.reason_texts.specs.Tellers.{HasTold}
 use Rattle.ledger_texts.specs.inside.Lines.{AreLinesAlong, AreUpTo, HasCome, IsLineAfter, IsUpTo, Rise, RiseFrom}
 use Rattle.ledger_texts.specs.inside.Spots.{entry_at_spot, seen}
 use Rattle.ledger_texts.specs.declared.spot.Spot.{Spot}
 use Rattle.shard_book.specs.Book.{Book}
-use Rattle.ledger_texts.specs.declared.teller.Teller.{Teller}
-use Rattle.ledger_texts.proofs.Rising.{none_below, own_none, own_push, up_itself, up_push, up_weaker}
-
-abbrev StandsFor : Fares → Teller → List Entry → Type 0
-StandsFor fares teller entries = Stands (rules_of fares (bytes_of teller.token)) teller.account (map (tap_of fares) entries)
+use Rattle.reason_texts.specs.declared.teller.Teller.{Teller}
+use Rattle.ledger_texts.proofs.Rising.{none_below, own_push, up_itself, up_push, up_weaker}
 
 -- ---- the teller
-pub come_first : (fares : Fares) (teller : Teller) → Stands (rules_of fares (bytes_of teller.token)) teller.account [] → teller.number ≡ 0 → HasCome fares teller []
+pub come_first : (fares : Fares) (teller : Teller) → HasTold fares teller [] → HasCome fares teller []
 unfolding own
-come_first fares teller stands number = record { stands = stands; counted = number; up = tt }
+come_first fares teller told = record { told = told; up = tt }
 
-pub come_turned : (fares : Fares) (old new : Teller) (earlier : List Entry) → HasCome fares old earlier → IsUpTo old.token new.token → token_eq old.token new.token ≡ false
-    → HasCome fares new [] → HasCome fares new earlier
+pub come_turned : (fares : Fares) (old new : Teller) (earlier : List Entry) → HasCome fares old earlier
+    → IsUpTo old.token new.token → token_eq old.token new.token ≡ false → HasTold fares new []
+    → HasCome fares new earlier
 come_turned fares old new earlier come to apart fresh =
-    let none : own new.token [] ≡ own new.token earlier = own_none new.token ∙ sym (none_below earlier old.token new.token come.up to apart) in
+    let none : [] ≡ own new.token earlier = sym (none_below earlier old.token new.token come.up to apart) in
     record {
-      stands = subst (λ (es : List Entry). StandsFor fares new es) none fresh.stands;
-      counted = fresh.counted ∙ ap (λ (es : List Entry). length es) none;
+      told = subst (λ (es : List Entry). HasTold fares new es) none fresh;
       up = up_weaker earlier old.token new.token come.up to;
     }
 
-pub come_next : (fares : Fares) (old new : Teller) (earlier : List Entry) (entry : Entry) → old.token ≡ entry.token → new.token ≡ old.token → new.number ≡ old.number + 1
-    → HasCome fares old earlier
-    → Stands (rules_of fares (bytes_of old.token)) new.account (map (tap_of fares) (own old.token earlier) ++ tap_of fares entry ∷ [])
+pub come_next : (fares : Fares) (old new : Teller) (earlier : List Entry) (entry : Entry) → old.token ≡ entry.token
+    → new.token ≡ old.token → HasCome fares old earlier → HasTold fares new (own old.token earlier ++ entry ∷ [])
     → HasCome fares new (earlier ++ entry ∷ [])
-come_next fares old new earlier entry same token number come stands =
+come_next fares old new earlier entry same token come told =
     let here : token_eq entry.token old.token ≡ true = ap (λ (t : Token). token_eq t old.token) (sym same) ∙ token_eq-refl old.token in
-    let pushed : own old.token (earlier ++ entry ∷ []) ≡ own old.token earlier ++ entry ∷ [] = own_push old.token earlier entry here in
-    let taps : map (tap_of fares) (own old.token (earlier ++ entry ∷ [])) ≡ map (tap_of fares) (own old.token earlier) ++ tap_of fares entry ∷ [] =
-    ap (λ (es : List Entry). map (tap_of fares) es) pushed ∙ map-append (tap_of fares) (own old.token earlier) (entry ∷ []) in
-    let more : length (own old.token earlier ++ entry ∷ []) ≡ length (own old.token earlier) + 1 = longer (own old.token earlier) entry in
+    let all = earlier ++ entry ∷ [] in
     record {
-      stands = subst (λ (t : Token). Stands (rules_of fares (bytes_of t)) new.account (map (tap_of fares) (own t (earlier ++ entry ∷ [])))) (sym token)
-          (subst (λ (ts : List TapIn). Stands (rules_of fares (bytes_of old.token)) new.account ts) (sym taps) stands);
-      counted = number ∙ ap (λ n. n + 1) come.counted ∙ sym more ∙ ap (λ (es : List Entry). length es) (sym pushed)
-          ∙ ap (λ (t : Token). length (own t (earlier ++ entry ∷ []))) (sym token);
-      up = subst (λ (t : Token). AreUpTo (earlier ++ entry ∷ []) t) (sym token)
+      told = subst (λ (t : Token). HasTold fares new (own t all)) (sym token)
+          (subst (λ (es : List Entry). HasTold fares new es) (sym (own_push old.token earlier entry here)) told);
+      up = subst (λ (t : Token). AreUpTo all t) (sym token)
           (up_push earlier entry old.token come.up (subst (λ (t : Token). IsUpTo t old.token) same (up_itself old.token)));
     }
-  where
-    longer : (es : List Entry) (e : Entry) → length (es ++ e ∷ []) ≡ length es + 1
-    longer es e = simp length-append refl
-
-pub line_after : (fares : Fares) (old : Teller) (earlier : List Entry) (entry : Entry) (why : Reason) (line : List ℕ) → old.token ≡ entry.token → old.number ≡ length (own old.token earlier)
-    → why ≡ reason_after fares old.token (own old.token earlier) entry
-    → IsLedgerLine fares old.token (old.number + 1) entry why line → IsLineAfter fares earlier entry line
-line_after fares old earlier entry why line same counted is_why is =
-    subst (λ (t : Token). IsLedgerLine fares t (length (own t earlier) + 1) entry (reason_after fares t (own t earlier) entry) line) same
-    (subst (λ (n : ℕ). IsLedgerLine fares old.token (n + 1) entry (reason_after fares old.token (own old.token earlier) entry) line) counted
-    (subst (λ (w : Reason). IsLedgerLine fares old.token (old.number + 1) entry w line) is_why is))
 
 -- ---- the lines
 pub along_push : (fares : Fares) (earlier entries : List Entry) (entry : Entry) (text line : List ℕ) → AreLinesAlong fares earlier entries text

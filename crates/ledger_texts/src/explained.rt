@@ -83,9 +83,7 @@ pub fn write_explained<W: Write>(
         × Appends (W.contents out.old) (W.contents out.new) text) }
     ensures fault { IfErr result (λ fault. KeepsUnlessLedgerWrite fault (out.new ≡ out.old)) }
 {
-    let Ok(mut text) = explained_text(alloc, books, token) else {
-        return Err(LedgerFault::NoMemory);
-    };
+    let mut text = explained_text(alloc, books, token)?;
     pass_on(&mut text, out)?;
     Ok(())
 }

@@ -55,12 +55,8 @@ fn write_all<W: Write>(alloc: Global, books: &[ShardBook], out: &mut W) -> Resul
     ensures fault { IfErr result (λ fault. KeepsUnlessLedgerWrite fault (out.new ≡ out.old)) }
 {
     let table = table_of(books);
-    let Ok(clock) = table.clock(alloc) else {
-        return Err(LedgerFault::NoMemory);
-    };
-    let Ok((mut text, spots)) = begun(alloc, books) else {
-        return Err(LedgerFault::NoMemory);
-    };
+    let clock = table.clock(alloc)?;
+    let (mut text, spots) = begun(alloc, books)?;
     write_lines(&mut text, table, &clock, books, spots.as_slice(), out)?;
     Ok(())
 }
@@ -91,9 +87,7 @@ fn write_own<W: Write>(
         × Appends (W.contents out.old) (W.contents out.new) text) }
     ensures fault { IfErr result (λ fault. KeepsUnlessLedgerWrite fault (out.new ≡ out.old)) }
 {
-    let Ok(mut text) = own_text(alloc, books, token) else {
-        return Err(LedgerFault::NoMemory);
-    };
+    let mut text = own_text(alloc, books, token)?;
     pass_on(&mut text, out)?;
     Ok(())
 }

@@ -8,7 +8,6 @@ mod fault;
 mod ledger;
 mod lines;
 mod spot;
-mod teller;
 
 pub use explained::write_explained;
 pub use fault::LedgerFault;

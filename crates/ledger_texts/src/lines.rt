@@ -1,16 +1,18 @@
 //! The lines of entries that stand in order of token, written in pieces.
 
-ghost use Rattle.std.specs.Prelude.{◌≡◌, ℕ, List, [], ◌++◌, IfErr, OnOk, string_bytes};
+ghost use Rattle.std.specs.Prelude.{◌≡◌, ◌≤◌, ℕ, List, [], ◌++◌, IfErr, OnOk, string_bytes};
 ghost use Rattle.std.specs.Io.KnownBytes.{Appends, Keeps, append_known};
 ghost use Rattle.ledger_texts.specs.declared.fault.LedgerFault.TheVariants.{Write as ForWrite};
-ghost use Rattle.ledger_texts.specs.inside.Lines.{AreLinesAlong, Rise, RiseFrom};
+ghost use Rattle.ledger_texts.specs.inside.Lines.{AreLinesAlong, HasCome, IsUpTo, Rise, RiseFrom};
 ghost use Rattle.ledger_texts.specs.inside.Spots.{seen};
+ghost use Rattle.fare_table.specs.Fares.{Fares};
 ghost use Rattle.fare_table.specs.declared.token.Token.{Token};
+ghost use Rattle.shard_book.specs.declared.entry.Entry.{Entry};
 
 use crate::fault::LedgerFault;
 use crate::spot::Spot;
-use crate::teller::Teller;
 use fare_table::{Clock, FareTable};
+use reason_texts::Teller;
 use shard_book::{ShardBook, Token};
 use std::io::Write;
 
@@ -53,6 +55,18 @@ fn pass_piece<W: Write>(text: &mut String, out: &mut W) -> Result<(), LedgerFaul
     pass_on(text, out)
 }
 
+/// Turns the teller to the token of the next entry, which is not below its own.
+fn turn_to(teller: &mut Teller, token: Token)
+    ensures come { (fares : Fares) (earlier : List Entry) → HasCome fares teller.old earlier
+        → IsUpTo teller.old.token token → HasCome fares teller.new earlier }
+    ensures token { teller.new.token ≡ token }
+    ensures few { teller.new.number ≤ teller.old.number }
+{
+    if teller.token != token {
+        *teller = Teller::of(token);
+    }
+}
+
 /// Appends the lines of the entries at the spots to the text, of which what stands there may go out
 /// first.
 fn write_pieces<W: Write>(
@@ -75,7 +89,7 @@ fn write_pieces<W: Write>(
     let mut teller = Teller::of(first);
     for spot in spots {
         let entry = spot.entry(books);
-        teller.turn_to(entry.token);
+        turn_to(&mut teller, entry.token);
         // The text has room for a line, so that none is refused.
         let Ok(()) = teller.write_next(text, table, clock, &entry) else {
             return Err(LedgerFault::Write);

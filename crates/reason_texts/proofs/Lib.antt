@@ -1,1 +1,2 @@
 pub mod LineLists
+mod Modes

@@ -92,13 +92,17 @@ abbrev pub reason_after : Fares → Token → List Entry → Entry → Reason
 reason_after fares token earlier entry =
     reason (rules_of fares (bytes_of token)) (map (tap_of fares) earlier) (tap_of fares entry)
 
+-- the line of the token's entry that follows the earlier ones: its number, and its reason
+abbrev pub IsTokenLine : Fares → Token → List Entry → Entry → List ℕ → Type 0
+IsTokenLine fares token earlier entry line =
+    IsLedgerLine fares token (length earlier + 1) entry (reason_after fares token earlier entry)
+    line
+
 -- a line for each of the token's entries that follow the earlier ones
 abbrev pub AreLinesAfter : Fares → Token → List Entry → List Entry → List ℕ → Type 0
 AreLinesAfter fares token earlier [] text = text ≡ []
 AreLinesAfter fares token earlier (entry ∷ entries) text =
-    (line : List ℕ) × (rest : List ℕ)
-    × IsLedgerLine fares token (length earlier + 1) entry
-    (reason_after fares token earlier entry) line
+    (line : List ℕ) × (rest : List ℕ) × IsTokenLine fares token earlier entry line
     × AreLinesAfter fares token (earlier ++ entry ∷ []) entries rest
     × (text ≡ line ++ rest)
 

@@ -5,8 +5,10 @@
 mod because;
 mod ledger;
 mod line;
+mod teller;
 mod why;
 
-pub use ledger::{head_line, tap_of, write_token_lines};
+pub use ledger::{head_line, write_token_lines};
 pub use line::write_line;
+pub use teller::Teller;
 pub use why::write_why;

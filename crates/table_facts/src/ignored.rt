@@ -1,7 +1,7 @@
 //! The keys of a text that its rules pass over.
 
 ghost use Rattle.std.specs.Prelude.{◌≡◌, IfOk, OnOk, codes, map};
-ghost use Rattle.toml.specs.View.{array_view, table_view, view};
+ghost use Rattle.toml.specs.View.{table_view, view};
 ghost use Rattle.toml.specs.Data.{as_table, get_member};
 ghost use Rattle.fare_table.specs.Faults.{items_of, members_of};
 ghost use Rattle.table_facts.specs.Ignored as spec;
@@ -10,7 +10,6 @@ use crate::holder::{Holder, has_meaning};
 use crate::members::{entries_at, keys_at};
 use fare_table::NoMemory;
 use std::alloc::Global;
-use toml::value::Array;
 use toml::{Table, Value};
 
 /// Appends the keys of a table of the text that have no meaning there.
@@ -48,36 +47,6 @@ fn add_ignored_of<'a>(
     }
 }
 
-/// Appends the keys of the classes that have no meaning there.
-fn add_ignored_of_classes<'a>(
-    found: &mut Vec<(Holder, &'a str)>,
-    classes: &'a Table,
-) -> Result<(), NoMemory>
-    ensures { OnOk result (map (λ k. (k.0, k.1.now)) found.new.items
-        ≡ spec.ignored_of_classes 0 (map (λ k. (k.0, k.1.now)) found.old.items)
-        (table_view classes.now)) }
-{
-    for (place, (_name, value)) in classes.iter().enumerate() {
-        add_ignored_of(found, Holder::Class(place), value)?;
-    }
-    Ok(())
-}
-
-/// Appends the keys of the entries of `validators` that have no meaning there.
-fn add_ignored_of_ranges<'a>(
-    found: &mut Vec<(Holder, &'a str)>,
-    entries: &'a Array,
-) -> Result<(), NoMemory>
-    ensures { OnOk result (map (λ k. (k.0, k.1.now)) found.new.items
-        ≡ spec.ignored_of_ranges 0 (map (λ k. (k.0, k.1.now)) found.old.items)
-        (array_view entries.now)) }
-{
-    for (place, value) in entries.iter().enumerate() {
-        add_ignored_of(found, Holder::Range(place), value)?;
-    }
-    Ok(())
-}
-
 /// Appends the keys of the text's classes that have no meaning there.
 fn add_ignored_in_classes<'a>(
     found: &mut Vec<(Holder, &'a str)>,
@@ -87,10 +56,13 @@ fn add_ignored_in_classes<'a>(
         ≡ spec.ignored_of_classes 0 (map (λ k. (k.0, k.1.now)) found.old.items)
         (members_of (get_member (codes "classes") (table_view table.now)))) }
 {
-    match keys_at(table, "classes") {
-        Some(classes) => add_ignored_of_classes(found, classes),
-        None => Ok(()),
+    let Some(classes) = keys_at(table, "classes") else {
+        return Ok(());
+    };
+    for (place, (_name, value)) in classes.iter().enumerate() {
+        add_ignored_of(found, Holder::Class(place), value)?;
     }
+    Ok(())
 }
 
 /// Appends the keys of the text's entries of `validators` that have no meaning there.
@@ -102,10 +74,13 @@ fn add_ignored_in_ranges<'a>(
         ≡ spec.ignored_of_ranges 0 (map (λ k. (k.0, k.1.now)) found.old.items)
         (items_of (get_member (codes "validators") (table_view table.now)))) }
 {
-    match entries_at(table, "validators") {
-        Some(entries) => add_ignored_of_ranges(found, entries),
-        None => Ok(()),
+    let Some(entries) = entries_at(table, "validators") else {
+        return Ok(());
+    };
+    for (place, value) in entries.iter().enumerate() {
+        add_ignored_of(found, Holder::Range(place), value)?;
     }
+    Ok(())
 }
 
 /// The keys of a text that its rules pass over, with where each stands: those at the top, then

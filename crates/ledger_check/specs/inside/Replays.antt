@@ -1,22 +1,22 @@
 -- Replays: what private functions alone cite.
-use Rattle.std.specs.Prelude.{◌≡◌, ℕ, ◌+◌, ◌<◌, List, [], ◌∷◌, ◌++◌}
+use Rattle.std.specs.Prelude.{◌≡◌, ℕ, ◌<◌, List, [], ◌∷◌, ◌++◌}
 use Rattle.fare_table.specs.Fares.{Fares}
 use Rattle.shard_book.specs.Entry.{own}
 use Rattle.shard_book.specs.declared.entry.Entry.{Entry}
 use Rattle.shard_book.specs.History.{IsReplied}
+use Rattle.reason_texts.specs.declared.teller.Teller.{Teller}
 use Rattle.ledger_check.specs.Ledger.{IsNextLine}
-use Rattle.ledger_check.specs.declared.turn.Turn.{Turn}
 use Rattle.ledger_check.specs.declared.replay.Replay.{Replay}
 use Rattle.ledger_check.specs.declared.replay.Step.{Step}
 use Rattle.ledger_check.specs.declared.replay.Step.TheVariants.{Legal, Wants, NoLine}
 use Rattle.ledger_check.specs.Replays.{HasRead, IsWanted, IsWrongAfter, StandsForOwn}
 use Rattle.ledger_check.specs.inside.Taps.{TellsTap}
 
--- the token's next tap was taken: this is its line, and the turn after it
-pub record GoesOn (fares : Fares) (turn : Turn) (entries : List Entry) (validator moment : ℕ)
-    (line : List ℕ) (after : Turn) : Type 0 where
+-- the token's next tap was taken: this is its line, and the teller after it
+pub record GoesOn (fares : Fares) (teller : Teller) (entries : List Entry) (validator moment : ℕ)
+    (line : List ℕ) (after : Teller) : Type 0 where
   pub entry : Entry
-  pub token : entry.token ≡ turn.token
+  pub token : entry.token ≡ teller.token
   pub of_validator : entry.validator ≡ validator
   pub of_moment : entry.moment ≡ moment
   pub replied : IsReplied fares entries entry

@@ -1,16 +1,15 @@
 -- The lines of entries in order of token. Private functions alone cite this.
-use Rattle.std.specs.Prelude.{◌≡◌, ℕ, ◌+◌, false, List, [], ◌∷◌, ◌++◌, length, map}
+use Rattle.std.specs.Prelude.{◌≡◌, ℕ, false, List, [], ◌∷◌, ◌++◌}
 use Rattle.std.specs.List.Sorted.{IsPermutation}
 use Rattle.std.specs.Ordering.{is_lt}
 use Rattle.fare_table.specs.Fares.{Fares}
-use Rattle.account_rule.specs.Rules.{rules_of}
-use Rattle.account_rule.specs.Stands.{Stands}
-use Rattle.shard_book.specs.Entry.{own, tap_of}
-use Rattle.fare_table.specs.Token.{bytes_of, token_cmp}
+use Rattle.shard_book.specs.Entry.{own}
+use Rattle.fare_table.specs.Token.{token_cmp}
 use Rattle.shard_book.specs.declared.entry.Entry.{Entry}
 use Rattle.fare_table.specs.declared.token.Token.{Token}
-use Rattle.reason_texts.specs.Ledger.{IsLedgerLine, reason_after}
-use Rattle.ledger_texts.specs.declared.teller.Teller.{Teller}
+use Rattle.reason_texts.specs.Ledger.{IsTokenLine}
+use Rattle.reason_texts.specs.Tellers.{HasTold}
+use Rattle.reason_texts.specs.declared.teller.Teller.{Teller}
 
 -- the first token is not above the second
 abbrev pub IsUpTo : Token → Token → Type 0
@@ -37,12 +36,10 @@ pub record IsByToken (entries list : List Entry) : Type 0 where
   pub rise : Rise list
   pub kept : (token : Token) → own token list ≡ own token entries
 
--- the line of an entry that stands after these: its number and its reason are those that it has
--- among the entries of its token
+-- the line of an entry that stands after these: the one that it has among the entries of its token
 abbrev pub IsLineAfter : Fares → List Entry → Entry → List ℕ → Type 0
 IsLineAfter fares earlier entry line =
-    IsLedgerLine fares entry.token (length (own entry.token earlier) + 1) entry
-    (reason_after fares entry.token (own entry.token earlier) entry) line
+    IsTokenLine fares entry.token (own entry.token earlier) entry line
 
 -- the lines of entries that stand after these
 abbrev pub AreLinesAlong : Fares → List Entry → List Entry → List ℕ → Type 0
@@ -51,10 +48,7 @@ AreLinesAlong fares earlier (entry ∷ entries) text =
     (line : List ℕ) × (rest : List ℕ) × IsLineAfter fares earlier entry line
     × AreLinesAlong fares (earlier ++ entry ∷ []) entries rest × (text ≡ line ++ rest)
 
--- after these entries, the teller's account stands for the taps of its token, and its number counts
--- them; no token of theirs is above it
+-- of these entries, the teller has told those of its token; no token of theirs is above it
 pub record HasCome (fares : Fares) (teller : Teller) (earlier : List Entry) : Type 0 where
-  pub stands : Stands (rules_of fares (bytes_of teller.token)) teller.account
-      (map (tap_of fares) (own teller.token earlier))
-  pub counted : teller.number ≡ length (own teller.token earlier)
+  pub told : HasTold fares teller (own teller.token earlier)
   pub up : AreUpTo earlier teller.token

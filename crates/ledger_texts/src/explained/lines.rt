@@ -1,15 +1,13 @@
 //! The lines of a token's entries, each with its reason.
 
-ghost use Rattle.std.specs.Prelude.{◌≡◌, ◌<◌, ◌++◌, List, [], ℕ, OnOk, length};
-ghost use Rattle.std.specs.Prelude.{string_bytes};
-ghost use Rattle.std.specs.Option.{ForSome};
+ghost use Rattle.std.specs.Prelude.{◌≡◌, ◌++◌, List, [], ℕ, OnOk, string_bytes};
 ghost use Rattle.reason_texts.specs.Why.{HasModeOf};
 ghost use Rattle.ledger_texts.specs.Explained.{AreExplainedAfter, IsExplainedLine};
 
-use account_rule::{Account, Reason};
+use account_rule::Reason;
 use fare_table::{Clock, FareTable, NoMemory};
 use fare_texts::{write_entry_words, write_local, write_moment};
-use reason_texts::{tap_of, write_why};
+use reason_texts::{Teller, write_why};
 use shard_book::{Entry, Token};
 use std::alloc::AllocError;
 
@@ -48,13 +46,10 @@ pub(crate) fn write_lines(
         × AreExplainedAfter table.now token [] entries.now written
         × (string_bytes text.new ≡ string_bytes text.old ++ written)) }
 {
-    let bytes = token.bytes();
-    let mut account = Account::fresh();
+    let mut teller = Teller::of(token);
     for entry in entries {
-        let tap = tap_of(table, clock, entry)?;
-        let reason = account.explain(table, &bytes, tap);
+        let reason = teller.explain_next(table, clock, entry)?;
         write_line(text, table, clock, entry, &reason)?;
-        account.step(table, &bytes, tap);
     }
     Ok(())
 }

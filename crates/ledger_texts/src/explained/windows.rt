@@ -9,9 +9,9 @@ ghost use Rattle.fare_table.specs.Token.{bytes_of};
 ghost use Rattle.ledger_texts.specs.Explained.{earlier_windows};
 ghost use Rattle.ledger_texts.specs.inside.Windows.{ended};
 
-use account_rule::{Account, Answer, Reply, WindowView};
+use account_rule::{Answer, Reply, WindowView};
 use fare_table::{Clock, FareTable, NoMemory};
-use reason_texts::tap_of;
+use reason_texts::Teller;
 use shard_book::{Entry, Token};
 use std::alloc::Global;
 
@@ -58,14 +58,12 @@ pub(crate) fn windows_of(
     ensures last { IfOk result (λ windows. windows.1
         ≡ last_window (rules_of table.now (bytes_of token)) (map (tap_of table.now) entries.now)) }
 {
-    let bytes = token.bytes();
-    let mut account = Account::fresh();
+    let mut teller = Teller::of(token);
     let mut earlier = Vec::new(alloc);
     for entry in entries {
-        let tap = tap_of(table, clock, entry)?;
-        let window = account.window();
-        let reply = account.step(table, &bytes, tap);
-        keep_ended(&mut earlier, window, is_ride(reply), tap.moment)?;
+        let window = teller.window();
+        let reason = teller.explain_next(table, clock, entry)?;
+        keep_ended(&mut earlier, window, is_ride(reason.reply()), entry.moment)?;
     }
-    Ok((earlier, account.window()))
+    Ok((earlier, teller.window()))
 }

@@ -2,16 +2,19 @@ use Rattle.std.proofs.Common.{◌+◌, List, [], ◌∷◌, ◌++◌, drop, take
 use Rattle.std.proofs.Common.{subst, ◌∙◌, arith}
 use Rattle.std.specs.Io.KnownBytes.{append_known}
 use Rattle.std.proofs.KnownBytes.{Appends-kept, Appends-nil}
+use Rattle.shard_book.specs.Entry.{own}
 use Rattle.shard_book.specs.declared.entry.Entry.{Entry}
 use Rattle.fare_table.specs.declared.token.Token.{Token}
+use Rattle.reason_texts.specs.Ledger.{IsTokenLine}
 use Rattle.ledger_texts.specs.inside.Lines.{AreLinesAlong, HasCome, IsLineAfter, IsUpTo, RiseFrom}
 use Rattle.ledger_texts.specs.inside.Spots.{seen}
-use Rattle.ledger_texts.proofs.Writing.{along_push, grown, rise_here, rise_on, seen_taken}
+use Rattle.ledger_texts.proofs.Writing.{along_push, come_first, come_next, grown, rise_here}
+use Rattle.ledger_texts.proofs.Writing.{rise_on, seen_taken}
 use Rattle.ledger_texts.proofs.lines.write_pieces.Goals as goal
 
 pub loop-spot-init : goal.loop-spot-init
 loop-spot-init g c = record {
-  come = c.of-teller.ensures.come c.args.table.now;
+  come = come_first c.args.table.now _ (c.of-teller.ensures.told c.args.table.now);
   rise = subst (λ (t : Token). RiseFrom t (seen c.args.books.now c.args.spots.now)) (sym c.of-teller.ensures.token) c.requires.rise;
   few = omega (arith, c.of-teller.ensures.none);
   written = [];
@@ -20,17 +23,16 @@ loop-spot-init g c = record {
 }
 
 -- the teller turned to the entry's token
-pub write_next-requires-clause-come : goal.write_next-requires-clause-come
-write_next-requires-clause-come g c =
+pub write_next-requires-clause-told : goal.write_next-requires-clause-told
+write_next-requires-clause-told g c =
     let list = c.args.spots.now in
     let i = c.loop-spot.spot-index in
-    let done = take i (seen c.args.books.now list) in (
-      done,
-      c.turn_to.ensures.come c.args.table.now done c.loop-spot.invariant.come
-          (subst (λ (e : Entry). IsUpTo c.loop-spot.teller.token e.token) (sym c.entry-entry.ensures)
-          (rise_here c.args.books.now list i _ c.loop-spot.teller.token c.loop-spot-test.true
-          c.loop-spot.invariant.rise)),
-    )
+    let done = take i (seen c.args.books.now list) in
+    let turned = c.turn_to.ensures.come c.args.table.now done c.loop-spot.invariant.come
+    (subst (λ (e : Entry). IsUpTo c.loop-spot.teller.token e.token) (sym c.entry-entry.ensures)
+    (rise_here c.args.books.now list i _ c.loop-spot.teller.token c.loop-spot-test.true
+    c.loop-spot.invariant.rise)) in
+    (own c.turn_to.new.teller.token done, turned.told)
 
 pub loop-spot-preserved : goal.loop-spot-preserved
 loop-spot-preserved g c =
@@ -45,8 +47,13 @@ loop-spot-preserved g c =
     let turned = c.turn_to.ensures.come fares done inv.come
     (subst (λ (e : Entry). IsUpTo c.loop-spot.teller.token e.token) (sym is)
     (rise_here books list i _ c.loop-spot.teller.token c.loop-spot-test.true inv.rise)) in
-    let line = c.in-Ok.ensures.line done turned in
-    let next = c.in-Ok.ensures.come done turned in
+    let own_done = own c.turn_to.new.teller.token done in
+    let line = c.in-Ok.ensures.line own_done turned.told in
+    let after = subst (λ (t : Token). IsTokenLine fares t (own t done) c.entry-entry.result line.0)
+    c.turn_to.ensures.token line.1 in
+    let next = come_next fares c.turn_to.new.teller c.write_next.new.self done c.entry-entry.result
+    c.turn_to.ensures.token c.in-Ok.ensures.token turned
+    (c.in-Ok.ensures.told own_done turned.told) in
     record {
       come = subst (λ (es : List Entry). HasCome fares c.write_next.new.self es) (sym taken)
           (subst (λ (e : Entry). HasCome fares c.write_next.new.self (done ++ e ∷ [])) is next);
@@ -57,7 +64,7 @@ loop-spot-preserved g c =
       written = inv.written ++ line.0;
       along = subst (λ (es : List Entry). AreLinesAlong fares [] es (inv.written ++ line.0)) (sym taken)
           (along_push fares [] done _ inv.written line.0 inv.along
-          (subst (λ (e : Entry). IsLineAfter fares done e line.0) is line.1));
+          (subst (λ (e : Entry). IsLineAfter fares done e line.0) is after));
       whole = Appends-kept _ _ _ (inv.written ++ line.0)
           (grown _ (g.W.Write.contents c.loop-spot.out) (string_bytes c.loop-spot.text) _ inv.written
           line.0 inv.whole line.2) c.in_ok-pass_piece.ensures.kept;

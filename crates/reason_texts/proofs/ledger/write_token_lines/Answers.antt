@@ -1,61 +1,49 @@
--- Each turn explains one entry more, writes its line and takes its step.
-use Rattle.std.proofs.Common.{◌+◌, List, [], ◌∷◌, ◌++◌, map, take, refl, sym, ap, subst, ◌∙◌}
-use Rattle.std.proofs.Common.{string_bytes, append_assoc, append-nil}
-use Rattle.account_rule.specs.Reasons.{reason}
-use Rattle.account_rule.specs.Rules.{rules_of}
-use Rattle.account_rule.specs.Stands.{Stands, StandsForSome}
-use Rattle.account_rule.specs.declared.tap.TapIn.{TapIn}
-use Rattle.shard_book.specs.Entry.{tap_of}
-use Rattle.fare_table.specs.Token.{bytes_of}
-use Rattle.reason_texts.proofs.LineLists.{more, next_lines}
+-- Each turn writes the line of one entry more.
+use Rattle.std.proofs.Common.{List, [], ◌++◌, take, refl, sym, ap, subst, ◌∙◌}
+use Rattle.std.proofs.Common.{string_bytes, append_assoc, append-nil, arith}
+use Rattle.std.proofs.lemmas.List.{length-take-le}
+use Rattle.shard_book.specs.declared.entry.Entry.{Entry}
+use Rattle.reason_texts.specs.Tellers.{HasTold}
+use Rattle.reason_texts.proofs.LineLists.{next_lines, taken}
 use Rattle.reason_texts.proofs.ledger.write_token_lines.Goals as goal
 
 pub loop-entry-init : goal.loop-entry-init
 loop-entry-init c = record {
-  stands = c.fresh-account.ensures.stands _;
-  counted = refl;
+  told = c.of-teller.ensures.told c.args.table.now;
+  of = c.of-teller.ensures.token;
   written = [];
   are = refl;
   whole = sym (append-nil (string_bytes c.args.text.now));
 }
 
-pub explain-reason-requires-clause-stands : goal.explain-reason-requires-clause-stands
-unfolding StandsForSome
-explain-reason-requires-clause-stands c =
-    rw c.bytes-bytes.ensures (
-      map (tap_of c.args.table.now) (take c.loop-entry.entry-index c.args.entries.now),
-      c.loop-entry.invariant.stands,
-    )
+pub write_next-requires-clause-told : goal.write_next-requires-clause-told
+write_next-requires-clause-told c =
+    (take c.loop-entry.entry-index c.args.entries.now, c.loop-entry.invariant.told)
 
-pub step-requires-clause-stands : goal.step-requires-clause-stands
-unfolding StandsForSome
-step-requires-clause-stands c =
-    rw c.bytes-bytes.ensures (
-      map (tap_of c.args.table.now) (take c.loop-entry.entry-index c.args.entries.now),
-      c.loop-entry.invariant.stands,
+pub write_next-requires-clause-room : goal.write_next-requires-clause-room
+write_next-requires-clause-room c =
+    omega (
+      arith,
+      c.loop-entry.invariant.told.counted,
+      length-take-le c.loop-entry.entry-index c.args.entries.now (omega arith),
     )
 
 pub loop-entry-preserved : goal.loop-entry-preserved
 loop-entry-preserved c =
-    let of = rules_of c.args.table.now (bytes_of c.args.token) in
-    let done = take c.loop-entry.entry-index c.args.entries.now in
-    let taps = map (tap_of c.args.table.now) done in
-    let longer = ap (λ (t : TapIn). taps ++ t ∷ []) c.in_ok-tap.ensures.tap
-    ∙ sym (more (tap_of c.args.table.now) c.args.entries.now c.loop-entry.entry-index _
-    c.loop-entry-test.true) in
-    let line = c.in_ok-write_line.ensures in
-    let why = (rw c.bytes-bytes.ensures at c.explain-reason.ensures) taps
-    c.loop-entry.invariant.stands
-    ∙ ap (λ (t : TapIn). reason of taps t) c.in_ok-tap.ensures.tap in
+    let fares = c.args.table.now in
+    let entries = c.args.entries.now in
+    let place = c.loop-entry.entry-index in
+    let within = c.loop-entry-test.true in
+    let so_far = c.loop-entry.invariant in
+    let done = take place entries in
+    let line = c.in_ok-write_next.ensures.line done so_far.told in
     record {
-      stands = subst (λ (ts : List TapIn). Stands of c.step.new.self ts) longer
-          ((rw c.bytes-bytes.ensures at c.step.ensures.stands) taps c.loop-entry.invariant.stands);
-      counted = ap (λ n. n + 1) c.loop-entry.invariant.counted;
-      written = c.loop-entry.invariant.written ++ line.0;
-      are = next_lines c.args.table.now c.args.token c.args.entries.now c.loop-entry.entry-index _
-          c.loop-entry-test.true
-          c.loop-entry.number c.loop-entry.invariant.counted c.loop-entry.invariant.written line.0
-          c.explain-reason.result why c.loop-entry.invariant.are line.1;
-      whole = line.2 ∙ ap (λ t. t ++ line.0) c.loop-entry.invariant.whole
-          ∙ append_assoc (string_bytes c.args.text.now) c.loop-entry.invariant.written line.0;
+      told = subst (λ (es : List Entry). HasTold fares c.write_next.new.self es)
+          (sym (taken entries place _ within)) (c.in_ok-write_next.ensures.told done so_far.told);
+      of = c.in_ok-write_next.ensures.token ∙ so_far.of;
+      written = so_far.written ++ line.0;
+      are = next_lines fares c.args.token entries place _ within so_far.written line.0 so_far.are
+          (rw so_far.of at line.1);
+      whole = line.2 ∙ ap (λ t. t ++ line.0) so_far.whole
+          ∙ append_assoc (string_bytes c.args.text.now) so_far.written line.0;
     }

@@ -1,5 +1,5 @@
 -- Each return tells what its tests found.
-use Rattle.std.proofs.Common.{◌≡◌, ◌+◌, ◌^◌, ◌<◌, ◌≤◌, ℕ, List, length, refl, sym, ap, subst, ◌∙◌, arith, string_bytes}
+use Rattle.std.proofs.Common.{◌≡◌, ◌^◌, ◌<◌, ◌≤◌, ℕ, List, length, refl, sym, ap, ◌∙◌, arith, string_bytes}
 use Rattle.std.proofs.lemmas.Bool.{both_ways}
 use Rattle.account_rule.specs.declared.reason.Reason.{Reason}
 use Rattle.shard_book.specs.declared.entry.Entry.{Entry}
@@ -28,22 +28,22 @@ returns-in_default-turn_of c = λ lines read.
     (λ number entry why small postable is. c.in-Some.ensures.found c.args.table.now number entry why small postable is)
     ((rw c.in_default-turn_of.is at c.turn_of.ensures.less) c.args.table.now)
 
-pub write_next-requires-clause-number : goal.write_next-requires-clause-number
-write_next-requires-clause-number c =
+pub write_wanted-requires-clause-number : goal.write_wanted-requires-clause-number
+write_wanted-requires-clause-number c =
     let read = c.requires.read.1 in
     let stands = c.in-Some-turn_of.ensures.stands c.args.table.now read.entries read.turn in
-    omega (arith, stands.counted, own-few c.in-Some-turn_of.turn.token read.entries, read.few)
+    omega (arith, stands.told.counted, own-few c.in-Some-turn_of.turn.token read.entries, read.few)
 
 pub returns-then-same_bytes : goal.returns-then-same_bytes
 returns-then-same_bytes c = λ lines read.
     let fares = c.args.table.now in
-    let wanted = string_bytes c.write_next.new.wanted in
+    let wanted = string_bytes c.write_wanted.new.wanted in
     let turn = c.in-Some-turn_of.turn in
     let tap = c.in-Some.tap in
     let stands = c.in-Some-turn_of.ensures.stands fares read.entries read.turn in
-    let goes = c.in_ok-write_next.ensures read.entries stands in
+    let goes = c.in_ok-write_wanted.ensures read.entries stands in
     let tells = λ (number : ℕ) (entry : Entry) (why : Reason) (small : number < 2 ^ 64) (postable : IsPostable entry) (is : IsLedgerLine fares entry.token number entry why c.args.line.now). c.in-Some.ensures.found fares number entry why small postable is in (
-      read_more fares c.args.self.now _ lines c.args.line.now wanted turn c.write_next.new.self tap read goes stands
+      read_more fares c.args.self.now _ lines c.args.line.now wanted turn c.write_wanted.new.teller tap read goes stands
           (c.in-Some.ensures.validator, c.in-Some.ensures.moment) c.in-Some-turn_of.ensures.token tells
           (sym c.as_bytes.ensures.value ∙ c.same_bytes.ensures.0 c.if-same_bytes.true) (omega arith) (omega arith) refl refl,
       tells,
@@ -52,27 +52,27 @@ returns-then-same_bytes c = λ lines read.
 pub returns-then-has_form : goal.returns-then-has_form
 returns-then-has_form c = λ lines read.
     let fares = c.args.table.now in
-    let wanted = string_bytes c.write_next.new.wanted in
+    let wanted = string_bytes c.write_wanted.new.wanted in
     let turn = c.in-Some-turn_of.turn in
     let tap = c.in-Some.tap in
     let stands = c.in-Some-turn_of.ensures.stands fares read.entries read.turn in
-    let goes = c.in_ok-write_next.ensures read.entries stands in
+    let goes = c.in_ok-write_wanted.ensures read.entries stands in
     let tells = λ (number : ℕ) (entry : Entry) (why : Reason) (small : number < 2 ^ 64) (postable : IsPostable entry) (is : IsLedgerLine fares entry.token number entry why c.args.line.now). c.in-Some.ensures.found fares number entry why small postable is in
     let other = λ (e : wanted ≡ c.args.line.now). both_ways c.same_bytes.result c.if-same_bytes.false (c.same_bytes.ensures.1 (c.as_bytes.ensures.value ∙ e)) in
     let short : length wanted ≤ 255 = omega (arith, ap (λ (t : List ℕ). length t) c.as_bytes.ensures.value) in (
-      wrong_other fares c.args.self.now lines c.args.line.now wanted turn c.write_next.new.self tap read goes c.in-Some-turn_of.ensures.token tells other,
-      wanted_next fares c.args.self.now lines wanted turn c.write_next.new.self tap read goes stands
+      wrong_other fares c.args.self.now lines c.args.line.now wanted turn c.write_wanted.new.teller tap read goes c.in-Some-turn_of.ensures.token tells other,
+      wanted_next fares c.args.self.now lines wanted turn c.write_wanted.new.teller tap read goes stands
           (c.in-Some.ensures.validator, c.in-Some.ensures.moment) short (omega arith),
     )
 
 pub returns-else-len-le-LONGEST : goal.returns-else-len-le-LONGEST
 returns-else-len-le-LONGEST c = λ lines read.
     let fares = c.args.table.now in
-    let wanted = string_bytes c.write_next.new.wanted in
+    let wanted = string_bytes c.write_wanted.new.wanted in
     let turn = c.in-Some-turn_of.turn in
     let tap = c.in-Some.tap in
     let stands = c.in-Some-turn_of.ensures.stands fares read.entries read.turn in
-    let goes = c.in_ok-write_next.ensures read.entries stands in
+    let goes = c.in_ok-write_wanted.ensures read.entries stands in
     let tells = λ (number : ℕ) (entry : Entry) (why : Reason) (small : number < 2 ^ 64) (postable : IsPostable entry) (is : IsLedgerLine fares entry.token number entry why c.args.line.now). c.in-Some.ensures.found fares number entry why small postable is in
     let other = λ (e : wanted ≡ c.args.line.now). both_ways c.same_bytes.result c.if-same_bytes.false (c.same_bytes.ensures.1 (c.as_bytes.ensures.value ∙ e)) in
-    wrong_other fares c.args.self.now lines c.args.line.now wanted turn c.write_next.new.self tap read goes c.in-Some-turn_of.ensures.token tells other
+    wrong_other fares c.args.self.now lines c.args.line.now wanted turn c.write_wanted.new.teller tap read goes c.in-Some-turn_of.ensures.token tells other

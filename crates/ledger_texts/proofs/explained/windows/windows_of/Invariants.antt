@@ -1,16 +1,16 @@
 use Rattle.std.proofs.Common.{◌≡◌, map, take}
 use Rattle.account_rule.specs.Rules.{rules_of}
-use Rattle.account_rule.specs.Stands.{Stands}
 use Rattle.shard_book.specs.Entry.{tap_of}
 use Rattle.fare_table.specs.Token.{bytes_of}
+use Rattle.reason_texts.specs.Tellers.{HasTold}
 use Rattle.ledger_texts.specs.Explained.{earlier_windows}
 use Rattle.ledger_texts.proofs.explained.windows.windows_of.Given as goal
 
--- the account stands for the entries so far, and the windows before its last one are kept
+-- the token's entries so far were told, and the windows before its last one are kept
 abbrev pub invariant-loop-entry : goal.invariant-loop-entry
 invariant-loop-entry l = record {
-  stands : Stands (rules_of l.table (bytes_of l.fn.token)) l.account
-      (map (tap_of l.table) (take l.entry-index l.entries));
+  told : HasTold l.table l.teller (take l.entry-index l.entries);
+  of : l.teller.token ≡ l.fn.token;
   earlier : l.earlier.items
       ≡ earlier_windows (rules_of l.table (bytes_of l.fn.token))
       (map (tap_of l.table) (take l.entry-index l.entries));

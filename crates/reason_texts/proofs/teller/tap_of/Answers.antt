@@ -1,7 +1,7 @@
 use Rattle.std.proofs.Common.{ap, sym, ◌∙◌}
 use Rattle.fare_table.specs.Until.{limit_in}
 use Rattle.shard_book.proofs.Histories.{tap_of-post}
-use Rattle.reason_texts.proofs.ledger.tap_of.Goals as goal
+use Rattle.reason_texts.proofs.teller.tap_of.Goals as goal
 
 pub returns-clause-tap : goal.returns-clause-tap
 returns-clause-tap c =

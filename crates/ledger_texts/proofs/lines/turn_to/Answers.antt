@@ -4,7 +4,7 @@ use Rattle.fare_table.specs.Token.{token_eq}
 use Rattle.fare_table.specs.declared.token.Token.{Token}
 use Rattle.ledger_texts.specs.inside.Lines.{IsUpTo}
 use Rattle.ledger_texts.proofs.Writing.{come_turned}
-use Rattle.ledger_texts.proofs.teller.Teller.turn_to.Goals as goal
+use Rattle.ledger_texts.proofs.lines.turn_to.Goals as goal
 
 not_false : (b : Bool) → not b ≡ true → b ≡ false
 not_false true is = absurd (false≢true is)
@@ -13,10 +13,10 @@ not_false false is = refl
 -- another token is turned to
 pub returns-then-ne-clause-come : goal.returns-then-ne-clause-come
 returns-then-ne-clause-come c = λ fares earlier come to.
-    let old = c.args.self.now in
+    let old = c.args.teller.now in
     let apart : token_eq old.token c.args.token ≡ false =
     not_false (token_eq old.token c.args.token) (sym c.ne.ensures ∙ c.if-ne.true) in
     let same = sym c.of.ensures.token in
     come_turned fares old c.of.result earlier come
     (subst (λ (t : Token). IsUpTo old.token t) same to)
-    (subst (λ (t : Token). token_eq old.token t ≡ false) same apart) (c.of.ensures.come fares)
+    (subst (λ (t : Token). token_eq old.token t ≡ false) same apart) (c.of.ensures.told fares)

@@ -1,0 +1,36 @@
+use Rattle.std.proofs.Common.{List, ℕ, ◌++◌, refl, sym, ap, subst, ◌∙◌, string_bytes}
+use Rattle.shard_book.specs.Entry.{own, tap_of}
+use Rattle.shard_book.specs.declared.entry.Entry.{Entry}
+use Rattle.account_rule.specs.declared.reply.Answer.TheVariants.{Unknown}
+use Rattle.reason_texts.specs.Ledger.{IsLedgerLine}
+use Rattle.ledger_check.proofs.TurnLemmas.{goes_on}
+use Rattle.ledger_check.proofs.wanted.write_wanted.Goals as goal
+
+pub explain_next-requires-clause-told : goal.explain_next-requires-clause-told
+explain_next-requires-clause-told c =
+    (own c.args.teller.now.token c.requires.stands.0, c.requires.stands.1.told)
+
+pub returns : goal.returns
+unfolding tap_of
+returns c = λ entries stands.
+    let fares = c.args.table.now in
+    let teller = c.args.teller.now in
+    let after = c.explain_next.new.self in
+    let replied = c.reply-reply.result in
+    let tap : Entry = record { token = teller.token; validator = c.args.validator; moment = c.args.moment; answer = Unknown; cents = 0 } in
+    let entry : Entry = record { token = teller.token; validator = c.args.validator; moment = c.args.moment; answer = replied.answer; cents = replied.cents } in
+    let next = c.in_ok-reason.ensures in
+    let done = own teller.token entries in
+    let line = c.in_ok-write_line.ensures in
+    let written = line.2 ∙ ap (λ (t : List ℕ). t ++ line.0) c.clear.ensures.bytes in
+    goes_on fares teller after entries tap entry c.in_ok-reason.reason (string_bytes c.write_line.new.text)
+    (record {
+      token = refl;
+      is_tap = refl;
+      is_why = next.reason done stands.told;
+      is_reply = c.reply-reply.ensures;
+      told = next.told done stands.told;
+      same_token = next.token;
+      counted = next.number;
+      shown = subst (λ (t : List ℕ). IsLedgerLine fares after.token after.number entry c.in_ok-reason.reason t) (sym written) line.1;
+    }) stands

@@ -1,0 +1,50 @@
+//! The line that the next tap of a token should have.
+
+ghost use Rattle.std.specs.Prelude.{◌≡◌, ◌+◌, ◌<◌, ◌^◌, List, OnOk, string_bytes};
+ghost use Rattle.shard_book.specs.declared.entry.Entry.{Entry};
+ghost use Rattle.ledger_check.specs.Replays.{StandsForOwn};
+ghost use Rattle.ledger_check.specs.inside.Replays.{GoesOn};
+
+use account_rule::Answer;
+use fare_table::{Clock, FareTable, NoMemory};
+use reason_texts::{Teller, write_line};
+use shard_book::Entry;
+
+/// Takes one more tap of the teller's token, and writes the line that it should have in place of
+/// the text.
+pub(crate) fn write_wanted(
+    teller: &mut Teller,
+    table: &FareTable,
+    clock: &Clock,
+    validator: u32,
+    moment: u64,
+    wanted: &mut String,
+) -> Result<(), NoMemory>
+    requires clock { clock.now ≡ table.now.zone }
+    requires number { teller.old.number + 1 < 2 ^ 64 }
+    requires stands { (entries : List Entry) × StandsForOwn table.now teller.old entries }
+
+    // Of all entries for which the teller stood.
+    ensures { OnOk result ((entries : List Entry) → StandsForOwn table.now teller.old entries
+        → GoesOn table.now teller.old entries validator moment
+        (string_bytes wanted.new) teller.new) }
+{
+    // The reply comes with the reason, which does not look at it.
+    let tap = Entry {
+        token: teller.token,
+        validator,
+        moment,
+        answer: Answer::Unknown,
+        cents: 0,
+    };
+    let reason = teller.explain_next(table, clock, &tap)?;
+    let reply = reason.reply();
+    let entry = Entry {
+        answer: reply.answer,
+        cents: reply.cents,
+        ..tap
+    };
+    wanted.clear();
+    write_line(wanted, table, teller.token, teller.number, &entry, &reason)?;
+    Ok(())
+}

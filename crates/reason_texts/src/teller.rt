@@ -1,0 +1,134 @@
+//! A token's entries, told one after another.
+
+ghost use Rattle.std.specs.Prelude.{◌≡◌, ◌+◌, ◌^◌, ◌<◌, ◌++◌, ◌∷◌, [], List, ℕ, IfOk, OnOk};
+ghost use Rattle.std.specs.Prelude.{length, map, string_bytes};
+ghost use Rattle.std.specs.Option.{ForSome};
+ghost use Rattle.account_rule.specs.Rules.{rules_of};
+ghost use Rattle.account_rule.specs.Windows.{last_window};
+ghost use Rattle.fare_table.specs.Fares.{Fares};
+ghost use Rattle.fare_table.specs.Token.{bytes_of};
+ghost use Rattle.fare_table.specs.Until.{until};
+ghost use Rattle.shard_book.specs.Entry.{tap_of};
+ghost use Rattle.shard_book.specs.declared.entry.Entry.{Entry};
+ghost use Rattle.reason_texts.specs.Ledger.{IsTokenLine, reason_after};
+ghost use Rattle.reason_texts.specs.Tellers.{HasTold};
+ghost use Rattle.reason_texts.specs.Why.{HasModeOf};
+
+use crate::line::write_line;
+use account_rule::{Account, Reason, TapIn, WindowView};
+use fare_table::{Clock, FareTable, NoMemory};
+use shard_book::{Entry, Token};
+
+/// Where taps end, in milliseconds: 2100-01-01T00:00Z. No upload has one from there on.
+const MOMENT_LIMIT: u64 = 4_102_444_800_000;
+
+/// The tap of an entry, as the account rule sees it. It takes no memory, and refuses an entry alone
+/// that no upload has: one from 2100-01-01T00:00Z on.
+fn tap_of(table: &FareTable, clock: &Clock, entry: &Entry) -> Result<TapIn, NoMemory>
+    requires { clock.now ≡ table.now.zone }
+    ensures tap { IfOk result (λ tap. tap ≡ tap_of table.now entry.now) }
+    ensures mode { IfOk result (λ tap. ForSome tap.mode (λ mode.
+        mode.place < length table.now.rules.modes)) }
+    ensures until { IfOk result (λ tap. tap.until ≡ until table.now tap.moment) }
+{
+    if entry.moment >= MOMENT_LIMIT {
+        return Err(NoMemory);
+    }
+    Ok(TapIn {
+        moment: entry.moment,
+        mode: table.mode_of(entry.validator),
+        until: clock.until(entry.moment)?,
+    })
+}
+
+/// A token whose entries are told in the order of its history, with its account after those told.
+#[derive(Clone, Copy)]
+pub struct Teller {
+    /// The token.
+    pub token: Token,
+    /// How many of its entries were told.
+    pub number: u64,
+    /// Its account after them.
+    account: Account,
+}
+
+impl Teller {
+    /// Before the first entry of a token.
+    pub fn of(token: Token) -> Self
+        ensures token { result.token ≡ token }
+        ensures none { result.number ≡ 0 }
+        ensures told { (fares : Fares) → HasTold fares result [] }
+    {
+        Teller {
+            token,
+            number: 0,
+            account: Account::fresh(),
+        }
+    }
+
+    /// The token's last window after the entries told, or `None` before its first ride.
+    pub fn window(&self) -> Option<WindowView>
+        ensures { (fares : Fares) (told : List Entry) → HasTold fares self.now told
+            → result ≡ last_window (rules_of fares (bytes_of self.now.token))
+            (map (tap_of fares) told) }
+    {
+        self.account.window()
+    }
+
+    /// Takes the token's next entry, and returns the account rule's reason for it after those told
+    /// before. It takes no memory, and refuses an entry alone that no upload has: one from
+    /// 2100-01-01T00:00Z on.
+    pub fn explain_next(
+        &mut self,
+        table: &FareTable,
+        clock: &Clock,
+        entry: &Entry,
+    ) -> Result<Reason, NoMemory>
+        requires clock { clock.now ≡ table.now.zone }
+        requires told { (earlier : List Entry) × HasTold table.now self.old earlier }
+        requires room { self.old.number + 1 < 2 ^ 64 }
+
+        // After all entries that it has told.
+        ensures reason { IfOk result (λ why. (earlier : List Entry)
+            → HasTold table.now self.old earlier
+            → why ≡ reason_after table.now self.old.token earlier entry.now) }
+        ensures mode { IfOk result (HasModeOf table.now) }
+        ensures told { OnOk result ((earlier : List Entry) → HasTold table.now self.old earlier
+            → HasTold table.now self.new (earlier ++ entry.now ∷ [])) }
+        ensures token { OnOk result (self.new.token ≡ self.old.token) }
+        ensures number { OnOk result (self.new.number ≡ self.old.number + 1) }
+    {
+        let bytes = self.token.bytes();
+        let tap = tap_of(table, clock, entry)?;
+        let reason = self.account.explain(table, &bytes, tap);
+        self.account.step(table, &bytes, tap);
+        self.number += 1;
+        Ok(reason)
+    }
+
+    /// Takes the token's next entry, and appends its line. The text alone grows.
+    pub fn write_next(
+        &mut self,
+        text: &mut String,
+        table: &FareTable,
+        clock: &Clock,
+        entry: &Entry,
+    ) -> Result<(), NoMemory>
+        requires clock { clock.now ≡ table.now.zone }
+        requires told { (earlier : List Entry) × HasTold table.now self.old earlier }
+        requires room { self.old.number + 1 < 2 ^ 64 }
+
+        // After all entries that it has told.
+        ensures line { OnOk result ((earlier : List Entry) → HasTold table.now self.old earlier
+            → (line : List ℕ) × IsTokenLine table.now self.old.token earlier entry.now line
+            × (string_bytes text.new ≡ string_bytes text.old ++ line)) }
+        ensures told { OnOk result ((earlier : List Entry) → HasTold table.now self.old earlier
+            → HasTold table.now self.new (earlier ++ entry.now ∷ [])) }
+        ensures token { OnOk result (self.new.token ≡ self.old.token) }
+        ensures number { OnOk result (self.new.number ≡ self.old.number + 1) }
+    {
+        let reason = self.explain_next(table, clock, entry)?;
+        write_line(text, table, self.token, self.number, entry, &reason)?;
+        Ok(())
+    }
+}
