@@ -23,7 +23,12 @@ impl Disk for NoDisk {
 
 /// Runs the program with these words after its name. Returns the status and what was said on the
 /// second writer.
-pub(crate) fn run_over<R: Threads + Wait + RandomSource + Sync, D: Disk + Sync, S: Source, W: Write>(
+pub(crate) fn run_over<
+    R: Threads + Wait + RandomSource + Sync,
+    D: Disk + Sync,
+    S: Source,
+    W: Write,
+>(
     rt: &R,
     alloc: Global,
     words: &[&str],
