@@ -27,8 +27,9 @@ impl Disk for HostRuntime {
 /// Loads from the system's files and standard input. It does not keep what it loaded.
 #[derive(Drop)]
 pub struct Host<'a, R> {
+    /// The runtime that reaches the files.
     rt: &'a R,
-    // the files that were read before their turns, the next one last
+    /// The files that were read before their turns, the next one last.
     early: Vec<Early>,
 }
 

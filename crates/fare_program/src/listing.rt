@@ -118,8 +118,9 @@ fn word_next(
 /// Gives each tap its word, from the taps that were listed before it.
 #[derive(Drop)]
 pub(crate) struct Listing {
-    // the moment of the last live tap of each token
+    /// The moment of the last live tap of each token.
     last: BTreeMap<[u8; 16], u64>,
+    /// How many taps were listed, and with which words.
     counts: ListCounts,
 }
 

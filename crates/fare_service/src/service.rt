@@ -27,9 +27,13 @@ const MOST_UPLOADS: usize = 65_535;
 /// once.
 #[derive(Drop)]
 pub struct Service<'a> {
+    /// The fare table, by which each book charges.
     pub(crate) table: FareTable,
+    /// What the workers draw the uploads' numbers from.
     pub(crate) draw: Draw,
+    /// The book of each shard.
     pub(crate) books: Vec<SharedBook>,
+    /// The bytes of each upload.
     pub(crate) uploads: &'a [Vec<u8>],
 }
 

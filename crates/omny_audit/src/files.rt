@@ -8,6 +8,7 @@ use std::{fs, io};
 /// Loads from the system's files and standard input. It does not keep what it loaded.
 #[derive(Drop)]
 pub(crate) struct Host<'a> {
+    /// The runtime that reaches the files.
     rt: &'a HostRuntime,
 }
 

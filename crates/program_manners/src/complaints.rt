@@ -10,6 +10,7 @@ use std::io::Write;
 /// program goes on to its end.
 #[derive(Drop)]
 pub struct Complaints<W> {
+    /// The writer.
     writer: W,
     /// Whether a write has failed.
     failed: bool,

@@ -34,7 +34,9 @@ const MOST_ACCOUNTS: usize = 4_294_967_295;
 /// What is kept of one token: its account, and the counts of its entries.
 #[derive(Clone, Copy, Debug, PartialEq, Eq)]
 pub(crate) struct Kept {
+    /// The account.
     pub(crate) account: Account,
+    /// The counts.
     pub(crate) counts: Counts,
 }
 
@@ -42,8 +44,9 @@ pub(crate) struct Kept {
 /// taps were looked up and not posted.
 #[derive(Drop)]
 pub(crate) struct Accounts {
+    /// What is kept of each token, at the place where it was opened.
     pub(crate) map: IndexMap<Token, Kept, TokenKeys>,
-    // Whether the counts are right: it ends where one of them would be too large.
+    /// Whether the counts are right: it ends where one of them would be too large.
     counting: bool,
 }
 

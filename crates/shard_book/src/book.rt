@@ -30,10 +30,15 @@ use tap_views::TapView;
 /// legal at all times: each entry has the account rule's reply for its token's earlier taps.
 #[derive(Drop)]
 pub struct ShardBook {
+    /// The fare table.
     table: FareTable,
+    /// The number of the shard.
     shard: u32,
+    /// How many shards there are.
     shards: u32,
+    /// The account of each token.
     pub(crate) accounts: Accounts,
+    /// The entries, in the order in which they were posted.
     history: Vec<PackedEntry>,
 }
 

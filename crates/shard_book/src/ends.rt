@@ -15,6 +15,7 @@ use tap_views::Run;
 /// post. Contracts see the list.
 #[derive(Drop)]
 pub struct Ends {
+    /// The limits, in the order of the taps.
     limits: Vec<u64>,
 }
 

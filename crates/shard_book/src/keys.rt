@@ -18,7 +18,9 @@ use std::random::RandomSource;
 /// answer.
 #[derive(Clone, Copy)]
 pub struct TokenKeys {
+    /// The state with which each hash begins.
     state: u64,
+    /// By what each word is multiplied.
     multiplier: u64,
 }
 
@@ -41,7 +43,9 @@ impl TokenKeys {
 /// The hasher of a book's accounts: a folded product for each eight bytes.
 #[derive(Clone, Copy)]
 pub struct FoldedProduct {
+    /// The hash of the words so far.
     state: u64,
+    /// By what each word is multiplied.
     multiplier: u64,
 }
 

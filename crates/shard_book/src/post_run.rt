@@ -26,7 +26,7 @@ impl ShardBook {
         ensures posts { PostsRun (run_taps run.now) result self.old self.new out.old out.new }
         ensures legal { IsLegal self.new.table self.new.entries }
     {
-        // The length tells that the history is legal, also where the run has no tap.
+        // proof: the length says that the history is legal, also if the run has no tap
         let _ = self.len();
         if run.is_empty() {
             return RunEnd::Whole;

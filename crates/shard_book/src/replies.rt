@@ -11,6 +11,7 @@ use std::marker::Model;
 /// A list of replies and the number of those that it has room for besides. Contracts see both.
 #[derive(Drop)]
 pub struct Replies {
+    /// The replies, with room behind them.
     replies: Vec<Reply>,
 }
 

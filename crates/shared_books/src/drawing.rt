@@ -12,7 +12,9 @@ mod rule;
 /// many are drawn.
 #[derive(Drop)]
 pub struct Draw {
+    /// The word that counts the drawn numbers, and all drawers' seats.
     table: Table<(), Hand, u32, DrawRule, Global>,
+    /// How many numbers there are.
     numbers: u32,
 }
 
@@ -32,8 +34,11 @@ impl Model for Draw {
 /// The numbers that one worker drew.
 #[derive(Drop)]
 pub struct Drawer {
+    /// The drawer's seat, which has what it drew.
     seat: Seat<(), Hand>,
+    /// How many numbers it drew.
     held: u32,
+    /// Up to which number it has seen the numbers drawn.
     seen: u64,
 }
 
@@ -58,7 +63,9 @@ impl Model for Drawer {
 #[derive(Clone, Copy, Debug, Error)]
 #[error("holds {held} of {drawn} drawn numbers")]
 pub struct DrawMissing {
+    /// How many numbers the drawer holds.
     pub held: u32,
+    /// How many were drawn.
     pub drawn: u32,
 }
 

@@ -176,6 +176,7 @@ fn push_closed(
 {
     match end {
         Ok(book) => {
+            // proof: the book is legal, and its windows keep the limits
             let _entries = book.len();
             laws::windows(&book);
             closed.push_reserved(book);
@@ -263,8 +264,8 @@ impl<'a> Service<'a> {
             uploads: _,
         } = self;
         close_with(draw, books, shares, &mut closed)?;
-        // the books have few entries, so that the sums of the workers' totals fit; they are those
-        // of the books
+        // proof: the books have few entries, so that the sums of the workers' totals fit; they are
+        // those of the books
         let _entries = entries_in(closed.as_slice());
         let totals = added(workers.as_slice());
         Ok(Outcome {

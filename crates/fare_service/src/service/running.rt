@@ -30,7 +30,9 @@ const MOST_WORKERS: u32 = 16;
 /// The service that a thread gives a share of, and the share that it began with.
 #[derive(Drop)]
 struct OfShare<'s, 'a> {
+    /// The service.
     service: &'s Service<'a>,
+    /// The share, as it was when the thread began.
     began: Snapshot<Share>,
 }
 

@@ -54,15 +54,20 @@ impl Gate for OpenGate {
 /// What a worker makes once: its clock, and the buffers that it keeps from run to run.
 #[derive(Drop)]
 pub(crate) struct RunBuffers {
+    /// The clock of the table's zone.
     pub(crate) clock: Clock,
+    /// The replies to a run.
     pub(crate) replies: Replies,
+    /// The limits of windows that would start at the taps of a run.
     pub(crate) ends: Ends,
 }
 
 /// What a worker makes once: a cut that it fills for each batch, and what it keeps from run to run.
 #[derive(Drop)]
 pub(crate) struct Buffers {
+    /// The taps of a batch, cut by shard.
     pub(crate) cut: Cut,
+    /// What is kept from run to run.
     pub(crate) run: RunBuffers,
 }
 
@@ -249,7 +254,7 @@ impl<'a> Service<'a> {
         ensures few { posting.new.totals.taps ≤ posting.old.totals.taps + 2 ^ 60 }
         ensures full { TellsFull result posting.old.passes.items posting.new.passes.items }
     {
-        // a file has fewer than 2^64 bytes, so that the counts of its taps fit
+        // proof: a file has fewer than 2^64 bytes, so that the counts of its taps fit
         let _bytes = bytes_in(file);
         for item in batches(file) {
             match item {

@@ -14,7 +14,9 @@ const ROOM: usize = 384;
 /// that digits are written where they stay, the last one first. Contracts see the bytes.
 #[derive(Drop)]
 pub(crate) struct Line {
+    /// The room, whose end is the line.
     bytes: [u8; ROOM],
+    /// Where the line starts.
     start: usize,
 }
 

@@ -11,11 +11,17 @@ use fare_table::Token;
 /// `Totals` has 112, so that an account and its counts take 64.
 #[derive(Clone, Copy, Debug, PartialEq, Eq)]
 pub(crate) struct Counts {
+    /// What was charged, in cents.
     pub(crate) cents: u32,
+    /// How many rides were paid, in full or in part.
     paid: u16,
+    /// How many transfers there were.
     transfers: u16,
+    /// How many rides were free by the cap.
     capped: u16,
+    /// How many taps were stale.
     stale: u16,
+    /// How many taps were at unknown validators.
     unknown: u16,
     ghost in_cents: { cents ≤ (paid + transfers + capped + stale + unknown) * 4294967295 },
 }
@@ -100,7 +106,9 @@ impl Counts {
 /// A token and the counts of its entries.
 #[derive(Clone, Copy, Debug, PartialEq, Eq)]
 pub(crate) struct TokenCounts {
+    /// The token.
     pub(crate) token: Token,
+    /// The counts of its entries.
     pub(crate) counts: Counts,
 }
 

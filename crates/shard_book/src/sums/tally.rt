@@ -11,8 +11,9 @@ use account_rule::{Answer, Reply};
 /// five counts.
 #[derive(Clone, Copy, Debug, PartialEq, Eq)]
 pub struct Tally {
-    // By the places of the answers.
+    /// How many replies have each answer, by the places of the answers.
     counts: [u128; 5],
+    /// What was charged, in cents.
     cents: u128,
     ghost in_cents: { HasFewCents counts cents },
 }

@@ -15,13 +15,16 @@ use std::marker::Model;
 /// Counts of 32 bytes a token where the books tell them, else sums of 128.
 #[derive(Drop)]
 pub(crate) enum SumList {
+    /// The counts that the books keep of each token.
     Counted(Vec<TokenCounts>),
+    /// The sums of each token over the entries.
     Added(Vec<TokenSum>),
 }
 
 /// Tokens, rising, each with the totals of its entries. Contracts see the list.
 #[derive(Drop)]
 pub struct TokenSums {
+    /// The tokens, rising.
     list: SumList,
 }
 

@@ -4,11 +4,15 @@ use std::collections::LinkedList;
 
 /// What a drawer knows. No value of it is made.
 pub struct Hand {
-    // whether it was not joined into another
+    /// Whether the drawer was not joined into another.
     pub live: bool,
+    /// The claims that the drawer has.
     pub claims: u64,
+    /// How many numbers there are.
     pub numbers: u64,
+    /// Up to which number the drawer has seen the numbers drawn.
     pub seen: u64,
+    /// The numbers that the drawer drew.
     pub drawn: LinkedList<u64>,
 }
 

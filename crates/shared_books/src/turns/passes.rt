@@ -33,6 +33,7 @@ impl SharedBook {
             ..
         } = other;
         self.table.shared.join_seat::<Meets>(seat, other_seat);
+        // proof: the look ends the join, after which the pass is like any other
         let _ = self.table.shared.load::<Settles>(seat, 0);
         *held += more;
     }
