@@ -7,18 +7,23 @@ use tap_views::LayoutFault;
 pub enum UploadEnd {
     /// The upload has no layout fault, and all its batches were posted whole.
     Posted {
+        /// How many taps were posted.
         taps: u64,
     },
     /// All batches before the upload's first layout fault were posted whole. The fault's batch
     /// begins `offset` bytes into the upload.
     Refused {
+        /// How many taps were posted.
         taps: u64,
+        /// The offset of the batch with the fault, in bytes.
         offset: u64,
+        /// The layout fault.
         fault: LayoutFault,
     },
     /// Want of memory, or a shard that takes no more visits, ended it: a beginning of the taps
     /// before its first layout fault was posted, and not all of them.
     Cut {
+        /// How many taps were posted.
         taps: u64,
     },
     /// No share drew it.
