@@ -1,5 +1,5 @@
-pub mod CutLemmas
-pub mod CutUnique
+pub mod BlockLemmas
+pub mod BlocksUnique
 pub mod TapLemmas
 pub mod FareLemmas
 pub mod LimitLemmas

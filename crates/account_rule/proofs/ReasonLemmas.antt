@@ -16,7 +16,7 @@ use Rattle.account_rule.specs.declared.reply.Answer.TheVariants as answer
 use Rattle.account_rule.specs.declared.tap.TapIn.{TapIn}
 use Rattle.account_rule.specs.declared.window.Window.{Window}
 use Rattle.account_rule.specs.Chains.{chains, continues, ends_in_transfer, is_even}
-use Rattle.account_rule.specs.Cut.{cut, cut_from, last_block}
+use Rattle.account_rule.specs.Blocks.{blocks_by, blocks_from, last_block}
 use Rattle.account_rule.specs.Kept.{State, is_after, kept_giver, kept_window}
 use Rattle.account_rule.specs.inside.Kept.{gives, next_reason, open_window, window_at}
 use Rattle.account_rule.specs.Reasons.{charge_by, charged_by, given_by, latest, live_reason, reason}
@@ -131,42 +131,42 @@ last_or-cons before [] x ys = refl
 last_or-cons before (first ∷ xs) x ys = last_or-cons (Some first) xs x ys
 
 last_block-from : {A : Type 0} (joins : List A → A → Bool) (first block xs : List A)
-    → last_block (first ∷ cut_from joins block xs) ≡ last_block (cut_from joins block xs)
-unfolding last_block cut_from
+    → last_block (first ∷ blocks_from joins block xs) ≡ last_block (blocks_from joins block xs)
+unfolding last_block blocks_from
 last_block-from joins first block [] = refl
 last_block-from joins first block (x ∷ xs) =
     elim (joins block x) as (λ v.
-    last_block (first ∷ cond v (cut_from joins (block ++ x ∷ []) xs) (block
-    ∷ cut_from joins (x ∷ []) xs))
-    ≡ last_block (cond v (cut_from joins (block ++ x ∷ []) xs) (block
-    ∷ cut_from joins (x ∷ []) xs)))
+    last_block (first ∷ cond v (blocks_from joins (block ++ x ∷ []) xs) (block
+    ∷ blocks_from joins (x ∷ []) xs))
+    ≡ last_block (cond v (blocks_from joins (block ++ x ∷ []) xs) (block
+    ∷ blocks_from joins (x ∷ []) xs)))
     [ true ↦ last_block-from joins first (block ++ x ∷ []) xs | false ↦ refl ]
 
-last-cut_from : {A : Type 0} (joins : List A → A → Bool) (block xs : List A)
-    → last_or None (last_block (cut_from joins block xs)) ≡ last_or None (block ++ xs)
-unfolding last_block cut_from
-last-cut_from joins block [] = rw append-nil refl
-last-cut_from joins block (x ∷ xs) =
+last-blocks_from : {A : Type 0} (joins : List A → A → Bool) (block xs : List A)
+    → last_or None (last_block (blocks_from joins block xs)) ≡ last_or None (block ++ xs)
+unfolding last_block blocks_from
+last-blocks_from joins block [] = rw append-nil refl
+last-blocks_from joins block (x ∷ xs) =
     elim (joins block x) as (λ v.
     last_or None (last_block
-    (cond v (cut_from joins (block ++ x ∷ []) xs) (block ∷ cut_from joins (x ∷ []) xs)))
+    (cond v (blocks_from joins (block ++ x ∷ []) xs) (block ∷ blocks_from joins (x ∷ []) xs)))
     ≡ last_or None (block ++ x ∷ xs)) [
-      | true ↦ last-cut_from joins (block ++ x ∷ []) xs ∙ rw (append_assoc block (x ∷ []) xs) refl
-      | false ↦ rw (last_block-from joins block (x ∷ []) xs) (last-cut_from joins (x ∷ []) xs)
+      | true ↦ last-blocks_from joins (block ++ x ∷ []) xs ∙ rw (append_assoc block (x ∷ []) xs) refl
+      | false ↦ rw (last_block-from joins block (x ∷ []) xs) (last-blocks_from joins (x ∷ []) xs)
           ∙ sym (last_or-cons None block x xs)
     ]
 
-last-cut : {A : Type 0} (joins : List A → A → Bool) (xs : List A)
-    → last_or None (last_block (cut joins xs)) ≡ last_or None xs
-unfolding cut last_block
-last-cut joins [] = refl
-last-cut joins (x ∷ xs) = last-cut_from joins (x ∷ []) xs
+last-blocks_by : {A : Type 0} (joins : List A → A → Bool) (xs : List A)
+    → last_or None (last_block (blocks_by joins xs)) ≡ last_or None xs
+unfolding blocks_by last_block
+last-blocks_by joins [] = refl
+last-blocks_by joins (x ∷ xs) = last-blocks_from joins (x ∷ []) xs
 
 pub giver-live : (rules : Rules) (taps : List TapIn) (giver : LiveTap)
     → giver_of (last_block (chains rules taps)) ≡ Some giver → last_or None (live taps) ≡ Some giver
 unfolding chains
 giver-live rules taps giver some =
-    sym (last-cut (continues rules.permits) (live taps)) ∙ giver-last _ giver None some
+    sym (last-blocks_by (continues rules.permits) (live taps)) ∙ giver-last _ giver None some
 
 given-same : (permits : Mode → Mode → Bool) (given other : Option LiveTap) (tap : LiveTap)
     → gives permits given tap ≡ true

@@ -12,14 +12,14 @@ use Rattle.account_rule.specs.declared.reply.Answer.TheVariants.{Unknown}
 use Rattle.account_rule.specs.declared.reply.Reply.{Reply}
 use Rattle.account_rule.specs.declared.tap.TapIn.{TapIn}
 use Rattle.account_rule.specs.Chains.{chains, ends_in_transfer, rides}
-use Rattle.account_rule.specs.Cut.{cut, last_block}
+use Rattle.account_rule.specs.Blocks.{blocks_by, last_block}
 use Rattle.account_rule.specs.Laws.{is_paid_reply, is_ride, place_replies}
 use Rattle.account_rule.specs.Replies.{live_reply, replies, replies_after, reply, reply_with}
 use Rattle.account_rule.specs.Replies.{ride_reply}
 use Rattle.account_rule.specs.Rules.{Rules}
 use Rattle.account_rule.specs.Taps.{LiveTap, is_later, live, live_after, live_at, live_tap}
 use Rattle.account_rule.specs.Windows.{charge, is_within, paid_rides, ride_cents, windows}
-use Rattle.account_rule.proofs.CutLemmas.{extend, last_block-cons}
+use Rattle.account_rule.proofs.BlockLemmas.{extend, last_block-cons}
 use Rattle.account_rule.proofs.StepLemmas.{is_live, not_known, not_later, reply_live, reply_ride}
 use Rattle.account_rule.proofs.StepLemmas.{reply_stale, reply_transfer, reply_unknown}
 use Rattle.account_rule.proofs.TapLemmas.{windows-ride, windows-same, windows-transfer}
@@ -158,7 +158,7 @@ push_all P none more earlier (tap ∷ taps) all =
 
 first : (rules : Rules) (of_reply : Reply → ℕ) (of_places : ℕ → ℕ)
     → sum_by of_reply (replies rules []) ≡ total of_places (windows rules [])
-unfolding replies replies_after windows rides chains live live_after cut total
+unfolding replies replies_after windows rides chains live live_after blocks_by total
 first rules of_reply of_places = refl
 
 sum-replies-total : (rules : Rules) (of_reply : Reply → ℕ) (of_places : ℕ → ℕ)
@@ -241,7 +241,7 @@ shares_of-extend terms joins (block ∷ next ∷ blocks) x =
 
 no_shares : (rules : Rules)
     → filter is_ride (replies rules []) ≡ shares_of rules.terms (windows rules [])
-unfolding replies replies_after windows rides chains live live_after cut shares_of
+unfolding replies replies_after windows rides chains live live_after blocks_by shares_of
 no_shares rules = refl
 
 free_unknown : is_ride (reply_with Unknown 0) ≡ false

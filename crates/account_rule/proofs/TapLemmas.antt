@@ -10,14 +10,14 @@ use Rattle.fare_table.specs.declared.mode.Mode.{Mode}
 use Rattle.account_rule.specs.declared.tap.TapIn.{TapIn}
 use Rattle.account_rule.specs.Chains.{chains, continues, ends_in_transfer, is_even, is_linked}
 use Rattle.account_rule.specs.Chains.{rides}
-use Rattle.account_rule.specs.Cut.{last_block}
+use Rattle.account_rule.specs.Blocks.{last_block}
 use Rattle.account_rule.specs.Rules.{Rules}
 use Rattle.account_rule.specs.inside.Kept.{gives}
 use Rattle.account_rule.specs.Stands.{giver_of}
 use Rattle.account_rule.specs.Taps.{LiveTap, is_later, live, live_after, live_tap}
 use Rattle.account_rule.specs.Windows.{is_within, windows}
-use Rattle.account_rule.proofs.CutLemmas.{cut-push, evens-extend, extend, is_even-push}
-use Rattle.account_rule.proofs.CutLemmas.{last_block-extend, not_not}
+use Rattle.account_rule.proofs.BlockLemmas.{blocks_by-push, evens-extend, extend, is_even-push}
+use Rattle.account_rule.proofs.BlockLemmas.{last_block-extend, not_not}
 
 pub and-true : (b : Bool) → (b && true) ≡ b
 and-true true = refl
@@ -68,7 +68,7 @@ pub chains-push : (rules : Rules) (taps : List TapIn) (tap : TapIn) (shown : Liv
     → chains rules (taps ++ tap ∷ []) ≡ extend (continues rules.permits) (chains rules taps) shown
 unfolding chains
 chains-push rules taps tap shown some =
-    rw (live-push taps tap, some) (cut-push (continues rules.permits) (live taps) shown)
+    rw (live-push taps tap, some) (blocks_by-push (continues rules.permits) (live taps) shown)
 
 pub rides-same : (rules : Rules) (taps : List TapIn) (tap : TapIn) → live_tap taps tap ≡ None
     → rides rules (taps ++ tap ∷ []) ≡ rides rules taps
@@ -106,7 +106,7 @@ pub windows-ride : (rules : Rules) (taps : List TapIn) (tap : TapIn) (shown : Li
 unfolding windows
 windows-ride rules taps tap shown some ride =
     rw (rides-push rules taps tap shown some, ride)
-    (cut-push (is_within rules.until) (rides rules taps) shown)
+    (blocks_by-push (is_within rules.until) (rides rules taps) shown)
 
 -- what the giver of a chain tells of a next tap
 data Ends (permits : Mode → Mode → Bool) (chain : List LiveTap) : Type 0 where

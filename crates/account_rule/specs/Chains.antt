@@ -4,7 +4,7 @@ use Rattle.std.specs.Prelude.{length, nat_le}
 use Rattle.std.specs.List.{flat_map}
 use Rattle.fare_table.specs.declared.mode.Mode.{Mode}
 use Rattle.account_rule.specs.declared.tap.TapIn.{TapIn}
-use Rattle.account_rule.specs.Cut.{cut, last_block}
+use Rattle.account_rule.specs.Blocks.{blocks_by, last_block}
 use Rattle.account_rule.specs.Rules.{Rules}
 use Rattle.account_rule.specs.Taps.{LiveTap, live}
 
@@ -20,9 +20,9 @@ continues permits [] tap = false
 continues permits (last ∷ []) tap = is_linked permits last tap
 continues permits (_ ∷ next ∷ chain) tap = continues permits (next ∷ chain) tap
 
--- the live taps, cut into chains of taps that are linked
+-- the live taps, divided into chains of taps that are linked
 unfoldable pub chains : Rules → List TapIn → List (List LiveTap)
-chains rules taps = cut (continues rules.permits) (live taps)
+chains rules taps = blocks_by (continues rules.permits) (live taps)
 
 -- the elements at even places, from place 0 on
 unfoldable pub evens : {A : Type 0} → List A → List A

@@ -9,23 +9,23 @@ use Rattle.account_rule.specs.declared.reply.Answer.TheVariants.{Unknown}
 use Rattle.account_rule.specs.declared.reply.Reply.{Reply}
 use Rattle.account_rule.specs.declared.tap.TapIn.{TapIn}
 use Rattle.account_rule.specs.Chains.{continues, chains, rides}
-use Rattle.account_rule.specs.Cut.{IsCutBy}
+use Rattle.account_rule.specs.Blocks.{AreBlocksOf}
 use Rattle.account_rule.specs.Replies.{replies, ride_reply}
 use Rattle.account_rule.specs.Rules.{Rules}
 use Rattle.account_rule.specs.Taps.{LiveTap, live}
 use Rattle.account_rule.specs.Windows.{charge, is_within, windows, paid_rides, ride_cents}
 
--- the chains are the only blocks into which links cut the live taps
-abbrev pub ChainsAreTheOnlyCut : Type 0
-ChainsAreTheOnlyCut =
+-- the chains are the only blocks into which links divide the live taps
+abbrev pub ChainsAreTheOnlyBlocks : Type 0
+ChainsAreTheOnlyBlocks =
     (rules : Rules) (taps : List TapIn) (blocks : List (List LiveTap))
-    → IsCutBy (continues rules.permits) (live taps) blocks ↔ (blocks ≡ chains rules taps)
+    → AreBlocksOf (continues rules.permits) (live taps) blocks ↔ (blocks ≡ chains rules taps)
 
--- the windows are the only blocks into which limits cut the rides
-abbrev pub WindowsAreTheOnlyCut : Type 0
-WindowsAreTheOnlyCut =
+-- the windows are the only blocks into which window ends divide the rides
+abbrev pub WindowsAreTheOnlyBlocks : Type 0
+WindowsAreTheOnlyBlocks =
     (rules : Rules) (taps : List TapIn) (blocks : List (List LiveTap))
-    → IsCutBy (is_within rules.until) (rides rules taps) blocks ↔ (blocks ≡ windows rules taps)
+    → AreBlocksOf (is_within rules.until) (rides rules taps) blocks ↔ (blocks ≡ windows rules taps)
 
 -- no window has more paid rides than the terms allow
 abbrev pub WindowsKeepTheRideLimit : Type 0

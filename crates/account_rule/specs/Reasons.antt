@@ -13,7 +13,7 @@ use Rattle.account_rule.specs.declared.reply.Answer.TheVariants as answer
 use Rattle.account_rule.specs.declared.reply.Reply.{Reply}
 use Rattle.account_rule.specs.declared.tap.TapIn.{TapIn}
 use Rattle.account_rule.specs.Chains.{ends_in_transfer}
-use Rattle.account_rule.specs.Cut.{last_block}
+use Rattle.account_rule.specs.Blocks.{last_block}
 use Rattle.account_rule.specs.Replies.{reply, reply_with, ride_reply}
 use Rattle.account_rule.specs.Rules.{Rules}
 use Rattle.account_rule.specs.Taps.{LiveTap, is_later, live, live_at}

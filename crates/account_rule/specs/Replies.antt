@@ -6,7 +6,7 @@ use Rattle.account_rule.specs.declared.reply.Answer.TheVariants.{Unknown}
 use Rattle.account_rule.specs.declared.reply.Reply.{Reply}
 use Rattle.account_rule.specs.declared.tap.TapIn.{TapIn}
 use Rattle.account_rule.specs.Chains.{ends_in_transfer}
-use Rattle.account_rule.specs.Cut.{last_block}
+use Rattle.account_rule.specs.Blocks.{last_block}
 use Rattle.account_rule.specs.Rules.{Rules}
 use Rattle.account_rule.specs.Taps.{is_later}
 use Rattle.account_rule.specs.Windows.{windows, charge}

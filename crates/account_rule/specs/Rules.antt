@@ -13,7 +13,7 @@ pub record Rules : Type 0 where
   pub terms : Terms
   -- whether a ride on the first mode includes a transfer to the second
   pub permits : Mode → Mode → Bool
-  -- the limit of a window whose first ride is at the moment
+  -- the end of a window whose first ride is at the moment
   pub until : ℕ → ℕ
 
 -- whether the table permits the pair of modes

@@ -5,18 +5,18 @@ use Rattle.fare_table.specs.declared.terms.Terms.{Terms}
 use Rattle.account_rule.specs.declared.tap.TapIn.{TapIn}
 use Rattle.account_rule.specs.declared.window.WindowView.{WindowView}
 use Rattle.account_rule.specs.Chains.{rides}
-use Rattle.account_rule.specs.Cut.{cut, last_block}
+use Rattle.account_rule.specs.Blocks.{blocks_by, last_block}
 use Rattle.account_rule.specs.Rules.{Rules}
 use Rattle.account_rule.specs.Taps.{LiveTap}
 
--- whether the ride is before the limit of the window, which its first ride sets
+-- whether the ride is before the end of the window, which its first ride sets
 unfoldable pub is_within : (ℕ → ℕ) → List LiveTap → LiveTap → Bool
 is_within until [] ride = false
 is_within until (first ∷ _) ride = nat_lt ride.moment (until first.moment)
 
--- the rides, cut into windows
+-- the rides, divided into windows
 unfoldable pub windows : Rules → List TapIn → List (List LiveTap)
-windows rules taps = cut (is_within rules.until) (rides rules taps)
+windows rules taps = blocks_by (is_within rules.until) (rides rules taps)
 
 -- the cents of the ride at the place of its window, from place 0 on
 unfoldable pub charge : Terms → ℕ → ℕ

@@ -66,7 +66,7 @@ impl Account {
     /// Takes one more tap of the token, and returns what the rule replies to it.
     ///
     /// The table and the token are the same in all calls on an account, the tap's mode is one of
-    /// the table's, and its `until` is the table's limit for its moment. There is no order of
+    /// the table's, and its `until` is the table's window end for its moment. There is no order of
     /// moments to keep: a tap that comes too late is stale. The step takes no memory, and asks the
     /// table for the token's terms at the first ride alone. No reply costs more than the greatest
     /// fare of a table.

@@ -2,16 +2,16 @@
 //! a function that does nothing.
 
 ghost use Rattle.account_rule.specs.Reasons.{GiversAreRides, RepliesFollow};
-ghost use Rattle.account_rule.specs.Laws.{ChainsAreTheOnlyCut, WindowsAreTheOnlyCut};
+ghost use Rattle.account_rule.specs.Laws.{ChainsAreTheOnlyBlocks, WindowsAreTheOnlyBlocks};
 ghost use Rattle.account_rule.specs.Laws.{WindowsKeepTheCeiling, WindowsKeepTheRideLimit};
 ghost use Rattle.account_rule.specs.Laws.{WindowsShareTheCents, WindowsShareThePaidRides};
 ghost use Rattle.account_rule.specs.Laws.{WindowsShareTheRides};
 
-/// The chains are the only way to cut live taps by links, and the windows the only way to cut rides
-/// by the limits of windows.
-pub fn cuts()
-    ensures chains { ChainsAreTheOnlyCut }
-    ensures windows { WindowsAreTheOnlyCut }
+/// The chains are the only blocks into which links divide live taps, and the windows the only ones
+/// into which window ends divide rides.
+pub fn only_blocks()
+    ensures chains { ChainsAreTheOnlyBlocks }
+    ensures windows { WindowsAreTheOnlyBlocks }
 {}
 
 /// No window of any list has more paid rides than the terms allow, or costs more than their ceiling

@@ -7,7 +7,7 @@ use Rattle.std.proofs.lemmas.List.Folds.{list_all-append}
 use Rattle.fare_table.specs.Fares.{Fares}
 use Rattle.tap_views.specs.Files.{IsReading, Item}
 use Rattle.fare_program.specs.Listing.{Listed}
-use Rattle.fare_program.specs.inside.Listing.{Kept, StandsFor}
+use Rattle.fare_program.specs.inside.Listing.{KeptListing, StandsFor}
 use Rattle.fare_program.specs.Uploads.{AreReadings, lines_from, listed_in, listing_lines}
 use Rattle.fare_program.specs.inside.Uploads.{ListsUpload, ListsUploads}
 
@@ -35,7 +35,7 @@ lines_push fares upload before (r ∷ readings) items =
     ∙ rw (number, append_assoc before (listed_in fares r) (flat_map (listed_in fares) readings)) refl)
     ∙ sym (append_assoc (listing_lines fares upload 0 before r) _ _)
 
-pub uploads_push : (fares : Option Fares) (kept kept' : Kept) (text0 text text' : List ℕ) (files : List (List ℕ)) (file : List ℕ) (clean whole : Bool) (upload : ℕ)
+pub uploads_push : (fares : Option Fares) (kept kept' : KeptListing) (text0 text text' : List ℕ) (files : List (List ℕ)) (file : List ℕ) (clean whole : Bool) (upload : ℕ)
     → upload ≡ length files → ListsUploads fares kept text0 text files clean → ListsUpload fares kept kept' text text' upload file whole
     → ListsUploads fares kept' text0 text' (files ++ file ∷ []) (clean && whole)
 uploads_push fares kept kept' text0 text text' files file clean whole upload is all one = record {

@@ -1,7 +1,7 @@
 -- A listing that is under way: what it has come to, and what is still to come.
 use Rattle.std.proofs.Common.{◌≡◌, ◌+◌, ◌∙◌, ℕ, List, [], ◌∷◌, ◌++◌, refl, sym, ap, subst, append-nil, append_assoc, length, map, zero-add, ◌≤◌, arith, length-append, Ok, Err, Bool, true, false, ◌&&◌}
 use Rattle.fare_program.specs.Listing.{Listed, word_of}
-use Rattle.fare_program.specs.inside.Listing.{Kept, StandsFor}
+use Rattle.fare_program.specs.inside.Listing.{KeptListing, StandsFor}
 use Rattle.std.specs.Prelude.{Option, is_ok}
 use Rattle.std.specs.List.{list_all}
 use Rattle.std.proofs.lemmas.List.{length-map}
@@ -15,13 +15,13 @@ use Rattle.fare_program.specs.inside.Uploads.{Lists, ListsUpload}
 use Rattle.fare_program.proofs.Sizes.{taps_within}
 
 -- with the taps that are left, the listing comes to this text and these taps
-pub record Going (kept : Kept) (text : List ℕ) (upload number : ℕ) (left : List Listed) (all_text : List ℕ) (all_taps : List Listed) : Type 0 where
+pub record Going (kept : KeptListing) (text : List ℕ) (upload number : ℕ) (left : List Listed) (all_text : List ℕ) (all_taps : List Listed) : Type 0 where
   pub so_far : List Listed
   pub stands : StandsFor kept so_far
   pub taps : so_far ++ left ≡ all_taps
   pub lines : text ++ tap_lines upload number so_far left ≡ all_text
 
-pub goes_on : (kept kept' : Kept) (text text' : List ℕ) (upload number : ℕ) (tap : Listed) (left : List Listed) (all_text : List ℕ) (all_taps : List Listed)
+pub goes_on : (kept kept' : KeptListing) (text text' : List ℕ) (upload number : ℕ) (tap : Listed) (left : List Listed) (all_text : List ℕ) (all_taps : List Listed)
     → Lists kept kept' text text' upload number (tap ∷ []) → Going kept text upload number (tap ∷ left) all_text all_taps
     → Going kept' text' upload (number + 1) left all_text all_taps
 goes_on kept kept' text text' upload number tap left all_text all_taps lists going = record {
@@ -32,7 +32,7 @@ goes_on kept kept' text text' upload number tap left all_text all_taps lists goi
       (append_assoc text (tap_line upload number tap.tap (word_of going.so_far tap)) _ ∙ going.lines);
 }
 
-pub goes_nowhere : (kept : Kept) (text : List ℕ) (upload number : ℕ) (all_text : List ℕ) (all_taps : List Listed)
+pub goes_nowhere : (kept : KeptListing) (text : List ℕ) (upload number : ℕ) (all_text : List ℕ) (all_taps : List Listed)
     → Going kept text upload number [] all_text all_taps → (text ≡ all_text) × StandsFor kept all_taps
 goes_nowhere kept text upload number all_text all_taps going = (
   sym (append-nil text) ∙ going.lines,
@@ -40,7 +40,7 @@ goes_nowhere kept text upload number all_text all_taps going = (
 )
 
 -- with what is left to be given of an upload, the listing comes to this text and these taps
-pub record GoingOver (fares : Option Fares) (kept : Kept) (text : List ℕ) (upload number : ℕ) (left : List Item) (all_text : List ℕ) (all_taps : List Listed) : Type 0 where
+pub record GoingOver (fares : Option Fares) (kept : KeptListing) (text : List ℕ) (upload number : ℕ) (left : List Item) (all_text : List ℕ) (all_taps : List Listed) : Type 0 where
   pub so_far : List Listed
   pub stands : StandsFor kept so_far
   pub taps : so_far ++ listed_in fares left ≡ all_taps
@@ -48,14 +48,14 @@ pub record GoingOver (fares : Option Fares) (kept : Kept) (text : List ℕ) (upl
 
 -- Where a listing of an upload has come to, of which this is left of all the items: the numbers of
 -- the taps fit together, and so do the lines, whatever the listing stood for at first.
-pub record Over (fares : Option Fares) (kept0 kept : Kept) (text0 text : List ℕ) (upload number : ℕ) (whole : Bool) (left items : List Item) : Type 0 where
+pub record Over (fares : Option Fares) (kept0 kept : KeptListing) (text0 text : List ℕ) (upload number : ℕ) (whole : Bool) (left items : List Item) : Type 0 where
   pub numbers : number + length (listed_in fares left) ≡ length (listed_in fares items)
   pub taps : kept.counts.taps + length (listed_in fares left) ≡ kept0.counts.taps + length (listed_in fares items)
   pub is_whole : (whole && list_all is_ok left) ≡ list_all is_ok items
   pub lines : (before : List Listed) → StandsFor kept0 before
       → GoingOver fares kept text upload number left (text0 ++ listing_lines fares upload 0 before items) (before ++ listed_in fares items)
 
-module _ (fares : Option Fares) (kept0 kept : Kept) (text0 text : List ℕ) (upload number : ℕ) (whole : Bool) (left items : List Item) where
+module _ (fares : Option Fares) (kept0 kept : KeptListing) (text0 text : List ℕ) (upload number : ℕ) (whole : Bool) (left items : List Item) where
   pub over_start : Over fares kept0 kept0 text0 text0 upload 0 true items items
   over_start = record {
     numbers = zero-add _;
@@ -75,7 +75,7 @@ module _ (fares : Option Fares) (kept0 kept : Kept) (text0 text : List ℕ) (upl
       → Over fares kept0 kept text0 text upload number whole [] items
   over_none is over = subst (λ xs. Over fares kept0 kept text0 text upload number whole xs items) is over
 
-  pub over_batch : (kept' : Kept) (text' : List ℕ) (next : ℕ) (batch : List Tap)
+  pub over_batch : (kept' : KeptListing) (text' : List ℕ) (next : ℕ) (batch : List Tap)
       → Lists kept kept' text text' upload number (map (listed fares) batch) → next ≡ number + length batch
       → kept'.counts.taps ≡ kept.counts.taps + length batch
       → Over fares kept0 kept text0 text upload number whole (Ok batch ∷ left) items

@@ -125,10 +125,10 @@ pub(crate) struct Listing {
 }
 
 impl Model for Listing {
-    ghost use Rattle.fare_program.specs.inside.Listing.{Kept};
+    ghost use Rattle.fare_program.specs.inside.Listing.{KeptListing};
     ghost use Rattle.fare_program.specs.inside.Listing.{AddsUp};
 
-    ghost Value = { Kept };
+    ghost Value = { KeptListing };
 
     ghost view = { λ l. record { last = l.last.entries; counts = l.counts } };
 

@@ -21,7 +21,7 @@ use Rattle.fare_service.specs.declared.upload_end.UploadEnd.{UploadEnd}
 use Rattle.fare_service.specs.declared.upload_end.UploadEnd.TheVariants.{Posted, Refused, Cut, Undrawn}
 use Rattle.fare_service.specs.Headline.{Signed, by_worker, end_of}
 use Rattle.fare_service.specs.Outcomes.{OutcomeView}
-use Rattle.fare_service.specs.Plain.{AreTapsOf, AreTapsOfEach, AreApart, HasOneCut, IsNamed, WasWhole, unanswered, token_of_bytes, plain}
+use Rattle.fare_service.specs.Plain.{AreTapsOf, AreTapsOfEach, AreApart, HasOneReading, IsNamed, WasWhole, unanswered, token_of_bytes, plain}
 use Rattle.fare_service.specs.Runs.{Visit, ArePosted, runs_of, entries_to}
 use Rattle.fare_service.specs.Shares.{Worked, all_visits, IsWorkOf, IsEndOf, all_works, file_at}
 use Rattle.fare_service.proofs.PlainLists.{All-split, All-flat, flat-All, All-at, mapped_at, flat_map-map, count, count_same, count_other, DoTheirs, done_alone, done_none, flat_alone, flat_none, HasOne, none_or_one}
@@ -85,7 +85,7 @@ record IsRead (shards : ℕ) (token : Token) (taps : List (List Tap)) (w : Worke
   pub names : All IsName (get_or taps w.upload [])
   pub part : map bare (own token (joined (entries_to (shard_of_token (bytes_of token) shards) w.visits))) ≡ own token (map unanswered (get_or taps w.upload []))
 
-work_read : (given : Given) (token : Token) (taps : List (List Tap)) (w : Worked) → 0 < given.shards → All HasOneCut given.uploads → AreTapsOfEach given.uploads taps → IsWorkOf given.shards given.uploads w → WasWhole w.end
+work_read : (given : Given) (token : Token) (taps : List (List Tap)) (w : Worked) → 0 < given.shards → All HasOneReading given.uploads → AreTapsOfEach given.uploads taps → IsWorkOf given.shards given.uploads w → WasWhole w.end
     → ((shard : ℕ) → shard < given.shards → All IsNamed (joined (entries_to shard w.visits))) → IsRead given.shards token taps w
 work_read given token taps w some cuts each worked whole named =
     let t = taps_of_upload given.uploads taps w.upload each worked.within in
@@ -179,7 +179,7 @@ pub record Stands (given : Given) (works : List (List Worked)) (outcome : Outcom
   pub some_shard : 0 < given.shards
   pub named : (shard : ℕ) (book : Book) → slice_get outcome.books shard ≡ Some book → All IsNamed book.entries
   pub whole : All WasWhole outcome.ends
-  pub cuts : All HasOneCut given.uploads
+  pub cuts : All HasOneReading given.uploads
   pub each : AreTapsOfEach given.uploads taps
 
 module _ (given : Given) (works : List (List Worked)) (outcome : OutcomeView) (taps : List (List Tap)) (all : Stands given works outcome taps) where

@@ -13,7 +13,7 @@ use Rattle.shard_book.specs.Groups.{sums_by_validator, sums_by_token}
 use Rattle.shard_book.specs.Sums.{sums}
 use Rattle.fare_service.specs.declared.upload_end.UploadEnd.{UploadEnd}
 use Rattle.fare_service.specs.Ends.{end_by}
-use Rattle.fare_service.specs.Plain.{HasOneCut, IsPlainEnd, ArePlainEnds, IsReportOver}
+use Rattle.fare_service.specs.Plain.{HasOneReading, IsPlainEnd, ArePlainEnds, IsReportOver}
 use Rattle.fare_service.specs.Shares.{IsFaultOf}
 use Rattle.fare_service.specs.Text.{report}
 
@@ -49,23 +49,23 @@ same_told file rest (Some (offset, fault)) (Some (offset', other)) one two =
     ap (λ n. Some (n, fault)) (omega (arith, one.stands_at, two.stands_at)) ∙ ap (λ f. Some (offset', f)) (same_fault rest fault other one.is_fault two.is_fault)
 
 -- an upload has one plain end
-same_end : (file : List ℕ) (end other : UploadEnd) → HasOneCut file → IsPlainEnd file end → IsPlainEnd file other → end ≡ other
+same_end : (file : List ℕ) (end other : UploadEnd) → HasOneReading file → IsPlainEnd file end → IsPlainEnd file other → end ≡ other
 same_end file end other cut one two =
     let same = cut one.batches two.batches one.rest two.rest one.is_file two.is_file in
     let F : List ℕ → Type 0 = λ rest. IsFaultOf file rest one.fault in
     one.ended ∙ ap (λ (bs : List (List Tap)). end_by (length (flat_map (λ (b : List Tap). b) bs)) one.fault) same.0
     ∙ ap (end_by (length (flat_map (λ (b : List Tap). b) two.batches))) (same_told file two.rest one.fault two.fault (subst F same.1 one.is_fault) two.is_fault) ∙ sym two.ended
 
-pub same_ends : (files : List (List ℕ)) (ends others : List UploadEnd) → All HasOneCut files → ArePlainEnds files ends → ArePlainEnds files others → ends ≡ others
+pub same_ends : (files : List (List ℕ)) (ends others : List UploadEnd) → All HasOneReading files → ArePlainEnds files ends → ArePlainEnds files others → ends ≡ others
 same_ends [] [] [] cuts one two = refl
 same_ends [] [] (o ∷ others) cuts one two = absurd two
 same_ends [] (e ∷ ends) others cuts one two = absurd one
 same_ends (file ∷ files) [] others cuts one two = absurd one
 same_ends (file ∷ files) (e ∷ ends) [] cuts one two = absurd two
 same_ends (file ∷ files) (e ∷ ends) (o ∷ others) cuts one two =
-    ap (λ x. x ∷ ends) (same_end file e o (All-head HasOneCut file files cuts) one.0 two.0) ∙ ap (λ xs. o ∷ xs) (same_ends files ends others (All-tail HasOneCut file files cuts) one.1 two.1)
+    ap (λ x. x ∷ ends) (same_end file e o (All-head HasOneReading file files cuts) one.0 two.0) ∙ ap (λ xs. o ∷ xs) (same_ends files ends others (All-tail HasOneReading file files cuts) one.1 two.1)
 
 -- uploads have one report over a history
-pub one_report : (files : List (List ℕ)) (history : List Entry) (text other : List ℕ) → All HasOneCut files → IsReportOver files history text → IsReportOver files history other → text ≡ other
+pub one_report : (files : List (List ℕ)) (history : List Entry) (text other : List ℕ) → All HasOneReading files → IsReportOver files history text → IsReportOver files history other → text ≡ other
 one_report files history text other cuts one two =
     one.shown ∙ ap (λ ends. report ends (sums history) (sums_by_validator history) (sums_by_token history)) (same_ends files one.ends two.ends cuts one.of_uploads two.of_uploads) ∙ sym two.shown

@@ -19,7 +19,7 @@ use Rattle.shard_book.specs.Statement.{IsStatement}
 use Rattle.shard_book.specs.Sums.{sums}
 use Rattle.fare_table.specs.Token.{bytes_of}
 use Rattle.fare_service.specs.Outcomes.{OutcomeView}
-use Rattle.fare_service.specs.Plain.{AreTapsOf, AreTapsOfEach, HasOneCut, IsNamed, IsPlain, IsWholeGathering, IsStatementOver, plain}
+use Rattle.fare_service.specs.Plain.{AreTapsOf, AreTapsOfEach, HasOneReading, IsNamed, IsPlain, IsWholeGathering, IsStatementOver, plain}
 use Rattle.fare_service.specs.Printed.{IsStatementOf}
 use Rattle.fare_texts.specs.StatementText.{IsStatementText}
 use Rattle.fare_service.proofs.HeadlineLemmas.{gathered_of}
@@ -33,18 +33,18 @@ pub each_more : (files : List (List ℕ)) (taps : List (List Tap)) (file : List 
 each_more files taps file ts each is = AllZip-append AreTapsOf files taps (file ∷ []) (ts ∷ []) each (is, tt)
 
 -- files with one cut have one list of taps each
-one_list : (files : List (List ℕ)) (taps others : List (List Tap)) → All HasOneCut files → AreTapsOfEach files taps → AreTapsOfEach files others → taps ≡ others
+one_list : (files : List (List ℕ)) (taps others : List (List Tap)) → All HasOneReading files → AreTapsOfEach files taps → AreTapsOfEach files others → taps ≡ others
 one_list [] [] [] cuts each other = refl
 one_list [] [] (o ∷ others) cuts each other = absurd other
 one_list [] (t ∷ taps) others cuts each other = absurd each
 one_list (file ∷ files) [] others cuts each other = absurd each
 one_list (file ∷ files) (t ∷ taps) [] cuts each other = absurd other
 one_list (file ∷ files) (t ∷ taps) (o ∷ others) cuts each other =
-    let same = All-head HasOneCut file files cuts each.0.batches other.0.batches each.0.rest other.0.rest each.0.is_file other.0.is_file in
+    let same = All-head HasOneReading file files cuts each.0.batches other.0.batches each.0.rest other.0.rest each.0.is_file other.0.is_file in
     let here : t ≡ o = each.0.all ∙ ap (flat_map (λ (batch : List Tap). batch)) same.0 ∙ sym other.0.all in
-    ap (λ x. x ∷ taps) here ∙ ap (λ xs. o ∷ xs) (one_list files taps others (All-tail HasOneCut file files cuts) each.1 other.1)
+    ap (λ x. x ∷ taps) here ∙ ap (λ xs. o ∷ xs) (one_list files taps others (All-tail HasOneReading file files cuts) each.1 other.1)
 
-pub one_plain : (fares : Fares) (files : List (List ℕ)) (history other : List Entry) → All HasOneCut files → IsPlain fares files history → IsPlain fares files other → history ≡ other
+pub one_plain : (fares : Fares) (files : List (List ℕ)) (history other : List Entry) → All HasOneReading files → IsPlain fares files history → IsPlain fares files other → history ≡ other
 one_plain fares files history other cuts a b =
     a.entries ∙ ap (λ taps. plain fares (flat_map (λ ts. ts) taps)) (one_list files a.taps b.taps cuts a.each b.each) ∙ sym b.entries
 
@@ -60,7 +60,7 @@ legal_plain fares files history is =
 abbrev pub AllNamed : OutcomeView → Type 0
 AllNamed outcome = (shard : ℕ) (book : Book) → slice_get outcome.books shard ≡ Some book → All IsNamed book.entries
 
-pub stands : (given : Given) (outcome : OutcomeView) (history : List Entry) → 0 < length outcome.books → AllNamed outcome → All HasOneCut given.uploads → (w : IsWholeGathering given.table given.shards given.uploads outcome history)
+pub stands : (given : Given) (outcome : OutcomeView) (history : List Entry) → 0 < length outcome.books → AllNamed outcome → All HasOneReading given.uploads → (w : IsWholeGathering given.table given.shards given.uploads outcome history)
     → Stands given w.works outcome w.plain_is.taps
 stands given outcome history some named cuts w = record {
   gathered = gathered_of given w.works outcome w.headline;
@@ -72,7 +72,7 @@ stands given outcome history some named cuts w = record {
 }
 
 -- the entries of a token in the book of its shard are those of the plain history
-pub same_own : (given : Given) (outcome : OutcomeView) (history : List Entry) → 0 < length outcome.books → AllNamed outcome → All HasOneCut given.uploads → IsWholeGathering given.table given.shards given.uploads outcome history
+pub same_own : (given : Given) (outcome : OutcomeView) (history : List Entry) → 0 < length outcome.books → AllNamed outcome → All HasOneReading given.uploads → IsWholeGathering given.table given.shards given.uploads outcome history
     → (token : Token) (book : Book) → slice_get outcome.books (shard_of_token (bytes_of token) (length outcome.books)) ≡ Some book → own token book.entries ≡ own token history
 same_own given outcome history some named cuts w token book at =
     let S : ℕ → Type 0 = λ n. slice_get outcome.books (shard_of_token (bytes_of token) n) ≡ Some book in
@@ -90,7 +90,7 @@ statement_same fares xs ys token statement same is = record {
 }
 
 -- the text of a token's statement is that over the plain history
-pub same_statement : (given : Given) (outcome : OutcomeView) (history : List Entry) → 0 < length outcome.books → AllNamed outcome → All HasOneCut given.uploads → IsWholeGathering given.table given.shards given.uploads outcome history
+pub same_statement : (given : Given) (outcome : OutcomeView) (history : List Entry) → 0 < length outcome.books → AllNamed outcome → All HasOneReading given.uploads → IsWholeGathering given.table given.shards given.uploads outcome history
     → (token : Token) (text : List ℕ) → IsStatementOf outcome token text ↔ IsStatementOver given.table history token text
 same_statement given outcome history some named cuts w token text = (there, back)
   where

@@ -110,9 +110,9 @@ WasWhole (Refused taps offset fault) = Unit {0}
 WasWhole (Cut taps) = ⊥
 WasWhole Undrawn = ⊥
 
--- a file has one cut into batches at most
-abbrev pub HasOneCut : List ℕ → Type 0
-HasOneCut file =
+-- the file is read as batches in one way at most
+abbrev pub HasOneReading : List ℕ → Type 0
+HasOneReading file =
     (batches others : List (List Tap)) (rest left : List ℕ) → IsFile file batches rest
     → IsFile file others left → (batches ≡ others) × (rest ≡ left)
 

@@ -1,4 +1,4 @@
--- What is posted of an upload: its batches cut into runs, one for each shard that has a tap, in an
+-- What is posted of an upload: the runs of its batches, one for each shard that has a tap, in an
 -- order that is fixed.
 use Rattle.std.specs.Prelude.{◌≡◌, ◌⊎◌, ℕ, zero, suc, ◌+◌, ◌<◌, ◌==◌, List, [], ◌∷◌, ◌++◌, length}
 use Rattle.std.specs.Prelude.{map, filter, take}

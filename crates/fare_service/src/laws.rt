@@ -5,5 +5,5 @@ mod schedules;
 
 pub use places::{posted_taps, posting_order};
 pub use schedules::{
-    cuts, ended_whole, ends, names, plain_history, report, same_texts, statements,
+    ended_whole, ends, names, one_reading_each, plain_history, report, same_texts, statements,
 };

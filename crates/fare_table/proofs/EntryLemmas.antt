@@ -17,7 +17,7 @@ use Rattle.fare_table.specs.Entries.{EntryGives, EntryHas, HasEntry, HasValidato
 use Rattle.fare_table.specs.Fares.{Fares, has_number, mode_at, range_at}
 use Rattle.fare_table.specs.Members.{are_tables, array_at, number_at, of_kind, text_at}
 use Rattle.fare_table.specs.Modes.{mode_named}
-use Rattle.fare_table.specs.Outcome.{Outcome, ◌>>=◌}
+use Rattle.fare_table.specs.OrFault.{OrFault, ◌>>=◌}
 use Rattle.fare_table.specs.Rules.{TableRules, rules_of_tree}
 use Rattle.fare_table.specs.Validators.{is_chain, range_in, range_of, ranges_from, ranges_of}
 use Rattle.fare_table.specs.Validators.{share_number, with_range}
@@ -140,17 +140,17 @@ pub record Reads (modes : List (List ℕ)) (value : Data) (range : ℕ × Span) 
 abbrev pub span_of : ℕ → ℕ → Span
 span_of last mode = record { last = last; mode = mode }
 
-abbrev pub by_mode : ℕ → ℕ → ℕ → Outcome (ℕ × Span)
+abbrev pub by_mode : ℕ → ℕ → ℕ → OrFault (ℕ × Span)
 by_mode first last mode = Ok (first, span_of last mode)
 
-abbrev by_name : List (List ℕ) → ℕ → ℕ → List ℕ → Outcome (ℕ × Span)
+abbrev by_name : List (List ℕ) → ℕ → ℕ → List ℕ → OrFault (ℕ × Span)
 by_name modes first last name = mode_named modes name >>= by_mode first last
 
-abbrev by_last : List (List ℕ) → Members → ℕ → ℕ → Outcome (ℕ × Span)
+abbrev by_last : List (List ℕ) → Members → ℕ → ℕ → OrFault (ℕ × Span)
 by_last modes entry first last =
     text_at (codes "mode") the_key.ModeName entry >>= by_name modes first last
 
-abbrev by_first : List (List ℕ) → Members → ℕ → Outcome (ℕ × Span)
+abbrev by_first : List (List ℕ) → Members → ℕ → OrFault (ℕ × Span)
 by_first modes entry first =
     number_at (codes "last") the_key.Last first 4_294_967_295 entry >>= by_last modes entry first
 
@@ -159,15 +159,15 @@ one_range : (first last mode : ℕ) (range : ℕ × Span) → by_mode first last
 one_range first last mode range is =
     (ap (first_of first) is, ap (last_of last) is, ap (mode_of mode) is)
   where
-    first_of : ℕ → Outcome (ℕ × Span) → ℕ
+    first_of : ℕ → OrFault (ℕ × Span) → ℕ
     first_of d (Ok r) = r.0
     first_of d (Err e) = d
 
-    last_of : ℕ → Outcome (ℕ × Span) → ℕ
+    last_of : ℕ → OrFault (ℕ × Span) → ℕ
     last_of d (Ok r) = r.1.last
     last_of d (Err e) = d
 
-    mode_of : ℕ → Outcome (ℕ × Span) → ℕ
+    mode_of : ℕ → OrFault (ℕ × Span) → ℕ
     mode_of d (Ok r) = r.1.mode
     mode_of d (Err e) = d
 
@@ -223,7 +223,7 @@ pub record Steps (modes : List (List ℕ)) (earlier : List (ℕ × Span)) (value
       ≡ cond (has_number n range) (Some range) (find (has_number n) earlier)
   pub rest : ranges_from modes next more ≡ Ok ranges
 
-abbrev after_range : List (List ℕ) → List (ℕ × Span) → Items → ℕ × Span → Outcome (List (ℕ × Span))
+abbrev after_range : List (List ℕ) → List (ℕ × Span) → Items → ℕ × Span → OrFault (List (ℕ × Span))
 after_range modes earlier more range =
     with_range earlier range >>= (λ ranges. ranges_from modes ranges more)
 
@@ -383,7 +383,7 @@ only modes n earlier (item first more) ranges (suc place) (suc place') value val
     read has at' read' has')
 
 -- ---- the laws
-pub if_ok : {A : Type 0} (b : Bool) (o : Outcome A) (e : TableFault) (a : A)
+pub if_ok : {A : Type 0} (b : Bool) (o : OrFault A) (e : TableFault) (a : A)
     → (if b then o else Err e) ≡ Ok a → o ≡ Ok a
 if_ok true o e a is = is
 if_ok false o e a is = absurd (cc)
@@ -394,7 +394,7 @@ pub record AreRead (modes : List (List ℕ)) (tree : Members) (ranges : List (�
   pub listed : get_member (codes "validators") tree ≡ Some (array items)
   pub read : ranges_from modes [] items ≡ Ok ranges
 
-abbrev pub by_tables : List (List ℕ) → Items → Outcome (List (ℕ × Span))
+abbrev pub by_tables : List (List ℕ) → Items → OrFault (List (ℕ × Span))
 by_tables modes items = if are_tables items then ranges_from modes [] items else Err
     (Kind the_key.Validators)
 

@@ -24,7 +24,7 @@ use Rattle.fare_table.specs.Faults.{members_of, mode_names, needed_rows, pairs, 
 use Rattle.fare_table.specs.Faults.{rows_of_class, texts, value_at, string_of}
 use Rattle.fare_table.specs.Members.{hold_tables, number_at, number_in, of_kind, within}
 use Rattle.fare_table.specs.Modes.{are_mode_names, modes_of, same_name, strings_from}
-use Rattle.fare_table.specs.Outcome.{Outcome, ◌>>=◌}
+use Rattle.fare_table.specs.OrFault.{OrFault, ◌>>=◌}
 use Rattle.fare_table.specs.Transfers.{name_pair, pairs_from, transfers_from, transfers_of}
 use Rattle.fare_table.specs.Transfers.{with_pair}
 use Rattle.fare_table.specs.declared.fault.Key.{Key}
@@ -35,7 +35,7 @@ use Rattle.fare_table.specs.declared.fault.TableFault.TheVariants.{Rider}
 use Rattle.fare_table.specs.declared.terms.Terms.{Terms}
 
 -- ---- rows, one after the other
-abbrev pub fault_in : {A : Type 0} → Outcome A → Option TableFault
+abbrev pub fault_in : {A : Type 0} → OrFault A → Option TableFault
 fault_in o = result_err o
 
 cond_map : (b : Bool) (r : FaultRow) (o : Option FaultRow)
@@ -63,8 +63,8 @@ told_append tree front back =
     ∙ or_map (find (holds tree) front) (find (holds tree) back)
 
 -- two steps, and the rows of the one and of the other
-pub steps : {A B : Type 0} (tree : Members) (o : Outcome A) (f : A
-    → Outcome B) (front back : List FaultRow) → fault_in o ≡ first_row tree front
+pub steps : {A B : Type 0} (tree : Members) (o : OrFault A) (f : A
+    → OrFault B) (front back : List FaultRow) → fault_in o ≡ first_row tree front
     → ((a : A) → o ≡ Ok a → fault_in (f a) ≡ first_row tree back)
     → fault_in (o >>= f) ≡ first_row tree (front ++ back)
 steps tree (Ok a) f front back one two =
@@ -75,7 +75,7 @@ steps tree (Err e) f front back one two =
     ∙ sym (told_append tree front back)
 
 -- a last step that always goes well
-pub done : {A B : Type 0} (o : Outcome A) (f : A → B)
+pub done : {A B : Type 0} (o : OrFault A) (f : A → B)
     → fault_in (o >>= (λ a. Ok (f a))) ≡ fault_in o
 done (Ok a) f = refl
 done (Err e) f = refl
@@ -143,7 +143,7 @@ names_if true names = within_names (are_mode_names names) names
     within_names false names = refl
 names_if false names = refl
 
-abbrev by_names : Items → Outcome (List (List ℕ))
+abbrev by_names : Items → OrFault (List (List ℕ))
 by_names ds = strings_from [] ds
     >>= (λ found. if are_mode_names found then Ok found else Err (Range the_key.Modes))
 
@@ -153,7 +153,7 @@ modes_steps : (o : Option Data)
     ≡ needs o (is_kind the_key.Modes) (is_in_limits the_key.Modes no_members) the_key.Modes
 modes_steps None = refl
 modes_steps (Some (array ds)) =
-    ap (λ (names : Outcome (List (List ℕ))).
+    ap (λ (names : OrFault (List (List ℕ))).
     fault_in (names >>= (λ found.
     if are_mode_names found then Ok found else Err (Range the_key.Modes)))) (strings-read [] ds)
     ∙ names_if (are_texts ds) (texts ds)
@@ -171,7 +171,7 @@ names_known : (o : Option Data) (modes : List (List ℕ))
 names_known None modes is = absurd (cc)
 names_known (Some (array ds)) modes is =
     known (are_texts ds) (texts ds) modes
-    (ap (λ (names : Outcome (List (List ℕ))).
+    (ap (λ (names : OrFault (List (List ℕ))).
     names >>= (λ found. if are_mode_names found then Ok found else Err (Range the_key.Modes)))
     (sym (strings-read [] ds)) ∙ is)
   where
@@ -223,7 +223,7 @@ pairs-read found (item value more) =
 abbrev is_unknown : List (List ℕ) → List ℕ × List ℕ → Bool
 is_unknown modes pair = not (is_mode modes pair.0 && is_mode modes pair.1)
 
-place_if : (from to : Option ℕ) (f : ℕ × ℕ → Outcome (List (ℕ × ℕ))) (rest : Option TableFault)
+place_if : (from to : Option ℕ) (f : ℕ × ℕ → OrFault (List (ℕ × ℕ))) (rest : Option TableFault)
     → ((places : ℕ × ℕ) → fault_in (f places) ≡ rest)
     → fault_in ((ok_or from Mode >>= (λ a. ok_or to Mode >>= (λ b. Ok (a, b)))) >>= f)
     ≡ cond (not (is_some from && is_some to)) (Some Mode) rest
@@ -254,7 +254,7 @@ pairs_if : (b : Bool) (modes : List (List ℕ)) (names : List (List ℕ × List 
 pairs_if true modes names = transfers_tell modes [] names
 pairs_if false modes names = refl
 
-abbrev by_pairs : List (List ℕ) → Items → Outcome (List (ℕ × ℕ))
+abbrev by_pairs : List (List ℕ) → Items → OrFault (List (ℕ × ℕ))
 by_pairs modes ds = pairs_from [] ds >>= (λ names. transfers_from modes [] names)
 
 transfers_steps : (o : Option Data) (modes : List (List ℕ))
@@ -265,7 +265,7 @@ transfers_steps : (o : Option Data) (modes : List (List ℕ))
     (cond (list_any (is_unknown modes) (pairs (items_of o))) (Some Mode) None))
 transfers_steps None modes = refl
 transfers_steps (Some (array ds)) modes =
-    ap (λ (names : Outcome (List (List ℕ × List ℕ))).
+    ap (λ (names : OrFault (List (List ℕ × List ℕ))).
     fault_in (names >>= (λ found. transfers_from modes [] found))) (pairs-read [] ds)
     ∙ pairs_if (are_pairs ds) modes (pairs ds)
 transfers_steps (Some _) modes = refl
@@ -417,7 +417,7 @@ named_fine (member first one more) name value sound at =
     ⊎_elim
     (λ (same : (name ≡ first) × (one ≡ value)).
     subst (λ (v : Data). fault_in (class_in v) ≡ None) same.1
-    (ap (λ (x : Outcome Terms). fault_in x) terms.1))
+    (ap (λ (x : OrFault Terms). fault_in x) terms.1))
     (λ (later : (is_eq (slice_cmp nat_cmp name first) ≡ false)
     × (get_member name more ≡ Some value)). named_fine more name value terms.2 later.1)
     (member-found name first one value more at)

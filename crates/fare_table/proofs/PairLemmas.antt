@@ -9,7 +9,7 @@ use Rattle.std.proofs.lemmas.List.Folds.{list_any-append}
 use Rattle.toml.specs.Data.{Items, Members}
 use Rattle.fare_table.proofs.PartLemmas.{bind_ok, parts}
 use Rattle.fare_table.specs.Members.{array_at}
-use Rattle.fare_table.specs.Outcome.{Outcome, ◌>>=◌}
+use Rattle.fare_table.specs.OrFault.{OrFault, ◌>>=◌}
 use Rattle.fare_table.specs.Rules.{TableRules, rules_of_tree}
 use Rattle.fare_table.specs.Transfers.{has_pair, joins, named_pairs, pairs_from, places_of}
 use Rattle.fare_table.specs.Transfers.{transfers_from, transfers_of, with_pair, ListsPair}
@@ -104,7 +104,7 @@ only pairs f t from to has = only_if (has_pair pairs f t) pairs f t from to has
 
 -- the pairs behind the first one, after it was read
 abbrev after : List (List ℕ) → List (ℕ × ℕ) → List (List ℕ × List ℕ) → ℕ × ℕ
-    → Outcome (List (ℕ × ℕ))
+    → OrFault (List (ℕ × ℕ))
 after modes found more places = transfers_from modes (with_pair found places.0 places.1) more
 
 -- the pairs found stay
@@ -174,7 +174,7 @@ lists modes tree pairs is =
     let named = bind_ok (pairs_from [] read.0) (λ (names : List (List ℕ × List ℕ)).
     transfers_from modes [] names) pairs read.2 in (
       named.0,
-      ap (λ (o : Outcome Items). o >>= (λ items. pairs_from [] items)) read.1 ∙ named.1,
+      ap (λ (o : OrFault Items). o >>= (λ items. pairs_from [] items)) read.1 ∙ named.1,
       named.2,
     )
 

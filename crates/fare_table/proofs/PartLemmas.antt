@@ -3,7 +3,7 @@ use Rattle.std.proofs.Common.{◌≡◌, ℕ, List, Option, Ok, Err, refl, subst
 use Rattle.toml.specs.Data.{Members}
 use Rattle.fare_table.specs.Classes.{classes_of, default_of}
 use Rattle.fare_table.specs.Modes.{modes_of}
-use Rattle.fare_table.specs.Outcome.{Outcome, ◌>>=◌}
+use Rattle.fare_table.specs.OrFault.{OrFault, ◌>>=◌}
 use Rattle.fare_table.specs.Riders.{riders_of}
 use Rattle.fare_table.specs.Rules.{TableRules, rules_of_tree}
 use Rattle.fare_table.specs.Transfers.{transfers_of}
@@ -13,7 +13,7 @@ use Rattle.fare_table.specs.declared.terms.Terms.{Terms}
 use Rattle.fare_table.specs.declared.validators.Span.{Span}
 
 -- two steps that came to an end: the first gave a value, and the second went on with it
-pub bind_ok : {A B : Type 0} (o : Outcome A) (f : A → Outcome B) (b : B) → (o >>= f) ≡ Ok b
+pub bind_ok : {A B : Type 0} (o : OrFault A) (f : A → OrFault B) (b : B) → (o >>= f) ≡ Ok b
     → (a : A) × (o ≡ Ok a) × (f a ≡ Ok b)
 bind_ok (Ok a) f b is = (a, refl, is)
 bind_ok (Err e) f b is = absurd (cc)
@@ -30,7 +30,7 @@ pub record AreParts (tree : Members) (rules : TableRules) : Type 0 where
   pub zone : zone_of tree ≡ Ok rules.zone
 
 abbrev by_zone : Members → List (List ℕ) → List (ℕ × ℕ) → Terms → List (ℕ × Span)
-    → List (List ℕ × Terms) → Option (List ℕ) → Outcome TableRules
+    → List (List ℕ × Terms) → Option (List ℕ) → OrFault TableRules
 by_zone tree modes transfers standard ranges riders zone = Ok (record {
   modes = modes;
   transfers = transfers;
@@ -41,30 +41,30 @@ by_zone tree modes transfers standard ranges riders zone = Ok (record {
 })
 
 abbrev by_riders : Members → List (List ℕ) → List (ℕ × ℕ) → Terms → List (ℕ × Span)
-    → List (List ℕ × Terms) → Outcome TableRules
+    → List (List ℕ × Terms) → OrFault TableRules
 by_riders tree modes transfers standard ranges riders =
     zone_of tree >>= by_zone tree modes transfers standard ranges riders
 
 abbrev by_ranges : Members → List (List ℕ) → List (ℕ × ℕ) → Members → Terms → List (ℕ × Span)
-    → Outcome TableRules
+    → OrFault TableRules
 by_ranges tree modes transfers classes standard ranges =
     riders_of classes tree >>= by_riders tree modes transfers standard ranges
 
-abbrev by_default : Members → List (List ℕ) → List (ℕ × ℕ) → Members → Terms → Outcome TableRules
+abbrev by_default : Members → List (List ℕ) → List (ℕ × ℕ) → Members → Terms → OrFault TableRules
 by_default tree modes transfers classes standard =
     ranges_of modes tree >>= by_ranges tree modes transfers classes standard
 
-abbrev by_classes : Members → List (List ℕ) → List (ℕ × ℕ) → Members → Outcome TableRules
+abbrev by_classes : Members → List (List ℕ) → List (ℕ × ℕ) → Members → OrFault TableRules
 by_classes tree modes transfers classes =
     default_of classes tree >>= by_default tree modes transfers classes
 
-abbrev by_transfers : Members → List (List ℕ) → List (ℕ × ℕ) → Outcome TableRules
+abbrev by_transfers : Members → List (List ℕ) → List (ℕ × ℕ) → OrFault TableRules
 by_transfers tree modes transfers = classes_of tree >>= by_classes tree modes transfers
 
-abbrev by_modes : Members → List (List ℕ) → Outcome TableRules
+abbrev by_modes : Members → List (List ℕ) → OrFault TableRules
 by_modes tree modes = transfers_of modes tree >>= by_transfers tree modes
 
-abbrev outcome_of : TableRules → Outcome TableRules
+abbrev outcome_of : TableRules → OrFault TableRules
 outcome_of rules = Ok rules
 
 same_rules : (one other : TableRules) → outcome_of one ≡ outcome_of other → one ≡ other

@@ -22,7 +22,7 @@ use Rattle.fare_table.specs.Classes.{classes_of, default_of, is_empty}
 use Rattle.fare_table.specs.Fares.{Fares, terms_at}
 use Rattle.fare_table.specs.Members.{hold_strings, hold_tables, number_at, of_kind, table_at}
 use Rattle.fare_table.specs.Members.{text_at}
-use Rattle.fare_table.specs.Outcome.{Outcome, ◌>>=◌}
+use Rattle.fare_table.specs.OrFault.{OrFault, ◌>>=◌}
 use Rattle.fare_table.specs.Paying.{HasTerms, IsCeiling, IsClassOf, NamesRider, Pays}
 use Rattle.fare_table.specs.Riders.{is_rider, rider_of, riders_from, riders_at, riders_of}
 use Rattle.fare_table.specs.Riders.{token_of_digits, with_rider}
@@ -156,24 +156,24 @@ pub record ReadsRider (classes : Members) (key : List ℕ) (value : Data) (rider
   pub is : value ≡ string class
   pub terms : class_named classes class ≡ Ok rider.1
 
-abbrev pub by_class : List ℕ → Terms → Outcome (List ℕ × Terms)
+abbrev pub by_class : List ℕ → Terms → OrFault (List ℕ × Terms)
 by_class token terms = Ok (token, terms)
 
-abbrev by_text : Members → List ℕ → List ℕ → Outcome (List ℕ × Terms)
+abbrev by_text : Members → List ℕ → List ℕ → OrFault (List ℕ × Terms)
 by_text classes token name = class_named classes name >>= by_class token
 
-abbrev by_token : Members → Data → List ℕ → Outcome (List ℕ × Terms)
+abbrev by_token : Members → Data → List ℕ → OrFault (List ℕ × Terms)
 by_token classes value token = of_kind the_key.Riders (as_str value) >>= by_text classes token
 
 same_rider : (token : List ℕ) (terms : Terms) (rider : List ℕ × Terms)
     → by_class token terms ≡ Ok rider → (token ≡ rider.0) × (terms ≡ rider.1)
 same_rider token terms rider is = (ap (token_in token) is, ap (terms_in terms) is)
   where
-    token_in : List ℕ → Outcome (List ℕ × Terms) → List ℕ
+    token_in : List ℕ → OrFault (List ℕ × Terms) → List ℕ
     token_in d (Ok r) = r.0
     token_in d (Err e) = d
 
-    terms_in : Terms → Outcome (List ℕ × Terms) → Terms
+    terms_in : Terms → OrFault (List ℕ × Terms) → Terms
     terms_in d (Ok r) = r.1
     terms_in d (Err e) = d
 
@@ -204,7 +204,7 @@ pub record StepsRider (classes : Members) (earlier : List (List ℕ × Terms)) (
   pub rest : riders_from classes next more ≡ Ok riders
 
 abbrev pub after_rider : Members → List (List ℕ × Terms) → Members → List ℕ × Terms
-    → Outcome (List (List ℕ × Terms))
+    → OrFault (List (List ℕ × Terms))
 after_rider classes earlier more rider =
     with_rider earlier rider.0 rider.1 >>= (λ riders. riders_from classes riders more)
 
@@ -409,14 +409,14 @@ one_key classes token earlier (member first value more) riders key key' class cl
 abbrev pub terms_by : ℕ → ℕ → ℕ → Terms
 terms_by fare rides ceiling = record { fare = fare; rides = rides; ceiling = ceiling }
 
-abbrev by_ceiling : ℕ → ℕ → ℕ → Outcome Terms
+abbrev by_ceiling : ℕ → ℕ → ℕ → OrFault Terms
 by_ceiling fare rides ceiling = Ok (terms_by fare rides ceiling)
 
-abbrev by_rides : Members → ℕ → ℕ → Outcome Terms
+abbrev by_rides : Members → ℕ → ℕ → OrFault Terms
 by_rides entry fare rides =
     ceiling_of (rides * fare) (get_member (codes "ceiling") entry) >>= by_ceiling fare rides
 
-abbrev by_fare : Members → ℕ → Outcome Terms
+abbrev by_fare : Members → ℕ → OrFault Terms
 by_fare entry fare = number_at (codes "rides") the_key.Rides 1 1_000 entry >>= by_rides entry fare
 
 is_ceiling : (price : ℕ) (value : Option Data) (ceiling : ℕ) → ceiling_of price value ≡ Ok ceiling
@@ -474,26 +474,26 @@ named_terms classes class terms is =
     entry_terms classes entry.0 class terms (value_found (get_member class classes) value.0 value.1
     ∙ ap (λ (d : Data). Some d) (is_table value.0 the_key.Classes entry.0 entry.1)) entry.2
 
-abbrev pub by_check : Members → Unit {0} → Outcome Members
+abbrev pub by_check : Members → Unit {0} → OrFault Members
 by_check some sound = Ok some
 
-abbrev pub by_some : Members → Outcome Members
+abbrev pub by_some : Members → OrFault Members
 by_some some = checked some >>= by_check some
 
-abbrev pub by_tables : Members → Members → Outcome Members
+abbrev pub by_tables : Members → Members → OrFault Members
 by_tables tree tables = (if is_empty tables then Err (Range the_key.Classes) else Ok tables)
     >>= by_some
 
-abbrev pub by_table : Members → Members → Outcome Members
+abbrev pub by_table : Members → Members → OrFault Members
 by_table tree classes = (if hold_tables classes then Ok classes else Err (Kind the_key.Classes))
     >>= by_tables tree
 
-if_else : {A : Type 0} (b : Bool) (o : Outcome A) (e : TableFault) (a : A)
+if_else : {A : Type 0} (b : Bool) (o : OrFault A) (e : TableFault) (a : A)
     → (if b then Err e else o) ≡ Ok a → o ≡ Ok a
 if_else true o e a is = absurd (cc)
 if_else false o e a is = is
 
-abbrev sound : Members → Outcome Members
+abbrev sound : Members → OrFault Members
 sound classes = Ok classes
 
 same_ok : (one other : Members) → sound one ≡ sound other → one ≡ other
@@ -594,7 +594,7 @@ one_terms tree class terms terms' one two =
     ceiling
 
 -- ---- the laws
-abbrev pub by_strings : Members → Members → Outcome (List (List ℕ × Terms))
+abbrev pub by_strings : Members → Members → OrFault (List (List ℕ × Terms))
 by_strings classes text =
     if hold_strings text then riders_from classes [] text else Err (Kind the_key.Riders)
 
@@ -662,7 +662,7 @@ came_from classes tree riders token terms are at = ⊎_elim
     (came classes token [] some.0 riders terms some.2 at))
     are
 
-abbrev by_name : Members → List ℕ → Outcome Terms
+abbrev by_name : Members → List ℕ → OrFault Terms
 by_name classes name = class_named classes name
 
 default_named : (classes tree : Members) (terms : Terms) → default_of classes tree ≡ Ok terms

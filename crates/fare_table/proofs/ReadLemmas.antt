@@ -8,7 +8,7 @@ use Rattle.toml.specs.Data.{Data, Items, Members, string, integer, array, table,
 use Rattle.toml.specs.Data.{as_table, get_member}
 use Rattle.fare_table.specs.Members.{array_at, number_at, number_in, of_kind, table_at, text_at}
 use Rattle.fare_table.specs.Members.{within}
-use Rattle.fare_table.specs.Outcome.{◌>>=◌}
+use Rattle.fare_table.specs.OrFault.{◌>>=◌}
 use Rattle.fare_table.specs.declared.fault.Key.{Key}
 use Rattle.fare_table.specs.declared.fault.TableFault.TheVariants.{Missing, Range}
 

@@ -36,7 +36,7 @@ use Rattle.fare_table.specs.Faults.{riders_in, rows, rows_of_range, is_token, sh
 use Rattle.fare_table.specs.Faults.{token_at, value_at, string_of}
 use Rattle.fare_table.specs.Members.{are_tables, hold_strings, number_at, of_kind}
 use Rattle.fare_table.specs.Modes.{mode_named, modes_of, same_name}
-use Rattle.fare_table.specs.Outcome.{Outcome, ◌>>=◌}
+use Rattle.fare_table.specs.OrFault.{OrFault, ◌>>=◌}
 use Rattle.fare_table.specs.Riders.{is_rider, rider_of, riders_from, riders_of, token_of_digits}
 use Rattle.fare_table.specs.Riders.{with_rider}
 use Rattle.fare_table.specs.Riders as riders
@@ -68,7 +68,7 @@ place_tells : (o : Option ℕ) (first last : ℕ)
 place_tells None first last = refl
 place_tells (Some n) first last = refl
 
-abbrev by_word : List (List ℕ) → ℕ → ℕ → List ℕ → Outcome (ℕ × Span)
+abbrev by_word : List (List ℕ) → ℕ → ℕ → List ℕ → OrFault (ℕ × Span)
 by_word modes first last name = mode_named modes name >>= by_mode first last
 
 abbrev mode_need : Option Data → List (List ℕ) → Option TableFault
@@ -160,7 +160,7 @@ abbrev StandItems : Items → ℕ → Items → Type 0
 StandItems whole n part = (k j : ℕ) → j ≡ n + k → get_item j whole ≡ get_item k part
 
 overlap_if : (b : Bool) (next : List (ℕ × Span)) (f : List (ℕ × Span)
-    → Outcome (List (ℕ × Span))) (rest : Option TableFault) → (b ≡ false → fault_in (f next) ≡ rest)
+    → OrFault (List (ℕ × Span))) (rest : Option TableFault) → (b ≡ false → fault_in (f next) ≡ rest)
     → fault_in ((if b then Err Overlap else Ok next) >>= f) ≡ cond b (Some Overlap) rest
 overlap_if true next f rest same = refl
 overlap_if false next f rest same = same refl
@@ -299,15 +299,15 @@ before_next tree n earlier token terms at free are other =
     is_token other o || is_earlier (λ place. is_token other (token_at tree place)) n) (sym at)
 
 again_if : (b : Bool) (next : List (List ℕ × Terms)) (f : List (List ℕ × Terms)
-    → Outcome (List (List ℕ × Terms))) (rest : Option TableFault)
+    → OrFault (List (List ℕ × Terms))) (rest : Option TableFault)
     → (b ≡ false → fault_in (f next) ≡ rest)
     → fault_in ((if b then Err Rider else Ok next) >>= f) ≡ cond b (Some Rider) rest
 again_if true next f rest same = refl
 again_if false next f rest same = same refl
 
 -- a class that is there, and then the rest
-class_if : (o : Outcome Terms) (b c : Bool) (f : Terms
-    → Outcome (List (List ℕ × Terms))) (rest : Option TableFault)
+class_if : (o : OrFault Terms) (b c : Bool) (f : Terms
+    → OrFault (List (List ℕ × Terms))) (rest : Option TableFault)
     → fault_in o ≡ cond b (Some Rider) None
     → ((terms : Terms) → fault_in (f terms) ≡ cond c (Some Rider) rest)
     → fault_in (o >>= f) ≡ cond (b || c) (Some Rider) rest
@@ -316,7 +316,7 @@ class_if (Ok terms) false c f rest first same = same terms
 class_if (Err e) true c f rest first same = first
 class_if (Err e) false c f rest first same = absurd (cc)
 
-assoc : (o : Outcome Terms) (token : List ℕ) (f : List ℕ × Terms → Outcome (List (List ℕ × Terms)))
+assoc : (o : OrFault Terms) (token : List ℕ) (f : List ℕ × Terms → OrFault (List (List ℕ × Terms)))
     → fault_in ((o >>= (λ terms. Ok (token, terms))) >>= f)
     ≡ fault_in (o >>= (λ terms. f (token, terms)))
 assoc (Ok terms) token f = refl
@@ -325,7 +325,7 @@ assoc (Err e) token f = refl
 -- the token, then the class, then whether an earlier key names it
 rider_if : (o : Option (List ℕ)) (classes : Members) (name : List ℕ) (earlier : List (List ℕ
     × Terms)) (again : List ℕ → Bool) (f : List (List ℕ × Terms)
-    → Outcome (List (List ℕ × Terms))) (rest : Option TableFault)
+    → OrFault (List (List ℕ × Terms))) (rest : Option TableFault)
     → checked classes ≡ Ok tt
     → ((token : List ℕ) (terms : Terms) → o ≡ Some token → is_rider earlier token ≡ false
     → fault_in (f (insert_entry (slice_cmp nat_cmp) earlier token terms)) ≡ rest)
@@ -468,11 +468,11 @@ text_tells : (o : Option Members)
 text_tells None = refl
 text_tells (Some tree) = rules-told tree
 
-told_fault : {A : Type 0} (o : Outcome A) (fault : TableFault) → (o ≡ Err fault)
+told_fault : {A : Type 0} (o : OrFault A) (fault : TableFault) → (o ≡ Err fault)
     ↔ (fault_in o ≡ Some fault)
 told_fault {A} (Ok a) fault = (λ is. absurd (cc), λ is. absurd (cc))
 told_fault {A} (Err e) fault = (
-  λ is. ap (λ (x : Outcome A). fault_in x) is,
+  λ is. ap (λ (x : OrFault A). fault_in x) is,
   λ is. let same : e ≡ fault = cc in ap (λ (f : TableFault). Err f) same,
 )
 
@@ -483,9 +483,9 @@ first-row text fault =
     let told = text_tells (parse_document text) in
     (λ is. sym told ∙ both.0 is, λ is. both.1 (told ∙ is))
 
-told_none : {A : Type 0} (o : Outcome A) → ((a : A) × (o ≡ Ok a)) ↔ (fault_in o ≡ None)
+told_none : {A : Type 0} (o : OrFault A) → ((a : A) × (o ≡ Ok a)) ↔ (fault_in o ≡ None)
 told_none {A} (Ok a) = (λ is. refl, λ is. (a, refl))
-told_none {A} (Err e) = (λ is. ap (λ (x : Outcome A). fault_in x) is.1, λ is. absurd (cc))
+told_none {A} (Err e) = (λ is. ap (λ (x : OrFault A). fault_in x) is.1, λ is. absurd (cc))
 
 pub no-row : (text : List ℕ) → ((rules : TableRules) × (rules_in text ≡ Ok rules))
     ↔ (first_fault (parse_document text) ≡ None)

@@ -13,7 +13,7 @@ use Rattle.fare_table.specs.Classes.{classes_of, default_of, is_empty}
 use Rattle.fare_table.specs.Members.{are_tables, array_at, hold_strings, hold_tables, needed}
 use Rattle.fare_table.specs.Members.{number_at, number_in, of_kind, table_at, text_at, within}
 use Rattle.fare_table.specs.Modes.{are_mode_names, mode_named, modes_of, strings_from}
-use Rattle.fare_table.specs.Outcome.{Outcome, ◌>>=◌}
+use Rattle.fare_table.specs.OrFault.{OrFault, ◌>>=◌}
 use Rattle.fare_table.specs.Riders.{rider_of, riders_from, riders_at, riders_of, token_of_digits}
 use Rattle.fare_table.specs.Riders.{with_rider}
 use Rattle.fare_table.specs.Rules.{rules_of_tree}
@@ -29,7 +29,7 @@ use Rattle.fare_table.specs.declared.terms.Terms.{Terms}
 use Rattle.fare_table.specs.declared.validators.Span.{Span}
 
 -- the outcome is not the text fault
-abbrev pub NotText : {A : Type 0} → Outcome A → Type 0
+abbrev pub NotText : {A : Type 0} → OrFault A → Type 0
 NotText o = o ≢ Err the_fault.Text
 
 an_ok : {A : Type 0} (x : A) → NotText (Ok x)
@@ -38,7 +38,7 @@ an_ok x is = cc
 another : {A : Type 0} (fault : TableFault) → fault ≢ the_fault.Text → NotText {A = A} (Err fault)
 another fault other is = other cc
 
-steps : {A B : Type 0} (o : Outcome A) (f : A → Outcome B) → NotText o → ((x : A) → NotText (f x))
+steps : {A B : Type 0} (o : OrFault A) (f : A → OrFault B) → NotText o → ((x : A) → NotText (f x))
     → NotText (o >>= f)
 steps (Ok x) f first rest = rest x
 steps (Err e) f first rest = λ is. let same : e ≡ the_fault.Text = cc in
@@ -49,7 +49,7 @@ a_part : {A : Type 0} (part : Option A) (fault : TableFault) → fault ≢ the_f
 a_part None fault other = another fault other
 a_part (Some x) fault other = an_ok x
 
-a_choice : {A : Type 0} (b : Bool) (x y : Outcome A) → NotText x → NotText y
+a_choice : {A : Type 0} (b : Bool) (x y : OrFault A) → NotText x → NotText y
     → NotText (if b then x else y)
 a_choice true x y first second = first
 a_choice false x y first second = second

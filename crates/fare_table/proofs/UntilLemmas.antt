@@ -1,4 +1,4 @@
--- The civil limit as a function, and that it is later than the start.
+-- The civil window end as a function, and that it is later than the start.
 use Rattle.std.proofs.Common.{◌≡◌, ◌∙◌, ℕ, ℤ, pos, ◌*◌, ◌<◌, ◌+ℤ◌, ◌-ℤ◌, ◌*ℤ◌, ◌≤ℤ◌, neg_ℤ, negsuc}
 use Rattle.std.proofs.Common.{Option, Some, None, refl, sym, ap, arith, w64, to_z, of_z, FitsSigned}
 use Rattle.std.specs.Int.{int_div_euclid}
@@ -15,7 +15,7 @@ use Rattle.jiff_tz.specs.PosixRule as rule
 use Rattle.jiff_tz.specs.Year.{year_of_day}
 use Rattle.jiff_tz.specs.declared.posix.Dst.{Dst}
 use Rattle.jiff_tz.specs.declared.posix.TimeZone.{TimeZone as PosixRule}
-use Rattle.fare_table.specs.Until.{IsCivilLimit, IsLimit, civil_limit, day_at, limit_in}
+use Rattle.fare_table.specs.Until.{IsCivilWindowEnd, IsWindowEnd, civil_window_end, day_at, window_end_in}
 use Rattle.fare_table.specs.Until.{midnight_instant, midnight_nanos, midnight_offset, moment_nanos}
 use Rattle.fare_table.specs.Until.{offsets_by, until}
 use Rattle.fare_table.specs.Fares.{Fares}
@@ -49,26 +49,26 @@ unfolding offset_at
 shown-day zone start dt shows =
     epoch_day-civil_nanos dt ∙ ap (λ n. int_div_euclid n (pos 86_400_000_000_000)) shows
 
-whole_millis : (limit : ℕ) (instant : ℤ) → pos (limit * 1_000_000) ≡ instant
-    → limit ≡ unsigned_abs (int_div instant (pos 1_000_000))
-whole_millis limit instant same = omega (arith, signed_arith)
+whole_millis : (window_end : ℕ) (instant : ℤ) → pos (window_end * 1_000_000) ≡ instant
+    → window_end ≡ unsigned_abs (int_div instant (pos 1_000_000))
+whole_millis window_end instant same = omega (arith, signed_arith)
 
--- the civil limit is the one that the function gives
-pub civil_limit-is : (zone : PosixRule) (start limit : ℕ) → IsCivilLimit (Posix zone) start limit
-    → limit ≡ civil_limit zone start
-unfolding civil_limit
-civil_limit-is zone start limit is =
+-- the civil window end is the one that the function gives
+pub civil_window_end-is : (zone : PosixRule) (start window_end : ℕ) → IsCivilWindowEnd (Posix zone) start window_end
+    → window_end ≡ civil_window_end zone start
+unfolding civil_window_end
+civil_window_end-is zone start window_end is =
     let day : epoch_day is.midnight.date ≡ day_at zone (moment_nanos start) +ℤ pos 7 =
     is.date ∙ ap (λ d. d +ℤ pos 7) (shown-day zone start is.shown is.shows) in
-    let at : moment_nanos limit
+    let at : moment_nanos window_end
     ≡ midnight_instant zone (day_at zone (moment_nanos start) +ℤ pos 7) =
     is.at ∙ picked-midnight zone is.midnight is.time ∙ ap (λ d. midnight_instant zone d) day in
-    whole_millis limit (midnight_instant zone (day_at zone (moment_nanos start) +ℤ pos 7)) at
+    whole_millis window_end (midnight_instant zone (day_at zone (moment_nanos start) +ℤ pos 7)) at
 
-pub until-is : (zone : Option PosixRule) (start limit : ℕ) → IsLimit zone start limit
-    → limit ≡ limit_in zone start
-until-is None start limit is = is
-until-is (Some zone) start limit is = civil_limit-is zone start limit is
+pub until-is : (zone : Option PosixRule) (start window_end : ℕ) → IsWindowEnd zone start window_end
+    → window_end ≡ window_end_in zone start
+until-is None start window_end is = is
+until-is (Some zone) start window_end is = civil_window_end-is zone start window_end is
 
 -- offsets of less than 26 hours move a midnight of the seventh day by less than six days
 week-later : (start : ℕ) (shown later : Offset) → start < 4_102_444_800_000
@@ -79,17 +79,17 @@ week-later : (start : ℕ) (shown later : Offset) → start < 4_102_444_800_000
 week-later start shown later below = omega (arith, signed_arith, shown.in_range, later.in_range)
 
 -- a window ends after it starts
-pub limit_in-later : (zone : Option PosixRule) (start : ℕ) → start < 4_102_444_800_000
-    → start < limit_in zone start
-unfolding civil_limit
-limit_in-later None start below = omega arith
-limit_in-later (Some zone) start below =
+pub window_end_in-later : (zone : Option PosixRule) (start : ℕ) → start < 4_102_444_800_000
+    → start < window_end_in zone start
+unfolding civil_window_end
+window_end_in-later None start below = omega arith
+window_end_in-later (Some zone) start below =
     week-later start (rule.offset_at zone (moment_nanos start))
     (midnight_offset zone (day_at zone (moment_nanos start) +ℤ pos 7)) below
 
 pub until-later : (fares : Fares) (start : ℕ) → start < 4_102_444_800_000
     → start < until fares start
-until-later fares start below = limit_in-later fares.zone start below
+until-later fares start below = window_end_in-later fares.zone start below
 
 -- the date that clocks show is near the start's
 pub shown_low : (start : ℕ) (offset : Offset) (instant : ℤ) (dt : DateTime)
@@ -106,7 +106,7 @@ shown_high start offset instant dt below at shows =
 
 -- the midnight of the seventh day is a whole number of milliseconds, later than the start and far
 -- from the end of a word
-pub record IsWholeLimit (start : ℕ) (instant : ℤ) : Type 0 where
+pub record IsWholeWindowEnd (start : ℕ) (instant : ℤ) : Type 0 where
   pub millis : ℕ
   pub whole : instant ≡ pos (millis * 1_000_000)
   pub later : start < millis
@@ -116,12 +116,12 @@ as_number : (z : ℤ) → pos 0 ≤ℤ z → (n : ℕ) × (z ≡ pos n)
 as_number (pos n) low = (n, refl)
 as_number (negsuc n) low = absurd (omega (arith, signed_arith))
 
-pub whole_limit : (start : ℕ) (shown offset : Offset) (instant : ℤ) (dt midnight : DateTime)
+pub whole_window_end : (start : ℕ) (shown offset : Offset) (instant : ℤ) (dt midnight : DateTime)
     → start < 4_102_444_800_000 → instant ≡ moment_nanos start
     → civil_nanos dt ≡ instant +ℤ nanos_of_seconds shown.seconds
     → epoch_day midnight.date ≡ epoch_day dt.date +ℤ pos 7 → time_nanos midnight.time ≡ 0
-    → IsWholeLimit start (civil_nanos midnight -ℤ nanos_of_seconds offset.seconds)
-whole_limit start shown offset instant dt midnight below at shows date time =
+    → IsWholeWindowEnd start (civil_nanos midnight -ℤ nanos_of_seconds offset.seconds)
+whole_window_end start shown offset instant dt midnight below at shows date time =
     let z : ℤ = epoch_day midnight.date *ℤ pos 86_400_000 -ℤ offset.seconds *ℤ pos 1_000 in
     let low : pos 0 ≤ℤ (epoch_day midnight.date *ℤ pos 86_400_000 -ℤ offset.seconds *ℤ pos 1_000) =
     omega (
@@ -159,28 +159,28 @@ whole_limit start shown offset instant dt midnight below at shows date time =
     }
 
 -- so it is an instant, and its milliseconds are that number
-pub is_instant : (start : ℕ) (instant : ℤ) → IsWholeLimit start instant → IsTimestampNanos instant
-is_instant start instant limit =
-    rw limit.whole (
-      omega (arith, signed_arith, limit.small),
-      omega (arith, signed_arith, limit.small),
+pub is_instant : (start : ℕ) (instant : ℤ) → IsWholeWindowEnd start instant → IsTimestampNanos instant
+is_instant start instant window_end =
+    rw window_end.whole (
+      omega (arith, signed_arith, window_end.small),
+      omega (arith, signed_arith, window_end.small),
     )
 
-pub in_millis : (start : ℕ) (instant millis : ℤ) (limit : IsWholeLimit start instant)
-    → millis ≡ int_div instant (pos 1_000_000) → millis ≡ pos limit.millis
-in_millis start instant millis limit is =
-    is ∙ ap (λ n. int_div n (pos 1_000_000)) limit.whole ∙ omega (arith, signed_arith)
+pub in_millis : (start : ℕ) (instant millis : ℤ) (window_end : IsWholeWindowEnd start instant)
+    → millis ≡ int_div instant (pos 1_000_000) → millis ≡ pos window_end.millis
+in_millis start instant millis window_end is =
+    is ∙ ap (λ n. int_div n (pos 1_000_000)) window_end.whole ∙ omega (arith, signed_arith)
 
 -- the same of the midnight that a zone picks
-pub picked_limit : (zone : TimeZone) (start : ℕ) (shown : Offset) (instant : ℤ)
+pub picked_window_end : (zone : TimeZone) (start : ℕ) (shown : Offset) (instant : ℤ)
     (dt midnight : DateTime) (date later : Date) → start < 4_102_444_800_000
     → instant ≡ moment_nanos start
     → civil_nanos dt ≡ instant +ℤ nanos_of_seconds shown.seconds → date ≡ dt.date
     → epoch_day later ≡ epoch_day date +ℤ pos 7 → (midnight.date ≡ later)
     × (time_nanos midnight.time ≡ 0)
-    → IsWholeLimit start (picked_instant zone midnight)
-picked_limit zone start shown instant dt midnight date later below at shows is seven is_midnight =
-    whole_limit start shown (compatible_offset (ambiguous_at zone midnight)) instant dt midnight
+    → IsWholeWindowEnd start (picked_instant zone midnight)
+picked_window_end zone start shown instant dt midnight date later below at shows is seven is_midnight =
+    whole_window_end start shown (compatible_offset (ambiguous_at zone midnight)) instant dt midnight
     below at shows
     (ap epoch_day is_midnight.0 ∙ seven ∙ ap (λ d. epoch_day d +ℤ pos 7) is) is_midnight.1
 

@@ -4,18 +4,18 @@ use Rattle.std.specs.Prelude.{if◌then◌else◌}
 use Rattle.std.specs.Option.{ok_or}
 use Rattle.toml.specs.Data.{Data, Members, no_members, member, get_member, as_table}
 use Rattle.fare_table.specs.Members.{number_at, number_in, of_kind, table_at, text_at, hold_tables}
-use Rattle.fare_table.specs.Outcome.{Outcome, ◌>>=◌}
+use Rattle.fare_table.specs.OrFault.{OrFault, ◌>>=◌}
 use Rattle.fare_table.specs.declared.fault.Key.TheVariants as the_key
 use Rattle.fare_table.specs.declared.fault.TableFault.TheVariants.{Kind, Range, Rider}
 use Rattle.fare_table.specs.declared.terms.Terms.{Terms}
 
 -- the ceiling that is named, else the price of all rides
-abbrev pub ceiling_of : ℕ → Option Data → Outcome ℕ
+abbrev pub ceiling_of : ℕ → Option Data → OrFault ℕ
 ceiling_of price None = Ok price
 ceiling_of price (Some value) = number_in the_key.Ceiling 1 100_000_000 value
 
 -- the terms of a class: its fare, its rides and its ceiling, within their limits
-unfoldable pub class_of : Members → Outcome Terms
+unfoldable pub class_of : Members → OrFault Terms
 class_of entry = do
   fare ← number_at (codes "fare") the_key.Fare 1 100_000 entry
   rides ← number_at (codes "rides") the_key.Rides 1 1_000 entry
@@ -27,13 +27,13 @@ class_of entry = do
   })
 
 -- the terms of a value that is a table
-abbrev pub class_in : Data → Outcome Terms
+abbrev pub class_in : Data → OrFault Terms
 class_in value = do
   entry ← of_kind the_key.Classes (as_table value)
   class_of entry
 
 -- the first fault of the classes, class by class
-abbrev pub checked : Members → Outcome (Unit {0})
+abbrev pub checked : Members → OrFault (Unit {0})
 checked no_members = Ok tt
 checked (member name value more) = do
   terms ← class_in value
@@ -45,7 +45,7 @@ is_empty no_members = true
 is_empty (member name value more) = false
 
 -- the classes as a table of the text, each with terms
-unfoldable pub classes_of : Members → Outcome Members
+unfoldable pub classes_of : Members → OrFault Members
 classes_of tree = do
   classes ← table_at (codes "classes") the_key.Classes tree
   tables ← if hold_tables classes then Ok classes else Err (Kind the_key.Classes)
@@ -54,13 +54,13 @@ classes_of tree = do
   Ok some
 
 -- the terms of the class of this name
-abbrev pub class_named : Members → List ℕ → Outcome Terms
+abbrev pub class_named : Members → List ℕ → OrFault Terms
 class_named classes name = do
   value ← ok_or (get_member name classes) Rider
   class_in value
 
 -- the terms of the class that `default_class` names
-unfoldable pub default_of : Members → Members → Outcome Terms
+unfoldable pub default_of : Members → Members → OrFault Terms
 default_of classes tree = do
   name ← text_at (codes "default_class") the_key.DefaultClass tree
   class_named classes name

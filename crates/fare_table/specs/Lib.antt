@@ -7,7 +7,7 @@ pub mod Key
 pub mod Marks
 pub mod Members
 pub mod Modes
-pub mod Outcome
+pub mod OrFault
 pub mod Paying
 pub mod PosixRule
 pub mod Riders

@@ -5,50 +5,50 @@ use Rattle.std.specs.Option.{is_some}
 use Rattle.std.specs.Option.{ok_or}
 use Rattle.toml.specs.Data.{Data, Items, no_items, item, Members, no_members, member, get_member}
 use Rattle.toml.specs.Data.{as_str, as_integer, as_array, as_table}
-use Rattle.fare_table.specs.Outcome.{Outcome, ◌>>=◌}
+use Rattle.fare_table.specs.OrFault.{OrFault, ◌>>=◌}
 use Rattle.fare_table.specs.declared.fault.Key.{Key}
 use Rattle.fare_table.specs.declared.fault.TableFault.TheVariants.{Missing, Kind, Range}
 
 -- the value at a key that has to be there
-abbrev pub needed : List ℕ → Key → Members → Outcome Data
+abbrev pub needed : List ℕ → Key → Members → OrFault Data
 needed name key tree = ok_or (get_member name tree) (Missing key)
 
 -- a part of a value that is to be of one kind
-abbrev pub of_kind : {A : Type 0} → Key → Option A → Outcome A
+abbrev pub of_kind : {A : Type 0} → Key → Option A → OrFault A
 of_kind key part = ok_or part (Kind key)
 
 -- the number, where it lies from `low` to `high`
-abbrev pub within : Key → ℕ → ℕ → ℤ → Outcome ℕ
+abbrev pub within : Key → ℕ → ℕ → ℤ → OrFault ℕ
 within key low high number =
     if int_le (pos low) number && int_le number (pos high) then Ok (unsigned_abs number)
     else Err (Range key)
 
 -- the string at a key that has to be there
-abbrev pub text_at : List ℕ → Key → Members → Outcome (List ℕ)
+abbrev pub text_at : List ℕ → Key → Members → OrFault (List ℕ)
 text_at name key tree = do
   value ← needed name key tree
   of_kind key (as_str value)
 
 -- the array at a key that has to be there
-abbrev pub array_at : List ℕ → Key → Members → Outcome Items
+abbrev pub array_at : List ℕ → Key → Members → OrFault Items
 array_at name key tree = do
   value ← needed name key tree
   of_kind key (as_array value)
 
 -- the table at a key that has to be there
-abbrev pub table_at : List ℕ → Key → Members → Outcome Members
+abbrev pub table_at : List ℕ → Key → Members → OrFault Members
 table_at name key tree = do
   value ← needed name key tree
   of_kind key (as_table value)
 
 -- the value as a number from `low` to `high`
-abbrev pub number_in : Key → ℕ → ℕ → Data → Outcome ℕ
+abbrev pub number_in : Key → ℕ → ℕ → Data → OrFault ℕ
 number_in key low high value = do
   number ← of_kind key (as_integer value)
   within key low high number
 
 -- the number from `low` to `high` at a key that has to be there
-abbrev pub number_at : List ℕ → Key → ℕ → ℕ → Members → Outcome ℕ
+abbrev pub number_at : List ℕ → Key → ℕ → ℕ → Members → OrFault ℕ
 number_at name key low high tree = do
   value ← needed name key tree
   number_in key low high value

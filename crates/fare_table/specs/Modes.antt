@@ -7,12 +7,12 @@ use Rattle.std.specs.List.{list_all, list_any}
 use Rattle.std.specs.Option.{ok_or}
 use Rattle.toml.specs.Data.{Items, no_items, item, Members, as_str}
 use Rattle.fare_table.specs.Members.{array_at, of_kind}
-use Rattle.fare_table.specs.Outcome.{Outcome, ◌>>=◌}
+use Rattle.fare_table.specs.OrFault.{OrFault, ◌>>=◌}
 use Rattle.fare_table.specs.declared.fault.Key.TheVariants.{Modes}
 use Rattle.fare_table.specs.declared.fault.TableFault.TheVariants.{Range, Mode}
 
 -- the strings found and those of the items
-abbrev pub strings_from : List (List ℕ) → Items → Outcome (List (List ℕ))
+abbrev pub strings_from : List (List ℕ) → Items → OrFault (List (List ℕ))
 strings_from found no_items = Ok found
 strings_from found (item value more) =
     of_kind Modes (as_str value) >>= (λ name. strings_from (found ++ name ∷ []) more)
@@ -38,12 +38,12 @@ are_mode_names names =
     && are_distinct names
 
 -- the names of the modes that the text lists
-unfoldable pub modes_of : Members → Outcome (List (List ℕ))
+unfoldable pub modes_of : Members → OrFault (List (List ℕ))
 modes_of tree = do
   items ← array_at (codes "modes") Modes tree
   names ← strings_from [] items
   if are_mode_names names then Ok names else Err (Range Modes)
 
 -- the place of the mode of this name
-abbrev pub mode_named : List (List ℕ) → List ℕ → Outcome ℕ
+abbrev pub mode_named : List (List ℕ) → List ℕ → OrFault ℕ
 mode_named modes name = ok_or (position (same_name name) modes) Mode

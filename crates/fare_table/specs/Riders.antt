@@ -11,13 +11,13 @@ use Rattle.hex.specs.Hex.{decode_sized}
 use Rattle.toml.specs.Data.{Data, Members, no_members, member, get_member, as_str, as_table}
 use Rattle.fare_table.specs.Classes.{class_named}
 use Rattle.fare_table.specs.Members.{of_kind, hold_strings}
-use Rattle.fare_table.specs.Outcome.{Outcome, ◌>>=◌}
+use Rattle.fare_table.specs.OrFault.{OrFault, ◌>>=◌}
 use Rattle.fare_table.specs.declared.fault.Key.TheVariants as the_key
 use Rattle.fare_table.specs.declared.fault.TableFault.TheVariants.{Kind, Rider}
 use Rattle.fare_table.specs.declared.terms.Terms.{Terms}
 
 -- the token that 32 hexadecimal digits name, of either case
-abbrev pub token_of_digits : List ℕ → Outcome (List ℕ)
+abbrev pub token_of_digits : List ℕ → OrFault (List ℕ)
 token_of_digits digits = ok_or (result_ok (decode_sized digits 16)) Rider
 
 -- the token is one of the riders'
@@ -25,13 +25,13 @@ abbrev pub is_rider : List (List ℕ × Terms) → List ℕ → Bool
 is_rider riders token = is_some (lookup (is_at (slice_cmp nat_cmp token)) riders)
 
 -- the riders and one more, at its place in the order of tokens
-abbrev pub with_rider : List (List ℕ × Terms) → List ℕ → Terms → Outcome (List (List ℕ × Terms))
+abbrev pub with_rider : List (List ℕ × Terms) → List ℕ → Terms → OrFault (List (List ℕ × Terms))
 with_rider riders token terms =
     if is_rider riders token then Err Rider
     else Ok (insert_entry (slice_cmp nat_cmp) riders token terms)
 
 -- the token and the terms of one key
-abbrev pub rider_of : Members → List ℕ → Data → Outcome (List ℕ × Terms)
+abbrev pub rider_of : Members → List ℕ → Data → OrFault (List ℕ × Terms)
 rider_of classes key value = do
   token ← token_of_digits key
   name ← of_kind the_key.Riders (as_str value)
@@ -39,7 +39,7 @@ rider_of classes key value = do
   Ok (token, terms)
 
 -- the earlier riders and those of the members
-abbrev pub riders_from : Members → List (List ℕ × Terms) → Members → Outcome (List (List ℕ × Terms))
+abbrev pub riders_from : Members → List (List ℕ × Terms) → Members → OrFault (List (List ℕ × Terms))
 riders_from classes earlier no_members = Ok earlier
 riders_from classes earlier (member key value more) = do
   rider ← rider_of classes key value
@@ -47,12 +47,12 @@ riders_from classes earlier (member key value more) = do
   riders_from classes riders more
 
 -- the riders of a value, which is a table of strings; none where there is no value
-abbrev pub riders_at : Members → Option Data → Outcome (List (List ℕ × Terms))
+abbrev pub riders_at : Members → Option Data → OrFault (List (List ℕ × Terms))
 riders_at classes None = Ok []
 riders_at classes (Some value) = do
   riders ← of_kind the_key.Riders (as_table value)
   if hold_strings riders then riders_from classes [] riders else Err (Kind the_key.Riders)
 
 -- the riders that the text names, in the order of their tokens
-unfoldable pub riders_of : Members → Members → Outcome (List (List ℕ × Terms))
+unfoldable pub riders_of : Members → Members → OrFault (List (List ℕ × Terms))
 riders_of classes tree = riders_at classes (get_member (codes "riders") tree)

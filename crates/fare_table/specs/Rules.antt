@@ -5,7 +5,7 @@ use Rattle.toml.specs.Data.{Members}
 use Rattle.toml.specs.Parse.{parse_document}
 use Rattle.fare_table.specs.Classes.{classes_of, default_of}
 use Rattle.fare_table.specs.Modes.{modes_of}
-use Rattle.fare_table.specs.Outcome.{Outcome, ◌>>=◌}
+use Rattle.fare_table.specs.OrFault.{OrFault, ◌>>=◌}
 use Rattle.fare_table.specs.Riders.{riders_of}
 use Rattle.fare_table.specs.Transfers.{transfers_of}
 use Rattle.fare_table.specs.Validators.{ranges_of}
@@ -26,7 +26,7 @@ pub record TableRules : Type 0 where
   pub zone : Option (List ℕ)
 
 -- the meaning of a table's tree, or the fault of the first key that has one
-unfoldable pub rules_of_tree : Members → Outcome TableRules
+unfoldable pub rules_of_tree : Members → OrFault TableRules
 rules_of_tree tree = do
   modes ← modes_of tree
   transfers ← transfers_of modes tree
@@ -45,5 +45,5 @@ rules_of_tree tree = do
   })
 
 -- the meaning of a table's text, or the first fault that keeps it from having one
-abbrev pub rules_in : List ℕ → Outcome TableRules
+abbrev pub rules_in : List ℕ → OrFault TableRules
 rules_in text = ok_or (parse_document text) Text >>= rules_of_tree

@@ -6,7 +6,7 @@ use Rattle.std.specs.Option.{option_and_then}
 use Rattle.toml.specs.Data.{Data, Items, no_items, item, Members, as_array, as_str}
 use Rattle.fare_table.specs.Members.{array_at, of_kind}
 use Rattle.fare_table.specs.Modes.{mode_named}
-use Rattle.fare_table.specs.Outcome.{Outcome, ◌>>=◌}
+use Rattle.fare_table.specs.OrFault.{OrFault, ◌>>=◌}
 use Rattle.fare_table.specs.declared.fault.Key.TheVariants as the_key
 
 -- the pair goes from the one place to the other
@@ -34,13 +34,13 @@ abbrev pub name_pair : Data → Option (List ℕ × List ℕ)
 name_pair value = option_and_then two_strings (as_array value)
 
 -- the pairs of names found and those of the items
-abbrev pub pairs_from : List (List ℕ × List ℕ) → Items → Outcome (List (List ℕ × List ℕ))
+abbrev pub pairs_from : List (List ℕ × List ℕ) → Items → OrFault (List (List ℕ × List ℕ))
 pairs_from found no_items = Ok found
 pairs_from found (item value more) =
     of_kind the_key.Transfers (name_pair value) >>= (λ pair. pairs_from (found ++ pair ∷ []) more)
 
 -- the places of a pair of names
-abbrev pub places_of : List (List ℕ) → List ℕ × List ℕ → Outcome (ℕ × ℕ)
+abbrev pub places_of : List (List ℕ) → List ℕ × List ℕ → OrFault (ℕ × ℕ)
 places_of modes pair = do
   from ← mode_named modes pair.0
   to ← mode_named modes pair.1
@@ -48,21 +48,21 @@ places_of modes pair = do
 
 -- the pairs of places found and those of the pairs of names, each once
 abbrev pub transfers_from : List (List ℕ) → List (ℕ × ℕ) → List (List ℕ × List ℕ)
-    → Outcome (List (ℕ × ℕ))
+    → OrFault (List (ℕ × ℕ))
 transfers_from modes found [] = Ok found
 transfers_from modes found (pair ∷ more) =
     places_of modes pair >>= (λ places.
     transfers_from modes (with_pair found places.0 places.1) more)
 
 -- the pairs of places of modes that the text permits, each once
-unfoldable pub transfers_of : List (List ℕ) → Members → Outcome (List (ℕ × ℕ))
+unfoldable pub transfers_of : List (List ℕ) → Members → OrFault (List (ℕ × ℕ))
 transfers_of modes tree = do
   items ← array_at (codes "transfers") the_key.Transfers tree
   pairs ← pairs_from [] items
   transfers_from modes [] pairs
 
 -- the pairs of names that the text lists, in its order
-abbrev pub named_pairs : Members → Outcome (List (List ℕ × List ℕ))
+abbrev pub named_pairs : Members → OrFault (List (List ℕ × List ℕ))
 named_pairs tree = do
   items ← array_at (codes "transfers") the_key.Transfers tree
   pairs_from [] items

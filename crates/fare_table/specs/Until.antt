@@ -20,22 +20,22 @@ moment_nanos moment = pos (moment * 1_000_000)
 abbrev pub seconds_ahead : PosixRule → ℕ → ℤ
 seconds_ahead zone moment = offset_at (Posix zone) (moment_nanos moment)
 
--- The limit is 00:00 of the seventh civil date after the date that clocks of the zone show at the
--- start. Where that midnight is skipped it takes the offset before the gap, where it comes twice it
--- is the earlier one.
-pub record IsCivilLimit (zone : TimeZone) (start limit : ℕ) : Type 0 where
+-- The window ends at 00:00 of the seventh civil date after the date that clocks of the zone show at
+-- the start. Where that midnight is skipped it takes the offset before the gap, where it comes twice
+-- it is the earlier one.
+pub record IsCivilWindowEnd (zone : TimeZone) (start window_end : ℕ) : Type 0 where
   pub shown : DateTime
   pub shows : civil_nanos shown
       ≡ moment_nanos start +ℤ nanos_of_seconds (offset_at zone (moment_nanos start))
   pub midnight : DateTime
   pub date : epoch_day midnight.date ≡ epoch_day shown.date +ℤ pos 7
   pub time : time_nanos midnight.time ≡ 0
-  pub at : moment_nanos limit ≡ picked_instant zone midnight
+  pub at : moment_nanos window_end ≡ picked_instant zone midnight
 
--- the limit of a window: seven days after its start, or the civil limit in the zone
-abbrev pub IsLimit : Option PosixRule → ℕ → ℕ → Type 0
-IsLimit None start limit = limit ≡ start + 604_800_000
-IsLimit (Some zone) start limit = IsCivilLimit (Posix zone) start limit
+-- the end of a window: seven days after its start, or the civil one in the zone
+abbrev pub IsWindowEnd : Option PosixRule → ℕ → ℕ → Type 0
+IsWindowEnd None start window_end = window_end ≡ start + 604_800_000
+IsWindowEnd (Some zone) start window_end = IsCivilWindowEnd (Posix zone) start window_end
 
 -- the first nanosecond of a day on a civil clock
 abbrev pub midnight_nanos : ℤ → ℤ
@@ -63,16 +63,16 @@ day_at zone instant =
     int_div_euclid (instant +ℤ nanos_of_seconds (rule.offset_at zone instant).seconds) nanos_per_day
 
 -- the milliseconds of the midnight of the seventh day after the start's day
-unfoldable pub civil_limit : PosixRule → ℕ → ℕ
-civil_limit zone start =
+unfoldable pub civil_window_end : PosixRule → ℕ → ℕ
+civil_window_end zone start =
     unsigned_abs (int_div (midnight_instant zone (day_at zone (moment_nanos start) +ℤ pos 7))
     (pos 1_000_000))
 
--- the limit of a window that starts at the moment
-abbrev pub limit_in : Option PosixRule → ℕ → ℕ
-limit_in None start = start + 604_800_000
-limit_in (Some zone) start = civil_limit zone start
+-- the end of a window that starts at the moment
+abbrev pub window_end_in : Option PosixRule → ℕ → ℕ
+window_end_in None start = start + 604_800_000
+window_end_in (Some zone) start = civil_window_end zone start
 
 -- the end of a window that starts at the moment, under the fare table
 abbrev pub until : Fares → ℕ → ℕ
-until fares start = limit_in fares.zone start
+until fares start = window_end_in fares.zone start

@@ -7,7 +7,7 @@ use Rattle.std.specs.Ordering.{nat_cmp}
 use Rattle.toml.specs.Data.{Data, Items, no_items, item, Members, as_table}
 use Rattle.fare_table.specs.Members.{array_at, number_at, of_kind, text_at, are_tables}
 use Rattle.fare_table.specs.Modes.{mode_named}
-use Rattle.fare_table.specs.Outcome.{Outcome, ◌>>=◌}
+use Rattle.fare_table.specs.OrFault.{OrFault, ◌>>=◌}
 use Rattle.fare_table.specs.declared.fault.Key.TheVariants as the_key
 use Rattle.fare_table.specs.declared.fault.TableFault.TheVariants.{Kind, Overlap}
 use Rattle.fare_table.specs.declared.validators.Span.{Span}
@@ -28,13 +28,13 @@ abbrev pub share_number : ℕ × Span → ℕ × Span → Bool
 share_number range other = nat_le range.0 other.1.last && nat_le other.0 range.1.last
 
 -- the ranges and one more, at its place in the order of first numbers
-abbrev pub with_range : List (ℕ × Span) → ℕ × Span → Outcome (List (ℕ × Span))
+abbrev pub with_range : List (ℕ × Span) → ℕ × Span → OrFault (List (ℕ × Span))
 with_range earlier range =
     if list_any (share_number range) earlier then Err Overlap
     else Ok (insert_entry nat_cmp earlier range.0 range.1)
 
 -- the range of an entry: its first number, its last one and its mode
-unfoldable pub range_of : List (List ℕ) → Members → Outcome (ℕ × Span)
+unfoldable pub range_of : List (List ℕ) → Members → OrFault (ℕ × Span)
 range_of modes entry = do
   first ← number_at (codes "first") the_key.First 0 4_294_967_295 entry
   last ← number_at (codes "last") the_key.Last first 4_294_967_295 entry
@@ -43,13 +43,13 @@ range_of modes entry = do
   Ok (first, record { last = last; mode = mode })
 
 -- the range of a value that is a table
-abbrev pub range_in : List (List ℕ) → Data → Outcome (ℕ × Span)
+abbrev pub range_in : List (List ℕ) → Data → OrFault (ℕ × Span)
 range_in modes value = do
   entry ← of_kind the_key.Validators (as_table value)
   range_of modes entry
 
 -- the earlier ranges and those of the items
-abbrev pub ranges_from : List (List ℕ) → List (ℕ × Span) → Items → Outcome (List (ℕ × Span))
+abbrev pub ranges_from : List (List ℕ) → List (ℕ × Span) → Items → OrFault (List (ℕ × Span))
 ranges_from modes earlier no_items = Ok earlier
 ranges_from modes earlier (item value more) = do
   range ← range_in modes value
@@ -57,7 +57,7 @@ ranges_from modes earlier (item value more) = do
   ranges_from modes ranges more
 
 -- the ranges that the text lists, in the order of their first numbers
-unfoldable pub ranges_of : List (List ℕ) → Members → Outcome (List (ℕ × Span))
+unfoldable pub ranges_of : List (List ℕ) → Members → OrFault (List (ℕ × Span))
 ranges_of modes tree = do
   items ← array_at (codes "validators") the_key.Validators tree
   if are_tables items then ranges_from modes [] items else Err (Kind the_key.Validators)

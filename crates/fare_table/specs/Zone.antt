@@ -7,7 +7,7 @@ use Rattle.fare_table.specs.Members.{of_kind}
 use Rattle.fare_table.specs.PosixRule.{posix_rule}
 use Rattle.fare_table.specs.declared.zone.Zone.{Zone}
 use Rattle.jiff.specs.ZoneView.{plain_zone}
-use Rattle.fare_table.specs.Outcome.{Outcome, ◌>>=◌}
+use Rattle.fare_table.specs.OrFault.{OrFault, ◌>>=◌}
 use Rattle.fare_table.specs.declared.fault.Key.TheVariants as the_key
 use Rattle.fare_table.specs.declared.fault.TableFault.TheVariants as the_fault
 use Rattle.jiff.specs.Words.{read_whole, tz_view}
@@ -21,14 +21,14 @@ IsZoneOf (Some text) None = ⊥
 IsZoneOf (Some text) (Some zone) = read_whole text ≡ Some (tz_view zone)
 
 -- the text of a zone, where it reads as a rule
-abbrev pub zone_in : Option Data → Outcome (Option (List ℕ))
+abbrev pub zone_in : Option Data → OrFault (Option (List ℕ))
 zone_in None = Ok None
 zone_in (Some value) = do
   text ← of_kind the_key.Zone (as_str value)
   if is_some (read_whole text) then Ok (Some text) else Err the_fault.Zone
 
 -- the zone that the text names, if it names one
-unfoldable pub zone_of : Members → Outcome (Option (List ℕ))
+unfoldable pub zone_of : Members → OrFault (Option (List ℕ))
 zone_of tree = zone_in (get_member (codes "zone") tree)
 
 -- the text of a zone, if there is one

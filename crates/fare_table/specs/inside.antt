@@ -1,6 +1,6 @@
 -- What only private functions cite. Who reads the contracts of public calls need not read it.
 pub mod Marks
-pub mod Outcome
+pub mod OrFault
 pub mod PosixRule
 pub mod Table
 pub mod Transfers

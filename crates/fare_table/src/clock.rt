@@ -2,7 +2,8 @@
 ghost use Rattle.std.specs.Prelude.{◌≡◌, ◌<◌, pos, ◌+ℤ◌, ◌≤ℤ◌, neg_ℤ, IfOk, IsOk};
 ghost use Rattle.jiff.specs.Words.{epoch_day};
 ghost use Rattle.jiff.specs.ZoneView.{plain_zone};
-ghost use Rattle.fare_table.specs.Until.{IsCivilLimit, IsLimit, limit_in, moment_nanos};
+ghost use Rattle.fare_table.specs.Until.{IsCivilWindowEnd, IsWindowEnd, moment_nanos};
+ghost use Rattle.fare_table.specs.Until.{window_end_in};
 
 use crate::fault::NoMemory;
 use jiff::civil::{Date, DateTime};
@@ -36,7 +37,7 @@ impl Model for Clock {
 impl Clock {
     ghost use Rattle.std.specs.Prelude.{◌≡◌, ◌<◌, IfOk, IsOk, option_map};
     ghost use Rattle.fare_table.specs.inside.PosixRule.{HasRule, rule_of};
-    ghost use Rattle.fare_table.specs.Until.{IsLimit, limit_in, seconds_ahead};
+    ghost use Rattle.fare_table.specs.Until.{IsWindowEnd, window_end_in, seconds_ahead};
 
     /// A clock of this zone, or of none.
     pub(crate) fn new(zone: Option<TimeZone<'static>>) -> Clock
@@ -46,7 +47,7 @@ impl Clock {
         Clock { zone }
     }
 
-    /// The limit of a window that starts at the moment, both in milliseconds since
+    /// The end of a window that starts at the moment, both in milliseconds since
     /// 1970-01-01T00:00Z; the moment lies before 2100-01-01T00:00Z. It is seven days later, or,
     /// where the table names a zone, 00:00 of the seventh civil date after the start's (the period
     /// of seven days is the MTA's, where it ends is this project's choice). A midnight that clocks
@@ -56,12 +57,12 @@ impl Clock {
     pub fn until(&self, moment: u64) -> Result<u64, NoMemory>
         requires { moment < 4_102_444_800_000 }
         ensures answers { IsOk result }
-        ensures value { IfOk result (λ limit. limit ≡ limit_in self.now moment) }
-        ensures limit { IfOk result (IsLimit self.now moment) }
-        ensures after { IfOk result (λ limit. moment < limit) }
+        ensures value { IfOk result (λ window_end. window_end ≡ window_end_in self.now moment) }
+        ensures window_end { IfOk result (IsWindowEnd self.now moment) }
+        ensures after { IfOk result (λ window_end. moment < window_end) }
     {
         match &self.zone {
-            Some(zone) => Ok(civil_limit(zone, moment)),
+            Some(zone) => Ok(civil_window_end(zone, moment)),
             None => Ok(moment + SEVEN_DAYS),
         }
     }
@@ -81,19 +82,19 @@ impl Clock {
     }
 }
 
-/// The limit under a zone. Kept out of `until`, so that the few instructions of a table without a
-/// zone stand where it is called.
+/// The window end under a zone. Kept out of `until`, so that the few instructions of a table
+/// without a zone stand where it is called.
 #[inline(never)]
-fn civil_limit(zone: &TimeZone<'static>, moment: u64) -> u64
+fn civil_window_end(zone: &TimeZone<'static>, moment: u64) -> u64
     requires { moment < 4_102_444_800_000 }
-    ensures limit { IsCivilLimit (plain_zone zone.now) moment result }
+    ensures window_end { IsCivilWindowEnd (plain_zone zone.now) moment result }
     ensures after { moment < result }
 {
     let start = instant(moment);
     let shown = zone.to_offset(start).to_datetime(start);
     let midnight = DateTime::from(week_later(shown.date()));
-    let limit = zone.to_timestamp(midnight).unwrap();
-    limit.as_millisecond() as u64
+    let window_end = zone.to_timestamp(midnight).unwrap();
+    window_end.as_millisecond() as u64
 }
 
 /// The moment as an instant of the zone's library.

@@ -15,7 +15,7 @@ ghost use Rattle.fare_table.specs.Faults.{first_fault};
 ghost use Rattle.fare_table.specs.Paying.{NamesRider, Pays};
 ghost use Rattle.fare_table.specs.Rules.{TableRules, rules_in, rules_of_tree};
 ghost use Rattle.fare_table.specs.Transfers.{has_pair, ListsPair};
-ghost use Rattle.fare_table.specs.Until.{IsLimit, until};
+ghost use Rattle.fare_table.specs.Until.{IsWindowEnd, until};
 ghost use Rattle.fare_table.specs.Validators.{is_chain};
 ghost use Rattle.fare_table.specs.declared.fault.TableFault.{TableFault};
 ghost use Rattle.fare_table.specs.declared.terms.Terms.{Terms};
@@ -30,11 +30,11 @@ pub fn windows_end_later()
         → start < until fares start }
 {}
 
-/// A window has one limit: what is seven days after its start, or the civil limit in the zone, is
-/// the limit of the table.
-pub fn windows_have_one_limit()
-    ensures { (fares : Fares) (start limit : ℕ) → IsLimit fares.zone start limit
-        → limit ≡ until fares start }
+/// A window has one end: what is seven days after its start, or the civil one in the zone, is that
+/// of the table.
+pub fn windows_have_one_end()
+    ensures { (fares : Fares) (start window_end : ℕ) → IsWindowEnd fares.zone start window_end
+        → window_end ≡ until fares start }
 {}
 
 /// A table permits a transfer from one mode to another exactly where its text lists the pair of

@@ -5,7 +5,7 @@ ghost use Rattle.std.specs.Prelude.{slice_get, string_bytes};
 ghost use Rattle.toml.specs.Parse.{parse_document};
 ghost use Rattle.toml.specs.View.{table_view};
 ghost use Rattle.fare_table.specs.Fares.{mode_at, is_permitted, terms_at};
-ghost use Rattle.fare_table.specs.inside.Outcome.{Answers};
+ghost use Rattle.fare_table.specs.inside.OrFault.{Answers};
 ghost use Rattle.fare_table.specs.inside.PosixRule.{HasRule, rule_of};
 ghost use Rattle.fare_table.specs.declared.fault.TableFault.{TableFault};
 ghost use Rattle.fare_table.specs.Rules.{rules_in, rules_of_tree};

@@ -46,7 +46,7 @@ first_wrong fares replay rest line more number read counted wrong = record {
   before = rest;
   line = line;
   after = more;
-  cut = refl;
+  split = refl;
   entries = read.entries;
   are = read.are;
   counted = counted ∙ ap (λ n. n + 2) read.counted;
@@ -102,7 +102,7 @@ part_true fares reading lines part more taken lacks =
 pub cut_more : (fares : Fares) (checker : Checker) (text piece : List ℕ) (fed : HasFed fares checker text) (more : List ℕ)
     → lines_of ((text ++ piece) ++ more) ≡ fed.lines ++ lines_of ((checker.part.items ++ piece) ++ more)
 cut_more fares checker text piece fed more =
-    ap lines_of (append_assoc text piece more) ∙ fed.cut (piece ++ more)
+    ap lines_of (append_assoc text piece more) ∙ fed.split (piece ++ more)
     ∙ ap (λ (t : List ℕ). fed.lines ++ lines_of t) (sym (append_assoc checker.part.items piece more))
 
 abbrev pub kept : (fares : Fares) (checker after : Checker) (text piece : List ℕ) → HasFed fares checker text → Lacks 10 piece
@@ -111,7 +111,7 @@ abbrev pub kept : (fares : Fares) (checker after : Checker) (text piece : List �
 kept fares checker after text piece fed lacks same part short = record {
   lines = fed.lines;
   taken = subst (λ (r : Reading). HasTaken fares r fed.lines) (sym same) fed.taken;
-  cut = λ more. cut_more fares checker text piece fed more ∙ ap (λ (p : List ℕ). fed.lines ++ lines_of (p ++ more)) (sym part);
+  split = λ more. cut_more fares checker text piece fed more ∙ ap (λ (p : List ℕ). fed.lines ++ lines_of (p ++ more)) (sym part);
   lacks = subst (Lacks 10) (sym part) (lacks-append 10 checker.part.items piece fed.lacks lacks);
   short = short;
 }
@@ -161,7 +161,7 @@ abbrev pub took_whole : (fares : Fares) (checker after : Checker) (text line who
 took_whole fares checker after text line whole fed is joined empty taken = record {
   lines = fed.lines ++ whole ∷ [];
   taken = taken;
-  cut = took_cut fares checker after text line whole fed is joined empty;
+  split = took_cut fares checker after text line whole fed is joined empty;
   lacks = none_lacks after.part.items empty;
   short = none_short after.part.items empty;
 }
@@ -178,7 +178,7 @@ took_line fares checker after text line whole (Some verdict) fed is joined empty
 -- the text ends
 whole_cut : (fares : Fares) (checker : Checker) (text : List ℕ) (fed : HasFed fares checker text) → lines_of text ≡ fed.lines ++ lines_of checker.part.items
 whole_cut fares checker text fed =
-    ap lines_of (sym (append-nil text)) ∙ fed.cut [] ∙ ap (λ (p : List ℕ). fed.lines ++ lines_of p) (append-nil checker.part.items)
+    ap lines_of (sym (append-nil text)) ∙ fed.split [] ∙ ap (λ (p : List ℕ). fed.lines ++ lines_of p) (append-nil checker.part.items)
 
 pub ended_in_part : (fares : Fares) (checker : Checker) (text : List ℕ) → HasFed fares checker text → 0 < length checker.part.items
     → IsVerdict fares text (NoLine (number_after checker.reading))
@@ -212,7 +212,7 @@ ended_whole fares checker text fed empty some =
     let head = headed fares checker.reading fed.lines some fed.taken in
     record {
       others = head.rest;
-      cut = ended_at_line fares checker text fed empty ∙ head.is;
+      split = ended_at_line fares checker text fed empty ∙ head.is;
       entries = head.read.entries;
       are = head.read.are;
       counted = head.read.counted;

@@ -7,5 +7,5 @@ pub mod ReplayLemmas
 pub mod SameLines
 pub mod StruckLemmas
 pub mod TokenOrder
-pub mod TurnLemmas
+pub mod TellerLemmas
 pub mod VerdictLemmas

@@ -9,7 +9,7 @@ use Rattle.fare_table.specs.declared.token.Token.{Token}
 use Rattle.reason_texts.specs.Ledger.{IsLedgerLine}
 use Rattle.reason_texts.specs.declared.teller.Teller.{Teller}
 use Rattle.ledger_check.specs.Ledger.{AreNext, IsNext, IsPostable, token_number}
-use Rattle.ledger_check.specs.Replays.{HasRead, HasTurn, IsWanted, IsWrongAfter, StandsForOwn}
+use Rattle.ledger_check.specs.Replays.{HasRead, HasTeller, IsWanted, IsWrongAfter, StandsForOwn}
 use Rattle.ledger_check.specs.inside.Replays.{GoesOn}
 use Rattle.ledger_check.specs.inside.Taps.{IsOf, TellsTap}
 use Rattle.ledger_check.specs.declared.replay.Replay.{Replay}
@@ -71,9 +71,9 @@ pub tap_of_next : (fares : Fares) (earlier : List Entry) (entry : Entry) (line :
     → IsNext fares earlier entry line → IsOf tap entry
 tap_of_next fares earlier entry line tap tells is = tells _ entry _ (small_number fares earlier entry line is) is.postable is.shown
 
--- there is no turn for the token, since it is less than the last one
+-- there is no teller for the token, since it is less than the last one
 abbrev pub IsLess : Fares → Replay → Token → Type 0
-IsLess fares replay token = (entries : List Entry) → HasTurn fares replay.turn entries
+IsLess fares replay token = (entries : List Entry) → HasTeller fares replay.teller entries
     → All (λ entry. token_number entry.token ≤ token_number token) entries → ⊥
 
 pub wrong_less : (fares : Fares) (replay : Replay) (lines : List (List ℕ)) (line : List ℕ) (tap : Tap) → HasRead fares replay lines
@@ -81,32 +81,32 @@ pub wrong_less : (fares : Fares) (replay : Replay) (lines : List (List ℕ)) (li
 wrong_less fares replay lines line tap read tells less =
     wrong fares replay lines line read (λ entry is.
     let of = tap_of_next fares read.entries entry line tap tells is in
-    less read.entries read.turn (subst (λ (t : Token). All (λ (e : Entry). token_number e.token ≤ token_number t) read.entries) of.token is.rises))
+    less read.entries read.teller (subst (λ (t : Token). All (λ (e : Entry). token_number e.token ≤ token_number t) read.entries) of.token is.rises))
 
 -- the entry that the tap makes, and its line
-pub same_next : (fares : Fares) (turn after : Teller) (earlier : List Entry) (line wanted : List ℕ) (tap : Tap) (goes : GoesOn fares turn earlier tap.validator tap.moment wanted after)
-    → turn.token ≡ tap.token → TellsTap fares line tap → (entry : Entry) → IsNext fares earlier entry line
+pub same_next : (fares : Fares) (teller after : Teller) (earlier : List Entry) (line wanted : List ℕ) (tap : Tap) (goes : GoesOn fares teller earlier tap.validator tap.moment wanted after)
+    → teller.token ≡ tap.token → TellsTap fares line tap → (entry : Entry) → IsNext fares earlier entry line
     → (entry ≡ goes.entry) × (line ≡ wanted)
-same_next fares turn after earlier line wanted tap goes token tells entry is =
+same_next fares teller after earlier line wanted tap goes token tells entry is =
     let of = tap_of_next fares earlier entry line tap tells is in
     next_same fares earlier entry goes.entry line wanted is goes.replied goes.shown
     (of.token ∙ sym token ∙ sym goes.token) (of.validator ∙ sym goes.of_validator) (of.moment ∙ sym goes.of_moment)
 
-pub wrong_other : (fares : Fares) (replay : Replay) (lines : List (List ℕ)) (line wanted : List ℕ) (turn after : Teller) (tap : Tap)
-    → (read : HasRead fares replay lines) → GoesOn fares turn read.entries tap.validator tap.moment wanted after
-    → turn.token ≡ tap.token → TellsTap fares line tap → (wanted ≡ line → ⊥) → IsWrongAfter fares lines line
-wrong_other fares replay lines line wanted turn after tap read goes token tells other =
+pub wrong_other : (fares : Fares) (replay : Replay) (lines : List (List ℕ)) (line wanted : List ℕ) (teller after : Teller) (tap : Tap)
+    → (read : HasRead fares replay lines) → GoesOn fares teller read.entries tap.validator tap.moment wanted after
+    → teller.token ≡ tap.token → TellsTap fares line tap → (wanted ≡ line → ⊥) → IsWrongAfter fares lines line
+wrong_other fares replay lines line wanted teller after tap read goes token tells other =
     wrong fares replay lines line read (λ entry is.
-    other (sym (same_next fares turn after read.entries line wanted tap goes token tells entry is).1))
+    other (sym (same_next fares teller after read.entries line wanted tap goes token tells entry is).1))
 
 -- what the tap makes is postable
 abbrev pub CanPost : Tap → Type 0
 CanPost tap = (tap.validator < 2 ^ 32) × (tap.moment < 4_102_444_800_000)
 
-pub next_of : (fares : Fares) (turn after : Teller) (earlier : List Entry) (wanted : List ℕ) (tap : Tap)
-    → (goes : GoesOn fares turn earlier tap.validator tap.moment wanted after) → StandsForOwn fares turn earlier → CanPost tap
+pub next_of : (fares : Fares) (teller after : Teller) (earlier : List Entry) (wanted : List ℕ) (tap : Tap)
+    → (goes : GoesOn fares teller earlier tap.validator tap.moment wanted after) → StandsForOwn fares teller earlier → CanPost tap
     → length wanted ≤ 255 → length earlier < 2 ^ 62 → IsNext fares earlier goes.entry wanted
-next_of fares turn after earlier wanted tap goes stands can short few =
+next_of fares teller after earlier wanted tap goes stands can short few =
     let validator : goes.entry.validator ≡ tap.validator = goes.of_validator in
     let moment : goes.entry.moment ≡ tap.moment = goes.of_moment in
     record {
@@ -123,36 +123,36 @@ next_of fares turn after earlier wanted tap goes stands can short few =
     }
 
 -- the line is the one that its tap should have
-pub read_more : (fares : Fares) (replay next : Replay) (lines : List (List ℕ)) (line wanted : List ℕ) (turn after : Teller) (tap : Tap)
-    → (read : HasRead fares replay lines) → GoesOn fares turn read.entries tap.validator tap.moment wanted after
-    → StandsForOwn fares turn read.entries → CanPost tap
-    → turn.token ≡ tap.token → TellsTap fares line tap → wanted ≡ line → length line ≤ 255
-    → replay.lines < 4_611_686_018_427_387_904 → next.lines ≡ replay.lines + 1 → next.turn ≡ Some after
+pub read_more : (fares : Fares) (replay next : Replay) (lines : List (List ℕ)) (line wanted : List ℕ) (teller after : Teller) (tap : Tap)
+    → (read : HasRead fares replay lines) → GoesOn fares teller read.entries tap.validator tap.moment wanted after
+    → StandsForOwn fares teller read.entries → CanPost tap
+    → teller.token ≡ tap.token → TellsTap fares line tap → wanted ≡ line → length line ≤ 255
+    → replay.lines < 4_611_686_018_427_387_904 → next.lines ≡ replay.lines + 1 → next.teller ≡ Some after
     → HasRead fares next (lines ++ line ∷ [])
-read_more fares replay next lines line wanted turn after tap read goes stands can token tells same short room counted is_turn =
+read_more fares replay next lines line wanted teller after tap read goes stands can token tells same short room counted is_teller =
     let few : length read.entries < 2 ^ 62 = omega (arith, read.counted) in
     let is : IsNext fares read.entries goes.entry line = subst (λ (l : List ℕ). IsNext fares read.entries goes.entry l) same
-    (next_of fares turn after read.entries wanted tap goes stands can (subst (λ (l : List ℕ). length l ≤ 255) (sym same) short) few) in
+    (next_of fares teller after read.entries wanted tap goes stands can (subst (λ (l : List ℕ). length l ≤ 255) (sym same) short) few) in
     let more = length-append read.entries (goes.entry ∷ []) in
     record {
       entries = read.entries ++ goes.entry ∷ [];
       are = next-push fares [] read.entries lines goes.entry line read.are is;
       only = λ others are.
           let last = last_of fares replay lines line read others are in
-          last.2 ∙ ap (λ (e : Entry). read.entries ++ e ∷ []) (same_next fares turn after read.entries line wanted tap goes token tells last.0 last.1).0;
+          last.2 ∙ ap (λ (e : Entry). read.entries ++ e ∷ []) (same_next fares teller after read.entries line wanted tap goes token tells last.0 last.1).0;
       counted = omega (arith, more, read.counted);
       few = omega (arith, more);
-      turn = subst (λ (t : Option Teller). HasTurn fares t (read.entries ++ goes.entry ∷ [])) (sym is_turn) (goes.stands, goes.some);
+      teller = subst (λ (t : Option Teller). HasTeller fares t (read.entries ++ goes.entry ∷ [])) (sym is_teller) (goes.stands, goes.some);
     }
 
-pub wanted_next : (fares : Fares) (replay : Replay) (lines : List (List ℕ)) (wanted : List ℕ) (turn after : Teller) (tap : Tap)
-    → (read : HasRead fares replay lines) → GoesOn fares turn read.entries tap.validator tap.moment wanted after
-    → StandsForOwn fares turn read.entries → CanPost tap → length wanted ≤ 255 → replay.lines < 4_611_686_018_427_387_904
+pub wanted_next : (fares : Fares) (replay : Replay) (lines : List (List ℕ)) (wanted : List ℕ) (teller after : Teller) (tap : Tap)
+    → (read : HasRead fares replay lines) → GoesOn fares teller read.entries tap.validator tap.moment wanted after
+    → StandsForOwn fares teller read.entries → CanPost tap → length wanted ≤ 255 → replay.lines < 4_611_686_018_427_387_904
     → IsWanted fares lines wanted
-wanted_next fares replay lines wanted turn after tap read goes stands can short room =
+wanted_next fares replay lines wanted teller after tap read goes stands can short room =
     let few : length read.entries < 2 ^ 62 = omega (arith, read.counted) in (
       read.entries,
       goes.entry,
       read.are,
-      next_of fares turn after read.entries wanted tap goes stands can short few,
+      next_of fares teller after read.entries wanted tap goes stands can short few,
     )

@@ -83,6 +83,6 @@ some_told (Some verdict) P Q some is = is
 pub all_struck : (fares : Fares) (checker : Checker) (balance : Balance) (text : List ℕ) (posted : List TapFields) → HasStruck fares checker balance text posted
     → checker.part.items ≡ [] → (entries : List Entry) → IsLedgerOf fares entries text → IsBalance balance posted (map posted_tap entries)
 all_struck fares checker balance text posted is empty entries ledger =
-    let lines : is.fed.lines ≡ head_text ∷ ledger.lines = sym (ended_at_line fares checker text is.fed empty) ∙ ledger.cut in
+    let lines : is.fed.lines ≡ head_text ∷ ledger.lines = sym (ended_at_line fares checker text is.fed empty) ∙ ledger.split in
     let told : AreTapsOfLines fares (head_text ∷ ledger.lines) is.struck.taps = subst (λ (ls : List (List ℕ)). AreTapsOfLines fares ls is.struck.taps) lines is.struck.told in
     subst (λ (ts : List TapFields). IsBalance balance posted ts) (sym (told entries ledger.are)) is.struck.is

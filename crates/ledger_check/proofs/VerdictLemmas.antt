@@ -17,15 +17,15 @@ tail_same a b xs ys is = cc
 wrong_refutes : (fares : Fares) (text : List ℕ) (number : ℕ) → IsFirstWrong fares (lines_of text) number → IsLedger fares text → ⊥
 wrong_refutes fares text number first ledger =
     let others = ledger.1 in
-    let same : others.lines ≡ first.before ++ first.line ∷ first.after = tail_same _ _ _ _ (sym others.cut ∙ first.cut) in
+    let same : others.lines ≡ first.before ++ first.line ∷ first.after = tail_same _ _ _ _ (sym others.split ∙ first.split) in
     let front = next-front fares ledger.0 first.before first.line first.after (subst (λ (ls : List (List ℕ)). AreNext fares [] ledger.0 ls) same others.are) in
     first.wrong front.0 front.1
 
 headless_refutes : (fares : Fares) (text : List ℕ) → IsHeadless (lines_of text) → IsLedger fares text → ⊥
-headless_refutes fares text headless ledger = headless ledger.1.lines ledger.1.cut
+headless_refutes fares text headless ledger = headless ledger.1.lines ledger.1.split
 
 pub decide : VerdictsDecide
-decide fares text (Legal number) is = (λ _. (is.entries, record { lines = is.others; cut = is.cut; are = is.are }), λ _. refl)
+decide fares text (Legal number) is = (λ _. (is.entries, record { lines = is.others; split = is.split; are = is.are }), λ _. refl)
 decide fares text (Wants number wanted) is = (λ h. absurd (false_true h), λ ledger. absurd (wrong_refutes fares text number is.first ledger))
   where
     false_true : false ≡ true → ⊥

@@ -48,7 +48,7 @@ AreNext fares earlier (entry ∷ entries) (line ∷ lines) =
 -- the lines of the text are the head line and those of the entries
 pub record IsLedgerOf (fares : Fares) (entries : List Entry) (text : List ℕ) : Type 0 where
   pub lines : List (List ℕ)
-  pub cut : lines_of text ≡ head_text ∷ lines
+  pub split : lines_of text ≡ head_text ∷ lines
   pub are : AreNext fares [] entries lines
 
 -- the text is, whole, a ledger of legal histories

@@ -1,4 +1,4 @@
--- A text cut into lines.
+-- A text split into lines.
 use Rattle.std.specs.Prelude.{◌≢◌, ℕ, ◌==◌, if◌then◌else◌, List, [], ◌∷◌}
 
 -- the byte stands nowhere in the text

@@ -17,9 +17,9 @@ pub record StandsForOwn (fares : Fares) (teller : Teller) (entries : List Entry)
   pub up_to : All (λ entry. token_number entry.token ≤ token_number teller.token) entries
 
 -- the last teller, if there were entries, stands for them and has told some
-abbrev pub HasTurn : Fares → Option Teller → List Entry → Type 0
-HasTurn fares None entries = entries ≡ []
-HasTurn fares (Some teller) entries = StandsForOwn fares teller entries × (0 < teller.number)
+abbrev pub HasTeller : Fares → Option Teller → List Entry → Type 0
+HasTeller fares None entries = entries ≡ []
+HasTeller fares (Some teller) entries = StandsForOwn fares teller entries × (0 < teller.number)
 
 -- these are the lines that were read: of the entries, and of no others
 pub record HasRead (fares : Fares) (replay : Replay) (lines : List (List ℕ)) : Type 0 where
@@ -28,7 +28,7 @@ pub record HasRead (fares : Fares) (replay : Replay) (lines : List (List ℕ)) :
   pub only : (others : List Entry) → AreNext fares [] others lines → others ≡ entries
   pub counted : replay.lines ≡ length entries
   pub few : length entries ≤ 2 ^ 62
-  pub turn : HasTurn fares replay.turn entries
+  pub teller : HasTeller fares replay.teller entries
 
 -- no ledger has this line after these
 abbrev pub IsWrongAfter : Fares → List (List ℕ) → List ℕ → Type 0

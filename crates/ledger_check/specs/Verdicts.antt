@@ -18,7 +18,7 @@ pub record IsFirstWrong (fares : Fares) (lines : List (List ℕ)) (number : ℕ)
   pub before : List (List ℕ)
   pub line : List ℕ
   pub after : List (List ℕ)
-  pub cut : lines ≡ head_text ∷ (before ++ line ∷ after)
+  pub split : lines ≡ head_text ∷ (before ++ line ∷ after)
   pub entries : List Entry
   pub are : AreNext fares [] entries before
   pub counted : number ≡ length entries + 2
@@ -31,7 +31,7 @@ IsHeadless lines = (others : List (List ℕ)) → lines ≡ head_text ∷ others
 -- the lines are a ledger's of so many entries
 pub record IsWholeLedger (fares : Fares) (lines : List (List ℕ)) (number : ℕ) : Type 0 where
   pub others : List (List ℕ)
-  pub cut : lines ≡ head_text ∷ others
+  pub split : lines ≡ head_text ∷ others
   pub entries : List Entry
   pub are : AreNext fares [] entries others
   pub counted : number ≡ length entries
@@ -76,7 +76,7 @@ HasTaken fares reading (line ∷ lines) =
 pub record HasFed (fares : Fares) (checker : Checker) (text : List ℕ) : Type 0 where
   pub lines : List (List ℕ)
   pub taken : HasTaken fares checker.reading lines
-  pub cut : (more : List ℕ)
+  pub split : (more : List ℕ)
       → lines_of (text ++ more) ≡ lines ++ lines_of (checker.part.items ++ more)
   pub lacks : Lacks 10 checker.part.items
   pub short : length checker.part.items ≤ 255

@@ -7,7 +7,7 @@ ghost use Rattle.fare_table.specs.Fares.{Fares};
 ghost use Rattle.fare_table.specs.Token.{Fits};
 ghost use Rattle.shard_book.specs.declared.entry.Entry.{Entry};
 ghost use Rattle.ledger_check.specs.Ledger.{token_number};
-ghost use Rattle.ledger_check.specs.Replays.{HasRead, HasTurn, StandsForOwn};
+ghost use Rattle.ledger_check.specs.Replays.{HasRead, HasTeller, StandsForOwn};
 ghost use Rattle.ledger_check.specs.inside.Replays.{IsStep};
 
 use crate::bytes::same_bytes;
@@ -36,13 +36,13 @@ pub(crate) enum Step {
     NoLine,
 }
 
-/// The lines read so far: how many there are, and the turn of the last one's token.
+/// The lines read so far: how many there are, and the teller of the last one's token.
 #[derive(Clone, Copy)]
 pub(crate) struct Replay {
     /// How many lines were read.
     pub(crate) lines: u64,
-    /// The turn of the last line's token; none where no line was read.
-    turn: Option<Teller>,
+    /// The teller of the last line's token; none where no line was read.
+    teller: Option<Teller>,
 }
 
 impl Replay {
@@ -52,27 +52,27 @@ impl Replay {
     {
         Replay {
             lines: 0,
-            turn: None,
+            teller: None,
         }
     }
 
-    /// The turn of the token, which goes on or begins here; `None` where the token is less than the
-    /// last one.
-    fn turn_of(&self, token: Token) -> Option<Teller>
+    /// The teller of the token, which goes on or begins here; `None` where the token is less than
+    /// the last one.
+    fn teller_of(&self, token: Token) -> Option<Teller>
         requires { Fits token }
-        ensures token { IfSome result (λ turn. turn.token ≡ token) }
-        ensures stands { IfSome result (λ turn. (fares : Fares) (entries : List Entry)
-            → HasTurn fares self.now.turn entries → StandsForOwn fares turn entries) }
+        ensures token { IfSome result (λ teller. teller.token ≡ token) }
+        ensures stands { IfSome result (λ teller. (fares : Fares) (entries : List Entry)
+            → HasTeller fares self.now.teller entries → StandsForOwn fares teller entries) }
         ensures less { IfNone result ((fares : Fares) (entries : List Entry)
-            → HasTurn fares self.now.turn entries
+            → HasTeller fares self.now.teller entries
             → All (λ entry. token_number entry.token ≤ token_number token) entries → ⊥) }
     {
-        let Some(turn) = self.turn else {
+        let Some(teller) = self.teller else {
             return Some(Teller::of(token));
         };
-        match turn.token.cmp(&token) {
+        match teller.token.cmp(&token) {
             Ordering::Less => Some(Teller::of(token)),
-            Ordering::Equal => Some(turn),
+            Ordering::Equal => Some(teller),
             Ordering::Greater => None,
         }
     }
@@ -98,13 +98,13 @@ impl Replay {
         let Some(tap) = read_tap(line) else {
             return Ok(Step::NoLine);
         };
-        let Some(mut turn) = self.turn_of(tap.token) else {
+        let Some(mut teller) = self.teller_of(tap.token) else {
             return Ok(Step::NoLine);
         };
-        write_wanted(&mut turn, table, clock, tap.validator, tap.moment, wanted)?;
+        write_wanted(&mut teller, table, clock, tap.validator, tap.moment, wanted)?;
         if same_bytes(wanted.as_bytes(), line) {
             self.lines += 1;
-            self.turn = Some(turn);
+            self.teller = Some(teller);
             return Ok(Step::Legal(tap));
         }
         if wanted.len() <= LONGEST && has_form(line) {

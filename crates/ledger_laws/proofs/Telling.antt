@@ -196,4 +196,4 @@ written_is_read fares only history text can short over =
     let body : lines_of over.lines ≡ told.lines = ap lines_of (sym (append-nil over.lines)) ∙ told.cut [] ∙ append-nil told.lines in
     let head : lines_of (head_text ++ over.lines) ≡ head_text ∷ lines_of over.lines = lines-line head_front over.lines (lacks-tested 10 head_front refl) in
     let cut : lines_of text ≡ head_text ∷ told.lines = ap lines_of over.whole ∙ head ∙ ap (λ (ls : List (List ℕ)). head_text ∷ ls) body in
-    record { lines = told.lines; cut = cut; are = told.are (subst (AllByRecursion Short) cut short).1 }
+    record { lines = told.lines; split = cut; are = told.are (subst (AllByRecursion Short) cut short).1 }

@@ -6,7 +6,7 @@ use Rattle.std.specs.Option.{option_to_list}
 use Rattle.std.proofs.lemmas.Bool.{cases_Bool}
 use Rattle.fare_table.specs.declared.mode.Mode.{Mode}
 use Rattle.account_rule.specs.Chains.{ends_in_transfer}
-use Rattle.account_rule.specs.Cut.{last_block}
+use Rattle.account_rule.specs.Blocks.{last_block}
 use Rattle.account_rule.specs.Laws.{is_ride}
 use Rattle.account_rule.specs.Replies.{reply, reply_with, ride_reply}
 use Rattle.account_rule.specs.Rules.{Rules}
@@ -154,7 +154,7 @@ earlier-push rules taps tap =
 pub earlier-none : (rules : Rules) → earlier_windows rules [] ≡ []
 unfolding earlier_windows windows but_last Rattle.account_rule.specs.Chains.rides
     Rattle.account_rule.specs.Chains.chains Rattle.account_rule.specs.Taps.live
-    Rattle.account_rule.specs.Taps.live_after Rattle.account_rule.specs.Cut.cut
+    Rattle.account_rule.specs.Taps.live_after Rattle.account_rule.specs.Blocks.blocks_by
 earlier-none rules = refl
 
 -- the windows that are kept, with the one that a tap more ends

@@ -23,10 +23,10 @@ pub come_first : (fares : Fares) (teller : Teller) → HasTold fares teller [] �
 unfolding own
 come_first fares teller told = record { told = told; up = tt }
 
-pub come_turned : (fares : Fares) (old new : Teller) (earlier : List Entry) → HasCome fares old earlier
+pub come_on : (fares : Fares) (old new : Teller) (earlier : List Entry) → HasCome fares old earlier
     → IsUpTo old.token new.token → token_eq old.token new.token ≡ false → HasTold fares new []
     → HasCome fares new earlier
-come_turned fares old new earlier come to apart fresh =
+come_on fares old new earlier come to apart fresh =
     let none : [] ≡ own new.token earlier = sym (none_below earlier old.token new.token come.up to apart) in
     record {
       told = subst (λ (es : List Entry). HasTold fares new es) none fresh;

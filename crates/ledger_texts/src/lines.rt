@@ -55,8 +55,8 @@ fn pass_piece<W: Write>(text: &mut String, out: &mut W) -> Result<(), LedgerFaul
     pass_on(text, out)
 }
 
-/// Turns the teller to the token of the next entry, which is not below its own.
-fn turn_to(teller: &mut Teller, token: Token)
+/// Goes on with the token of the next entry, which is not below its own.
+fn go_on_to(teller: &mut Teller, token: Token)
     ensures come { (fares : Fares) (earlier : List Entry) → HasCome fares teller.old earlier
         → IsUpTo teller.old.token token → HasCome fares teller.new earlier }
     ensures token { teller.new.token ≡ token }
@@ -89,7 +89,7 @@ fn write_pieces<W: Write>(
     let mut teller = Teller::of(first);
     for spot in spots {
         let entry = spot.entry(books);
-        turn_to(&mut teller, entry.token);
+        go_on_to(&mut teller, entry.token);
         // The text has room for a line, so that none is refused.
         let Ok(()) = teller.write_next(text, table, clock, &entry) else {
             return Err(LedgerFault::Write);

@@ -45,7 +45,7 @@ pub(crate) fn verdict_of<R: Read>(
 {
     let mut checker = Checker::new(alloc);
     let mut step = [0u8; STEP];
-    for _turn in 0..u64::MAX {
+    for _piece in 0..u64::MAX {
         let Ok(count) = reader.read(&mut step) else {
             return Err(Fault::Ledger);
         };

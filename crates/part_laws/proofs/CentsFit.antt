@@ -8,7 +8,7 @@ use Rattle.fare_table.specs.Fares.{Fares}
 use Rattle.fare_table.specs.Terms.{HasLimits}
 use Rattle.fare_table.specs.Token.{bytes_of}
 use Rattle.account_rule.specs.Chains.{ends_in_transfer}
-use Rattle.account_rule.specs.Cut.{last_block}
+use Rattle.account_rule.specs.Blocks.{last_block}
 use Rattle.account_rule.specs.Replies.{live_reply, reply, reply_with, ride_reply}
 use Rattle.account_rule.specs.Rules.{Rules, rules_of}
 use Rattle.account_rule.specs.Taps.{is_later}

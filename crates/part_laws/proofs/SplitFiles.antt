@@ -12,7 +12,7 @@ use Rattle.tap_views.specs.Layout.{Tap}
 use Rattle.tap_views.specs.declared.encoder.TapFields.{TapFields}
 use Rattle.tap_parts.specs.Parts.{part_of_token, of_part}
 use Rattle.upload_parts.specs.Split.{HasTaps, IsSplitFile}
-use Rattle.fare_service.specs.Plain.{AreTapsOf, AreTapsOfEach, HasOneCut}
+use Rattle.fare_service.specs.Plain.{AreTapsOf, AreTapsOfEach, HasOneReading}
 use Rattle.fare_service.proofs.PlainRuns.{AllZip-append}
 use Rattle.tap_parts.specs.Parts.{uploads_joined}
 use Rattle.part_laws.specs.Files.{HasNoFault}
@@ -58,7 +58,7 @@ module _ (number parts : ℕ) where
   record Kept (uploads files : List (List ℕ)) : Type 0 where
     pub taps : List (List Tap)
     pub each : AreTapsOfEach uploads taps
-    pub own : (list : List (List Tap)) → All HasOneCut files → AreTapsOfEach files list
+    pub own : (list : List (List Tap)) → All HasOneReading files → AreTapsOfEach files list
         → IsPermutation (mine taps) (map fields_of (uploads_joined list))
 
   kept : (groups : List (List (List ℕ))) (files : List (List ℕ))
@@ -66,7 +66,7 @@ module _ (number parts : ℕ) where
       → Kept (all_of groups) files
   kept [] [] zip = record { taps = []; each = tt; own = none }
     where
-      none : (list : List (List Tap)) → All HasOneCut [] → AreTapsOfEach [] list
+      none : (list : List (List Tap)) → All HasOneReading [] → AreTapsOfEach [] list
           → IsPermutation (mine []) (map fields_of (uploads_joined list))
       none [] cuts each = IsPermutation-refl []
       none (ts ∷ list) cuts each = absurd each
@@ -83,16 +83,16 @@ module _ (number parts : ℕ) where
       }
     where
       first : (p : IsSplitFile group parts number file) (rest : Kept (all_of groups) files)
-          (list : List (List Tap)) → All HasOneCut (file ∷ files)
+          (list : List (List Tap)) → All HasOneReading (file ∷ files)
           → AreTapsOfEach (file ∷ files) list
           → IsPermutation (mine (p.taps ++ rest.taps)) (map fields_of (uploads_joined list))
       first p rest [] cuts each = absurd each
       first p rest (ts ∷ list) cuts each =
           let read : map fields_of ts ≡ p.list =
-          read_fields file ts p.list (All-head HasOneCut file files cuts) each.0 p.reads in
+          read_fields file ts p.list (All-head HasOneReading file files cuts) each.0 p.reads in
           let here : IsPermutation (mine p.taps) (map fields_of ts) =
           subst (λ fs. IsPermutation (mine p.taps) fs) (sym read) p.canonical.moved in
-          let more = rest.own list (All-tail HasOneCut file files cuts) each.1 in
+          let more = rest.own list (All-tail HasOneReading file files cuts) each.1 in
           let both = IsPermutation-append (mine p.taps) (map fields_of ts) (mine rest.taps)
           (map fields_of (uploads_joined list)) here more in
           subst (λ fs. IsPermutation fs (map fields_of (ts ++ uploads_joined list)))
@@ -102,8 +102,8 @@ module _ (number parts : ℕ) where
 
   pub own_taps : (groups : List (List (List ℕ))) (files : List (List ℕ))
       → AllZip (λ group file. IsSplitFile group parts number file) groups files
-      → (uploads : List (List ℕ)) → uploads ≡ all_of groups → All HasOneCut uploads
-      → All HasOneCut files
+      → (uploads : List (List ℕ)) → uploads ≡ all_of groups → All HasOneReading uploads
+      → All HasOneReading files
       → (taps list : List (List Tap)) → AreTapsOfEach uploads taps → AreTapsOfEach files list
       → IsPermutation (map fields_of (of_part number parts (uploads_joined taps)))
       (map fields_of (uploads_joined list))
@@ -116,7 +116,7 @@ module _ (number parts : ℕ) where
 
 -- the files of a part are batches alone
 pub none_faulty : (number parts : ℕ) (groups : List (List (List ℕ))) (files : List (List ℕ))
-    → All HasOneCut files
+    → All HasOneReading files
     → AllZip (λ group file. IsSplitFile group parts number file) groups files
     → All HasNoFault files
 none_faulty number parts [] [] cuts zip = All-nil HasNoFault
@@ -125,6 +125,6 @@ none_faulty number parts (group ∷ groups) [] cuts zip = absurd zip
 none_faulty number parts (group ∷ groups) (file ∷ files) cuts zip =
     let reads = zip.0.reads in
     All-cons HasNoFault file files
-    (λ batches rest is. sym (All-head HasOneCut file files cuts reads.batches batches [] rest
+    (λ batches rest is. sym (All-head HasOneReading file files cuts reads.batches batches [] rest
     reads.is_file is).1)
-    (none_faulty number parts groups files (All-tail HasOneCut file files cuts) zip.1)
+    (none_faulty number parts groups files (All-tail HasOneReading file files cuts) zip.1)

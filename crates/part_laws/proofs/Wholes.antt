@@ -26,7 +26,7 @@ use Rattle.shard_book.specs.Groups.{validator_of, validators}
 use Rattle.shard_book.specs.Rising.{rising}
 use Rattle.shard_book.specs.Sums.{Sums, add_all, sums, sums_of_replies}
 use Rattle.fare_service.specs.Ends.{end_by}
-use Rattle.fare_service.specs.Plain.{ArePlainEnds, AreTapsOf, AreTapsOfEach, HasOneCut, IsPlainEnd}
+use Rattle.fare_service.specs.Plain.{ArePlainEnds, AreTapsOf, AreTapsOfEach, HasOneReading, IsPlainEnd}
 use Rattle.fare_service.specs.Plain.{IsReportOver, WasWhole, unanswered}
 use Rattle.fare_service.specs.Shares.{IsFaultOf}
 use Rattle.fare_service.specs.declared.upload_end.UploadEnd.{UploadEnd}
@@ -156,7 +156,7 @@ all_posted : (taps : ℕ) (fault : Option (ℕ × LayoutFault))
 all_posted taps None = refl
 all_posted taps (Some (offset, fault)) = refl
 
-one_end : (file : List ℕ) (taps : List Tap) (end : UploadEnd) → HasOneCut file
+one_end : (file : List ℕ) (taps : List Tap) (end : UploadEnd) → HasOneReading file
     → AreTapsOf file taps → IsPlainEnd file end → (end_of end).taps ≡ length taps
 one_end file taps end cut of is =
     let same = cut of.batches is.batches of.rest is.rest of.is_file is.is_file in
@@ -165,7 +165,7 @@ one_end file taps end cut of is =
     ∙ sym (ap length (of.all ∙ ap (flat_map (λ (batch : List Tap). batch)) same.0))
 
 end_taps : (files : List (List ℕ)) (taps : List (List Tap)) (ends : List UploadEnd)
-    → AllByRecursion HasOneCut files → AreTapsOfEach files taps → ArePlainEnds files ends
+    → AllByRecursion HasOneReading files → AreTapsOfEach files taps → ArePlainEnds files ends
     → sum_by (λ end. end.taps) (map end_of ends) ≡ length (uploads_joined taps)
 end_taps [] [] [] cuts each plain = refl
 end_taps [] [] (end ∷ ends) cuts each plain = absurd plain
@@ -221,7 +221,7 @@ module _ (fares : Fares) (uploads : List (List ℕ)) (history : List Entry) (par
     (split : IsSplit fares uploads history parts) (numbers : RisingNumbers)
     (names : RisingTokens) (law : SumsAdd) (lists : List (List UploadEnd))
     (plain : ArePlainEnds uploads (flat_map (λ some. some) lists))
-    (sizes : All HasSize uploads) (cuts : All HasOneCut uploads) (can : All IsWritable parts)
+    (sizes : All HasSize uploads) (cuts : All HasOneReading uploads) (can : All IsWritable parts)
     (none : All (λ part. All HasNoFault part.files) parts) (report_files : List (List ℕ))
     (told_parts : AllZip (λ part file. IsReportOver part.files part.history file) parts
     report_files) where
@@ -288,7 +288,7 @@ module _ (fares : Fares) (uploads : List (List ℕ)) (history : List Entry) (par
       let taps = ap (λ (s : Sums). s.taps)
       (merged_totals fares uploads history parts split law numbers) in
       let counted = end_taps uploads split.settled.taps all
-      (recursion_from_All HasOneCut uploads cuts) split.settled.of_uploads plain in
+      (recursion_from_All HasOneReading uploads cuts) split.settled.of_uploads plain in
       record {
         ends = map (map end_of) lists;
         parts = tellings.told;

@@ -12,7 +12,8 @@ ghost use Rattle.shard_book.specs.Entry.{own};
 ghost use Rattle.shard_book.specs.Groups.{sums_by_token, sums_by_validator};
 ghost use Rattle.shard_book.specs.Sums.{Sums, add_all, sums};
 ghost use Rattle.fare_table.specs.Token.{bytes_of};
-ghost use Rattle.fare_service.specs.Plain.{ArePlainEnds, AreTapsOfEach, HasOneCut, IsReportOver};
+ghost use Rattle.fare_service.specs.Plain.{ArePlainEnds, AreTapsOfEach, HasOneReading};
+ghost use Rattle.fare_service.specs.Plain.{IsReportOver};
 ghost use Rattle.fare_service.specs.Text.{report, upload_lines};
 ghost use Rattle.fare_service.specs.declared.upload_end.UploadEnd.{UploadEnd};
 ghost use Rattle.tap_parts.specs.Parts.{part_of_token};
@@ -25,7 +26,7 @@ ghost use Rattle.part_laws.specs.Sizes.{CanBeWritten, HasSize, HaveLimits};
 ghost use Rattle.part_laws.specs.Split.{AreTokensOf, AreValidatorsOf, IsPartOf, IsSplit, Part};
 ghost use Rattle.part_laws.specs.Split.{entries_of_parts, part_of};
 
-use fare_service::laws::cuts;
+use fare_service::laws::one_reading_each;
 use part_reports::laws::texts_differ;
 use shard_book::laws::{rising, sums as adding};
 
@@ -42,8 +43,8 @@ pub fn split_part(uploads: &[Vec<u8>], files: &[Vec<u8>])
         → IsPartOf fares (uploads_joined taps) number parts
         (part_of (map (λ file. file.items) files.now) history) }
 {
-    cuts(uploads);
-    cuts(files);
+    one_reading_each(uploads);
+    one_reading_each(files);
 }
 
 /// The files that a split makes of one part have no layout fault.
@@ -53,7 +54,7 @@ pub fn no_faults(files: &[Vec<u8>])
         (map (λ file. file.items) files.now)
         → All HasNoFault (map (λ file. file.items) files.now) }
 {
-    cuts(files);
+    one_reading_each(files);
 }
 
 /// Uploads were split by token, and each part was settled by itself. Then a token's entries are
@@ -136,12 +137,12 @@ pub fn merged_text()
 
 /// Each part's files have no layout fault, and its report file is the report of its settled
 /// history. Each of the ends' files has the lines of the next uploads. Such files can be merged. An
-/// upload has one cut into batches: `fare_service::laws::cuts` says so of any bytes.
+/// upload is read in one way: `fare_service::laws::one_reading_each` says so of any bytes.
 pub fn can_be_merged()
     ensures { (fares : Fares) (uploads : List (List ℕ)) (history : List Entry)
         (parts : List Part) → IsSplit fares uploads history parts
         → (lists : List (List UploadEnd)) → ArePlainEnds uploads (flat_map (λ some. some) lists)
-        → All HasSize uploads → All HasOneCut uploads
+        → All HasSize uploads → All HasOneReading uploads
         → HaveLimits fares → All CanBeWritten parts
         → All (λ part. All HasNoFault part.files) parts
         → (report_files : List (List ℕ))

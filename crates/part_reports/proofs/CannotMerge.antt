@@ -20,8 +20,8 @@ use Rattle.part_reports.specs.TokenLines.{ShareNoToken, HaveOtherTokens, IsMerge
 use Rattle.part_reports.specs.declared.merging.Lines.{Lines}
 use Rattle.part_reports.specs.declared.merging.Lines.TheVariants.{Entries, Tokens}
 use Rattle.part_reports.specs.declared.sums.WholeSums.{WholeSums}
-use Rattle.part_reports.specs.declared.ends.Ends.{Ends}
-use Rattle.part_reports.specs.inside.Ends.{Have}
+use Rattle.part_reports.specs.declared.upload_ends.UploadEnds.{UploadEnds}
+use Rattle.part_reports.specs.inside.UploadEnds.{Have}
 use Rattle.part_reports.specs.inside.Fronts.{MayBePart, ToldFront}
 use Rattle.part_reports.specs.inside.Kinds.{AreTexts}
 use Rattle.part_reports.specs.inside.Parts.{AreParts, Begun, begun_text, left_text}
@@ -80,7 +80,7 @@ fronts_same (one ∷ begun) (part ∷ parts) may fit same =
 
 -- texts that have a report of the whole have as many taps
 pub same_taps : (end_files report_files : List (List ℕ)) (text : List ℕ) (lists : List (List End))
-    (ends : Ends) (sums : WholeSums) (standings : List Standing)
+    (ends : UploadEnds) (sums : WholeSums) (standings : List Standing)
     → IsMerged end_files report_files text → end_files ≡ end_texts 0 lists
     → Have ends (joined_ends lists) → AreParts report_files sums standings
     → sums.totals.taps ≡ ends.taps

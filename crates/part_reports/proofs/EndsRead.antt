@@ -9,10 +9,10 @@ use Rattle.std.proofs.lemmas.List.Elements.{All-head, All-tail, All-cons, All-ni
 use Rattle.std.proofs.lemmas.List.Sums.{sum_by-append}
 use Rattle.part_reports.specs.declared.fault.MergeFault.{MergeFault}
 use Rattle.part_reports.specs.declared.form as form
-use Rattle.part_reports.specs.declared.ends.Ends.{Ends}
+use Rattle.part_reports.specs.declared.upload_ends.UploadEnds.{UploadEnds}
 use Rattle.part_reports.specs.Lines.{End, IsUploadEnd, end_line, end_lines}
-use Rattle.part_reports.specs.inside.Ends.{end_of_upload}
-use Rattle.part_reports.specs.inside.Ends.{AreEndsAdded, IsNextEnd, More}
+use Rattle.part_reports.specs.inside.UploadEnds.{end_of_upload}
+use Rattle.part_reports.specs.inside.UploadEnds.{AreEndsAdded, IsNextEnd, More}
 use Rattle.part_reports.specs.inside.Reading.{IsTold}
 use Rattle.part_reports.proofs.LinesRead.{through}
 use Rattle.part_reports.proofs.ListsWritten.{lines_more, end_lines_from}
@@ -70,17 +70,17 @@ next_no upload (Some text) after items line told fault small is same some form n
 
 -- ---- the lines of one text
 -- these lines were read of the text, and this is left
-pub record Adding (before now : Ends) (text : List ℕ) (left : Option (List ℕ)) : Type 0 where
+pub record Adding (before now : UploadEnds) (text : List ℕ) (left : Option (List ℕ)) : Type 0 where
   pub more : List End
   pub is : More before now more
   pub rest : List ℕ
   pub shown : text ≡ end_lines before.uploads more ++ rest
   pub left_is : left ≡ Some rest
 
-abbrev pub AddingSome : Ends → Ends → Option (List ℕ) → Option (List ℕ) → Type 0
+abbrev pub AddingSome : UploadEnds → UploadEnds → Option (List ℕ) → Option (List ℕ) → Type 0
 AddingSome before now text left = IfSome text (λ text. Adding before now text left)
 
-pub adding_first : (ends : Ends) (text : Option (List ℕ)) → AddingSome ends ends text text
+pub adding_first : (ends : UploadEnds) (text : Option (List ℕ)) → AddingSome ends ends text text
 adding_first ends None = tt
 adding_first ends (Some text) = record {
   more = [];
@@ -117,13 +117,13 @@ end_lines_more first ends end = end_lines_from first (ends ++ end ∷ [])
     (sym (end_lines_from first ends))
 
 -- what adding a line did
-pub record OneAdded (now after : Ends) (line : List ℕ) (end : form.End.End) : Type 0 where
+pub record OneAdded (now after : UploadEnds) (line : List ℕ) (end : form.End.End) : Type 0 where
   pub text : after.text.items ≡ now.text.items ++ line
   pub uploads : after.uploads ≡ now.uploads + 1
   pub taps : after.taps ≡ now.taps + end.taps
   pub posted : IsTrue after.are_posted ↔ (IsTrue now.are_posted × (end.fault ≡ None))
 
-pub adding_more : (before now after : Ends) (text left then_left : Option (List ℕ))
+pub adding_more : (before now after : UploadEnds) (text left then_left : Option (List ℕ))
     (line items : List ℕ) (end : form.End.End) → line ≡ items
     → AddingSome before now text left → IsNextEnd now.uploads left then_left items (Ok (Some end))
     → OneAdded now after line end
@@ -177,7 +177,7 @@ adding_more before now after (Some text) left then_left line items end same addi
       left_is = here.left;
     }
 
-pub adding_done : (before now : Ends) (text left then_left : Option (List ℕ)) (items : List ℕ)
+pub adding_done : (before now : UploadEnds) (text left then_left : Option (List ℕ)) (items : List ℕ)
     → AddingSome before now text left → IsNextEnd now.uploads left then_left items (Ok None)
     → AreEndsAdded before now text (Ok tt)
 adding_done before now None left then_left items adding next = tt
@@ -217,7 +217,7 @@ lines_rest number (a ∷ done) (end ∷ ends) rest may may_too same some absent_
     (All-tail IsUploadEnd end ends may_too) first.1 some
     (λ end more may is. absent_end end more may (is ∙ ap (λ k. end_line k end ++ more) at))
 
-pub adding_refused : (before now after : Ends) (text left then_left : Option (List ℕ))
+pub adding_refused : (before now after : UploadEnds) (text left then_left : Option (List ℕ))
     (items : List ℕ) (fault : MergeFault)
     → AddingSome before now text left → IsNextEnd now.uploads left then_left items (Err fault)
     → AreEndsAdded before after text (Err fault)

@@ -12,8 +12,8 @@ use Rattle.shard_book.specs.declared.sums.totals.Totals.{Totals}
 use Rattle.part_reports.specs.Lines.{End, end_lines, head_line, validator_line}
 use Rattle.part_reports.specs.Reports.{front_text}
 use Rattle.part_reports.specs.declared.sums.WholeSums.{WholeSums}
-use Rattle.part_reports.specs.declared.ends.Ends.{Ends}
-use Rattle.part_reports.specs.inside.Ends.{Have}
+use Rattle.part_reports.specs.declared.upload_ends.UploadEnds.{UploadEnds}
+use Rattle.part_reports.specs.inside.UploadEnds.{Have}
 use denote.Ref.{Bor}
 
 -- entries of the map, as validators with their sums
@@ -59,7 +59,7 @@ shown_length [] = refl
 shown_length (entry ∷ entries) = let rest = shown_length entries in omega (arith, rest)
 
 -- the pieces of the text before the tokens
-pub front_joined : (ends : Ends) (list : List End) (sums : WholeSums) (count : ℕ)
+pub front_joined : (ends : UploadEnds) (list : List End) (sums : WholeSums) (count : ℕ)
     (first with_ends whole none totals heads lines all : List ℕ)
     → Have ends list → count ≡ length sums.validators.entries
     → first ≡ codes "uploads " ++ (decimal ends.uploads ++ codes "\n")

@@ -7,7 +7,7 @@ use Rattle.std.proofs.lemmas.List.Elements.{All-head, All-tail, All-nil, All-pus
 use Rattle.part_reports.specs.declared.fault.MergeFault.{MergeFault}
 use Rattle.part_reports.specs.Faults.{IsOfTexts}
 use Rattle.part_reports.specs.declared.form as form
-use Rattle.part_reports.specs.inside.Ends.{end_of_upload}
+use Rattle.part_reports.specs.inside.UploadEnds.{end_of_upload}
 use Rattle.part_reports.specs.Lines.{End, IsUploadEnd, end_line, end_lines}
 use Rattle.part_reports.specs.inside.Fronts.{AreSoManyPosted}
 use Rattle.part_reports.specs.inside.Reading.{IsRead}

@@ -9,12 +9,12 @@ use Rattle.std.proofs.lemmas.List.Concat.{flat_map-append}
 use Rattle.std.proofs.lemmas.List.Elements.{All-append, All-head, All-tail, All-nil}
 use Rattle.std.proofs.lemmas.List.Sums.{sum_by-append}
 use Rattle.part_reports.specs.declared.fault.MergeFault.{MergeFault}
-use Rattle.part_reports.specs.declared.ends.Ends.{Ends}
+use Rattle.part_reports.specs.declared.upload_ends.UploadEnds.{UploadEnds}
 use Rattle.part_reports.specs.Faults.{IsOfTexts}
 use Rattle.part_reports.specs.Lines.{End, IsUploadEnd, end_line, end_lines}
 use Rattle.part_reports.specs.Reports.{end_texts, joined_ends}
 use Rattle.part_reports.specs.Texts.{AreLeft}
-use Rattle.part_reports.specs.inside.Ends.{Have, AreEndsAdded, More}
+use Rattle.part_reports.specs.inside.UploadEnds.{Have, AreEndsAdded, More}
 use Rattle.part_reports.proofs.EndsRead.{All-behind, All-front, some_line}
 use Rattle.part_reports.proofs.Unique.{end_line_unique}
 
@@ -146,7 +146,7 @@ end_lines_joined first (end ∷ some) more =
     ∙ sym (append_assoc (end_line first end) (end_lines (first + 1) some)
     (end_lines (first + suc (length some)) more))
 
-pub have_none : (ends : Ends) → ends.text.items ≡ [] → ends.uploads ≡ 0 → ends.taps ≡ 0
+pub have_none : (ends : UploadEnds) → ends.text.items ≡ [] → ends.uploads ≡ 0 → ends.taps ≡ 0
     → IsTrue ends.are_posted → Have ends []
 have_none ends text uploads taps posted = record {
   text = text;
@@ -156,7 +156,7 @@ have_none ends text uploads taps posted = record {
   each = All-nil IsUploadEnd;
 }
 
-have_more : (before after : Ends) (list more : List End) → Have before list → More before after more
+have_more : (before after : UploadEnds) (list more : List End) → Have before list → More before after more
     → Have after (list ++ more)
 have_more before after list more have is =
     let sums = sum_by-append (λ (end : End). end.taps) list more in
@@ -181,11 +181,11 @@ have_more before after list more have is =
     }
 
 -- the texts of these readers tell ends, which were added up
-abbrev pub AreRead : {R : Type 0} → (R → Option (List ℕ)) → List R → Ends → Type 0
+abbrev pub AreRead : {R : Type 0} → (R → Option (List ℕ)) → List R → UploadEnds → Type 0
 AreRead remaining readers ends = (files : List (List ℕ)) → AreLeft remaining readers files
     → (lists : List (List End)) × (files ≡ end_texts 0 lists) × Have ends (joined_ends lists)
 
-pub read_none : {R : Type 0} (remaining : R → Option (List ℕ)) (ends : Ends) → Have ends []
+pub read_none : {R : Type 0} (remaining : R → Option (List ℕ)) (ends : UploadEnds) → Have ends []
     → AreRead remaining [] ends
 read_none remaining ends have [] are = ([], refl, have)
 read_none remaining ends have (file ∷ files) are = absurd (cc)
@@ -196,7 +196,7 @@ no_files remaining [] are = refl
 no_files remaining (file ∷ files) are = absurd (cc)
 
 pub read_next : {R : Type 0} (remaining : R → Option (List ℕ)) (readers : List R) (x : R)
-    (before after : Ends)
+    (before after : UploadEnds)
     → AreRead remaining readers before → AreEndsAdded before after (remaining x) (Ok tt)
     → AreRead remaining (readers ++ x ∷ []) after
 read_next remaining readers x before after read added files are =
@@ -217,7 +217,7 @@ read_next remaining readers x before after read added files are =
 
 -- a text that tells no ends
 pub read_refused : {R : Type 0} (remaining : R → Option (List ℕ)) (items readers : List R) (x : R)
-    (before after : Ends) (fault : MergeFault)
+    (before after : UploadEnds) (fault : MergeFault)
     → readers ≡ take (length readers) items → length readers < length items
     → x ≡ get_or items (length readers) x
     → AreRead remaining readers before → AreEndsAdded before after (remaining x) (Err fault)

@@ -25,8 +25,8 @@ use Rattle.part_reports.specs.Reports.{IsMerged, IsPartReport, Report, end_texts
 use Rattle.part_reports.specs.Reports.{joined_ends, report_text, sums_of_validator, tokens_of_reports, validators_of_reports}
 use Rattle.part_reports.specs.TokenLines.{IsMergedByToken, TokenLine, lines_of_token, text_of}
 use Rattle.part_reports.specs.declared.sums.WholeSums.{WholeSums}
-use Rattle.part_reports.specs.declared.ends.Ends.{Ends}
-use Rattle.part_reports.specs.inside.Ends.{Have}
+use Rattle.part_reports.specs.declared.upload_ends.UploadEnds.{UploadEnds}
+use Rattle.part_reports.specs.inside.UploadEnds.{Have}
 use Rattle.part_reports.specs.inside.Fronts.{MayBePart, ToldFront}
 use Rattle.part_reports.specs.inside.Kinds.{AreTexts, IsSumLine, IsTextOf}
 use Rattle.part_reports.specs.inside.Parts.{AreParts, Begun, begun_text, left_text}
@@ -265,7 +265,7 @@ pub record Written (end_files report_files : List (List ℕ)) (posted : Type 0)
   pub posted_is : posted ↔ All (λ end. end.fault ≡ None) (joined_ends merged.ends)
   pub appends : Appends old new text
 
-pub merged : (end_files report_files : List (List ℕ)) (lists : List (List End)) (ends : Ends)
+pub merged : (end_files report_files : List (List ℕ)) (lists : List (List End)) (ends : UploadEnds)
     (sums : WholeSums) (standings : List Standing) (front : List ℕ)
     (token_lists : List (List TokenLine)) (joined : List TokenLine) (old mid new : Option (List ℕ))
     → end_files ≡ end_texts 0 lists → Have ends (joined_ends lists)

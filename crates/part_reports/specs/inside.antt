@@ -1,7 +1,7 @@
 -- What only private functions cite. Who reads the contracts of public calls need not read it.
 pub mod Begun
 pub mod Counted
-pub mod Ends
+pub mod UploadEnds
 pub mod Fronts
 pub mod Kinds
 pub mod Least

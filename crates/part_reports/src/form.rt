@@ -18,7 +18,7 @@ ghost use Rattle.part_reports.specs.Lines.{End as EndOfUpload, IsValidatorSum, e
 ghost use Rattle.part_reports.specs.Lines.{head_line, token_line, validator_line};
 ghost use Rattle.part_reports.specs.TokenLines.{TokenLine};
 ghost use Rattle.part_reports.specs.inside.Counted.{IsCounted, sums_with};
-ghost use Rattle.part_reports.specs.inside.Ends.{end_of_upload, fault_words};
+ghost use Rattle.part_reports.specs.inside.UploadEnds.{end_of_upload, fault_words};
 
 use itoa::Buffer;
 use shard_book::{Token, TokenSum, Totals, ValidatorSum};

@@ -7,7 +7,7 @@ ghost use Rattle.shard_book.specs.Sums.{sums_of};
 ghost use Rattle.part_reports.specs.Faults.{IsOfTaps};
 ghost use Rattle.part_reports.specs.Lines.{AreCounts, IsUploadEnd, IsValidatorSum};
 ghost use Rattle.part_reports.specs.Lines.{end_line, end_lines, head_line, validator_line};
-ghost use Rattle.part_reports.specs.inside.Ends.{end_of_upload};
+ghost use Rattle.part_reports.specs.inside.UploadEnds.{end_of_upload};
 ghost use Rattle.part_reports.specs.inside.Fronts.{AreEnds, AreSoManyPosted, AreRising, AreSums};
 ghost use Rattle.part_reports.specs.inside.Fronts.{AreValidators, IsFront, MayBePart};
 ghost use Rattle.part_reports.specs.inside.Fronts.{MayFollowValidators};

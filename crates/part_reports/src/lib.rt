@@ -6,7 +6,6 @@
 //! parts, put in order.
 #![tactic(auto)]
 
-mod ends;
 mod fault;
 mod form;
 mod front;
@@ -16,6 +15,7 @@ mod merging;
 mod reading;
 mod reports;
 mod sums;
+mod upload_ends;
 
 pub use fault::{MergeFault, Wrong};
 pub use ledgers::merge_ledgers;

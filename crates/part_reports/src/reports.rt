@@ -12,20 +12,20 @@ ghost use Rattle.part_reports.specs.Reports.{CannotBeMerged, IsMerged, IsPartRep
 ghost use Rattle.part_reports.specs.Reports.{joined_ends};
 ghost use Rattle.part_reports.specs.Reports.{report_text};
 ghost use Rattle.part_reports.specs.Texts.{AreLeft};
-ghost use Rattle.part_reports.specs.inside.Ends.{Have};
+ghost use Rattle.part_reports.specs.inside.UploadEnds.{Have};
 ghost use Rattle.part_reports.specs.inside.Parts.{AreParts, IsNoPart, IsPart};
 ghost use Rattle.part_reports.specs.inside.Sources.{standing};
 ghost use Rattle.part_reports.specs.inside.Whole.{validators_in};
 ghost use Rattle.part_reports.specs.Reports.{front_text as text_before_tokens};
 ghost use Rattle.shard_book.specs.Sums.{sums_of};
 
-use crate::ends::Ends;
-use crate::ends::read::read_ends;
 use crate::fault::{MergeFault, Wrong};
 use crate::front::read_front;
 use crate::merging::{Lines, Source, write_merged, write_text};
 use crate::reading::Reading;
 use crate::sums::{WholeSums, add_front, no_sums};
+use crate::upload_ends::UploadEnds;
+use crate::upload_ends::read::read_ends;
 use fare_texts::{write_counts, write_totals};
 use shard_book::Totals;
 use std::alloc::{AllocError, Global};
@@ -104,7 +104,7 @@ fn write_validators(text: &mut String, validators: &BTreeMap<u32, Totals>) -> Re
 }
 
 /// The whole's report up to the lines of its tokens.
-fn front_text(alloc: Global, ends: &Ends, sums: &WholeSums) -> Result<Vec<u8>, AllocError>
+fn front_text(alloc: Global, ends: &UploadEnds, sums: &WholeSums) -> Result<Vec<u8>, AllocError>
     ensures text { IfOk result (λ text. (list : List End) → Have ends.now list
         → text.items ≡ text_before_tokens list (sums_of sums.now.totals)
         (validators_in sums.now.validators) sums.now.tokens) }

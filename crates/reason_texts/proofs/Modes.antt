@@ -4,7 +4,7 @@ use Rattle.std.proofs.Common.{None, refl, sym, ap, subst, ◌∙◌}
 use Rattle.fare_table.specs.Fares.{Fares}
 use Rattle.fare_table.specs.declared.mode.Mode.{Mode}
 use Rattle.account_rule.specs.Chains.{chains, ends_in_transfer, is_even}
-use Rattle.account_rule.specs.Cut.{last_block}
+use Rattle.account_rule.specs.Blocks.{last_block}
 use Rattle.account_rule.specs.Kept.{State, kept_giver, kept_of}
 use Rattle.account_rule.specs.Reasons.{reason}
 use Rattle.account_rule.specs.Rules.{Rules, rules_of}

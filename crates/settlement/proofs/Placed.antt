@@ -18,7 +18,7 @@ use Rattle.tap_views.specs.Encoding.{fields_of}
 use Rattle.tap_views.specs.Layout.{Tap}
 use Rattle.tap_views.specs.declared.encoder.TapFields.{TapFields}
 use Rattle.tap_parts.specs.Parts.{part_of_token, of_part}
-use Rattle.fare_service.specs.Plain.{AreTapsOf, AreTapsOfEach, AreApart, HasOneCut}
+use Rattle.fare_service.specs.Plain.{AreTapsOf, AreTapsOfEach, AreApart, HasOneReading}
 use Rattle.fare_service.specs.declared.upload_end.UploadEnd.{UploadEnd}
 use Rattle.tap_parts.specs.Canonical.{tap_cmp}
 use Rattle.settlement.specs.Settled.{IsPartFile, IsSettled}
@@ -105,7 +105,7 @@ abbrev pub IsPlaced : ℕ → ℕ → List Tap → Type 0
 IsPlaced parts part taps =
     All (IsIn parts part) (map fields_of taps) × Pairs Rises (map fields_of taps)
 
-placed : (parts part : ℕ) (all : List Tap) (file : List ℕ) (taps : List Tap) → HasOneCut file
+placed : (parts part : ℕ) (all : List Tap) (file : List ℕ) (taps : List Tap) → HasOneReading file
     → AreTapsOf file taps → IsPartFile (map fields_of (of_part part parts all)) file
     → IsPlaced parts part taps
 placed parts part all file taps cut of is =
@@ -124,19 +124,19 @@ placed parts part all file taps cut of is =
     )
 
 pub file_at : (files : List (List ℕ)) (taps : List (List Tap)) (i : ℕ) (ts : List Tap)
-    → All HasOneCut files → AreTapsOfEach files taps → slice_get taps i ≡ Some ts
-    → (file : List ℕ) × (slice_get files i ≡ Some file) × AreTapsOf file ts × HasOneCut file
+    → All HasOneReading files → AreTapsOfEach files taps → slice_get taps i ≡ Some ts
+    → (file : List ℕ) × (slice_get files i ≡ Some file) × AreTapsOf file ts × HasOneReading file
 file_at [] [] i ts cuts each there = absurd (cc)
 file_at [] (t ∷ taps) i ts cuts each there = absurd each
 file_at (f ∷ files) [] i ts cuts each there = absurd each
 file_at (f ∷ files) (t ∷ taps) zero ts cuts each there =
     let same : t ≡ ts = cc in
-    (f, refl, subst (λ x. AreTapsOf f x) same each.0, All-head HasOneCut f files cuts)
+    (f, refl, subst (λ x. AreTapsOf f x) same each.0, All-head HasOneReading f files cuts)
 file_at (f ∷ files) (t ∷ taps) (suc i) ts cuts each there =
-    file_at files taps i ts (All-tail HasOneCut f files cuts) each.1 there
+    file_at files taps i ts (All-tail HasOneReading f files cuts) each.1 there
 
 pub all_placed : (uploads : List (List ℕ)) (ends : List UploadEnd) (files : List (List ℕ))
-    (taps : List (List Tap)) → All HasOneCut files → IsSettled uploads ends files
+    (taps : List (List Tap)) → All HasOneReading files → IsSettled uploads ends files
     → AreTapsOfEach files taps
     → (i : ℕ) (ts : List Tap) → slice_get taps i ≡ Some ts → IsPlaced (length files) i ts
 all_placed uploads ends files taps cuts is each i ts there =
@@ -159,7 +159,7 @@ in_its_part parts part taps tap all there =
         (unmapped ts (All-tail (IsIn parts part) (fields_of t) (map fields_of ts) every))
 
 pub apart : (uploads : List (List ℕ)) (ends : List UploadEnd) (files : List (List ℕ))
-    (taps : List (List Tap)) → All HasOneCut files → IsSettled uploads ends files
+    (taps : List (List Tap)) → All HasOneReading files → IsSettled uploads ends files
     → AreTapsOfEach files taps → AreApart taps
 apart uploads ends files taps cuts is each =
     λ first second ones others tap other at_first at_second has has_other same.

@@ -14,7 +14,7 @@ use Rattle.shard_book.specs.Sums.{sums}
 use Rattle.fare_table.specs.Token.{bytes_of}
 use Rattle.shard_book.specs.Visits.{AreEntriesOf}
 use Rattle.shard_book.specs.declared.entry.Entry.{Entry}
-use Rattle.fare_service.specs.Plain.{HasOneCut, AreTapsOfEach, IsPlain, IsReportOver, plain}
+use Rattle.fare_service.specs.Plain.{HasOneReading, AreTapsOfEach, IsPlain, IsReportOver, plain}
 use Rattle.fare_service.specs.Plain.{plain_after, answered, unanswered}
 use Rattle.fare_service.specs.Text.{report, validators_part, tokens_part}
 use Rattle.fare_texts.specs.Counts.{totals_line}
@@ -35,7 +35,7 @@ use Rattle.tap_parts.proofs.Total.{tap_cmp_total, tap_cmp_exact}
 use Rattle.settlement.proofs.Unique.{same_sorted}
 
 pub same_history : (fares : Fares) (uploads others : List (List ℕ)) (history again : List Entry)
-    → All HasOneCut uploads → All HasOneCut others → HaveSameTaps uploads others
+    → All HasOneReading uploads → All HasOneReading others → HaveSameTaps uploads others
     → IsSettledHistory fares uploads history → IsSettledHistory fares others again → history ≡ again
 same_history fares uploads others history again cuts other_cuts same one other =
     let here = one_list uploads same.taps one.taps cuts same.of_uploads one.of_uploads in
@@ -112,7 +112,7 @@ zip_after fares earlier (tap ∷ taps) names = (
       (All-tail IsNamedBy (fields_of tap) (map fields_of taps) names),
 )
 
-module _ (fares : Fares) (uploads : List (List ℕ)) (cuts : All HasOneCut uploads)
+module _ (fares : Fares) (uploads : List (List ℕ)) (cuts : All HasOneReading uploads)
     (later : List Entry) (p : IsPlain fares uploads later)
     (zip : AreEntriesOf (uploads_joined p.taps) later) where
   -- the settled history has the fields of the taps in their order

@@ -23,7 +23,7 @@ use Rattle.fare_table.specs.declared.token.Token.{Token}
 use Rattle.tap_parts.specs.Parts.{part_of_token, of_part}
 use Rattle.fare_service.specs.Headline.{Headline}
 use Rattle.fare_service.specs.Outcomes.{OutcomeView}
-use Rattle.fare_service.specs.Plain.{AreTapsOfEach, HasOneCut, IsPlain, IsStatementOver}
+use Rattle.fare_service.specs.Plain.{AreTapsOfEach, HasOneReading, IsPlain, IsStatementOver}
 use Rattle.fare_service.specs.Plain.{IsWholeGathering, WasWhole, plain, unanswered}
 use Rattle.fare_service.specs.Shares.{Worked}
 use Rattle.fare_service.specs.Text.{report}
@@ -143,7 +143,7 @@ module _ (parts : ℕ) (g : TapFields → ℕ) where
 
 -- the taps of all files are those of the uploads
 pub files_alike : (uploads : List (List ℕ)) (ends : List UploadEnd) (files : List (List ℕ))
-    (taps : List (List Tap)) → All HasOneCut files → (is : IsSettled uploads ends files)
+    (taps : List (List Tap)) → All HasOneReading files → (is : IsSettled uploads ends files)
     → AreTapsOfEach files taps
     → length files ≡ length taps
     → AreAlike (map fields_of (uploads_joined taps)) (map fields_of (uploads_joined is.taps))
@@ -202,7 +202,7 @@ same_plain fares token xs ys same =
 -- ---- the law
 pub tells : (given : Given) (works : List (List Worked)) (outcome : OutcomeView)
     (uploads : List (List ℕ)) (ends : List UploadEnd) (later : List Entry)
-    → 0 < length outcome.books → AllNamed outcome → AllHere outcome → All HasOneCut given.uploads
+    → 0 < length outcome.books → AllNamed outcome → AllHere outcome → All HasOneReading given.uploads
     → RisingNumbers → RisingTokens
     → (is : IsPlain given.table given.uploads later) → AreEntriesOf (uploads_joined is.taps) later
     → IsSettled uploads ends given.uploads

@@ -8,7 +8,7 @@ use Rattle.account_rule.specs.declared.tap.TapIn.{TapIn}
 use Rattle.account_rule.specs.Rules.{Rules}
 use Rattle.account_rule.specs.Stands.{Stands}
 use Rattle.shard_book.specs.declared.accounts.Accounts.{Accounts}
-use Rattle.shard_book.specs.declared.accounts.Kept.{Kept}
+use Rattle.shard_book.specs.declared.accounts.KeptAccount.{KeptAccount}
 use Rattle.shard_book.specs.inside.Accounts.{IsKept, IsKeptOrFresh, IsMade, IsPlace, StandsOn, counted, kept_at}
 use Rattle.shard_book.specs.Counts.{sums_of_counts}
 use Rattle.shard_book.specs.inside.Packed.{KeepPlaces, tokens_of}
@@ -22,39 +22,39 @@ use Rattle.std.proofs.lemmas.Bool.{cases_Bool, false≢true}
 use Rattle.std.proofs.lemmas.Option.{slice_get_within}
 
 -- the kept account, or else a fresh one, stands for the taps
-pub stands_or : (rules : Rules) (kept : Option Kept) (here : Kept) (taps : List TapIn) → IsKeptOrFresh kept here → IsKept rules kept taps → Stands rules here.account taps
+pub stands_or : (rules : Rules) (kept : Option KeptAccount) (here : KeptAccount) (taps : List TapIn) → IsKeptOrFresh kept here → IsKept rules kept taps → Stands rules here.account taps
 stands_or rules None here taps is empty = subst (λ (ts : List TapIn). Stands rules here.account ts) (sym empty) (is.0 rules)
-stands_or rules (Some kept) here taps is stands = subst (λ (k : Kept). Stands rules k.account taps) (sym is) stands
+stands_or rules (Some kept) here taps is stands = subst (λ (k : KeptAccount). Stands rules k.account taps) (sym is) stands
 
 -- the kept counts, or else those of nothing, are what is counted
-pub counted_or : (kept : Option Kept) (here : Kept) → IsKeptOrFresh kept here → sums_of_counts here.counts ≡ counted kept
+pub counted_or : (kept : Option KeptAccount) (here : KeptAccount) → IsKeptOrFresh kept here → sums_of_counts here.counts ≡ counted kept
 counted_or None here is = is.1
-counted_or (Some kept) here is = ap (λ (k : Kept). sums_of_counts k.counts) is
+counted_or (Some kept) here is = ap (λ (k : KeptAccount). sums_of_counts k.counts) is
 
 -- what is written at the place is kept of the token from then on, and what is kept of the others stays
-pub written : (accounts : Accounts) (place : ℕ) (token : Token) (kept next : Kept) → IsUnique token_eq accounts.map → slice_get accounts.map.entries place ≡ Some (token, kept) → Updates token_eq accounts.map (with_value_at accounts.map place next) token (Some next)
+pub written : (accounts : Accounts) (place : ℕ) (token : Token) (kept next : KeptAccount) → IsUnique token_eq accounts.map → slice_get accounts.map.entries place ≡ Some (token, kept) → Updates token_eq accounts.map (with_value_at accounts.map place next) token (Some next)
 written accounts place token kept next unique at = updates-with_value_at accounts.map place next token_eq-laws unique token kept at
 
 -- the second of a pair, if there is one
-kept_in : Option (Token × Kept) → Kept → Kept
+kept_in : Option (Token × KeptAccount) → KeptAccount → KeptAccount
 kept_in None other = other
 kept_in (Some pair) other = pair.1
 
 -- what stands at a token's place is what was kept of it, or fresh
-pub found : {old new : Accounts} {token there : Token} {place : ℕ} {here : Kept} → IsMade old new token place → slice_get new.map.entries place ≡ Some (there, here) → IsKeptOrFresh (kept_at old token) here
+pub found : {old new : Accounts} {token there : Token} {place : ℕ} {here : KeptAccount} → IsMade old new token place → slice_get new.map.entries place ≡ Some (there, here) → IsKeptOrFresh (kept_at old token) here
 unfolding kept_in
 found {old} {new} {token} {there} {place} {here} made at =
-    let same : made.kept ≡ here = ap (λ (o : Option (Token × Kept)). kept_in o here) (sym made.at ∙ at) in
-    subst (λ (k : Kept). IsKeptOrFresh (kept_at old token) k) same made.is
+    let same : made.kept ≡ here = ap (λ (o : Option (Token × KeptAccount)). kept_in o here) (sym made.at ∙ at) in
+    subst (λ (k : KeptAccount). IsKeptOrFresh (kept_at old token) k) same made.is
 
 -- a token is at its place
-pub at_place : (accounts : Accounts) (token there : Token) (place : ℕ) (kept : Kept) → there ≡ token → slice_get accounts.map.entries place ≡ Some (there, kept) → get token_eq accounts.map token ≡ Some kept → IsPlace accounts token place
+pub at_place : (accounts : Accounts) (token there : Token) (place : ℕ) (kept : KeptAccount) → there ≡ token → slice_get accounts.map.entries place ≡ Some (there, kept) → get token_eq accounts.map token ≡ Some kept → IsPlace accounts token place
 unfolding kept_at
 at_place accounts token there place kept same at is = record { kept = kept; at = at ∙ ap (λ (t : Token). Some (t, kept)) same; is = is }
 
 -- what is at its place need not be made
 pub made_before : (accounts : Accounts) (token : Token) (place : ℕ) → IsPlace accounts token place → IsMade accounts accounts token place
-made_before accounts token place there = record { kept = there.kept; at = there.at; is = subst (λ (o : Option Kept). IsKeptOrFresh o there.kept) (sym there.is) refl; now = there.is }
+made_before accounts token place there = record { kept = there.kept; at = there.at; is = subst (λ (o : Option KeptAccount). IsKeptOrFresh o there.kept) (sym there.is) refl; now = there.is }
 
 -- the last one stands behind all others
 slice_get-last : {X : Type 0} (xs : List X) (x : X) → slice_get (xs ++ x ∷ []) (length xs) ≡ Some x
@@ -62,27 +62,27 @@ slice_get-last [] x = refl
 slice_get-last (y ∷ ys) x = slice_get-last ys x
 
 -- an account that is opened stands last
-pub made_last : (old new : Accounts) (token : Token) (place : ℕ) (fresh : Kept) → place ≡ length old.map.entries → kept_at old token ≡ None → kept_at new token ≡ Some fresh → new.map.entries ≡ insert_entry token_eq old.map.entries token fresh → ((rules : Rules) → Stands rules fresh.account []) → sums_of_counts fresh.counts ≡ sums_of_replies [] → IsMade old new token place
+pub made_last : (old new : Accounts) (token : Token) (place : ℕ) (fresh : KeptAccount) → place ≡ length old.map.entries → kept_at old token ≡ None → kept_at new token ≡ Some fresh → new.map.entries ≡ insert_entry token_eq old.map.entries token fresh → ((rules : Rules) → Stands rules fresh.account []) → sums_of_counts fresh.counts ≡ sums_of_replies [] → IsMade old new token place
 unfolding kept_at
 made_last old new token place fresh at none now entries stands counts =
     let last : new.map.entries ≡ old.map.entries ++ (token, fresh) ∷ [] = entries ∙ insert_entry-new token_eq old.map token fresh none in
     record {
       kept = fresh;
       at = rw last (rw at (slice_get-last old.map.entries (token, fresh)));
-      is = subst (λ (o : Option Kept). IsKeptOrFresh o fresh) (sym none) (stands, counts);
+      is = subst (λ (o : Option KeptAccount). IsKeptOrFresh o fresh) (sym none) (stands, counts);
       now = now;
     }
 
 -- a key that passes stands at its index
-record IsAt (token : Token) (es : List (Token × Kept)) (place : ℕ) : Type 0 where
-  kept : Kept
+record IsAt (token : Token) (es : List (Token × KeptAccount)) (place : ℕ) : Type 0 where
+  kept : KeptAccount
   at : slice_get es place ≡ Some (token, kept)
   is : lookup (token_eq token) es ≡ Some kept
 
 slice_get-next : {X : Type 0} (x : X) (xs : List X) (n : ℕ) → slice_get (x ∷ xs) (1 + n) ≡ slice_get xs n
 slice_get-next x xs n = let same : 1 + n ≡ suc n = omega arith in ap (λ (i : ℕ). slice_get (x ∷ xs) i) same
 
-at_index : (token : Token) (es : List (Token × Kept)) → is_some (lookup (token_eq token) es) ≡ true → IsAt token es (position_or_len (token_eq token) (keys_of es))
+at_index : (token : Token) (es : List (Token × KeptAccount)) → is_some (lookup (token_eq token) es) ≡ true → IsAt token es (position_or_len (token_eq token) (keys_of es))
 at_index token [] some = absurd (false≢true some)
 at_index token (e ∷ es) some =
     ⊎_elim
@@ -100,8 +100,8 @@ made_found old new token place same some index =
     record {
       kept = there.kept;
       at = rw same (rw index there.at);
-      is = subst (λ (o : Option Kept). IsKeptOrFresh o there.kept) (sym there.is) refl;
-      now = ap (λ (es : List (Token × Kept)). lookup (token_eq token) es) same ∙ there.is;
+      is = subst (λ (o : Option KeptAccount). IsKeptOrFresh o there.kept) (sym there.is) refl;
+      now = ap (λ (es : List (Token × KeptAccount)). lookup (token_eq token) es) same ∙ there.is;
     }
 
 -- so its index is below the number of accounts
@@ -112,16 +112,16 @@ index-within accounts token some =
     slice_get_within accounts.map.entries (insert_index token_eq accounts.map token) (token, there.kept) there.at
 
 -- what is kept stands on where it stayed
-pub on-same : {old new : Option Kept} → new ≡ old → StandsOn old new
+pub on-same : {old new : Option KeptAccount} → new ≡ old → StandsOn old new
 on-same {old} {new} same = record {
-  kept = λ rules taps kept. subst (λ (o : Option Kept). IsKept rules o taps) (sym same) kept;
+  kept = λ rules taps kept. subst (λ (o : Option KeptAccount). IsKept rules o taps) (sym same) kept;
   sums = ap counted same;
 }
 
 -- and where it is kept now or is fresh
 pub on-made : {old new : Accounts} {token : Token} {place : ℕ} → IsMade old new token place → StandsOn (kept_at old token) (kept_at new token)
 on-made {old} {new} {token} made = record {
-  kept = λ rules taps kept. subst (λ (o : Option Kept). IsKept rules o taps) (sym made.now) (stands_or rules (kept_at old token) made.kept taps made.is kept);
+  kept = λ rules taps kept. subst (λ (o : Option KeptAccount). IsKept rules o taps) (sym made.now) (stands_or rules (kept_at old token) made.kept taps made.is kept);
   sums = ap counted made.now ∙ counted_or (kept_at old token) made.kept made.is;
 }
 
@@ -134,10 +134,10 @@ on-all {old} {new} {token} made others other =
     (cases_Bool (token_eq token other))
 
 -- no account moves where the entries stayed
-pub keep_found : (old new : List (Token × Kept)) → new ≡ old → KeepPlaces (keys_of old) (keys_of new)
-keep_found old new same = keep_same (ap (λ (es : List (Token × Kept)). keys_of es) same)
+pub keep_found : (old new : List (Token × KeptAccount)) → new ≡ old → KeepPlaces (keys_of old) (keys_of new)
+keep_found old new same = keep_same (ap (λ (es : List (Token × KeptAccount)). keys_of es) same)
 
 -- nor where an account is opened
-pub keep_opened : (old : Accounts) (new : List (Token × Kept)) (token : Token) (fresh : Kept) → kept_at old token ≡ None → new ≡ insert_entry token_eq old.map.entries token fresh → KeepPlaces (tokens_of old) (keys_of new)
+pub keep_opened : (old : Accounts) (new : List (Token × KeptAccount)) (token : Token) (fresh : KeptAccount) → kept_at old token ≡ None → new ≡ insert_entry token_eq old.map.entries token fresh → KeepPlaces (tokens_of old) (keys_of new)
 unfolding kept_at
 keep_opened old new token fresh none entries = keep_entries old.map.entries new (token, fresh) (entries ∙ insert_entry-new token_eq old.map token fresh none)

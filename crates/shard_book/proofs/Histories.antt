@@ -12,7 +12,7 @@ use Rattle.fare_table.specs.declared.mode.Mode.{Mode}
 use Rattle.account_rule.specs.declared.tap.TapIn.{TapIn}
 use Rattle.account_rule.specs.Rules.{rules_of}
 use Rattle.shard_book.specs.declared.accounts.Accounts.{Accounts}
-use Rattle.shard_book.specs.declared.accounts.Kept.{Kept}
+use Rattle.shard_book.specs.declared.accounts.KeptAccount.{KeptAccount}
 use Rattle.shard_book.specs.declared.entry.Entry.{Entry}
 use Rattle.fare_table.specs.declared.token.Token.{Token}
 use Rattle.shard_book.specs.inside.Accounts.{kept_at, IsKept}
@@ -86,14 +86,14 @@ kept-push table accounts after entries entry kept own_kept others = λ token.
     (subst (λ (t : Token). IsKept (rules_of table (bytes_of t)) (kept_at after t) (taps_of table t entries ++ tap_of table entry ∷ [])) is own_kept))
     (λ (apart : token_eq entry.token token ≡ false).
     subst (λ (b : Bool). IsKept (rules_of table (bytes_of token)) (kept_at after token) (cond b (taps_of table token entries ++ tap_of table entry ∷ []) (taps_of table token entries))) (sym apart)
-    (subst (λ (a : Option Kept). IsKept (rules_of table (bytes_of token)) a (taps_of table token entries)) (sym (others token apart)) (kept token)))
+    (subst (λ (a : Option KeptAccount). IsKept (rules_of table (bytes_of token)) a (taps_of table token entries)) (sym (others token apart)) (kept token)))
     (cases_Bool (token_eq entry.token token)))
 
 -- nothing changes where all accounts stayed
 pub kept-same : (table : Fares) (accounts after : Accounts) (entries : List Entry) → AreKept table accounts entries → ((other : Token) → kept_at after other ≡ kept_at accounts other) → AreKept table after entries
 unfolding AreKept
 kept-same table accounts after entries kept others = λ token.
-    subst (λ (a : Option Kept). IsKept (rules_of table (bytes_of token)) a (taps_of table token entries)) (sym (others token)) (kept token)
+    subst (λ (a : Option KeptAccount). IsKept (rules_of table (bytes_of token)) a (taps_of table token entries)) (sym (others token)) (kept token)
 
 -- the tap that the account rule is given is the entry's
 pub tap_of-post : (table : Fares) (entry : Entry) (mode : Option Mode) (limit : ℕ)

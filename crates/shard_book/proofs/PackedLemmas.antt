@@ -9,7 +9,7 @@ use Rattle.std.specs.Option.{option_map}
 use Rattle.account_rule.specs.declared.reply.Answer.{Answer}
 use Rattle.account_rule.specs.declared.reply.Reply.{Reply}
 use Rattle.account_rule.specs.declared.reply.Answer.TheVariants.{Paid, Transfer, Capped, Stale, Unknown}
-use Rattle.shard_book.specs.declared.accounts.Kept.{Kept}
+use Rattle.shard_book.specs.declared.accounts.KeptAccount.{KeptAccount}
 use Rattle.shard_book.specs.declared.entry.Entry.{Entry}
 use Rattle.shard_book.specs.declared.packed.PackedEntry.{PackedEntry}
 use Rattle.fare_table.specs.declared.token.Token.{Token}
@@ -103,17 +103,17 @@ pub keep_then : {before between after : List Token} → KeepPlaces before betwee
 keep_then first second = record { each = λ at token is. second.each at token (first.each at token is) }
 
 -- nor where an account is opened behind all others
-pub keep_entries : (before after : List (Token × Kept)) (opened : Token × Kept) → after ≡ before ++ opened ∷ [] → KeepPlaces (keys_of before) (keys_of after)
+pub keep_entries : (before after : List (Token × KeptAccount)) (opened : Token × KeptAccount) → after ≡ before ++ opened ∷ [] → KeepPlaces (keys_of before) (keys_of after)
 keep_entries before after opened is = record {
   each = λ at token there.
-      ap (λ (es : List (Token × Kept)). slice_get (keys_of es) at) is
-      ∙ ap (λ (tokens : List Token). slice_get tokens at) (map-append (λ (e : Token × Kept). e.0) before (opened ∷ []))
+      ap (λ (es : List (Token × KeptAccount)). slice_get (keys_of es) at) is
+      ∙ ap (λ (tokens : List Token). slice_get tokens at) (map-append (λ (e : Token × KeptAccount). e.0) before (opened ∷ []))
       ∙ slice_get-front (keys_of before) (opened.0 ∷ []) at token there;
 }
 
 -- the token of the entry at a place
-pub token-at : (entries : List (Token × Kept)) (at : ℕ) (token : Token) (kept : Kept) → slice_get entries at ≡ Some (token, kept) → slice_get (keys_of entries) at ≡ Some token
-token-at entries at token kept is = slice_get-map (λ (e : Token × Kept). e.0) entries at ∙ ap (option_map (λ (e : Token × Kept). e.0)) is
+pub token-at : (entries : List (Token × KeptAccount)) (at : ℕ) (token : Token) (kept : KeptAccount) → slice_get entries at ≡ Some (token, kept) → slice_get (keys_of entries) at ≡ Some token
+token-at entries at token kept is = slice_get-map (λ (e : Token × KeptAccount). e.0) entries at ∙ ap (option_map (λ (e : Token × KeptAccount). e.0)) is
 
 -- a packed history stands for the same entries where no account moves
 pub history-kept : (before after : List Token) (packed : List PackedEntry) → ArePlaced before packed → KeepPlaces before after → history_of after packed ≡ history_of before packed

@@ -11,7 +11,7 @@ use Rattle.account_rule.specs.declared.tap.TapIn.{TapIn}
 use Rattle.account_rule.specs.Replies.{reply}
 use Rattle.account_rule.specs.Rules.{rules_of}
 use Rattle.shard_book.specs.declared.accounts.Accounts.{Accounts}
-use Rattle.shard_book.specs.declared.accounts.Kept.{Kept}
+use Rattle.shard_book.specs.declared.accounts.KeptAccount.{KeptAccount}
 use Rattle.shard_book.specs.declared.entry.Entry.{Entry}
 use Rattle.fare_table.specs.declared.token.Token.{Token}
 use Rattle.shard_book.specs.inside.Accounts.{kept_at, counted, IsCounting, IsKept, StandsOn}
@@ -101,7 +101,7 @@ sound-none {table} {shard} {shards} {accounts} {items} empty within few none =
       legal = legal-none table;
       here = record { each = All-nil (λ (e : Entry). shard_of_token (bytes_of e.token) shards ≡ shard) };
       fits = All-nil (λ (e : Entry). Fits e.token);
-      kept = λ token. subst (λ (a : Option Kept). IsKept (rules_of table (bytes_of token)) a []) (sym (none token)) refl;
+      kept = λ token. subst (λ (a : Option KeptAccount). IsKept (rules_of table (bytes_of token)) a []) (sym (none token)) refl;
       counted = λ _. counted-none accounts none;
     })
 

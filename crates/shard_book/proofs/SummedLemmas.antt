@@ -16,7 +16,7 @@ use Rattle.std.proofs.lemmas.Map.Keys.{IsDistinct-IsPermutation, IsDistinct-head
 use Rattle.std.proofs.lemmas.Map.Views.{lookup-from_Contains}
 use Rattle.std.proofs.lemmas.Map.Made.{All-is_member, IsDistinct-keys_filter, keys_of-map_values}
 use Rattle.shard_book.specs.declared.accounts.Accounts.{Accounts}
-use Rattle.shard_book.specs.declared.accounts.Kept.{Kept}
+use Rattle.shard_book.specs.declared.accounts.KeptAccount.{KeptAccount}
 use Rattle.shard_book.specs.declared.entry.Entry.{Entry}
 use Rattle.fare_table.specs.declared.token.Token.{Token}
 use Rattle.shard_book.specs.inside.Accounts.{kept_at, counted, is_used, pair_of, pairs_of}
@@ -38,7 +38,7 @@ use Rattle.shard_book.proofs.SumsLemmas.{all-more}
 use Rattle.shard_book.proofs.TokenLemmas.{token_cmp-total, token_cmp-ties}
 
 -- a token that is apart from all keys is apart from those that a test leaves
-member-apart : (test : Token × Kept → Bool) (token : Token) (es : List (Token × Kept)) → AllByRecursion (λ there. token_eq token there ≡ false) (keys_of es) → is_member token_eq (keys_of (filter test es)) token ≡ false
+member-apart : (test : Token × KeptAccount → Bool) (token : Token) (es : List (Token × KeptAccount)) → AllByRecursion (λ there. token_eq token there ≡ false) (keys_of es) → is_member token_eq (keys_of (filter test es)) token ≡ false
 member-apart test token [] apart = refl
 member-apart test token (e ∷ es) apart = by (test e) (member-apart test token es apart.1)
   where
@@ -47,7 +47,7 @@ member-apart test token (e ∷ es) apart = by (test e) (member-apart test token 
     by false rest = rest
 
 -- a token is among those that have taps exactly where the sums that are kept of it have
-used-member : (token : Token) (es : List (Token × Kept)) → IsDistinct token_eq (keys_of es) → is_member token_eq (keys_of (filter is_used es)) token ≡ has_taps (counted (lookup (token_eq token) es))
+used-member : (token : Token) (es : List (Token × KeptAccount)) → IsDistinct token_eq (keys_of es) → is_member token_eq (keys_of (filter is_used es)) token ≡ has_taps (counted (lookup (token_eq token) es))
 unfolding sums_of_replies
 used-member token [] distinct = refl
 used-member token (e ∷ es) distinct =
@@ -68,15 +68,15 @@ used-member token (e ∷ es) distinct =
 pub summed-kept : (accounts : Accounts) (entries : List Entry) → IsDistinct token_eq (keys_of accounts.map.entries) → AreCounted accounts entries → AreSummed entries (pairs_of accounts)
 unfolding kept_at pairs_of
 summed-kept accounts entries distinct counts =
-    let used : List (Token × Kept) = filter is_used accounts.map.entries in
+    let used : List (Token × KeptAccount) = filter is_used accounts.map.entries in
     let found : All (λ kept. get token_eq accounts.map kept.0 ≡ Some kept.1) accounts.map.entries =
-    All-weaker (Contains accounts.map.entries) (λ (kept : Token × Kept). get token_eq accounts.map kept.0 ≡ Some kept.1)
+    All-weaker (Contains accounts.map.entries) (λ (kept : Token × KeptAccount). get token_eq accounts.map kept.0 ≡ Some kept.1)
     (λ kept here. lookup-from_Contains token_eq-laws kept.0 kept.1 accounts.map.entries distinct here) accounts.map.entries (All-contains_itself accounts.map.entries) in
-    let keys : keys_of (pairs_of accounts) ≡ keys_of used = keys_of-map_values (λ (kept : Kept). sums_of_counts kept.counts) used in
+    let keys : keys_of (pairs_of accounts) ≡ keys_of used = keys_of-map_values (λ (kept : KeptAccount). sums_of_counts kept.counts) used in
     record {
       each = All-map (λ (pair : Token × Sums). pair.1 ≡ sums (own pair.0 entries)) pair_of used
-          (All-weaker (λ (kept : Token × Kept). get token_eq accounts.map kept.0 ≡ Some kept.1) (λ (kept : Token × Kept). sums_of_counts kept.1.counts ≡ sums (own kept.0 entries))
-          (λ kept is. sym (ap counted is) ∙ counts.sums kept.0) used (All-filter is_used (λ (kept : Token × Kept). get token_eq accounts.map kept.0 ≡ Some kept.1) accounts.map.entries found));
+          (All-weaker (λ (kept : Token × KeptAccount). get token_eq accounts.map kept.0 ≡ Some kept.1) (λ (kept : Token × KeptAccount). sums_of_counts kept.1.counts ≡ sums (own kept.0 entries))
+          (λ kept is. sym (ap counted is) ∙ counts.sums kept.0) used (All-filter is_used (λ (kept : Token × KeptAccount). get token_eq accounts.map kept.0 ≡ Some kept.1) accounts.map.entries found));
       once = subst (λ (ts : List Token). IsDistinct token_eq ts) (sym keys) (IsDistinct-keys_filter token_eq is_used accounts.map.entries distinct);
       keys = λ token. ap (λ (ts : List Token). is_member token_eq ts token) keys ∙ used-member token accounts.map.entries distinct ∙ ap has_taps (counts.sums token) ∙ own-member token entries;
     }

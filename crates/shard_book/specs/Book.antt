@@ -30,9 +30,9 @@ with_entries book more =
       entries = book.entries ++ more;
     }
 
--- the limit of a window that would start at the tap
-abbrev pub limit_of : Fares → Tap → ℕ
-limit_of table tap = until table (num tap.moment)
+-- the end of a window that would start at the tap
+abbrev pub window_end_of : Fares → Tap → ℕ
+window_end_of table tap = until table (num tap.moment)
 
 -- exactly one entry was appended: of the tap, with the reply
 pub record PostsTap (book after : Book) (tap : Tap) (reply : Reply) : Type 0 where

@@ -40,7 +40,7 @@ own token entries = filter (is_of token) entries
 abbrev pub mode_of_place : ℕ → Mode
 mode_of_place place = record { place = place }
 
--- the entry as the account rule sees it: the validator's mode and the limit of a window are the
+-- the entry as the account rule sees it: the validator's mode and the end of a window are the
 -- table's
 unfoldable pub tap_of : Fares → Entry → TapIn
 tap_of table entry = record {

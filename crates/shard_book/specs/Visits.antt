@@ -30,10 +30,10 @@ pub record PostsRun (taps : List Tap) (how : RunEnd) (book after : Book)
   pub items : replied.items ≡ replies.items ++ map reply_of visit
   pub spare : replied.spare + length visit ≡ replies.spare
 
--- the limits of windows that would start at the taps
-abbrev pub limits_by : (ℕ → ℕ) → List Tap → List ℕ
-limits_by limit taps = map (λ tap. limit (num tap.moment)) taps
+-- the ends of windows that would start at the taps
+abbrev pub window_ends_by : (ℕ → ℕ) → List Tap → List ℕ
+window_ends_by window_end taps = map (λ tap. window_end (num tap.moment)) taps
 
 -- the same under a table
-abbrev pub limits_of : Fares → List Tap → List ℕ
-limits_of table taps = limits_by (until table) taps
+abbrev pub window_ends_of : Fares → List Tap → List ℕ
+window_ends_of table taps = window_ends_by (until table) taps

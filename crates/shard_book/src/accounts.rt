@@ -24,7 +24,7 @@ use crate::sums::counts::{Counts, TokenCounts};
 use account_rule::{Account, Reply, TapIn};
 use fare_table::{FareTable, NoMemory, Token};
 use indexmap::IndexMap;
-use indexmap::map::Entry as Place;
+use indexmap::map::Entry as MapEntry;
 use std::alloc::Global;
 
 /// The most accounts that a book keeps, below 2^32: an entry of the history has 32 bits for the
@@ -33,7 +33,7 @@ const MOST_ACCOUNTS: usize = 4_294_967_295;
 
 /// What is kept of one token: its account, and the counts of its entries.
 #[derive(Clone, Copy, Debug, PartialEq, Eq)]
-pub(crate) struct Kept {
+pub(crate) struct KeptAccount {
     /// The account.
     pub(crate) account: Account,
     /// The counts.
@@ -45,7 +45,7 @@ pub(crate) struct Kept {
 #[derive(Drop)]
 pub(crate) struct Accounts {
     /// What is kept of each token, at the place where it was opened.
-    pub(crate) map: IndexMap<Token, Kept, TokenKeys>,
+    pub(crate) map: IndexMap<Token, KeptAccount, TokenKeys>,
     /// Whether the counts are right: it ends where one of them would be too large.
     counting: bool,
 }
@@ -98,9 +98,9 @@ impl Accounts {
             return Err(NoMemory);
         }
         match self.map.entry(token)? {
-            Place::Occupied(kept) => Ok(kept.index() as u32),
-            Place::Vacant(place) => {
-                place.insert(Kept {
+            MapEntry::Occupied(kept) => Ok(kept.index() as u32),
+            MapEntry::Vacant(place) => {
+                place.insert(KeptAccount {
                     account: Account::fresh(),
                     counts: Counts::new(),
                 });
@@ -226,4 +226,4 @@ impl Accounts {
 }
 
 /// A kept account fills a line of the caches.
-const _: () = prove!(size_of::<Kept>() == 64);
+const _: () = prove!(size_of::<KeptAccount>() == 64);

@@ -9,7 +9,7 @@ ghost use Rattle.shard_book.specs.inside.Counting.{AddsSums};
 ghost use Rattle.shard_book.specs.Counts.{token_counts};
 ghost use Rattle.shard_book.specs.Entry.{TokensFit, taps_of};
 ghost use Rattle.fare_table.specs.Token.{bytes_of};
-ghost use Rattle.shard_book.specs.Book.{AreOfShard, PostsTap, limit_of};
+ghost use Rattle.shard_book.specs.Book.{AreOfShard, PostsTap, window_end_of};
 ghost use Rattle.shard_book.specs.History.{IsLegal};
 
 use crate::accounts::Accounts;
@@ -85,12 +85,12 @@ impl ShardBook {
 
     /// Posts one tap: the account rule answers it, and one entry is appended to the history.
     ///
-    /// `until` is the table's limit of a window that starts at the tap. On want of memory the book
+    /// `until` is the table's end of a window that starts at the tap. On want of memory the book
     /// stays as it was: all room is taken first. A book has room for fewer than 2^32 accounts, and
     /// tells want of memory for what is beyond.
     pub fn post(&mut self, tap: &TapView, until: u64) -> Result<Reply, NoMemory>
         requires here { shard_of_token tap.now.token self.old.shards ≡ self.old.shard }
-        requires until { until ≡ limit_of self.old.table tap.now }
+        requires until { until ≡ window_end_of self.old.table tap.now }
         ensures ok { IfOk result (λ reply. PostsTap self.old self.new tap.now reply) }
         ensures err { OnErr result (self.new ≡ self.old) }
         ensures legal { IsLegal self.new.table self.new.entries }
@@ -108,7 +108,7 @@ impl ShardBook {
         known: u32,
     ) -> Result<Reply, NoMemory>
         requires here { shard_of_token tap.now.token self.old.shards ≡ self.old.shard }
-        requires until { until ≡ limit_of self.old.table tap.now }
+        requires until { until ≡ window_end_of self.old.table tap.now }
         ensures ok { IfOk result (λ reply. PostsTap self.old self.new tap.now reply) }
         ensures err { OnErr result (self.new ≡ self.old) }
         ensures legal { IsLegal self.new.table self.new.entries }

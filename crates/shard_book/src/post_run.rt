@@ -3,7 +3,7 @@
 ghost use Rattle.std.specs.Prelude.{◌≡◌, ◌≤◌, length};
 ghost use Rattle.tap_views.specs.Shards.{run_taps};
 ghost use Rattle.shard_book.specs.History.{IsLegal};
-ghost use Rattle.shard_book.specs.Visits.{PostsRun, limits_of};
+ghost use Rattle.shard_book.specs.Visits.{PostsRun, window_ends_of};
 
 use crate::book::ShardBook;
 use crate::ends::Ends;
@@ -16,12 +16,13 @@ impl ShardBook {
     /// Posts the taps of a run in their order and appends their replies to `out`, up to the first
     /// want of memory.
     ///
-    /// `ends` are the table's limits for the run's taps, and `out` has room for a reply to each.
+    /// `ends` are the table's window ends for the run's taps, and `out` has room for a reply to
+    /// each.
     #[inline(always)]
     pub fn post_run(&mut self, run: &Run, ends: &Ends, out: &mut Replies) -> RunEnd
         requires shard { run.now.shard ≡ self.old.shard }
         requires shards { run.now.shards ≡ self.old.shards }
-        requires ends { ends.now ≡ limits_of self.old.table (run_taps run.now) }
+        requires ends { ends.now ≡ window_ends_of self.old.table (run_taps run.now) }
         requires room { length (run_taps run.now) ≤ out.old.spare }
         ensures posts { PostsRun (run_taps run.now) result self.old self.new out.old out.new }
         ensures legal { IsLegal self.new.table self.new.entries }
@@ -39,7 +40,7 @@ impl ShardBook {
     fn post_taps(&mut self, run: &Run, ends: &Ends, out: &mut Replies) -> RunEnd
         requires shard { run.now.shard ≡ self.old.shard }
         requires shards { run.now.shards ≡ self.old.shards }
-        requires ends { ends.now ≡ limits_of self.old.table (run_taps run.now) }
+        requires ends { ends.now ≡ window_ends_of self.old.table (run_taps run.now) }
         requires room { length (run_taps run.now) ≤ out.old.spare }
         requires legal { IsLegal self.old.table self.old.entries }
         ensures posts { PostsRun (run_taps run.now) result self.old self.new out.old out.new }

@@ -7,7 +7,7 @@ ghost use Rattle.std.specs.Prelude.{◌≡◌};
 ghost use Rattle.shard_book.specs.inside.Accounts.{kept_at, StandsOn};
 ghost use Rattle.shard_book.specs.inside.Packed.{KeepPlaces, tokens_of};
 
-use crate::accounts::{Accounts, Kept};
+use crate::accounts::{Accounts, KeptAccount};
 use crate::book::ShardBook;
 use crate::sums::counts::Counts;
 use fare_table::{NoMemory, Token};
@@ -27,7 +27,7 @@ impl Counts {
     }
 }
 
-impl Kept {
+impl KeptAccount {
     /// Prefetch: reads the account and its counts, so that both cache lines are loaded when the tap
     /// is posted. False only costs a second look-up.
     #[inline(always)]

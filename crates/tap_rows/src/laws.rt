@@ -53,5 +53,5 @@ pub fn decodes_back(upload: &[u8])
         → IsFileOf upload.now taps → IsReadAs upload.now batches fault → (fields_in batches ≡ taps)
         × (fault ≡ None) }
 {
-    tap_views::laws::one_cut(upload)
+    tap_views::laws::one_reading(upload)
 }

@@ -5,5 +5,5 @@ mod Finding
 mod Grammar
 mod Numbers
 mod Reading
-mod Runs
+mod RunLemmas
 mod Sorted

@@ -11,8 +11,8 @@ use Rattle.tap_views.specs.Shards.{shard_of_token, run_of}
 use Rattle.std.specs.Prelude.{slice_get, Option, Some, None, flat_map, option_to_list}
 use Rattle.std.specs.Borrow.{Bor}
 use Rattle.std.specs.List.{AllByRecursion}
-use Rattle.tap_views.specs.Cut.{places_from}
-use Rattle.tap_views.specs.inside.Cut.{ArePlacesKept, ArePlacesBelow, left_of}
+use Rattle.tap_views.specs.Runs.{places_from}
+use Rattle.tap_views.specs.inside.Runs.{ArePlacesKept, ArePlacesBelow, left_of}
 
 -- no more places than taps
 pub places_few : (shard shards at : ℕ) (taps : List Tap)

@@ -1,5 +1,5 @@
 -- What only private functions cite. Who reads the contracts of public calls need not read it.
-pub mod Cut
+pub mod Runs
 pub mod Encoding
 pub mod Faults
 pub mod Readings

@@ -3,7 +3,7 @@
 ghost use Rattle.std.specs.Prelude.{◌≡◌, ◌+◌, ◌*◌, ◌<◌, ◌≤◌, ◌++◌, ℕ, List, length, slice_get};
 ghost use Rattle.std.specs.Prelude.{Some, IfOk, IfErr, IsErrOf, MatchResult, MatchOption};
 ghost use Rattle.tap_views.specs.Layout.{num, moment_limit, Tap, IsBatch};
-ghost use Rattle.tap_views.specs.Cut.{places_from};
+ghost use Rattle.tap_views.specs.Runs.{places_from};
 ghost use Rattle.tap_views.specs.inside.Records.{layout_of};
 ghost use Rattle.tap_views.specs.declared.fault.LayoutFault.{LayoutFault};
 ghost use Rattle.tap_views.specs.Faults.{header, width, layout_in, count_in, size_in, moment_in};

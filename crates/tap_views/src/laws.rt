@@ -26,8 +26,8 @@ pub fn one_fault(bytes: &[u8])
         → fault ≡ fault' }
 {}
 
-/// A file has at most one cut into batches and a rest that begins with none.
-pub fn one_cut(file: &[u8])
+/// A file is read in at most one way: as batches, and a rest that begins with none.
+pub fn one_reading(file: &[u8])
     ensures { (batches batches' : List (List Tap)) (rest rest' : List ℕ)
         → IsFile file.now batches rest → IsFile file.now batches' rest' → (batches ≡ batches')
         × (rest ≡ rest') }

@@ -7,24 +7,24 @@
 #![tactic(auto)]
 
 mod batch;
-mod cut;
 mod encoder;
 mod fault;
 mod file;
 pub mod laws;
 mod layout;
 mod run;
+mod runs;
 mod shard;
 mod taps;
 mod view;
 
 pub use batch::Batch;
-pub use cut::Cut;
 pub use encoder::{EncodeFault, Tap2Fields, TapFields, encode, encode_tap2, put_batch};
 pub use fault::LayoutFault;
 pub use file::{FileBatches as Batches, batches};
 pub use layout::{MAX_TAPS, TAP1_HEADER_BYTES, TAP1_TAP_BYTES, TAP2_TAP_BYTES};
 pub use run::{Run, RunTaps};
+pub use runs::Runs;
 pub use shard::shard_of;
 pub use taps::Taps;
 pub use view::TapView;

@@ -11,7 +11,7 @@ use crate::view::TapView;
 use std::marker::Model;
 
 /// The taps of one shard of a batch, in the batch's order. It takes no memory: a run of `run_of`
-/// passes over the batch anew at each call, and one of a `Cut` over its own taps alone.
+/// passes over the batch anew at each call, and one of `Runs` over its own taps alone.
 #[derive(Drop)]
 pub struct Run<'a> {
     /// The validator that all taps of the batch share, if its layout has one.
@@ -24,7 +24,7 @@ pub struct Run<'a> {
     pub(crate) shard: u32,
     /// The number of shards.
     pub(crate) shards: u32,
-    /// The places of the shard's taps in the batch, where a cut knows them.
+    /// The places of the shard's taps in the batch, where `Runs` has them.
     pub(crate) places: Option<&'a [u16]>,
 }
 
@@ -32,8 +32,8 @@ impl<'a> Model for Run<'a> {
     ghost use Rattle.std.specs.Prelude.{◌<◌, ◌≤◌};
     ghost use Rattle.tap_views.specs.inside.Records.{layout_of, taps_in, AreRecords};
     ghost use Rattle.tap_views.specs.Shards.{ShardRun};
-    ghost use Rattle.tap_views.specs.Cut.{places_from};
-    ghost use Rattle.tap_views.specs.inside.Cut.{ArePlacesKept};
+    ghost use Rattle.tap_views.specs.Runs.{places_from};
+    ghost use Rattle.tap_views.specs.inside.Runs.{ArePlacesKept};
 
     ghost Value = { ShardRun };
 
@@ -110,7 +110,7 @@ impl<'a> Run<'a> {
 pub struct RunTaps<'a> {
     /// What is left of the batch; the whole batch where the places of the taps are known.
     taps: Taps<'a>,
-    /// The places that are left, where a cut knows them.
+    /// The places that are left, where `Runs` has them.
     places: Option<&'a [u16]>,
     /// The shard whose taps these are.
     shard: u32,
@@ -121,7 +121,7 @@ pub struct RunTaps<'a> {
 impl<'a> Model for RunTaps<'a> {
     ghost use Rattle.std.specs.Prelude.{List, ◌<◌, ◌≤◌, length};
     ghost use Rattle.tap_views.specs.Layout.{Tap};
-    ghost use Rattle.tap_views.specs.inside.Cut.{left_of, ArePlacesBelow};
+    ghost use Rattle.tap_views.specs.inside.Runs.{left_of, ArePlacesBelow};
 
     ghost Value = { List Tap };
 

@@ -10,7 +10,7 @@ use Rattle.std.specs.Map.{lookup}
 use Rattle.fare_program.specs.Listing.{are_before, known_of, counts_of}
 
 -- what a listing keeps: the last known moment of each token, and the counts
-pub record Kept : Type 0 where
+pub record KeptListing : Type 0 where
   pub last : List (List ℕ × ℕ)
   pub counts : ListCounts
 
@@ -25,7 +25,7 @@ is_after_last (Some last) moment = nat_lt last moment
 
 -- What is kept answers for the taps of this list: a moment is later than the last known one of a
 -- token where it is later than each known tap of that token, and the counts are those of the list.
-pub record StandsFor (kept : Kept) (taps : List Listed) : Type 0 where
+pub record StandsFor (kept : KeptListing) (taps : List Listed) : Type 0 where
   pub last : (token : List ℕ) (moment : ℕ)
       → is_after_last (last_of kept.last token) moment ≡ are_before moment (known_of token taps)
   pub counts : kept.counts ≡ counts_of taps

@@ -13,16 +13,16 @@ ghost use Rattle.shard_book.specs.History.{IsLegal};
 ghost use Rattle.fare_table.specs.Token.{bytes_of};
 ghost use Rattle.shard_book.specs.Visits.{AreEntriesOf};
 ghost use Rattle.fare_service.specs.Headline.{Headline};
-ghost use Rattle.fare_service.specs.Plain.{ArePlainEnds, AreTapsOf, HasOneCut, IsNamed, IsPlain};
-ghost use Rattle.fare_service.specs.Plain.{IsReportOver, IsStatementOver, IsWholeGathering};
-ghost use Rattle.fare_service.specs.Plain.{WasWhole};
+ghost use Rattle.fare_service.specs.Plain.{ArePlainEnds, AreTapsOf, HasOneReading, IsNamed};
+ghost use Rattle.fare_service.specs.Plain.{IsPlain, IsReportOver, IsStatementOver};
+ghost use Rattle.fare_service.specs.Plain.{IsWholeGathering, WasWhole};
 ghost use Rattle.fare_service.specs.Printed.{IsStatementOf, report_of};
 ghost use Rattle.fare_service.specs.Shares.{Worked};
 
 use crate::outcome::Outcome;
 use crate::upload_end::UploadEnd;
 use shard_book::laws::rising;
-use tap_views::laws::one_cut;
+use tap_views::laws::one_reading;
 
 /// The tokens of an outcome's books are those that their bytes name, and are of their book's shard.
 /// Reads no entry.
@@ -38,12 +38,12 @@ pub fn names(outcome: &Outcome)
     }
 }
 
-/// Each upload has one cut into batches at most.
-pub fn cuts(uploads: &[Vec<u8>])
-    ensures { All HasOneCut (map (λ upload. upload.items) uploads.now) }
+/// Each upload is read as batches in one way at most.
+pub fn one_reading_each(uploads: &[Vec<u8>])
+    ensures { All HasOneReading (map (λ upload. upload.items) uploads.now) }
 {
     for upload in uploads {
-        one_cut(upload.as_slice());
+        one_reading(upload.as_slice());
     }
 }
 
@@ -72,7 +72,7 @@ pub fn plain_history(uploads: &[Vec<u8>])
     for upload in uploads {
         taps_of(upload.as_slice());
     }
-    cuts(uploads);
+    one_reading_each(uploads);
 }
 
 /// Where no upload was cut or left undrawn and no token has taps in two uploads, the entries of
@@ -93,7 +93,7 @@ pub fn statements(uploads: &[Vec<u8>], outcome: &Outcome)
 {
     let _ = outcome.shards();
     names(outcome);
-    cuts(uploads);
+    one_reading_each(uploads);
 }
 
 /// Where no upload was cut or left undrawn, each ends as its bytes call for.
@@ -116,7 +116,7 @@ pub fn report(uploads: &[Vec<u8>], outcome: &Outcome)
 {
     let _ = outcome.shards();
     names(outcome);
-    cuts(uploads);
+    one_reading_each(uploads);
     rising();
 }
 
@@ -135,7 +135,7 @@ pub fn same_texts(uploads: &[Vec<u8>], one: &Outcome, other: &Outcome)
         ↔ IsStatementOf other.now token text }
 {
     plain_history(uploads);
-    cuts(uploads);
+    one_reading_each(uploads);
     report(uploads, one);
     report(uploads, other);
     statements(uploads, one);

@@ -14,7 +14,7 @@ use shard_book::{Ends, Replies, RunEnd, Tally, Totals};
 use shared_books::{Drawer, Full};
 use std::alloc::Global;
 use std::sync::Wait;
-use tap_views::{Batch, Cut, LayoutFault, batches};
+use tap_views::{Batch, LayoutFault, Runs, batches};
 
 /// What a worker calls before it posts an upload and after it. A test can make workers wait there.
 pub trait Gate {
@@ -58,15 +58,16 @@ pub(crate) struct RunBuffers {
     pub(crate) clock: Clock,
     /// The replies to a run.
     pub(crate) replies: Replies,
-    /// The limits of windows that would start at the taps of a run.
+    /// The ends of windows that would start at the taps of a run.
     pub(crate) ends: Ends,
 }
 
-/// What a worker makes once: a cut that it fills for each batch, and what it keeps from run to run.
+/// What a worker makes once: the runs that it fills for each batch, and what it keeps from run to
+/// run.
 #[derive(Drop)]
 pub(crate) struct Buffers {
-    /// The taps of a batch, cut by shard.
-    pub(crate) cut: Cut,
+    /// The runs of a batch.
+    pub(crate) runs: Runs,
     /// What is kept from run to run.
     pub(crate) run: RunBuffers,
 }
@@ -138,7 +139,7 @@ fn bytes_in(file: &[u8]) -> usize
 
 impl<'a> Service<'a> {
     ghost use Rattle.fare_service.specs.ServiceView.{shards_of};
-    ghost use Rattle.tap_views.specs.Cut.{IsCut};
+    ghost use Rattle.tap_views.specs.Runs.{AreRuns};
     ghost use Rattle.tap_views.specs.Layout.{Tap};
     ghost use Rattle.tap_views.specs.Files.{IsFile};
     ghost use Rattle.fare_service.specs.Runs.{Visit, if_any, of_shard, placed_from, runs_below};
@@ -151,20 +152,20 @@ impl<'a> Service<'a> {
     ghost use Rattle.fare_service.specs.Stopping.{SomeFull, StoppedWell, WasCut};
     ghost use Rattle.fare_service.specs.inside.Stopping.{TellsFull, TellsMemory};
 
-    /// Posts a run of the batch that was cut, if it has a tap. Memory is taken, and the limits of
-    /// windows are made, before the turn.
+    /// Posts a run of the batch, if it has a tap. Memory is taken, and window ends are made, before
+    /// the turn.
     fn post_run<'b, R: Wait>(
         &self,
         rt: &R,
         posting: &mut Posting,
         buffers: &mut RunBuffers,
-        cut: &'b Cut,
+        runs: &'b Runs,
         batch: &'b Batch<'_>,
         shard: u32,
     ) -> Result<(), Stop>
         requires shard { shard < shards_of self.now }
-        requires cut { IsCut batch.now cut.now }
-        requires shards { length cut.now ≡ shards_of self.now }
+        requires runs { AreRuns batch.now runs.now }
+        requires shards { length runs.now ≡ shards_of self.now }
         requires passes { books_of posting.old.passes.items ≡ self.now.books }
         requires clock { buffers.old.clock ≡ self.now.table.zone }
         requires room { posting.old.totals.taps + 4096 ≤ 2 ^ 95 }
@@ -180,7 +181,7 @@ impl<'a> Service<'a> {
         ensures memory { TellsMemory shard result posting.old.passes.items
             posting.new.passes.items }
     {
-        let run = cut.run(batch, shard);
+        let run = runs.run(batch, shard);
         let len = run.len();
         if len == 0 {
             return Ok(());
@@ -212,7 +213,7 @@ impl<'a> Service<'a> {
     ) -> Result<(), Stop>
         requires passes { books_of posting.old.passes.items ≡ self.now.books }
         requires clock { buffers.old.run.clock ≡ self.now.table.zone }
-        requires cut { length buffers.old.cut ≡ shards_of self.now }
+        requires runs { length buffers.old.runs ≡ shards_of self.now }
         requires room { posting.old.totals.taps + 2 ^ 18 ≤ 2 ^ 95 }
         ensures made { (place : ℕ) → (more : List Visit)
             × Made (shards_of self.now) posting.old.passes.items posting.new.passes.items
@@ -220,12 +221,12 @@ impl<'a> Service<'a> {
             × WerePosted (runs_below (shards_of self.now) (shards_of self.now)
             (placed_from place batch.now)) (is_ok result) more }
         ensures clock { buffers.new.run.clock ≡ buffers.old.run.clock }
-        ensures cut { length buffers.new.cut ≡ length buffers.old.cut }
+        ensures runs { length buffers.new.runs ≡ length buffers.old.runs }
         ensures full { TellsFull result posting.old.passes.items posting.new.passes.items }
     {
-        buffers.cut.fill(batch);
+        buffers.runs.fill(batch);
         for shard in 0..self.shards() {
-            self.post_run(rt, posting, &mut buffers.run, &buffers.cut, &*batch, shard)?;
+            self.post_run(rt, posting, &mut buffers.run, &buffers.runs, &*batch, shard)?;
         }
         Ok(())
     }
@@ -241,7 +242,7 @@ impl<'a> Service<'a> {
     ) -> Result<Option<(u64, LayoutFault)>, Stop>
         requires passes { books_of posting.old.passes.items ≡ self.now.books }
         requires clock { buffers.old.run.clock ≡ self.now.table.zone }
-        requires cut { length buffers.old.cut ≡ shards_of self.now }
+        requires runs { length buffers.old.runs ≡ shards_of self.now }
         requires room { posting.old.totals.taps + 2 ^ 60 ≤ 2 ^ 94 }
         ensures made { (batches : List (List Tap)) × (rest : List ℕ) × IsFile file.now batches rest
             × ((more : List Visit) × Made
@@ -250,7 +251,7 @@ impl<'a> Service<'a> {
             × WerePosted (runs_of (shards_of self.now) 0 batches) (is_ok result) more)
             × IfOk result (IsFaultOf file.now rest) }
         ensures clock { buffers.new.run.clock ≡ buffers.old.run.clock }
-        ensures cut { length buffers.new.cut ≡ length buffers.old.cut }
+        ensures runs { length buffers.new.runs ≡ length buffers.old.runs }
         ensures few { posting.new.totals.taps ≤ posting.old.totals.taps + 2 ^ 60 }
         ensures full { TellsFull result posting.old.passes.items posting.new.passes.items }
     {
@@ -279,14 +280,14 @@ impl<'a> Service<'a> {
         requires upload { upload < length self.now.uploads }
         requires passes { books_of posting.old.passes.items ≡ self.now.books }
         requires clock { buffers.old.run.clock ≡ self.now.table.zone }
-        requires cut { length buffers.old.cut ≡ shards_of self.now }
+        requires runs { length buffers.old.runs ≡ shards_of self.now }
         requires room { posting.old.totals.taps + 2 ^ 60 ≤ 2 ^ 94 }
         ensures worked { (visits : List Visit)
             × Made (shards_of self.now) posting.old.passes.items posting.new.passes.items
             (sums_of posting.old.totals) (sums_of posting.new.totals) visits
             × IsWorked self.now (worked upload result.0 visits) }
         ensures clock { buffers.new.run.clock ≡ buffers.old.run.clock }
-        ensures cut { length buffers.new.cut ≡ length buffers.old.cut }
+        ensures runs { length buffers.new.runs ≡ length buffers.old.runs }
         ensures few { posting.new.totals.taps ≤ posting.old.totals.taps + 2 ^ 60 }
         ensures full { SomeFull posting.old.passes.items → SomeFull posting.new.passes.items }
         ensures goes_on { result.1 ≡ true → WasWhole result.0 ⊎ SomeFull posting.new.passes.items }
@@ -315,7 +316,7 @@ impl<'a> Service<'a> {
         requires drawer { drawer.old.source ≡ self.now.drawing }
         requires passes { books_of posting.old.passes.items ≡ self.now.books }
         requires clock { buffers.old.run.clock ≡ self.now.table.zone }
-        requires cut { length buffers.old.cut ≡ shards_of self.now }
+        requires runs { length buffers.old.runs ≡ shards_of self.now }
         requires room { posting.old.totals.taps + 2 ^ 60 ≤ 2 ^ 94 }
         ensures none { IfNone result
             ((drawer.new ≡ record drawer.old { seen = length self.now.uploads })
@@ -336,7 +337,7 @@ impl<'a> Service<'a> {
             → WasWhole next.0.end ⊎ SomeFull posting.new.passes.items) }
         ensures stops { IfSome result (λ next. next.1 ≡ false → WasCut next.0.end) }
         ensures clock { buffers.new.run.clock ≡ buffers.old.run.clock }
-        ensures cut { length buffers.new.cut ≡ length buffers.old.cut }
+        ensures runs { length buffers.new.runs ≡ length buffers.old.runs }
     {
         let Some(upload) = self.draw.draw(drawer) else {
             return None;
@@ -363,7 +364,7 @@ impl<'a> Service<'a> {
         let Ok(clock) = self.table.clock(alloc) else {
             return share;
         };
-        let Ok(cut) = Cut::new(alloc, self.shards()) else {
+        let Ok(runs) = Runs::new(alloc, self.shards()) else {
             return share;
         };
         let run = RunBuffers {
@@ -371,7 +372,7 @@ impl<'a> Service<'a> {
             replies: Replies::new(alloc),
             ends: Ends::new(alloc),
         };
-        let mut buffers = Buffers { cut, run };
+        let mut buffers = Buffers { runs, run };
         let Share {
             mut drawer,
             mut posting,

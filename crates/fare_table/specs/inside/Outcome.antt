@@ -1,4 +1,4 @@
--- Outcome: what private functions alone cite.
+-- OrFault: what private functions alone cite.
 use Rattle.std.specs.Prelude.{◌≡◌, ◌≢◌, Result, Ok, Err, MatchResult}
 use Rattle.fare_table.specs.declared.fault.TableFault.{TableFault}
 use Rattle.fare_table.specs.declared.fault.TableFault.TheVariants.{NoMemory}

@@ -2,7 +2,7 @@
 ghost use Rattle.std.specs.Prelude.{◌≡◌, ◌≤◌, IfOk, option_map};
 ghost use Rattle.toml.specs.View.{view, table_view};
 ghost use Rattle.fare_table.specs.Classes as spec;
-ghost use Rattle.fare_table.specs.inside.Outcome.{seen_through};
+ghost use Rattle.fare_table.specs.inside.OrFault.{seen_through};
 ghost use Rattle.fare_table.specs.Terms.{HasLimits};
 
 use super::members::{hold_tables, number_at, number_in, of_kind, optional, table_at, text_at};

@@ -3,7 +3,7 @@ ghost use Rattle.std.specs.Prelude.{◌≡◌, ◌&&◌, ◌≤◌, pos, int_le,
 ghost use Rattle.toml.specs.Data.{get_member};
 ghost use Rattle.toml.specs.View.{view, array_view, table_view};
 ghost use Rattle.fare_table.specs.Members as spec;
-ghost use Rattle.fare_table.specs.inside.Outcome.{seen_through};
+ghost use Rattle.fare_table.specs.inside.OrFault.{seen_through};
 
 use crate::fault::{Key, TableFault};
 use toml::value::Array;

@@ -5,7 +5,7 @@ ghost use Rattle.std.specs.List.{list_all, list_any};
 ghost use Rattle.std.specs.Char.{is_ascii_lowercase};
 ghost use Rattle.toml.specs.View.{array_view, table_view};
 ghost use Rattle.fare_table.specs.Modes as spec;
-ghost use Rattle.fare_table.specs.inside.Outcome.{Answers};
+ghost use Rattle.fare_table.specs.inside.OrFault.{Answers};
 
 use super::members::{array_at, of_kind};
 use crate::fault::{Key, TableFault};

@@ -1,7 +1,7 @@
 //! The key `transfers`: the pairs of modes between which a ride includes a transfer.
 ghost use Rattle.std.specs.Prelude.{◌≡◌, ◌<◌, ◌≤◌, [], IfOk, length, map, option_map, string_bytes};
 ghost use Rattle.toml.specs.View.{view, array_view, table_view};
-ghost use Rattle.fare_table.specs.inside.Outcome.{Answers};
+ghost use Rattle.fare_table.specs.inside.OrFault.{Answers};
 ghost use Rattle.fare_table.specs.Transfers as spec;
 
 use super::members::{array_at, of_kind};

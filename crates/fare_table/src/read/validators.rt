@@ -3,7 +3,7 @@ ghost use Rattle.std.specs.Prelude.{◌≡◌, ◌<◌, ◌≤◌, [], true, IfO
 ghost use Rattle.std.specs.Prelude.{string_bytes};
 ghost use Rattle.std.specs.List.{list_any};
 ghost use Rattle.toml.specs.View.{view, array_view, table_view};
-ghost use Rattle.fare_table.specs.inside.Outcome.{Answers};
+ghost use Rattle.fare_table.specs.inside.OrFault.{Answers};
 ghost use Rattle.fare_table.specs.Validators.{is_chain, are_modes_below, share_number};
 ghost use Rattle.fare_table.specs.Validators as spec;
 ghost use Rattle.fare_table.specs.inside.Validators.{last_begun};

@@ -2,7 +2,7 @@
 ghost use Rattle.std.specs.Prelude.{◌≡◌, IfOk, Some, string_bytes};
 ghost use Rattle.jiff.specs.ZoneView.{plain_zone};
 ghost use Rattle.toml.specs.View.{view, table_view};
-ghost use Rattle.fare_table.specs.inside.Outcome.{Answers};
+ghost use Rattle.fare_table.specs.inside.OrFault.{Answers};
 ghost use Rattle.fare_table.specs.PosixRule.{posix_rule};
 ghost use Rattle.fare_table.specs.Zone.{IsZoneOf, zone_rule, zone_text};
 ghost use Rattle.fare_table.specs.Zone as spec;

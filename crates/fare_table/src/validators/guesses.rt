@@ -11,7 +11,7 @@ const STEPS_FOR_EACH: u64 = 4;
 
 /// Guesses which of some ranges, which rise and stand apart, has a number.
 ///
-/// The numbers from the lowest last number of a range to the highest are cut into steps of one
+/// The numbers from the lowest last number of a range to the highest are divided into steps of one
 /// width, a power of two. For each step the place of the first range is kept that ends in it or
 /// behind it. That range has the numbers of the step, or the next one has those behind its end. An
 /// answer is a guess: the caller checks it, and searches if it is wrong. It may be wrong where many

@@ -7,4 +7,4 @@ bytes_in file = file.items
 
 pub returns : goal.returns
 returns c = λ groups number parts zip.
-    none_faulty number parts groups (map bytes_in c.args.files.now) c.cuts.ensures zip
+    none_faulty number parts groups (map bytes_in c.args.files.now) c.one_reading_each.ensures zip

@@ -6,7 +6,7 @@ use Rattle.account_rule.specs.declared.tap.TapIn.{TapIn}
 use Rattle.account_rule.specs.Rules.{Rules}
 use Rattle.account_rule.specs.Stands.{Stands}
 use Rattle.shard_book.specs.declared.accounts.Accounts.{Accounts}
-use Rattle.shard_book.specs.declared.accounts.Kept.{Kept}
+use Rattle.shard_book.specs.declared.accounts.KeptAccount.{KeptAccount}
 use Rattle.fare_table.specs.declared.token.Token.{Token}
 use Rattle.shard_book.specs.Counts.{sums_of_counts}
 use Rattle.shard_book.specs.Sums.{Sums, sums_of_replies}
@@ -14,7 +14,7 @@ use Rattle.shard_book.specs.inside.Sums.{has_taps}
 use Rattle.fare_table.specs.Token.{token_eq}
 
 -- what is kept of the token
-unfoldable pub kept_at : Accounts → Token → Option Kept
+unfoldable pub kept_at : Accounts → Token → Option KeptAccount
 kept_at accounts token = get token_eq accounts.map token
 
 -- the counts of all tokens are right
@@ -22,12 +22,12 @@ abbrev pub IsCounting : Accounts → Type 0
 IsCounting accounts = IsTrue accounts.counting
 
 -- the kept account stands for the taps; where none is kept there are none
-abbrev pub IsKept : Rules → Option Kept → List TapIn → Type 0
+abbrev pub IsKept : Rules → Option KeptAccount → List TapIn → Type 0
 IsKept rules None taps = taps ≡ []
 IsKept rules (Some kept) taps = Stands rules kept.account taps
 
 -- what was kept, or else a fresh account and the counts of nothing
-abbrev pub IsKeptOrFresh : Option Kept → Kept → Type 0
+abbrev pub IsKeptOrFresh : Option KeptAccount → KeptAccount → Type 0
 IsKeptOrFresh None kept =
     ((rules : Rules) → Stands rules kept.account [])
     × (sums_of_counts kept.counts ≡ sums_of_replies [])
@@ -35,34 +35,34 @@ IsKeptOrFresh (Some old) kept = kept ≡ old
 
 -- the token and what is kept of it stand at the place
 pub record IsPlace (accounts : Accounts) (token : Token) (place : ℕ) : Type 0 where
-  pub kept : Kept
+  pub kept : KeptAccount
   pub at : slice_get accounts.map.entries place ≡ Some (token, kept)
   pub is : kept_at accounts token ≡ Some kept
 
 -- what is kept of the token, or was put there for it, stands at the place
 pub record IsMade (old new : Accounts) (token : Token) (place : ℕ) : Type 0 where
-  pub kept : Kept
+  pub kept : KeptAccount
   pub at : slice_get new.map.entries place ≡ Some (token, kept)
   pub is : IsKeptOrFresh (kept_at old token) kept
   pub now : kept_at new token ≡ Some kept
 
 -- the kept sums, of nothing where none are kept
-abbrev pub counted : Option Kept → Sums
+abbrev pub counted : Option KeptAccount → Sums
 counted None = sums_of_replies []
 counted (Some kept) = sums_of_counts kept.counts
 
 -- what is kept now stands for the taps for which that before it stood, and counts the same: it
 -- stayed, or is fresh
-pub record StandsOn (old new : Option Kept) : Type 0 where
+pub record StandsOn (old new : Option KeptAccount) : Type 0 where
   pub kept : (rules : Rules) (taps : List TapIn) → IsKept rules old taps → IsKept rules new taps
   pub sums : counted new ≡ counted old
 
 -- whether an account has taps; one that was opened ahead has none yet
-abbrev pub is_used : Token × Kept → Bool
+abbrev pub is_used : Token × KeptAccount → Bool
 is_used kept = has_taps (sums_of_counts kept.1.counts)
 
 -- a token with its kept sums
-abbrev pub pair_of : Token × Kept → Token × Sums
+abbrev pub pair_of : Token × KeptAccount → Token × Sums
 pair_of kept = (kept.0, sums_of_counts kept.1.counts)
 
 -- each token that has taps, with its kept sums, in the order of the map

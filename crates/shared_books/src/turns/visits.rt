@@ -15,7 +15,7 @@ use tap_views::Run;
 impl SharedBook {
     ghost use Rattle.std.specs.Prelude.{◌≡◌, ◌+◌, ◌^◌, ◌≤◌, [], length, IfOk, IfErr};
     ghost use Rattle.tap_views.specs.Shards.{run_taps};
-    ghost use Rattle.shard_book.specs.Visits.{limits_of};
+    ghost use Rattle.shard_book.specs.Visits.{window_ends_of};
     ghost use Rattle.shard_book.specs.Statement.{IsStatement};
     ghost use Rattle.shared_books.specs.Marks.{joined};
     ghost use Rattle.shared_books.specs.Passes.{new_pass, seen_by, IsLater, Visits, IsFull};
@@ -60,8 +60,8 @@ impl SharedBook {
         ))
     }
 
-    /// Waits for the turn, posts the run, and gives the turn back. The limits are made before the
-    /// turn. `Full` where `2^62` visits are counted: nothing changes then.
+    /// Waits for the turn, posts the run, and gives the turn back. The window ends are made before
+    /// the turn. `Full` where `2^62` visits are counted: nothing changes then.
     pub fn visit<R: Wait>(
         &self,
         rt: &R,
@@ -73,7 +73,7 @@ impl SharedBook {
         requires own { pass.old.book ≡ self.now }
         requires shard { run.now.shard ≡ self.now.shard }
         requires shards { run.now.shards ≡ self.now.shards }
-        requires ends { ends.now ≡ limits_of self.now.table (run_taps run.now) }
+        requires ends { ends.now ≡ window_ends_of self.now.table (run_taps run.now) }
         requires spare { length (run_taps run.now) ≤ out.old.spare }
         ensures visit { IfOk result (MakesVisit run.now pass.old pass.new out.old out.new) }
         ensures full { IfErr result (λ _. IsLater pass.old pass.new × IsFull pass.new

@@ -3,7 +3,7 @@ use Rattle.shard_book.specs.Entry.{own, tap_of}
 use Rattle.shard_book.specs.declared.entry.Entry.{Entry}
 use Rattle.account_rule.specs.declared.reply.Answer.TheVariants.{Unknown}
 use Rattle.reason_texts.specs.Ledger.{IsLedgerLine}
-use Rattle.ledger_check.proofs.TurnLemmas.{goes_on}
+use Rattle.ledger_check.proofs.TellerLemmas.{goes_on}
 use Rattle.ledger_check.proofs.wanted.write_wanted.Goals as goal
 
 pub explain_next-requires-clause-told : goal.explain_next-requires-clause-told

@@ -22,17 +22,17 @@ loop-spot-init g c = record {
   whole = Appends-nil (append_known (g.W.Write.contents c.args.out.now) (string_bytes c.args.text.now));
 }
 
--- the teller turned to the entry's token
+-- the teller gone_on to the entry's token
 pub write_next-requires-clause-told : goal.write_next-requires-clause-told
 write_next-requires-clause-told g c =
     let list = c.args.spots.now in
     let i = c.loop-spot.spot-index in
     let done = take i (seen c.args.books.now list) in
-    let turned = c.turn_to.ensures.come c.args.table.now done c.loop-spot.invariant.come
+    let gone_on = c.go_on_to.ensures.come c.args.table.now done c.loop-spot.invariant.come
     (subst (λ (e : Entry). IsUpTo c.loop-spot.teller.token e.token) (sym c.entry-entry.ensures)
     (rise_here c.args.books.now list i _ c.loop-spot.teller.token c.loop-spot-test.true
     c.loop-spot.invariant.rise)) in
-    (own c.turn_to.new.teller.token done, turned.told)
+    (own c.go_on_to.new.teller.token done, gone_on.told)
 
 pub loop-spot-preserved : goal.loop-spot-preserved
 loop-spot-preserved g c =
@@ -44,23 +44,23 @@ loop-spot-preserved g c =
     let done = take i (seen books list) in
     let is = c.entry-entry.ensures in
     let taken = seen_taken books list i _ c.loop-spot-test.true in
-    let turned = c.turn_to.ensures.come fares done inv.come
+    let gone_on = c.go_on_to.ensures.come fares done inv.come
     (subst (λ (e : Entry). IsUpTo c.loop-spot.teller.token e.token) (sym is)
     (rise_here books list i _ c.loop-spot.teller.token c.loop-spot-test.true inv.rise)) in
-    let own_done = own c.turn_to.new.teller.token done in
-    let line = c.in-Ok.ensures.line own_done turned.told in
+    let own_done = own c.go_on_to.new.teller.token done in
+    let line = c.in-Ok.ensures.line own_done gone_on.told in
     let after = subst (λ (t : Token). IsTokenLine fares t (own t done) c.entry-entry.result line.0)
-    c.turn_to.ensures.token line.1 in
-    let next = come_next fares c.turn_to.new.teller c.write_next.new.self done c.entry-entry.result
-    c.turn_to.ensures.token c.in-Ok.ensures.token turned
-    (c.in-Ok.ensures.told own_done turned.told) in
+    c.go_on_to.ensures.token line.1 in
+    let next = come_next fares c.go_on_to.new.teller c.write_next.new.self done c.entry-entry.result
+    c.go_on_to.ensures.token c.in-Ok.ensures.token gone_on
+    (c.in-Ok.ensures.told own_done gone_on.told) in
     record {
       come = subst (λ (es : List Entry). HasCome fares c.write_next.new.self es) (sym taken)
           (subst (λ (e : Entry). HasCome fares c.write_next.new.self (done ++ e ∷ [])) is next);
       rise = subst (λ (t : Token). RiseFrom t (drop (i + 1) (seen books list)))
-          (sym (c.in-Ok.ensures.token ∙ c.turn_to.ensures.token ∙ ap (λ (e : Entry). e.token) is))
+          (sym (c.in-Ok.ensures.token ∙ c.go_on_to.ensures.token ∙ ap (λ (e : Entry). e.token) is))
           (rise_on books list i _ c.loop-spot.teller.token c.loop-spot-test.true inv.rise);
-      few = omega (arith, c.in-Ok.ensures.number, c.turn_to.ensures.few, inv.few);
+      few = omega (arith, c.in-Ok.ensures.number, c.go_on_to.ensures.few, inv.few);
       written = inv.written ++ line.0;
       along = subst (λ (es : List Entry). AreLinesAlong fares [] es (inv.written ++ line.0)) (sym taken)
           (along_push fares [] done _ inv.written line.0 inv.along

@@ -5,8 +5,8 @@ use Rattle.omny_audit.specs.inside.Answers.{StrikesOut}
 use Rattle.omny_audit.proofs.ReadLemmas.{at_end, consumes-more, consumes-none, whatever_follows}
 use Rattle.omny_audit.proofs.audit.verdict_of.Goals as goal
 
-pub loop-turn-init : goal.loop-turn-init
-loop-turn-init g c = record {
+pub loop-piece-init : goal.loop-piece-init
+loop-piece-init g c = record {
   text = [];
   fed = c.new-checker.ensures.fed c.args.table.now;
   struck = λ posted is. c.new-checker.ensures.struck c.args.table.now c.args.balance.now posted is;
@@ -14,24 +14,24 @@ loop-turn-init g c = record {
 }
 
 pub finish-requires : goal.finish-requires
-finish-requires g c = record { fed = (c.args.table.now, c.loop-turn.invariant.text, c.loop-turn.invariant.fed) }
+finish-requires g c = record { fed = (c.args.table.now, c.loop-piece.invariant.text, c.loop-piece.invariant.fed) }
 
 pub feed-requires-clause-fed : goal.feed-requires-clause-fed
-feed-requires-clause-fed g c = (c.loop-turn.invariant.text, c.loop-turn.invariant.fed)
+feed-requires-clause-fed g c = (c.loop-piece.invariant.text, c.loop-piece.invariant.fed)
 
 pub returns-then-count-eq0-clause-told : goal.returns-then-count-eq0-clause-told
 returns-then-count-eq0-clause-told g c =
-    let before = c.loop-turn.invariant in
+    let before = c.loop-piece.invariant in
     let got = c.in-Ok.ensures.bytes in
     let none = ap (λ (n : ℕ). before.text ++ take n c.read.new.buf) c.if-count-eq0.true ∙ append-nil before.text in
     let Is : List ℕ → Type 0 = λ text. IsVerdict c.args.table.now text c.finish.result
-    × StrikesOut c.args.table.now text c.args.balance.now c.loop-turn.balance c.finish.result in
+    × StrikesOut c.args.table.now text c.args.balance.now c.loop-piece.balance c.finish.result in
     let told = at_end Is _ _ _
     (consumes-more _ _ _ before.text (take c.in-Ok.count c.read.new.buf) before.read got.0)
     (got.1 c.if-count-eq0.true (omega arith))
     (subst Is (sym none) (
       c.finish.ensures.verdict c.args.table.now before.text before.fed,
-      λ posted is legal entries ledger. c.finish.ensures.struck c.args.table.now before.text c.loop-turn.balance posted (before.struck posted is) legal entries ledger,
+      λ posted is legal entries ledger. c.finish.ensures.struck c.args.table.now before.text c.loop-piece.balance posted (before.struck posted is) legal entries ledger,
     )) in
     (told.0, told.1, told.2.0, told.2.1)
 
@@ -40,7 +40,7 @@ false_true h = cc
 
 pub returns-in-Some-clause-told : goal.returns-in-Some-clause-told
 returns-in-Some-clause-told g c =
-    let before = c.loop-turn.invariant in
+    let before = c.loop-piece.invariant in
     let got = c.in-Ok.ensures.bytes in
     let fed = rw c.in-Some.is at (c.in_ok-verdict.ensures.fed before.text before.fed) in
     let Is : List ℕ → Type 0 = λ text. IsVerdict c.args.table.now text c.in-Some.verdict
@@ -53,9 +53,9 @@ returns-in-Some-clause-told g c =
     )) in
     (told.0, told.1, told.2.0, told.2.1)
 
-pub loop-turn-preserved : goal.loop-turn-preserved
-loop-turn-preserved g c =
-    let before = c.loop-turn.invariant in
+pub loop-piece-preserved : goal.loop-piece-preserved
+loop-piece-preserved g c =
+    let before = c.loop-piece.invariant in
     let got = c.in-Ok.ensures.bytes in
     record {
       text = before.text ++ take c.in-Ok.count c.read.new.buf;

@@ -7,8 +7,8 @@ use Rattle.ledger_check.specs.Verdicts.{HasFed}
 use Rattle.omny_audit.proofs.audit.verdict_of.Given as goal
 
 -- the checker has read what the reader has lost
-abbrev pub invariant-loop-turn : goal.invariant-loop-turn
-invariant-loop-turn g l = record {
+abbrev pub invariant-loop-piece : goal.invariant-loop-piece
+invariant-loop-piece g l = record {
   text : List ℕ;
   fed : HasFed l.table l.checker text;
   struck : (posted : List TapFields) → IsBalance l.fn.balance posted [] → HasStruck l.table l.checker l.balance text posted;

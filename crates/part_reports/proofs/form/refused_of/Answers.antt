@@ -1,5 +1,5 @@
 use Rattle.std.proofs.Common.{codes, refl}
-use Rattle.part_reports.specs.inside.Ends.{fault_words}
+use Rattle.part_reports.specs.inside.UploadEnds.{fault_words}
 use Rattle.part_reports.proofs.Digits.{counted_unique}
 use Rattle.part_reports.proofs.Nones.{is_none}
 use Rattle.part_reports.proofs.form.refused_of.Goals as goal

@@ -1,6 +1,6 @@
 use Rattle.std.proofs.Common.{◌<◌, ◌^◌, arith}
 use Rattle.part_reports.specs.Lines.{IsUploadEnd, end_line}
-use Rattle.part_reports.specs.inside.Ends.{end_of_upload}
+use Rattle.part_reports.specs.inside.UploadEnds.{end_of_upload}
 use Rattle.part_reports.proofs.LinesRead.{read_line}
 use Rattle.part_reports.proofs.OneLine.{end_line_is_one}
 use Rattle.part_reports.proofs.front.next_end.Goals as goal

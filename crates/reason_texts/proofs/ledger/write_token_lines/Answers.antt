@@ -1,4 +1,4 @@
--- Each turn writes the line of one entry more.
+-- Each round writes the line of one entry more.
 use Rattle.std.proofs.Common.{List, [], ◌++◌, take, refl, sym, ap, subst, ◌∙◌}
 use Rattle.std.proofs.Common.{string_bytes, append_assoc, append-nil, arith}
 use Rattle.std.proofs.lemmas.List.{length-take-le}

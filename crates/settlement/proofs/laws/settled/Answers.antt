@@ -13,5 +13,5 @@ returns c = λ fares shards uploads ends works settled headline whole.
       shards = shards;
       uploads = files;
     }) works c.args.outcome.now uploads ends history some c.names.ensures.named c.names.ensures.here
-    c.cuts.ensures c.rising.ensures.numbers c.rising.ensures.tokens is
+    c.one_reading_each.ensures c.rising.ensures.numbers c.rising.ensures.tokens is
     (c.plain_history.ensures.fields fares history is) settled headline whole

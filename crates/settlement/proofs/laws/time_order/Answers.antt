@@ -17,11 +17,11 @@ returns-clause-legal c = λ fares history is. legal_history fares (map bytes_in 
 pub returns-clause-rises : goal.returns-clause-rises
 returns-clause-rises c = λ fares history is.
     let (later, plain) = c.plain_history.ensures.some fares in
-    time_order fares (map bytes_in c.args.uploads.now) c.cuts.ensures later plain
+    time_order fares (map bytes_in c.args.uploads.now) c.one_reading_each.ensures later plain
     (c.plain_history.ensures.fields fares later plain) history is
 
 pub returns-clause-stale : goal.returns-clause-stale
 returns-clause-stale c = λ fares before after entry is answer.
     let (later, plain) = c.plain_history.ensures.some fares in
-    stale fares (map bytes_in c.args.uploads.now) c.cuts.ensures later plain
+    stale fares (map bytes_in c.args.uploads.now) c.one_reading_each.ensures later plain
     (c.plain_history.ensures.fields fares later plain) before entry after is answer

@@ -1,6 +1,6 @@
 use Rattle.std.proofs.Common.{◌≡◌, sym, ◌∙◌}
 use Rattle.tap_views.specs.Shards.{shard_of_token}
-use Rattle.tap_views.proofs.Runs.{run_of-own}
+use Rattle.tap_views.proofs.RunLemmas.{run_of-own}
 use Rattle.tap_views.proofs.run.next_of.Goals as goal
 
 pub returns-then-shard_of-shard : goal.returns-then-shard_of-shard

@@ -1,7 +1,7 @@
 -- A fresh account stands for no taps, under whatever rules.
 use Rattle.std.proofs.Common.{[], refl}
 use Rattle.account_rule.specs.Chains.{chains, rides}
-use Rattle.account_rule.specs.Cut.{cut, last_block}
+use Rattle.account_rule.specs.Blocks.{blocks_by, last_block}
 use Rattle.account_rule.specs.Kept.{is_after, kept_giver, kept_of, kept_window}
 use Rattle.account_rule.specs.Stands.{Stands, StandsForSome, giver_of, window_of}
 use Rattle.account_rule.specs.Taps.{is_later, live, live_after}
@@ -10,7 +10,7 @@ use Rattle.account_rule.proofs.account.Account.fresh.Goals as goal
 
 pub returns-clause-stands : goal.returns-clause-stands
 unfolding Stands is_after is_later kept_of kept_giver giver_of kept_window window_of windows rides
-    chains live live_after cut last_block
+    chains live live_after blocks_by last_block
 returns-clause-stands c = λ rules. record {
   last = λ moment. refl;
   giver = refl;

@@ -1,7 +1,7 @@
 -- What is seen of the kept window is what the rule shows of the last one.
 use Rattle.std.proofs.Common.{◌≡◌, ◌≤◌, List, Option, refl, sym, subst, option_map, ◌∙◌}
 use Rattle.std.specs.Prelude.{IfSome}
-use Rattle.account_rule.specs.Cut.{last_block}
+use Rattle.account_rule.specs.Blocks.{last_block}
 use Rattle.account_rule.specs.Kept.{kept_of, kept_window}
 use Rattle.account_rule.specs.inside.Kept.{shown_of}
 use Rattle.account_rule.specs.Rules.{Rules}

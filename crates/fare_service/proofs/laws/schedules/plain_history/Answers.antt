@@ -34,7 +34,7 @@ returns-clause-some c = λ fares.
     some_plain fares (map bytes_in c.args.uploads.now) taps (subst T (take_all c.loop-upload.upload-index c.args.uploads.now c.loop-upload-test.false) each)
 
 pub returns-clause-one : goal.returns-clause-one
-returns-clause-one c = λ fares history other a b. one_plain fares (map bytes_in c.args.uploads.now) history other c.cuts.ensures a b
+returns-clause-one c = λ fares history other a b. one_plain fares (map bytes_in c.args.uploads.now) history other c.one_reading_each.ensures a b
 
 pub returns-clause-legal : goal.returns-clause-legal
 returns-clause-legal c = λ fares history is. legal_plain fares (map bytes_in c.args.uploads.now) history is

@@ -6,4 +6,4 @@ pub returns : goal.returns
 returns c = λ fares shards history whole.
     let files = map (λ (upload : Vec ℕ Global). upload.items) c.args.uploads.now in
     let some : 0 < length c.args.outcome.now.books = omega (arith, c.shards.ensures.some, c.shards.ensures.number) in
-    same_report (record { table = fares; shards = shards; uploads = files }) c.args.outcome.now history some c.names.ensures.named c.names.ensures.here c.cuts.ensures whole c.rising.ensures.numbers c.rising.ensures.tokens
+    same_report (record { table = fares; shards = shards; uploads = files }) c.args.outcome.now history some c.names.ensures.named c.names.ensures.here c.one_reading_each.ensures whole c.rising.ensures.numbers c.rising.ensures.tokens

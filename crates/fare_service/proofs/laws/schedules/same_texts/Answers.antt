@@ -10,7 +10,7 @@ returns-clause-report c = λ fares shards others history again whole_one whole_o
     let files = map (λ (upload : Vec ℕ Global). upload.items) c.args.uploads.now in
     let same : history ≡ again = c.plain_history.ensures.one fares history again whole_one.plain_is whole_other.plain_is in
     let H : List Entry → Type 0 = λ es. IsReportOver files es (report_of c.args.other.now) in
-    one_report files history (report_of c.args.one.now) (report_of c.args.other.now) c.cuts.ensures
+    one_report files history (report_of c.args.one.now) (report_of c.args.other.now) c.one_reading_each.ensures
     (c.report.ensures fares shards history whole_one) (subst H (sym same) (c.report-2.ensures fares others again whole_other))
 
 pub returns-clause-statements : goal.returns-clause-statements

@@ -6,10 +6,10 @@ pub returns-clause-entries : goal.returns-clause-entries
 returns-clause-entries c = λ fares shards history whole.
     let files = map (λ (upload : Vec ℕ Global). upload.items) c.args.uploads.now in
     let some : 0 < length c.args.outcome.now.books = omega (arith, c.shards.ensures.some, c.shards.ensures.number) in
-    same_own (record { table = fares; shards = shards; uploads = files }) c.args.outcome.now history some c.names.ensures.named c.cuts.ensures whole
+    same_own (record { table = fares; shards = shards; uploads = files }) c.args.outcome.now history some c.names.ensures.named c.one_reading_each.ensures whole
 
 pub returns-clause-texts : goal.returns-clause-texts
 returns-clause-texts c = λ fares shards history whole.
     let files = map (λ (upload : Vec ℕ Global). upload.items) c.args.uploads.now in
     let some : 0 < length c.args.outcome.now.books = omega (arith, c.shards.ensures.some, c.shards.ensures.number) in
-    same_statement (record { table = fares; shards = shards; uploads = files }) c.args.outcome.now history some c.names.ensures.named c.cuts.ensures whole
+    same_statement (record { table = fares; shards = shards; uploads = files }) c.args.outcome.now history some c.names.ensures.named c.one_reading_each.ensures whole

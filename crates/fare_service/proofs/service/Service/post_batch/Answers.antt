@@ -11,8 +11,8 @@ pub loop-shard-init : goal.loop-shard-init
 loop-shard-init g c = record {
   passes = c.requires.passes;
   clock = refl;
-  cut = c.fill.ensures.cut;
-  shards = c.fill.ensures.shards ∙ c.requires.cut;
+  runs = c.fill.ensures.runs;
+  shards = c.fill.ensures.shards ∙ c.requires.runs;
   room = omega arith;
   within = omega arith;
   full = λ h. h;
@@ -25,7 +25,7 @@ loop-shard-preserved g c =
     record {
       passes = (c.in_ok-post_run.ensures.made 0).1.books ∙ c.loop-shard.invariant.passes;
       clock = c.in_ok-post_run.ensures.clock ∙ c.loop-shard.invariant.clock;
-      cut = c.loop-shard.invariant.cut;
+      runs = c.loop-shard.invariant.runs;
       shards = c.loop-shard.invariant.shards;
       room = omega (arith, c.in_ok-post_run.ensures.few, c.loop-shard.invariant.room);
       within = omega (arith, c.loop-shard-test.true);

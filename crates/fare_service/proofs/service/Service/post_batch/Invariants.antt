@@ -1,5 +1,5 @@
 use Rattle.std.proofs.Common.{◌≡◌, ℕ, ◌+◌, ◌*◌, ◌≤◌, List, length}
-use Rattle.tap_views.specs.Cut.{IsCut}
+use Rattle.tap_views.specs.Runs.{AreRuns}
 use Rattle.shard_book.specs.Sums.{sums_of}
 use Rattle.fare_service.specs.ServiceView.{shards_of}
 use Rattle.fare_service.specs.Runs.{Visit, ArePosted, placed_from, runs_below}
@@ -11,8 +11,8 @@ abbrev pub invariant-loop-shard : goal.invariant-loop-shard
 invariant-loop-shard g l = record {
   passes : books_of l.posting.passes.items ≡ l.fn.self.books;
   clock : l.buffers.run.clock ≡ l.fn.buffers.run.clock;
-  cut : IsCut l.batch l.buffers.cut;
-  shards : length l.buffers.cut ≡ shards_of l.fn.self;
+  runs : AreRuns l.batch l.buffers.runs;
+  shards : length l.buffers.runs ≡ shards_of l.fn.self;
   room : l.posting.totals.taps ≤ l.fn.posting.totals.taps + 4096 * l.shard;
   within : l.shard ≤ l.shard-end;
   full : SomeFull l.fn.posting.passes.items → SomeFull l.posting.passes.items;

@@ -19,7 +19,7 @@ loop-item-init g c =
       reading = subst P (sym c.into_iter-item-iterator.ensures.into_iter_gives) c.batches-item-items.ensures;
       passes = c.requires.passes;
       clock = refl;
-      cut = refl;
+      runs = refl;
       full = λ h. h;
       made = ([], refl, ([], made_none (shards_of c.args.self.now) c.args.posting.now.passes.items (sums_of c.args.posting.now.totals), refl));
     }
@@ -47,7 +47,7 @@ loop-item-preserved g c =
       reading = subst P (ap (λ left. c.loop-item.yielded ++ left) c.in-Some.ensures.steps ∙ sym (append_assoc c.loop-item.yielded (c.in-Some.item ∷ []) c.next.new.self)) c.loop-item.invariant.reading;
       passes = (c.in_ok-post_batch-in-Ok.ensures.made 0).1.books ∙ c.loop-item.invariant.passes;
       clock = c.in_ok-post_batch-in-Ok.ensures.clock ∙ c.loop-item.invariant.clock;
-      cut = c.in_ok-post_batch-in-Ok.ensures.cut ∙ c.loop-item.invariant.cut;
+      runs = c.in_ok-post_batch-in-Ok.ensures.runs ∙ c.loop-item.invariant.runs;
       full = λ h. c.in_ok-post_batch-in-Ok.ensures.full (inl (c.loop-item.invariant.full h));
       made = (
         made.0 ++ c.in-Ok.batch ∷ [],

@@ -16,7 +16,7 @@ invariant-loop-item g l = record {
   reading : IsReading l.file (l.yielded ++ l.item-iterator);
   passes : books_of l.posting.passes.items ≡ l.fn.self.books;
   clock : l.buffers.run.clock ≡ l.fn.buffers.run.clock;
-  cut : length l.buffers.cut ≡ length l.fn.buffers.cut;
+  runs : length l.buffers.runs ≡ length l.fn.buffers.runs;
   full : SomeFull l.fn.posting.passes.items → SomeFull l.posting.passes.items;
   made : (done : List (List Tap)) × (l.yielded ≡ map Ok done)
       × Posts (shards_of l.fn.self) l.fn.posting.passes.items l.posting.passes.items (sums_of l.fn.posting.totals) (sums_of l.posting.totals) (runs_of (shards_of l.fn.self) 0 done);

@@ -2,12 +2,12 @@ use Rattle.std.proofs.Common.{◌≡◌, ◌<◌, List, inr, refl, ◌++◌, len
 use Rattle.std.proofs.lemmas.List.{length-map}
 use Rattle.tap_views.specs.Layout.{Tap}
 use Rattle.tap_views.specs.Shards.{run_of, run_taps}
-use Rattle.fare_table.specs.Until.{limit_in}
+use Rattle.fare_table.specs.Until.{window_end_in}
 use Rattle.shard_book.specs.declared.run_end.RunEnd.{RunEnd}
 use Rattle.shard_book.specs.declared.run_end.RunEnd.TheVariants.{Whole, Cut}
 use Rattle.shard_book.specs.Entry.{reply_of}
 use Rattle.shard_book.specs.Sums.{sums_of, sums_of_replies, add_sums}
-use Rattle.shard_book.specs.Visits.{IsVisit, limits_by}
+use Rattle.shard_book.specs.Visits.{IsVisit, window_ends_by}
 use Rattle.shared_books.specs.Passes.{PassView}
 use Rattle.fare_service.specs.declared.service.working.Stop.TheVariants.{Memory}
 use Rattle.fare_service.specs.ServiceView.{shards_of}
@@ -18,20 +18,20 @@ use Rattle.fare_service.proofs.service.Service.post_run.Goals as goal
 
 pub returns-then-len-eq0-clause-made : goal.returns-then-len-eq0-clause-made
 returns-then-len-eq0-clause-made g c =
-    let same = same_run c.run-run.result c.args.batch.now c.args.shard (length c.args.cut.now) (shards_of c.args.self.now) c.run-run.ensures c.requires.shards in
+    let same = same_run c.run-run.result c.args.batch.now c.args.shard (length c.args.runs.now) (shards_of c.args.self.now) c.run-run.ensures c.requires.shards in
     λ place. run_empty (shards_of c.args.self.now) c.args.shard place c.args.batch.now c.args.posting.now.passes.items (sums_of c.args.posting.now.totals)
     (sym (ap length same) ∙ (sym c.len-len.ensures.number ∙ c.if-len-eq0.true))
 
 pub returns-in_err-reserve-clause-made : goal.returns-in_err-reserve-clause-made
 returns-in_err-reserve-clause-made g c =
-    let same = same_run c.run-run.result c.args.batch.now c.args.shard (length c.args.cut.now) (shards_of c.args.self.now) c.run-run.ensures c.requires.shards in
+    let same = same_run c.run-run.result c.args.batch.now c.args.shard (length c.args.runs.now) (shards_of c.args.self.now) c.run-run.ensures c.requires.shards in
     let some : 0 < length (run_of c.args.shard (shards_of c.args.self.now) c.args.batch.now) = omega (arith, ap length same, c.len-len.ensures.number) in
     λ place. run_refused (shards_of c.args.self.now) c.args.shard place c.args.batch.now c.args.posting.now.passes.items (sums_of c.args.posting.now.totals)
     c.from_residual.result some c.from_residual.ensures.0
 
 pub returns-in_err-fill-clause-made : goal.returns-in_err-fill-clause-made
 returns-in_err-fill-clause-made g c =
-    let same = same_run c.run-run.result c.args.batch.now c.args.shard (length c.args.cut.now) (shards_of c.args.self.now) c.run-run.ensures c.requires.shards in
+    let same = same_run c.run-run.result c.args.batch.now c.args.shard (length c.args.runs.now) (shards_of c.args.self.now) c.run-run.ensures c.requires.shards in
     let some : 0 < length (run_of c.args.shard (shards_of c.args.self.now) c.args.batch.now) = omega (arith, ap length same, c.len-len.ensures.number) in
     λ place. run_refused (shards_of c.args.self.now) c.args.shard place c.args.batch.now c.args.posting.now.passes.items (sums_of c.args.posting.now.totals)
     c.from_residual-in_err-fill.result some c.from_residual-in_err-fill.ensures.0
@@ -54,11 +54,11 @@ visit-requires-clause-ends g c =
     let count = ap shards_of c.self.view_is in
     let book = book_at _ c.args.shard c.index.result.now c.self.invariant (omega (arith, c.requires.shard, count)) c.index.ensures in
     let zone = c.requires.clock ∙ (sym (ap (λ h. h.table.zone) c.self.view_is) ∙ sym (ap (λ t. t.zone) book.its_table)) in
-    c.in_ok-fill.ensures.ok ∙ ap (λ z. limits_by (limit_in z) (run_taps c.run-run.result)) zone
+    c.in_ok-fill.ensures.ok ∙ ap (λ z. window_ends_by (window_end_in z) (run_taps c.run-run.result)) zone
 
 pub returns-in_err-visit-clause-made : goal.returns-in_err-visit-clause-made
 returns-in_err-visit-clause-made g c =
-    let same = same_run c.run-run.result c.args.batch.now c.args.shard (length c.args.cut.now) (shards_of c.args.self.now) c.run-run.ensures c.requires.shards in
+    let same = same_run c.run-run.result c.args.batch.now c.args.shard (length c.args.runs.now) (shards_of c.args.self.now) c.run-run.ensures c.requires.shards in
     let some : 0 < length (run_of c.args.shard (shards_of c.args.self.now) c.args.batch.now) = omega (arith, ap length same, c.len-len.ensures.number) in
     let within : c.args.shard < length c.args.posting.now.passes.items =
     omega (arith, c.requires.shard, ap length c.requires.passes, length-map c.args.posting.now.passes.items (λ (p : PassView). p.book)) in
@@ -74,7 +74,7 @@ count-requires g c =
 
 pub returns-in-Whole-clause-made : goal.returns-in-Whole-clause-made
 returns-in-Whole-clause-made g c =
-    let same = same_run c.run-run.result c.args.batch.now c.args.shard (length c.args.cut.now) (shards_of c.args.self.now) c.run-run.ensures c.requires.shards in
+    let same = same_run c.run-run.result c.args.batch.now c.args.shard (length c.args.runs.now) (shards_of c.args.self.now) c.run-run.ensures c.requires.shards in
     let some : 0 < length (run_of c.args.shard (shards_of c.args.self.now) c.args.batch.now) = omega (arith, ap length same, c.len-len.ensures.number) in
     let within : c.args.shard < length c.args.posting.now.passes.items =
     omega (arith, c.requires.shard, ap length c.requires.passes, length-map c.args.posting.now.passes.items (λ (p : PassView). p.book)) in
@@ -97,7 +97,7 @@ returns-in-Whole-clause-few g c =
 
 pub returns-in-Cut-clause-made : goal.returns-in-Cut-clause-made
 returns-in-Cut-clause-made g c =
-    let same = same_run c.run-run.result c.args.batch.now c.args.shard (length c.args.cut.now) (shards_of c.args.self.now) c.run-run.ensures c.requires.shards in
+    let same = same_run c.run-run.result c.args.batch.now c.args.shard (length c.args.runs.now) (shards_of c.args.self.now) c.run-run.ensures c.requires.shards in
     let some : 0 < length (run_of c.args.shard (shards_of c.args.self.now) c.args.batch.now) = omega (arith, ap length same, c.len-len.ensures.number) in
     let within : c.args.shard < length c.args.posting.now.passes.items =
     omega (arith, c.requires.shard, ap length c.requires.passes, length-map c.args.posting.now.passes.items (λ (p : PassView). p.book)) in

@@ -43,7 +43,7 @@ loop-init g c =
       share = subst S (sym start) c.requires;
       going = subst G (sym start) (going_start service c.args.share);
       clock = c.in-Ok.ensures.zone ∙ ap (λ h. h.table.zone) c.self.view_is;
-      cut = c.in-Ok-new.ensures ∙ c.shards.ensures.number;
+      runs = c.in-Ok-new.ensures ∙ c.shards.ensures.number;
       room = omega (arith, room, ap (λ h. length h.uploads) c.self.view_is, length-map c.self.inside.uploads.now (λ u. u.items));
     }
 
@@ -60,7 +60,7 @@ loop-preserved g c =
           (sums_of c.loop.posting.totals) (sums_of c.next_upload.new.posting.totals) c.loop.done.items c.push_reserved.new.self.items next
           c.loop.invariant.going (ap (λ d. d.claims) e.drawn.2) (ap (λ d. d.drawn) e.drawn.2) c.push_reserved.ensures.items e.worked c.next_upload.ensures.full (e.goes_on c.if-not-goes_on.false);
       clock = c.next_upload.ensures.clock ∙ c.loop.invariant.clock;
-      cut = c.next_upload.ensures.cut ∙ c.loop.invariant.cut;
+      runs = c.next_upload.ensures.runs ∙ c.loop.invariant.runs;
       room = omega (arith, c.push_reserved.ensures.len, c.push_reserved.ensures.capacity, c.loop.invariant.room, e.drawn.0, e.drawn.1, ap (λ d. d.seen) e.drawn.2);
     }
 

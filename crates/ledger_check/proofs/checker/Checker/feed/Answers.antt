@@ -1,4 +1,4 @@
--- Each turn reads one line more of the piece.
+-- Each round reads one line more of the piece.
 use Rattle.std.proofs.Common.{◌≡◌, ◌++◌, [], ℕ, List, sym, ap, subst, ◌∙◌, append_assoc, append-nil, arith, rules, tests}
 use Rattle.std.proofs.lemmas.Bool.Decides.{nat_tests}
 use Rattle.ledger_check.specs.Struck.{HasStruck, IfUntold}

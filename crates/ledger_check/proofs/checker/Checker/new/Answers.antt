@@ -7,7 +7,7 @@ returns-clause-fed c = λ fares.
     let empty = c.new-3.ensures.items in record {
       lines = [];
       taken = (refl, c.new.ensures fares);
-      cut = λ more. ap (λ (p : List ℕ). lines_of (p ++ more)) (sym empty);
+      split = λ more. ap (λ (p : List ℕ). lines_of (p ++ more)) (sym empty);
       lacks = subst (Lacks 10) (sym empty) tt;
       short = subst (λ (p : List ℕ). length p ≤ 255) (sym empty) (omega arith);
     }
@@ -18,7 +18,7 @@ returns-clause-struck c = λ fares balance posted is.
       fed = record {
         lines = [];
         taken = (refl, c.new.ensures fares);
-        cut = λ more. ap (λ (p : List ℕ). lines_of (p ++ more)) (sym empty);
+        split = λ more. ap (λ (p : List ℕ). lines_of (p ++ more)) (sym empty);
         lacks = subst (Lacks 10) (sym empty) tt;
         short = subst (λ (p : List ℕ). length p ≤ 255) (sym empty) (omega arith);
       };

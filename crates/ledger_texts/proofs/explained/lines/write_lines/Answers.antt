@@ -1,4 +1,4 @@
--- Each turn explains one entry more, and writes its line.
+-- Each round explains one entry more, and writes its line.
 use Rattle.std.proofs.Common.{List, [], ◌++◌, take, refl, sym, ap, subst, ◌∙◌}
 use Rattle.std.proofs.Common.{string_bytes, append_assoc, append-nil, arith}
 use Rattle.std.proofs.lemmas.List.{length-take-le}

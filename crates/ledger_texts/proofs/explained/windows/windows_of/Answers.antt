@@ -1,4 +1,4 @@
--- Each turn tells one entry more, and keeps the window that it ends.
+-- Each round tells one entry more, and keeps the window that it ends.
 use Rattle.std.proofs.Common.{List, map, take, sym, ap, subst, ◌∙◌, arith}
 use Rattle.std.proofs.lemmas.List.{length-take-le, take_all}
 use Rattle.account_rule.specs.Reasons.{replied_by}

@@ -2,7 +2,7 @@ use Rattle.std.proofs.Common.{◌<◌, rules, ◌∙◌, length, arith}
 use Rattle.indexmap.specs.IndexMap.{insert_index}
 use Rattle.shard_book.specs.inside.Accounts.{kept_at}
 use Rattle.fare_table.specs.Token.{token_eq}
-use Rattle.shard_book.specs.declared.accounts.Kept.{Kept}
+use Rattle.shard_book.specs.declared.accounts.KeptAccount.{KeptAccount}
 use Rattle.shard_book.proofs.AccountsLemmas.{index-within, keep_found, keep_opened, made_found, made_last}
 use Rattle.shard_book.proofs.accounts.Accounts.open.Goals as goal
 
@@ -25,11 +25,11 @@ returns-in-Occupied-clause-places c = keep_found c.args.self.now.map.entries _ (
 pub returns-in-Vacant-clause-made : goal.returns-in-Vacant-clause-made
 unfolding kept_at
 returns-in-Vacant-clause-made c =
-    let fresh : Kept = record { account = c.fresh.result; counts = c.new.result } in
+    let fresh : KeptAccount = record { account = c.fresh.result; counts = c.new.result } in
     made_last c.args.self.now _ c.args.token _ fresh c.len-last.ensures.len (rw c.in-Vacant.is at c.in_ok-kept.ensures.found) (search rules) (search rules) c.fresh.ensures.stands c.new.ensures
 
 pub returns-in-Vacant-clause-places : goal.returns-in-Vacant-clause-places
 unfolding kept_at
 returns-in-Vacant-clause-places c =
-    let fresh : Kept = record { account = c.fresh.result; counts = c.new.result } in
+    let fresh : KeptAccount = record { account = c.fresh.result; counts = c.new.result } in
     keep_opened c.args.self.now _ c.args.token fresh (rw c.in-Vacant.is at c.in_ok-kept.ensures.found) (search rules)

@@ -3,7 +3,7 @@ use Rattle.std.proofs.Common.{arith, List, [], ◌∷◌, ◌++◌, Option, slic
 use Rattle.indexmap.proofs.CallerLemmas.{keys-with_value_at}
 use Rattle.account_rule.specs.Rules.{rules_of}
 use Rattle.account_rule.specs.Stands.{Stands, StandsForSome}
-use Rattle.shard_book.specs.declared.accounts.Kept.{Kept}
+use Rattle.shard_book.specs.declared.accounts.KeptAccount.{KeptAccount}
 use Rattle.fare_table.specs.declared.token.Token.{Token}
 use Rattle.shard_book.specs.inside.Accounts.{kept_at, counted, IsKept}
 use Rattle.shard_book.specs.Sums.{Sums, add_sums, sums_of_replies}
@@ -19,10 +19,10 @@ step-reply-requires-clause-stands c = rw c.bytes.ensures (c.requires.kept.0, sta
 pub returns-clause-kept : goal.returns-clause-kept
 unfolding kept_at
 returns-clause-kept c = λ taps kept.
-    let next : Kept = record { account = c.step-reply.new.self; counts = c.add-was_counted.new.self } in
+    let next : KeptAccount = record { account = c.step-reply.new.self; counts = c.add-was_counted.new.self } in
     let stands : Stands (rules_of c.args.table.now (bytes_of c.args.token)) c.step-reply.new.self (taps ++ c.args.tap ∷ []) =
     (rw c.bytes.ensures at c.step-reply.ensures.stands) taps (stands_or _ (kept_at c.args.self.now c.args.token) _ taps (found c.in_ok-place.ensures.made c.pair_mut-kept.ensures.value) kept) in
-    subst (λ (o : Option Kept). IsKept (rules_of c.args.table.now (bytes_of c.args.token)) o (taps ++ c.args.tap ∷ [])) (sym (written c.place.new.self c.in_ok-place.place c.args.token _ (record { account = c.step-reply.new.self; counts = c.add-was_counted.new.self }) c.pair_mut-kept.ensures.unique c.in_ok-place.ensures.made.at).1) stands
+    subst (λ (o : Option KeptAccount). IsKept (rules_of c.args.table.now (bytes_of c.args.token)) o (taps ++ c.args.tap ∷ [])) (sym (written c.place.new.self c.in_ok-place.place c.args.token _ (record { account = c.step-reply.new.self; counts = c.add-was_counted.new.self }) c.pair_mut-kept.ensures.unique c.in_ok-place.ensures.made.at).1) stands
 
 pub returns-clause-counted : goal.returns-clause-counted
 unfolding kept_at

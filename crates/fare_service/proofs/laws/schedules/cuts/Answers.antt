@@ -1,9 +1,0 @@
-use Rattle.std.proofs.Common.{All, List, Vec, Global, ℕ, subst, take_all}
-use Rattle.std.proofs.lemmas.List.Elements.{All-map}
-use Rattle.fare_service.specs.Plain.{HasOneCut}
-use Rattle.fare_service.proofs.laws.schedules.cuts.Goals as goal
-
-pub returns : goal.returns
-returns c =
-    let A : List (Vec ℕ Global) → Type 0 = All (λ upload. HasOneCut upload.items) in
-    All-map HasOneCut (λ upload. upload.items) c.args.uploads.now (subst A (take_all c.loop-upload.upload-index c.args.uploads.now c.loop-upload-test.false) c.loop-upload.invariant)

@@ -1,9 +1,0 @@
-use Rattle.std.proofs.Common.{◌≡◌, length, take}
-use Rattle.part_reports.proofs.TextsRead.{AreRead}
-use Rattle.part_reports.proofs.ends.read.read_ends.Given as goal
-
-abbrev pub invariant-loop-from : goal.invariant-loop-from
-invariant-loop-from g l = record {
-  read : AreRead g.R.Read.remaining l.yielded l.ends;
-  front : l.yielded ≡ take (length l.yielded) l.fn.texts.items;
-}

@@ -1,6 +1,0 @@
-use Rattle.part_reports.proofs.EndsRead.{AddingSome}
-use Rattle.part_reports.proofs.ends.read.read_more.Given as goal
-
-abbrev pub invariant-loop : goal.invariant-loop
-invariant-loop g l = AddingSome l.fn.ends l.ends (g.R.Read.remaining l.fn.lines.from)
-    (g.R.Read.remaining l.lines.from)

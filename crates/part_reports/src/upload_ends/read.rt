@@ -1,0 +1,74 @@
+//! Reads how the uploads of the whole ended.
+
+ghost use Rattle.std.specs.Prelude.{◌≡◌, ◌<◌, ℕ, List, All, IfErr, IfOk, IsSome, length};
+ghost use Rattle.part_reports.specs.Faults.{IsOfTaps, IsOfTexts};
+ghost use Rattle.part_reports.specs.Lines.{End as EndOfUpload, IsUploadEnd};
+ghost use Rattle.part_reports.specs.Reports.{end_texts, joined_ends};
+ghost use Rattle.part_reports.specs.Texts.{AreLeft};
+ghost use Rattle.part_reports.specs.inside.UploadEnds.{Have, AreEndsAdded, IsNextEnd};
+
+use crate::fault::MergeFault;
+use crate::form::{End, end_of};
+use crate::reading::Reading;
+use crate::upload_ends::UploadEnds;
+use std::alloc::Global;
+use std::io::BufRead;
+
+/// Reads the end of the upload of this number; none where the text is over.
+fn next_end<R: BufRead + Drop>(
+    lines: &mut Reading<R>,
+    upload: u64,
+) -> Result<Option<End>, MergeFault>
+    ensures next { IsNextEnd upload (R.remaining lines.old.from) (R.remaining lines.new.from)
+        lines.new.line.items result }
+    ensures some { IfOk result (λ end. IsSome end → 0 < length lines.new.line.items) }
+    ensures other { IfErr result (λ fault. ¬ (IsOfTaps fault)) }
+{
+    lines.next()?;
+    if lines.is_over() {
+        return Ok(None);
+    }
+    let end = lines.told(end_of(lines.line(), upload))?;
+    Ok(Some(end))
+}
+
+/// Adds the ends of the next uploads, which the lines of the text tell.
+fn read_more<R: BufRead + Drop>(
+    ends: &mut UploadEnds,
+    lines: &mut Reading<R>,
+) -> Result<(), MergeFault>
+    ensures added { AreEndsAdded ends.old ends.new (R.remaining lines.old.from) result }
+    ensures other { IfErr result (λ fault. ¬ (IsOfTaps fault)) }
+{
+    for _ in 0..u64::MAX {
+        match next_end(lines, ends.uploads)? {
+            Some(end) => ends.add(lines.line(), end)?,
+            None => return Ok(()),
+        }
+    }
+    Err(lines.unread())
+}
+
+/// Reads how the uploads ended, as lines that were written where they were split: in each text
+/// those of the next uploads.
+pub(crate) fn read_ends<R: BufRead + Drop>(
+    alloc: Global,
+    texts: Vec<R>,
+) -> Result<UploadEnds, MergeFault>
+    ensures told { IfOk result (λ ends. (files : List (List ℕ))
+        → AreLeft R.remaining texts.items files → (lists : List (List EndOfUpload))
+        × (files ≡ end_texts 0 lists) × Have ends (joined_ends lists)) }
+    ensures refused { IfErr result (λ fault. IsOfTexts fault → (files : List (List ℕ))
+        → AreLeft R.remaining texts.items files → (lists : List (List EndOfUpload))
+        → All IsUploadEnd (joined_ends lists) → ¬ (files ≡ end_texts 0 lists)) }
+    ensures other { IfErr result (λ fault. ¬ (IsOfTaps fault)) }
+{
+    let mut ends = UploadEnds::new(alloc);
+    let mut number: usize = 0;
+    for from in texts {
+        let mut lines = Reading::new(alloc, from, number);
+        read_more(&mut ends, &mut lines)?;
+        number = number.saturating_add(1);
+    }
+    Ok(ends)
+}

@@ -1,0 +1,153 @@
+//! The runs of all shards of a batch, found by one pass over it.
+
+ghost use Rattle.std.specs.Prelude.{◌≡◌, ◌+◌, ◌<◌, ◌≤◌, ◌++◌, ◌∷◌, [], ℕ, length, slice_index_or};
+ghost use Rattle.std.specs.Prelude.{IfOk};
+ghost use Rattle.tap_views.specs.Runs.{AreRuns};
+
+use crate::batch::Batch;
+use crate::layout::MAX_TAPS;
+use crate::run::Run;
+use crate::shard::shard_of;
+use std::alloc::{AllocError, Global};
+use std::marker::Model;
+
+/// The places of one shard's taps, with room for those of any batch.
+#[derive(Drop)]
+pub(crate) struct Places {
+    /// The places, rising.
+    list: Vec<u16>,
+}
+
+impl Model for Places {
+    ghost use Rattle.std.specs.Prelude.{ℕ, List, ◌≤◌, vec_capacity};
+
+    ghost Value = { List ℕ };
+
+    ghost view = { λ places. places.list.items };
+
+    ghost invariant = { λ places. 4096 ≤ vec_capacity places.list };
+}
+
+impl Places {
+    /// No places, and room for those of any batch.
+    fn new(alloc: Global) -> Result<Self, AllocError>
+        ensures { IfOk result (λ places. places ≡ []) }
+    {
+        Ok(Places {
+            list: Vec::with_capacity(alloc, MAX_TAPS)?,
+        })
+    }
+
+    /// Leaves no place.
+    fn clear(&mut self)
+        ensures { self.new ≡ [] }
+    {
+        self.list.clear();
+    }
+
+    /// Adds a place behind the others. It takes no memory.
+    fn push(&mut self, place: u16)
+        requires { length self.old < 4096 }
+        ensures { self.new ≡ self.old ++ place ∷ [] }
+    {
+        self.list.push_reserved(place);
+    }
+
+    /// The places.
+    fn as_slice(&self) -> &[u16]
+        ensures { result.now ≡ self.now }
+    {
+        &self.list
+    }
+}
+
+/// Empties all lists.
+fn clear_all(lists: &mut [Places])
+    ensures empty { (shard : ℕ) → shard < length lists.new
+        → slice_index_or lists.new shard [] ≡ [] }
+    ensures number { length lists.new ≡ length lists.old }
+{
+    for places in lists.iter_mut() {
+        places.clear();
+    }
+}
+
+/// Puts the place of each tap into the list of its shard.
+fn sort_in(lists: &mut [Places], batch: &Batch<'_>)
+    requires least { 1 ≤ length lists.old }
+    requires most { length lists.old ≤ 64 }
+    requires empty { (shard : ℕ) → shard < length lists.old
+        → slice_index_or lists.old shard [] ≡ [] }
+    ensures runs { AreRuns batch.now lists.new }
+    ensures number { length lists.new ≡ length lists.old }
+{
+    let shards = lists.len() as u32;
+    // proof: at most 4,096 taps, so each list has room for all places
+    let _count = batch.len();
+    let mut place = 0u16;
+    for tap in batch.taps() {
+        let shard = shard_of(tap.token(), shards);
+        lists[shard as usize].push(place);
+        place += 1;
+    }
+}
+
+/// The places of a batch's taps, shard by shard, found by one pass over the batch.
+///
+/// Where all runs of a batch are wanted, `Batch::run_of` passes over the batch once a shard and
+/// use; `fill` passes over it once for all of them. A worker keeps one `Runs`, with room for any
+/// batch (8 KiB a shard), and fills it anew for each batch; what an earlier batch left is gone.
+#[derive(Drop)]
+pub struct Runs {
+    /// The places of each shard.
+    lists: Vec<Places>,
+}
+
+impl Model for Runs {
+    ghost use Rattle.std.specs.Prelude.{ℕ, List, ◌≤◌, length};
+
+    ghost Value = { List (List ℕ) };
+
+    ghost view = { λ runs. runs.lists.items };
+
+    ghost invariant = { λ runs. (1 ≤ length runs.lists.items) × (length runs.lists.items ≤ 64) };
+}
+
+impl Runs {
+    /// No places, of 1 to 64 shards, with room for those of any batch. It fails only where that
+    /// memory is refused.
+    pub fn new(alloc: Global, shards: u32) -> Result<Self, AllocError>
+        requires least { 1 ≤ shards }
+        requires most { shards ≤ 64 }
+        ensures { IfOk result (λ runs. length runs ≡ shards) }
+    {
+        let mut lists = Vec::with_capacity(alloc, shards as usize)?;
+        for _ in 0..shards {
+            lists.push(Places::new(alloc)?)?;
+        }
+        Ok(Runs { lists })
+    }
+
+    /// Finds the runs of this batch, by one pass over it. It takes no memory.
+    pub fn fill(&mut self, batch: &Batch<'_>)
+        ensures runs { AreRuns batch.now self.new }
+        ensures shards { length self.new ≡ length self.old }
+    {
+        clear_all(&mut self.lists);
+        sort_in(&mut self.lists, batch);
+    }
+
+    /// The taps of one shard, as `run_of` gives them, of the batch that was filled in last. The run
+    /// knows its places: its length takes no pass, and its taps none but over themselves.
+    pub fn run<'b>(&'b self, batch: &'b Batch<'_>, shard: u32) -> Run<'b>
+        requires runs { AreRuns batch.now self.now }
+        requires below { shard < length self.now }
+        ensures { result ≡ record { batch = batch.now; shard = shard; shards = length self.now } }
+    {
+        batch.run_at(
+            self.lists[shard as usize].as_slice(),
+            shard,
+            self.lists.len() as u32,
+        )
+    }
+}
