@@ -1,5 +1,5 @@
-pub mod Chains
 pub mod Blocks
+pub mod Chains
 pub mod Kept
 pub mod Laws
 pub mod Reasons

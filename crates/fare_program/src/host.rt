@@ -1,6 +1,6 @@
 //! The files and the standard input of the system.
 
-use crate::ahead::{Disk, Early, take_next};
+use crate::early_files::{Disk, Early, take_next};
 use crate::source::Source;
 use program_manners::{LONGEST, LoadFault, load_from};
 use std::alloc::Global;

@@ -17,8 +17,8 @@
 //! | `program` | the whole |
 #![tactic(auto)]
 
-mod ahead;
-mod asked;
+mod command_line;
+mod early_files;
 mod fault;
 mod host;
 mod lines;
@@ -32,7 +32,7 @@ mod settle;
 mod source;
 mod uploads;
 
-pub use ahead::{Disk, Early, read_early};
+pub use early_files::{Disk, Early, read_early};
 pub use host::Host;
 pub use program::main_over;
 pub use program_manners::{Complaints, LONGEST, LoadFault, load_from, unread_words};

@@ -6,8 +6,8 @@ ghost use Rattle.fare_program.specs.inside.Options.{asked_of};
 ghost use Rattle.fare_program.specs.Program.{ShowsAsked, ShowsOf, ShowsStatement, ShowsWith};
 ghost use Rattle.fare_program.specs.inside.PostedFiles.{IsPosted, ends_of};
 
-use crate::asked::Options;
 use crate::fault::Fault;
+use crate::options::Options;
 use crate::output::flush;
 use crate::run::{are_posted, post_live};
 use crate::settle::post_settled;

@@ -16,9 +16,9 @@ ghost use Rattle.program_manners.specs.Told.{Told};
 ghost use Rattle.program_manners.specs.Words.{IsRequest};
 ghost use Rattle.fare_program.specs.Uploads.{IsListing};
 
-use crate::ahead::{Disk, read_early};
-use crate::asked::Options;
+use crate::early_files::{Disk, read_early};
 use crate::fault::Fault;
+use crate::options::Options;
 use crate::output::write_text;
 use crate::posting::charge;
 use crate::source::Source;

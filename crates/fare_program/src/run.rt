@@ -9,8 +9,8 @@ ghost use Rattle.fare_program.specs.Program.{IsRun, ShowsPlain};
 ghost use Rattle.fare_program.specs.inside.Program.{Shows};
 ghost use Rattle.fare_program.specs.inside.PostedFiles.{IsLive, ends_of};
 
-use crate::asked::Options;
 use crate::fault::Fault;
+use crate::options::Options;
 use crate::posting::Posted;
 use fare_service::{OpenGate, Outcome, Service, UploadEnd, laws};
 use fare_table::FareTable;

@@ -6,8 +6,8 @@ ghost use Rattle.fare_program.specs.Program.{IsRun};
 ghost use Rattle.fare_program.specs.inside.Settling.{IsOutcomeOf};
 ghost use Rattle.fare_program.specs.inside.PostedFiles.{ends_of};
 
-use crate::asked::Options;
 use crate::fault::Fault;
+use crate::options::Options;
 use crate::posting::Posted;
 use crate::run::outcome_of;
 use fare_service::Outcome;

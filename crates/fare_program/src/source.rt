@@ -1,6 +1,6 @@
 //! Where the program's bytes come from.
 
-use crate::ahead::Early;
+use crate::early_files::Early;
 use program_manners::LoadFault;
 
 /// Where the program's bytes come from.

@@ -1,7 +1,7 @@
 //! A service: uploads that workers draw, and a shared book for each shard.
 
 use crate::faults::OpenFault;
-use crate::service::opening::open_books;
+use crate::service::shard_books::open_books;
 use crate::service::share::{Posting, Share};
 use fare_table::{FareTable, NoMemory};
 use shard_book::{TokenKeys, Totals};
@@ -10,11 +10,11 @@ use std::alloc::Global;
 use std::marker::Model;
 use std::random::RandomSource;
 
-pub(crate) mod adding;
 pub(crate) mod gathering;
-pub(crate) mod opening;
 pub(crate) mod running;
+pub(crate) mod shard_books;
 pub(crate) mod share;
+pub(crate) mod worker_totals;
 pub(crate) mod working;
 
 /// The most shards of a service.

@@ -1,7 +1,7 @@
 //! A run with a line beside it that says what it does.
 
 use crate::hushing::Hushing;
-use crate::steps::Steps;
+use crate::progress::Steps;
 use crate::ticker::Ticker;
 use crate::watched::{Watched, WatchedDisk};
 use fare_program::{Complaints, Disk, Host, main_over};

@@ -12,7 +12,7 @@
 
 mod beside;
 mod hushing;
-mod steps;
+mod progress;
 mod ticker;
 mod watched;
 

@@ -1,7 +1,7 @@
 //! A line on a terminal that says what a long run does: it is shown from the first second on, and
 //! is gone before anything else is written.
 
-use crate::steps::Steps;
+use crate::progress::Steps;
 use arrayvec::ArrayString;
 use std::fmt::Write as _;
 use std::io;

@@ -1,7 +1,6 @@
 -- What only private functions cite. Who reads the contracts of public calls need not read it.
 pub mod Begun
 pub mod Counted
-pub mod UploadEnds
 pub mod Fronts
 pub mod Kinds
 pub mod Least
@@ -9,4 +8,5 @@ pub mod Parts
 pub mod Reading
 pub mod Sources
 pub mod Sums
+pub mod UploadEnds
 pub mod Whole

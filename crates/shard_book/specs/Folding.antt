@@ -2,8 +2,8 @@
 use Rattle.std.specs.Prelude.{ℕ, ◌*◌, ◌/◌, ◌-◌, ◌^◌, List, [], ◌∷◌, length, nat_le, nat_lt}
 use Rattle.std.specs.Prelude.{if◌then◌else◌, slice_index, bit_and, bit_xor}
 use Rattle.std.specs.Int.{from_le_bytes, w32, w64}
-use Rattle.shard_book.specs.declared.keys.FoldedProduct.{FoldedProduct}
-use Rattle.shard_book.specs.declared.keys.TokenKeys.{TokenKeys}
+use Rattle.shard_book.specs.declared.token_hash.FoldedProduct.{FoldedProduct}
+use Rattle.shard_book.specs.declared.token_hash.TokenKeys.{TokenKeys}
 
 -- the two halves of the 128 bits of a * b, joined by xor
 unfoldable pub folded_multiply : ℕ → ℕ → ℕ

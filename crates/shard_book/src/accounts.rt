@@ -19,8 +19,8 @@ ghost use Rattle.shard_book.specs.Sums.{sums_of_replies, add_sums};
 ghost use Rattle.fare_table.specs.Token.{bytes_of, token_eq};
 ghost use Rattle.fare_table.specs.declared.token.Token.{Token};
 
-use crate::keys::TokenKeys;
 use crate::sums::counts::{Counts, TokenCounts};
+use crate::token_hash::TokenKeys;
 use account_rule::{Account, Reply, TapIn};
 use fare_table::{FareTable, NoMemory, Token};
 use indexmap::IndexMap;

@@ -14,10 +14,10 @@ ghost use Rattle.shard_book.specs.History.{IsLegal};
 
 use crate::accounts::Accounts;
 use crate::entry::Entry;
-use crate::keys::TokenKeys;
 use crate::packed::PackedEntry;
 use crate::prefetch::NO_PLACE;
 use crate::sums::counts::TokenCounts;
+use crate::token_hash::TokenKeys;
 use account_rule::{Account, Reply, TapIn};
 use fare_table::{FareTable, NoMemory, Token};
 use std::alloc::Global;

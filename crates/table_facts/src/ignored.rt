@@ -7,7 +7,7 @@ ghost use Rattle.fare_table.specs.Faults.{items_of, members_of};
 ghost use Rattle.table_facts.specs.Ignored as spec;
 
 use crate::holder::{Holder, has_meaning};
-use crate::members::{entries_at, keys_at};
+use crate::toml_values::{entries_at, keys_at};
 use fare_table::NoMemory;
 use std::alloc::Global;
 use toml::{Table, Value};

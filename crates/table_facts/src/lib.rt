@@ -5,9 +5,9 @@
 mod holder;
 mod ignored;
 pub mod laws;
-mod members;
 mod ranges;
 mod seen;
+mod toml_values;
 
 pub use holder::Holder;
 pub use ignored::ignored_keys;

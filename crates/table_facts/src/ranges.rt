@@ -4,8 +4,8 @@ ghost use Rattle.std.specs.Prelude.{◌≡◌, [], IfOk};
 ghost use Rattle.toml.specs.View.{array_view, table_view, view};
 ghost use Rattle.table_facts.specs.Ranges as spec;
 
-use crate::members::{entries_at, validator_at};
 use crate::seen::Seen;
+use crate::toml_values::{entries_at, validator_at};
 use fare_table::NoMemory;
 use std::alloc::Global;
 use toml::value::Array;

@@ -3,7 +3,7 @@ use Rattle.std.specs.Prelude.{◌≡◌, ℕ, List, Some, pos}
 use Rattle.clap.specs.Words.{Row, Text}
 use Rattle.clap.specs.Words.{IsSignedIn, one_of, without_minus}
 use Rattle.std.specs.Prelude.{map, option_map}
-use Rattle.fare_program.specs.declared.asked.Options.{Options}
+use Rattle.fare_program.specs.declared.options.Options.{Options}
 use Rattle.fare_program.specs.Options.{Asked}
 
 -- what the options ask for

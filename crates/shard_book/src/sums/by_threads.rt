@@ -11,9 +11,9 @@ ghost use Rattle.shard_book.specs.Sums.{add_sums};
 ghost use Rattle.shard_book.specs.Tally.{sums_of_tally};
 
 use crate::book::ShardBook;
-use crate::keys::TokenKeys;
 use crate::sums::groups::{GroupKey, tallies_of};
 use crate::sums::tally::Tally;
+use crate::token_hash::TokenKeys;
 use fare_table::NoMemory;
 use std::alloc::Global;
 use std::collections::HashMap;

@@ -12,9 +12,9 @@ ghost use Rattle.shard_book.specs.Sums.{Sums, sums_of};
 
 use crate::book::ShardBook;
 use crate::entry::Entry;
-use crate::keys::TokenKeys;
 use crate::sums::tally::Tally;
 use crate::sums::totals::Totals;
+use crate::token_hash::TokenKeys;
 use fare_table::NoMemory;
 use std::alloc::Global;
 use std::collections::HashMap;

@@ -10,7 +10,7 @@ use Rattle.clap.proofs.OnLiterals.{clap_on_literals}
 use Rattle.fare_program.specs.Options.{program, shards_rule, workers_rule}
 use Rattle.fare_program.specs.inside.Options.{HasNumber}
 use Rattle.fare_program.proofs.Defaults.{number_given}
-use Rattle.fare_program.proofs.options.matched.Goals as goal
+use Rattle.fare_program.proofs.command_line.matched.Goals as goal
 
 is_plain : is_simple program ≡ true
 unfolding program clap_on_literals

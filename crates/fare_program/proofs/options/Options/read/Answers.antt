@@ -3,7 +3,7 @@ use Rattle.std.specs.Prelude.{unwrap_or}
 use Rattle.clap.specs.Words.{all_of, first_of, found_of}
 use Rattle.clap.proofs.WalkLemmas.{first_value-rows}
 use Rattle.fare_program.specs.Options.{is_given, number_of}
-use Rattle.fare_program.proofs.asked.Options.read.Goals as goal
+use Rattle.fare_program.proofs.options.Options.read.Goals as goal
 
 pub returns-clause-asked : goal.returns-clause-asked
 returns-clause-asked c =

@@ -7,7 +7,7 @@ use Rattle.std.proofs.lemmas.Slice.Eq.{bytes_eq-Decides}
 use Rattle.clap.specs.Matches.{ReadsOne}
 use Rattle.clap.specs.Words.{found_of, one_of, rows_of}
 use Rattle.clap.proofs.WalkLemmas.{one_text-rows}
-use Rattle.fare_program.proofs.options.flag_in.Goals as goal
+use Rattle.fare_program.proofs.command_line.flag_in.Goals as goal
 
 abbrev is_true_text : List ℕ → Bool
 is_true_text text = bytes_eq text (codes "true")

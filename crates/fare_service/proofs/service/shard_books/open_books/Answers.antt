@@ -3,7 +3,7 @@ use Rattle.std.proofs.lemmas.List.{map-append}
 use Rattle.shared_books.specs.Passes.{SharedBookView, new_pass}
 use Rattle.fare_service.specs.inside.ServiceView.{IsBookOf, AreOpened}
 use Rattle.fare_service.proofs.PlaceLemmas.{place_more}
-use Rattle.fare_service.proofs.service.opening.open_books.Goals as goal
+use Rattle.fare_service.proofs.service.shard_books.open_books.Goals as goal
 
 pub loop-shard-preserved : goal.loop-shard-preserved
 loop-shard-preserved c =

@@ -3,7 +3,7 @@ use Rattle.shard_book.specs.Sums.{Sums, sums_of, add_sums}
 use Rattle.shard_book.specs.Sums.{add_all}
 use Rattle.fare_service.proofs.AddingLemmas.{next_worker, none_left, from_nothing}
 use Rattle.fare_service.proofs.VisitLemmas.{add_add}
-use Rattle.fare_service.proofs.service.adding.added.Goals as goal
+use Rattle.fare_service.proofs.service.worker_totals.added.Goals as goal
 
 pub loop-worker-init : goal.loop-worker-init
 loop-worker-init c = from_nothing (sums_of c.new-totals.result) (add_all (map sums_of c.args.workers.now)) c.new-totals.ensures

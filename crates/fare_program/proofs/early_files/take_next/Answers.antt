@@ -2,8 +2,8 @@ use Rattle.std.proofs.Common.{◌≡◌, ◌∙◌, ◌<◌, ◌-◌, ◌∷◌,
 use Rattle.std.proofs.lemmas.Bool.Decides.{Decides-eqb}
 use Rattle.std.proofs.lemmas.Slice.Eq.{slice_eq-Decides}
 use Rattle.std.proofs.Math.Seq.{get_or-append_seam}
-use Rattle.fare_program.specs.declared.ahead.Early.{Early}
-use Rattle.fare_program.proofs.ahead.take_next.Goals as goal
+use Rattle.fare_program.specs.declared.early_files.Early.{Early}
+use Rattle.fare_program.proofs.early_files.take_next.Goals as goal
 
 not_false : (b : Bool) → false ≡ not b → true ≡ b
 not_false true e = refl

@@ -2,7 +2,7 @@ use Rattle.std.proofs.Common.{◌∙◌, ap₂}
 use Rattle.std.proofs.lemmas.Result.{IfOk-weaker}
 use Rattle.clap.specs.Words.{with_rule}
 use Rattle.fare_program.specs.Options.{program}
-use Rattle.fare_program.proofs.options.command.Goals as goal
+use Rattle.fare_program.proofs.command_line.command.Goals as goal
 
 pub returns : goal.returns
 unfolding program

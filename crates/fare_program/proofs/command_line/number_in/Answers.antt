@@ -9,7 +9,7 @@ use Rattle.clap.proofs.CallerReads.{signed_reads}
 use Rattle.clap.proofs.WalkLemmas.{one_text-rows}
 use Rattle.fare_program.specs.Options.{number_in_text, number_of}
 use Rattle.fare_program.specs.inside.Options.{HasNumber}
-use Rattle.fare_program.proofs.options.number_in.Goals as goal
+use Rattle.fare_program.proofs.command_line.number_in.Goals as goal
 
 -- the number in its bounds is read
 in_bounds : (E : Type 0) (G : List ℕ → Result ℕ E → Type 0) (most : ℕ) (f : Found) (name : List ℕ) (r : Option ℕ) → most < 2 ^ 32

@@ -1,7 +1,7 @@
 use Rattle.std.proofs.Common.{◌≡◌, ◌≤◌, ℕ, length, map, vec_capacity, slice_get, Some}
 use Rattle.shared_books.specs.Passes.{SharedBookView, new_pass}
 use Rattle.fare_service.specs.inside.ServiceView.{IsBookOf}
-use Rattle.fare_service.proofs.service.opening.open_books.Given as goal
+use Rattle.fare_service.proofs.service.shard_books.open_books.Given as goal
 
 abbrev pub invariant-loop-shard : goal.invariant-loop-shard
 invariant-loop-shard l = record {

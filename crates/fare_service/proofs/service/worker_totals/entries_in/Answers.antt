@@ -1,7 +1,7 @@
 use Rattle.std.proofs.Common.{arith, length, ap}
 use Rattle.shard_book.specs.Book.{Book}
 use Rattle.fare_service.proofs.AddingLemmas.{entries_more}
-use Rattle.fare_service.proofs.service.adding.entries_in.Goals as goal
+use Rattle.fare_service.proofs.service.worker_totals.entries_in.Goals as goal
 
 pub loop-book-preserved : goal.loop-book-preserved
 loop-book-preserved c =

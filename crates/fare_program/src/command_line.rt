@@ -1,0 +1,157 @@
+//! The command line.
+ghost use Rattle.std.specs.Prelude.{◌≡◌, ◌≤◌, ◌^◌, ◌<◌, ℕ, IfOk, codes, map, string_bytes};
+ghost use Rattle.clap.specs.Words.{FailsBy, app_of, fault_of, found_of, matches_of, rows_of};
+ghost use Rattle.fare_program.specs.Options.{asked_by, is_given, number_of, program};
+ghost use Rattle.fare_program.specs.inside.Options.{asked_of};
+ghost use Rattle.fare_program.specs.inside.Options.{HasNumber};
+
+use crate::options::Options;
+use clap::{ArgAction, ArgMatches, Command, Error};
+use program_manners::{flag_arg, names_in, new_command, number_arg, option_arg, place_arg};
+use std::alloc::{AllocError, Global};
+
+/// What the program is for, as the help says it first.
+const ABOUT: &str = "Charges the taps of upload files by a fare table, and reports what they cost.
+
+With --table the uploads are posted to accounts, by worker threads, and the report is printed, or
+with --token the statement of one token, or with --ledger the ledger. Without --table, or with --list, the taps are only listed,
+each as live, stale or unknown.";
+
+/// What the help says last: what is printed, and the exit status.
+const NOTES: &str = "What is printed:
+  report     how each upload ended, then the sums of all taps, of each validator, of each token
+  statement  each tap of the token, what it was and cost, the token's sums, its last window
+             with --explain also why each tap costs this, the token's terms and all its windows
+  ledger     CSV, a head line and a line for each tap of each token, with its window and the reason
+             of what it cost; with --token those of one token
+  listing    each tap: number of its file, its number there (both from 0), token, validator,
+             moment in milliseconds since 1970-01-01T00:00Z, and live (later than every known tap
+             of its token before it), stale (not so) or unknown (the table lacks its validator)
+With --settle all taps are posted in one order, so that what is printed depends on the taps alone.
+Without it the order of the files and the number of workers can change what a token pays.
+Amounts are cents. Of a file with a layout fault the batches before it count, and its line tells
+the fault: `upload 1 refused 2 at 64 L5` in a report, `1 refused 64 L5` in a listing.
+
+Examples:
+  omny_cli --table table.toml --settle a.tap b.tap
+  omny_cli --table table.toml --token 000000000000000000000000000000a1 a.tap b.tap
+  omny_cli a.tap
+
+Exit status:
+  0  all is done, and every upload was posted, or listed without a fault
+  1  an upload was not, as the text tells; or a file, the table, the run, memory or writing
+     failed, as a line `fault: ..` on the standard error tells, and nothing is printed
+  2  the command line is wrong";
+
+/// The help of `--table`.
+const TABLE_HELP: &str = "The fare table, a TOML file [default: every validator is known]";
+
+/// The help of `--list`.
+const LIST_HELP: &str = "List the taps, also where there is a fare table";
+
+/// The help of `--workers`.
+const WORKERS_HELP: &str = "How many threads post the uploads, 1 to 16";
+
+/// The help of `--shards`.
+const SHARDS_HELP: &str = "Over how many shards the accounts are spread, 1 to 64";
+
+/// The help of `--token`.
+const TOKEN_HELP: &str =
+    "Print the statement of this token, 32 hexadecimal digits of either case, not the report";
+
+/// The help of `--settle`.
+const SETTLE_HELP: &str =
+    "Post the taps of all uploads in order of token, moment and validator; needs --table";
+
+/// The help of `--ledger`.
+const LEDGER_HELP: &str =
+    "Print the ledger, of all tokens or of that of --token, not the report; needs --table";
+
+/// The help of `--explain`.
+const EXPLAIN_HELP: &str =
+    "Print the statement of --token with the reason of each line, the terms and all windows";
+
+/// The help of the files.
+const FILE_HELP: &str =
+    "Uploads, files of TAP1 and TAP2 batches of at most 67108864 bytes [default: standard input]";
+
+/// The command line, as clap reads it.
+fn command<'a>(alloc: Global) -> Result<Command<'a>, AllocError>
+    ensures { IfOk result (λ command. app_of command ≡ program) }
+{
+    let table = option_arg(alloc, "table", "F", TABLE_HELP);
+    let list = flag_arg(alloc, "list", LIST_HELP);
+    let workers = number_arg(alloc, "workers", 16, "2", WORKERS_HELP);
+    let shards = number_arg(alloc, "shards", 64, "8", SHARDS_HELP);
+    let token = option_arg(alloc, "token", "HEX", TOKEN_HELP);
+    let settle = flag_arg(alloc, "settle", SETTLE_HELP);
+    let ledger = flag_arg(alloc, "ledger", LEDGER_HELP);
+    let explain = flag_arg(alloc, "explain", EXPLAIN_HELP);
+    let file = place_arg(alloc, "FILE", ArgAction::Append, FILE_HELP);
+    new_command(alloc, "omny_cli", ABOUT, NOTES)
+        .arg(table)?
+        .arg(list)?
+        .arg(workers)?
+        .arg(shards)?
+        .arg(token)?
+        .arg(settle)?
+        .arg(ledger)?
+        .arg(explain)?
+        .arg(file)
+}
+
+/// The words read by clap.
+fn matched<'a>(alloc: Global, words: &'a [String]) -> Result<ArgMatches<'a>, Error>
+    ensures rows { IfOk result (λ matches. rows_of (found_of matches)
+        ≡ matches_of program (map string_bytes words.entry.now)) }
+    ensures workers { IfOk result
+        (λ matches. HasNumber 16 (codes "workers") (rows_of (found_of matches))) }
+    ensures shards { IfOk result
+        (λ matches. HasNumber 64 (codes "shards") (rows_of (found_of matches))) }
+    ensures kinds { FailsBy (fault_of program (map string_bytes words.entry.now)) result }
+{
+    command(alloc)?.try_get_matches_from(words)
+}
+
+/// Whether a flag was given. The contract of `get_flag` says less of what it answers.
+fn flag_in<'a>(matches: &ArgMatches<'a>, name: &str) -> bool
+    ensures { result ≡ is_given name.now (rows_of (found_of matches.now)) }
+{
+    matches.get_one(name).unwrap_or(false)
+}
+
+/// The number of an option that has a default.
+fn number_in<'a>(matches: &ArgMatches<'a>, name: &str) -> u32
+    requires { HasNumber 64 name.now (rows_of (found_of matches.now)) }
+    ensures number { result ≡ number_of name.now (rows_of (found_of matches.now)) }
+    ensures range { (most : ℕ) → most < 2 ^ 32
+        → HasNumber most name.now (rows_of (found_of matches.now)) → (1 ≤ result)
+        × (result ≤ most) }
+{
+    match matches.get_one(name) {
+        Some(number) => number,
+        None => unreachable!(),
+    }
+}
+
+impl<'a> Options<'a> {
+    /// What the words ask for; else clap's error, which may be a call for help.
+    pub(crate) fn read(alloc: Global, words: &'a [String]) -> Result<Options<'a>, Error>
+        ensures asked { IfOk result
+            (λ options. asked_of options ≡ asked_by (map string_bytes words.entry.now)) }
+        ensures kinds { FailsBy (fault_of program (map string_bytes words.entry.now)) result }
+    {
+        let matches = matched(alloc, words)?;
+        Ok(Options {
+            table: matches.get_str("table"),
+            list: flag_in(&matches, "list"),
+            workers: number_in(&matches, "workers"),
+            shards: number_in(&matches, "shards"),
+            token: matches.get_str("token"),
+            settle: flag_in(&matches, "settle"),
+            ledger: flag_in(&matches, "ledger"),
+            explain: flag_in(&matches, "explain"),
+            files: names_in(alloc, &matches, "FILE")?,
+        })
+    }
+}
