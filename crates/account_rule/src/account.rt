@@ -23,7 +23,7 @@ use fare_table::{FareTable, Mode, Terms};
 
 /// For how long a ride includes a transfer, in milliseconds: two hours (MTA, free transfers), the
 /// limit included (this project's choice).
-const TRANSFER_TIME: u64 = 7_200_000;
+const TRANSFER_TIME_MS: u64 = 7_200_000;
 
 /// The account of one token under one table.
 ///
@@ -161,7 +161,7 @@ impl Account {
             (option_map (live_at self.now.last) self.now.giver) (live_at moment mode) }
     {
         match self.giver {
-            Some(giver) => moment.saturating_sub(self.last) <= TRANSFER_TIME
+            Some(giver) => moment.saturating_sub(self.last) <= TRANSFER_TIME_MS
                 && table.permits(giver, mode),
             None => false,
         }

@@ -23,7 +23,7 @@ pub fn limits()
 
 /// What was charged is shared out among the windows: each reply to a ride is that of its place in
 /// its window, and the windows' cents and paid rides add up to those of all replies.
-pub fn shares()
+pub fn windows_add_up()
     ensures rides { WindowsShareTheRides }
     ensures cents { WindowsShareTheCents }
     ensures paid { WindowsShareThePaidRides }

@@ -23,7 +23,7 @@ use Rattle.fare_program.specs.declared.fault.Fault.TheVariants.{Write}
 use Rattle.ledger_texts.specs.Explained.{IsExplainedOf}
 use Rattle.ledger_texts.specs.Ledger.{IsLedgerOfBooks}
 use Rattle.program_manners.specs.Loads.{Loaded, Tells, TellsOne}
-use Rattle.program_manners.specs.Told.{Told}
+use Rattle.program_manners.specs.LineWritten.{LineWritten}
 use Rattle.fare_program.specs.Uploads.{IsListing}
 
 -- The text's rules, and the zone that it names, are those of these fares.
@@ -148,5 +148,5 @@ Does asked told told' out out' well = MatchBool (lists asked)
 -- The program gave up: the fault's line was told, and nothing was written but where a write failed.
 pub record GaveUp (fault : Fault) (said said' : Option (List ℕ)) (failed : Bool)
     (out out' : Option (List ℕ)) : Type 0 where
-  pub told : Told said said' failed (fault_text fault)
+  pub told : LineWritten said said' failed (fault_text fault)
   pub kept : fault ≢ Write → Keeps out out'

@@ -46,8 +46,8 @@ lines_from fares upload before (items ∷ readings) = listing_lines fares upload
     ++ lines_from fares (upload + 1) (before ++ listed_in fares items) readings
 
 -- no layout fault ends any of the uploads
-abbrev pub are_whole : List (List Item) → Bool
-are_whole = list_all (list_all is_ok)
+abbrev pub have_no_fault : List (List Item) → Bool
+have_no_fault = list_all (list_all is_ok)
 
 -- a reading of each file, in their order
 abbrev pub AreReadings : List (List ℕ) → List (List Item) → Type 0
@@ -63,4 +63,4 @@ pub record IsListing (fares : Option Fares) (files : List (List ℕ)) (text : Li
   pub read : AreReadings files readings
   pub lines : text ≡ lines_from fares 0 [] readings
       ++ counts_line (counts_of (flat_map (listed_in fares) readings))
-  pub is_clean : clean ≡ are_whole readings
+  pub is_clean : clean ≡ have_no_fault readings

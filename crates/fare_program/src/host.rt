@@ -2,7 +2,7 @@
 
 use crate::early_files::{Disk, Early, take_next};
 use crate::source::Source;
-use program_manners::{LONGEST, LoadFault, load_from};
+use program_manners::{LOAD_LIMIT_BYTES, LoadFault, load_from};
 use std::alloc::Global;
 use std::{fs, io};
 
@@ -10,7 +10,7 @@ impl Disk for HostRuntime {
     // What is no regular file, as a pipe, may give other bytes before its turn, or none for long.
     fn may_be_early(&self, name: &str) -> bool {
         match fs::metadata(self, name) {
-            Ok(about) => about.is_file() && about.len() <= LONGEST as u64,
+            Ok(about) => about.is_file() && about.len() <= LOAD_LIMIT_BYTES as u64,
             Err(_) => false,
         }
     }

@@ -12,7 +12,7 @@ ghost use Rattle.fare_program.specs.inside.Options.{asked_of};
 ghost use Rattle.fare_program.specs.Program.{Does, GaveUp, IsTokenIn, Loads, LoadsFiles};
 ghost use Rattle.fare_program.specs.Program.{LoadsTable, wanted};
 ghost use Rattle.program_manners.specs.Loads.{TellsOne};
-ghost use Rattle.program_manners.specs.Told.{Told};
+ghost use Rattle.program_manners.specs.LineWritten.{LineWritten};
 ghost use Rattle.program_manners.specs.Words.{IsRequest};
 ghost use Rattle.fare_program.specs.Uploads.{IsListing};
 
@@ -294,7 +294,7 @@ fn work<'a, R: Threads + Wait + RandomSource + Sync, D: Disk + Sync, S: Source, 
 /// Says why the program gives up, where that can be written, and gives the status.
 fn tell<E: Write>(err: &mut Complaints<E>, fault: &Fault) -> u8
     ensures status { result ≡ status_of fault.now }
-    ensures line { Told (E.contents err.old.writer) (E.contents err.new.writer) err.new.failed
+    ensures line { LineWritten (E.contents err.old.writer) (E.contents err.new.writer) err.new.failed
         (fault_text fault.now) }
 {
     err.tell_line(*fault);

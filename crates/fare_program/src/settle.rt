@@ -1,6 +1,6 @@
 //! Taps that are put into canonical order before they are posted.
 ghost use Rattle.std.specs.Prelude.{◌≡◌, All, IfErr, IfOk, map};
-ghost use Rattle.fare_service.specs.Plain.{WasWhole};
+ghost use Rattle.fare_service.specs.Plain.{WasNotCut};
 ghost use Rattle.fare_program.specs.Fault.{status_of};
 ghost use Rattle.fare_program.specs.Program.{IsRun};
 ghost use Rattle.fare_program.specs.inside.Settling.{IsOutcomeOf};
@@ -31,7 +31,7 @@ fn whole_outcome_of<'a, R: Threads + Wait + RandomSource + Sync>(
 ) -> Result<Outcome, Fault<'a>>
     ensures run { IfOk result (λ outcome. IsRun table options.now.shards options.now.workers
         (map (λ f. f.items) files.now) outcome) }
-    ensures whole { IfOk result (λ outcome. All WasWhole outcome.ends) }
+    ensures whole { IfOk result (λ outcome. All WasNotCut outcome.ends) }
     ensures status { IfErr result (λ fault. status_of fault ≡ 1) }
 {
     let outcome = outcome_of(rt, alloc, table, options, files)?;

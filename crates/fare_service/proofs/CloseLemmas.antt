@@ -16,7 +16,7 @@ use Rattle.shared_books.specs.Marks.{joined}
 use Rattle.shared_books.specs.Passes.{SharedBookView, PassView}
 use Rattle.fare_service.specs.declared.faults.GatherFault.{GatherFault}
 use Rattle.fare_service.specs.declared.faults.GatherFault.TheVariants.{NoMemory, Missing, Drawn}
-use Rattle.fare_service.specs.Closing.{IsHistoryOf, IsWhole, IsFirst}
+use Rattle.fare_service.specs.Closing.{IsHistoryOf, HoldAllVisits, IsFirst}
 use Rattle.fare_service.specs.inside.Closing.{AreClosed, AreUnseen, IsClosedBy, IsUnseen, IsClosedWork, IsFirstMissing, IsFirstUnseen, LacksClaims}
 use Rattle.fare_service.specs.Faults.{uploads_held}
 use Rattle.fare_service.specs.ShareView.{ShareView}
@@ -127,12 +127,12 @@ there (x ∷ xs) (suc i) within = there xs i (omega (arith, within))
 
 -- of a shard whose book was closed the shares hold all visits
 whole_closed : (drawing : Drawing) (opened : List SharedBookView) (shares : List ShareView) (drawer : DrawerView) (passes : List PassView) (closed : List Book) → IsJoinedOf drawing opened (length shares) shares drawer passes
-    → AreClosed passes closed → (shard : ℕ) → shard < length closed → IsWhole opened shares shard
+    → AreClosed passes closed → (shard : ℕ) → shard < length closed → HoldAllVisits opened shares shard
 whole_closed drawing opened shares drawer passes closed all books shard within =
     let b = there closed shard within in
     (b.0, history_of drawing opened shares drawer passes shard b.0 all (books shard b.0 b.1))
 
-whole_unseen : (opened : List SharedBookView) (closed : List Book) → AreUnseen opened closed → (shard : ℕ) → shard < length closed → IsWhole opened [] shard
+whole_unseen : (opened : List SharedBookView) (closed : List Book) → AreUnseen opened closed → (shard : ℕ) → shard < length closed → HoldAllVisits opened [] shard
 whole_unseen opened closed unseen shard within = let b = there closed shard within in (b.0, unseen_history opened shard b.0 (unseen shard b.0 b.1))
 
 -- the first shard that misses visits

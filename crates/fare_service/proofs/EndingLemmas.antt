@@ -22,7 +22,7 @@ use Rattle.fare_service.specs.Closing.{IsHistoryOf}
 use Rattle.fare_service.specs.Faults.{visits_held}
 use Rattle.fare_service.specs.Headline.{Signed, HasOutcome, ToldUndrawn}
 use Rattle.fare_service.specs.Outcomes.{OutcomeView}
-use Rattle.fare_service.specs.Plain.{WasWhole}
+use Rattle.fare_service.specs.Plain.{WasNotCut}
 use Rattle.fare_service.specs.Runs.{PlacedTap, placed_from, of_shard, Run, run, if_any, runs_below, runs_of, Visit, run_of_visit, ArePosted, AreCut, IsEntered, taps_of_placed, entries_to, entries_of, taps_posted}
 use Rattle.fare_service.specs.inside.Runs.{visits_to}
 use Rattle.fare_service.specs.ServiceView.{ServiceView, shards_of}
@@ -48,7 +48,7 @@ cut_one end = cond (is_cut end) 1 0
 abbrev pub cuts_in : List Worked → ℕ
 cuts_in done = sum_by (λ w. cut_one w.end) done
 
-whole_one : (end : UploadEnd) → WasWhole end → cut_one end ≡ 0
+whole_one : (end : UploadEnd) → WasNotCut end → cut_one end ≡ 0
 whole_one (Posted taps) h = refl
 whole_one (Refused taps offset fault) h = refl
 whole_one (Cut taps) h = absurd h

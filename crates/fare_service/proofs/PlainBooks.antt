@@ -21,7 +21,7 @@ use Rattle.fare_service.specs.declared.upload_end.UploadEnd.{UploadEnd}
 use Rattle.fare_service.specs.declared.upload_end.UploadEnd.TheVariants.{Posted, Refused, Cut, Undrawn}
 use Rattle.fare_service.specs.Headline.{Signed, by_worker, end_of}
 use Rattle.fare_service.specs.Outcomes.{OutcomeView}
-use Rattle.fare_service.specs.Plain.{AreTapsOf, AreTapsOfEach, AreApart, HasOneReading, IsNamed, WasWhole, unanswered, token_of_bytes, plain}
+use Rattle.fare_service.specs.Plain.{AreTapsOf, AreTapsOfEach, AreApart, HasOneReading, IsNamed, WasNotCut, unanswered, token_of_bytes, plain}
 use Rattle.fare_service.specs.Runs.{Visit, ArePosted, runs_of, entries_to}
 use Rattle.fare_service.specs.Shares.{Worked, all_visits, IsWorkOf, IsEndOf, all_works, file_at}
 use Rattle.fare_service.proofs.PlainLists.{All-split, All-flat, flat-All, All-at, mapped_at, flat_map-map, count, count_same, count_other, DoTheirs, done_alone, done_none, flat_alone, flat_none, HasOne, none_or_one}
@@ -73,7 +73,7 @@ each_length [] (ts ∷ taps) each = absurd each
 each_length (file ∷ uploads) [] each = absurd each
 each_length (file ∷ uploads) (ts ∷ taps) each = ap suc (each_length uploads taps each.1)
 
-pub whole_posted : (shards : ℕ) (file : List ℕ) (batches : List (List Tap)) (rest : List ℕ) (visits : List Visit) (end : UploadEnd) → IsEndOf shards file batches rest visits end → WasWhole end
+pub whole_posted : (shards : ℕ) (file : List ℕ) (batches : List (List Tap)) (rest : List ℕ) (visits : List Visit) (end : UploadEnd) → IsEndOf shards file batches rest visits end → WasNotCut end
     → ArePosted (runs_of shards 0 batches) visits
 whole_posted shards file batches rest visits (Posted taps) is whole = is.1
 whole_posted shards file batches rest visits (Refused taps offset fault) is whole = is.1
@@ -85,7 +85,7 @@ record IsRead (shards : ℕ) (token : Token) (taps : List (List Tap)) (w : Worke
   pub names : All IsName (get_or taps w.upload [])
   pub part : map bare (own token (joined (entries_to (shard_of_token (bytes_of token) shards) w.visits))) ≡ own token (map unanswered (get_or taps w.upload []))
 
-work_read : (given : Given) (token : Token) (taps : List (List Tap)) (w : Worked) → 0 < given.shards → All HasOneReading given.uploads → AreTapsOfEach given.uploads taps → IsWorkOf given.shards given.uploads w → WasWhole w.end
+work_read : (given : Given) (token : Token) (taps : List (List Tap)) (w : Worked) → 0 < given.shards → All HasOneReading given.uploads → AreTapsOfEach given.uploads taps → IsWorkOf given.shards given.uploads w → WasNotCut w.end
     → ((shard : ℕ) → shard < given.shards → All IsNamed (joined (entries_to shard w.visits))) → IsRead given.shards token taps w
 work_read given token taps w some cuts each worked whole named =
     let t = taps_of_upload given.uploads taps w.upload each worked.within in
@@ -178,7 +178,7 @@ pub record Stands (given : Given) (works : List (List Worked)) (outcome : Outcom
   pub gathered : IsGathered given works outcome
   pub some_shard : 0 < given.shards
   pub named : (shard : ℕ) (book : Book) → slice_get outcome.books shard ≡ Some book → All IsNamed book.entries
-  pub whole : All WasWhole outcome.ends
+  pub whole : All WasNotCut outcome.ends
   pub cuts : All HasOneReading given.uploads
   pub each : AreTapsOfEach given.uploads taps
 
@@ -187,25 +187,25 @@ module _ (given : Given) (works : List (List Worked)) (outcome : OutcomeView) (t
   each_work = All-flat (IsWorkOf given.shards given.uploads) works all.gathered.each
 
   -- the end of an upload, and that it is not undrawn
-  end_at : (upload : ℕ) → upload < length given.uploads → (end : UploadEnd) × (slice_get outcome.ends upload ≡ Some end) × (end ≡ end_of upload (all_works works)) × WasWhole end
+  end_at : (upload : ℕ) → upload < length given.uploads → (end : UploadEnd) × (slice_get outcome.ends upload ≡ Some end) × (end ≡ end_of upload (all_works works)) × WasNotCut end
   end_at upload within =
       let few : upload < length outcome.ends = omega (arith, within, all.gathered.uploads) in
       let at = slice_get-get_or outcome.ends upload Undrawn few in
-      (get_or outcome.ends upload Undrawn, at, all.gathered.ends upload (get_or outcome.ends upload Undrawn) at, All-at WasWhole outcome.ends upload (get_or outcome.ends upload Undrawn) all.whole at)
+      (get_or outcome.ends upload Undrawn, at, all.gathered.ends upload (get_or outcome.ends upload Undrawn) at, All-at WasNotCut outcome.ends upload (get_or outcome.ends upload Undrawn) all.whole at)
 
   pub ended : (upload : ℕ) → upload < length given.uploads → end_of upload (all_works works) ≢ Undrawn
   ended upload within e =
       let (end, at, told, whole) = end_at upload within in
-      let W : UploadEnd → Type 0 = WasWhole in
+      let W : UploadEnd → Type 0 = WasNotCut in
       subst W (told ∙ e) whole
 
-  pub all_whole : All (λ w. WasWhole w.end) (all_works works)
+  pub all_whole : All (λ w. WasNotCut w.end) (all_works works)
   all_whole = λ k d few. of_one (slice_index_or (all_works works) k d) (each_work k d few) (end_told (all_works works) all.gathered.once k d few)
     where
-      of_one : (w : Worked) → IsWorkOf given.shards given.uploads w → end_of w.upload (all_works works) ≡ w.end → WasWhole w.end
+      of_one : (w : Worked) → IsWorkOf given.shards given.uploads w → end_of w.upload (all_works works) ≡ w.end → WasNotCut w.end
       of_one w worked told =
           let (end, at, is, whole) = end_at w.upload worked.within in
-          let W : UploadEnd → Type 0 = WasWhole in
+          let W : UploadEnd → Type 0 = WasNotCut in
           subst W (is ∙ told) whole
 
   -- the entries that a worker brought to a shard for an upload are named by their bytes

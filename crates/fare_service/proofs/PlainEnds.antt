@@ -9,7 +9,7 @@ use Rattle.fare_service.specs.declared.upload_end.UploadEnd.{UploadEnd}
 use Rattle.fare_service.specs.declared.upload_end.UploadEnd.TheVariants.{Posted, Refused, Cut, Undrawn}
 use Rattle.fare_service.specs.Headline.{end_of}
 use Rattle.fare_service.specs.Outcomes.{OutcomeView}
-use Rattle.fare_service.specs.Plain.{WasWhole, IsPlainEnd, ArePlainEnds}
+use Rattle.fare_service.specs.Plain.{WasNotCut, IsPlainEnd, ArePlainEnds}
 use Rattle.fare_service.specs.Runs.{Visit, IsEntered, ArePosted, runs_of, taps_posted}
 use Rattle.fare_service.specs.Shares.{Worked, IsWorkOf, IsEndOf, all_works, file_at}
 use Rattle.fare_service.proofs.PlainBooks.{drawn_by, end_told, whole_posted}
@@ -31,16 +31,16 @@ all_posted shards batches visits some entered posted =
     ∙ sym (length-flat_map (λ (batch : List Tap). batch) batches)
 
 -- an upload that was worked on and posted whole
-plain_end : (given : Given) (w : Worked) → 0 < given.shards → IsWorkOf given.shards given.uploads w → WasWhole w.end → IsPlainEnd (file_at given.uploads w.upload) w.end
+plain_end : (given : Given) (w : Worked) → 0 < given.shards → IsWorkOf given.shards given.uploads w → WasNotCut w.end → IsPlainEnd (file_at given.uploads w.upload) w.end
 plain_end given w some worked whole = by_end w.end worked.ended whole
   where
-    count : (end : UploadEnd) → IsEndOf given.shards (file_at given.uploads w.upload) worked.batches worked.rest w.visits end → WasWhole end
+    count : (end : UploadEnd) → IsEndOf given.shards (file_at given.uploads w.upload) worked.batches worked.rest w.visits end → WasNotCut end
         → taps_posted w.visits ≡ length (flat_map (λ batch. batch) worked.batches)
     count end is posted =
         all_posted given.shards worked.batches w.visits some worked.entered
         (whole_posted given.shards (file_at given.uploads w.upload) worked.batches worked.rest w.visits end is posted)
 
-    by_end : (end : UploadEnd) → IsEndOf given.shards (file_at given.uploads w.upload) worked.batches worked.rest w.visits end → WasWhole end → IsPlainEnd (file_at given.uploads w.upload) end
+    by_end : (end : UploadEnd) → IsEndOf given.shards (file_at given.uploads w.upload) worked.batches worked.rest w.visits end → WasNotCut end → IsPlainEnd (file_at given.uploads w.upload) end
     by_end (Posted taps) is posted = record {
       batches = worked.batches;
       rest = worked.rest;
@@ -61,7 +61,7 @@ plain_end given w some worked whole = by_end w.end worked.ended whole
     by_end Undrawn is posted = absurd posted
 
 -- the ends of what was gathered
-pub plain_ends : (given : Given) (works : List (List Worked)) (outcome : OutcomeView) → 0 < length outcome.books → IsGathered given works outcome → All WasWhole outcome.ends → ArePlainEnds given.uploads outcome.ends
+pub plain_ends : (given : Given) (works : List (List Worked)) (outcome : OutcomeView) → 0 < length outcome.books → IsGathered given works outcome → All WasNotCut outcome.ends → ArePlainEnds given.uploads outcome.ends
 plain_ends given works outcome some gathered whole = zip_at IsPlainEnd given.uploads outcome.ends (sym gathered.uploads) of_one
   where
     Known : Worked → Type 0
@@ -70,8 +70,8 @@ plain_ends given works outcome some gathered whole = zip_at IsPlainEnd given.upl
     of_one : (upload : ℕ) (file : List ℕ) (end : UploadEnd) → slice_get given.uploads upload ≡ Some file → slice_get outcome.ends upload ≡ Some end → IsPlainEnd file end
     of_one upload file end at there =
         let told = gathered.ends upload end there in
-        let posted = All-at WasWhole outcome.ends upload end whole there in
-        let W : UploadEnd → Type 0 = WasWhole in
+        let posted = All-at WasNotCut outcome.ends upload end whole there in
+        let W : UploadEnd → Type 0 = WasNotCut in
         let each = All-flat (IsWorkOf given.shards given.uploads) works gathered.each in
         let ends = end_told (all_works works) gathered.once in
         let (w, (worked, tells), same) = drawn_by (λ w. IsWorkOf given.shards given.uploads w × (end_of w.upload (all_works works) ≡ w.end)) (all_works works) (λ k d few. (each k d few, ends k d few)) upload

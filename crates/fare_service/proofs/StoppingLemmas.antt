@@ -9,7 +9,7 @@ use Rattle.shared_books.specs.Passes.{PassView}
 use Rattle.fare_service.specs.declared.service.share.Done.{Done}
 use Rattle.fare_service.specs.ServiceView.{ServiceView, shards_of}
 use Rattle.fare_service.specs.ShareView.{ShareView}
-use Rattle.fare_service.specs.Plain.{WasWhole}
+use Rattle.fare_service.specs.Plain.{WasNotCut}
 use Rattle.fare_service.specs.Runs.{Visit}
 use Rattle.fare_service.specs.Shares.{Worked, HasWorked, IsShareOf, IsWorked, Made, WentOn}
 use Rattle.fare_service.specs.inside.Shares.{worked}
@@ -72,7 +72,7 @@ module _ (service : ServiceView) (old : ShareView) (drawer drawer' : DrawerView)
   one : HasWorked service (holding drawer passes totals done) (holding drawer' passes' totals' done') (worked next.upload next.end did.0 ∷ [])
   one = next_done service drawer drawer' passes passes' totals totals' done done' next.upload next.end did.0 claims drawn more did.1 did.2
 
-  pub going_next : WasWhole next.end ⊎ SomeFull passes' → Going service old (holding drawer' passes' totals' done')
+  pub going_next : WasNotCut next.end ⊎ SomeFull passes' → Going service old (holding drawer' passes' totals' done')
   going_next goes = going_more service old (holding drawer passes totals done) (holding drawer' passes' totals' done') (worked next.upload next.end did.0) going one full goes
 
   pub cut_next : WasCut next.end → StoppedWell service old (holding drawer' passes' totals' done')

@@ -30,16 +30,16 @@ pub record IsHistoryOf (opened : List SharedBookView) (shares : List ShareView) 
   pub limits : KeepsLimits book
 
 -- the shares hold all visits to a shard: they are the history of its book
-abbrev pub IsWhole : List SharedBookView → List ShareView → ℕ → Type 0
-IsWhole opened shares shard = (book : Book) × IsHistoryOf opened shares shard book
+abbrev pub HoldAllVisits : List SharedBookView → List ShareView → ℕ → Type 0
+HoldAllVisits opened shares shard = (book : Book) × IsHistoryOf opened shares shard book
 
 -- Of the shards that miss visits the first one is told, and missing uploads are told where no
 -- visits are missing. A count leaves out nothing that a share has seen.
 abbrev pub IsFirst : List SharedBookView → ℕ → List ShareView → GatherFault → Type 0
 IsFirst opened uploads shares NoMemory = Unit {0}
 IsFirst opened uploads shares (Missing shard held kept) =
-    ((earlier : ℕ) → earlier < shard → IsWhole opened shares earlier)
+    ((earlier : ℕ) → earlier < shard → HoldAllVisits opened shares earlier)
     × All (λ share. length (marks_at shard share.passes) ≤ kept) shares
 IsFirst opened uploads shares (Drawn held drawn) =
-    ((shard : ℕ) → shard < length opened → IsWhole opened shares shard)
+    ((shard : ℕ) → shard < length opened → HoldAllVisits opened shares shard)
     × All (λ share. share.drawer.seen ≤ drawn) shares × (drawn ≤ uploads)

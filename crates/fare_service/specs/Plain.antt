@@ -104,11 +104,11 @@ abbrev pub IsNamed : Entry → Type 0
 IsNamed entry = entry.token ≡ token_of_bytes (bytes_of entry.token)
 
 -- all batches before the upload's first fault were posted whole
-abbrev pub WasWhole : UploadEnd → Type 0
-WasWhole (Posted taps) = Unit {0}
-WasWhole (Refused taps offset fault) = Unit {0}
-WasWhole (Cut taps) = ⊥
-WasWhole Undrawn = ⊥
+abbrev pub WasNotCut : UploadEnd → Type 0
+WasNotCut (Posted taps) = Unit {0}
+WasNotCut (Refused taps offset fault) = Unit {0}
+WasNotCut (Cut taps) = ⊥
+WasNotCut Undrawn = ⊥
 
 -- the file is read as batches in one way at most
 abbrev pub HasOneReading : List ℕ → Type 0
@@ -122,7 +122,7 @@ pub record IsWholeGathering (fares : Fares) (shards : ℕ) (uploads : List (List
     (outcome : OutcomeView) (history : List Entry) : Type 0 where
   pub works : List (List Worked)
   pub headline : Headline fares shards uploads works outcome
-  pub whole : All WasWhole outcome.ends
+  pub whole : All WasNotCut outcome.ends
   pub plain_is : IsPlain fares uploads history
   pub apart : AreApart plain_is.taps
 

@@ -7,7 +7,7 @@ use Rattle.fare_service.specs.Faults.{visits_held}
 use Rattle.fare_service.specs.Outcomes.{OutcomeView}
 use Rattle.fare_service.specs.ServiceView.{ServiceView}
 use Rattle.fare_service.specs.ShareView.{ShareView}
-use Rattle.fare_service.specs.Plain.{WasWhole}
+use Rattle.fare_service.specs.Plain.{WasNotCut}
 use Rattle.fare_service.specs.Shares.{Worked, HasWorked}
 use Rattle.fare_service.specs.declared.upload_end.UploadEnd.{UploadEnd}
 use Rattle.fare_service.specs.declared.upload_end.UploadEnd.TheVariants.{Cut, Undrawn}
@@ -28,7 +28,7 @@ WasCut _ = ⊥
 -- a worker goes on after an upload that was posted up to its end or its fault; after one that was
 -- cut only if some shard is full
 abbrev pub MayGoOn : List PassView → Worked → Type 0
-MayGoOn passes w = WasWhole w.end ⊎ SomeFull passes
+MayGoOn passes w = WasNotCut w.end ⊎ SomeFull passes
 
 -- A worker went on after these uploads, and stopped at one that was cut; or at none, since all
 -- uploads are drawn.

@@ -18,10 +18,10 @@ pub(crate) mod worker_totals;
 pub(crate) mod working;
 
 /// The most shards of a service.
-const MOST_SHARDS: u32 = 64;
+const MAX_SHARDS: u32 = 64;
 
 /// The most uploads of a service.
-const MOST_UPLOADS: usize = 65_535;
+const MAX_UPLOADS: usize = 65_535;
 
 /// The uploads, a shared book for each shard, and the fare table. Many threads may work at it at
 /// once.
@@ -85,10 +85,10 @@ impl<'a> Service<'a> {
         ensures claims { IfOk result (λ r. HasAllClaims shards r.1) }
         ensures fault { IfErr result (IsOpenFault shards (length uploads.now)) }
     {
-        if shards == 0 || shards > MOST_SHARDS {
+        if shards == 0 || shards > MAX_SHARDS {
             return Err(OpenFault::Shards);
         }
-        if uploads.len() > MOST_UPLOADS {
+        if uploads.len() > MAX_UPLOADS {
             return Err(OpenFault::Uploads);
         }
         let keys = TokenKeys::new(rt)?;

@@ -13,7 +13,7 @@ use Rattle.fare_table.proofs.OverlapLemmas.{chain-insert, comes_after, comes_bef
 use Rattle.fare_table.proofs.OverlapLemmas.{free_apart, rest_chain}
 use Rattle.fare_table.proofs.PartLemmas.{bind_ok, parts}
 use Rattle.fare_table.proofs.ReadLemmas.{array-read, is_table, number-read, text-read}
-use Rattle.fare_table.specs.Entries.{EntryGives, EntryHas, HasEntry, HasValidator, NamesMode}
+use Rattle.fare_table.specs.TextRanges.{RangeGives, RangeHas, HasEntry, HasValidator, NamesMode}
 use Rattle.fare_table.specs.Fares.{Fares, has_number, mode_at, range_at}
 use Rattle.fare_table.specs.Members.{are_tables, array_at, number_at, of_kind, text_at}
 use Rattle.fare_table.specs.Modes.{mode_named}
@@ -463,7 +463,7 @@ maps (Some range) mode is = (range, refl, cc)
 
 gives : (modes : List (List ℕ)) (tree : Members) (ranges : List (ℕ × Span)) (validator mode : ℕ)
     → AreRead modes tree ranges → MapsTo (range_at ranges validator) mode
-    → EntryGives modes tree validator mode
+    → RangeGives modes tree validator mode
 gives modes tree ranges validator mode text at = ⊎_elim
     (λ none. absurd (cc (none)))
     (λ entry.
@@ -510,7 +510,7 @@ is_found modes tree ranges validator place entry text listed has =
     record { range = at.0; stands = stands; read = at.1; has = here; found = at.2 here }
 
 is_given : (modes : List (List ℕ)) (tree : Members) (ranges : List (ℕ × Span)) (validator mode : ℕ)
-    → AreRead modes tree ranges → EntryGives modes tree validator mode
+    → AreRead modes tree ranges → RangeGives modes tree validator mode
     → option_map (λ (range : ℕ × Span). range.1.mode) (range_at ranges validator) ≡ Some mode
 is_given modes tree ranges validator mode text g =
     let f = is_found modes tree ranges validator g.place g.entry text g.listed g.has in
@@ -527,7 +527,7 @@ is_given modes tree ranges validator mode text g =
 
 pub mode-given : (tree : Members) (fares : Fares) (validator mode : ℕ)
     → rules_of_tree tree ≡ Ok fares.rules
-    → (mode_at fares validator ≡ Some mode) ↔ EntryGives fares.rules.modes tree validator mode
+    → (mode_at fares validator ≡ Some mode) ↔ RangeGives fares.rules.modes tree validator mode
 mode-given tree fares validator mode is =
     let text = ranges_read fares.rules.modes tree fares.rules.ranges
     (parts tree fares.rules is).ranges in (
@@ -547,7 +547,7 @@ maps_none o range is none = let no : Some range.1.mode ≡ None =
 
 pub mode-none : (tree : Members) (fares : Fares) (validator : ℕ)
     → rules_of_tree tree ≡ Ok fares.rules
-    → (mode_at fares validator ≡ None) ↔ ((place : ℕ) → ¬ EntryHas tree validator place)
+    → (mode_at fares validator ≡ None) ↔ ((place : ℕ) → ¬ RangeHas tree validator place)
 mode-none tree fares validator is =
     let text = ranges_read fares.rules.modes tree fares.rules.ranges
     (parts tree fares.rules is).ranges in (
@@ -563,7 +563,7 @@ mode-none tree fares validator is =
 
 pub one-entry : (tree : Members) (rules : TableRules) (validator place place' : ℕ)
     → rules_of_tree tree ≡ Ok rules
-    → EntryHas tree validator place → EntryHas tree validator place' → place ≡ place'
+    → RangeHas tree validator place → RangeHas tree validator place' → place ≡ place'
 one-entry tree rules validator place place' is one other =
     let text = ranges_read rules.modes tree rules.ranges (parts tree rules is).ranges in
     let f = is_found rules.modes tree rules.ranges validator place one.entry text one.listed

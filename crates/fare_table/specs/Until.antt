@@ -21,8 +21,8 @@ abbrev pub seconds_ahead : PosixRule → ℕ → ℤ
 seconds_ahead zone moment = offset_at (Posix zone) (moment_nanos moment)
 
 -- The window ends at 00:00 of the seventh civil date after the date that clocks of the zone show at
--- the start. Where that midnight is skipped it takes the offset before the gap, where it comes twice
--- it is the earlier one.
+-- the start. Where that midnight is skipped it takes the offset before the gap, where it comes
+-- twice it is the earlier one.
 pub record IsCivilWindowEnd (zone : TimeZone) (start window_end : ℕ) : Type 0 where
   pub shown : DateTime
   pub shows : civil_nanos shown

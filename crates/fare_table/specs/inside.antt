@@ -1,7 +1,7 @@
 -- What only private functions cite. Who reads the contracts of public calls need not read it.
-pub mod Marks
 pub mod OrFault
 pub mod PosixRule
+pub mod RiderMarks
 pub mod Table
 pub mod Transfers
 pub mod Validators

@@ -12,7 +12,7 @@ use jiff::{Timestamp, ToSpan};
 use std::marker::Model;
 
 /// Seven days in milliseconds.
-const SEVEN_DAYS: u64 = 604_800_000;
+const SEVEN_DAYS_MS: u64 = 604_800_000;
 
 /// Tells where the windows of one fare table end. A worker makes its own from the table.
 #[derive(Drop)]
@@ -63,7 +63,7 @@ impl Clock {
     {
         match &self.zone {
             Some(zone) => Ok(civil_window_end(zone, moment)),
-            None => Ok(moment + SEVEN_DAYS),
+            None => Ok(moment + SEVEN_DAYS_MS),
         }
     }
 

@@ -9,7 +9,7 @@ ghost use Rattle.std.specs.Ordering.{nat_cmp};
 ghost use Rattle.toml.specs.Data.{Members, table, get_member};
 ghost use Rattle.toml.specs.Parse.{parse_document};
 ghost use Rattle.fare_table.specs.ByteOrder.{in_byte_order};
-ghost use Rattle.fare_table.specs.Entries.{EntryGives, EntryHas};
+ghost use Rattle.fare_table.specs.TextRanges.{RangeGives, RangeHas};
 ghost use Rattle.fare_table.specs.Fares.{Fares, mode_at, terms_at};
 ghost use Rattle.fare_table.specs.Faults.{first_fault};
 ghost use Rattle.fare_table.specs.Paying.{NamesRider, Pays};
@@ -49,13 +49,13 @@ pub fn permitted_pairs_are_listed()
 pub fn modes_are_of_entries()
     ensures some { (tree : Members) (fares : Fares) (validator mode : ℕ)
         → rules_of_tree tree ≡ Ok fares.rules
-        → (mode_at fares validator ≡ Some mode) ↔ EntryGives fares.rules.modes tree validator mode }
+        → (mode_at fares validator ≡ Some mode) ↔ RangeGives fares.rules.modes tree validator mode }
     ensures none { (tree : Members) (fares : Fares) (validator : ℕ)
         → rules_of_tree tree ≡ Ok fares.rules
-        → (mode_at fares validator ≡ None) ↔ ((place : ℕ) → ¬ EntryHas tree validator place) }
+        → (mode_at fares validator ≡ None) ↔ ((place : ℕ) → ¬ RangeHas tree validator place) }
     ensures one { (tree : Members) (rules : TableRules) (validator place place' : ℕ)
-        → rules_of_tree tree ≡ Ok rules → EntryHas tree validator place
-        → EntryHas tree validator place' → place ≡ place' }
+        → rules_of_tree tree ≡ Ok rules → RangeHas tree validator place
+        → RangeHas tree validator place' → place ≡ place' }
 {}
 
 /// What a token pays are the terms of the class that the key of the text's `riders` has which names

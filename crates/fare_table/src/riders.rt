@@ -4,7 +4,7 @@ ghost use Rattle.std.specs.Map.{keys_of};
 ghost use Rattle.fare_table.specs.Token.{Fits, by_bytes};
 
 use crate::fault::NoMemory;
-use crate::riders::marks::Marks;
+use crate::riders::marks::RiderMarks;
 use crate::terms::Terms;
 use crate::token::Token;
 use std::alloc::Global;
@@ -19,13 +19,13 @@ pub struct Riders {
     /// The terms of each rider.
     terms: BTreeMap<Token, Terms>,
     /// Most tokens are no rider's. That they have no mark says so at once, without a search.
-    marks: Marks,
+    marks: RiderMarks,
 }
 
 impl Model for Riders {
     ghost use Rattle.std.specs.Prelude.{ℕ, List};
     ghost use Rattle.fare_table.specs.declared.terms.Terms.{Terms};
-    ghost use Rattle.fare_table.specs.inside.Marks.{AreMarked};
+    ghost use Rattle.fare_table.specs.inside.RiderMarks.{AreMarked};
     ghost use Rattle.fare_table.specs.Token.{by_bytes};
 
     ghost Value = { List (List ℕ × Terms) };
@@ -48,7 +48,7 @@ impl Riders {
         requires { All Fits (keys_of terms.entries) }
         ensures { IfOk result (λ r. r ≡ by_bytes terms.entries) }
     {
-        let marks = Marks::new(alloc, &terms)?;
+        let marks = RiderMarks::new(alloc, &terms)?;
         Ok(Riders { terms, marks })
     }
 

@@ -37,7 +37,7 @@ use toml::Table;
 #[derive(Drop)]
 pub struct FareTable {
     /// One for all clones, since each book has a clone and none changes it.
-    parts: Arc<Parts>,
+    parts: Arc<TableData>,
 }
 
 impl Model for FareTable {
@@ -55,7 +55,7 @@ impl Model for FareTable {
 
 /// What a table and its clones share.
 #[derive(Drop)]
-struct Parts {
+struct TableData {
     /// The names of the modes by their places.
     modes: Vec<String>,
     /// The permitted transfers.
@@ -176,7 +176,7 @@ fn table_of(alloc: Global, table: &Table) -> Result<FareTable, TableFault>
     let ranges = ranges_of(alloc, &modes, table)?;
     let riders = riders_of(alloc, classes, table)?;
     let zone = zone_of(alloc, table)?;
-    let parts = Parts {
+    let parts = TableData {
         modes,
         transfers,
         standard,

@@ -1,7 +1,7 @@
 //! The name of an account.
 
 ghost use Rattle.std.specs.Prelude.{◌≡◌, ◌<◌, length};
-ghost use Rattle.fare_table.specs.Marks.{slot};
+ghost use Rattle.fare_table.specs.RiderMarks.{slot};
 ghost use Rattle.fare_table.specs.Token.{Fits, bytes_of};
 
 /// The 16 bytes that name an account, ordered by these bytes.

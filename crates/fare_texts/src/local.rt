@@ -9,7 +9,7 @@ ghost use Rattle.jiff_fmt.specs.Text.{offset_text};
 ghost use Rattle.fare_table.specs.Until.{moment_nanos};
 ghost use Rattle.fare_texts.specs.Local.{IsLocal};
 
-use crate::moment::CALENDAR_END;
+use crate::moment::CALENDAR_END_MS;
 use arrayvec::ArrayString;
 use fare_table::Clock;
 use jiff::Timestamp;
@@ -28,7 +28,7 @@ pub fn write_local(
     ensures { OnOk result ((written : List ℕ) × IsLocal clock.now words.now moment written
         × (string_bytes text.new ≡ string_bytes text.old ++ written)) }
 {
-    if moment >= CALENDAR_END {
+    if moment >= CALENDAR_END_MS {
         return Ok(());
     }
     match clock.offset_at(moment) {

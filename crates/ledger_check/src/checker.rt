@@ -16,7 +16,7 @@ ghost use Rattle.ledger_check.specs.inside.Verdicts.{IsTaken, number_after};
 ghost use Rattle.ledger_check.specs.declared.checker.Verdict.TheVariants.{NoLine};
 
 use crate::bytes::{same_bytes, split_line};
-use crate::replay::{LONGEST, Replay, Step};
+use crate::replay::{MAX_LINE_BYTES, Replay, Step};
 use fare_table::{Clock, FareTable, NoMemory};
 use reason_texts::head_line;
 use std::alloc::Global;
@@ -197,7 +197,7 @@ impl Checker {
             → IfUntold told (HasStruck fares self.new balance (text ++ rest.now) posted)) }
     {
         self.part.extend_from_slice(rest)?;
-        if self.part.len() > LONGEST {
+        if self.part.len() > MAX_LINE_BYTES {
             return Ok(Some(self.reading.no_line()));
         }
         Ok(None)

@@ -11,10 +11,10 @@ ghost use Rattle.fare_texts.specs.Moments.{IsMomentText, clock_text};
 use jiff_core::civil::Date;
 
 /// A day in milliseconds.
-const DAY: u64 = 86_400_000;
+const DAY_MS: u64 = 86_400_000;
 
 /// 1970-01-01, in days since the first date of the calendar.
-const EPOCH: u64 = 4_371_587;
+const EPOCH_DAY: u64 = 4_371_587;
 
 /// The moment at which taps end, in milliseconds: 2100-01-01T00:00Z.
 const MOMENT_LIMIT: u64 = 4_102_444_800_000;
@@ -64,10 +64,10 @@ fn since_epoch(date: Date) -> Option<u64>
     ensures found { (day : ℕ) → epoch_day date ≡ pos day → result ≡ Some day }
 {
     let days = u64::from(date.days_since_min());
-    if days < EPOCH {
+    if days < EPOCH_DAY {
         return None;
     }
-    Some(days - EPOCH)
+    Some(days - EPOCH_DAY)
 }
 
 /// The day number of a date of the years 0 to 9999, where 1970-01-01 is 0; `None` before that.
@@ -139,7 +139,7 @@ pub(crate) fn read_any_moment(text: &[u8]) -> Option<u64>
     };
     let day = read_day(date)?;
     let ms = read_clock(clock)?;
-    Some(day * DAY + ms)
+    Some(day * DAY_MS + ms)
 }
 
 /// The text as the 14 bytes of a time of day, if it has so many.

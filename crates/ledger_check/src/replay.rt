@@ -20,10 +20,10 @@ use shard_book::Token;
 use std::cmp::Ordering;
 
 /// The most bytes of a ledger's line, its newline included.
-pub(crate) const LONGEST: usize = 255;
+pub(crate) const MAX_LINE_BYTES: usize = 255;
 
 /// The most entries of a ledger: 2 to the power of 62.
-const MOST: u64 = 4_611_686_018_427_387_904;
+const MAX_ENTRIES: u64 = 4_611_686_018_427_387_904;
 
 /// What was found of a line.
 #[derive(Clone, Copy)]
@@ -92,7 +92,7 @@ impl Replay {
         ensures { IfOk result (λ step. (lines : List (List ℕ)) → HasRead table.now self.old lines
             → IsStep table.now self.new lines line.now (string_bytes wanted.new) step) }
     {
-        if line.len() > LONGEST || self.lines >= MOST {
+        if line.len() > MAX_LINE_BYTES || self.lines >= MAX_ENTRIES {
             return Ok(Step::NoLine);
         }
         let Some(tap) = read_tap(line) else {
@@ -107,7 +107,7 @@ impl Replay {
             self.teller = Some(teller);
             return Ok(Step::Legal(tap));
         }
-        if wanted.len() <= LONGEST && has_form(line) {
+        if wanted.len() <= MAX_LINE_BYTES && has_form(line) {
             Ok(Step::Wants)
         } else {
             Ok(Step::NoLine)

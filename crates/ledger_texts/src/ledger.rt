@@ -14,7 +14,7 @@ ghost use Rattle.ledger_texts.specs.inside.Spots.{seen};
 
 use crate::entries::{by_token, own_of};
 use crate::fault::LedgerFault;
-use crate::lines::{PIECE, pass_on, write_lines};
+use crate::lines::{PIECE_BYTES, pass_on, write_lines};
 use crate::spot::Spot;
 use fare_table::{FareTable, NoMemory};
 use reason_texts::{head_line, write_token_lines};
@@ -23,7 +23,7 @@ use std::alloc::Global;
 use std::io::Write;
 
 /// More bytes than a line has.
-const LINE: usize = 1_024;
+const LINE_ROOM_BYTES: usize = 1_024;
 
 /// The fare table of the first book, which is that of all books of a service.
 pub(crate) fn table_of(books: &[ShardBook]) -> &FareTable
@@ -42,7 +42,7 @@ fn begun(alloc: Global, books: &[ShardBook]) -> Result<(String, Vec<Spot>), NoMe
 {
     let spots = by_token(alloc, books)?;
     let mut text = String::new(alloc);
-    text.reserve(PIECE + LINE)?;
+    text.reserve(PIECE_BYTES + LINE_ROOM_BYTES)?;
     text.push_str(head_line())?;
     Ok((text, spots))
 }

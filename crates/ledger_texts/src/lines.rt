@@ -18,7 +18,7 @@ use std::io::Write;
 
 /// How many bytes wait at least before they are written out: so many that a write is little beside
 /// them.
-pub(crate) const PIECE: usize = 65_536;
+pub(crate) const PIECE_BYTES: usize = 65_536;
 
 /// Writes the bytes.
 fn write_out<W: Write>(bytes: &[u8], out: &mut W) -> Result<(), LedgerFault>
@@ -49,7 +49,7 @@ fn pass_piece<W: Write>(text: &mut String, out: &mut W) -> Result<(), LedgerFaul
         (append_known (W.contents out.new) (string_bytes text.new))) }
     ensures fault { IfErr result (λ fault. fault ≡ ForWrite) }
 {
-    if text.len() < PIECE {
+    if text.len() < PIECE_BYTES {
         return Ok(());
     }
     pass_on(text, out)

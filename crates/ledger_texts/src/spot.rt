@@ -9,10 +9,10 @@ use fare_table::NoMemory;
 use shard_book::{Entry, ShardBook, Token};
 
 /// 2^16, above the place of every book among the books.
-const BOOKS: u64 = 65_536;
+const MAX_BOOKS: u64 = 65_536;
 
 /// 2^48, above every place of an entry in its book.
-const PLACES: u64 = 281_474_976_710_656;
+const MAX_PLACES: u64 = 281_474_976_710_656;
 
 /// Where an entry stands. A reference would take as much, but a book lends none.
 #[derive(Clone, Copy)]
@@ -45,11 +45,11 @@ impl Spot {
         ensures place { IfOk result (λ spot. place_at spot ≡ place) }
     {
         let number = book as u64;
-        if number >= BOOKS || place >= PLACES {
+        if number >= MAX_BOOKS || place >= MAX_PLACES {
             return Err(NoMemory);
         }
         Ok(Spot {
-            word: place * BOOKS + number,
+            word: place * MAX_BOOKS + number,
         })
     }
 
@@ -58,7 +58,11 @@ impl Spot {
     pub(crate) fn entry(self, books: &[ShardBook]) -> Entry
         ensures { result ≡ entry_at_spot books.now self }
     {
-        match entry_at(books, (self.word % BOOKS) as usize, self.word / BOOKS) {
+        match entry_at(
+            books,
+            (self.word % MAX_BOOKS) as usize,
+            self.word / MAX_BOOKS,
+        ) {
             Some(entry) => entry,
             None => nothing(),
         }

@@ -5,12 +5,12 @@ use Rattle.std.specs.Result.{IsErrAnd}
 use Rattle.std.proofs.lemmas.Bool.Decides.{nat_tests}
 use Rattle.std.proofs.lemmas.List.{map-append}
 use Rattle.clap.specs.Words.{Text}
-use Rattle.tap_balance.specs.Balances.{ArePostedTaps}
+use Rattle.tap_balance.specs.Balances.{AreGoodTaps}
 use Rattle.tap_views.specs.declared.encoder.TapFields.{TapFields}
 use Rattle.omny_audit.specs.Fault.{IsOneOf, NamesOneOf, named_by}
 use Rattle.omny_audit.specs.Options.{AuditAsked, files_of}
 use Rattle.omny_audit.specs.declared.fault.Fault.{Fault}
-use Rattle.omny_audit.specs.Program.{ArePostedOfAll, LoadsNamedFiles, compared}
+use Rattle.omny_audit.specs.Program.{AreGoodTapsOfAll, LoadsNamedFiles, compared}
 use Rattle.omny_audit.specs.Source.{OpensOne}
 use Rattle.omny_audit.specs.inside.Source.{IsAllOf}
 use Rattle.program_manners.specs.Loads.{Loaded, Tells, TellsOne}
@@ -36,8 +36,8 @@ loads_push names name told told' told'' files bytes all one = record {
 }
 
 -- and the taps of one more
-pub posted_push : (uploads : List (List ℕ)) (posted : List TapFields) (upload : List ℕ) (taps : List TapFields) → ArePostedOfAll uploads posted
-    → ArePostedTaps upload taps → ArePostedOfAll (uploads ++ upload ∷ []) (posted ++ taps)
+pub posted_push : (uploads : List (List ℕ)) (posted : List TapFields) (upload : List ℕ) (taps : List TapFields) → AreGoodTapsOfAll uploads posted
+    → AreGoodTaps upload taps → AreGoodTapsOfAll (uploads ++ upload ∷ []) (posted ++ taps)
 posted_push [] posted upload taps all one =
     (taps, [], one, refl, ap (λ (xs : List TapFields). xs ++ taps) all ∙ sym (append-nil taps))
 posted_push (first ∷ uploads) posted upload taps all one = (

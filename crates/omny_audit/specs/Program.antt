@@ -6,13 +6,13 @@ use Rattle.clap.specs.Words.{Text}
 use Rattle.fare_table.specs.Fares.{Fares}
 use Rattle.fare_table.specs.Rules.{rules_in}
 use Rattle.fare_table.specs.Zone.{IsZoneOf}
-use Rattle.tap_balance.specs.Balances.{ArePostedTaps}
+use Rattle.tap_balance.specs.Balances.{AreGoodTaps}
 use Rattle.tap_views.specs.declared.encoder.TapFields.{TapFields}
 use Rattle.omny_audit.specs.Answers.{IsAnswer}
 use Rattle.omny_audit.specs.Fault.{audit_fault_text, is_quiet, is_unwritten}
 use Rattle.omny_audit.specs.Options.{AuditAsked}
 use Rattle.program_manners.specs.Loads.{Loaded, Tells, TellsOne}
-use Rattle.program_manners.specs.Told.{Told as IsTold}
+use Rattle.program_manners.specs.LineWritten.{LineWritten as IsLineWritten}
 use Rattle.omny_audit.specs.declared.fault.Fault.{Fault}
 
 -- The text's rules, and the zone that it names, are those of these fares.
@@ -35,11 +35,11 @@ pub record LoadsNamedFiles (names : List Text) (told told' : Option (List Loaded
   pub told_is : Tells told told' loads
 
 -- the posted taps of the uploads, one upload after another
-abbrev pub ArePostedOfAll : List (List ℕ) → List TapFields → Type 0
-ArePostedOfAll [] taps = taps ≡ []
-ArePostedOfAll (upload ∷ uploads) taps =
-    (first : List TapFields) × (rest : List TapFields) × ArePostedTaps upload first
-    × ArePostedOfAll uploads rest × (taps ≡ first ++ rest)
+abbrev pub AreGoodTapsOfAll : List (List ℕ) → List TapFields → Type 0
+AreGoodTapsOfAll [] taps = taps ≡ []
+AreGoodTapsOfAll (upload ∷ uploads) taps =
+    (first : List TapFields) × (rest : List TapFields) × AreGoodTaps upload first
+    × AreGoodTapsOfAll uploads rest × (taps ≡ first ++ rest)
 
 -- the taps with which a ledger's are compared, where uploads are named
 abbrev pub compared : List Text → List TapFields → Option (List TapFields)
@@ -58,7 +58,7 @@ pub record Audits (asked : AuditAsked) (told told' : Option (List Loaded))
   pub uploads : List (List ℕ)
   pub loads_uploads : LoadsNamedFiles asked.uploads after_table after_uploads uploads
   pub posted : List TapFields
-  pub are_posted : ArePostedOfAll uploads posted
+  pub are_posted : AreGoodTapsOfAll uploads posted
   pub ledger : List ℕ
   pub loads_ledger : TellsOne after_uploads told' asked.ledger ledger
   pub text : List ℕ
@@ -69,7 +69,7 @@ pub record Audits (asked : AuditAsked) (told told' : Option (List Loaded))
 -- nothing is told.
 abbrev pub IsFaultTold : Fault → Option (List ℕ) → Option (List ℕ) → Bool → Type 0
 IsFaultTold fault said said' failed = MatchBool (is_quiet fault) (said' ≡ said)
-    (IsTold said said' failed (audit_fault_text fault))
+    (IsLineWritten said said' failed (audit_fault_text fault))
 
 -- The program gave up: the fault was told, and nothing was written but where a write failed.
 pub record AuditGaveUp (fault : Fault) (said said' : Option (List ℕ)) (failed : Bool)

@@ -25,7 +25,7 @@ use std::io::{Read, Write};
 use tap_balance::{Balance, Difference};
 
 /// How many bytes one read asks for.
-const STEP: usize = 65_536;
+const PIECE_BYTES: usize = 65_536;
 
 /// The verdict on all that the reader has left, whose taps are struck out. It keeps no more of it
 /// than one read gives, and reads no further than to the first wrong line.
@@ -44,7 +44,7 @@ pub(crate) fn verdict_of<R: Read>(
     ensures named { IfErr result (λ fault. named_by fault ≡ None) }
 {
     let mut checker = Checker::new(alloc);
-    let mut step = [0u8; STEP];
+    let mut step = [0u8; PIECE_BYTES];
     for _piece in 0..u64::MAX {
         let Ok(count) = reader.read(&mut step) else {
             return Err(Fault::Ledger);

@@ -14,7 +14,7 @@ use Rattle.fare_table.specs.declared.token.Token.{Token}
 use Rattle.shard_book.specs.Sums.{Sums}
 use Rattle.fare_texts.specs.Counts.{counts, totals_line}
 use Rattle.fare_service.specs.Ends.{end_by}
-use Rattle.fare_service.specs.Plain.{ArePlainEnds, IsPlainEnd, WasWhole}
+use Rattle.fare_service.specs.Plain.{ArePlainEnds, IsPlainEnd, WasNotCut}
 use Rattle.fare_service.specs.Shares.{IsFaultOf}
 use Rattle.fare_service.specs.Text.{report, upload_line, upload_lines, uploads_head}
 use Rattle.tap_views.specs.Names.{fault_name}
@@ -66,7 +66,7 @@ name_spelt (TooMany count) = named_by 4 (omega arith)
 name_spelt (Length want have) = named_by 5 (omega arith)
 name_spelt (Moment index) = named_by 6 (omega arith)
 
-line_spelt : (number : ℕ) (end : UploadEnd) → WasWhole end
+line_spelt : (number : ℕ) (end : UploadEnd) → WasNotCut end
     → upload_line number end ≡ end_line number (end_of end)
 unfolding upload_line
 line_spelt number (Posted taps) whole = refl
@@ -82,7 +82,7 @@ line_spelt number (Refused taps offset fault) whole =
 line_spelt number (Cut taps) whole = absurd whole
 line_spelt number Undrawn whole = absurd whole
 
-pub lines_spelt : (number : ℕ) (ends : List UploadEnd) → AllByRecursion WasWhole ends
+pub lines_spelt : (number : ℕ) (ends : List UploadEnd) → AllByRecursion WasNotCut ends
     → upload_lines number ends ≡ end_lines number (map end_of ends)
 lines_spelt number [] whole = refl
 lines_spelt number (end ∷ ends) whole =
@@ -103,7 +103,7 @@ spelt : (h e t v vs k ts : List ℕ) → (h ++ e) ++ (t ++ ((v ++ vs) ++ (k ++ t
 spelt h e t v vs k ts = simp append_assoc
 
 pub report_spelt : (ends : List UploadEnd) (totals : Sums) (validators : List (ℕ × Sums))
-    (tokens : List (Token × Sums)) → AllByRecursion WasWhole ends
+    (tokens : List (Token × Sums)) → AllByRecursion WasNotCut ends
     → report ends totals validators tokens ≡ report_text (told_by ends totals validators tokens)
 unfolding uploads_head validators_head tokens_head
 report_spelt ends totals validators tokens whole =
@@ -120,17 +120,17 @@ report_spelt ends totals validators tokens whole =
     (head_line (codes "tokens ") (length tokens)) (flat_map token_line tokens)
 
 -- ---- the ends that the bytes of uploads call for
-end_whole : (taps : ℕ) (fault : Option (ℕ × LayoutFault)) → WasWhole (end_by taps fault)
+end_whole : (taps : ℕ) (fault : Option (ℕ × LayoutFault)) → WasNotCut (end_by taps fault)
 end_whole taps None = tt
 end_whole taps (Some (offset, fault)) = tt
 
 pub plain_whole : (files : List (List ℕ)) (ends : List UploadEnd) → ArePlainEnds files ends
-    → AllByRecursion WasWhole ends
+    → AllByRecursion WasNotCut ends
 plain_whole [] [] plain = tt
 plain_whole [] (end ∷ ends) plain = absurd plain
 plain_whole (file ∷ files) [] plain = absurd plain
 plain_whole (file ∷ files) (end ∷ ends) plain = (
-  subst WasWhole (sym plain.0.ended)
+  subst WasNotCut (sym plain.0.ended)
       (end_whole (length (flat_map (λ batch. batch) plain.0.batches)) plain.0.fault),
   plain_whole files ends plain.1,
 )

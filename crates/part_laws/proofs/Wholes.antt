@@ -27,7 +27,7 @@ use Rattle.shard_book.specs.Rising.{rising}
 use Rattle.shard_book.specs.Sums.{Sums, add_all, sums, sums_of_replies}
 use Rattle.fare_service.specs.Ends.{end_by}
 use Rattle.fare_service.specs.Plain.{ArePlainEnds, AreTapsOf, AreTapsOfEach, HasOneReading, IsPlainEnd}
-use Rattle.fare_service.specs.Plain.{IsReportOver, WasWhole, unanswered}
+use Rattle.fare_service.specs.Plain.{IsReportOver, WasNotCut, unanswered}
 use Rattle.fare_service.specs.Shares.{IsFaultOf}
 use Rattle.fare_service.specs.declared.upload_end.UploadEnd.{UploadEnd}
 use Rattle.fare_service.proofs.PlainLists.{All-split}
@@ -189,16 +189,16 @@ joined_map (some ∷ lists) =
     ∙ sym (map-append end_of some (flat_map (λ more. more) lists))
 
 texts_spelt : (first : ℕ) (lists : List (List UploadEnd))
-    → All WasWhole (flat_map (λ some. some) lists)
+    → All WasNotCut (flat_map (λ some. some) lists)
     → ends_texts first lists ≡ end_texts first (map (map end_of) lists)
 texts_spelt first [] whole = refl
 texts_spelt first (some ∷ lists) whole =
-    let (here, behind) = All-split WasWhole some (flat_map (λ more. more) lists) whole in
+    let (here, behind) = All-split WasNotCut some (flat_map (λ more. more) lists) whole in
     let place : first + length some ≡ first + length (map end_of some) =
     ap (λ n. first + n) (sym (length-map some end_of)) in
     let rest = texts_spelt (first + length some) lists behind
     ∙ ap (λ n. end_texts n (map (map end_of) lists)) place in
-    λ i. lines_spelt first some (recursion_from_All WasWhole some here) i ∷ rest i
+    λ i. lines_spelt first some (recursion_from_All WasNotCut some here) i ∷ rest i
 
 member_validators : RisingNumbers → (entries : List Entry) (v : ℕ)
     → is_member (eq_by_cmp nat_cmp) (keys_of (sums_by_validator entries)) v
@@ -294,7 +294,7 @@ module _ (fares : Fares) (uploads : List (List ℕ)) (history : List Entry) (par
         parts = tellings.told;
         told = record {
           ends_told = texts_spelt 0 lists
-              (All-from_recursion WasWhole all (plain_whole uploads all plain));
+              (All-from_recursion WasNotCut all (plain_whole uploads all plain));
           ends_fit = subst E (sym (joined_map lists))
               (All-from_recursion IsUploadEnd (map end_of all)
               (ends_fit uploads all (recursion_from_All HasSize uploads sizes) plain));

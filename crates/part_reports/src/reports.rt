@@ -34,7 +34,7 @@ use std::io::{BufRead, Write};
 
 /// The reports of parts, each read up to the line of its first token.
 #[derive(Drop)]
-struct Parts<R: BufRead + Drop> {
+struct BegunReports<R: BufRead + Drop> {
     /// What stands before the tokens, added up.
     sums: WholeSums,
     /// Each report behind the head of its tokens.
@@ -69,7 +69,7 @@ fn read_parts<R: BufRead + Drop>(
     alloc: Global,
     texts: Vec<R>,
     first: usize,
-) -> Result<Parts<R>, MergeFault>
+) -> Result<BegunReports<R>, MergeFault>
     ensures read { IfOk result (λ parts. (files : List (List ℕ))
         → AreLeft R.remaining texts.items files
         → AreParts files parts.sums (map (standing R.remaining) parts.sources.items)) }
@@ -86,7 +86,7 @@ fn read_parts<R: BufRead + Drop>(
         sources.push(source)?;
         number = number.saturating_add(1);
     }
-    Ok(Parts { sums, sources })
+    Ok(BegunReports { sums, sources })
 }
 
 /// Appends the line of each validator.

@@ -15,7 +15,7 @@ use std::alloc::{AllocError, Global};
 use std::collections::BTreeMap;
 
 /// The most taps of a sum.
-const MOST_TAPS: u128 = 1 << 95;
+const MAX_WHOLE_TAPS: u128 = 1 << 95;
 
 /// What the reports of all parts have before their tokens, added up.
 #[derive(Drop)]
@@ -46,7 +46,7 @@ fn add(sum: &mut Totals, more: &Totals) -> bool
     ensures kept { result ≡ false → 2 ^ 95 < sum.old.taps + more.now.taps }
 {
     match sum.taps.checked_add(more.taps) {
-        Some(taps) if taps <= MOST_TAPS => {
+        Some(taps) if taps <= MAX_WHOLE_TAPS => {
             sum.add_all(more);
             true
         }

@@ -1,4 +1,4 @@
+pub mod LineWritten
 pub mod Lines
 pub mod Loads
-pub mod Told
 pub mod Words

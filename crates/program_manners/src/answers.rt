@@ -3,7 +3,7 @@ ghost use Rattle.std.specs.Prelude.{◌≡◌, ◌≢◌, ◌≤◌, IfErr, IfOk
 ghost use Rattle.std.specs.Io.KnownBytes.{Keeps};
 ghost use Rattle.std.specs.IoError.{error_kind};
 ghost use Rattle.clap.specs.Words.{kind_of};
-ghost use Rattle.program_manners.specs.Told.{Told};
+ghost use Rattle.program_manners.specs.LineWritten.{LineWritten};
 ghost use Rattle.program_manners.specs.Words.{IsRequest};
 
 use crate::complaints::Complaints;
@@ -33,7 +33,7 @@ pub fn show_answer<W: Write, E: Write>(
     ensures memory { kind_of error.now ≡ ErrorKind.OutOfMemory → result ≡ Ok 1 }
     ensures refused { IfOk result (λ status. status ≡ 1
         → (kind_of error.now ≡ ErrorKind.OutOfMemory)
-        × Told (E.contents err.old.writer) (E.contents err.new.writer) err.new.failed
+        × LineWritten (E.contents err.old.writer) (E.contents err.new.writer) err.new.failed
         (codes "fault: out of memory")) }
     ensures mistake { IfOk result (λ status. status ≡ 2 → ¬ IsRequest (kind_of error.now)) }
     ensures kept { IfOk result (λ status. status ≢ 0
@@ -60,10 +60,10 @@ pub fn show_answer<W: Write, E: Write>(
 /// word that is not UTF-8.
 pub fn unread_words<E: Write>(error: &io::Error, err: &mut Complaints<E>) -> u8
     ensures memory { error_kind error.now ≡ ReadKind.OutOfMemory → (result ≡ 1)
-        × Told (E.contents err.old.writer) (E.contents err.new.writer) err.new.failed
+        × LineWritten (E.contents err.old.writer) (E.contents err.new.writer) err.new.failed
         (codes "fault: out of memory") }
     ensures word { error_kind error.now ≢ ReadKind.OutOfMemory → (result ≡ 2)
-        × Told (E.contents err.old.writer) (E.contents err.new.writer) err.new.failed
+        × LineWritten (E.contents err.old.writer) (E.contents err.new.writer) err.new.failed
         (codes "error: an argument is not UTF-8") }
 {
     if error.kind() == ReadKind::OutOfMemory {

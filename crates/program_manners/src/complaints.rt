@@ -1,7 +1,7 @@
 //! Where mistakes and faults are told.
 ghost use Rattle.std.specs.Prelude.{◌≡◌, IfSome, false};
 ghost use Rattle.std.specs.Io.KnownBytes.{Appends};
-ghost use Rattle.program_manners.specs.Told.{Told};
+ghost use Rattle.program_manners.specs.LineWritten.{LineWritten};
 
 use std::fmt::Display;
 use std::io::Write;
@@ -43,7 +43,7 @@ impl<W: Write> Complaints<W> {
 
     /// Writes the text and a line feed, whole where they can be written.
     pub fn tell_line<D: Display + Drop>(&mut self, text: D)
-        ensures { IfSome (D.output text) (Told (W.contents self.old.writer)
+        ensures { IfSome (D.output text) (LineWritten (W.contents self.old.writer)
             (W.contents self.new.writer) self.new.failed) }
     {
         if write!(self.writer, "{text}\n").is_err() {

@@ -20,7 +20,7 @@ mod words;
 
 pub use answers::{show_answer, unread_words};
 pub use complaints::Complaints;
-pub use loading::{FileFault, LONGEST, LoadFault, load_from};
+pub use loading::{FileFault, LOAD_LIMIT_BYTES, LoadFault, load_from};
 pub use opened::Opened;
 pub use table_line::TableLine;
 pub use words::{flag_arg, names_in, new_command, number_arg, option_arg, place_arg};

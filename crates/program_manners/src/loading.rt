@@ -8,7 +8,7 @@ use std::io::{ErrorKind, Read};
 use thiserror::Error;
 
 /// The most bytes of a file that is loaded: 64 MiB.
-pub const LONGEST: usize = 67_108_864;
+pub const LOAD_LIMIT_BYTES: usize = 67_108_864;
 
 /// Why a file or standard input was not loaded.
 #[derive(Clone, Copy, Debug, PartialEq, Eq, Error)]
@@ -17,7 +17,7 @@ pub enum LoadFault {
     #[error("it cannot be read")]
     Unread,
     /// It has more than 67,108,864 bytes.
-    #[error("it is longer than {LONGEST} bytes")]
+    #[error("it is longer than {LOAD_LIMIT_BYTES} bytes")]
     TooLong,
     /// A growth of memory was refused.
     #[error("out of memory")]
@@ -61,14 +61,14 @@ impl fmt::Display for FileFault<'_> {
 /// little. How much was read is not told of a fault.
 pub fn load_from<R: Read>(alloc: Global, r: &mut R) -> Result<Vec<u8>, LoadFault>
     ensures whole { IfOk result (λ bytes. IfSome (R.remaining r.old) (λ left. bytes.items ≡ left)) }
-    ensures short { IfOk result (λ bytes. length bytes.items ≤ LONGEST) }
+    ensures short { IfOk result (λ bytes. length bytes.items ≤ LOAD_LIMIT_BYTES) }
     ensures long { IsErrOf result LoadFault.TooLong
-        → IfSome (R.remaining r.old) (λ left. LONGEST < length left) }
+        → IfSome (R.remaining r.old) (λ left. LOAD_LIMIT_BYTES < length left) }
 {
     let mut bytes = Vec::new(alloc);
     // one byte past the limit shows that it is too long
-    match Read::take(r, LONGEST as u64 + 1).read_to_end(&mut bytes) {
-        Ok(_) if bytes.len() > LONGEST => Err(LoadFault::TooLong),
+    match Read::take(r, LOAD_LIMIT_BYTES as u64 + 1).read_to_end(&mut bytes) {
+        Ok(_) if bytes.len() > LOAD_LIMIT_BYTES => Err(LoadFault::TooLong),
         Ok(_) => Ok(bytes),
         Err(error) if error.kind() == ErrorKind::OutOfMemory => Err(LoadFault::NoMemory),
         Err(_) => Err(LoadFault::Unread),

@@ -3,7 +3,7 @@
 
 use super::running::{NoDisk, run_over};
 use super::shelf::{Content, Shelf};
-use fare_program::{Disk, Early, Host, LONGEST, LoadFault, Source, load_from, read_early};
+use fare_program::{Disk, Early, Host, LOAD_LIMIT_BYTES, LoadFault, Source, load_from, read_early};
 use std::alloc::Global;
 use std::io::Read;
 use std::marker::Sync;
@@ -58,9 +58,9 @@ fn loads_up_to_the_limit(rt: HostRuntime) -> Result<(), Fail> {
         (0, false, Ok(0)),
         (5_000, false, Ok(5_000)),
         (5_000, true, Err(LoadFault::Unread)),
-        (LONGEST, false, Ok(LONGEST)),
-        (LONGEST, true, Err(LoadFault::Unread)),
-        (LONGEST + 1, false, Err(LoadFault::TooLong)),
+        (LOAD_LIMIT_BYTES, false, Ok(LOAD_LIMIT_BYTES)),
+        (LOAD_LIMIT_BYTES, true, Err(LoadFault::Unread)),
+        (LOAD_LIMIT_BYTES + 1, false, Err(LoadFault::TooLong)),
         (usize::MAX, true, Err(LoadFault::TooLong)),
     ];
     for (left, fails, answer) in rows {

@@ -2,7 +2,7 @@
 
 ghost use Rattle.std.specs.Prelude.{◌≡◌, All, IfOk, List, map};
 ghost use Rattle.shard_book.specs.declared.entry.Entry.{Entry};
-ghost use Rattle.fare_service.specs.Plain.{AreApart, IsPlain, IsReportOver, WasWhole};
+ghost use Rattle.fare_service.specs.Plain.{AreApart, IsPlain, IsReportOver, WasNotCut};
 ghost use Rattle.fare_service.specs.Printed.{report_of};
 ghost use Rattle.fare_service.specs.Shares.{IsShareOf};
 
@@ -30,7 +30,7 @@ fn run<R: Threads + Wait + Sync, G: Gate + Sync>(
 ) -> Result<Outcome, RunFault>
     requires share { IsShareOf service share }
     requires uploads { service.uploads ≡ map (λ upload. upload.items) uploads.now }
-    ensures { IfOk result (λ outcome. All WasWhole outcome.ends
+    ensures { IfOk result (λ outcome. All WasNotCut outcome.ends
         → (history : List Entry)
         (plain : IsPlain service.entry.table (map (λ upload. upload.items) uploads.now) history)
         → AreApart plain.taps → IsReportOver (map (λ upload. upload.items) uploads.now) history

@@ -24,7 +24,7 @@ use Rattle.tap_parts.specs.Parts.{part_of_token, of_part}
 use Rattle.fare_service.specs.Headline.{Headline}
 use Rattle.fare_service.specs.Outcomes.{OutcomeView}
 use Rattle.fare_service.specs.Plain.{AreTapsOfEach, HasOneReading, IsPlain, IsStatementOver}
-use Rattle.fare_service.specs.Plain.{IsWholeGathering, WasWhole, plain, unanswered}
+use Rattle.fare_service.specs.Plain.{IsWholeGathering, WasNotCut, plain, unanswered}
 use Rattle.fare_service.specs.Shares.{Worked}
 use Rattle.fare_service.specs.Text.{report}
 use Rattle.fare_service.specs.declared.upload_end.UploadEnd.{UploadEnd}
@@ -36,7 +36,7 @@ use Rattle.fare_service.proofs.PlainSums.{same_entries, same_by_validator, same_
 use Rattle.fare_service.proofs.PlainUploads.{AllNamed, same_statement, statement_same}
 use Rattle.settlement.specs.Settled.{IsSettled}
 use Rattle.tap_parts.specs.Parts.{uploads_joined}
-use Rattle.settlement.specs.Told.{TellsSettled}
+use Rattle.settlement.specs.SettledTexts.{HasSettledTexts}
 use Rattle.settlement.proofs.Histories.{read_fields}
 use Rattle.settlement.proofs.Own.{IsNamedBy, same_own}
 use Rattle.settlement.proofs.Placed.{IsPlaced, all_placed, all_rise, apart, file_at}
@@ -206,8 +206,8 @@ pub tells : (given : Given) (works : List (List Worked)) (outcome : OutcomeView)
     → RisingNumbers → RisingTokens
     → (is : IsPlain given.table given.uploads later) → AreEntriesOf (uploads_joined is.taps) later
     → IsSettled uploads ends given.uploads
-    → Headline given.table given.shards given.uploads works outcome → All WasWhole outcome.ends
-    → TellsSettled given.table uploads ends outcome
+    → Headline given.table given.shards given.uploads works outcome → All WasNotCut outcome.ends
+    → HasSettledTexts given.table uploads ends outcome
 tells given works outcome uploads ends later some named here cuts numbers tokens is fields settled
     headline whole =
     let (order, canonical) = canonical_order (uploads_joined settled.taps) in

@@ -29,7 +29,7 @@ use std::alloc::Global;
 
 /// The most accounts that a book keeps, below 2^32: an entry of the history has 32 bits for the
 /// place of its token's account.
-const MOST_ACCOUNTS: usize = 4_294_967_295;
+const MAX_ACCOUNTS: usize = 4_294_967_295;
 
 /// What is kept of one token: its account, and the counts of its entries.
 #[derive(Clone, Copy, Debug, PartialEq, Eq)]
@@ -94,7 +94,7 @@ impl Accounts {
             → kept_at self.new other ≡ kept_at self.old other) }
     {
         let last = self.map.len();
-        if last >= MOST_ACCOUNTS {
+        if last >= MAX_ACCOUNTS {
             return Err(NoMemory);
         }
         match self.map.entry(token)? {

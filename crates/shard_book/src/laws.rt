@@ -55,5 +55,5 @@ pub fn windows(book: &ShardBook)
 {
     let _ = book.len();
     account_rule::laws::limits();
-    account_rule::laws::shares();
+    account_rule::laws::windows_add_up();
 }

@@ -9,7 +9,7 @@ use prog.Atomic.{either}
 use lib.ListN.{get_elem?}
 use Rattle.atomic_table.specs.Table.{State, Me, step, keeps, Allows, Splits, Joins, opening, Seen, Final}
 use Rattle.atomic_table.proofs.Lists.{at_set, at_snoc, set_again, set_else, exchanged}
-use Rattle.shared_books.specs.declared.drawing.rule.Hand.{Hand}
+use Rattle.shared_books.specs.declared.drawing.rule.DrawerState.{DrawerState}
 use Rattle.shared_books.specs.Claims.{all_claims}
 use Rattle.shared_books.specs.Drawing.{times, NoneTwice, AllBelow, HasAll}
 use Rattle.shared_books.specs.inside.Drawing.{IsSpent, times_drawn, IsDrawn}
@@ -19,20 +19,20 @@ use Rattle.shared_books.proofs.ClaimSteps.{claims_set, claims_split, claims_join
 use Rattle.shared_books.proofs.Numbers.{times-append, times-same, times-other, as_many}
 
 abbrev S : Type 0
-S = State (Unit {0}) Hand
+S = State (Unit {0}) DrawerState
 
-acts : (h : Hand) → h.live ≡ true → IsSpent h → ⊥
+acts : (h : DrawerState) → h.live ≡ true → IsSpent h → ⊥
 acts h live spent = true≢false (sym live ∙ spent.0)
 
 -- what a drawer drew is below the word, and nothing twice
-pub drawn_once : (n : ℕ) (s : S) (j : ℕ) (h : Hand) → IsDrawn n s → get_elem? s.views j ≡ some h → NoneTwice h.drawn × AllBelow (get_or s.words 0 0) h.drawn
+pub drawn_once : (n : ℕ) (s : S) (j : ℕ) (h : DrawerState) → IsDrawn n s → get_elem? s.views j ≡ some h → NoneTwice h.drawn × AllBelow (get_or s.words 0 0) h.drawn
 drawn_once n s j h r at = (
   (λ x. let part = sum_part (λ v. times x v.drawn) s.views j h at in dite (dec_le (get_or s.words 0 0) x) (λ le. let z = r.no_other x le in omega arith) (λ no. let o = r.once x (lt_of_not-le no) in omega arith)),
   (λ x le. let part = sum_part (λ v. times x v.drawn) s.views j h at in let z = r.no_other x le in omega arith),
 )
 
 -- where one hand changes, and not its numbers
-same_drawn : (n : ℕ) (s : S) (j : ℕ) (h : Hand) (d : ℕ) → IsDrawn n s → get_elem? s.views j ≡ some h → h.live ≡ true → d ≤ get_or s.words 0 0
+same_drawn : (n : ℕ) (s : S) (j : ℕ) (h : DrawerState) (d : ℕ) → IsDrawn n s → get_elem? s.views j ≡ some h → h.live ≡ true → d ≤ get_or s.words 0 0
     → IsDrawn n record { words = s.words; homes = s.homes; views = set s.views j (hand h.claims h.numbers d h.drawn) }
 same_drawn n s j h d r at live le =
     let w = hand h.claims h.numbers d h.drawn in record {
@@ -40,12 +40,12 @@ same_drawn n s j h d r at live le =
       within = r.within;
       once = λ x lt. (let t = sum_set (λ v. times x v.drawn) s.views j h w at in let o = r.once x lt in omega arith);
       no_other = λ x ge. (let t = sum_set (λ v. times x v.drawn) s.views j h w at in let o = r.no_other x ge in omega arith);
-      each = λ i v e l. ⊎_elim (λ t. subst (λ (u : Hand). (u.numbers ≡ n) × (u.seen ≤ get_or s.words 0 0)) t.1 ((r.each j h at live).0, le)) (λ t. r.each i v t.1 l) (at_set s.views j i w v e);
+      each = λ i v e l. ⊎_elim (λ t. subst (λ (u : DrawerState). (u.numbers ≡ n) × (u.seen ≤ get_or s.words 0 0)) t.1 ((r.each j h at live).0, le)) (λ t. r.each i v t.1 l) (at_set s.views j i w v e);
       claims = claims_set (λ u. u.claims) IsSpent s.views j h w at refl (acts h live) r.claims;
     }
 
 -- the draw that was won
-drawn_next : (n : ℕ) (s : S) (j : ℕ) (h : Hand) → IsDrawn n s → get_elem? s.views j ≡ some h → h.live ≡ true → get_or s.words 0 0 < n
+drawn_next : (n : ℕ) (s : S) (j : ℕ) (h : DrawerState) → IsDrawn n s → get_elem? s.views j ≡ some h → h.live ≡ true → get_or s.words 0 0 < n
     → IsDrawn n record { words = set s.words 0 (get_or s.words 0 0 + 1); homes = s.homes; views = set s.views j (hand h.claims h.numbers (get_or s.words 0 0 + 1) (h.drawn ++ get_or s.words 0 0 ∷ [])) }
 drawn_next n s j h r at live lt =
     let d : ℕ = get_or s.words 0 0 in
@@ -58,7 +58,7 @@ drawn_next n s j h r at live lt =
           (λ e. let z = r.no_other x (omega arith) in let o = times-same x d e in omega arith)
           (λ ne. let z = r.once x (omega (arith, ne)) in let o = times-other x d ne in omega arith));
       no_other = λ x ge. (let c = count x in let above : d + 1 ≤ x = subst (λ (k : ℕ). k ≤ x) word ge in let z = r.no_other x (omega arith) in let o = times-other x d (λ e. omega arith) in omega arith);
-      each = λ i v e l. ⊎_elim (λ t. subst (λ (u : Hand). (u.numbers ≡ n) × (u.seen ≤ get_or (set s.words 0 (d + 1)) 0 0)) t.1 ((r.each j h at live).0, rw word (omega arith)))
+      each = λ i v e l. ⊎_elim (λ t. subst (λ (u : DrawerState). (u.numbers ≡ n) × (u.seen ≤ get_or (set s.words 0 (d + 1)) 0 0)) t.1 ((r.each j h at live).0, rw word (omega arith)))
           (λ (t : (i ≢ j) × (get_elem? s.views i ≡ some v)). let p = r.each i v t.1 l in (p.0, rw word (omega (arith, p.1)))) (at_set s.views j i w v e);
       claims = claims_set (λ u. u.claims) IsSpent s.views j h w at refl (acts h live) r.claims;
     }
@@ -73,16 +73,16 @@ opens n = record {
   claims = inr (refl, λ j h e gone. absurd (some_claim j h e gone));
 }
   where
-    some_claim : (j : ℕ) (h : Hand) → get_elem? (empty_hand all_claims n 0 ∷ []) j ≡ some h → h.claims ≡ 0 → ⊥
-    some_claim zero h e gone = let same = ap (λ (u : Hand). u.claims) (some-injective _ h e) in omega arith
+    some_claim : (j : ℕ) (h : DrawerState) → get_elem? (empty_hand all_claims n 0 ∷ []) j ≡ some h → h.claims ≡ 0 → ⊥
+    some_claim zero h e gone = let same = ap (λ (u : DrawerState). u.claims) (some-injective _ h e) in omega arith
     some_claim (suc j) h e gone = some-ne-none h (sym e)
 
-    go : (j : ℕ) (h : Hand) → get_elem? (empty_hand all_claims n 0 ∷ []) j ≡ some h → (h.numbers ≡ n) × (h.seen ≤ 0)
-    go zero h e = subst (λ (u : Hand). (u.numbers ≡ n) × (u.seen ≤ 0)) (some-injective _ h e) (refl, omega arith)
+    go : (j : ℕ) (h : DrawerState) → get_elem? (empty_hand all_claims n 0 ∷ []) j ≡ some h → (h.numbers ≡ n) × (h.seen ≤ 0)
+    go zero h e = subst (λ (u : DrawerState). (u.numbers ≡ n) × (u.seen ≤ 0)) (some-injective _ h e) (refl, omega arith)
     go (suc j) h e = absurd (some-ne-none h (sym e))
 
 -- a try to draw the number that the drawer saw last
-pub draws : (n slots id : ℕ) (me : Me (Unit {0}) Hand) (old : ℕ) → me.0.live ≡ true → me.0.seen ≡ old → old < me.0.numbers
+pub draws : (n slots id : ℕ) (me : Me (Unit {0}) DrawerState) (old : ℕ) → me.0.live ≡ true → me.0.seen ≡ old → old < me.0.numbers
     → Allows (IsDrawn n) slots id me 0 (λ k. either (eqb k old) (old + 1) k) (HasTried (step slots 0 old (old + 1) none) me)
 draws n slots id me old live seen more s r count at fits =
     let d : ℕ = get_or s.words 0 0 in
@@ -110,7 +110,7 @@ draws n slots id me old live seen more s r count at fits =
     exchange_lost ws old ne = exchanged (get_or ws 0 0) old (old + 1) (λ k. ws ≡ set ws 0 k) (λ e. absurd (ne e)) (λ _. sym (set-get_or ws 0 0))
 
 -- a look at the word
-pub looks : (n slots id : ℕ) (me : Me (Unit {0}) Hand) → me.0.live ≡ true
+pub looks : (n slots id : ℕ) (me : Me (Unit {0}) DrawerState) → me.0.live ≡ true
     → Allows (IsDrawn n) slots id me 0 (λ k. k) (HasLooked (step slots 0 0 0 none) me)
 looks n slots id me live s r count at fits =
     let d : ℕ = get_or s.words 0 0 in
@@ -125,7 +125,7 @@ looks n slots id me live s r count at fits =
     )
 
 -- a new drawer, which drew nothing
-pub parts : (n id : ℕ) (h : Hand) → h.live ≡ true → Splits (IsDrawn n) id h (left_hand h) (new_hand h)
+pub parts : (n id : ℕ) (h : DrawerState) → h.live ≡ true → Splits (IsDrawn n) id h (left_hand h) (new_hand h)
 parts n id h live s r at =
     let l = left_hand h in
     let w = new_hand h in
@@ -139,16 +139,16 @@ parts n id h live s r at =
       no_other = λ x ge. sum x ∙ r.no_other x ge;
       each = λ j v e live_too. ⊎_elim
           (λ t. ⊎_elim
-          (λ u. subst (λ (z : Hand). (z.numbers ≡ n) × (z.seen ≤ get_or s.words 0 0)) u.1 (r.each id h at live))
+          (λ u. subst (λ (z : DrawerState). (z.numbers ≡ n) × (z.seen ≤ get_or s.words 0 0)) u.1 (r.each id h at live))
           (λ u. r.each j v u.1 live_too)
           (at_set s.views id j l v t))
-          (λ t. subst (λ (u : Hand). (u.numbers ≡ n) × (u.seen ≤ get_or s.words 0 0)) t (r.each id h at live))
+          (λ t. subst (λ (u : DrawerState). (u.numbers ≡ n) × (u.seen ≤ get_or s.words 0 0)) t (r.each id h at live))
           (at_snoc (set s.views id l) w v j e);
       claims = claims_split (λ u. u.claims) IsSpent s.views id h l w at refl refl (acts h live) r.claims;
     }
 
 -- one drawer takes over what another holds
-pub meets : (n id : ℕ) (h : Hand) (other : ℕ) (k : Hand) → h.live ≡ true → k.live ≡ true → Joins (IsDrawn n) id h other k (both_hands h k) spent_hand
+pub meets : (n id : ℕ) (h : DrawerState) (other : ℕ) (k : DrawerState) → h.live ≡ true → k.live ≡ true → Joins (IsDrawn n) id h other k (both_hands h k) spent_hand
 meets n id h other k live lives s r at apart there =
     let b = both_hands h k in
     let was : get_elem? s.views other ≡ some k = sym (set_else s.views id other b apart) ∙ there in
@@ -166,7 +166,7 @@ meets n id h other k live lives s r at apart there =
       each = λ j v e l. ⊎_elim
           (λ t. absurd (true≢false (sym l ∙ ap (λ u. u.live) (sym t.1))))
           (λ t. ⊎_elim
-          (λ u. subst (λ (z : Hand). (z.numbers ≡ n) × (z.seen ≤ get_or s.words 0 0)) u.1 (one.0, least one.1 two.1))
+          (λ u. subst (λ (z : DrawerState). (z.numbers ≡ n) × (z.seen ≤ get_or s.words 0 0)) u.1 (one.0, least one.1 two.1))
           (λ u. r.each j v u.1 l)
           (at_set s.views id j b v t.1))
           (at_set (set s.views id b) other j spent_hand v e);
@@ -177,14 +177,14 @@ meets n id h other k live lives s r at apart there =
     least p q = omega arith
 
 -- who has all claims drew all that was drawn
-drew_all : (n : ℕ) (s : S) (j : ℕ) (h : Hand) → IsDrawn n s → get_elem? s.views j ≡ some h → all_claims ≤ h.claims → HasAll (get_or s.words 0 0) h.drawn
+drew_all : (n : ℕ) (s : S) (j : ℕ) (h : DrawerState) → IsDrawn n s → get_elem? s.views j ≡ some h → all_claims ≤ h.claims → HasAll (get_or s.words 0 0) h.drawn
 drew_all n s j h r at whole x lt =
-    let nothing : (i : ℕ) (k : Hand) → i ≢ j → get_elem? s.views i ≡ some k → times x k.drawn ≡ 0 =
+    let nothing : (i : ℕ) (k : DrawerState) → i ≢ j → get_elem? s.views i ≡ some k → times x k.drawn ≡ 0 =
     λ i k ne there. ap (λ xs. times x xs) (others_spent (λ u. u.claims) IsSpent s.views j h at whole r.claims i k ne there).1 in
     sym (sum_only (λ v. times x v.drawn) s.views j h at nothing) ∙ r.once x lt
 
 -- what the closing shows of a drawer
-pub ends : (n id : ℕ) (h : Hand) (ws : List ℕ) (xs : List (Unit {0})) (count : ℕ) → Final (Seen (IsDrawn n) id h) ws xs → get_elem? ws 0 ≡ some count → h.live ≡ true
+pub ends : (n id : ℕ) (h : DrawerState) (ws : List ℕ) (xs : List (Unit {0})) (count : ℕ) → Final (Seen (IsDrawn n) id h) ws xs → get_elem? ws 0 ≡ some count → h.live ≡ true
     → (h.seen ≤ count) × (count ≤ n) × (h.numbers ≡ n) × AllBelow count h.drawn × NoneTwice h.drawn × (h.claims ≤ all_claims) × (all_claims ≤ h.claims → count ≤ length h.drawn)
 ends n id h ws xs count f at live =
     let s = f.0 in

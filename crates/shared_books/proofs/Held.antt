@@ -3,14 +3,14 @@ use Rattle.std.proofs.Common.{◌≡◌, ℕ, ◌+◌, ◌<◌, ◌≤◌, ◌^�
 use mathlib.Core.Logic.{dite}
 use native.Mathlib.Decide.{ℕ_discrete}
 use Rattle.atomic_table.specs.Table.{Me, Step}
-use Rattle.shared_books.specs.declared.drawing.rule.Hand.{Hand}
+use Rattle.shared_books.specs.declared.drawing.rule.DrawerState.{DrawerState}
 use Rattle.shared_books.specs.Drawing.{NoneTwice, AllBelow}
 use Rattle.shared_books.specs.inside.Hands.{hand, left_hand, both_hands, HasLooked}
 use Rattle.shared_books.specs.inside.Hands.{IsHeld}
 use Rattle.shared_books.proofs.Numbers.{times-append, times-same, times-other, few}
 
 abbrev Seat : Type 0
-Seat = Me (Unit {0}) Hand
+Seat = Me (Unit {0}) DrawerState
 
 -- no drawer holds more numbers than it has seen drawn
 pub held_few : (held seen : ℕ) (me : Seat) → IsHeld held seen me → (held ≤ seen) × (seen ≤ me.0.numbers) × (me.0.numbers < 2 ^ 32)
@@ -55,9 +55,9 @@ held_met held more seen other found me them met after st h k e looked =
       seen_is = sym (ap (λ v. v.seen) is);
       held_is = (let l : length after.0.drawn ≡ length (me.0.drawn ++ them.0.drawn) = ap (λ v. length v.drawn) is in let a = length-append me.0.drawn them.0.drawn in omega (arith, h.held_is, k.held_is));
       none_twice = subst (λ xs. NoneTwice xs) (ap (λ v. v.drawn) (sym looked.seen)) looked.none_twice;
-      below = let P : Hand → Type 0 = λ v. AllBelow v.seen v.drawn in subst P (sym looked.seen) looked.below;
-      within = (let m = ap (λ m. m.0.numbers) e in let w = looked.within in let s = ap (λ (v : Hand). v.seen) is in let n = ap (λ (v : Hand). v.numbers) is in omega arith);
-      small = (let n = ap (λ (v : Hand). v.numbers) is in omega (arith, h.small));
+      below = let P : DrawerState → Type 0 = λ v. AllBelow v.seen v.drawn in subst P (sym looked.seen) looked.below;
+      within = (let m = ap (λ m. m.0.numbers) e in let w = looked.within in let s = ap (λ (v : DrawerState). v.seen) is in let n = ap (λ (v : DrawerState). v.numbers) is in omega arith);
+      small = (let n = ap (λ (v : DrawerState). v.numbers) is in omega (arith, h.small));
     }
 
 -- what it keeps after a split

@@ -6,14 +6,14 @@ use Rattle.shard_book.specs.Book.{Book, with_entries}
 use Rattle.shard_book.specs.History.{IsLegal}
 use Rattle.shared_books.specs.declared.turns.rule.Opening.{Opening}
 use Rattle.shared_books.specs.declared.turns.rule.Mark.{Mark}
-use Rattle.shared_books.specs.declared.turns.rule.View.{View}
+use Rattle.shared_books.specs.declared.turns.rule.PassState.{PassState}
 use Rattle.shared_books.specs.Claims.{all_claims}
 use Rattle.shared_books.specs.Marks.{mark, others, visits_of, joined, made_from, numbered, merged, Apart}
 use Rattle.shared_books.specs.Passes.{PassView, seen_by, book_of, IsLater, Visits, IsFull, IsJoined, HasMadeAll}
 use Rattle.shared_books.specs.inside.Passes.{opened_of}
 use Rattle.shared_books.specs.Turns.{Boxed, book_after}
 use Rattle.shared_books.specs.Views.{view}
-use Rattle.shared_books.specs.inside.Steps.{Seat, fresh, left_view, both_views, HasSeen, HasSettled}
+use Rattle.shared_books.specs.inside.Steps.{Seat, fresh, left_view, both_views, HasSeen, HasEndedJoin}
 use Rattle.shared_books.specs.inside.Views.{IsFree, SeesMore, HasBookOut, FindsFull, BringsVisit, IsPass}
 use Rattle.shared_books.proofs.MarkLists.{visits-caught, visits-append, visits-others, length-visits, others-append, joined-snoc, made-others, made-caught, made-snoc, made_few, made_all, length-made-merged}
 use Rattle.shared_books.proofs.TurnSteps.{Closes}
@@ -99,7 +99,7 @@ full_of n w = ⊎_elim (λ e. even n e) (λ e. absurd (odd n e)) w
 pub finds_full : (a : Seat) (found : ℕ) (b : Seat) → found ≡ 2 ^ 63 → HasSeen a found b → FindsFull a b
 finds_full a found b full h = record {
   goes_on = seen_goes_on a found b h;
-  legal = subst (λ (v : View). IsLegal v.opened.book.value.table (joined (visits_of v.marks))) (sym h.view_is) h.legal;
+  legal = subst (λ (v : PassState). IsLegal v.opened.book.value.table (joined (visits_of v.marks))) (sym h.view_is) h.legal;
   count = ap (λ v. v.opened.first + length v.marks) h.view_is ∙ full_of _ (subst (λ n. (n ≡ 2 * (a.0.opened.first + length (a.0.marks ++ others h.between))) ⊎ (n ≡ 2 * (a.0.opened.first + length (a.0.marks ++ others h.between)) + 1)) full h.word);
 }
 
@@ -129,7 +129,7 @@ later_of home a b g legal = record {
 }
 
 pub later_by_look : (home : TableId) (a : Seat) (found : ℕ) (b : Seat) → HasSeen a found b → IsLater (knows home a) (knows home b)
-later_by_look home a found b h = later_of home a b (seen_goes_on a found b h) (subst (λ (v : View). IsLegal v.opened.book.value.table (joined (visits_of v.marks))) (sym h.view_is) h.legal)
+later_by_look home a found b h = later_of home a b (seen_goes_on a found b h) (subst (λ (v : PassState). IsLegal v.opened.book.value.table (joined (visits_of v.marks))) (sym h.view_is) h.legal)
 
 pub head_is : (home : TableId) (a : Seat) (found : ℕ) (b : Seat) → HasSeen a found b → found / 2 ≡ b.0.opened.first + length (visits_of b.0.marks)
 head_is home a found b h = half_of found _ h.word ∙ (sym (ap (λ v. v.opened.first + length v.marks) h.view_is) ∙ ap (λ n. b.0.opened.first + n) (sym (length-visits b.0.marks)))
@@ -224,24 +224,24 @@ visits_made home a b c number book visit h e legal =
     }
 
 -- two passes meet
-pub pass_joins : (held more : ℕ) (a b met c : Seat) → IsPass held a → IsPass more b → met ≡ (both_views a.0 b.0, a.1) → HasSettled met c → a.0.opened.first ≡ b.0.opened.first → IsPass (held + more) c
+pub pass_joins : (held more : ℕ) (a b met c : Seat) → IsPass held a → IsPass more b → met ≡ (both_views a.0 b.0, a.1) → HasEndedJoin met c → a.0.opened.first ≡ b.0.opened.first → IsPass (held + more) c
 pass_joins held more a b met c p q e h first =
     let now : c.0 ≡ view a.0.opened (a.0.claims + b.0.claims) a.0.turn (merged a.0.marks b.0.marks) [] = h.view_is ∙ ap (λ (me : Seat). view me.0.opened me.0.claims me.0.turn (merged me.0.marks me.0.met) []) e in
     let apart : Apart a.0.marks b.0.marks = subst (λ (me : Seat). Apart me.0.marks me.0.met) e h.apart in
     record {
       free = record { live = ap (λ v. v.live) now; turn = ap (λ v. v.turn) now ∙ p.free.turn; met = ap (λ v. v.met) now; carries = h.carries ∙ (ap (λ me. me.1) e ∙ p.free.carries) };
       held_is = (
-          let l = ap (λ (v : View). length (made_from v.opened.first v.marks)) now in
+          let l = ap (λ (v : PassState). length (made_from v.opened.first v.marks)) now in
           let m = length-made-merged a.0.opened.first a.0.marks b.0.marks apart in
           let n = ap (λ k. length (made_from k b.0.marks)) first in
           let x = p.held_is in let y = q.held_is in omega arith);
       small = (
-          let l : c.0.opened.first + length c.0.marks ≡ a.0.opened.first + length (merged a.0.marks b.0.marks) = ap (λ (v : View). v.opened.first + length v.marks) now in
+          let l : c.0.opened.first + length c.0.marks ≡ a.0.opened.first + length (merged a.0.marks b.0.marks) = ap (λ (v : PassState). v.opened.first + length v.marks) now in
           let s = ap (λ (me : Seat). me.0.opened.first + length (merged me.0.marks me.0.met)) e in
           let f = h.small in omega arith);
     }
 
-pub joined_of : (home : TableId) (a b met c : Seat) → met ≡ (both_views a.0 b.0, a.1) → HasSettled met c → a.0.opened.first ≡ b.0.opened.first → IsJoined (knows home a) (knows home b) (knows home c)
+pub joined_of : (home : TableId) (a b met c : Seat) → met ≡ (both_views a.0 b.0, a.1) → HasEndedJoin met c → a.0.opened.first ≡ b.0.opened.first → IsJoined (knows home a) (knows home b) (knows home c)
 joined_of home a b met c e h first =
     let now : c.0 ≡ view a.0.opened (a.0.claims + b.0.claims) a.0.turn (merged a.0.marks b.0.marks) [] = h.view_is ∙ ap (λ (me : Seat). view me.0.opened me.0.claims me.0.turn (merged me.0.marks me.0.met) []) e in
     let apart : Apart a.0.marks b.0.marks = subst (λ (me : Seat). Apart me.0.marks me.0.met) e h.apart in
@@ -250,7 +250,7 @@ joined_of home a b met c e h first =
       claims = ap (λ v. v.claims) now;
       marks = ap (λ v. v.marks) now;
       held = (
-          let l = ap (λ (v : View). length (made_from v.opened.first v.marks)) now in
+          let l = ap (λ (v : PassState). length (made_from v.opened.first v.marks)) now in
           let m = length-made-merged a.0.opened.first a.0.marks b.0.marks apart in
           let n = ap (λ k. length (made_from k b.0.marks)) first in omega arith);
       apart = apart;

@@ -3,7 +3,7 @@ use Rattle.std.proofs.Common.{◌≡◌, ℕ, ◌+◌, ◌*◌, Option, Some, []
 use mathlib.Core.Option.{some, none, some-ne-none, some-injective}
 use Rattle.atomic_table.specs.Table.{State}
 use Rattle.shared_books.specs.declared.turns.rule.Opening.{Opening}
-use Rattle.shared_books.specs.declared.turns.rule.View.{View}
+use Rattle.shared_books.specs.declared.turns.rule.PassState.{PassState}
 use Rattle.shared_books.specs.Machine.{Machine, taken, given, start, after}
 use Rattle.shared_books.specs.Marks.{mark, others, visits_of, joined}
 use Rattle.shard_book.specs.History.{IsLegal}
@@ -14,10 +14,10 @@ use Rattle.shared_books.proofs.MarkLists.{made_at-caught}
 use Rattle.shared_books.proofs.TurnSteps.{schedule_snoc, after-snoc, word_of, caught_up, took, gave}
 
 -- who has the turn is the holder
-holder_is : (k : Opening) (m : Machine) (s : State (Option Boxed) View) (seat : ℕ) → ShowsMachine k m s → HoldsTurn s seat → m.holder ≡ some seat
+holder_is : (k : Opening) (m : Machine) (s : State (Option Boxed) PassState) (seat : ℕ) → ShowsMachine k m s → HoldsTurn s seat → m.holder ≡ some seat
 holder_is k m s seat r t = ((r.each seat t.0 t.1 t.2).turn t.3).0
 
-shown : (k : Opening) (m : Machine) (s : State (Option Boxed) View) → ShowsMachine k m s → IsShown k m s
+shown : (k : Opening) (m : Machine) (s : State (Option Boxed) PassState) → ShowsMachine k m s → IsShown k m s
 shown k m s r = record {
   even = λ n e. ⊎_elim
       (λ (t : (m.holder ≡ none) × (get_or s.words 0 0 ≡ 2 * m.count)). let w = t.1 in record {

@@ -14,21 +14,21 @@ use Rattle.shard_book.specs.Book.{Book}
 use Rattle.shard_book.specs.History.{IsLegal}
 use Rattle.shared_books.specs.declared.turns.rule.Opening.{Opening}
 use Rattle.shared_books.specs.declared.turns.rule.Mark.{Mark}
-use Rattle.shared_books.specs.declared.turns.rule.View.{View}
+use Rattle.shared_books.specs.declared.turns.rule.PassState.{PassState}
 use Rattle.shared_books.specs.Claims.{all_claims}
 use Rattle.shared_books.specs.Machine.{Machine, Event, taken, given, start, May, next, after, IsSchedule}
 use Rattle.shared_books.specs.Marks.{mark, others, visits_of, joined, made_at, made_from, Apart, Begins, merged}
 use Rattle.shared_books.specs.Turns.{Boxed, book_after, makers, FitsMachine, IsNobody, ShowsMachine, IsTurn}
 use Rattle.shared_books.specs.Views.{view}
-use Rattle.shared_books.specs.inside.Steps.{Seat, nobody, fresh, left_view, both_views, HasSeen, HasTriedTurn, given_back, HasSettled}
+use Rattle.shared_books.specs.inside.Steps.{Seat, nobody, fresh, left_view, both_views, HasSeen, HasTriedTurn, given_back, HasEndedJoin}
 use Rattle.shared_books.proofs.Changed.{sum_set, sum_part, sum_only, at_less}
 use Rattle.shared_books.proofs.ClaimSteps.{claims_set, claims_split, claims_join, claims_most, others_spent}
 use Rattle.shared_books.proofs.MarkLists.{visits-caught, visits-append, visits-others, length-visits, joined-snoc, drop_all, made_at-others, made_at-caught, made_at-here, made_at-else, made_at-beyond, made_at-merged, made_many, begins_merged, begins_either, begins_whole, begins_shorter}
 
 abbrev S : Type 0
-S = State (Option Boxed) View
+S = State (Option Boxed) PassState
 
-acts : (v : View) → v.live ≡ true → IsNobody v → ⊥
+acts : (v : PassState) → v.live ≡ true → IsNobody v → ⊥
 acts v live gone = true≢false (sym live ∙ gone.0)
 
 -- the schedule and the machine, one event longer
@@ -49,8 +49,8 @@ pub word_of : (k : Opening) (m : Machine) (s : S) → ShowsMachine k m s → ((m
 word_of k m s r = ⊎_elim (λ e. inl (e, (r.free e).0)) (λ t. inr (t.0, t.1, (r.held t.0 t.1).0)) (holder_of m.holder)
 
 -- whoever has the turn has it still, where the one view that changed kept its own
-turn_set : (views : List View) (id : ℕ) (v w : View) (seat : ℕ) → get_elem? views id ≡ some v → w.live ≡ true → w.turn ≡ v.turn
-    → (u : View) × (get_elem? views seat ≡ some u) × (u.live ≡ true) × (u.turn ≡ true) → (u : View) × (get_elem? (set views id w) seat ≡ some u) × (u.live ≡ true) × (u.turn ≡ true)
+turn_set : (views : List PassState) (id : ℕ) (v w : PassState) (seat : ℕ) → get_elem? views id ≡ some v → w.live ≡ true → w.turn ≡ v.turn
+    → (u : PassState) × (get_elem? views seat ≡ some u) × (u.live ≡ true) × (u.turn ≡ true) → (u : PassState) × (get_elem? (set views id w) seat ≡ some u) × (u.live ≡ true) × (u.turn ≡ true)
 turn_set views id v w seat at live same t = dite (ℕ_discrete seat id)
     (λ e.
     let here : get_elem? views id ≡ some t.0 = subst (λ j. get_elem? views j ≡ some t.0) e t.1 in
@@ -59,7 +59,7 @@ turn_set views id v w seat at live same t = dite (ℕ_discrete seat id)
     (λ ne. (t.0, set_else views id seat w ne ∙ t.1, t.2, t.3))
 
 -- where one view changes, and not the visits that it made
-seen_set : (k : Opening) (m : Machine) (s : S) (id : ℕ) (v : View) (marks met : List Mark) → ShowsMachine k m s → get_elem? s.views id ≡ some v → v.live ≡ true
+seen_set : (k : Opening) (m : Machine) (s : S) (id : ℕ) (v : PassState) (marks met : List Mark) → ShowsMachine k m s → get_elem? s.views id ≡ some v → v.live ≡ true
     → Begins (visits_of marks) m.visits → Begins (visits_of met) m.visits → (v.turn ≡ true → visits_of marks ≡ m.visits)
     → ((i : ℕ) → made_at i marks + made_at i met ≡ made_at i v.marks + made_at i v.met)
     → ShowsMachine k m record { words = s.words; homes = s.homes; views = set s.views id (view v.opened v.claims v.turn marks met) }
@@ -76,7 +76,7 @@ seen_set k m s id v marks met r at live seen other turn counts =
       held = λ seat h. (let p = r.held seat h in (p.0, p.1, turn_set s.views id v w seat at refl refl p.2));
       legal = r.legal;
       each = λ j u e l. ⊎_elim
-          (λ (t : (j ≡ id) × (w ≡ u)). subst (λ (z : View). FitsMachine k m j z) t.1 (subst (λ i. FitsMachine k m i w) (sym t.0) fits))
+          (λ (t : (j ≡ id) × (w ≡ u)). subst (λ (z : PassState). FitsMachine k m j z) t.1 (subst (λ i. FitsMachine k m i w) (sym t.0) fits))
           (λ (t : (j ≢ id) × (get_elem? s.views j ≡ some u)). r.each j u t.1 l)
           (at_set s.views id j w u e);
       once = λ i lt. same i ∙ r.once i lt;
@@ -85,13 +85,13 @@ seen_set k m s id v marks met r at live seen other turn counts =
     }
 
 -- a pass that has seen what is counted
-pub record CaughtUp (k : Opening) (m : Machine) (v : View) : Type 0 where
+pub record CaughtUp (k : Opening) (m : Machine) (v : PassState) : Type 0 where
   pub more : List (List Entry)
   pub all : visits_of (v.marks ++ others more) ≡ m.visits
   pub number : v.opened.first + length (v.marks ++ others more) ≡ m.count
   pub legal : IsLegal v.opened.book.value.table (joined (visits_of (v.marks ++ others more)))
 
-pub caught_up : (k : Opening) (m : Machine) (s : S) (id : ℕ) (v : View) → ShowsMachine k m s → FitsMachine k m id v → CaughtUp k m v
+pub caught_up : (k : Opening) (m : Machine) (s : S) (id : ℕ) (v : PassState) → ShowsMachine k m s → FitsMachine k m id v → CaughtUp k m v
 caught_up k m s id v r f =
     let more = f.seen.0 in
     let marks : List Mark = v.marks ++ others more in
@@ -113,7 +113,7 @@ pub looks : (k : Opening) (slots id : ℕ) (me : Seat) → me.0.live ≡ true
     → Allows (IsTurn k) slots id me 0 (λ n. n) (λ n w. HasSeen me n w)
 looks k slots id me live s r count at fits =
     let m : Machine = after (start k.first) r.events in
-    let v : View = me.0 in
+    let v : PassState = me.0 in
     let sh = r.shows in
     let f = sh.each id v at live in
     let c = caught_up k m s id v sh f in
@@ -139,7 +139,7 @@ looks k slots id me live s r count at fits =
     )
 
 -- the turn is taken
-pub took : (k : Opening) (m : Machine) (s : S) (id : ℕ) (v : View) (marks : List Mark) → ShowsMachine k m s → get_elem? s.views id ≡ some v → v.live ≡ true → m.holder ≡ none
+pub took : (k : Opening) (m : Machine) (s : S) (id : ℕ) (v : PassState) (marks : List Mark) → ShowsMachine k m s → get_elem? s.views id ≡ some v → v.live ≡ true → m.holder ≡ none
     → visits_of marks ≡ m.visits → get_or s.words 0 0 < 2 ^ 63 → ((i : ℕ) → made_at i marks ≡ made_at i v.marks)
     → ShowsMachine k (next m (taken id)) record { words = set s.words 0 (get_or s.words 0 0 + 1); homes = set s.homes 0 none; views = set s.views id (view v.opened v.claims true marks v.met) }
 took k m s id v marks r at live nobody_has all few counts =
@@ -161,7 +161,7 @@ took k m s id v marks r at live nobody_has all few counts =
       ));
       legal = r.legal;
       each = λ j u e l. ⊎_elim
-          (λ (t : (j ≡ id) × (w ≡ u)). subst (λ (z : View). FitsMachine k (next m (taken id)) j z) t.1 record { opened = f.opened; seen = ([], sym all ∙ sym (append-nil (visits_of marks))); met = f.met; turn = λ _. (ap some (sym t.0), all) })
+          (λ (t : (j ≡ id) × (w ≡ u)). subst (λ (z : PassState). FitsMachine k (next m (taken id)) j z) t.1 record { opened = f.opened; seen = ([], sym all ∙ sym (append-nil (visits_of marks))); met = f.met; turn = λ _. (ap some (sym t.0), all) })
           (λ (t : (j ≢ id) × (get_elem? s.views j ≡ some u)). let g = r.each j u t.1 l in record { opened = g.opened; seen = g.seen; met = g.met; turn = λ on. absurd (some-ne-none j (sym (g.turn on).0 ∙ nobody_has)) })
           (at_set s.views id j w u e);
       once = λ i lt. same i ∙ r.once i lt;
@@ -175,7 +175,7 @@ pub takes_turn : (k : Opening) (slots id : ℕ) (me : Seat) (old half : ℕ) →
 takes_turn k slots id me old half live off even few s r count at fits = dite (ℕ_discrete (get_or s.words 0 0) old)
     (λ e.
     let m : Machine = after (start k.first) r.events in
-    let v : View = me.0 in
+    let v : PassState = me.0 in
     let sh = r.shows in
     let f = sh.each id v at live in
     let c = caught_up k m s id v sh f in
@@ -212,7 +212,7 @@ takes_turn k slots id me old half live off even few s r count at fits = dite (�
     ))
 
 -- the turn is given back with a visit
-pub gave : (k : Opening) (m : Machine) (s : S) (id : ℕ) (v : View) (visit : List Entry) (b : Boxed) → ShowsMachine k m s → get_elem? s.views id ≡ some v → v.live ≡ true → m.holder ≡ some id
+pub gave : (k : Opening) (m : Machine) (s : S) (id : ℕ) (v : PassState) (visit : List Entry) (b : Boxed) → ShowsMachine k m s → get_elem? s.views id ≡ some v → v.live ≡ true → m.holder ≡ some id
     → visits_of v.marks ≡ m.visits → m.count < 2 ^ 62 → b.value ≡ book_after k (m.visits ++ visit ∷ []) → IsLegal k.book.value.table (joined (m.visits ++ visit ∷ []))
     → ShowsMachine k (next m (given id visit)) record { words = set s.words 0 (2 * m.count + 2); homes = set s.homes 0 (some (Some b)); views = set s.views id (view v.opened v.claims false (v.marks ++ mark true visit ∷ []) v.met) }
 gave k m s id v visit b r at live holds all few book legal =
@@ -234,7 +234,7 @@ gave k m s id v visit b r at live holds all few book legal =
       held = λ seat e. absurd (some-ne-none seat (sym e));
       legal = legal;
       each = λ j u e l. ⊎_elim
-          (λ (t : (j ≡ id) × (w ≡ u)). subst (λ (z : View). FitsMachine k (next m (given id visit)) j z) t.1
+          (λ (t : (j ≡ id) × (w ≡ u)). subst (λ (z : PassState). FitsMachine k (next m (given id visit)) j z) t.1
           record { opened = f.opened; seen = subst (λ vs. Begins (visits_of marks) vs) now (begins_itself (visits_of marks)); met = longer_begins (visits_of v.met) f.met; turn = λ on. absurd (true≢false (sym on)) })
           (λ (t : (j ≢ id) × (get_elem? s.views j ≡ some u)). let g = r.each j u t.1 l in
           record { opened = g.opened; seen = longer_begins (visits_of u.marks) g.seen; met = longer_begins (visits_of u.met) g.met; turn = λ on. absurd (t.0 (some-injective j id (sym (g.turn on).0 ∙ holds))) })
@@ -246,7 +246,7 @@ gave k m s id v visit b r at live holds all few book legal =
       claims = claims_set (λ u. u.claims) IsNobody s.views id v w at refl (acts v live) r.claims;
     }
 
-pub gives_turn : (k : Opening) (slots id : ℕ) (v : View) (b : Boxed) (visit : List Entry) (new : ℕ) → v.live ≡ true → v.turn ≡ true → new ≡ 2 * (v.opened.first + length v.marks) + 2 → v.opened.first + length v.marks < 2 ^ 62
+pub gives_turn : (k : Opening) (slots id : ℕ) (v : PassState) (b : Boxed) (visit : List Entry) (new : ℕ) → v.live ≡ true → v.turn ≡ true → new ≡ 2 * (v.opened.first + length v.marks) + 2 → v.opened.first + length v.marks < 2 ^ 62
     → b.value ≡ book_after v.opened (visits_of v.marks ++ visit ∷ []) → IsLegal v.opened.book.value.table (joined (visits_of v.marks ++ visit ∷ []))
     → Allows (IsTurn k) slots id (v, (0, Some b) ∷ []) 0 (λ _. new) (λ _ after. after ≡ given_back (v, (0, Some b) ∷ []))
 gives_turn k slots id v b visit new live on is few book legal s r count at fits =
@@ -275,7 +275,7 @@ gives_turn k slots id v b visit new live on is few book legal s r count at fits 
     )
 
 -- a new pass
-pub parts : (k : Opening) (id : ℕ) (v : View) → v.live ≡ true → Splits (IsTurn k) id v (left_view v) (fresh v)
+pub parts : (k : Opening) (id : ℕ) (v : PassState) → v.live ≡ true → Splits (IsTurn k) id v (left_view v) (fresh v)
 parts k id v live s r at =
     let m : Machine = after (start k.first) r.events in
     let sh = r.shows in
@@ -306,10 +306,10 @@ parts k id v live s r at =
         legal = sh.legal;
         each = λ j u e alive. ⊎_elim
             (λ (here : get_elem? (set s.views id l) j ≡ some u). ⊎_elim
-            (λ (t : (j ≡ id) × (l ≡ u)). subst (λ (z : View). FitsMachine k m j z) t.1 (subst (λ i. FitsMachine k m i l) (sym t.0) old))
+            (λ (t : (j ≡ id) × (l ≡ u)). subst (λ (z : PassState). FitsMachine k m j z) t.1 (subst (λ i. FitsMachine k m i l) (sym t.0) old))
             (λ (t : (j ≢ id) × (get_elem? s.views j ≡ some u)). sh.each j u t.1 alive)
             (at_set s.views id j l u here))
-            (λ (t : w ≡ u). subst (λ (z : View). FitsMachine k m j z) t (new j))
+            (λ (t : w ≡ u). subst (λ (z : PassState). FitsMachine k m j z) t (new j))
             (at_snoc (set s.views id l) w u j e);
         once = λ i lt. sum i ∙ sh.once i lt;
         no_other = λ i ge. sum i ∙ sh.no_other i ge;
@@ -318,7 +318,7 @@ parts k id v live s r at =
     }
 
 -- one pass takes over what another has
-pub meets : (k : Opening) (id : ℕ) (v : View) (other : ℕ) (u : View) → v.live ≡ true → u.live ≡ true → v.met ≡ [] → u.met ≡ [] → u.turn ≡ false → Joins (IsTurn k) id v other u (both_views v u) nobody
+pub meets : (k : Opening) (id : ℕ) (v : PassState) (other : ℕ) (u : PassState) → v.live ≡ true → u.live ≡ true → v.met ≡ [] → u.met ≡ [] → u.turn ≡ false → Joins (IsTurn k) id v other u (both_views v u) nobody
 meets k id v other u live lives met met_too off s r at apart there =
     let m : Machine = after (start k.first) r.events in
     let sh = r.shows in
@@ -351,7 +351,7 @@ meets k id v other u live lives met met_too off s r at apart there =
         each = λ j z e l. ⊎_elim
             (λ (t : (j ≡ other) × (nobody ≡ z)). absurd (true≢false (sym l ∙ ap (λ y. y.live) (sym t.1))))
             (λ (t : (j ≢ other) × (get_elem? (set s.views id w) j ≡ some z)). ⊎_elim
-            (λ (q : (j ≡ id) × (w ≡ z)). subst (λ (y : View). FitsMachine k m j y) q.1 (subst (λ i. FitsMachine k m i w) (sym q.0) fits))
+            (λ (q : (j ≡ id) × (w ≡ z)). subst (λ (y : PassState). FitsMachine k m j y) q.1 (subst (λ i. FitsMachine k m i w) (sym q.0) fits))
             (λ (q : (j ≢ id) × (get_elem? s.views j ≡ some z)). sh.each j z q.1 l)
             (at_set s.views id j w z t.1))
             (at_set (set s.views id w) other j nobody z e);
@@ -362,7 +362,7 @@ meets k id v other u live lives met met_too off s r at apart there =
     }
 
 -- no visit has two makers
-apart_of : (k : Opening) (m : Machine) (s : S) (id : ℕ) (v : View) → ShowsMachine k m s → get_elem? s.views id ≡ some v → Apart v.marks v.met
+apart_of : (k : Opening) (m : Machine) (s : S) (id : ℕ) (v : PassState) → ShowsMachine k m s → get_elem? s.views id ≡ some v → Apart v.marks v.met
 apart_of k m s id v r at i =
     let part = sum_part (λ u. made_at i u.marks + made_at i u.met) s.views id v at in
     dite (dec_le (length m.visits) i)
@@ -371,10 +371,10 @@ apart_of k m s id v r at i =
 
 -- the look that ends a join
 pub settles : (k : Opening) (slots id : ℕ) (me : Seat) → me.0.live ≡ true → me.0.turn ≡ false
-    → Allows (IsTurn k) slots id me 0 (λ n. n) (λ _ w. HasSettled me w)
+    → Allows (IsTurn k) slots id me 0 (λ n. n) (λ _ w. HasEndedJoin me w)
 settles k slots id me live off s r count at fits =
     let m : Machine = after (start k.first) r.events in
-    let v : View = me.0 in
+    let v : PassState = me.0 in
     let sh = r.shows in
     let f = sh.each id v at live in
     let apart = apart_of k m s id v sh at in
@@ -434,16 +434,16 @@ opens first o b x holds is book empty legal small =
       };
     }
   where
-    some_claim : (o : Opening) (j : ℕ) (u : View) → get_elem? (view o all_claims false [] [] ∷ []) j ≡ some u → u.claims ≡ 0 → ⊥
-    some_claim o zero u e gone = let same = ap (λ (z : View). z.claims) (some-injective _ u e) in omega arith
+    some_claim : (o : Opening) (j : ℕ) (u : PassState) → get_elem? (view o all_claims false [] [] ∷ []) j ≡ some u → u.claims ≡ 0 → ⊥
+    some_claim o zero u e gone = let same = ap (λ (z : PassState). z.claims) (some-injective _ u e) in omega arith
     some_claim o (suc j) u e gone = some-ne-none u (sym e)
 
-    first_view : (o : Opening) (j : ℕ) (u : View) → get_elem? (view o all_claims false [] [] ∷ []) j ≡ some u → FitsMachine o (start o.first) j u
-    first_view o zero u e = subst (λ (z : View). FitsMachine o (start o.first) 0 z) (some-injective _ u e) record { opened = refl; seen = ([], refl); met = ([], refl); turn = λ on. absurd (true≢false (sym on)) }
+    first_view : (o : Opening) (j : ℕ) (u : PassState) → get_elem? (view o all_claims false [] [] ∷ []) j ≡ some u → FitsMachine o (start o.first) j u
+    first_view o zero u e = subst (λ (z : PassState). FitsMachine o (start o.first) 0 z) (some-injective _ u e) record { opened = refl; seen = ([], refl); met = ([], refl); turn = λ on. absurd (true≢false (sym on)) }
     first_view o (suc j) u e = absurd (some-ne-none u (sym e))
 
 -- what the closing shows of a pass: the visits that it has seen are among those kept, and where these are not more the book of them is there
-pub record Closes (k : Opening) (v : View) (word : ℕ) (slot : Option Boxed) : Type 0 where
+pub record Closes (k : Opening) (v : PassState) (word : ℕ) (slot : Option Boxed) : Type 0 where
   pub opened : v.opened ≡ k
   pub seen : k.first + length v.marks ≤ word / 2 + word % 2
   pub whole : word / 2 + word % 2 ≤ k.first + length v.marks → (b : Boxed) × (slot ≡ Some b) × (b.value ≡ book_after k (visits_of v.marks))
@@ -461,7 +461,7 @@ first_word [] n e = absurd (some-ne-none n (sym e))
 first_word (u ∷ us) n e = some-injective u n e
 
 -- who has all claims has the turn, where somebody has it
-nobody_else : (k : Opening) (m : Machine) (s : S) (id : ℕ) (v : View) → ShowsMachine k m s → get_elem? s.views id ≡ some v → v.turn ≡ false → all_claims ≤ v.claims → (seat : ℕ) → m.holder ≡ some seat → ⊥
+nobody_else : (k : Opening) (m : Machine) (s : S) (id : ℕ) (v : PassState) → ShowsMachine k m s → get_elem? s.views id ≡ some v → v.turn ≡ false → all_claims ≤ v.claims → (seat : ℕ) → m.holder ≡ some seat → ⊥
 nobody_else k m s id v r at off whole seat holds =
     let t = (r.held seat holds).2 in
     dite (ℕ_discrete seat id)
@@ -472,9 +472,9 @@ nobody_else k m s id v r at off whole seat holds =
     (λ ne. true≢false (sym t.2 ∙ (others_spent (λ u. u.claims) IsNobody s.views id v at whole r.claims seat t.0 ne t.1).0))
 
 -- and has made all visits
-made_each : (k : Opening) (m : Machine) (s : S) (id : ℕ) (v : View) → ShowsMachine k m s → get_elem? s.views id ≡ some v → v.met ≡ [] → all_claims ≤ v.claims → (i : ℕ) → i < length m.visits → made_at i v.marks ≡ 1
+made_each : (k : Opening) (m : Machine) (s : S) (id : ℕ) (v : PassState) → ShowsMachine k m s → get_elem? s.views id ≡ some v → v.met ≡ [] → all_claims ≤ v.claims → (i : ℕ) → i < length m.visits → made_at i v.marks ≡ 1
 made_each k m s id v r at met whole i lt =
-    let nothing : (j : ℕ) (u : View) → j ≢ id → get_elem? s.views j ≡ some u → made_at i u.marks + made_at i u.met ≡ 0 =
+    let nothing : (j : ℕ) (u : PassState) → j ≢ id → get_elem? s.views j ≡ some u → made_at i u.marks + made_at i u.met ≡ 0 =
     λ j u ne there. (
     let gone = others_spent (λ z. z.claims) IsNobody s.views id v at whole r.claims j u ne there in
     let marks : made_at i u.marks ≡ 0 = ap (λ (ms : List Mark). made_at i ms) gone.1 in
@@ -485,7 +485,7 @@ made_each k m s id v r at met whole i lt =
     let one = r.once i lt in
     omega arith
 
-pub closes : (k : Opening) (id : ℕ) (v : View) (ws : List ℕ) (xs : List (Option Boxed)) (word : ℕ) (slot : Option Boxed) → Final (Seen (IsTurn k) id v) ws xs → get_elem? ws 0 ≡ some word → get_elem? xs 0 ≡ some slot → v.live ≡ true → v.turn ≡ false → v.met ≡ [] → Closes k v word slot
+pub closes : (k : Opening) (id : ℕ) (v : PassState) (ws : List ℕ) (xs : List (Option Boxed)) (word : ℕ) (slot : Option Boxed) → Final (Seen (IsTurn k) id v) ws xs → get_elem? ws 0 ≡ some word → get_elem? xs 0 ≡ some slot → v.live ≡ true → v.turn ≡ false → v.met ≡ [] → Closes k v word slot
 closes k id v ws xs word slot final at home live off met =
     let s = final.0 in
     let r = final.1.0 in

@@ -7,7 +7,7 @@ use Rattle.atomic_table.specs.Table.{State}
 use Rattle.shard_book.specs.History.{IsLegal}
 use Rattle.shard_book.specs.declared.entry.Entry.{Entry}
 use Rattle.shared_books.specs.declared.turns.rule.Opening.{Opening}
-use Rattle.shared_books.specs.declared.turns.rule.View.{View}
+use Rattle.shared_books.specs.declared.turns.rule.PassState.{PassState}
 use Rattle.shared_books.specs.Machine.{Machine, Event, taken, given, start, after, IsSchedule}
 use Rattle.shared_books.specs.Marks.{mark, others, visits_of, joined, Begins}
 use Rattle.shared_books.specs.Turns.{Boxed, book_after, HasBook, HoldsTurn, IsTurn}
@@ -15,7 +15,7 @@ use Rattle.shared_books.specs.Views.{view}
 
 -- the word is even: so many visits are counted, nobody has the turn, and the book of all visits is
 -- in the slot
-pub record ShowsFree (k : Opening) (m : Machine) (s : State (Option Boxed) View) (count : ℕ)
+pub record ShowsFree (k : Opening) (m : Machine) (s : State (Option Boxed) PassState) (count : ℕ)
     : Type 0 where
   pub count_is : m.count ≡ count
   pub no_holder : m.holder ≡ none
@@ -23,7 +23,7 @@ pub record ShowsFree (k : Opening) (m : Machine) (s : State (Option Boxed) View)
   pub book : HasBook k m.visits s
 
 -- the word is odd: one seat has the turn and no other, and the slot is that seat's alone
-pub record ShowsHeld (m : Machine) (s : State (Option Boxed) View) (count : ℕ) : Type 0 where
+pub record ShowsHeld (m : Machine) (s : State (Option Boxed) PassState) (count : ℕ) : Type 0 where
   pub seat : ℕ
   pub count_is : m.count ≡ count
   pub holder : m.holder ≡ some seat
@@ -33,28 +33,28 @@ pub record ShowsHeld (m : Machine) (s : State (Option Boxed) View) (count : ℕ)
 
 -- word, slot and views show this state of the machine; each pass has seen a beginning of its
 -- visits, and their history is legal
-pub record IsShown (k : Opening) (m : Machine) (s : State (Option Boxed) View) : Type 0 where
+pub record IsShown (k : Opening) (m : Machine) (s : State (Option Boxed) PassState) : Type 0 where
   pub even : (n : ℕ) → slice_index s.words 0 ≡ 2 * n → ShowsFree k m s n
   pub odd : (n : ℕ) → slice_index s.words 0 ≡ 2 * n + 1 → ShowsHeld m s n
   pub count : m.count ≡ k.first + length m.visits
-  pub seen : (seat : ℕ) (v : View) → get_elem? s.views seat ≡ some v → v.live ≡ true
+  pub seen : (seat : ℕ) (v : PassState) → get_elem? s.views seat ≡ some v → v.live ≡ true
       → Begins (visits_of v.marks) m.visits
   pub legal : IsLegal k.book.value.table (joined m.visits)
 
 -- the state is one that a schedule of takes and gives reaches
-pub record IsReached (k : Opening) (s : State (Option Boxed) View) : Type 0 where
+pub record IsReached (k : Opening) (s : State (Option Boxed) PassState) : Type 0 where
   pub events : List Event
   pub schedule : IsSchedule (start k.first) events
   pub shown : IsShown k (after (start k.first) events) s
 
 -- the law of the rule
 abbrev pub StepsAreEvents : Type 0
-StepsAreEvents = (k : Opening) (s : State (Option Boxed) View) → IsTurn k s → IsReached k s
+StepsAreEvents = (k : Opening) (s : State (Option Boxed) PassState) → IsTurn k s → IsReached k s
 
 -- the state after a seat took the turn: the word is one more, the slot is empty, and the seat has
 -- seen the visits between
-abbrev pub taken_by : State (Option Boxed) View → ℕ → View → List (List Entry)
-    → State (Option Boxed) View
+abbrev pub taken_by : State (Option Boxed) PassState → ℕ → PassState → List (List Entry)
+    → State (Option Boxed) PassState
 taken_by s seat v between = record {
   words = slice_set s.words 0 (slice_index s.words 0 + 1);
   homes = slice_set s.homes 0 none;
@@ -63,8 +63,8 @@ taken_by s seat v between = record {
 
 -- the state after a seat gave the turn back with a visit: the word is one more, and the book is in
 -- the slot
-abbrev pub given_back_by : State (Option Boxed) View → ℕ → View → List Entry → Boxed
-    → State (Option Boxed) View
+abbrev pub given_back_by : State (Option Boxed) PassState → ℕ → PassState → List Entry → Boxed
+    → State (Option Boxed) PassState
 given_back_by s seat v visit book = record {
   words = slice_set s.words 0 (slice_index s.words 0 + 1);
   homes = slice_set s.homes 0 (some (Some book));
@@ -75,7 +75,7 @@ given_back_by s seat v visit book = record {
 -- a take at an even word is the event of its seat
 abbrev pub TakesAreEvents : Type 0
 TakesAreEvents =
-    (k : Opening) (s : State (Option Boxed) View) (seat : ℕ) (v : View) (t : IsTurn k s)
+    (k : Opening) (s : State (Option Boxed) PassState) (seat : ℕ) (v : PassState) (t : IsTurn k s)
     → get_elem? s.views seat ≡ some v → v.live ≡ true
     → (n : ℕ) → slice_index s.words 0 ≡ 2 * n → n < 2 ^ 62
     → (between : List (List Entry)) × (u : IsTurn k (taken_by s seat v between))
@@ -85,7 +85,7 @@ TakesAreEvents =
 -- and visit
 abbrev pub GivesAreEvents : Type 0
 GivesAreEvents =
-    (k : Opening) (s : State (Option Boxed) View) (seat : ℕ) (v : View) (t : IsTurn k s)
+    (k : Opening) (s : State (Option Boxed) PassState) (seat : ℕ) (v : PassState) (t : IsTurn k s)
     → get_elem? s.views seat ≡ some v → v.live ≡ true → v.turn ≡ true
     → (visit : List Entry) (book : Boxed)
     → book.value ≡ book_after k (visits_of v.marks ++ visit ∷ [])

@@ -2,9 +2,9 @@
 use Rattle.std.specs.Prelude.{ℕ, Bool, true, List}
 use Rattle.shared_books.specs.declared.turns.rule.Opening.{Opening}
 use Rattle.shared_books.specs.declared.turns.rule.Mark.{Mark}
-use Rattle.shared_books.specs.declared.turns.rule.View.{View}
+use Rattle.shared_books.specs.declared.turns.rule.PassState.{PassState}
 
 -- what a pass knows while it lives
-abbrev pub view : Opening → ℕ → Bool → List Mark → List Mark → View
+abbrev pub view : Opening → ℕ → Bool → List Mark → List Mark → PassState
 view o claims turn marks met =
     record { live = true; opened = o; claims = claims; turn = turn; marks = marks; met = met }

@@ -1,5 +1,5 @@
 //! Drawing: each upload's number is drawn once, by whoever comes first, and nobody waits.
-use crate::drawing::rule::{DrawRule, Draws, Hand, Looks, Meets, Parts};
+use crate::drawing::rule::{ClaimSplit, DrawRule, DrawerState, Draws, Looks, Meets};
 use atomic_table::{Seat, Table};
 use fare_table::NoMemory;
 use std::alloc::Global;
@@ -13,7 +13,7 @@ mod rule;
 #[derive(Drop)]
 pub struct Draw {
     /// The word that counts the drawn numbers, and all drawers' seats.
-    table: Table<(), Hand, u32, DrawRule, Global>,
+    table: Table<(), DrawerState, u32, DrawRule, Global>,
     /// How many numbers there are.
     numbers: u32,
 }
@@ -35,7 +35,7 @@ impl Model for Draw {
 #[derive(Drop)]
 pub struct Drawer {
     /// The drawer's seat, which has what it drew.
-    seat: Seat<(), Hand>,
+    seat: Seat<(), DrawerState>,
     /// How many numbers it drew.
     held: u32,
     /// Up to which number it has seen the numbers drawn.
@@ -82,7 +82,7 @@ impl Draw {
         ensures drawer { IfOk result (λ r. r.1
             ≡ record { source = r.0; claims = all_claims; seen = 0; drawn = [] }) }
     {
-        let (table, seat) = Table::<(), Hand, u32, DrawRule, Global>::of_words(
+        let (table, seat) = Table::<(), DrawerState, u32, DrawRule, Global>::of_words(
             alloc,
             &[0],
             &numbers,
@@ -135,7 +135,7 @@ impl Draw {
         ensures old { drawer.new
             ≡ record drawer.old { claims = claims_left drawer.old.claims } }
     {
-        let seat = self.table.shared.split_seat::<Parts>(&mut drawer.seat);
+        let seat = self.table.shared.split_seat::<ClaimSplit>(&mut drawer.seat);
         Ok(Drawer {
             seat,
             held: 0,

@@ -2,7 +2,7 @@
 //! steps.
 ghost use Rattle.shared_books.specs.Events.{StepsAreEvents, TakesAreEvents, GivesAreEvents};
 
-pub use crate::turns::rule::{Mark, Opening, TurnRule, View};
+pub use crate::turns::rule::{Mark, Opening, PassState, TurnRule};
 
 /// Steps are events: whatever states the rule allows, word, slot and all passes' views show a state
 /// of the turn machine that some schedule of takes and gives reaches. At an even word the book of

@@ -1,7 +1,7 @@
 //! Turns at a shard's book: a pass takes the turn, changes the book, and gives both back with its
 //! visit.
 
-use crate::turns::rule::{Opening, Slot, TurnRule, View};
+use crate::turns::rule::{Opening, PassState, Slot, TurnRule};
 use atomic_table::{Seat, Table};
 use std::alloc::Global;
 use std::marker::Model;
@@ -21,7 +21,7 @@ mod word;
 #[derive(Drop)]
 pub struct SharedBook {
     /// The word, and the slot with the book.
-    table: Table<Slot, View, Opening, TurnRule, Global>,
+    table: Table<Slot, PassState, Opening, TurnRule, Global>,
     /// The number of the first visit.
     first: u64,
     /// Whether a visit may be asleep for which no wake is under way.
@@ -48,7 +48,7 @@ impl Model for SharedBook {
 #[derive(Drop)]
 pub struct Pass {
     /// The pass's seat at the book's table, which has what the pass saw and did.
-    seat: Seat<Slot, View>,
+    seat: Seat<Slot, PassState>,
     /// How many visits the pass made.
     held: u64,
     /// The number of the pass's next visit, where nobody visits in between. Only time rests on it.

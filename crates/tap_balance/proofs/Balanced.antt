@@ -8,23 +8,23 @@ use Rattle.std.specs.List.Sorted.{IsPermutation}
 use Rattle.std.specs.Ordering.{is_eq}
 use Rattle.tap_views.specs.declared.encoder.TapFields.{TapFields}
 use Rattle.tap_balance.specs.Balances.{key_cmp, key_of, left_at, copies_among}
-use Rattle.tap_balance.specs.declared.balance.Key.{Key}
+use Rattle.tap_balance.specs.declared.balance.TapKey.{TapKey}
 use Rattle.tap_balance.proofs.Keys.{key_exact}
 use Rattle.tap_balance.proofs.Times.{one, one_self, permutation_of_times, times_push}
 
 -- IsBalance, of a balance's two fields
-abbrev pub Balances : BTreeMap Key ℕ → Option TapFields → List TapFields → List TapFields → Type 0
+abbrev pub Balances : BTreeMap TapKey ℕ → Option TapFields → List TapFields → List TapFields → Type 0
 Balances left surplus posted struck =
     MatchOption surplus ((tap : TapFields)
     → copies_among tap posted ≡ left_at left (key_of tap) + copies_among tap struck)
     (λ tap. copies_among tap posted < copies_among tap struck)
 
 -- in the one map one more is left of the tap than in the other
-abbrev pub HasOneMore : BTreeMap Key ℕ → BTreeMap Key ℕ → Key → Type 0
+abbrev pub HasOneMore : BTreeMap TapKey ℕ → BTreeMap TapKey ℕ → TapKey → Type 0
 HasOneMore more less key =
-    (other : Key) → left_at more other ≡ left_at less other + cond (is_eq (key_cmp key other)) 1 0
+    (other : TapKey) → left_at more other ≡ left_at less other + cond (is_eq (key_cmp key other)) 1 0
 
-pub added : (old new : BTreeMap Key ℕ) (surplus : Option TapFields) (posted : List TapFields)
+pub added : (old new : BTreeMap TapKey ℕ) (surplus : Option TapFields) (posted : List TapFields)
     (tap : TapFields) → HasOneMore new old (key_of tap)
     → Balances old surplus posted [] → Balances new surplus (posted ++ tap ∷ []) []
 added old new None posted tap more is = λ t.
@@ -34,7 +34,7 @@ added old new None posted tap more is = λ t.
     omega (arith, push, here, before)
 added old new (Some s) posted tap more is = absurd (omega (arith, is))
 
-pub struck_out : (old new : BTreeMap Key ℕ) (posted struck : List TapFields) (tap : TapFields)
+pub struck_out : (old new : BTreeMap TapKey ℕ) (posted struck : List TapFields) (tap : TapFields)
     → HasOneMore old new (key_of tap)
     → Balances old None posted struck → Balances new None posted (struck ++ tap ∷ [])
 struck_out old new posted struck tap more is = λ t.
@@ -43,7 +43,7 @@ struck_out old new posted struck tap more is = λ t.
     let before = is t in
     omega (arith, push, here, before)
 
-pub none_left : (left : BTreeMap Key ℕ) (posted struck : List TapFields) (tap : TapFields)
+pub none_left : (left : BTreeMap TapKey ℕ) (posted struck : List TapFields) (tap : TapFields)
     → left_at left (key_of tap) ≡ 0
     → Balances left None posted struck → copies_among tap posted < copies_among tap (struck ++ tap ∷ [])
 none_left left posted struck tap none is =
@@ -52,38 +52,38 @@ none_left left posted struck tap none is =
     let before = is tap in
     omega (arith, push, self, before, none)
 
-pub still_more : (left new : BTreeMap Key ℕ) (posted struck : List TapFields) (tap s : TapFields)
+pub still_more : (left new : BTreeMap TapKey ℕ) (posted struck : List TapFields) (tap s : TapFields)
     → Balances left (Some s) posted struck → Balances new (Some s) posted (struck ++ tap ∷ [])
 still_more left new posted struck tap s is =
     let push = times_push s struck tap in
     omega (arith, push, is)
 
-pub all_struck : (left : BTreeMap Key ℕ) (posted struck : List TapFields)
-    → ((key : Key) → left_at left key ≡ 0)
+pub all_struck : (left : BTreeMap TapKey ℕ) (posted struck : List TapFields)
+    → ((key : TapKey) → left_at left key ≡ 0)
     → Balances left None posted struck → IsPermutation posted struck
 all_struck left posted struck none is =
     permutation_of_times posted struck (λ t.
     let here = none (key_of t) in let before = is t in omega (arith, here, before))
 
-pub some_left : (left : BTreeMap Key ℕ) (posted struck : List TapFields) (tap : TapFields)
-    (key : Key) → key_of tap ≡ key → 0 < left_at left key
+pub some_left : (left : BTreeMap TapKey ℕ) (posted struck : List TapFields) (tap : TapFields)
+    (key : TapKey) → key_of tap ≡ key → 0 < left_at left key
     → Balances left None posted struck → copies_among tap struck < copies_among tap posted
 some_left left posted struck tap key same some is =
-    let here = subst (λ (k : Key). 0 < left_at left k) (sym same) some in
+    let here = subst (λ (k : TapKey). 0 < left_at left k) (sym same) some in
     let before = is tap in
     omega (arith, here, before)
 
-pub unfound : (left : BTreeMap Key ℕ) (surplus : Option TapFields) (posted struck : List TapFields)
+pub unfound : (left : BTreeMap TapKey ℕ) (surplus : Option TapFields) (posted struck : List TapFields)
     → is_some surplus ≡ false
     → Balances left surplus posted struck → Balances left None posted struck
 unfound left None posted struck none is = is
 unfound left (Some s) posted struck none is = absurd cc
 
 -- a number was put at the key, or raised by one
-pub one_more : (new old : Key → Option ℕ) (key : Key) (count more : ℕ)
-    → ((q : Key) → new q ≡ cond (is_eq (key_cmp key q)) (Some more) (old q))
+pub one_more : (new old : TapKey → Option ℕ) (key : TapKey) (count more : ℕ)
+    → ((q : TapKey) → new q ≡ cond (is_eq (key_cmp key q)) (Some more) (old q))
     → unwrap_or (old key) 0 ≡ count → more ≡ count + 1
-    → (other : Key) → unwrap_or (new other) 0
+    → (other : TapKey) → unwrap_or (new other) 0
     ≡ unwrap_or (old other) 0 + cond (is_eq (key_cmp key other)) 1 0
 one_more new old key count more up was is other = by_test (is_eq (key_cmp key other)) refl
   where
@@ -94,7 +94,7 @@ one_more new old key count more up was is other = by_test (is_eq (key_cmp key ot
         ap (λ (o : Option ℕ). unwrap_or o 0) (up other
         ∙ ap (λ (b : Bool). cond b (Some more) (old other)) e) in
         let before : unwrap_or (old other) 0 ≡ count =
-        ap (λ (k : Key). unwrap_or (old k) 0) (sym (key_exact key other e)) ∙ was in
+        ap (λ (k : TapKey). unwrap_or (old k) 0) (sym (key_exact key other e)) ∙ was in
         let step : ◌≡◌ {A = ℕ} (cond (is_eq (key_cmp key other)) 1 0) 1 =
         ap (λ (b : Bool). cond b 1 0) e in
         omega (arith, now, before, step, is)
@@ -107,10 +107,10 @@ one_more new old key count more up was is other = by_test (is_eq (key_cmp key ot
         omega (arith, now, step)
 
 -- the number at the key was lowered by one
-pub one_fewer : (new old : Key → Option ℕ) (key : Key) (count less : ℕ)
-    → ((q : Key) → new q ≡ cond (is_eq (key_cmp key q)) (Some less) (old q))
+pub one_fewer : (new old : TapKey → Option ℕ) (key : TapKey) (count less : ℕ)
+    → ((q : TapKey) → new q ≡ cond (is_eq (key_cmp key q)) (Some less) (old q))
     → unwrap_or (old key) 0 ≡ count → count ≡ less + 1
-    → (other : Key) → unwrap_or (old other) 0
+    → (other : TapKey) → unwrap_or (old other) 0
     ≡ unwrap_or (new other) 0 + cond (is_eq (key_cmp key other)) 1 0
 one_fewer new old key count less up was is other = by_test (is_eq (key_cmp key other)) refl
   where
@@ -121,7 +121,7 @@ one_fewer new old key count less up was is other = by_test (is_eq (key_cmp key o
         ap (λ (o : Option ℕ). unwrap_or o 0) (up other
         ∙ ap (λ (b : Bool). cond b (Some less) (old other)) e) in
         let before : unwrap_or (old other) 0 ≡ count =
-        ap (λ (k : Key). unwrap_or (old k) 0) (sym (key_exact key other e)) ∙ was in
+        ap (λ (k : TapKey). unwrap_or (old k) 0) (sym (key_exact key other e)) ∙ was in
         let step : ◌≡◌ {A = ℕ} (cond (is_eq (key_cmp key other)) 1 0) 1 =
         ap (λ (b : Bool). cond b 1 0) e in
         omega (arith, now, before, step, is)

@@ -16,21 +16,21 @@ use Rattle.upload_facts.specs.Facts.{IsReadAs, taps_of_batches}
 use Rattle.tap_balance.specs.declared.balance.Balance.{Balance}
 use Rattle.tap_balance.specs.declared.balance.Difference.{Difference}
 use Rattle.tap_balance.specs.declared.balance.Difference.TheVariants.{Missing, Surplus}
-use Rattle.tap_balance.specs.declared.balance.Key.{Key}
+use Rattle.tap_balance.specs.declared.balance.TapKey.{TapKey}
 
 -- the posted taps of an upload: those of all its batches before its first layout fault, in order
-pub record ArePostedTaps (upload : List ℕ) (taps : List TapFields) : Type 0 where
+pub record AreGoodTaps (upload : List ℕ) (taps : List TapFields) : Type 0 where
   pub batches : List (List Tap)
   pub fault : Option (ℕ × LayoutFault)
   pub read : IsReadAs upload batches fault
   pub all : taps ≡ map fields_of (taps_of_batches batches)
 
 -- what a balance keeps a tap by
-abbrev pub key_of : TapFields → Key
+abbrev pub key_of : TapFields → TapKey
 key_of tap = record { token = tap.token; moment = tap.moment; validator = tap.validator }
 
 -- keys rise by the bytes of the token, then by moment, then by validator
-abbrev pub key_cmp : Key → Key → Ordering
+abbrev pub key_cmp : TapKey → TapKey → Ordering
 key_cmp a b =
     ordering_then (slice_cmp nat_cmp a.token b.token)
     (ordering_then (nat_cmp a.moment b.moment) (nat_cmp a.validator b.validator))
@@ -44,7 +44,7 @@ abbrev pub copies_among : TapFields → List TapFields → ℕ
 copies_among tap taps = count_by (λ other. is_same other tap) taps
 
 -- how many are left of the tap of this key
-abbrev pub left_at : BTreeMap Key ℕ → Key → ℕ
+abbrev pub left_at : BTreeMap TapKey ℕ → TapKey → ℕ
 left_at left key = unwrap_or (tree.get key_cmp left key) 0
 
 -- of each posted tap some were struck out, and so many are left; or a tap is known that was struck

@@ -6,9 +6,9 @@ ghost use Rattle.std.specs.Prelude.{if◌then◌else◌, false, map, true};
 ghost use Rattle.std.specs.Ordering.{is_eq};
 ghost use Rattle.tap_views.specs.Encoding.{fields_of};
 ghost use Rattle.tap_views.specs.declared.encoder.TapFields.{TapFields};
-ghost use Rattle.tap_balance.specs.Balances.{ArePostedTaps, IsBalance, IsDifference, key_cmp};
+ghost use Rattle.tap_balance.specs.Balances.{AreGoodTaps, IsBalance, IsDifference, key_cmp};
 ghost use Rattle.tap_balance.specs.Balances.{key_of, left_at};
-ghost use Rattle.tap_balance.specs.declared.balance.Key.{Key};
+ghost use Rattle.tap_balance.specs.declared.balance.TapKey.{TapKey};
 
 use std::alloc::{AllocError, Global};
 use std::collections::BTreeMap;
@@ -16,7 +16,7 @@ use tap_views::{Batch, TapFields, batches};
 
 /// A tap, in the order in which a balance keeps taps: by token, then by moment, then by validator.
 #[derive(Clone, Copy, PartialEq, Eq, PartialOrd, Ord)]
-struct Key {
+struct TapKey {
     /// The 16 bytes of the token.
     token: [u8; 16],
     /// The moment in milliseconds since 1970-01-01T00:00Z.
@@ -44,10 +44,10 @@ impl Difference {
 }
 
 /// What a balance keeps the tap by.
-fn key_for(tap: &TapFields) -> Key
+fn key_for(tap: &TapFields) -> TapKey
     ensures { result ≡ key_of tap.now }
 {
-    Key {
+    TapKey {
         token: tap.token,
         moment: tap.moment,
         validator: tap.validator,
@@ -55,7 +55,7 @@ fn key_for(tap: &TapFields) -> Key
 }
 
 /// How many are left of the tap of this key.
-fn count_at(left: &BTreeMap<Key, u64>, key: Key) -> u64
+fn count_at(left: &BTreeMap<TapKey, u64>, key: TapKey) -> u64
     ensures { result ≡ left_at left.now key }
 {
     left.get(&key).copied().unwrap_or(0)
@@ -63,8 +63,8 @@ fn count_at(left: &BTreeMap<Key, u64>, key: Key) -> u64
 
 /// One more is left of the tap of this key. Its one error is want of memory; 2^64 of one tap are
 /// taken for that.
-fn put_one(left: &mut BTreeMap<Key, u64>, key: Key) -> Result<(), AllocError>
-    ensures { OnOk result ((other : Key) → left_at left.new other
+fn put_one(left: &mut BTreeMap<TapKey, u64>, key: TapKey) -> Result<(), AllocError>
+    ensures { OnOk result ((other : TapKey) → left_at left.new other
         ≡ left_at left.old other + (if is_eq (key_cmp key other) then 1 else 0)) }
 {
     let count = count_at(left, key);
@@ -76,8 +76,8 @@ fn put_one(left: &mut BTreeMap<Key, u64>, key: Key) -> Result<(), AllocError>
 }
 
 /// One fewer is left of the tap of this key. False where none was left.
-fn take_one(left: &mut BTreeMap<Key, u64>, key: Key) -> bool
-    ensures taken { result ≡ true → (other : Key) → left_at left.old other
+fn take_one(left: &mut BTreeMap<TapKey, u64>, key: TapKey) -> bool
+    ensures taken { result ≡ true → (other : TapKey) → left_at left.old other
         ≡ left_at left.new other + (if is_eq (key_cmp key other) then 1 else 0) }
     ensures none { result ≡ false → left_at left.old key ≡ 0 }
 {
@@ -91,9 +91,9 @@ fn take_one(left: &mut BTreeMap<Key, u64>, key: Key) -> bool
 }
 
 /// The first key of whose tap some are left.
-fn first_left(left: &BTreeMap<Key, u64>) -> Option<Key>
+fn first_left(left: &BTreeMap<TapKey, u64>) -> Option<TapKey>
     ensures found { IfSome result (λ key. 0 < left_at left.now key) }
-    ensures none { IfNone result ((key : Key) → left_at left.now key ≡ 0) }
+    ensures none { IfNone result ((key : TapKey) → left_at left.now key ≡ 0) }
 {
     for (key, count) in left {
         if *count > 0 {
@@ -104,7 +104,7 @@ fn first_left(left: &BTreeMap<Key, u64>) -> Option<Key>
 }
 
 /// The tap of the key.
-fn tap_for(key: &Key) -> TapFields
+fn tap_for(key: &TapKey) -> TapFields
     ensures { key_of result ≡ key.now }
 {
     TapFields {
@@ -118,7 +118,7 @@ fn tap_for(key: &Key) -> TapFields
 #[derive(Drop)]
 pub struct Balance {
     /// How many of each tap are left.
-    left: BTreeMap<Key, u64>,
+    left: BTreeMap<TapKey, u64>,
     /// The first tap that was struck out more often than the uploads have it.
     surplus: Option<TapFields>,
 }
@@ -157,7 +157,7 @@ impl Balance {
     /// added before a tap is struck out. Its one error is want of memory, and after it the balance
     /// is of no use.
     pub fn add_upload(&mut self, upload: &[u8]) -> Result<(), AllocError>
-        ensures { OnOk result ((taps : List TapFields) × ArePostedTaps upload.now taps
+        ensures { OnOk result ((taps : List TapFields) × AreGoodTaps upload.now taps
             × ((posted : List TapFields) → IsBalance self.old posted []
             → IsBalance self.new (posted ++ taps) [])) }
     {

@@ -16,7 +16,7 @@ use Rattle.tap_views.specs.Layout.{Tap}
 use Rattle.tap_parts.specs.Parts.{IsFileOf}
 use Rattle.tap_parts.proofs.Texts.{no_text}
 use Rattle.tap_rows.specs.Rows.{IsRow, IsNoRow}
-use Rattle.tap_rows.specs.Tables.{IsHead, BeginsWithRows, IsTable, IsTableOf, IsRowsFault, IsEncoded, IsOfTable}
+use Rattle.tap_rows.specs.Tables.{IsHead, BeginsWithRows, IsTapTable, IsTableOf, IsRowsFault, IsEncoded, IsOfTable}
 use Rattle.tap_rows.specs.inside.Tables.{IsEncodedAs, IsNextRow}
 use Rattle.tap_rows.specs.declared.column.Column.{Column}
 use Rattle.tap_rows.specs.declared.fault.RowsFault.{RowsFault}
@@ -90,7 +90,7 @@ next_of now new number result other is next = subst (λ r. IfSome now (λ left. 
 
 -- at the end the text is the table of the taps
 pub reached_end : (text : List ℕ) (now new : Option (List ℕ)) (number : ℕ) (taps : List TapFields) → Reached text now taps
-    → IfSome now (λ left. IsNextRow left number new (Ok None)) → IsTable text taps
+    → IfSome now (λ left. IsNextRow left number new (Ok None)) → IsTapTable text taps
 reached_end text now new number taps reached next =
     let none : reached.left ≡ [] = known (λ left. IsNextRow left number new (Ok None)) now reached.left reached.now_is next in
     record { head_line = reached.head_line; rows = subst (λ left. BeginsWithRows (drop_through 10 text) taps left) none reached.rows }
@@ -135,7 +135,7 @@ no_bad_rest text (tap ∷ taps) [] rest column is also some bad =
 no_bad_rest text (tap ∷ taps) (other ∷ before) rest column is also some bad = no_bad_rest (drop_through 10 text) taps before rest column is.1 also.1 some bad
 
 -- a table is not refused by a fault of its own
-pub no_fault : (text : List ℕ) (taps : List TapFields) (fault : RowsFault) → IsTable text taps → IsOfTable fault → ¬ (IsRowsFault text fault)
+pub no_fault : (text : List ℕ) (taps : List TapFields) (fault : RowsFault) → IsTapTable text taps → IsOfTable fault → ¬ (IsRowsFault text fault)
 no_fault text taps Head table own refused = refused table.head_line
 no_fault text taps (Row number column) table own refused =
     no_bad_rest (drop_through 10 text) taps refused.before refused.rest column table.rows refused.rows refused.some refused.wrong

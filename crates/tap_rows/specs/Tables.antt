@@ -33,7 +33,7 @@ BeginsWithRows text (tap ∷ taps) rest =
     IsRow (first_line text) tap × BeginsWithRows (drop_through 10 text) taps rest
 
 -- the text is the table of these taps: the head, then their rows, and nothing else
-pub record IsTable (text : List ℕ) (taps : List TapFields) : Type 0 where
+pub record IsTapTable (text : List ℕ) (taps : List TapFields) : Type 0 where
   pub head_line : IsHead (first_line text)
   pub rows : BeginsWithRows (drop_through 10 text) taps []
 
@@ -69,14 +69,14 @@ IsOfTable NoMemory = ⊥
 -- the text is a table, and so many taps stand in it
 pub record IsTableOf (text : List ℕ) (count : ℕ) : Type 0 where
   pub taps : List TapFields
-  pub table : IsTable text taps
+  pub table : IsTapTable text taps
   pub number : length taps ≡ count
 
 -- what was written behind the old bytes is an upload with no fault, of exactly the taps of the
 -- table, in their order
 pub record IsEncoded (text : List ℕ) (old new : Option (List ℕ)) (count : ℕ) : Type 0 where
   pub taps : List TapFields
-  pub table : IsTable text taps
+  pub table : IsTapTable text taps
   pub number : length taps ≡ count
   pub file : List ℕ
   pub upload : IsFileOf file taps

@@ -6,12 +6,12 @@ use Rattle.std.specs.Prelude.{Contains, Option, min, max}
 use Rattle.std.specs.List.{AllByRecursion}
 use Rattle.std.proofs.lemmas.List.Elements.{Contains-append_left, Contains-append_right}
 use Rattle.upload_facts.specs.Facts.{IsSpan, IsWithin}
-use Rattle.upload_facts.specs.declared.span.Span.{Span}
+use Rattle.upload_facts.specs.declared.span.MomentSpan.{MomentSpan}
 
 last_one : (x : ℕ) → Contains (x ∷ []) x
 last_one x = (0, omega arith, refl)
 
-within_more : (old new : Span) (moments : List ℕ) (x : ℕ) → new.first ≤ old.first
+within_more : (old new : MomentSpan) (moments : List ℕ) (x : ℕ) → new.first ≤ old.first
     → old.last ≤ new.last → IsWithin new x
     → AllByRecursion (IsWithin old) moments → AllByRecursion (IsWithin new) (moments ++ x ∷ [])
 within_more old new [] x first last is all = (is, tt)

@@ -7,7 +7,7 @@ use Rattle.tap_views.specs.Faults.{IsFault}
 use Rattle.tap_views.specs.Files.{IsFile}
 use Rattle.tap_views.specs.declared.fault.LayoutFault.{LayoutFault}
 use Rattle.upload_facts.specs.declared.facts.Facts.{Facts}
-use Rattle.upload_facts.specs.declared.span.Span.{Span}
+use Rattle.upload_facts.specs.declared.span.MomentSpan.{MomentSpan}
 
 -- what is left of the upload behind its batches begins at this offset, and this is its layout fault
 pub record IsFaultAt (upload rest : List ℕ) (offset : ℕ) (fault : LayoutFault) : Type 0 where
@@ -36,12 +36,12 @@ abbrev pub moment_of : Tap → ℕ
 moment_of tap = num tap.moment
 
 -- the moment lies within the span
-abbrev pub IsWithin : Span → ℕ → Type 0
+abbrev pub IsWithin : MomentSpan → ℕ → Type 0
 IsWithin span moment = (span.first ≤ moment) × (moment ≤ span.last)
 
 -- the span of these moments: from one of them to one of them, and all lie within; none of no
 -- moments
-abbrev pub IsSpan : List ℕ → Option Span → Type 0
+abbrev pub IsSpan : List ℕ → Option MomentSpan → Type 0
 IsSpan moments None = moments ≡ []
 IsSpan moments (Some span) =
     Contains moments span.first × Contains moments span.last

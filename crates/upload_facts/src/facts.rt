@@ -3,7 +3,7 @@
 ghost use Rattle.std.specs.Prelude.{◌≡◌, length};
 ghost use Rattle.upload_facts.specs.Facts.{AreFacts};
 
-use crate::span::{Span, over_batch};
+use crate::span::{MomentSpan, over_batch};
 use tap_views::{LayoutFault, batches};
 
 /// What an upload has before its first layout fault, and the fault.
@@ -14,7 +14,7 @@ pub struct Facts {
     /// How many taps.
     pub taps: u64,
     /// The first and the last moment; none where there is no tap.
-    pub span: Option<Span>,
+    pub span: Option<MomentSpan>,
     /// The layout fault that ends the upload, and the offset of its batch in bytes.
     pub fault: Option<(u64, LayoutFault)>,
 }

@@ -8,4 +8,4 @@ mod span;
 
 pub use facts::{Facts, facts_of};
 pub use front::good_part;
-pub use span::Span;
+pub use span::MomentSpan;

@@ -7,7 +7,7 @@ use tap_views::Batch;
 
 /// The first and the last of some moments, in milliseconds since 1970-01-01T00:00Z.
 #[derive(Clone, Copy, Debug, PartialEq, Eq)]
-pub struct Span {
+pub struct MomentSpan {
     /// The earliest moment.
     pub first: u64,
     /// The latest moment.
@@ -15,15 +15,15 @@ pub struct Span {
 }
 
 /// The span of one moment more.
-pub(crate) fn widened(span: Option<Span>, moment: u64) -> Option<Span>
+pub(crate) fn widened(span: Option<MomentSpan>, moment: u64) -> Option<MomentSpan>
     ensures { (moments : List ℕ) → IsSpan moments span → IsSpan (moments ++ moment ∷ []) result }
 {
     match span {
-        None => Some(Span {
+        None => Some(MomentSpan {
             first: moment,
             last: moment,
         }),
-        Some(span) => Some(Span {
+        Some(span) => Some(MomentSpan {
             first: span.first.min(moment),
             last: span.last.max(moment),
         }),
@@ -31,7 +31,7 @@ pub(crate) fn widened(span: Option<Span>, moment: u64) -> Option<Span>
 }
 
 /// The span of the moments of a batch more.
-pub(crate) fn over_batch(span: Option<Span>, batch: &Batch) -> Option<Span>
+pub(crate) fn over_batch(span: Option<MomentSpan>, batch: &Batch) -> Option<MomentSpan>
     ensures { (moments : List ℕ) → IsSpan moments span
         → IsSpan (moments ++ map moment_of batch.now) result }
 {

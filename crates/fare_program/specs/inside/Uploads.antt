@@ -5,7 +5,7 @@ use Rattle.tap_views.specs.Files.{IsReading, Item}
 use Rattle.fare_table.specs.Fares.{Fares}
 use Rattle.fare_program.specs.Listing.{Listed}
 use Rattle.fare_program.specs.inside.Listing.{Kept, StandsFor}
-use Rattle.fare_program.specs.Uploads.{AreReadings, are_whole, lines_from, tap_lines, listed_in}
+use Rattle.fare_program.specs.Uploads.{AreReadings, have_no_fault, lines_from, tap_lines, listed_in}
 use Rattle.fare_program.specs.Uploads.{listing_lines}
 
 -- A listing went on with these taps: whatever list it stood for, their lines were appended, and it
@@ -31,4 +31,4 @@ pub record ListsUploads (fares : Option Fares) (kept : Kept) (text text' : List 
   pub read : AreReadings files readings
   pub lines : text' ≡ text ++ lines_from fares 0 [] readings
   pub stands : StandsFor kept (flat_map (listed_in fares) readings)
-  pub is_clean : clean ≡ are_whole readings
+  pub is_clean : clean ≡ have_no_fault readings

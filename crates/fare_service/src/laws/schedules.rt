@@ -15,7 +15,7 @@ ghost use Rattle.shard_book.specs.Visits.{AreEntriesOf};
 ghost use Rattle.fare_service.specs.Headline.{Headline};
 ghost use Rattle.fare_service.specs.Plain.{ArePlainEnds, AreTapsOf, HasOneReading, IsNamed};
 ghost use Rattle.fare_service.specs.Plain.{IsPlain, IsReportOver, IsStatementOver};
-ghost use Rattle.fare_service.specs.Plain.{IsWholeGathering, WasWhole};
+ghost use Rattle.fare_service.specs.Plain.{IsWholeGathering, WasNotCut};
 ghost use Rattle.fare_service.specs.Printed.{IsStatementOf, report_of};
 ghost use Rattle.fare_service.specs.Shares.{Worked};
 
@@ -99,7 +99,7 @@ pub fn statements(uploads: &[Vec<u8>], outcome: &Outcome)
 /// Where no upload was cut or left undrawn, each ends as its bytes call for.
 pub fn ends(outcome: &Outcome)
     ensures { (fares : Fares) (shards : ℕ) (uploads : List (List ℕ)) (works : List (List Worked))
-        → Headline fares shards uploads works outcome.now → All WasWhole outcome.now.ends
+        → Headline fares shards uploads works outcome.now → All WasNotCut outcome.now.ends
         → ArePlainEnds uploads outcome.now.ends }
 {
     let _ = outcome.shards();
@@ -144,7 +144,7 @@ pub fn same_texts(uploads: &[Vec<u8>], one: &Outcome, other: &Outcome)
 
 /// Whether the upload ended by itself: posted, or refused by a layout fault.
 fn was_whole(end: UploadEnd) -> bool
-    ensures { Decides result (WasWhole end) }
+    ensures { Decides result (WasNotCut end) }
 {
     match end {
         UploadEnd::Posted { .. } => true,
@@ -156,7 +156,7 @@ fn was_whole(end: UploadEnd) -> bool
 
 /// Whether no upload was cut or left undrawn.
 pub fn ended_whole(outcome: &Outcome) -> bool
-    ensures { Decides result (All WasWhole outcome.now.ends) }
+    ensures { Decides result (All WasNotCut outcome.now.ends) }
 {
     for upload in 0..outcome.uploads() {
         if !was_whole(outcome.upload(upload)) {

@@ -25,7 +25,7 @@ use std::thread;
 use std::thread::{Promise, Scope, Threads};
 
 /// The most workers of a run.
-const MOST_WORKERS: u32 = 16;
+const MAX_WORKERS: u32 = 16;
 
 /// The service that a thread gives a share of, and the share that it began with.
 #[derive(Drop)]
@@ -150,7 +150,7 @@ impl<'a> Service<'a> {
         ensures claims { HasAllClaims (shards_of self.entry) share
             → IfErr result MissesNothing }
     {
-        if workers == 0 || workers > MOST_WORKERS {
+        if workers == 0 || workers > MAX_WORKERS {
             return Err(RunFault::Workers);
         }
         let shares = self.share_out(alloc, share, workers)?;

@@ -148,7 +148,7 @@ impl<'a> Service<'a> {
     ghost use Rattle.fare_service.specs.Shares.{Made, books_of, IsFaultOf, IsShareOf, IsWorked};
     ghost use Rattle.fare_service.specs.Shares.{WentOn};
     ghost use Rattle.fare_service.specs.inside.Shares.{worked};
-    ghost use Rattle.fare_service.specs.Plain.{WasWhole};
+    ghost use Rattle.fare_service.specs.Plain.{WasNotCut};
     ghost use Rattle.fare_service.specs.Stopping.{SomeFull, StoppedWell, WasCut};
     ghost use Rattle.fare_service.specs.inside.Stopping.{TellsFull, TellsMemory};
 
@@ -290,7 +290,7 @@ impl<'a> Service<'a> {
         ensures runs { length buffers.new.runs ≡ length buffers.old.runs }
         ensures few { posting.new.totals.taps ≤ posting.old.totals.taps + 2 ^ 60 }
         ensures full { SomeFull posting.old.passes.items → SomeFull posting.new.passes.items }
-        ensures goes_on { result.1 ≡ true → WasWhole result.0 ⊎ SomeFull posting.new.passes.items }
+        ensures goes_on { result.1 ≡ true → WasNotCut result.0 ⊎ SomeFull posting.new.passes.items }
         ensures stops { result.1 ≡ false → WasCut result.0 }
     {
         let before = posting.totals.taps;
@@ -334,7 +334,7 @@ impl<'a> Service<'a> {
         ensures few { posting.new.totals.taps ≤ posting.old.totals.taps + 2 ^ 60 }
         ensures full { SomeFull posting.old.passes.items → SomeFull posting.new.passes.items }
         ensures goes_on { IfSome result (λ next. next.1 ≡ true
-            → WasWhole next.0.end ⊎ SomeFull posting.new.passes.items) }
+            → WasNotCut next.0.end ⊎ SomeFull posting.new.passes.items) }
         ensures stops { IfSome result (λ next. next.1 ≡ false → WasCut next.0.end) }
         ensures clock { buffers.new.run.clock ≡ buffers.old.run.clock }
         ensures runs { length buffers.new.runs ≡ length buffers.old.runs }

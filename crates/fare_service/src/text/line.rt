@@ -8,14 +8,14 @@ use itoa::{Buffer, write_digits};
 use std::marker::Model;
 
 /// More bytes than the longest line has: seven numbers of at most 40 digits, a token and the words.
-const ROOM: usize = 384;
+const ROOM_BYTES: usize = 384;
 
 /// The end of a line, as far as it is made: what is put there comes before what stands there, so
 /// that digits are written where they stay, the last one first. Contracts see the bytes.
 #[derive(Drop)]
 pub(crate) struct Line {
     /// The room, whose end is the line.
-    bytes: [u8; ROOM],
+    bytes: [u8; ROOM_BYTES],
     /// Where the line starts.
     start: usize,
 }
@@ -36,8 +36,8 @@ impl Line {
         ensures { result ≡ [] }
     {
         Line {
-            bytes: [0; ROOM],
-            start: ROOM,
+            bytes: [0; ROOM_BYTES],
+            start: ROOM_BYTES,
         }
     }
 
@@ -46,7 +46,7 @@ impl Line {
     pub(crate) fn clear(&mut self)
         ensures { self.new ≡ [] }
     {
-        self.start = ROOM;
+        self.start = ROOM_BYTES;
     }
 
     /// The bytes that were made.

@@ -25,7 +25,7 @@ use tap_views::shard_of;
 
 /// How much room there is at least for lines of a report that wait to be written: so many that a
 /// write is little beside them.
-const PIECE: usize = 65_536;
+const PIECE_BYTES: usize = 65_536;
 
 /// Writes the text at once.
 pub(crate) fn write_out<W: Write>(text: &[u8], out: &mut W) -> Result<(), PrintFault>
@@ -56,7 +56,7 @@ impl Outcome {
         let validators = sums_by_validator(rt, alloc, self.books.as_slice())?;
         let tokens = TokenSums::of(alloc, self.books.as_slice())?;
         let mut text = report_front(alloc, ends, &totals, validators.as_slice(), &tokens)?;
-        text.reserve(PIECE)?;
+        text.reserve(PIECE_BYTES)?;
         Ok((text, tokens))
     }
 

@@ -4,11 +4,11 @@ use Rattle.std.specs.Map.{values_of}
 use Rattle.fare_table.specs.Fares.{Fares}
 use Rattle.fare_table.specs.Terms.{HasLimits}
 use Rattle.fare_table.specs.Zone.{zone_rule, zone_text}
-use Rattle.fare_table.specs.declared.table.Parts.{Parts}
+use Rattle.fare_table.specs.declared.table.TableData.{TableData}
 use Rattle.fare_table.specs.Validators.{are_modes_below}
 
 -- what contracts see of the parts of a table
-abbrev pub fares_of : Parts → Fares
+abbrev pub fares_of : TableData → Fares
 fares_of parts = record {
   rules = record {
     modes = map string_bytes parts.modes.items;
@@ -22,7 +22,7 @@ fares_of parts = record {
 }
 
 -- at most 32 modes, ranges of modes of the table, and terms within their limits
-pub record AreSound (parts : Parts) : Type 0 where
+pub record AreSound (parts : TableData) : Type 0 where
   pub few : length parts.modes.items ≤ 32
   pub known : are_modes_below (length parts.modes.items) parts.ranges ≡ true
   pub standard : HasLimits parts.standard

@@ -3,7 +3,7 @@
 
 ghost use Rattle.std.specs.Prelude.{◌≡◌, ◌<◌, ◌≤◌, ◌*◌, true, All, IfOk, length};
 ghost use Rattle.std.specs.Map.{keys_of};
-ghost use Rattle.fare_table.specs.Marks.{is_marked};
+ghost use Rattle.fare_table.specs.RiderMarks.{is_marked};
 
 use crate::fault::NoMemory;
 use crate::terms::Terms;
@@ -20,13 +20,13 @@ const MARKS_FOR_EACH: usize = 8;
 /// A token whose slot has no mark is none of them. One whose slot has a mark may be, since tokens
 /// share slots: who asks looks further then. So slots that many tokens share cost time alone.
 #[derive(Drop)]
-pub(crate) struct Marks {
+pub(crate) struct RiderMarks {
     /// A power of two of them, so that a slot is found without a division. None where there is no
     /// token.
     marks: Vec<bool>,
 }
 
-impl Model for Marks {
+impl Model for RiderMarks {
     ghost use Rattle.std.specs.Prelude.{Bool, List};
 
     ghost Value = { List Bool };
@@ -34,9 +34,9 @@ impl Model for Marks {
     ghost view = { λ m. m.marks.items };
 }
 
-impl Marks {
+impl RiderMarks {
     /// The marks of a map's tokens. `NoMemory` is answered where a growth is refused.
-    pub(crate) fn new(alloc: Global, terms: &BTreeMap<Token, Terms>) -> Result<Marks, NoMemory>
+    pub(crate) fn new(alloc: Global, terms: &BTreeMap<Token, Terms>) -> Result<RiderMarks, NoMemory>
         ensures marked { IfOk result
             (λ marks. All (λ token. is_marked marks token ≡ true) (keys_of terms.now.entries)) }
         ensures few { IfOk result (λ marks. length marks ≤ 16 * length terms.now.entries) }
@@ -46,7 +46,7 @@ impl Marks {
             let slot = token.slot(marks.len());
             marks[slot] = true;
         }
-        Ok(Marks { marks })
+        Ok(RiderMarks { marks })
     }
 
     /// Whether the token's slot is marked.

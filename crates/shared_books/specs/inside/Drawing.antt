@@ -3,25 +3,25 @@ use Rattle.std.specs.Prelude.{◌≡◌, ℕ, ◌≤◌, ◌<◌, List, [], leng
 use mathlib.Core.Option.{some}
 use lib.ListN.{get_elem?}
 use Rattle.atomic_table.specs.Table.{State}
-use Rattle.shared_books.specs.declared.drawing.rule.Hand.{Hand}
+use Rattle.shared_books.specs.declared.drawing.rule.DrawerState.{DrawerState}
 use Rattle.shared_books.specs.Claims.{AreClaims}
 use Rattle.shared_books.specs.Drawing.{times}
 
 -- how often a number was drawn, by all drawers together
-abbrev pub times_drawn : ℕ → List Hand → ℕ
+abbrev pub times_drawn : ℕ → List DrawerState → ℕ
 times_drawn x hands = sum_by (λ h. times x h.drawn) hands
 
 -- a drawer that was joined into another holds nothing
-abbrev pub IsSpent : Hand → Type 0
+abbrev pub IsSpent : DrawerState → Type 0
 IsSpent h = (h.live ≡ false) × (h.drawn ≡ [])
 
 -- between any two steps: each number below the word was drawn by one drawer and once, no other
 -- number was, no drawer has seen more than the word, and no claim is there twice
-pub record IsDrawn (numbers : ℕ) (s : State (Unit {0}) Hand) : Type 0 where
+pub record IsDrawn (numbers : ℕ) (s : State (Unit {0}) DrawerState) : Type 0 where
   pub one_word : length s.words ≡ 1
   pub within : slice_index s.words 0 ≤ numbers
   pub once : (x : ℕ) → x < slice_index s.words 0 → times_drawn x s.views ≡ 1
   pub no_other : (x : ℕ) → slice_index s.words 0 ≤ x → times_drawn x s.views ≡ 0
-  pub each : (j : ℕ) (h : Hand) → get_elem? s.views j ≡ some h → h.live ≡ true
+  pub each : (j : ℕ) (h : DrawerState) → get_elem? s.views j ≡ some h → h.live ≡ true
       → (h.numbers ≡ numbers) × (h.seen ≤ slice_index s.words 0)
   pub claims : AreClaims (λ h. h.claims) IsSpent s.views

@@ -2,38 +2,38 @@
 use Rattle.std.specs.Prelude.{◌≡◌, ◌≢◌, ℕ, ◌+◌, ◌^◌, ◌≤◌, ◌<◌, true, false, List, [], ◌∷◌, ◌++◌}
 use Rattle.std.specs.Prelude.{length, max}
 use Rattle.atomic_table.specs.Table.{Step, Me}
-use Rattle.shared_books.specs.declared.drawing.rule.Hand.{Hand}
+use Rattle.shared_books.specs.declared.drawing.rule.DrawerState.{DrawerState}
 use Rattle.shared_books.specs.Claims.{claims_given, claims_left}
 use Rattle.shared_books.specs.Drawing.{NoneTwice, AllBelow}
 
 -- what a drawer knows while it lives
-abbrev pub hand : ℕ → ℕ → ℕ → List ℕ → Hand
+abbrev pub hand : ℕ → ℕ → ℕ → List ℕ → DrawerState
 hand c n d xs = record { live = true; claims = c; numbers = n; seen = d; drawn = xs }
 
 -- what it knows before it has drawn
-abbrev pub empty_hand : ℕ → ℕ → ℕ → Hand
+abbrev pub empty_hand : ℕ → ℕ → ℕ → DrawerState
 empty_hand c n d = hand c n d []
 
 -- the two drawers after a split: the old one keeps what it drew
-abbrev pub left_hand : Hand → Hand
+abbrev pub left_hand : DrawerState → DrawerState
 left_hand h = hand (claims_left h.claims) h.numbers h.seen h.drawn
 
 -- what a drawer that was split off knows
-abbrev pub new_hand : Hand → Hand
+abbrev pub new_hand : DrawerState → DrawerState
 new_hand h = empty_hand (claims_given h.claims) h.numbers h.seen
 
 -- what is left of a drawer that was joined into another
-abbrev pub spent_hand : Hand
+abbrev pub spent_hand : DrawerState
 spent_hand = record { live = false; claims = 0; numbers = 0; seen = 0; drawn = [] }
 
 -- what two drawers know together
-abbrev pub both_hands : Hand → Hand → Hand
+abbrev pub both_hands : DrawerState → DrawerState → DrawerState
 both_hands h k =
     hand (h.claims + k.claims) h.numbers (max h.seen k.seen) (h.drawn ++ k.drawn)
 
 -- a try from s.first to the next number: it drew that number, or it has seen that more were drawn
-pub record HasTried (s : Step (Unit {0})) (before : Me (Unit {0}) Hand) (found : ℕ)
-    (after : Me (Unit {0}) Hand) : Type 0 where
+pub record HasTried (s : Step (Unit {0})) (before : Me (Unit {0}) DrawerState) (found : ℕ)
+    (after : Me (Unit {0}) DrawerState) : Type 0 where
   pub won : found ≡ s.first
       → after.0 ≡ hand before.0.claims before.0.numbers (found + 1) (before.0.drawn ++ found ∷ [])
   pub lost : found ≢ s.first → after.0 ≡ hand before.0.claims before.0.numbers found before.0.drawn
@@ -42,8 +42,8 @@ pub record HasTried (s : Step (Unit {0})) (before : Me (Unit {0}) Hand) (found :
   pub carries : after.1 ≡ before.1
 
 -- a look at the word: what the drawer drew is below it, and nothing twice
-pub record HasLooked (s : Step (Unit {0})) (before : Me (Unit {0}) Hand) (found : ℕ)
-    (after : Me (Unit {0}) Hand) : Type 0 where
+pub record HasLooked (s : Step (Unit {0})) (before : Me (Unit {0}) DrawerState) (found : ℕ)
+    (after : Me (Unit {0}) DrawerState) : Type 0 where
   pub seen : after.0 ≡ hand before.0.claims before.0.numbers found before.0.drawn
   pub later : before.0.seen ≤ found
   pub within : found ≤ before.0.numbers
@@ -52,7 +52,7 @@ pub record HasLooked (s : Step (Unit {0})) (before : Me (Unit {0}) Hand) (found 
   pub carries : after.1 ≡ before.1
 
 -- what a drawer keeps of its number of numbers, its word and its seat
-pub record IsHeld (held seen : ℕ) (me : Me (Unit {0}) Hand) : Type 0 where
+pub record IsHeld (held seen : ℕ) (me : Me (Unit {0}) DrawerState) : Type 0 where
   pub live : me.0.live ≡ true
   pub carries : me.1 ≡ []
   pub seen_is : seen ≡ me.0.seen

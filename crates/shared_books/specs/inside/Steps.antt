@@ -6,7 +6,7 @@ use Rattle.shard_book.specs.declared.entry.Entry.{Entry}
 use Rattle.shard_book.specs.History.{IsLegal}
 use Rattle.shared_books.specs.declared.turns.rule.Opening.{Opening}
 use Rattle.shared_books.specs.declared.turns.rule.Mark.{Mark}
-use Rattle.shared_books.specs.declared.turns.rule.View.{View}
+use Rattle.shared_books.specs.declared.turns.rule.PassState.{PassState}
 use Rattle.shared_books.specs.Marks.{mark, others, visits_of, joined, merged, Apart, Begins}
 use Rattle.shared_books.specs.Claims.{claims_given, claims_left}
 use Rattle.shared_books.specs.Turns.{Boxed, book_after}
@@ -15,10 +15,10 @@ use Rattle.shared_books.specs.inside.Nobody.{no_book}
 
 -- a seat at the table of turns
 abbrev pub Seat : Type 0
-Seat = Me (Option Boxed) View
+Seat = Me (Option Boxed) PassState
 
 -- what is left of a pass that was joined into another
-abbrev pub nobody : View
+abbrev pub nobody : PassState
 nobody =
     record {
       live = false;
@@ -33,15 +33,15 @@ nobody =
     }
 
 -- a new pass has seen as much and half of the claims, and made nothing
-abbrev pub fresh : View → View
+abbrev pub fresh : PassState → PassState
 fresh v = view v.opened (claims_given v.claims) false (others (visits_of v.marks)) []
 
 -- the old pass keeps the other claims, and what it has seen and made
-abbrev pub left_view : View → View
+abbrev pub left_view : PassState → PassState
 left_view v = view v.opened (claims_left v.claims) v.turn v.marks v.met
 
 -- the marks of another pass, before a look shows how they lie beside the own ones
-abbrev pub both_views : View → View → View
+abbrev pub both_views : PassState → PassState → PassState
 both_views v w = view v.opened (v.claims + w.claims) v.turn v.marks w.marks
 
 -- the word found is twice the count of visits seen, and one more where a pass holds the turn
@@ -91,7 +91,7 @@ given_back (v, (slot, Some b) ∷ out) = (
 )
 
 -- the look that ends a join: the marks of both passes lie beside one another
-pub record HasSettled (before after : Seat) : Type 0 where
+pub record HasEndedJoin (before after : Seat) : Type 0 where
   pub view_is : after.0 ≡ view before.0.opened before.0.claims before.0.turn
       (merged before.0.marks before.0.met) []
   pub apart : Apart before.0.marks before.0.met

@@ -3,7 +3,7 @@ use atomic_table::{Join, Play, Split, TableRule};
 use std::collections::LinkedList;
 
 /// What a drawer knows. No value of it is made.
-pub struct Hand {
+pub struct DrawerState {
     /// Whether the drawer was not joined into another.
     pub live: bool,
     /// The claims that the drawer has.
@@ -19,7 +19,7 @@ pub struct Hand {
 /// The rule over the word and all drawers' hands.
 pub struct DrawRule;
 
-impl TableRule<(), Hand, u32> for DrawRule {
+impl TableRule<(), DrawerState, u32> for DrawRule {
     ghost use Rattle.shared_books.specs.Claims.{all_claims};
     ghost use Rattle.shared_books.specs.inside.Drawing.{IsDrawn};
     ghost use Rattle.shared_books.specs.inside.Hands.{empty_hand};
@@ -32,7 +32,7 @@ impl TableRule<(), Hand, u32> for DrawRule {
 /// A try to draw.
 pub struct Draws;
 
-impl Play<(), Hand> for Draws {
+impl Play<(), DrawerState> for Draws {
     ghost use Rattle.shared_books.specs.inside.Hands.{HasTried};
 
     ghost then = { HasTried };
@@ -41,16 +41,16 @@ impl Play<(), Hand> for Draws {
 /// The load that ends a join.
 pub struct Looks;
 
-impl Play<(), Hand> for Looks {
+impl Play<(), DrawerState> for Looks {
     ghost use Rattle.shared_books.specs.inside.Hands.{HasLooked};
 
     ghost then = { HasLooked };
 }
 
 /// A new drawer has seen as much and half of the claims, and drew nothing.
-pub struct Parts;
+pub struct ClaimSplit;
 
-impl Split<Hand> for Parts {
+impl Split<DrawerState> for ClaimSplit {
     ghost use Rattle.shared_books.specs.inside.Hands.{left_hand, new_hand};
 
     ghost left = { left_hand };
@@ -61,7 +61,7 @@ impl Split<Hand> for Parts {
 /// One drawer has what both drew.
 pub struct Meets;
 
-impl Join<Hand> for Meets {
+impl Join<DrawerState> for Meets {
     ghost use Rattle.shared_books.specs.inside.Hands.{both_hands, spent_hand};
 
     ghost both = { both_hands };

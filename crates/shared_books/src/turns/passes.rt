@@ -1,6 +1,6 @@
 //! How passes to a shared book are split and joined.
 
-use super::rule::{Meets, Parts, Settles};
+use super::rule::{ClaimSplit, EndsJoin, Meets};
 use super::{Pass, SharedBook};
 use fare_table::NoMemory;
 
@@ -15,7 +15,7 @@ impl SharedBook {
         ensures new { IsOkAnd result (λ new. new ≡ fresh_pass pass.old) }
         ensures old { pass.new ≡ left_pass pass.old }
     {
-        let seat = self.table.shared.split_seat::<Parts>(&mut pass.seat);
+        let seat = self.table.shared.split_seat::<ClaimSplit>(&mut pass.seat);
         let (held, next) = (0, pass.next);
         Ok(Pass { seat, held, next })
     }
@@ -34,7 +34,7 @@ impl SharedBook {
         } = other;
         self.table.shared.join_seat::<Meets>(seat, other_seat);
         // proof: the look ends the join, after which the pass is like any other
-        let _ = self.table.shared.load::<Settles>(seat, 0);
+        let _ = self.table.shared.load::<EndsJoin>(seat, 0);
         *held += more;
     }
 }

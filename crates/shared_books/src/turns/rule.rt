@@ -25,7 +25,7 @@ pub struct Mark {
 }
 
 /// What a pass knows. No value of it is made.
-pub struct View {
+pub struct PassState {
     /// Whether the pass was not joined into another.
     pub live: bool,
     /// What the book was opened with.
@@ -43,7 +43,7 @@ pub struct View {
 /// The rule over the word, the slot and all passes' views: they show a state of the turn machine.
 pub struct TurnRule;
 
-impl TableRule<Slot, View, Opening> for TurnRule {
+impl TableRule<Slot, PassState, Opening> for TurnRule {
     ghost use Rattle.std.specs.Prelude.{false, []};
     ghost use Rattle.shared_books.specs.Claims.{all_claims};
     ghost use Rattle.shared_books.specs.Turns.{IsTurn};
@@ -57,7 +57,7 @@ impl TableRule<Slot, View, Opening> for TurnRule {
 /// A look at the word.
 pub struct Looks;
 
-impl Play<Slot, View> for Looks {
+impl Play<Slot, PassState> for Looks {
     ghost use Rattle.shared_books.specs.inside.Steps.{HasSeen};
 
     ghost then = { λ _ before found after. HasSeen before found after };
@@ -66,7 +66,7 @@ impl Play<Slot, View> for Looks {
 /// A try to take the turn.
 pub struct Takes;
 
-impl Play<Slot, View> for Takes {
+impl Play<Slot, PassState> for Takes {
     ghost use Rattle.shared_books.specs.inside.Steps.{HasTriedTurn};
 
     ghost then = { HasTriedTurn };
@@ -75,7 +75,7 @@ impl Play<Slot, View> for Takes {
 /// The turn is given back.
 pub struct Gives;
 
-impl Play<Slot, View> for Gives {
+impl Play<Slot, PassState> for Gives {
     ghost use Rattle.std.specs.Prelude.{◌≡◌};
     ghost use Rattle.shared_books.specs.inside.Steps.{given_back};
 
@@ -83,9 +83,9 @@ impl Play<Slot, View> for Gives {
 }
 
 /// A new pass, which has seen as much and half of the claims, and made nothing.
-pub struct Parts;
+pub struct ClaimSplit;
 
-impl Split<View> for Parts {
+impl Split<PassState> for ClaimSplit {
     ghost use Rattle.shared_books.specs.inside.Steps.{fresh, left_view};
 
     ghost left = { left_view };
@@ -96,7 +96,7 @@ impl Split<View> for Parts {
 /// One pass has what two had.
 pub struct Meets;
 
-impl Join<View> for Meets {
+impl Join<PassState> for Meets {
     ghost use Rattle.shared_books.specs.inside.Steps.{both_views, nobody};
 
     ghost both = { both_views };
@@ -105,10 +105,10 @@ impl Join<View> for Meets {
 }
 
 /// The look that ends a join.
-pub struct Settles;
+pub struct EndsJoin;
 
-impl Play<Slot, View> for Settles {
-    ghost use Rattle.shared_books.specs.inside.Steps.{HasSettled};
+impl Play<Slot, PassState> for EndsJoin {
+    ghost use Rattle.shared_books.specs.inside.Steps.{HasEndedJoin};
 
-    ghost then = { λ _ before _ after. HasSettled before after };
+    ghost then = { λ _ before _ after. HasEndedJoin before after };
 }

@@ -1,7 +1,7 @@
 //! What passes do with a shared book: they visit it, read it, and look how many visits it has.
 
 use super::answers::{Full, ReadFault, Readout, Visit};
-use super::rule::{Opening, Slot, TurnRule, View};
+use super::rule::{Opening, PassState, Slot, TurnRule};
 use super::{Pass, SharedBook};
 use atomic_table::Table;
 use fare_table::NoMemory;
@@ -38,7 +38,7 @@ impl SharedBook {
         let boxed = Box::new(alloc, book)?;
         let mut slots = Vec::new(alloc);
         slots.push(Some(boxed))?;
-        let (table, seat) = Table::<Slot, View, Opening, TurnRule, Global>::new(
+        let (table, seat) = Table::<Slot, PassState, Opening, TurnRule, Global>::new(
             alloc,
             &[2 * first],
             slots,

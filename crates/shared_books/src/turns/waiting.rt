@@ -2,7 +2,7 @@
 
 use super::SharedBook;
 use super::answers::Full;
-use super::rule::{Slot, View};
+use super::rule::{PassState, Slot};
 use super::word::FULL;
 use atomic_table::Seat;
 use shard_book::ShardBook;
@@ -23,7 +23,7 @@ impl SharedBook {
     pub(super) fn take<R: Wait>(
         &self,
         rt: &R,
-        seat: &mut Seat<Slot, View>,
+        seat: &mut Seat<Slot, PassState>,
         expected: u64,
     ) -> Result<(u64, Box<ShardBook>), Full>
         requires own { seat.old.table_id ≡ self.now.home }
@@ -43,7 +43,7 @@ impl SharedBook {
     fn wait_and_take<R: Wait>(
         &self,
         rt: &R,
-        seat: &mut Seat<Slot, View>,
+        seat: &mut Seat<Slot, PassState>,
     ) -> Result<(u64, Box<ShardBook>), Full>
         requires own { seat.old.table_id ≡ self.now.home }
         requires free { IsFree seat.old.me }

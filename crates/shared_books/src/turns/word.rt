@@ -1,7 +1,7 @@
 //! The word of a shared book: how many visits are counted, and whether a pass has the turn.
 
 use super::SharedBook;
-use super::rule::{Gives, Looks, Slot, Takes, View};
+use super::rule::{Gives, Looks, PassState, Slot, Takes};
 use atomic_table::Seat;
 use shard_book::ShardBook;
 use std::sync::atomic::Ordering;
@@ -19,7 +19,7 @@ impl SharedBook {
     ghost use Rattle.shared_books.specs.inside.Views.{IsFree, SeesMore, HasBookOut, BringsVisit};
 
     /// Loads the word.
-    pub(super) fn look(&self, seat: &mut Seat<Slot, View>) -> u64
+    pub(super) fn look(&self, seat: &mut Seat<Slot, PassState>) -> u64
         requires own { seat.old.table_id ≡ self.now.home }
         requires free { IsFree seat.old.me }
         ensures same { seat.new.table_id ≡ seat.old.table_id }
@@ -29,7 +29,7 @@ impl SharedBook {
     }
 
     /// Tries to take the turn, where the word was even.
-    pub(super) fn try_take(&self, seat: &mut Seat<Slot, View>, found: u64) -> Slot
+    pub(super) fn try_take(&self, seat: &mut Seat<Slot, PassState>, found: u64) -> Slot
         requires own { seat.old.table_id ≡ self.now.home }
         requires free { IsFree seat.old.me }
         requires even { (count : ℕ) × (found ≡ 2 * count) }
@@ -51,7 +51,7 @@ impl SharedBook {
     }
 
     /// Tries to take the turn as if the word stood at the expected number.
-    pub(super) fn try_expected(&self, seat: &mut Seat<Slot, View>, expected: u64) -> Slot
+    pub(super) fn try_expected(&self, seat: &mut Seat<Slot, PassState>, expected: u64) -> Slot
         requires own { seat.old.table_id ≡ self.now.home }
         requires free { IsFree seat.old.me }
         ensures same { seat.new.table_id ≡ seat.old.table_id }
@@ -66,7 +66,7 @@ impl SharedBook {
     }
 
     /// Puts the book back and gives the turn back, with the visit that the book has gained.
-    pub(super) fn give(&self, seat: &mut Seat<Slot, View>, number: u64, book: Box<ShardBook>)
+    pub(super) fn give(&self, seat: &mut Seat<Slot, PassState>, number: u64, book: Box<ShardBook>)
         requires own { seat.old.table_id ≡ self.now.home }
         requires brings { BringsVisit seat.old.me number book.value }
         ensures same { seat.new.table_id ≡ seat.old.table_id }

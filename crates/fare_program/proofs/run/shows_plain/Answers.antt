@@ -4,7 +4,7 @@ use Rattle.fare_table.specs.Fares.{Fares}
 use Rattle.shard_book.specs.declared.entry.Entry.{Entry}
 use Rattle.fare_table.specs.declared.token.Token.{Token}
 use Rattle.fare_service.specs.Outcomes.{OutcomeView}
-use Rattle.fare_service.specs.Plain.{IsReportOver, IsStatementOver, IsWholeGathering, WasWhole}
+use Rattle.fare_service.specs.Plain.{IsReportOver, IsStatementOver, IsWholeGathering, WasNotCut}
 use Rattle.fare_service.specs.Printed.{IsStatementOf, report_of}
 use Rattle.fare_service.specs.declared.upload_end.UploadEnd.{UploadEnd}
 use Rattle.fare_service.specs.declared.upload_end.UploadEnd.TheVariants.{Posted, Refused, Cut, Undrawn}
@@ -18,9 +18,9 @@ use Rattle.fare_program.specs.Settling.{ReportsOver}
 use Rattle.fare_program.proofs.run.shows_plain.Goals as goal
 
 -- what was posted was whole
-all_whole : (ends : List UploadEnd) → are_posted ends ≡ true → All WasWhole ends
-all_whole [] posted = All-nil WasWhole
-all_whole (Posted taps ∷ ends) posted = All-cons WasWhole (Posted taps) ends tt (all_whole ends posted)
+all_whole : (ends : List UploadEnd) → are_posted ends ≡ true → All WasNotCut ends
+all_whole [] posted = All-nil WasNotCut
+all_whole (Posted taps ∷ ends) posted = All-cons WasNotCut (Posted taps) ends tt (all_whole ends posted)
 all_whole (Refused taps offset fault ∷ ends) posted = absurd (cc)
 all_whole (Cut taps ∷ ends) posted = absurd (cc)
 all_whole (Undrawn ∷ ends) posted = absurd (cc)

@@ -1,7 +1,7 @@
 use Rattle.std.proofs.Common.{ℕ, List, [], map, take}
 use Rattle.tap_balance.specs.Balances.{IsBalance}
 use Rattle.tap_views.specs.declared.encoder.TapFields.{TapFields}
-use Rattle.omny_audit.specs.Program.{ArePostedOfAll, LoadsNamedFiles}
+use Rattle.omny_audit.specs.Program.{AreGoodTapsOfAll, LoadsNamedFiles}
 use Rattle.omny_audit.proofs.program.load_balance.Given as goal
 
 -- so far these were loaded, and the balance has their taps
@@ -9,4 +9,4 @@ abbrev pub invariant-loop-name : goal.invariant-loop-name
 invariant-loop-name g l =
     (files : List (List ℕ)) × (posted : List TapFields)
     × LoadsNamedFiles (map (λ n. n.now) (take l.name-index l.names)) (g.S.Source.loaded l.fn.source) (g.S.Source.loaded l.source) files
-    × ArePostedOfAll files posted × IsBalance l.balance posted []
+    × AreGoodTapsOfAll files posted × IsBalance l.balance posted []

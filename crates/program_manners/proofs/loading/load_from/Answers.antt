@@ -17,7 +17,7 @@ all_left (Some left) limit old bytes empty is below =
 pub returns-in-Ok-2-clause-whole : goal.returns-in-Ok-2-clause-whole
 returns-in-Ok-2-clause-whole g c =
     let now : c.take.result.inner.now ≡ c.args.r.now = ap (λ r. r.now) c.take.ensures.inner in
-    let short : vec_len c.read_to_end.new.buf < c.take.result.limit = omega (arith, c.take.ensures.limit, c.len.ensures, c.if-len-gt-LONGEST.false) in
+    let short : vec_len c.read_to_end.new.buf < c.take.result.limit = omega (arith, c.take.ensures.limit, c.len.ensures, c.if-len-gt-LOAD_LIMIT_BYTES.false) in
     rw (← now)
     (all_left (g.R.Read.remaining c.take.result.inner.now) c.take.result.limit c.new-bytes.result.items c.read_to_end.new.buf.items
     c.new-bytes.ensures.items c.in-Ok.ensures.bytes (omega (arith, short, c.read_to_end.new.buf.ok)))

@@ -15,7 +15,7 @@ returns c = λ token.
     record {
       rides = c.limits.ensures.rides rules taps;
       ceiling = c.limits.ensures.ceiling rules taps;
-      shared = ap (λ (replied : List Reply). filter is_ride replied) (replies-own book.table token book.entries c.len.ensures.legal) ∙ c.shares.ensures.rides rules taps;
-      paid = paid-own book.table token book.entries c.len.ensures.legal ∙ c.shares.ensures.paid rules taps;
-      cents = cents-own book.table token book.entries c.len.ensures.legal ∙ c.shares.ensures.cents rules taps;
+      shared = ap (λ (replied : List Reply). filter is_ride replied) (replies-own book.table token book.entries c.len.ensures.legal) ∙ c.windows_add_up.ensures.rides rules taps;
+      paid = paid-own book.table token book.entries c.len.ensures.legal ∙ c.windows_add_up.ensures.paid rules taps;
+      cents = cents-own book.table token book.entries c.len.ensures.legal ∙ c.windows_add_up.ensures.cents rules taps;
     }

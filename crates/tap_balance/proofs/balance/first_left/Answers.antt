@@ -6,12 +6,12 @@ use Rattle.std.proofs.lemmas.List.Elements.{All-cons, All-nil}
 use Rattle.std.proofs.lemmas.Map.Entries.{All-lookup}
 use Rattle.std.proofs.lemmas.Map.Iter.{btree_map_turn}
 use Rattle.tap_balance.specs.Balances.{key_cmp}
-use Rattle.tap_balance.specs.declared.balance.Key.{Key}
+use Rattle.tap_balance.specs.declared.balance.TapKey.{TapKey}
 use Rattle.tap_balance.proofs.Balanced.{zero_or_none}
 use Rattle.tap_balance.proofs.Keys.{key_cmp_total}
 use Rattle.tap_balance.proofs.balance.first_left.Goals as goal
 
-abbrev Zero : Key × ℕ → Type 0
+abbrev Zero : TapKey × ℕ → Type 0
 Zero e = e.1 ≡ 0
 
 pub loop-key-preserved : goal.loop-key-preserved

@@ -2,7 +2,7 @@ use Rattle.std.proofs.Common.{All, List, refl, arith, sym, subst, take_all}
 use Rattle.std.proofs.lemmas.List.Elements.{All-more}
 use Rattle.std.proofs.lemmas.Option.{slice_get_within, get_or_from_slice_get}
 use Rattle.fare_service.specs.declared.upload_end.UploadEnd.{UploadEnd}
-use Rattle.fare_service.specs.Plain.{WasWhole}
+use Rattle.fare_service.specs.Plain.{WasNotCut}
 use Rattle.fare_service.proofs.laws.schedules.ended_whole.Goals as goal
 
 pub loop-upload-preserved : goal.loop-upload-preserved
@@ -10,12 +10,12 @@ loop-upload-preserved c =
     let ends = c.args.outcome.now.ends in
     let end = c.upload.result in
     let place = c.loop-upload.upload in
-    let W : UploadEnd → Type 0 = λ e. WasWhole e in
-    All-more WasWhole ends place end (slice_get_within ends place end c.upload.ensures) c.loop-upload.invariant
+    let W : UploadEnd → Type 0 = λ e. WasNotCut e in
+    All-more WasNotCut ends place end (slice_get_within ends place end c.upload.ensures) c.loop-upload.invariant
     (subst W (sym (get_or_from_slice_get ends place end end c.upload.ensures)) (c.was_whole.ensures.0 c.if-not-was_whole.false))
 
 pub returns : goal.returns
 returns c =
-    let A : List UploadEnd → Type 0 = All WasWhole in
+    let A : List UploadEnd → Type 0 = All WasNotCut in
     let all = subst A (take_all c.loop-upload.upload c.args.outcome.now.ends (omega (arith, c.loop-upload-test.false, c.uploads-upload-end.ensures))) c.loop-upload.invariant in
     (λ yes. all, λ whole. refl)

@@ -18,7 +18,7 @@ invariant_of-service g c =
       few_shards = omega (arith, c.in_ok-books.ensures.number);
       books = subst P (sym c.in_ok-books.ensures.number) c.in_ok-books.ensures.books;
       numbers = c.in_ok-draw.ensures.draw ∙ sym (length-map c.args.uploads.now (λ upload. upload.items));
-      few_uploads = omega (arith, length-map c.args.uploads.now (λ upload. upload.items), c.if-uploads-gt-MOST_UPLOADS.false);
+      few_uploads = omega (arith, length-map c.args.uploads.now (λ upload. upload.items), c.if-uploads-gt-MAX_UPLOADS.false);
     }
 
 pub returns-clause-share : goal.returns-clause-share

@@ -3,7 +3,7 @@ use Rattle.fare_service.specs.declared.upload_end.UploadEnd.{UploadEnd}
 use Rattle.shard_book.specs.Sums.{sums_of}
 use Rattle.tap_views.specs.declared.fault.LayoutFault.{LayoutFault}
 use Rattle.fare_service.specs.Ends.{end_by}
-use Rattle.fare_service.specs.Plain.{WasWhole}
+use Rattle.fare_service.specs.Plain.{WasNotCut}
 use Rattle.fare_service.proofs.UploadLemmas.{Worked_as, upload_whole, upload_cut, the_upload}
 use Rattle.fare_service.proofs.service.Service.post_upload.Goals as goal
 
@@ -20,7 +20,7 @@ returns-in-Err-clause-worked g c =
     upload_cut c.args.self.now c.args.upload _ c.in-Err.stop c.as_slice-file.result.now c.args.posting.now.passes.items c.post_batches-posted.new.posting.passes.items (sums_of c.args.posting.now.totals) (sums_of c.post_batches-posted.new.posting.totals)
     c.post_batches-posted.result c.requires.upload file c.post_batches-posted.ensures.made c.in-Err.is refl
 
-whole_by : (taps : ℕ) (found : Option (ℕ × LayoutFault)) → WasWhole (end_by taps found)
+whole_by : (taps : ℕ) (found : Option (ℕ × LayoutFault)) → WasNotCut (end_by taps found)
 whole_by taps None = tt
 whole_by taps (Some (offset, fault)) = tt
 
@@ -28,7 +28,7 @@ pub returns-in-Ok-clause-full : goal.returns-in-Ok-clause-full
 returns-in-Ok-clause-full g c = λ h. c.post_batches-posted.ensures.full (inl h)
 
 pub returns-in-Ok-clause-goes_on : goal.returns-in-Ok-clause-goes_on
-returns-in-Ok-clause-goes_on g c = λ goes. inl (subst WasWhole (sym c.end_of.ensures) (whole_by _ c.in-Ok.found))
+returns-in-Ok-clause-goes_on g c = λ goes. inl (subst WasNotCut (sym c.end_of.ensures) (whole_by _ c.in-Ok.found))
 
 pub returns-in-Err-clause-full : goal.returns-in-Err-clause-full
 returns-in-Err-clause-full g c = λ h. c.post_batches-posted.ensures.full (inl h)

@@ -3,8 +3,8 @@ use Rattle.ledger_check.specs.Verdicts.{IsVerdict, is_legal}
 use Rattle.ledger_check.proofs.CheckerLemmas.{kept, too_long}
 use Rattle.ledger_check.proofs.checker.Checker.keep.Goals as goal
 
-pub returns-then-len-gt-LONGEST-clause-fed : goal.returns-then-len-gt-LONGEST-clause-fed
-returns-then-len-gt-LONGEST-clause-fed c = λ fares text fed more.
+pub returns-then-len-gt-MAX_LINE_BYTES-clause-fed : goal.returns-then-len-gt-MAX_LINE_BYTES-clause-fed
+returns-then-len-gt-MAX_LINE_BYTES-clause-fed c = λ fares text fed more.
     let whole = c.extend_from_slice.new.self.items in
     let long : 255 < length whole = omega (arith, c.extend_from_slice.new.self.ok.0) in
     subst (IsVerdict fares ((text ++ c.args.rest.now) ++ more)) (sym c.no_line.ensures)
@@ -16,8 +16,8 @@ returns-clause-fed c = λ fares text fed.
     let short : length whole ≤ 255 = omega (arith, c.extend_from_slice.new.self.ok.0) in
     kept fares c.args.self.now _ text c.args.rest.now fed c.requires.rest refl c.in_ok-extend_from_slice.ensures.items short
 
-pub returns-then-len-gt-LONGEST-clause-struck : goal.returns-then-len-gt-LONGEST-clause-struck
-returns-then-len-gt-LONGEST-clause-struck c = λ fares text balance posted struck. ap is_legal c.no_line.ensures
+pub returns-then-len-gt-MAX_LINE_BYTES-clause-struck : goal.returns-then-len-gt-MAX_LINE_BYTES-clause-struck
+returns-then-len-gt-MAX_LINE_BYTES-clause-struck c = λ fares text balance posted struck. ap is_legal c.no_line.ensures
 
 pub returns-clause-struck : goal.returns-clause-struck
 returns-clause-struck c = λ fares text balance posted struck.

@@ -8,13 +8,13 @@ use Rattle.ledger_check.specs.Ledger.{IsPostable}
 use Rattle.ledger_check.proofs.ReplayLemmas.{read_more, wanted_next, wrong_full, wrong_less, wrong_long, wrong_other, wrong_unread}
 use Rattle.ledger_check.proofs.TokenOrder.{own-few}
 use Rattle.ledger_check.proofs.replay.Replay.next.Goals as goal
-use Rattle.ledger_check.proofs.replay.Replay.next.Goals.{then-line-gt-LONGEST-via-then-line-gt-LONGEST, then-line-gt-LONGEST-via-else-line-gt-LONGEST+then-self-ge-MOST}
+use Rattle.ledger_check.proofs.replay.Replay.next.Goals.{then-line-gt-MAX_LINE_BYTES-via-then-line-gt-MAX_LINE_BYTES, then-line-gt-MAX_LINE_BYTES-via-else-line-gt-MAX_LINE_BYTES+then-self-ge-MAX_ENTRIES}
 
-pub returns-then-line-gt-LONGEST : goal.returns-then-line-gt-LONGEST
-returns-then-line-gt-LONGEST c = λ lines read.
-    elim c.then-line-gt-LONGEST.branch [
-      | then-line-gt-LONGEST-via-then-line-gt-LONGEST w ↦ wrong_long c.args.table.now c.args.self.now lines c.args.line.now read w.if-line-gt-LONGEST.true
-      | then-line-gt-LONGEST-via-else-line-gt-LONGEST+then-self-ge-MOST w ↦ wrong_full c.args.table.now c.args.self.now lines c.args.line.now read w.if-self-ge-MOST.true
+pub returns-then-line-gt-MAX_LINE_BYTES : goal.returns-then-line-gt-MAX_LINE_BYTES
+returns-then-line-gt-MAX_LINE_BYTES c = λ lines read.
+    elim c.then-line-gt-MAX_LINE_BYTES.branch [
+      | then-line-gt-MAX_LINE_BYTES-via-then-line-gt-MAX_LINE_BYTES w ↦ wrong_long c.args.table.now c.args.self.now lines c.args.line.now read w.if-line-gt-MAX_LINE_BYTES.true
+      | then-line-gt-MAX_LINE_BYTES-via-else-line-gt-MAX_LINE_BYTES+then-self-ge-MAX_ENTRIES w ↦ wrong_full c.args.table.now c.args.self.now lines c.args.line.now read w.if-self-ge-MAX_ENTRIES.true
     ]
 
 pub returns-in_default : goal.returns-in_default
@@ -65,8 +65,8 @@ returns-then-has_form c = λ lines read.
           (c.in-Some.ensures.validator, c.in-Some.ensures.moment) short (omega arith),
     )
 
-pub returns-else-len-le-LONGEST : goal.returns-else-len-le-LONGEST
-returns-else-len-le-LONGEST c = λ lines read.
+pub returns-else-len-le-MAX_LINE_BYTES : goal.returns-else-len-le-MAX_LINE_BYTES
+returns-else-len-le-MAX_LINE_BYTES c = λ lines read.
     let fares = c.args.table.now in
     let wanted = string_bytes c.write_wanted.new.wanted in
     let teller = c.in-Some-teller_of.teller in

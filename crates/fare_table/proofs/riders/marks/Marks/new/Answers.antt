@@ -5,9 +5,9 @@ use Rattle.std.proofs.lemmas.Map.Iter.{iter_end, iter_turn}
 use Rattle.std.specs.Map.{keys_of}
 use Rattle.std.specs.Map.Iter.{deref}
 use Rattle.fare_table.proofs.TokenMarks.{marked-more, marked-new}
-use Rattle.fare_table.specs.Marks.{is_marked, slot as slot_among}
+use Rattle.fare_table.specs.RiderMarks.{is_marked, slot as slot_among}
 use Rattle.fare_table.specs.declared.token.Token.{Token}
-use Rattle.fare_table.proofs.riders.marks.Marks.new.Goals as goal
+use Rattle.fare_table.proofs.riders.marks.RiderMarks.new.Goals as goal
 
 pub slot-slot-requires : goal.slot-slot-requires
 slot-slot-requires c =

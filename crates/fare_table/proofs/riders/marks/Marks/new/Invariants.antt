@@ -1,6 +1,6 @@
 use Rattle.std.proofs.Common.{◌≡◌, ◌*◌, ◌<◌, ◌≤◌, true, All, length}
-use Rattle.fare_table.specs.Marks.{is_marked}
-use Rattle.fare_table.proofs.riders.marks.Marks.new.Given as goal
+use Rattle.fare_table.specs.RiderMarks.{is_marked}
+use Rattle.fare_table.proofs.riders.marks.RiderMarks.new.Given as goal
 
 abbrev pub invariant-loop-token : goal.invariant-loop-token
 invariant-loop-token l = record {

@@ -4,7 +4,7 @@ use Rattle.std.specs.Map.{keys_of}
 use Rattle.fare_table.specs.Token.{Fits}
 use Rattle.fare_table.specs.declared.terms.Terms.{Terms}
 use Rattle.fare_table.specs.declared.token.Token.{Token}
-use Rattle.fare_table.specs.Marks.{is_marked}
+use Rattle.fare_table.specs.RiderMarks.{is_marked}
 
 -- tokens of two numbers of eight bytes each, all of them marked
 pub record AreMarked (entries : List (Token × Terms)) (marks : List Bool) : Type 0 where

@@ -3,5 +3,5 @@ use Rattle.std.specs.Prelude.{◌≡◌, ℕ, Bool, false, List, ◌++◌, Optio
 use Rattle.std.specs.Io.KnownBytes.{Appends}
 
 -- The line was told, unless a write of it failed.
-abbrev pub Told : Option (List ℕ) → Option (List ℕ) → Bool → List ℕ → Type 0
-Told said said' failed line = failed ≡ false → Appends said said' (line ++ codes "\n")
+abbrev pub LineWritten : Option (List ℕ) → Option (List ℕ) → Bool → List ℕ → Type 0
+LineWritten said said' failed line = failed ≡ false → Appends said said' (line ++ codes "\n")

@@ -25,13 +25,13 @@ pub record NamesMode (modes : List (List ℕ)) (entry : Members) (mode : ℕ) : 
   pub named : mode_named modes name ≡ Ok mode
 
 -- the text's entry at this place has the validator
-pub record EntryHas (tree : Members) (validator place : ℕ) : Type 0 where
+pub record RangeHas (tree : Members) (validator place : ℕ) : Type 0 where
   pub entry : Members
   pub listed : HasEntry tree place entry
   pub has : HasValidator entry validator
 
 -- an entry of the text has the validator, and names the mode
-pub record EntryGives (modes : List (List ℕ)) (tree : Members) (validator mode : ℕ) : Type 0 where
+pub record RangeGives (modes : List (List ℕ)) (tree : Members) (validator mode : ℕ) : Type 0 where
   pub place : ℕ
   pub entry : Members
   pub listed : HasEntry tree place entry

@@ -1,7 +1,7 @@
 -- One more tap adds the same to the replies and to the windows.
 use Rattle.account_rule.proofs.ShareLemmas.{cents_measure, paid_measure, ride_replies-shares}
 use Rattle.account_rule.proofs.ShareLemmas.{shares_of, sum-replies}
-use Rattle.account_rule.proofs.laws.shares.Goals as goal
+use Rattle.account_rule.proofs.laws.windows_add_up.Goals as goal
 
 pub returns-clause-rides : goal.returns-clause-rides
 unfolding shares_of

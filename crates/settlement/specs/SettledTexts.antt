@@ -14,7 +14,7 @@ use Rattle.settlement.specs.Settled.{IsSettledHistory}
 
 -- Of the settled history of the uploads, the outcome has the report, where it is printed with these
 -- ends, and the statement of each token; the entries of each token, in their order; and the table.
-pub record TellsSettled (fares : Fares) (uploads : List (List ℕ)) (ends : List UploadEnd)
+pub record HasSettledTexts (fares : Fares) (uploads : List (List ℕ)) (ends : List UploadEnd)
     (outcome : OutcomeView) : Type 0 where
   pub history : List Entry
   pub settled : IsSettledHistory fares uploads history
