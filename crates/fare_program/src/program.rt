@@ -294,8 +294,8 @@ fn work<'a, R: Threads + Wait + RandomSource + Sync, D: Disk + Sync, S: Source, 
 /// Says why the program gives up, where that can be written, and gives the status.
 fn tell<E: Write>(err: &mut Complaints<E>, fault: &Fault) -> u8
     ensures status { result ≡ status_of fault.now }
-    ensures line { LineWritten (E.contents err.old.writer) (E.contents err.new.writer) err.new.failed
-        (fault_text fault.now) }
+    ensures line { LineWritten (E.contents err.old.writer) (E.contents err.new.writer)
+        err.new.failed (fault_text fault.now) }
 {
     err.tell_line(*fault);
     fault.status()
