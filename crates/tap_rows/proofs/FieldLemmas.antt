@@ -15,20 +15,20 @@ has_comma [] b none = none 0 0 (omega arith) refl
 has_comma (x ∷ a) b none = has_comma a b (behind x (a ++ 44 ∷ b) none)
 
 -- the first comma stands at one place
-pub one_reading : (a b c d : List ℕ) → HasNoComma a → HasNoComma c → a ++ 44 ∷ b ≡ c ++ 44 ∷ d → (a ≡ c) × (b ≡ d)
-one_reading [] b [] d none none' e = (refl, cc)
-one_reading [] b (y ∷ c) d none none' e = absurd (none' 0 0 (omega arith) (cc))
-one_reading (x ∷ a) b [] d none none' e = absurd (none 0 0 (omega arith) (cc))
-one_reading (x ∷ a) b (y ∷ c) d none none' e =
+pub split_once : (a b c d : List ℕ) → HasNoComma a → HasNoComma c → a ++ 44 ∷ b ≡ c ++ 44 ∷ d → (a ≡ c) × (b ≡ d)
+split_once [] b [] d none none' e = (refl, cc)
+split_once [] b (y ∷ c) d none none' e = absurd (none' 0 0 (omega arith) (cc))
+split_once (x ∷ a) b [] d none none' e = absurd (none 0 0 (omega arith) (cc))
+split_once (x ∷ a) b (y ∷ c) d none none' e =
     let tails : a ++ 44 ∷ b ≡ c ++ 44 ∷ d = cc in
-    let (front, back) = one_reading a b c d (behind x a none) (behind y c none') tails in
+    let (front, back) = split_once a b c d (behind x a none) (behind y c none') tails in
     let first : x ≡ y = cc in
     (ap (λ z. z ∷ a) first ∙ ap (λ zs. y ∷ zs) front, back)
 
 pub one_fields : (line t v m t' v' m' : List ℕ) → AreFields line t v m → AreFields line t' v' m' → (t ≡ t') × (v ≡ v') × (m ≡ m')
 one_fields line t v m t' v' m' is other =
-    let (token, rest) = one_reading t (v ++ 44 ∷ m) t' (v' ++ 44 ∷ m') is.no_comma_first other.no_comma_first (sym is.joined ∙ other.joined) in
-    let (validator, moment) = one_reading v m v' m' is.no_comma_second other.no_comma_second rest in
+    let (token, rest) = split_once t (v ++ 44 ∷ m) t' (v' ++ 44 ∷ m') is.no_comma_first other.no_comma_first (sym is.joined ∙ other.joined) in
+    let (validator, moment) = split_once v m v' m' is.no_comma_second other.no_comma_second rest in
     (token, validator, moment)
 
 -- no comma, no fields
@@ -38,15 +38,15 @@ no_first line none t v m is = has_comma t (v ++ 44 ∷ m) (subst HasNoComma is.j
 -- one comma, no fields
 pub no_second : (line token rest : List ℕ) → HasNoComma token → line ≡ token ++ 44 ∷ rest → HasNoComma rest → (t v m : List ℕ) → ¬ (AreFields line t v m)
 no_second line token rest first joined none t v m is =
-    let (_, same) = one_reading token rest t (v ++ 44 ∷ m) first is.no_comma_first (sym joined ∙ is.joined) in
+    let (_, same) = split_once token rest t (v ++ 44 ∷ m) first is.no_comma_first (sym joined ∙ is.joined) in
     has_comma v m (subst HasNoComma same none)
 
 -- a comma in what stands behind the second one, no fields
 pub no_third : (line token rest validator moment : List ℕ) → HasNoComma token → line ≡ token ++ 44 ∷ rest → HasNoComma validator → rest ≡ validator ++ 44 ∷ moment
     → ¬ (HasNoComma moment) → (t v m : List ℕ) → ¬ (AreFields line t v m)
 no_third line token rest validator moment first joined second more some t v m is =
-    let (_, same) = one_reading token rest t (v ++ 44 ∷ m) first is.no_comma_first (sym joined ∙ is.joined) in
-    let (_, last) = one_reading validator moment v m second is.no_comma_second (sym more ∙ same) in
+    let (_, same) = split_once token rest t (v ++ 44 ∷ m) first is.no_comma_first (sym joined ∙ is.joined) in
+    let (_, last) = split_once validator moment v m second is.no_comma_second (sym more ∙ same) in
     some (subst HasNoComma (sym last) is.no_comma_third)
 
 -- ---- values

@@ -262,13 +262,13 @@ is_reading file =
     }
 
 -- ---- a file has one cut
-pub one_reading : (file : List ℕ) (xs ys : List (List Tap)) (r s : List ℕ) → IsFile file xs r
+pub one_list_of_batches : (file : List ℕ) (xs ys : List (List Tap)) (r s : List ℕ) → IsFile file xs r
     → IsFile file ys s → (xs ≡ ys) × (r ≡ s)
-one_reading file [] [] r s is is' = (refl, sym is.0 ∙ is'.0)
-one_reading file [] (y ∷ ys) r s is is' = absurd (is.1 is'.0 is'.1 y is'.2 (sym is.0 ∙ is'.3))
-one_reading file (x ∷ xs) [] r s is is' = absurd (is'.1 is.0 is.1 x is.2 (sym is'.0 ∙ is.3))
-one_reading file (x ∷ xs) (y ∷ ys) r s is is' =
+one_list_of_batches file [] [] r s is is' = (refl, sym is.0 ∙ is'.0)
+one_list_of_batches file [] (y ∷ ys) r s is is' = absurd (is.1 is'.0 is'.1 y is'.2 (sym is.0 ∙ is'.3))
+one_list_of_batches file (x ∷ xs) [] r s is is' = absurd (is'.1 is.0 is.1 x is.2 (sym is'.0 ∙ is.3))
+one_list_of_batches file (x ∷ xs) (y ∷ ys) r s is is' =
     let same = one_batch file is.0 is'.0 is.1 is'.1 x y is.2 is.3 is'.2 is'.3 in
     let P : List ℕ → Type 0 = λ back. IsFile back ys s in
-    let more = one_reading is.1 xs ys r s is.4 (subst P (sym same.1) is'.4) in
+    let more = one_list_of_batches is.1 xs ys r s is.4 (subst P (sym same.1) is'.4) in
     (rw (same.0, more.0) refl, more.1)
