@@ -52,7 +52,7 @@ fn shows_plain(files: &[Vec<u8>], outcome: &Outcome)
 {
     let _ = outcome.shards();
     laws::names(outcome);
-    laws::cuts(files);
+    laws::one_reading_each(files);
     laws::report(files, outcome);
     laws::statements(files, outcome);
 }
