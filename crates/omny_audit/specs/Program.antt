@@ -12,7 +12,7 @@ use Rattle.omny_audit.specs.Answers.{IsAnswer}
 use Rattle.omny_audit.specs.Fault.{audit_fault_text, is_quiet, is_unwritten}
 use Rattle.omny_audit.specs.Options.{AuditAsked}
 use Rattle.program_manners.specs.Loads.{Loaded, Tells, TellsOne}
-use Rattle.program_manners.specs.LineWritten.{LineWritten as IsLineWritten}
+use Rattle.program_manners.specs.LineWritten.{LineWritten}
 use Rattle.omny_audit.specs.declared.fault.Fault.{Fault}
 
 -- The text's rules, and the zone that it names, are those of these fares.
@@ -69,7 +69,7 @@ pub record Audits (asked : AuditAsked) (told told' : Option (List Loaded))
 -- nothing is told.
 abbrev pub IsFaultTold : Fault → Option (List ℕ) → Option (List ℕ) → Bool → Type 0
 IsFaultTold fault said said' failed = MatchBool (is_quiet fault) (said' ≡ said)
-    (IsLineWritten said said' failed (audit_fault_text fault))
+    (LineWritten said said' failed (audit_fault_text fault))
 
 -- The program gave up: the fault was told, and nothing was written but where a write failed.
 pub record AuditGaveUp (fault : Fault) (said said' : Option (List ℕ)) (failed : Bool)
