@@ -76,10 +76,11 @@ pub record AreTold (end_files report_files : List (List ℕ)) (ends : List (List
   pub parts_fit : All IsPartReport parts
   pub taps : sum_by (λ part. part.totals.taps) parts ≡ sum_by (λ end. end.taps) (joined_ends ends)
 
--- the validators of all parts, and the tokens of all parts, with their sums, part by part
+-- the validators of all parts with their sums, part by part
 abbrev pub validators_of_reports : List Report → List (ℕ × Sums)
 validators_of_reports parts = flat_map (λ part. part.validators) parts
 
+-- the tokens of all parts with their sums, part by part
 abbrev pub tokens_of_reports : List Report → List (Token × Sums)
 tokens_of_reports parts = flat_map (λ part. part.tokens) parts
 

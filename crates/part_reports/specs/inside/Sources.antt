@@ -78,6 +78,7 @@ abbrev pub IsSourceAt : Lines × List ℕ → Standing → Option Token → Type
 IsSourceAt text at None = IsAtEnd text
 IsSourceAt text at (Some token) = IsAtLine text at token
 
+-- the source stands at the first line of the text, if the text has one
 abbrev pub IsSource : Lines × List ℕ → Standing → Type 0
 IsSource text at = IsSourceAt text at at.head
 
@@ -112,6 +113,7 @@ abbrev pub IsStuck : Standing → Type 0
 IsStuck at = IfSome at.left (λ left. (list : List TokenLine) → IsTextOf (at.behind, left) list
     → IfSome at.head (λ token. ¬ (MayFollowAll at.behind token list)))
 
+-- the source at this place of the list is stuck
 pub record IsStuckAt (at : ℕ) (all : List Standing) : Type 0 where
   pub was : Standing
   pub there : slice_get all at ≡ Some was
