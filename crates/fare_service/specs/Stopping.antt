@@ -58,8 +58,9 @@ abbrev pub posting : OutcomeView → ℕ
 posting outcome = count_by (λ sums. nat_lt 0 sums.taps) outcome.workers
 
 -- How the workers of an outcome stopped. No more uploads were cut than there were workers, unless
--- taps and cuts together are 2^62: so it is if some shard was full, since each visit to it posted a
--- tap or was cut. If an upload was left undrawn, at least as many were cut as workers posted a tap.
+-- taps and cuts together are 2^62 or more: so it is if some shard was full, since each visit to it
+-- posted a tap or was cut. If an upload was left undrawn, at least as many were cut as workers
+-- posted a tap.
 pub record HaveStopped (workers : ℕ) (outcome : OutcomeView) : Type 0 where
   pub few_cut : (cuts outcome ≤ workers) ⊎ (2 ^ 62 ≤ outcome.totals.taps + cuts outcome)
   pub undrawn : (upload : ℕ) → slice_get outcome.ends upload ≡ Some Undrawn
