@@ -1,4 +1,4 @@
-//! Files that are read before their turns, several at once.
+//! Files that are read before they are due, several at once.
 ghost use Rattle.std.specs.Prelude.{◌≡◌, ◌<◌, ◌≤◌, ◌++◌, ◌∷◌, [], IfNone, IfSome, length};
 ghost use Rattle.std.specs.Prelude.{string_bytes};
 ghost use Rattle.fare_program.specs.inside.Ahead.{IsNotNext};
@@ -11,14 +11,14 @@ use std::thread::Threads;
 
 /// A disk: files by their names. Several threads may read them at once.
 pub trait Disk {
-    /// Whether the file of this name may be read before its turn.
+    /// Whether the file of this name may be read before it is due.
     fn may_be_early(&self, name: &str) -> bool;
 
     /// All bytes of the file of this name.
     fn read(&self, alloc: Global, name: &str) -> Result<Vec<u8>, LoadFault>;
 }
 
-/// What came of reading a file before its turn.
+/// What came of reading a file before it is due.
 #[derive(Drop)]
 pub struct Early {
     /// The name of the file.
@@ -42,7 +42,7 @@ pub(crate) fn take_next(early: &mut Vec<Early>, name: &str) -> Option<Result<Vec
     Some(next.loaded)
 }
 
-/// How many files may be read before their turns. The first that may not keeps all behind it
+/// How many files may be read before they are due. The first that may not keeps all behind it
 /// waiting: they may be made while it is read.
 fn count_early<D: Disk>(disk: &D, names: &[&str]) -> usize
     ensures { result ≤ length names.now }
@@ -56,8 +56,8 @@ fn count_early<D: Disk>(disk: &D, names: &[&str]) -> usize
 }
 
 /// Keeps what came of a file, and says whether the next one is to be read too: a fault ends all
-/// loading when its turn comes. Where memory was refused, nothing is kept, so that the file is read
-/// when its turn comes.
+/// loading when it is due. Where memory was refused, nothing is kept, so that the file is read
+/// when it is due.
 fn keep(
     part: &mut Vec<Early>,
     name: String,
@@ -119,7 +119,7 @@ fn read_parts<R: Threads + Sync, D: Disk + Sync>(
     Ok(early)
 }
 
-/// Reads files before their turns, by so many threads at most, and gives what came of them, the
+/// Reads files before they are due, by so many threads at most, and gives what came of them, the
 /// first one last. One thread reads none: it would gain nothing. Where memory is refused, fewer are
 /// read or none; where a thread is, another reads its part.
 pub fn read_early<R: Threads + Sync, D: Disk + Sync>(

@@ -7,7 +7,7 @@ use std::alloc::Global;
 use std::{fs, io};
 
 impl Disk for HostRuntime {
-    // What is no regular file, as a pipe, may give other bytes before its turn, or none for long.
+    // What is no regular file, as a pipe, may give other bytes before it is due, or none for long.
     fn may_be_early(&self, name: &str) -> bool {
         match fs::metadata(self, name) {
             Ok(about) => about.is_file() && about.len() <= LOAD_LIMIT_BYTES as u64,
@@ -29,7 +29,7 @@ impl Disk for HostRuntime {
 pub struct Host<'a, R> {
     /// The runtime that reaches the files.
     rt: &'a R,
-    /// The files that were read before their turns, the next one last.
+    /// The files that were read before they are due, the next one last.
     early: Vec<Early>,
 }
 

@@ -13,7 +13,7 @@ use Rattle.tap_balance.specs.declared.balance.Difference.{Difference}
 use Rattle.tap_views.specs.declared.encoder.TapFields.{TapFields}
 use Rattle.omny_audit.specs.Text.{IsDifferenceText, verdict_text}
 
--- the difference is that of the posted taps and the ledger's, whatever entries the ledger has
+-- the difference is that of the good taps and the ledger's, whatever entries the ledger has
 abbrev pub IsDifferenceOf : Fares → List ℕ → List TapFields → Option Difference → Type 0
 IsDifferenceOf fares text posted difference =
     (entries : List Entry) → IsLedgerOf fares entries text
@@ -34,7 +34,7 @@ IsSecond fares text (Some posted) true rest well =
     (difference : Option Difference) × IsDifferenceText difference rest
     × (well ≡ agrees difference) × IsDifferenceOf fares text posted difference
 
--- what is told of the text, beside the posted taps of the uploads, if there are uploads: a true
+-- what is told of the text, beside the good taps of the uploads, if there are uploads: a true
 -- verdict, and the difference
 pub record IsAnswer (fares : Fares) (text : List ℕ) (posted : Option (List TapFields))
     (told : List ℕ) (well : Bool) : Type 0 where
@@ -45,14 +45,14 @@ pub record IsAnswer (fares : Fares) (text : List ℕ) (posted : Option (List Tap
   pub second : IsSecond fares text posted (is_legal verdict) rest well
 
 -- the ledger's taps are those of the uploads in some order, if there are uploads
-abbrev pub HasPostedTaps : Option (List TapFields) → List Entry → Type 0
-HasPostedTaps None entries = Unit {0}
-HasPostedTaps (Some posted) entries = IsPermutation posted (map posted_tap entries)
+abbrev pub HasGoodTaps : Option (List TapFields) → List Entry → Type 0
+HasGoodTaps None entries = Unit {0}
+HasGoodTaps (Some posted) entries = IsPermutation posted (map posted_tap entries)
 
 -- the text is, whole, a ledger of legal histories, and has the taps of the uploads
 abbrev pub IsRight : Fares → List ℕ → Option (List TapFields) → Type 0
 IsRight fares text posted =
-    (entries : List Entry) × IsLedgerOf fares entries text × HasPostedTaps posted entries
+    (entries : List Entry) × IsLedgerOf fares entries text × HasGoodTaps posted entries
 
 -- what is answered is well exactly where the text is right
 abbrev pub AnswersDecide : Type 0

@@ -34,7 +34,7 @@ pub record LoadsNamedFiles (names : List Text) (told told' : Option (List Loaded
   pub bytes : map (λ load. load.bytes) loads ≡ files
   pub told_is : Tells told told' loads
 
--- the posted taps of the uploads, one upload after another
+-- the good taps of the uploads, one upload after another
 abbrev pub AreGoodTapsOfAll : List (List ℕ) → List TapFields → Type 0
 AreGoodTapsOfAll [] taps = taps ≡ []
 AreGoodTapsOfAll (upload ∷ uploads) taps =
@@ -47,7 +47,7 @@ compared [] posted = None
 compared (name ∷ names) posted = Some posted
 
 -- The table was loaded, then the uploads, and then all of the ledger; what was appended to the
--- writer is the answer on the ledger's text beside the posted taps of the uploads, if uploads are
+-- writer is the answer on the ledger's text beside the good taps of the uploads, if uploads are
 -- named. It says that all is well, or not.
 pub record Audits (asked : AuditAsked) (told told' : Option (List Loaded))
     (out out' : Option (List ℕ)) (well : Bool) : Type 0 where

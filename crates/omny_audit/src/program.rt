@@ -64,7 +64,7 @@ fn load_table<'a, S: Source>(
     Ok(table)
 }
 
-/// The posted taps of the uploads of these names. It holds one upload at a time.
+/// The good taps of the uploads of these names. It holds one upload at a time.
 fn load_balance<'a, S: Source>(
     alloc: Global,
     names: &[&'a str],

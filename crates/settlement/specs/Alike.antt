@@ -8,7 +8,7 @@ use Rattle.fare_service.specs.Text.{uploads_part}
 use Rattle.fare_service.specs.declared.upload_end.UploadEnd.{UploadEnd}
 use Rattle.tap_parts.specs.Parts.{uploads_joined}
 
--- the posted taps of the uploads are those of the others, in some order
+-- the good taps of the uploads are those of the others, in some order
 pub record HaveSameTaps (uploads others : List (List ℕ)) : Type 0 where
   pub taps : List (List Tap)
   pub other_taps : List (List Tap)

@@ -10,7 +10,7 @@ use Rattle.fare_service.specs.Plain.{AreTapsOfEach, ArePlainEnds, plain}
 use Rattle.fare_service.specs.declared.upload_end.UploadEnd.{UploadEnd}
 use Rattle.tap_parts.specs.Canonical.{IsCanonical}
 
--- The settled history of uploads under a table: all posted taps of the uploads, in canonical order,
+-- The settled history of uploads under a table: all good taps of the uploads, in canonical order,
 -- each with the reply of the account rule for the earlier taps of its token.
 pub record IsSettledHistory (fares : Fares) (uploads : List (List ℕ)) (history : List Entry)
     : Type 0 where
@@ -27,7 +27,7 @@ pub record IsPartFile (taps : List TapFields) (file : List ℕ) : Type 0 where
   pub reads : IsFileOf file list
 
 -- Each upload ends as its bytes call for. There is a number of parts, and each part has a file
--- that is read as exactly those posted taps of the uploads that fall to the part, in canonical
+-- that is read as exactly those good taps of the uploads that fall to the part, in canonical
 -- order.
 pub record IsSettled (uploads : List (List ℕ)) (ends : List UploadEnd) (files : List (List ℕ))
     : Type 0 where

@@ -18,7 +18,7 @@ use Rattle.tap_balance.specs.declared.balance.Difference.{Difference}
 use Rattle.tap_balance.specs.declared.balance.Difference.TheVariants.{Missing, Surplus}
 use Rattle.tap_balance.specs.declared.balance.TapKey.{TapKey}
 
--- the posted taps of an upload: those of all its batches before its first layout fault, in order
+-- the good taps of an upload: those of all its batches before its first layout fault, in order
 pub record AreGoodTaps (upload : List ℕ) (taps : List TapFields) : Type 0 where
   pub batches : List (List Tap)
   pub fault : Option (ℕ × LayoutFault)
@@ -47,8 +47,8 @@ copies_among tap taps = count_by (λ other. is_same other tap) taps
 abbrev pub left_at : BTreeMap TapKey ℕ → TapKey → ℕ
 left_at left key = unwrap_or (tree.get key_cmp left key) 0
 
--- of each posted tap some were struck out, and so many are left; or a tap is known that was struck
--- out more often than it was posted
+-- of each good tap some were struck out, and so many are left; or a tap is known that was struck
+-- out more often than the uploads have it
 abbrev pub IsBalance : Balance → List TapFields → List TapFields → Type 0
 IsBalance balance posted struck =
     MatchOption balance.surplus
@@ -56,7 +56,7 @@ IsBalance balance posted struck =
     ≡ left_at balance.left (key_of tap) + copies_among tap struck)
     (λ tap. copies_among tap posted < copies_among tap struck)
 
--- the others are the posted taps in some order; or the told tap is more often among the ones, or
+-- the others are the good taps in some order; or the told tap is more often among the ones, or
 -- among the others
 abbrev pub IsDifference : List TapFields → List TapFields → Option Difference → Type 0
 IsDifference posted others None = IsPermutation posted others

@@ -153,7 +153,7 @@ impl Balance {
         Ok(())
     }
 
-    /// Adds the posted taps of an upload: those before its first layout fault. All uploads are
+    /// Adds the good taps of an upload: those before its first layout fault. All uploads are
     /// added before a tap is struck out. Its one error is want of memory, and after it the balance
     /// is of no use.
     pub fn add_upload(&mut self, upload: &[u8]) -> Result<(), AllocError>

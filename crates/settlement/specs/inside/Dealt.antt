@@ -27,7 +27,7 @@ pub record AreAllAdded (uploads : List (List ℕ)) (old new : List (List TapFiel
   pub added : AreAdded (uploads_joined taps) old new
   pub ended : ArePlainEnds uploads ends
 
--- each of so many parts has, over all lists, exactly the uploads' posted taps that fall to it, in
+-- each of so many parts has, over all lists, exactly the uploads' good taps that fall to it, in
 -- their order, and these are the uploads' ends
 pub record AreDealt (parts : ℕ) (uploads : List (List ℕ)) (lists : List (List (List TapFields)))
     (ends : List UploadEnd) : Type 0 where
