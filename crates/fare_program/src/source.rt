@@ -11,8 +11,8 @@ pub trait Source {
     // What was loaded so far, in order, by a source that keeps it.
     ghost loaded: { Self → Option (List Loaded) } = { λ _. None };
 
-    /// Takes what was read of the next files before they are due, the first one last. None is loaded
-    /// by it: each is given, or its fault told, when it is loaded by its name.
+    /// Takes what was read of the next files before they are due, the first one last. None is
+    /// loaded by it: each is given, or its fault told, when it is loaded by its name.
     fn keep_early(&mut self, early: Vec<Early>)
         ensures { loaded self.new ≡ loaded self.old };
 
