@@ -1,7 +1,7 @@
 //! A token's entries, told one after another.
 
-ghost use Rattle.std.specs.Prelude.{◌≡◌, ◌+◌, ◌^◌, ◌<◌, ◌++◌, ◌∷◌, [], List, ℕ, IfOk, OnOk};
-ghost use Rattle.std.specs.Prelude.{length, map, string_bytes};
+ghost use Rattle.std.specs.Prelude.{◌≡◌, ◌+◌, ◌^◌, ◌<◌, ◌≤◌, ◌++◌, ◌∷◌, ◌⊎◌, [], List, ℕ, IfOk};
+ghost use Rattle.std.specs.Prelude.{length, map, string_bytes, OnErr, OnOk};
 ghost use Rattle.std.specs.Option.{ForSome};
 ghost use Rattle.account_rule.specs.Rules.{rules_of};
 ghost use Rattle.account_rule.specs.Windows.{last_window};
@@ -30,6 +30,7 @@ fn tap_of(table: &FareTable, clock: &Clock, entry: &Entry) -> Result<TapIn, NoMe
     ensures mode { IfOk result (λ tap. ForSome tap.mode (λ mode.
         mode.place < length table.now.rules.modes)) }
     ensures until { IfOk result (λ tap. tap.until ≡ until table.now tap.moment) }
+    ensures late { OnErr result (4_102_444_800_000 ≤ entry.now.moment) }
 {
     if entry.moment >= MOMENT_LIMIT {
         return Err(NoMemory);
@@ -49,7 +50,7 @@ pub struct Teller {
     /// How many of its entries were told.
     pub number: u64,
     /// Its account after them.
-    account: Account,
+    pub account: Account,
 }
 
 impl Teller {
@@ -97,6 +98,8 @@ impl Teller {
             → HasTold table.now self.new (earlier ++ entry.now ∷ [])) }
         ensures token { OnOk result (self.new.token ≡ self.old.token) }
         ensures number { OnOk result (self.new.number ≡ self.old.number + 1) }
+        ensures late { OnErr result (4_102_444_800_000 ≤ entry.now.moment) }
+        ensures err { OnErr result (self.new ≡ self.old) }
     {
         let bytes = self.token.bytes();
         let tap = tap_of(table, clock, entry)?;
@@ -106,7 +109,9 @@ impl Teller {
         Ok(reason)
     }
 
-    /// Takes the token's next entry, and appends its line. The text alone grows.
+    /// Takes the token's next entry, and appends its line. The text alone grows. It refuses an entry
+    /// from 2100-01-01T00:00Z on. If memory is refused, the entry is taken, but its line is not
+    /// whole.
     pub fn write_next(
         &mut self,
         text: &mut String,
@@ -126,6 +131,8 @@ impl Teller {
             → HasTold table.now self.new (earlier ++ entry.now ∷ [])) }
         ensures token { OnOk result (self.new.token ≡ self.old.token) }
         ensures number { OnOk result (self.new.number ≡ self.old.number + 1) }
+        ensures late_or_taken { OnErr result ((4_102_444_800_000 ≤ entry.now.moment)
+            ⊎ (self.new.number ≡ self.old.number + 1)) }
     {
         let reason = self.explain_next(table, clock, entry)?;
         write_line(text, table, self.token, self.number, entry, &reason)?;
