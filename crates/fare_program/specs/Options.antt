@@ -9,7 +9,7 @@ use Rattle.clap.specs.Words.{one_of, with_rule}
 use Rattle.clap.specs.declared.builder.action.ArgAction.TheVariants.{Append}
 use Rattle.clap.specs.declared.error.kind.ErrorKind.TheVariants.{DisplayHelp, DisplayVersion}
 use Rattle.program_manners.specs.Words.{flag_rule, named_app, number_rule, option_rule}
-use Rattle.program_manners.specs.Words.{place_rule}
+use Rattle.program_manners.specs.Words.{positional_rule}
 
 -- `--table F`
 abbrev pub table_rule : Rule
@@ -45,7 +45,7 @@ explain_rule = flag_rule (codes "explain")
 
 -- `FILE`, as often as wanted
 abbrev pub file_rule : Rule
-file_rule = place_rule (codes "FILE") Append
+file_rule = positional_rule (codes "FILE") Append
 
 -- the program's options, without its files
 abbrev pub app_of_options : App

@@ -7,7 +7,7 @@ ghost use Rattle.fare_program.specs.inside.Options.{HasNumber};
 
 use crate::options::Options;
 use clap::{ArgAction, ArgMatches, Command, Error};
-use program_manners::{flag_arg, names_in, new_command, number_arg, option_arg, place_arg};
+use program_manners::{flag_arg, names_in, new_command, number_arg, option_arg, positional_arg};
 use std::alloc::{AllocError, Global};
 
 /// What the program is for, as the help says it first.
@@ -87,7 +87,7 @@ fn command<'a>(alloc: Global) -> Result<Command<'a>, AllocError>
     let settle = flag_arg(alloc, "settle", SETTLE_HELP);
     let ledger = flag_arg(alloc, "ledger", LEDGER_HELP);
     let explain = flag_arg(alloc, "explain", EXPLAIN_HELP);
-    let file = place_arg(alloc, "FILE", ArgAction::Append, FILE_HELP);
+    let file = positional_arg(alloc, "FILE", ArgAction::Append, FILE_HELP);
     new_command(alloc, "omny_cli", ABOUT, NOTES)
         .arg(table)?
         .arg(list)?

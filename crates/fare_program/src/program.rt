@@ -145,7 +145,7 @@ fn load<'a, R: Threads + Sync, D: Disk + Sync, S: Source>(
 }
 
 /// The token whose statement is asked for, if any: 32 hexadecimal digits, and a table to charge by.
-fn token_of<'a>(options: &Options<'a>) -> Result<Option<Token>, Fault<'a>>
+fn asked_token<'a>(options: &Options<'a>) -> Result<Option<Token>, Fault<'a>>
     ensures token { IfOk result (IsTokenIn (asked_of options.now).token) }
     ensures right { OnOk result (token_fault (asked_of options.now) ≡ None) }
     ensures fault { IfErr result (λ fault. token_fault (asked_of options.now) ≡ Some fault) }
@@ -220,7 +220,7 @@ fn checked<'a>(options: &Options<'a>) -> Result<Option<Token>, Fault<'a>>
     ensures fault { IfErr result (λ fault. mistake (asked_of options.now) ≡ Some fault) }
     ensures status { IfErr result (λ fault. status_of fault ≡ 2) }
 {
-    let token = token_of(options)?;
+    let token = asked_token(options)?;
     check_charged(
         options,
         options.settle,

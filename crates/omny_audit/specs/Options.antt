@@ -2,12 +2,11 @@
 use Rattle.std.specs.Prelude.{◌≡◌, ◌⊎◌, List, [], ◌∷◌, ◌++◌, Option, None, Some, codes, true}
 use Rattle.std.specs.Prelude.{if◌then◌else◌, option_and_then, unwrap_or}
 use Rattle.std.specs.Str.{bytes_eq}
-use Rattle.clap.specs.Lexer.{usize_max}
 use Rattle.clap.specs.Words.{App, IsAmong, Rule, Text, all_of, fault_of, first_of, matches_of}
-use Rattle.clap.specs.Words.{new_rule, with_rule}
-use Rattle.clap.specs.declared.builder.action.ArgAction.TheVariants.{Set, Append}
+use Rattle.clap.specs.Words.{with_rule}
+use Rattle.clap.specs.declared.builder.action.ArgAction.TheVariants.{Set}
 use Rattle.clap.specs.declared.error.kind.ErrorKind.TheVariants.{DisplayHelp, DisplayVersion}
-use Rattle.program_manners.specs.Words.{named_app, option_rule, place_rule}
+use Rattle.program_manners.specs.Words.{files_rule, named_app, option_rule, positional_rule}
 
 -- `--table F`, which has to be given
 abbrev pub required_table_rule : Rule
@@ -15,22 +14,17 @@ required_table_rule = record (option_rule (codes "table")) { required = true }
 
 -- `--uploads FILE..`, as often as wanted
 abbrev pub uploads_rule : Rule
-uploads_rule = record (new_rule (codes "uploads")) {
-  long = Some (codes "uploads");
-  action = Some Append;
-  range = Some (record { start_inclusive = 1; end_inclusive = usize_max });
-  value_names = 1;
-}
+uploads_rule = files_rule (codes "uploads")
 
 -- `LEDGER`
-abbrev pub ledger_place_rule : Rule
-ledger_place_rule = place_rule (codes "LEDGER") Set
+abbrev pub ledger_positional_rule : Rule
+ledger_positional_rule = positional_rule (codes "LEDGER") Set
 
 -- all words that the program takes
 unfoldable pub audit_program : App
 audit_program =
     with_rule (with_rule (with_rule (named_app (codes "omny_audit")) required_table_rule)
-    uploads_rule) ledger_place_rule
+    uploads_rule) ledger_positional_rule
 
 -- the words after the program's name are a command line of the program
 abbrev pub ParsesForAudit : List Text → Type 0

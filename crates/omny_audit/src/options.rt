@@ -5,10 +5,10 @@ ghost use Rattle.clap.specs.Words.{FailsBy, all_of, app_of, fault_of, found_of, 
 ghost use Rattle.clap.specs.Words.{rows_of, rule_of};
 ghost use Rattle.omny_audit.specs.Options.{audit_asked_by, not_dash, audit_program};
 ghost use Rattle.omny_audit.specs.inside.Options.{audit_asked_of};
-ghost use Rattle.omny_audit.specs.Options.{required_table_rule, uploads_rule};
+ghost use Rattle.omny_audit.specs.Options.{required_table_rule};
 
 use clap::{Arg, ArgAction, ArgMatches, Command, Error};
-use program_manners::{names_in, new_command, option_arg, place_arg};
+use program_manners::{files_arg, names_in, new_command, option_arg, positional_arg};
 use std::alloc::{AllocError, Global};
 
 /// What the program is for, as the help says it first.
@@ -72,26 +72,13 @@ fn table_arg<'a>(alloc: Global) -> Arg<'a>
     option_arg(alloc, "table", "F", TABLE_HELP).required(true)
 }
 
-/// `--uploads FILE..`.
-fn uploads_arg<'a>(alloc: Global) -> Arg<'a>
-    ensures rule { rule_of result ≡ uploads_rule }
-    ensures local { result.global ≡ false }
-{
-    Arg::new(alloc, "uploads")
-        .long("uploads")
-        .value_name("FILE")
-        .num_args(1..)
-        .action(ArgAction::Append)
-        .help(UPLOADS_HELP)
-}
-
 /// The command line, as clap reads it.
 fn command<'a>(alloc: Global) -> Result<Command<'a>, AllocError>
     ensures { IfOk result (λ command. app_of command ≡ audit_program) }
 {
     let table = table_arg(alloc);
-    let uploads = uploads_arg(alloc);
-    let ledger = place_arg(alloc, "LEDGER", ArgAction::Set, LEDGER_HELP);
+    let uploads = files_arg(alloc, "uploads", UPLOADS_HELP);
+    let ledger = positional_arg(alloc, "LEDGER", ArgAction::Set, LEDGER_HELP);
     new_command(alloc, "omny_audit", ABOUT, NOTES)
         .arg(table)?
         .arg(uploads)?

@@ -4,7 +4,8 @@ use crate::merging::MergeWords;
 use crate::names::Name;
 use crate::splitting::SplitWords;
 use crate::words::names_at;
-use clap::{Arg, ArgAction, ArgMatches, Command, value_parser};
+use clap::{ArgAction, ArgMatches, Command, value_parser};
+use program_manners::{files_arg, option_arg, positional_arg};
 use std::alloc::{AllocError, Global};
 
 /// What the exit status of `split` says.
@@ -76,30 +77,14 @@ const LEDGERS_HELP: &str = "The ledgers of the parts, in any order; - stands for
 
 /// `split --parts N --part-files DIR [--first K] FILE...`
 pub(crate) fn split_command<'a>(alloc: Global) -> Result<Command<'a>, AllocError> {
-    let parts = Arg::new(alloc, "parts")
-        .long("parts")
-        .value_name("N")
-        .action(ArgAction::Set)
+    let parts = option_arg(alloc, "parts", "N", PARTS_HELP)
         .value_parser(value_parser!(u32).range(1..=65_535))
-        .required(true)
-        .help(PARTS_HELP);
-    let folder = Arg::new(alloc, "part-files")
-        .long("part-files")
-        .value_name("DIR")
-        .action(ArgAction::Set)
-        .required(true)
-        .help(PART_FILES_HELP);
-    let first = Arg::new(alloc, "first")
-        .long("first")
-        .value_name("K")
-        .action(ArgAction::Set)
+        .required(true);
+    let folder = option_arg(alloc, "part-files", "DIR", PART_FILES_HELP).required(true);
+    let first = option_arg(alloc, "first", "K", FIRST_HELP)
         .value_parser(value_parser!(u32))
-        .default_value("0")
-        .help(FIRST_HELP);
-    let file = Arg::new(alloc, "FILE")
-        .action(ArgAction::Append)
-        .required(true)
-        .help(UPLOADS_HELP);
+        .default_value("0");
+    let file = positional_arg(alloc, "FILE", ArgAction::Append, UPLOADS_HELP).required(true);
     Command::new(alloc, "split")
         .about(SPLIT_ABOUT)
         .after_help(SPLIT_STATUS)
@@ -126,20 +111,8 @@ pub(crate) fn split_words<'a>(
 
 /// `merge --ends FILE... --reports FILE...`
 pub(crate) fn merge_command<'a>(alloc: Global) -> Result<Command<'a>, AllocError> {
-    let ends = Arg::new(alloc, "ends")
-        .long("ends")
-        .value_name("FILE")
-        .num_args(1..)
-        .action(ArgAction::Append)
-        .required(true)
-        .help(ENDS_HELP);
-    let reports = Arg::new(alloc, "reports")
-        .long("reports")
-        .value_name("FILE")
-        .num_args(1..)
-        .action(ArgAction::Append)
-        .required(true)
-        .help(REPORTS_HELP);
+    let ends = files_arg(alloc, "ends", ENDS_HELP).required(true);
+    let reports = files_arg(alloc, "reports", REPORTS_HELP).required(true);
     Command::new(alloc, "merge")
         .about(MERGE_ABOUT)
         .after_help(MERGE_STATUS)
@@ -149,10 +122,7 @@ pub(crate) fn merge_command<'a>(alloc: Global) -> Result<Command<'a>, AllocError
 
 /// `merge-ledgers FILE...`
 pub(crate) fn merge_ledgers_command<'a>(alloc: Global) -> Result<Command<'a>, AllocError> {
-    let file = Arg::new(alloc, "FILE")
-        .action(ArgAction::Append)
-        .required(true)
-        .help(LEDGERS_HELP);
+    let file = positional_arg(alloc, "FILE", ArgAction::Append, LEDGERS_HELP).required(true);
     Command::new(alloc, "merge-ledgers")
         .about(MERGE_LEDGERS_ABOUT)
         .after_help(MERGE_LEDGERS_STATUS)

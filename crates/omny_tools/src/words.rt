@@ -8,9 +8,9 @@ use crate::part_words::{
 };
 use crate::splitting::SplitWords;
 use crate::table::Question;
-use clap::{Arg, ArgAction, ArgMatches, Command, Error};
+use clap::{ArgAction, ArgMatches, Command, Error};
 use jiff::Timestamp;
-use program_version::VERSION;
+use program_manners::{flag_arg, new_command, option_arg, positional_arg};
 use std::alloc::{AllocError, Global};
 
 /// What the program is for, as the help says it first.
@@ -128,9 +128,7 @@ pub(crate) enum Task<'a> {
 
 /// `encode [FILE]`
 fn encode_command<'a>(alloc: Global) -> Result<Command<'a>, AllocError> {
-    let file = Arg::new(alloc, "FILE")
-        .action(ArgAction::Set)
-        .help(ENCODE_HELP);
+    let file = positional_arg(alloc, "FILE", ArgAction::Set, ENCODE_HELP);
     Command::new(alloc, "encode")
         .about(ENCODE_ABOUT)
         .after_help(STATUS)
@@ -139,9 +137,7 @@ fn encode_command<'a>(alloc: Global) -> Result<Command<'a>, AllocError> {
 
 /// `decode [FILE]...`
 fn decode_command<'a>(alloc: Global) -> Result<Command<'a>, AllocError> {
-    let file = Arg::new(alloc, "FILE")
-        .action(ArgAction::Append)
-        .help(DECODE_HELP);
+    let file = positional_arg(alloc, "FILE", ArgAction::Append, DECODE_HELP);
     Command::new(alloc, "decode")
         .about(DECODE_ABOUT)
         .after_help(STATUS)
@@ -150,19 +146,9 @@ fn decode_command<'a>(alloc: Global) -> Result<Command<'a>, AllocError> {
 
 /// `uploads [--good-part OUT] [--tokens] FILE...`
 fn uploads_command<'a>(alloc: Global) -> Result<Command<'a>, AllocError> {
-    let good = Arg::new(alloc, "good-part")
-        .long("good-part")
-        .value_name("OUT")
-        .action(ArgAction::Set)
-        .help(GOOD_PART_HELP);
-    let tokens = Arg::new(alloc, "tokens")
-        .long("tokens")
-        .action(ArgAction::SetTrue)
-        .help(TOKENS_HELP);
-    let file = Arg::new(alloc, "FILE")
-        .action(ArgAction::Append)
-        .required(true)
-        .help(UPLOADS_HELP);
+    let good = option_arg(alloc, "good-part", "OUT", GOOD_PART_HELP);
+    let tokens = flag_arg(alloc, "tokens", TOKENS_HELP);
+    let file = positional_arg(alloc, "FILE", ArgAction::Append, UPLOADS_HELP).required(true);
     Command::new(alloc, "uploads")
         .about(UPLOADS_ABOUT)
         .after_help(STATUS)
@@ -173,26 +159,11 @@ fn uploads_command<'a>(alloc: Global) -> Result<Command<'a>, AllocError> {
 
 /// `table [--strict] [--riders] [--from MOMENT] F [UPLOAD]...`
 fn table_command<'a>(alloc: Global) -> Result<Command<'a>, AllocError> {
-    let strict = Arg::new(alloc, "strict")
-        .long("strict")
-        .action(ArgAction::SetTrue)
-        .help(STRICT_HELP);
-    let riders = Arg::new(alloc, "riders")
-        .long("riders")
-        .action(ArgAction::SetTrue)
-        .help(RIDERS_HELP);
-    let from = Arg::new(alloc, "from")
-        .long("from")
-        .value_name("MOMENT")
-        .action(ArgAction::Set)
-        .help(FROM_HELP);
-    let table = Arg::new(alloc, "F")
-        .action(ArgAction::Set)
-        .required(true)
-        .help(TABLE_HELP);
-    let uploads = Arg::new(alloc, "UPLOAD")
-        .action(ArgAction::Append)
-        .help(TABLE_UPLOADS_HELP);
+    let strict = flag_arg(alloc, "strict", STRICT_HELP);
+    let riders = flag_arg(alloc, "riders", RIDERS_HELP);
+    let from = option_arg(alloc, "from", "MOMENT", FROM_HELP);
+    let table = positional_arg(alloc, "F", ArgAction::Set, TABLE_HELP).required(true);
+    let uploads = positional_arg(alloc, "UPLOAD", ArgAction::Append, TABLE_UPLOADS_HELP);
     Command::new(alloc, "table")
         .about(TABLE_ABOUT)
         .after_help(STATUS)
@@ -212,10 +183,7 @@ fn command<'a>(alloc: Global) -> Result<Command<'a>, AllocError> {
     let split = split_command(alloc)?;
     let merge = merge_command(alloc)?;
     let merge_ledgers = merge_ledgers_command(alloc)?;
-    Command::new(alloc, "omny_tools")
-        .version(VERSION)
-        .about(ABOUT)
-        .after_help(STATUS)
+    new_command(alloc, "omny_tools", ABOUT, STATUS)
         .subcommand_required(true)
         .arg_required_else_help(true)
         .subcommand(encode)?
@@ -242,17 +210,12 @@ pub(crate) fn names_at<'a>(
     Ok(names)
 }
 
-/// The names of FILE.
-fn names_in<'a>(alloc: Global, matches: &ArgMatches<'a>) -> Result<Vec<Name<'a>>, AllocError> {
-    names_at(alloc, matches, "FILE")
-}
-
 /// The names of FILE, or standard input where there is none.
 fn names_or_input<'a>(
     alloc: Global,
     matches: &ArgMatches<'a>,
 ) -> Result<Vec<Name<'a>>, AllocError> {
-    let mut names = names_in(alloc, matches)?;
+    let mut names = names_at(alloc, matches, "FILE")?;
     if names.is_empty() {
         names.push(Name::input())?;
     }
@@ -261,7 +224,7 @@ fn names_or_input<'a>(
 
 /// What `uploads` is asked for.
 fn uploads_task<'a>(alloc: Global, matches: &ArgMatches<'a>) -> Result<Task<'a>, AllocError> {
-    let names = names_in(alloc, matches)?;
+    let names = names_at(alloc, matches, "FILE")?;
     let has_tokens = matches.get_flag("tokens");
     let Some(good) = matches.get_str("good-part") else {
         return Ok(Task::Uploads(names, has_tokens));

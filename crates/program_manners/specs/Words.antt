@@ -1,9 +1,10 @@
 -- The rules of a command line's options, and what is no mistake in its words.
 use Rattle.std.specs.Prelude.{◌≡◌, ◌⊎◌, ℤ, [], ◌∷◌, Some, pos, true}
+use Rattle.clap.specs.Lexer.{usize_max}
 use Rattle.clap.specs.Words.{App, Rule, Text, new_app, new_rule}
 use Rattle.clap.specs.Simple.{on_top}
 use Rattle.clap.specs.declared.builder.action.ArgAction.{ArgAction}
-use Rattle.clap.specs.declared.builder.action.ArgAction.TheVariants.{Set, SetTrue}
+use Rattle.clap.specs.declared.builder.action.ArgAction.TheVariants.{Append, Set, SetTrue}
 use Rattle.clap.specs.declared.builder.value_parser.ValueParser.TheVariants.{Signed}
 use Rattle.clap.specs.declared.error.kind.ErrorKind.{ErrorKind}
 use Rattle.clap.specs.declared.error.kind.ErrorKind.TheVariants.{DisplayHelp, DisplayVersion}
@@ -23,13 +24,22 @@ number_rule name most default = record (option_rule name) {
   defaults = default ∷ [];
 }
 
+-- `--NAME FILE..`, with one or more files, as often as wanted
+abbrev pub files_rule : Text → Rule
+files_rule name = record (new_rule name) {
+  long = Some name;
+  action = Some Append;
+  range = Some (record { start_inclusive = 1; end_inclusive = usize_max });
+  value_names = 1;
+}
+
 -- `--NAME`
 abbrev pub flag_rule : Text → Rule
 flag_rule name = record (new_rule name) { long = Some name; action = Some SetTrue }
 
--- `NAME`, told by its place, with this action
-abbrev pub place_rule : Text → ArgAction → Rule
-place_rule name action = record (new_rule name) { action = Some action }
+-- a positional argument `NAME` with this action
+abbrev pub positional_rule : Text → ArgAction → Rule
+positional_rule name action = record (new_rule name) { action = Some action }
 
 -- a program's name, and that it has a version
 abbrev pub named_app : Text → App

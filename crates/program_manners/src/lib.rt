@@ -23,4 +23,6 @@ pub use complaints::Complaints;
 pub use loading::{FileFault, LOAD_LIMIT_BYTES, LoadFault, load_from};
 pub use opened::Opened;
 pub use table_line::TableLine;
-pub use words::{flag_arg, names_in, new_command, number_arg, option_arg, place_arg};
+pub use words::{
+    files_arg, flag_arg, names_in, new_command, number_arg, option_arg, positional_arg,
+};

@@ -2,8 +2,8 @@
 ghost use Rattle.std.specs.Prelude.{◌≡◌, IfOk, [], false, map, pos, unwrap_or};
 ghost use Rattle.clap.specs.Simple.{app_of};
 ghost use Rattle.clap.specs.Words.{all_of, found_of, rows_of, rule_of};
-ghost use Rattle.program_manners.specs.Words.{flag_rule, named_app, number_rule, option_rule};
-ghost use Rattle.program_manners.specs.Words.{place_rule};
+ghost use Rattle.program_manners.specs.Words.{files_rule, flag_rule, named_app, number_rule};
+ghost use Rattle.program_manners.specs.Words.{option_rule, positional_rule};
 
 use clap::builder::ValueParser;
 use clap::{Arg, ArgAction, ArgMatches, Command};
@@ -38,6 +38,19 @@ pub fn number_arg<'a>(
         .default_value(default)
 }
 
+/// An option with one or more files, which may be given again: `--NAME FILE..`.
+pub fn files_arg<'a>(alloc: Global, name: &'a str, help: &'a str) -> Arg<'a>
+    ensures rule { rule_of result ≡ files_rule name.entry.now }
+    ensures local { result.global ≡ false }
+{
+    Arg::new(alloc, name)
+        .long(name)
+        .value_name("FILE")
+        .num_args(1..)
+        .action(ArgAction::Append)
+        .help(help)
+}
+
 /// A flag: `--NAME`.
 pub fn flag_arg<'a>(alloc: Global, name: &'a str, help: &'a str) -> Arg<'a>
     ensures rule { rule_of result ≡ flag_rule name.entry.now }
@@ -49,9 +62,9 @@ pub fn flag_arg<'a>(alloc: Global, name: &'a str, help: &'a str) -> Arg<'a>
         .help(help)
 }
 
-/// What is told by its place: `NAME`.
-pub fn place_arg<'a>(alloc: Global, name: &'a str, action: ArgAction, help: &'a str) -> Arg<'a>
-    ensures rule { rule_of result ≡ place_rule name.entry.now action }
+/// A positional argument: `NAME`. `Set` takes one value, `Append` any number.
+pub fn positional_arg<'a>(alloc: Global, name: &'a str, action: ArgAction, help: &'a str) -> Arg<'a>
+    ensures rule { rule_of result ≡ positional_rule name.entry.now action }
     ensures local { result.global ≡ false }
 {
     Arg::new(alloc, name).action(action).help(help)

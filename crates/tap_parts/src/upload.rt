@@ -1,6 +1,6 @@
 //! The taps of a whole upload, added to parts.
 
-ghost use Rattle.std.specs.Prelude.{◌≡◌, length, IfOk};
+ghost use Rattle.std.specs.Prelude.{IfOk};
 ghost use Rattle.tap_parts.specs.Uploads.{IsUploadAdded};
 
 use crate::parts::Parts;
@@ -16,21 +16,12 @@ pub struct UploadTaps {
     pub fault: Option<(u64, LayoutFault)>,
 }
 
-/// The number of bytes.
-fn size(upload: &[u8]) -> u64
-    ensures { result ≡ length upload.now }
-{
-    // proof: an upload has fewer than 2^64 bytes, so that its taps can be counted
-    upload.len() as u64
-}
-
 impl Parts {
     /// Adds the upload's taps before its first layout fault, each to the part of its token, and
     /// returns how many these are, and the fault. After an error the parts are of no use.
     pub fn add_upload(&mut self, upload: &[u8]) -> Result<UploadTaps, AllocError>
         ensures { IfOk result (λ added. IsUploadAdded upload.now self.old self.new added) }
     {
-        let _ = size(upload);
         let mut taps = 0;
         for item in batches(upload) {
             match item {

@@ -5,7 +5,7 @@ ghost use Rattle.std.specs.Prelude.{IsTrue, MatchOption};
 ghost use Rattle.tap_rows.specs.Fields.{AreFields, HasNoComma, FieldStandsFor};
 
 /// What stands before the first comma and behind it, or nothing where there is no comma.
-fn cut(line: &[u8]) -> Option<(&[u8], &[u8])>
+fn split_at_comma(line: &[u8]) -> Option<(&[u8], &[u8])>
     ensures { MatchOption result (HasNoComma line.now)
         (λ (field, rest). HasNoComma field.now × (line.now ≡ field.now ++ 44 ∷ rest.now)) }
 {
@@ -19,10 +19,10 @@ pub(crate) fn three_fields(line: &[u8]) -> Option<(&[u8], &[u8], &[u8])>
         → ¬ (AreFields line.now first second third))
         (λ (first, second, third). AreFields line.now first.now second.now third.now) }
 {
-    let Some((first, rest)) = cut(line) else {
+    let Some((first, rest)) = split_at_comma(line) else {
         return None;
     };
-    let Some((second, third)) = cut(rest) else {
+    let Some((second, third)) = split_at_comma(rest) else {
         return None;
     };
     if third.contains(&b',') {

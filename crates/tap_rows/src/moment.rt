@@ -77,7 +77,7 @@ fn time_of(field: &[u8]) -> Option<u64>
 }
 
 /// The moment that a field tells, in milliseconds since 1970-01-01T00:00Z.
-pub(crate) fn moment_of(field: &[u8]) -> Option<u64>
+pub(crate) fn moment_in(field: &[u8]) -> Option<u64>
     ensures { MatchOption result ((number : ℕ)
         → ¬ (IsMoment field.now number)) (λ number. IsMoment field.now number) }
 {

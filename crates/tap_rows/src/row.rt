@@ -5,11 +5,11 @@ ghost use Rattle.tap_rows.specs.Rows.{IsNoRow, IsRow, IsToken, IsValidator};
 
 use crate::column::Column;
 use crate::field::{three_fields, value_of};
-use crate::moment::{moment_of, number_of};
+use crate::moment::{moment_in, number_of};
 use tap_views::TapFields;
 
 /// The 16 bytes that 32 hexadecimal digits spell.
-fn token_of(value: &[u8]) -> Option<[u8; 16]>
+fn token_in(value: &[u8]) -> Option<[u8; 16]>
     ensures { MatchOption result ((token : List ℕ)
         → ¬ (IsToken value.now token)) (λ token. IsToken value.now token) }
 {
@@ -21,7 +21,7 @@ fn token_of(value: &[u8]) -> Option<[u8; 16]>
 }
 
 /// The validator's number that a value writes.
-fn validator_of(value: &[u8]) -> Option<u32>
+fn validator_in(value: &[u8]) -> Option<u32>
     ensures { MatchOption result ((number : ℕ)
         → ¬ (IsValidator value.now number)) (λ number. IsValidator value.now number) }
 {
@@ -37,13 +37,13 @@ pub fn tap_of(line: &[u8]) -> Result<TapFields, Column>
     let Some((token, validator, moment)) = three_fields(line) else {
         return Err(Column::Fields);
     };
-    let Some(token) = value_of(token).and_then(token_of) else {
+    let Some(token) = value_of(token).and_then(token_in) else {
         return Err(Column::Token);
     };
-    let Some(validator) = value_of(validator).and_then(validator_of) else {
+    let Some(validator) = value_of(validator).and_then(validator_in) else {
         return Err(Column::Validator);
     };
-    let Some(moment) = value_of(moment).and_then(moment_of) else {
+    let Some(moment) = value_of(moment).and_then(moment_in) else {
         return Err(Column::Moment);
     };
     Ok(TapFields {

@@ -1,6 +1,5 @@
 //! What an upload has.
 
-ghost use Rattle.std.specs.Prelude.{◌≡◌, length};
 ghost use Rattle.upload_facts.specs.Facts.{AreFacts};
 
 use crate::span::{MomentSpan, over_batch};
@@ -19,19 +18,10 @@ pub struct Facts {
     pub fault: Option<(u64, LayoutFault)>,
 }
 
-/// The number of bytes.
-fn size(upload: &[u8]) -> u64
-    ensures { result ≡ length upload.now }
-{
-    // proof: an upload has fewer than 2^64 bytes, so that its batches and taps can be counted
-    upload.len() as u64
-}
-
 /// What an upload has. It takes no memory.
 pub fn facts_of(upload: &[u8]) -> Facts
     ensures { AreFacts upload.now result }
 {
-    let _ = size(upload);
     let mut count = 0;
     let mut taps = 0;
     let mut span = None;

@@ -15,4 +15,4 @@ returns c =
     let six = c.in_ok-arg-6.ensures.shape c.flag_arg-settle.ensures.local ∙ ap₂ with_rule five c.flag_arg-settle.ensures.rule in
     let seven = c.in_ok-arg-7.ensures.shape c.flag_arg-ledger.ensures.local ∙ ap₂ with_rule six c.flag_arg-ledger.ensures.rule in
     let eight = c.in_ok-arg-8.ensures.shape c.flag_arg-explain.ensures.local ∙ ap₂ with_rule seven c.flag_arg-explain.ensures.rule in
-    IfOk-weaker c.arg-9.result _ _ (λ command adds. adds.shape c.place_arg-file.ensures.local ∙ ap₂ with_rule eight c.place_arg-file.ensures.rule) c.arg-9.ensures
+    IfOk-weaker c.arg-9.result _ _ (λ command adds. adds.shape c.positional_arg-file.ensures.local ∙ ap₂ with_rule eight c.positional_arg-file.ensures.rule) c.arg-9.ensures

@@ -82,7 +82,7 @@ overflow_add-taps c =
     c.loop-item.item-iterator c.loop-item.invariant.reading made.1 step) in
     let fits = few c.args.upload.now ((made.0 ++ c.in-Ok.batch ∷ []) ++ read.1) read.0 read.2 in
     let left = room c.args.upload.now made.0 read.1 read.0 c.in-Ok.batch fits in
-    omega (arith, left.0, made.3, c.len.ensures.number, c.size.type_inv, c.size.ensures)
+    omega (arith, left.0, made.3, c.len.ensures.number)
 
 pub returns-in-Err : goal.returns-in-Err
 returns-in-Err c =

@@ -2,7 +2,7 @@ use Rattle.std.proofs.Common.{◌≡◌, ◌∙◌, ℕ, List, Bor, true, false,
 use Rattle.std.specs.Prelude.{is_ok, is_some, option_map}
 use Rattle.hex.specs.Hex.{decode_sized}
 use Rattle.fare_program.specs.Fault.{token_fault_of}
-use Rattle.fare_program.proofs.program.token_of.Goals as goal
+use Rattle.fare_program.proofs.program.asked_token.Goals as goal
 
 -- digits that are a token, and a table
 right : (token table : Option (Bor (List ℕ))) (digits : Bor (List ℕ)) → token ≡ Some digits → is_ok (decode_sized digits.now 16) ≡ true

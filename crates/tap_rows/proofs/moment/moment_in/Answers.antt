@@ -1,6 +1,6 @@
 use Rattle.std.proofs.Common.{◌≡◌, arith}
 use Rattle.tap_rows.proofs.MomentLemmas.{one_time}
-use Rattle.tap_rows.proofs.moment.moment_of.Goals as goal
+use Rattle.tap_rows.proofs.moment.moment_in.Goals as goal
 
 pub returns-in_default : goal.returns-in_default
 returns-in_default c = λ number is. c.in_default.ensures number (omega (arith, is.1)) is.0
