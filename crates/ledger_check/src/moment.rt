@@ -9,15 +9,13 @@ ghost use Rattle.jiff_fmt.specs.Text.{date_text};
 ghost use Rattle.fare_texts.specs.Moments.{IsMomentText, clock_text};
 
 use jiff_core::civil::Date;
+use tap_views::MOMENT_LIMIT_MS;
 
 /// A day in milliseconds.
 const DAY_MS: u64 = 86_400_000;
 
 /// 1970-01-01, in days since the first date of the calendar.
 const EPOCH_DAY: u64 = 4_371_587;
-
-/// The moment at which taps end, in milliseconds: 2100-01-01T00:00Z.
-const MOMENT_LIMIT: u64 = 4_102_444_800_000;
 
 /// The number of two decimal digits.
 fn two_digits(tens: u8, ones: u8) -> Option<u64>
@@ -119,7 +117,7 @@ pub(crate) fn read_moment(text: &[u8]) -> Option<u64>
         → result ≡ Some moment }
 {
     let moment = read_any_moment(text)?;
-    if moment < MOMENT_LIMIT {
+    if moment < MOMENT_LIMIT_MS {
         Some(moment)
     } else {
         None

@@ -3,13 +3,10 @@
 use crate::fault::Fault;
 use crate::names::Name;
 use crate::progress::{Progress, Watched};
-use program_manners::Opened;
+use program_manners::{LOAD_LIMIT_BYTES, Opened};
 use std::alloc::Global;
 use std::io::{BufReader, Input, Read};
 use std::{fs, io};
-
-/// The most bytes of an upload: 64 MiB.
-const MOST_UPLOAD_BYTES: u64 = 67_108_864;
 
 /// How many bytes one read of a file asks for.
 const READ_BYTES: usize = 65_536;
@@ -34,8 +31,8 @@ fn read_upload<'a, R: Read + Drop>(
     name: Name<'a>,
     from: R,
 ) -> Result<Vec<u8>, Fault<'a>> {
-    let bytes = read_whole(alloc, name, &mut from.take(MOST_UPLOAD_BYTES + 1))?;
-    if bytes.len() as u64 > MOST_UPLOAD_BYTES {
+    let bytes = read_whole(alloc, name, &mut from.take(LOAD_LIMIT_BYTES as u64 + 1))?;
+    if bytes.len() > LOAD_LIMIT_BYTES {
         return Err(Fault::TooLong(name));
     }
     Ok(bytes)

@@ -11,7 +11,7 @@ use std::{fs, io};
 use upload_parts::{Split, UploadTaps};
 
 /// The most parts.
-pub(crate) const MOST_PARTS: u32 = 65_535;
+pub(crate) const MAX_PARTS: u32 = 65_535;
 
 /// What `split` is asked for.
 #[derive(Drop)]
@@ -45,7 +45,7 @@ fn split_all<'a>(
     ends: &mut String,
     progress: &mut Progress<'_>,
 ) -> Result<Split, Fault<'a>> {
-    let Ok(mut split) = Split::new(rt.alloc(), words.parts.clamp(1, MOST_PARTS)) else {
+    let Ok(mut split) = Split::new(rt.alloc(), words.parts.clamp(1, MAX_PARTS)) else {
         return Err(Fault::NoMemory);
     };
     for (number, name) in words.uploads.iter().enumerate() {

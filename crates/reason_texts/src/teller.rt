@@ -18,9 +18,7 @@ use crate::line::write_line;
 use account_rule::{Account, Reason, TapIn, WindowView};
 use fare_table::{Clock, FareTable, NoMemory};
 use shard_book::{Entry, Token};
-
-/// Where taps end, in milliseconds: 2100-01-01T00:00Z. No upload has one from there on.
-const MOMENT_LIMIT: u64 = 4_102_444_800_000;
+use tap_views::MOMENT_LIMIT_MS;
 
 /// The tap of an entry, as the account rule sees it. It takes no memory, and refuses an entry alone
 /// that no upload has: one from 2100-01-01T00:00Z on.
@@ -32,7 +30,7 @@ fn tap_of(table: &FareTable, clock: &Clock, entry: &Entry) -> Result<TapIn, NoMe
     ensures until { IfOk result (λ tap. tap.until ≡ until table.now tap.moment) }
     ensures late { OnErr result (4_102_444_800_000 ≤ entry.now.moment) }
 {
-    if entry.moment >= MOMENT_LIMIT {
+    if entry.moment >= MOMENT_LIMIT_MS {
         return Err(NoMemory);
     }
     Ok(TapIn {

@@ -13,10 +13,7 @@ use crate::fault::RowsFault;
 use crate::read::{check, next_row, read_head};
 use std::alloc::Global;
 use std::io::{BufRead, Write};
-use tap_views::{EncodeFault, TapFields};
-
-/// The most taps of one batch.
-const BATCH_TAPS: usize = 4_096;
+use tap_views::{EncodeFault, MAX_TAPS, TapFields};
 
 /// Why taps that may stand in one batch were not encoded.
 fn why(fault: EncodeFault) -> RowsFault
@@ -60,12 +57,12 @@ fn write_taps<R: BufRead, W: Write>(
         (λ fault. IfSome (R.remaining table.old) (λ text. IsRowsFault text fault)) }
 {
     let mut line = Vec::new(alloc);
-    let mut taps = Vec::with_capacity(alloc, BATCH_TAPS)?;
+    let mut taps = Vec::with_capacity(alloc, MAX_TAPS)?;
     read_head(table, &mut line)?;
     for count in 0..u64::MAX - 1 {
         match next_row(table, &mut line, count + 2)? {
             Some(tap) => {
-                if taps.len() == BATCH_TAPS {
+                if taps.len() == MAX_TAPS {
                     write_batch(alloc, &taps, out)?;
                     taps.clear();
                 }

@@ -6,12 +6,10 @@ ghost use Rattle.jiff_fmt.specs.Temporal.{parse_timestamp};
 ghost use Rattle.tap_rows.specs.Moments.{HasUtcMarks, IsDecimal, IsMoment, IsTime};
 
 use jiff_fmt::temporal::parse_timestamp;
-
-/// 2100-01-01T00:00Z in milliseconds since 1970-01-01T00:00Z: every moment is below it.
-const MOMENT_LIMIT: u64 = 4_102_444_800_000;
+use tap_views::MOMENT_LIMIT_MS;
 
 /// A millisecond in nanoseconds.
-const MILLISECOND: u128 = 1_000_000;
+const MILLISECOND_NANOS: u128 = 1_000_000;
 
 /// The number that decimal digits write, where it has 64 bits at most.
 pub(crate) fn number_of(field: &[u8]) -> Option<u64>
@@ -45,8 +43,8 @@ fn whole_milliseconds(nanoseconds: i128) -> Option<u64>
         (λ number. nanoseconds ≡ pos (number * 1_000_000)) }
 {
     let nanoseconds = u128::try_from(nanoseconds).ok()?;
-    if nanoseconds % MILLISECOND == 0 {
-        u64::try_from(nanoseconds / MILLISECOND).ok()
+    if nanoseconds % MILLISECOND_NANOS == 0 {
+        u64::try_from(nanoseconds / MILLISECOND_NANOS).ok()
     } else {
         None
     }
@@ -84,7 +82,7 @@ pub(crate) fn moment_in(field: &[u8]) -> Option<u64>
     let Some(number) = time_of(field) else {
         return None;
     };
-    if number < MOMENT_LIMIT {
+    if number < MOMENT_LIMIT_MS {
         Some(number)
     } else {
         None

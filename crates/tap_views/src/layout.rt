@@ -30,7 +30,7 @@ pub(crate) const FIRST_MOMENT_OFFSET: usize = 28;
 pub const MAX_TAPS: usize = 4_096;
 
 /// 2100-01-01T00:00Z in milliseconds since 1970-01-01T00:00Z: every moment is below it.
-pub(crate) const MOMENT_LIMIT_MS: u64 = 4_102_444_800_000;
+pub const MOMENT_LIMIT_MS: u64 = 4_102_444_800_000;
 
 /// Whether the bytes begin with the magic of a layout.
 pub(crate) fn has_magic(bytes: &[u8]) -> bool

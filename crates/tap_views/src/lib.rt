@@ -22,7 +22,7 @@ pub use batch::Batch;
 pub use encoder::{EncodeFault, Tap2Fields, TapFields, encode, encode_tap2, put_batch};
 pub use fault::LayoutFault;
 pub use file::{FileBatches as Batches, batches};
-pub use layout::{MAX_TAPS, TAP1_HEADER_BYTES, TAP1_TAP_BYTES, TAP2_TAP_BYTES};
+pub use layout::{MAX_TAPS, MOMENT_LIMIT_MS, TAP1_HEADER_BYTES, TAP1_TAP_BYTES, TAP2_TAP_BYTES};
 pub use run::{Run, RunTaps};
 pub use runs::Runs;
 pub use shard::shard_of;

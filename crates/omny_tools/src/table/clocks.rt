@@ -4,12 +4,10 @@ use fare_texts::write_moment;
 use jiff::Timestamp;
 use jiff::tz::{TimeZone, TimeZoneTransition};
 use std::alloc::AllocError;
+use tap_views::MOMENT_LIMIT_MS;
 
 /// How many changes are told.
 const CHANGES: usize = 4;
-
-/// 2100-01-01T00:00Z in milliseconds since 1970-01-01T00:00Z: later changes are not told.
-const MOMENT_LIMIT: u64 = 4_102_444_800_000;
 
 /// Appends the line of a change: the moment, the name of the clocks' time and how far it is from
 /// UTC.
@@ -17,7 +15,7 @@ fn push_change(text: &mut String, change: &TimeZoneTransition) -> Result<(), All
     let Ok(moment) = u64::try_from(change.timestamp().as_millisecond()) else {
         return Ok(());
     };
-    if moment >= MOMENT_LIMIT {
+    if moment >= MOMENT_LIMIT_MS {
         return Ok(());
     }
     text.push_str("change ")?;

@@ -6,7 +6,7 @@ use Rattle.tap_views.specs.declared.encoder.TapFields.{TapFields}
 use Rattle.tap_rows.specs.inside.Tables.{IsEncodedAs}
 use Rattle.tap_rows.proofs.TableLemmas.{Ready, weaker, next_of, reached_fault, writing_first, writing_row, writing_end, ready_written, ready_same, ready_early}
 use Rattle.tap_rows.proofs.into_upload.write_taps.Goals as goal
-use Rattle.tap_rows.proofs.into_upload.write_taps.Goals.{then-len-eq-BATCH_TAPS+in_ok-write_batch-in-Some, else-len-eq-BATCH_TAPS}
+use Rattle.tap_rows.proofs.into_upload.write_taps.Goals.{then-len-eq-MAX_TAPS+in_ok-write_batch-in-Some, else-len-eq-MAX_TAPS}
 
 pub loop-count-init : goal.loop-count-init
 loop-count-init g c =
@@ -47,20 +47,20 @@ loop-count-preserved g c =
     let new = g.R.Read.remaining c.next_row.new.text in
     let out0 = g.W.Write.contents c.args.out.now in
     let here = g.W.Write.contents c.loop-count.out in
-    let out = g.W.Write.contents c.if-len-eq-BATCH_TAPS.out in
+    let out = g.W.Write.contents c.if-len-eq-MAX_TAPS.out in
     let count = c.loop-count.count in
     let tap = c.in-Some.tap in
-    let pending = c.if-len-eq-BATCH_TAPS.taps.items in
+    let pending = c.if-len-eq-MAX_TAPS.taps.items in
     let next = next_of now new (count + 2) c.next_row.result (Ok (Some tap)) (c.in_ok-tap.was ∙ ap (λ row. Ok row) c.in-Some.is) c.next_row.ensures.row in
     let early : tap.moment < 4102444800000 = subst (λ row. IfSome row (λ tap. tap.moment < 4102444800000)) c.in-Some.is c.in_ok-tap.ensures.early in
-    let ready : Ready old now out0 out count pending = elim c.if-len-eq-BATCH_TAPS.branch [
-      | then-len-eq-BATCH_TAPS+in_ok-write_batch-in-Some w ↦
+    let ready : Ready old now out0 out count pending = elim c.if-len-eq-MAX_TAPS.branch [
+      | then-len-eq-MAX_TAPS+in_ok-write_batch-in-Some w ↦
           let there = g.W.Write.contents w.write_batch.new.out in
           let P : List TapFields → Type 0 = λ taps. IsEncodedAs taps here there in
           ready_written old now out0 here there out count c.loop-count.taps.items pending (ap vec_items w.taps-is ∙ w.clear.ensures.items) (ap g.W.Write.contents w.out-is)
           c.loop-count.invariant.writing (subst P w.deref.ensures.value w.in_ok-write_batch-in-Some.ensures.upload)
-      | else-len-eq-BATCH_TAPS w ↦
-          let test = w.if-len-eq-BATCH_TAPS.false in
+      | else-len-eq-MAX_TAPS w ↦
+          let test = w.if-len-eq-MAX_TAPS.false in
           let is = c.len.ensures in
           let most = c.loop-count.invariant.most in
           let size = c.loop-count.taps.ok.0 in

@@ -5,7 +5,7 @@ use Rattle.tap_rows.proofs.moment.moment_in.Goals as goal
 pub returns-in_default : goal.returns-in_default
 returns-in_default c = λ number is. c.in_default.ensures number (omega (arith, is.1)) is.0
 
-pub returns-else-number-lt-MOMENT_LIMIT : goal.returns-else-number-lt-MOMENT_LIMIT
-returns-else-number-lt-MOMENT_LIMIT c = λ number is.
+pub returns-else-number-lt-MOMENT_LIMIT_MS : goal.returns-else-number-lt-MOMENT_LIMIT_MS
+returns-else-number-lt-MOMENT_LIMIT_MS c = λ number is.
     let same : number ≡ c.in-Some.number = one_time c.args.field.now number c.in-Some.number is.0 c.in-Some.ensures in
     absurd (omega (arith, same, is.1))
