@@ -17,7 +17,7 @@ use Rattle.account_rule.specs.declared.reply.Answer.TheVariants.{Unknown}
 use Rattle.account_rule.specs.declared.reply.Reply.{Reply}
 use Rattle.account_rule.specs.declared.tap.TapIn.{TapIn}
 use Rattle.account_rule.specs.declared.window.WindowView.{WindowView}
-use Rattle.account_rule.proofs.CutLemmas.{extend}
+use Rattle.account_rule.proofs.BlockLemmas.{extend}
 use Rattle.account_rule.proofs.StepLemmas.{is_live, not_known, not_later, reply_live, reply_ride}
 use Rattle.account_rule.proofs.StepLemmas.{reply_stale, reply_transfer, reply_unknown}
 use Rattle.account_rule.proofs.TapLemmas.{windows-ride, windows-same, windows-transfer}
