@@ -107,9 +107,9 @@ impl Teller {
         Ok(reason)
     }
 
-    /// Takes the token's next entry, and appends its line. The text alone grows. It refuses an entry
-    /// from 2100-01-01T00:00Z on. If memory is refused, the entry is taken, but its line is not
-    /// whole.
+    /// Takes the token's next entry, and appends its line. The text alone grows. It refuses an
+    /// entry from 2100-01-01T00:00Z on. If memory is refused, the entry is taken, but its line is
+    /// not whole.
     pub fn write_next(
         &mut self,
         text: &mut String,

@@ -15,8 +15,8 @@ Lists kept kept' text text' upload number taps = (before : List Listed) → Stan
     → (text' ≡ text ++ tap_lines upload number before taps) × StandsFor kept' (before ++ taps)
 
 -- A listing went on with an upload, by a reading of its file.
-pub record ListsUpload (fares : Option Fares) (kept kept' : KeptListing) (text text' : List ℕ) (upload : ℕ)
-    (file : List ℕ) (whole : Bool) : Type 0 where
+pub record ListsUpload (fares : Option Fares) (kept kept' : KeptListing) (text text' : List ℕ)
+    (upload : ℕ) (file : List ℕ) (whole : Bool) : Type 0 where
   pub items : List Item
   pub reading : IsReading file items
   pub lines : (before : List Listed) → StandsFor kept before
