@@ -1,4 +1,4 @@
-//! `table`: a fare table as it was understood, what its rules pass over, and its faults.
+//! `table`: a fare table as it was understood, what its rules ignore, and its faults.
 //!
 //! | module | what it does |
 //! |---|---|
@@ -10,7 +10,7 @@
 //! | `prices` | what the rides of a window cost, one after the other |
 //! | `clocks` | the next changes of the zone's clocks |
 //! | `lines` | the lines of the table |
-//! | `warnings` | the lines of what the rules pass over |
+//! | `warnings` | the lines of what the rules ignore |
 
 mod checks;
 mod clocks;

@@ -48,7 +48,7 @@ fn own_entries(alloc: Global, book: &ShardBook, token: Token) -> Result<Vec<Entr
 }
 
 impl ShardBook {
-    /// Appends the token's entries, in history order, in one pass over the history.
+    /// Appends the token's entries, in history order, in one scan of the history.
     pub fn push_own(&self, list: &mut Vec<Entry>, token: Token) -> Result<(), NoMemory>
         ensures { OnOk result (list.new.items ≡ list.old.items ++ own token self.now.entries) }
     {
@@ -59,7 +59,7 @@ impl ShardBook {
     }
 
     /// The token's statement: its entries in history order, their totals and its last window, in
-    /// one pass over the history. A token without entries has an empty statement.
+    /// one scan of the history. A token without entries has an empty statement.
     pub fn statement(&self, alloc: Global, token: &Token) -> Result<Statement, NoMemory>
         ensures { IfOk result (IsStatement self.now.table self.now.entries token.now) }
     {

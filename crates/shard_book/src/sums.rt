@@ -97,7 +97,7 @@ impl GroupKey for Token {
     }
 }
 
-/// The totals of a list of entries, in one pass.
+/// The totals of a list of entries, in one scan.
 pub(crate) fn totals_of_entries(entries: &[Entry]) -> Totals
     ensures sums { sums_of result ≡ sums entries.now }
     ensures few { result.taps < 2 ^ 64 }
@@ -109,7 +109,7 @@ pub(crate) fn totals_of_entries(entries: &[Entry]) -> Totals
     tally.totals()
 }
 
-/// The totals of all entries of the books, one pass a book.
+/// The totals of all entries of the books, one scan a book.
 pub fn totals_of(books: &[ShardBook]) -> Totals
     requires { length books.now ≤ 64 }
     ensures { sums_of result ≡ sums (all_entries books.now) }
@@ -121,7 +121,7 @@ pub fn totals_of(books: &[ShardBook]) -> Totals
     totals
 }
 
-/// The validators of the books, rising, each with the totals of its entries: one pass a book, and a
+/// The validators of the books, rising, each with the totals of its entries: one scan a book, and a
 /// sort of the validators. Of many entries, threads go over a quarter of the books each.
 #[tactic(auto, unfolding(crate::specs::inside::Groups::sums_by, crate::specs::inside::Groups::group, crate::specs::Groups::sums_by_validator, crate::specs::Groups::validators, crate::specs::Groups::at))]
 pub fn sums_by_validator<R: Threads + Sync>(
@@ -140,9 +140,9 @@ pub fn sums_by_validator<R: Threads + Sync>(
     listed(alloc, &tallies)
 }
 
-/// The tokens of the books, rising, each with the totals of its entries: one pass over what the
-/// books keep of their tokens, and a sort of the tokens. Where two books may share a token, a pass
-/// over the histories.
+/// The tokens of the books, rising, each with the totals of its entries: one scan of what the
+/// books keep of their tokens, and a sort of the tokens. Where two books may share a token, a scan
+/// of the histories.
 pub fn sums_by_token(alloc: Global, books: &[ShardBook]) -> Result<Vec<TokenSum>, NoMemory>
     requires { length books.now ≤ 64 }
     ensures { IfOk result (λ list.
@@ -196,7 +196,7 @@ impl ShardBook {
         tally.totals()
     }
 
-    /// The validators of the history, rising, each with the totals of its entries: one pass over
+    /// The validators of the history, rising, each with the totals of its entries: one scan of
     /// the history, and a sort of the validators.
     #[tactic(auto, unfolding(crate::specs::inside::Groups::sums_by, crate::specs::inside::Groups::group, crate::specs::Groups::sums_by_validator, crate::specs::Groups::validators, crate::specs::Groups::at))]
     pub fn by_validator(&self, alloc: Global) -> Result<Vec<ValidatorSum>, NoMemory>
@@ -206,7 +206,7 @@ impl ShardBook {
         sums_of_books::<u32>(alloc, std::slice::from_ref(self))
     }
 
-    /// The tokens of the history, rising, each with the totals of its entries: one pass over what
+    /// The tokens of the history, rising, each with the totals of its entries: one scan of what
     /// the book keeps of its tokens, and a sort of them.
     pub fn by_token(&self, alloc: Global) -> Result<Vec<TokenSum>, NoMemory>
         ensures { IfOk result (λ list. map token_sum list.items ≡ sums_by_token self.now.entries) }

@@ -1,4 +1,4 @@
--- The keys of a table's text that its rules pass over.
+-- The keys of a table's text that its rules ignore.
 use Rattle.std.specs.Prelude.{◌≡◌, ℕ, suc, ◌||◌, ◌++◌, ◌∷◌, [], Bool, false, List, Option, Some}
 use Rattle.std.specs.Prelude.{None, IsSome, codes, if◌then◌else◌}
 use Rattle.toml.specs.Data.{Items, no_items, item, Members, no_members, member, get_member}

@@ -1,4 +1,4 @@
-//! The keys of a text that its rules pass over.
+//! The keys of a text that its rules ignore.
 
 ghost use Rattle.std.specs.Prelude.{◌≡◌, IfOk, OnOk, codes, map};
 ghost use Rattle.toml.specs.View.{table_view, view};
@@ -83,7 +83,7 @@ fn add_ignored_in_ranges<'a>(
     Ok(())
 }
 
-/// The keys of a text that its rules pass over, with where each stands: those at the top, then
+/// The keys of a text that its rules ignore, with where each stands: those at the top, then
 /// those of the classes in the order of their names, then those of the entries of `validators`.
 pub fn ignored_keys(alloc: Global, table: &Table) -> Result<Vec<(Holder, &str)>, NoMemory>
     ensures { IfOk result (λ v. map (λ k. (k.0, k.1.now)) v.items

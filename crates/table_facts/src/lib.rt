@@ -1,4 +1,4 @@
-//! What the rules of a fare table pass over in its text: keys without a meaning, ranges that no
+//! What the rules of a fare table ignore in its text: keys without a meaning, ranges that no
 //! validator of some uploads is in, and validators of these that are in no range.
 #![tactic(auto)]
 

@@ -11,7 +11,7 @@ use crate::view::TapView;
 use std::marker::Model;
 
 /// The taps of one shard of a batch, in the batch's order. It takes no memory: a run of `run_of`
-/// passes over the batch anew at each call, and one of `Runs` over its own taps alone.
+/// scans the batch anew at each call, and one of `Runs` over its own taps alone.
 #[derive(Drop)]
 pub struct Run<'a> {
     /// The validator that all taps of the batch share, if its layout has one.
@@ -50,7 +50,7 @@ impl<'a> Model for Run<'a> {
 }
 
 impl<'a> Run<'a> {
-    /// The number of taps. It passes over the batch where the places of the taps are not known.
+    /// The number of taps. It scans the batch where the places of the taps are not known.
     pub fn len(&self) -> u32
         ensures number { result ≡ length (run_taps self.now) }
         ensures most { result ≤ 4096 }
@@ -61,7 +61,7 @@ impl<'a> Run<'a> {
         }
     }
 
-    /// Whether there are no taps. It passes over the batch up to the first one where their places
+    /// Whether there are no taps. It scans the batch up to the first one where their places
     /// are not known.
     #[inline(always)]
     pub fn is_empty(&self) -> bool

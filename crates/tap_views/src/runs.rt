@@ -1,4 +1,4 @@
-//! The runs of all shards of a batch, found by one pass over it.
+//! The runs of all shards of a batch, found by one scan of it.
 
 ghost use Rattle.std.specs.Prelude.{◌≡◌, ◌+◌, ◌<◌, ◌≤◌, ◌++◌, ◌∷◌, [], ℕ, length, slice_index_or};
 ghost use Rattle.std.specs.Prelude.{IfOk};
@@ -92,10 +92,10 @@ fn sort_in(lists: &mut [Places], batch: &Batch<'_>)
     }
 }
 
-/// The places of a batch's taps, shard by shard, found by one pass over the batch.
+/// The places of a batch's taps, shard by shard, found by one scan of the batch.
 ///
-/// Where all runs of a batch are wanted, `Batch::run_of` passes over the batch once a shard and
-/// use; `fill` passes over it once for all of them. A worker keeps one `Runs`, with room for any
+/// Where all runs of a batch are wanted, `Batch::run_of` scans the batch once a shard and
+/// use; `fill` scans it once for all of them. A worker keeps one `Runs`, with room for any
 /// batch (8 KiB a shard), and fills it anew for each batch; what an earlier batch left is gone.
 #[derive(Drop)]
 pub struct Runs {
@@ -128,7 +128,7 @@ impl Runs {
         Ok(Runs { lists })
     }
 
-    /// Finds the runs of this batch, by one pass over it. It takes no memory.
+    /// Finds the runs of this batch, by one scan of it. It takes no memory.
     pub fn fill(&mut self, batch: &Batch<'_>)
         ensures runs { AreRuns batch.now self.new }
         ensures shards { length self.new ≡ length self.old }
@@ -138,7 +138,7 @@ impl Runs {
     }
 
     /// The taps of one shard, as `run_of` gives them, of the batch that was filled in last. The run
-    /// knows its places: its length takes no pass, and its taps none but over themselves.
+    /// knows its places: its length takes no scan, and its taps none but over themselves.
     pub fn run<'b>(&'b self, batch: &'b Batch<'_>, shard: u32) -> Run<'b>
         requires runs { AreRuns batch.now self.now }
         requires below { shard < length self.now }

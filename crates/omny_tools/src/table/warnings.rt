@@ -1,4 +1,4 @@
-//! The lines of what the rules of a table pass over.
+//! The lines of what the rules of a table ignore.
 
 use super::known::nearest;
 use super::paths::{item_path, key_path};

@@ -1,4 +1,4 @@
-//! Sums of entries by a key, in one pass over the entries and a sort of the keys.
+//! Sums of entries by a key, in one scan of the entries and a sort of the keys.
 
 ghost use Rattle.std.specs.Prelude.{◌≡◌, ◌+◌, ◌*◌, ◌<◌, ◌≤◌, ◌^◌, List, [], ◌∷◌, ◌++◌, length, map};
 ghost use Rattle.std.specs.Prelude.{true, IfOk, OnOk};
