@@ -1,3 +1,3 @@
-pub mod AnswerLemmas
+pub mod FindingLemmas
 pub mod ProgramLemmas
 pub mod ReadLemmas

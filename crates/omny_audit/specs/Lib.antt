@@ -1,4 +1,4 @@
-pub mod Answers
+pub mod Findings
 pub mod Fault
 pub mod Options
 pub mod Program

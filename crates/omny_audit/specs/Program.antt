@@ -8,7 +8,7 @@ use Rattle.fare_table.specs.Rules.{rules_in}
 use Rattle.fare_table.specs.Zone.{IsZoneOf}
 use Rattle.tap_balance.specs.Balances.{AreGoodTaps}
 use Rattle.tap_views.specs.declared.encoder.TapFields.{TapFields}
-use Rattle.omny_audit.specs.Answers.{IsAnswer}
+use Rattle.omny_audit.specs.Findings.{IsFinding}
 use Rattle.omny_audit.specs.Fault.{audit_fault_text, is_quiet, is_unwritten}
 use Rattle.omny_audit.specs.Options.{AuditAsked}
 use Rattle.program_manners.specs.Loads.{Loaded, Tells, TellsOne}
@@ -47,7 +47,7 @@ compared [] posted = None
 compared (name ∷ names) posted = Some posted
 
 -- The table was loaded, then the uploads, and then all of the ledger; what was appended to the
--- writer is the answer on the ledger's text beside the good taps of the uploads, if uploads are
+-- writer is the finding on the ledger's text beside the good taps of the uploads, if uploads are
 -- named. It says that all is well, or not.
 pub record Audits (asked : AuditAsked) (told told' : Option (List Loaded))
     (out out' : Option (List ℕ)) (well : Bool) : Type 0 where
@@ -62,7 +62,7 @@ pub record Audits (asked : AuditAsked) (told told' : Option (List Loaded))
   pub ledger : List ℕ
   pub loads_ledger : TellsOne after_uploads told' asked.ledger ledger
   pub text : List ℕ
-  pub answer : IsAnswer fares ledger (compared asked.uploads posted) text well
+  pub finding : IsFinding fares ledger (compared asked.uploads posted) text well
   pub written : Appends out out' text
 
 -- The fault's line was told, unless a write of it failed. Where who reads the text has closed it,

@@ -1,4 +1,4 @@
 -- What only private functions cite. Who reads the contracts of public calls need not read it.
-pub mod Answers
+pub mod Findings
 pub mod Options
 pub mod Source

@@ -1,4 +1,4 @@
-//! The answer on all that a reader gives.
+//! The finding on all that a reader gives.
 
 ghost use Rattle.std.specs.Prelude.{◌≡◌, ℕ, List, [], IfErr, IfOk, IsTrue, None, Some, false, map};
 ghost use Rattle.std.specs.Prelude.{if◌then◌else◌, string_bytes};
@@ -10,8 +10,8 @@ ghost use Rattle.tap_views.specs.declared.encoder.TapFields.{TapFields};
 ghost use Rattle.ledger_check.specs.Ledger.{IsLedgerOf};
 ghost use Rattle.ledger_check.specs.Struck.{posted_tap};
 ghost use Rattle.ledger_check.specs.Verdicts.{IsVerdict, is_legal};
-ghost use Rattle.omny_audit.specs.Answers.{IsAnswer, agrees};
-ghost use Rattle.omny_audit.specs.inside.Answers.{StrikesOut};
+ghost use Rattle.omny_audit.specs.Findings.{IsFinding, agrees};
+ghost use Rattle.omny_audit.specs.inside.Findings.{StrikesOut};
 ghost use Rattle.omny_audit.specs.Fault.{is_unwritten, named_by};
 ghost use Rattle.omny_audit.specs.inside.Source.{IsAllOf};
 
@@ -81,7 +81,7 @@ fn is_even(difference: &Option<Difference>) -> bool
 
 /// What is told of the verdict and, where it is legal and there are uploads, of their taps; and
 /// whether all is well.
-fn answer_text(
+fn finding_text(
     alloc: Global,
     verdict: &Verdict,
     balance: &Balance,
@@ -91,7 +91,7 @@ fn answer_text(
         → IsVerdict fares text verdict.now
         → (IsTrue (is_legal verdict.now) → (entries : List Entry) → IsLedgerOf fares entries text
         → IsBalance balance.now posted (map posted_tap entries))
-        → IsAnswer fares text (if has_uploads then Some posted else None)
+        → IsFinding fares text (if has_uploads then Some posted else None)
         (string_bytes told.0) told.1) }
 {
     let mut text = verdict_line(alloc, verdict)?;
@@ -107,7 +107,7 @@ fn answer_text(
 }
 
 /// Checks the ledger that the reader has left, beside the taps of uploads that the balance has, and
-/// writes the answer. Says whether all is well.
+/// writes the finding. Says whether all is well.
 pub(crate) fn audit_over<R: Read, W: Write>(
     alloc: Global,
     table: &FareTable,
@@ -120,7 +120,7 @@ pub(crate) fn audit_over<R: Read, W: Write>(
     requires clock { clock.now ≡ table.now.zone }
     ensures told { IfOk result (λ well. (text : List ℕ) × IsAllOf (R.remaining reader.old) text
         × ((posted : List TapFields) → IsBalance balance posted [] → (told : List ℕ)
-        × IsAnswer table.now text (if has_uploads then Some posted else None) told well
+        × IsFinding table.now text (if has_uploads then Some posted else None) told well
         × Appends (W.contents out.old) (W.contents out.new) told)) }
 
     // Only a write that fails leaves something of a text behind.
@@ -129,7 +129,7 @@ pub(crate) fn audit_over<R: Read, W: Write>(
     ensures named { IfErr result (λ fault. named_by fault ≡ None) }
 {
     let verdict = verdict_of(alloc, table, clock, reader, &mut balance)?;
-    let told = answer_text(alloc, &verdict, &balance, has_uploads)?;
+    let told = finding_text(alloc, &verdict, &balance, has_uploads)?;
     write_text(out, told.0.as_str())?;
     Ok(told.1)
 }

@@ -1,11 +1,11 @@
-//! What follows of an answer.
+//! What follows of a finding.
 
-ghost use Rattle.omny_audit.specs.Answers.{AnswersDecide};
+ghost use Rattle.omny_audit.specs.Findings.{FindingsDecide};
 
-/// What is answered is well exactly where the text is, whole, a ledger of legal histories under the
+/// What is found is well exactly where the text is, whole, a ledger of legal histories under the
 /// table and, if there are uploads, its taps are theirs in some order.
-pub fn answers()
-    ensures { AnswersDecide }
+pub fn findings()
+    ensures { FindingsDecide }
 {
     ledger_check::laws::verdicts();
     tap_balance::laws::differences();

@@ -4,12 +4,12 @@
 //!
 //! | module | what it does |
 //! |---|---|
-//! | `audit` | the answer on all that a reader gives |
-//! | `laws` | what follows of an answer |
+//! | `audit` | the finding on all that a reader gives |
+//! | `laws` | what follows of a finding |
 //! | `source` | where the table, the uploads and the ledger come from |
 //! | `files` | the files and the standard input of the system as a source |
 //! | `options` | the words of the command line, as `clap` reads them |
-//! | `text` | the lines of an answer |
+//! | `text` | the lines of a finding |
 //! | `output` | texts, written out |
 //! | `fault` | why the program gives up, and the line that says so |
 //! | `escaping` | the control characters of mistakes and faults |

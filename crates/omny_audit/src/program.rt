@@ -99,7 +99,7 @@ fn open_ledger<'a, S: Source>(name: Option<&'a str>, source: &mut S) -> Result<S
     }
 }
 
-/// Checks the ledger and writes the answer. Says whether all is well. The table is loaded first,
+/// Checks the ledger and writes the finding. Says whether all is well. The table is loaded first,
 /// then the uploads, and then the ledger is read.
 fn audit<'a, S: Source, W: Write>(
     alloc: Global,
@@ -170,7 +170,7 @@ fn show<W: Write, E: Write>(error: &Error, out: &mut W, err: &mut Complaints<E>)
 }
 
 /// The whole program: reads the words, of which the first is the program's name, checks the ledger
-/// that they name, from the source, and writes the answer to `out`, mistakes and faults to `err`.
+/// that they name, from the source, and writes the finding to `out`, mistakes and faults to `err`.
 /// Gives the status: 0 where all is well, 1 where it is not or something failed, 2 where the words
 /// are no command line.
 pub fn main_over<S: Source, W: Write, E: Write>(
@@ -180,12 +180,12 @@ pub fn main_over<S: Source, W: Write, E: Write>(
     out: &mut W,
     err: &mut Complaints<E>,
 ) -> u8
-    // With status 0 the answer was written, and says that all is well.
+    // With status 0 the finding was written, and says that all is well.
     ensures done { ParsesForAudit (map string_bytes words.now) → result ≡ 0
         → Audits (audit_asked_by (map string_bytes words.now)) (S.loaded source.old)
         (S.loaded source.new) (W.contents out.old) (W.contents out.new) true }
 
-    // With status 1 the answer was written, and says that not all is well, and nothing was said on
+    // With status 1 the finding was written, and says that not all is well, and nothing was said on
     // `err`; or a fault was told, which names no other file than one that the words name, and
     // nothing was written but where a write failed.
     ensures faults { result ≡ 1

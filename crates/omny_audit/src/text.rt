@@ -1,4 +1,4 @@
-//! The lines of an answer.
+//! The lines of a finding.
 
 ghost use Rattle.std.specs.Prelude.{◌≡◌, ◌++◌, ℕ, List, IfOk, OnOk, string_bytes};
 ghost use Rattle.omny_audit.specs.Text.{IsDifferenceText, IsTapText, token_part, validator_part};

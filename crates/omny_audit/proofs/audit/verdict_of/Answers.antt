@@ -1,7 +1,7 @@
 -- What was read so far is what the checker was fed.
 use Rattle.std.proofs.Common.{◌≡◌, ◌++◌, ℕ, List, [], true, false, take, sym, ap, subst, ◌∙◌, append-nil, arith}
 use Rattle.ledger_check.specs.Verdicts.{IsVerdict}
-use Rattle.omny_audit.specs.inside.Answers.{StrikesOut}
+use Rattle.omny_audit.specs.inside.Findings.{StrikesOut}
 use Rattle.omny_audit.proofs.ReadLemmas.{at_end, consumes-more, consumes-none, whatever_follows}
 use Rattle.omny_audit.proofs.audit.verdict_of.Goals as goal
 

@@ -1,7 +1,7 @@
 use Rattle.std.proofs.Common.{◌∙◌, ℕ, Bor, Option, List, ap, map, not, subst}
 use Rattle.std.proofs.lemmas.Result.{IfOk-weaker}
 use Rattle.tap_views.specs.declared.encoder.TapFields.{TapFields}
-use Rattle.omny_audit.specs.Answers.{IsAnswer}
+use Rattle.omny_audit.specs.Findings.{IsFinding}
 use Rattle.omny_audit.specs.Fault.{NamesOneOf}
 use Rattle.omny_audit.specs.Options.{files_of}
 use Rattle.omny_audit.specs.inside.Options.{audit_asked_of}
@@ -14,7 +14,7 @@ pub returns-clause-ok : goal.returns-clause-ok
 returns-clause-ok g c =
     let loaded = c.in_ok-balance.ensures.ok in
     IfOk-weaker c.audit_over.result _ _ (λ well told.
-    let answer = told.2 loaded.1 loaded.4 in
+    let finding = told.2 loaded.1 loaded.4 in
     let names = c.as_slice-names.ensures.value in
     let same = compared_is c.as_slice-names.result.now loaded.1 _ (ap not c.is_empty-has_uploads.ensures)
     ∙ ap (λ (ns : List (Bor (List ℕ))). compared (map (λ n. n.now) ns) loaded.1) names in
@@ -29,9 +29,9 @@ returns-clause-ok g c =
       are_posted = loaded.3;
       ledger = told.0;
       loads_ledger = opened _ _ _ _ told.0 c.in_ok-ledger.ensures.ok told.1;
-      text = answer.0;
-      answer = subst (λ (posted : Option (List TapFields)). IsAnswer c.in_ok-table.table told.0 posted answer.0 well) same answer.1;
-      written = answer.2;
+      text = finding.0;
+      finding = subst (λ (posted : Option (List TapFields)). IsFinding c.in_ok-table.table told.0 posted finding.0 well) same finding.1;
+      written = finding.2;
     })
     c.audit_over.ensures.told
 

@@ -1,4 +1,4 @@
--- What is answered, by what was found.
+-- What is found, by its parts.
 use Rattle.std.proofs.Common.{◌≡◌, ℕ, Bool, true, false, List, [], map, Option, Some, None, if◌then◌else◌, refl, sym, ◌∙◌}
 use Rattle.std.specs.Prelude.{◌↔◌}
 use Rattle.std.specs.List.Sorted.{IsPermutation}
@@ -8,7 +8,7 @@ use Rattle.ledger_check.specs.Struck.{posted_tap}
 use Rattle.tap_balance.specs.Balances.{IsDifference}
 use Rattle.tap_balance.specs.declared.balance.Difference.{Difference}
 use Rattle.tap_views.specs.declared.encoder.TapFields.{TapFields}
-use Rattle.omny_audit.specs.Answers.{agrees, IsDifferenceOf, IsRight, IsSecond}
+use Rattle.omny_audit.specs.Findings.{agrees, IsDifferenceOf, IsRight, IsSecond}
 use Rattle.omny_audit.specs.Text.{IsDifferenceText}
 
 pub not_legal : (fares : Fares) (text : List ℕ) (posted : Option (List TapFields)) (legal : Bool) → legal ≡ false → IsSecond fares text posted legal [] false

@@ -1,8 +1,8 @@
 use Rattle.std.proofs.Common.{◌≡◌, ◌++◌, ℕ, List, [], sym, ap, ◌∙◌, append-nil, true, false, rules, tests}
 use Rattle.omny_audit.specs.Text.{verdict_text}
-use Rattle.omny_audit.proofs.AnswerLemmas.{alone, beside, not_legal}
+use Rattle.omny_audit.proofs.FindingLemmas.{alone, beside, not_legal}
 use Rattle.ledger_check.specs.Verdicts.{is_legal}
-use Rattle.omny_audit.proofs.audit.answer_text.Goals as goal
+use Rattle.omny_audit.proofs.audit.finding_text.Goals as goal
 
 pub returns-then-not-tells_legal : goal.returns-then-not-tells_legal
 returns-then-not-tells_legal c = λ fares text posted is balance.

@@ -1,4 +1,4 @@
--- What is answered on a ledger's text.
+-- What is found of a ledger's text.
 use Rattle.std.specs.Prelude.{◌≡◌, ◌↔◌, ℕ, Bool, true, false, List, [], ◌++◌, map, Option, None}
 use Rattle.std.specs.Prelude.{Some}
 use Rattle.std.specs.List.Sorted.{IsPermutation}
@@ -36,7 +36,7 @@ IsSecond fares text (Some posted) true rest well =
 
 -- what is told of the text, beside the good taps of the uploads, if there are uploads: a true
 -- verdict, and the difference
-pub record IsAnswer (fares : Fares) (text : List ℕ) (posted : Option (List TapFields))
+pub record IsFinding (fares : Fares) (text : List ℕ) (posted : Option (List TapFields))
     (told : List ℕ) (well : Bool) : Type 0 where
   pub verdict : Verdict
   pub is_verdict : IsVerdict fares text verdict
@@ -54,9 +54,9 @@ abbrev pub IsRight : Fares → List ℕ → Option (List TapFields) → Type 0
 IsRight fares text posted =
     (entries : List Entry) × IsLedgerOf fares entries text × HasGoodTaps posted entries
 
--- what is answered is well exactly where the text is right
-abbrev pub AnswersDecide : Type 0
-AnswersDecide =
+-- what is found is well exactly where the text is right
+abbrev pub FindingsDecide : Type 0
+FindingsDecide =
     (fares : Fares) (text : List ℕ) (posted : Option (List TapFields)) (told : List ℕ)
-    (well : Bool) → IsAnswer fares text posted told well
+    (well : Bool) → IsFinding fares text posted told well
     → (well ≡ true) ↔ IsRight fares text posted

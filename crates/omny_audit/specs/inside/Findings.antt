@@ -1,4 +1,4 @@
--- Answers: what private functions alone cite.
+-- Findings: what private functions alone cite.
 use Rattle.std.specs.Prelude.{ℕ, List, [], map, IsTrue}
 use Rattle.fare_table.specs.Fares.{Fares}
 use Rattle.shard_book.specs.declared.entry.Entry.{Entry}
