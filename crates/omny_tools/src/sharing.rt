@@ -17,7 +17,7 @@ struct Uploads {
 
 /// The tokens of an upload, counted.
 #[derive(Clone, Copy, Debug)]
-pub(crate) struct TokenCounts {
+pub(crate) struct SharingCounts {
     /// How many there are, each once.
     pub(crate) all: u64,
     /// How many of them stand in another upload, too.
@@ -30,11 +30,11 @@ pub(crate) struct Sharing {
     /// The uploads of each token.
     uploads: BTreeMap<[u8; 16], Uploads>,
     /// The counts of each upload, by its number.
-    counts: Vec<TokenCounts>,
+    counts: Vec<SharingCounts>,
 }
 
 /// Counts one more of the upload's tokens, which is shared or not.
-fn count(counts: &mut [TokenCounts], number: usize, all: u64, shared: u64) {
+fn count(counts: &mut [SharingCounts], number: usize, all: u64, shared: u64) {
     if let Some(counts) = counts.get_mut(number) {
         counts.all = counts.all.saturating_add(all);
         counts.shared = counts.shared.saturating_add(shared);
@@ -42,7 +42,7 @@ fn count(counts: &mut [TokenCounts], number: usize, all: u64, shared: u64) {
 }
 
 /// Notes that the upload of this number has the token, whose uploads so far are these.
-fn note(counts: &mut [TokenCounts], uploads: &mut Uploads, number: usize) {
+fn note(counts: &mut [SharingCounts], uploads: &mut Uploads, number: usize) {
     if uploads.last == number {
         return;
     }
@@ -85,7 +85,7 @@ impl Sharing {
     /// Adds the next upload, with its taps before its first layout fault.
     pub(crate) fn add(&mut self, upload: &[u8]) -> Result<(), AllocError> {
         let number = self.counts.len();
-        self.counts.push(TokenCounts { all: 0, shared: 0 })?;
+        self.counts.push(SharingCounts { all: 0, shared: 0 })?;
         for item in batches(upload) {
             let Ok(batch) = item else {
                 return Ok(());
@@ -98,7 +98,7 @@ impl Sharing {
     }
 
     /// The counts of the uploads that were added, by their numbers.
-    pub(crate) fn counts(&self) -> &[TokenCounts] {
+    pub(crate) fn counts(&self) -> &[SharingCounts] {
         &self.counts
     }
 }
