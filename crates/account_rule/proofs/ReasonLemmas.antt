@@ -22,7 +22,7 @@ use Rattle.account_rule.specs.inside.Kept.{gives, next_reason, open_window, wind
 use Rattle.account_rule.specs.Reasons.{charge_by, charged_by, given_by, latest, live_reason, reason}
 use Rattle.account_rule.specs.Reasons.{replied_by, ride_of}
 use Rattle.account_rule.specs.Replies.{live_reply, reply, reply_with, ride_reply}
-use Rattle.account_rule.specs.Rules.{Rules}
+use Rattle.account_rule.specs.TokenRules.{TokenRules}
 use Rattle.account_rule.specs.Stands.{KeepsOf, giver_of, window_of}
 use Rattle.account_rule.specs.Taps.{LiveTap, is_later, live, live_at, live_tap}
 use Rattle.account_rule.specs.Windows.{charge, is_within, paid_rides, ride_cents, windows}
@@ -33,13 +33,13 @@ use Rattle.account_rule.proofs.WindowLemmas.{after_ride, length-push}
 
 -- the reason by the kind of the tap
 
-pub reason_unknown : (rules : Rules) (taps : List TapIn) (tap : TapIn) → tap.mode ≡ None
+pub reason_unknown : (rules : TokenRules) (taps : List TapIn) (tap : TapIn) → tap.mode ≡ None
     → reason rules taps tap ≡ Unknown
 unfolding reason
 reason_unknown rules taps tap none = let no_mode : is_some tap.mode ≡ false =
     ap (λ o. is_some o) none in rw no_mode refl
 
-reason_stale : (rules : Rules) (taps : List TapIn) (tap : TapIn) (mode : Mode)
+reason_stale : (rules : TokenRules) (taps : List TapIn) (tap : TapIn) (mode : Mode)
     → tap.mode ≡ Some mode → is_later taps tap.moment ≡ false
     → reason rules taps tap ≡ Stale (latest taps)
 unfolding reason
@@ -47,7 +47,7 @@ reason_stale rules taps tap mode known not_after =
     let known_mode : is_some tap.mode ≡ true = ap (λ o. is_some o) known in
     rw (known_mode, not_after) refl
 
-reason_live : (rules : Rules) (taps : List TapIn) (tap : TapIn) (mode : Mode) → tap.mode ≡ Some mode
+reason_live : (rules : TokenRules) (taps : List TapIn) (tap : TapIn) (mode : Mode) → tap.mode ≡ Some mode
     → is_later taps tap.moment ≡ true
     → reason rules taps tap ≡ live_reason rules taps (taps ++ tap ∷ [])
 unfolding reason
@@ -55,12 +55,12 @@ reason_live rules taps tap mode known later =
     let known_mode : is_some tap.mode ≡ true = ap (λ o. is_some o) known in
     rw (known_mode, later) refl
 
-reason_transfer : (rules : Rules) (earlier taps : List TapIn) → ends_in_transfer rules taps ≡ true
+reason_transfer : (rules : TokenRules) (earlier taps : List TapIn) → ends_in_transfer rules taps ≡ true
     → live_reason rules earlier taps ≡ given_by (last_or None (live earlier))
 unfolding live_reason
 reason_transfer rules earlier taps ends = rw ends refl
 
-reason_ride : (rules : Rules) (earlier taps : List TapIn) → ends_in_transfer rules taps ≡ false
+reason_ride : (rules : TokenRules) (earlier taps : List TapIn) → ends_in_transfer rules taps ≡ false
     → live_reason rules earlier taps ≡ ride_of rules (last_block (windows rules taps))
 unfolding live_reason
 reason_ride rules earlier taps ends = rw ends refl
@@ -162,7 +162,7 @@ unfolding blocks_by last_block
 last-blocks_by joins [] = refl
 last-blocks_by joins (x ∷ xs) = last-blocks_from joins (x ∷ []) xs
 
-pub giver-live : (rules : Rules) (taps : List TapIn) (giver : LiveTap)
+pub giver-live : (rules : TokenRules) (taps : List TapIn) (giver : LiveTap)
     → giver_of (last_block (chains rules taps)) ≡ Some giver → last_or None (live taps) ≡ Some giver
 unfolding chains
 giver-live rules taps giver some =
@@ -193,7 +193,7 @@ charge_by-min terms place = elim (cases_lt place terms.rides) [
       ∙ sym (limit_from terms place past)
 ]
 
-ride_of-after : (rules : Rules) (window : List LiveTap) (ride : LiveTap)
+ride_of-after : (rules : TokenRules) (window : List LiveTap) (ride : LiveTap)
     → ride_of rules (after_ride rules window ride)
     ≡ next_reason rules.terms
     (window_at (window_of rules window) ride.moment (rules.until ride.moment))
@@ -215,7 +215,7 @@ ride_of-after rules (first ∷ window) ride =
 
 -- what the account keeps tells the reason
 
-pub why_stale : (rules : Rules) (account : Option State) (state : State) (taps : List TapIn)
+pub why_stale : (rules : TokenRules) (account : Option State) (state : State) (taps : List TapIn)
     (tap : TapIn) (mode : Mode)
     → account ≡ Some state → KeepsOf rules account taps → tap.mode ≡ Some mode
     → tap.moment ≤ state.last
@@ -228,7 +228,7 @@ why_stale rules account state taps tap mode same stands known before =
     ap (λ moment. Stale moment) (last-latest state taps kept.last)
     ∙ sym (reason_stale rules taps tap mode known not_after)
 
-pub why_transfer : (rules : Rules) (account : Option State) (state : State) (taps : List TapIn)
+pub why_transfer : (rules : TokenRules) (account : Option State) (state : State) (taps : List TapIn)
     (tap : TapIn) (mode : Mode)
     → account ≡ Some state → KeepsOf rules account taps → tap.mode ≡ Some mode
     → state.last < tap.moment
@@ -249,7 +249,7 @@ why_transfer rules account state taps tap mode same stands known after given =
     ∙ sym (reason_live rules taps tap mode known later
     ∙ reason_transfer rules taps (taps ++ tap ∷ []) ends)
 
-pub why_ride : (rules : Rules) (account : Option State) (taps : List TapIn) (tap : TapIn)
+pub why_ride : (rules : TokenRules) (account : Option State) (taps : List TapIn) (tap : TapIn)
     (mode : Mode) (terms : Terms) (window : Window)
     → KeepsOf rules account taps → tap.mode ≡ Some mode → tap.until ≡ rules.until tap.moment
     → GivesNone rules.permits account tap mode
@@ -301,7 +301,7 @@ charged-charge terms place =
     (leb (place * terms.fare + terms.fare) terms.ceiling) place terms.fare
     (terms.ceiling - place * terms.fare))
 
-ride-follows : (rules : Rules) (window : List LiveTap) (ride : LiveTap)
+ride-follows : (rules : TokenRules) (window : List LiveTap) (ride : LiveTap)
     → ride_reply (charge rules.terms (length (after_ride rules window ride) - 1))
     ≡ replied_by (ride_of rules (after_ride rules window ride))
 unfolding ride_of is_within
@@ -326,7 +326,7 @@ unfolding gives given_by
 transfer-follows permits None other tap given same = cc
 transfer-follows permits (Some giver) other tap given same = rw (same giver refl) refl
 
-live-follows : (rules : Rules) (taps : List TapIn) (tap : TapIn) (shown : LiveTap)
+live-follows : (rules : TokenRules) (taps : List TapIn) (tap : TapIn) (shown : LiveTap)
     → live_tap taps tap ≡ Some shown
     → live_reply rules (taps ++ tap ∷ []) ≡ replied_by (live_reason rules taps (taps ++ tap ∷ []))
 live-follows rules taps tap shown some =
@@ -344,7 +344,7 @@ live-follows rules taps tap shown some =
           (ride-follows rules (last_block (windows rules taps)) shown)
     ]
 
-known-follows : (rules : Rules) (taps : List TapIn) (tap : TapIn) (mode : Mode)
+known-follows : (rules : TokenRules) (taps : List TapIn) (tap : TapIn) (mode : Mode)
     → tap.mode ≡ Some mode → reply rules taps tap ≡ replied_by (reason rules taps tap)
 known-follows rules taps tap mode known = elim (cases_Bool (is_later taps tap.moment)) [
   | inl later ↦ reply_live rules taps tap mode known later
@@ -354,7 +354,7 @@ known-follows rules taps tap mode known = elim (cases_Bool (is_later taps tap.mo
       ∙ ap (λ r. replied_by r) (sym (reason_stale rules taps tap mode known not_after))
 ]
 
-pub reply-follows : (rules : Rules) (taps : List TapIn) (tap : TapIn)
+pub reply-follows : (rules : TokenRules) (taps : List TapIn) (tap : TapIn)
     → reply rules taps tap ≡ replied_by (reason rules taps tap)
 reply-follows rules taps tap =
     elim tap.mode as (λ mode. tap.mode ≡ mode
@@ -377,7 +377,7 @@ unfolding given_by live_at
 given_in-by None = refl
 given_in-by (Some giver) = refl
 
-given_in-ride : (rules : Rules) (window : List LiveTap) → given_in (ride_of rules window) ≡ None
+given_in-ride : (rules : TokenRules) (window : List LiveTap) → given_in (ride_of rules window) ≡ None
 unfolding ride_of
 given_in-ride rules [] = refl
 given_in-ride rules (first ∷ window) = refl
@@ -399,7 +399,7 @@ odd-gives permits chain tap =
       | Some giver ↦ λ some given. odd-giver chain giver some
     ] refl
 
-given-live : (rules : Rules) (taps : List TapIn) (tap : TapIn) (given shown : LiveTap)
+given-live : (rules : TokenRules) (taps : List TapIn) (tap : TapIn) (given shown : LiveTap)
     → live_tap taps tap ≡ Some shown
     → given_in (live_reason rules taps (taps ++ tap ∷ [])) ≡ Some given
     → (last_or None (live taps) ≡ Some given) × (ends_in_transfer rules taps ≡ false)
@@ -417,7 +417,7 @@ given-live rules taps tap given shown some is =
           ∙ sym (ap given_in (reason_ride rules taps (taps ++ tap ∷ []) ride)) ∙ is in cc
     ]
 
-pub giver-ride : (rules : Rules) (taps : List TapIn) (tap : TapIn) (moment : ℕ) (given : Mode)
+pub giver-ride : (rules : TokenRules) (taps : List TapIn) (tap : TapIn) (moment : ℕ) (given : Mode)
     → reason rules taps tap ≡ Transfer moment given
     → (last_or None (live taps) ≡ Some (live_at moment given))
     × (ends_in_transfer rules taps ≡ false)

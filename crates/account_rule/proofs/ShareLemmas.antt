@@ -16,7 +16,7 @@ use Rattle.account_rule.specs.Blocks.{blocks_by, last_block}
 use Rattle.account_rule.specs.Laws.{is_paid_reply, is_ride, place_replies}
 use Rattle.account_rule.specs.Replies.{live_reply, replies, replies_after, reply, reply_with}
 use Rattle.account_rule.specs.Replies.{ride_reply}
-use Rattle.account_rule.specs.Rules.{Rules}
+use Rattle.account_rule.specs.TokenRules.{TokenRules}
 use Rattle.account_rule.specs.Taps.{LiveTap, is_later, live, live_after, live_at, live_tap}
 use Rattle.account_rule.specs.Windows.{charge, is_within, paid_rides, ride_cents, windows}
 use Rattle.account_rule.proofs.BlockLemmas.{extend, last_block-cons}
@@ -25,7 +25,7 @@ use Rattle.account_rule.proofs.StepLemmas.{reply_stale, reply_transfer, reply_un
 use Rattle.account_rule.proofs.TapLemmas.{windows-ride, windows-same, windows-transfer}
 use Rattle.account_rule.proofs.WindowLemmas.{length-push}
 
-replies_after-push : (rules : Rules) (earlier taps : List TapIn) (tap : TapIn)
+replies_after-push : (rules : TokenRules) (earlier taps : List TapIn) (tap : TapIn)
     → replies_after rules earlier (taps ++ tap ∷ []) ≡ replies_after rules earlier taps
     ++ reply rules (earlier ++ taps) tap ∷ []
 unfolding replies_after
@@ -35,13 +35,13 @@ replies_after-push rules earlier (first ∷ taps) tap =
     (replies_after-push rules (earlier ++ first ∷ []) taps tap
     ∙ rw (append_assoc earlier (first ∷ []) taps) refl)
 
-replies-push : (rules : Rules) (taps : List TapIn) (tap : TapIn)
+replies-push : (rules : TokenRules) (taps : List TapIn) (tap : TapIn)
     → replies rules (taps ++ tap ∷ []) ≡ replies rules taps ++ reply rules taps tap ∷ []
 unfolding replies
 replies-push rules taps tap = replies_after-push rules [] taps tap
 
 -- what one more tap makes of the replies and the windows
-data Change (rules : Rules) (taps : List TapIn) (tap : TapIn) : Type 0 where
+data Change (rules : TokenRules) (taps : List TapIn) (tap : TapIn) : Type 0 where
   is_unknown : reply rules taps tap ≡ reply_with Unknown 0
       → windows rules (taps ++ tap ∷ []) ≡ windows rules taps → Change rules taps tap
   is_stale : reply rules taps tap ≡ reply_with Stale 0
@@ -55,7 +55,7 @@ data Change (rules : Rules) (taps : List TapIn) (tap : TapIn) : Type 0 where
       → windows rules (taps ++ tap ∷ []) ≡ extend (is_within rules.until) (windows rules taps) shown
       → Change rules taps tap
 
-live_change : (rules : Rules) (taps : List TapIn) (tap : TapIn) (shown : LiveTap)
+live_change : (rules : TokenRules) (taps : List TapIn) (tap : TapIn) (shown : LiveTap)
     → live_tap taps tap ≡ Some shown
     → reply rules taps tap ≡ live_reply rules (taps ++ tap ∷ []) → Change rules taps tap
 live_change rules taps tap shown some answered = ⊎_elim
@@ -68,7 +68,7 @@ live_change rules taps tap shown some answered = ⊎_elim
     is_charged shown (answered ∙ reply_ride rules (taps ++ tap ∷ []) ends ∙ rw opens refl) opens)
     (cases_Bool (ends_in_transfer rules (taps ++ tap ∷ [])))
 
-change : (rules : Rules) (taps : List TapIn) (tap : TapIn) → Change rules taps tap
+change : (rules : TokenRules) (taps : List TapIn) (tap : TapIn) → Change rules taps tap
 change rules taps tap = elim tap.mode as (λ mode. tap.mode ≡ mode → Change rules taps tap) [
   | None ↦ λ none. is_unknown (reply_unknown rules taps tap none)
       (windows-same rules taps tap (not_known taps tap none))
@@ -156,12 +156,12 @@ push_all P none more earlier (tap ∷ taps) all =
     rw (← append_assoc earlier (tap ∷ []) taps)
     (push_all P none more (earlier ++ tap ∷ []) taps (more earlier tap all))
 
-first : (rules : Rules) (of_reply : Reply → ℕ) (of_places : ℕ → ℕ)
+first : (rules : TokenRules) (of_reply : Reply → ℕ) (of_places : ℕ → ℕ)
     → sum_by of_reply (replies rules []) ≡ total of_places (windows rules [])
 unfolding replies replies_after windows rides chains live live_after blocks_by total
 first rules of_reply of_places = refl
 
-sum-replies-total : (rules : Rules) (of_reply : Reply → ℕ) (of_places : ℕ → ℕ)
+sum-replies-total : (rules : TokenRules) (of_reply : Reply → ℕ) (of_places : ℕ → ℕ)
     → IsMeasure rules.terms of_reply of_places
     → (taps : List TapIn)
     → sum_by of_reply (replies rules taps) ≡ total of_places (windows rules taps)
@@ -187,7 +187,7 @@ sum-replies-total rules of_reply of_places measure taps =
     [] taps (first rules of_reply of_places)
 
 -- the measure of the replies is that of the windows
-pub sum-replies : (rules : Rules) (of_reply : Reply → ℕ) (of_places : ℕ → ℕ)
+pub sum-replies : (rules : TokenRules) (of_reply : Reply → ℕ) (of_places : ℕ → ℕ)
     → IsMeasure rules.terms of_reply of_places
     → (taps : List TapIn)
     → sum_by of_reply (replies rules taps)
@@ -239,7 +239,7 @@ shares_of-extend terms joins (block ∷ next ∷ blocks) x =
     (shares_of-extend terms joins (next ∷ blocks) x)
     ∙ sym (append_assoc (place_replies terms (length block)) _ _))
 
-no_shares : (rules : Rules)
+no_shares : (rules : TokenRules)
     → filter is_ride (replies rules []) ≡ shares_of rules.terms (windows rules [])
 unfolding replies replies_after windows rides chains live live_after blocks_by shares_of
 no_shares rules = refl
@@ -256,7 +256,7 @@ free_transfer : is_ride (reply_with Transfer 0) ≡ false
 unfolding reply_with
 free_transfer = refl
 
-pub ride_replies-shares : (rules : Rules) (taps : List TapIn)
+pub ride_replies-shares : (rules : TokenRules) (taps : List TapIn)
     → filter is_ride (replies rules taps) ≡ shares_of rules.terms (windows rules taps)
 ride_replies-shares rules taps =
     push_all (λ taps. filter is_ride (replies rules taps)

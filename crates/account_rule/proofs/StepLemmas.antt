@@ -16,7 +16,7 @@ use Rattle.account_rule.specs.declared.window.Window.{Window}
 use Rattle.account_rule.specs.Chains.{chains, ends_in_transfer}
 use Rattle.account_rule.specs.Blocks.{last_block}
 use Rattle.account_rule.specs.Replies.{live_reply, reply, reply_with, ride_reply}
-use Rattle.account_rule.specs.Rules.{Rules}
+use Rattle.account_rule.specs.TokenRules.{TokenRules}
 use Rattle.account_rule.specs.Kept.{KeepsTerms, State, state_of, is_after, kept_giver, kept_of}
 use Rattle.account_rule.specs.Kept.{kept_window}
 use Rattle.account_rule.specs.inside.Kept.{IsRoomy, gives, open_window, window_at, with_ride}
@@ -40,20 +40,20 @@ unfolding kept_of
 kept-fresh account fresh = rw fresh refl
 
 -- an account with a window stands for what its fields stand for
-pub stands-open : (rules : Rules) (account : Account) (taps : List TapIn)
+pub stands-open : (rules : TokenRules) (account : Account) (taps : List TapIn)
     → account.has_window ≡ true → KeepsOf rules (Some (state_of account)) taps
     → Stands rules account taps
 unfolding Stands
 stands-open rules account taps there keeps = rw (kept-open account there) keeps
 
 -- a step from one state to the next is the rule's
-pub record IsStep (rules : Rules) (taps : List TapIn) (tap : TapIn) (answered : Reply)
+pub record IsStep (rules : TokenRules) (taps : List TapIn) (tap : TapIn) (answered : Reply)
     (next : Option State) : Type 0 where
   pub reply : answered ≡ reply rules taps tap
   pub stands : KeepsOf rules next (taps ++ tap ∷ [])
 
 -- a tap that is not live changes nothing but what is later
-same : (rules : Rules) (state : Option State) (taps : List TapIn) (tap : TapIn)
+same : (rules : TokenRules) (state : Option State) (taps : List TapIn) (tap : TapIn)
     → KeepsOf rules state taps
     → live_tap taps tap ≡ None
     → ((moment : ℕ) → is_later (taps ++ tap ∷ []) moment ≡ is_later taps moment)
@@ -83,13 +83,13 @@ pub is_live : (taps : List TapIn) (tap : TapIn) (mode : Mode) → tap.mode ≡ S
 unfolding live_tap
 is_live taps tap mode known later = rw (known, later) refl
 
-pub reply_unknown : (rules : Rules) (taps : List TapIn) (tap : TapIn) → tap.mode ≡ None
+pub reply_unknown : (rules : TokenRules) (taps : List TapIn) (tap : TapIn) → tap.mode ≡ None
     → reply rules taps tap ≡ reply_with Unknown 0
 unfolding reply
 reply_unknown rules taps tap none = let no_mode : is_some tap.mode ≡ false =
     ap (λ o. is_some o) none in rw no_mode refl
 
-pub reply_stale : (rules : Rules) (taps : List TapIn) (tap : TapIn) (mode : Mode)
+pub reply_stale : (rules : TokenRules) (taps : List TapIn) (tap : TapIn) (mode : Mode)
     → tap.mode ≡ Some mode → is_later taps tap.moment ≡ false
     → reply rules taps tap ≡ reply_with Stale 0
 unfolding reply
@@ -97,7 +97,7 @@ reply_stale rules taps tap mode known not_after =
     let known_mode : is_some tap.mode ≡ true = ap (λ o. is_some o) known in
     rw (known_mode, not_after) refl
 
-pub reply_live : (rules : Rules) (taps : List TapIn) (tap : TapIn) (mode : Mode)
+pub reply_live : (rules : TokenRules) (taps : List TapIn) (tap : TapIn) (mode : Mode)
     → tap.mode ≡ Some mode → is_later taps tap.moment ≡ true
     → reply rules taps tap ≡ live_reply rules (taps ++ tap ∷ [])
 unfolding reply
@@ -105,19 +105,19 @@ reply_live rules taps tap mode known later =
     let known_mode : is_some tap.mode ≡ true = ap (λ o. is_some o) known in
     rw (known_mode, later) refl
 
-pub reply_transfer : (rules : Rules) (taps : List TapIn) → ends_in_transfer rules taps ≡ true
+pub reply_transfer : (rules : TokenRules) (taps : List TapIn) → ends_in_transfer rules taps ≡ true
     → live_reply rules taps ≡ reply_with Transfer 0
 unfolding live_reply
 reply_transfer rules taps ends = rw ends refl
 
-pub reply_ride : (rules : Rules) (taps : List TapIn) → ends_in_transfer rules taps ≡ false
+pub reply_ride : (rules : TokenRules) (taps : List TapIn) → ends_in_transfer rules taps ≡ false
     → live_reply rules taps
     ≡ ride_reply (charge rules.terms (length (last_block (windows rules taps)) - 1))
 unfolding live_reply
 reply_ride rules taps ends = rw ends refl
 
 -- a tap of no known validator
-pub unknown : (rules : Rules) (state : Option State) (taps : List TapIn) (tap : TapIn)
+pub unknown : (rules : TokenRules) (state : Option State) (taps : List TapIn) (tap : TapIn)
     → KeepsOf rules state taps
     → tap.mode ≡ None → IsStep rules taps tap (reply_with Unknown 0) state
 unknown rules state taps tap stands none = record {
@@ -126,7 +126,7 @@ unknown rules state taps tap stands none = record {
       (λ moment. is_later-push taps tap moment ∙ rw none (and-true (is_later taps moment)));
 }
 
-at_state : (rules : Rules) (account : Option State) (state : State) (taps : List TapIn)
+at_state : (rules : TokenRules) (account : Option State) (state : State) (taps : List TapIn)
     → account ≡ Some state
     → KeepsOf rules account taps → KeepsOf rules (Some state) taps
 at_state rules account state taps same stands = rw same at stands
@@ -142,7 +142,7 @@ later_stale last moment earlier before =
     ] refl
 
 -- a known tap that is not later than all known taps before it
-stale_at : (rules : Rules) (state : State) (taps : List TapIn) (tap : TapIn) (mode : Mode)
+stale_at : (rules : TokenRules) (state : State) (taps : List TapIn) (tap : TapIn) (mode : Mode)
     → KeepsOf rules (Some state) taps
     → tap.mode ≡ Some mode → tap.moment ≤ state.last
     → IsStep rules taps tap (reply_with Stale 0) (Some state)
@@ -169,7 +169,7 @@ both (Some state) tapped moment later =
           [ true ↦ refl | false ↦ refl ]
     ] refl
 
-pub stale : (rules : Rules) (account : Option State) (state : State) (taps : List TapIn)
+pub stale : (rules : TokenRules) (account : Option State) (state : State) (taps : List TapIn)
     (tap : TapIn) (mode : Mode)
     → account ≡ Some state → KeepsOf rules account taps → tap.mode ≡ Some mode
     → tap.moment ≤ state.last
@@ -195,7 +195,7 @@ keeps_terms terms state next some kept limits =
     subst (λ s. KeepsTerms terms s) same keeps
 
 -- a live tap to which the last one gives a transfer
-transfer_at : (rules : Rules) (state : State) (taps : List TapIn) (tap : TapIn) (mode : Mode)
+transfer_at : (rules : TokenRules) (state : State) (taps : List TapIn) (tap : TapIn) (mode : Mode)
     → KeepsOf rules (Some state) taps
     → tap.mode ≡ Some mode → state.last < tap.moment
     → gives rules.permits (kept_giver (Some state)) (live_at tap.moment mode) ≡ true
@@ -229,7 +229,7 @@ transfer_at rules state taps tap mode stands known after given =
       };
     }
 
-pub transfer : (rules : Rules) (account : Option State) (state : State) (taps : List TapIn)
+pub transfer : (rules : TokenRules) (account : Option State) (state : State) (taps : List TapIn)
     (tap : TapIn) (mode : Mode)
     → account ≡ Some state → KeepsOf rules account taps → tap.mode ≡ Some mode
     → state.last < tap.moment
@@ -247,7 +247,7 @@ transfer rules account state taps tap mode same stands known after given =
     after given
 
 -- a live tap to which no transfer is given
-ride_at : (rules : Rules) (state : Option State) (taps : List TapIn) (tap : TapIn) (mode : Mode)
+ride_at : (rules : TokenRules) (state : Option State) (taps : List TapIn) (tap : TapIn) (mode : Mode)
     (window : Window)
     → KeepsOf rules state taps
     → tap.mode ≡ Some mode → mode.place < rules.modes → is_after state tap.moment ≡ true
@@ -322,7 +322,7 @@ gives_none-state permits account state tap mode same after none =
     record { after = rw same (lt-ltb state.last tap.moment after); none = rw same none }
 
 -- the window to which the ride belongs has room for it
-pub room : (rules : Rules) (account : Option State) (taps : List TapIn) (tap : TapIn)
+pub room : (rules : TokenRules) (account : Option State) (taps : List TapIn) (tap : TapIn)
     (terms : Terms) (window : Window)
     → KeepsOf rules account taps → window ≡ window_at (kept_window account) tap.moment tap.until
     → terms ≡ rules.terms → HasLimits terms → IsRoomy terms window
@@ -331,7 +331,7 @@ room rules account taps tap terms window stands at same_terms limits =
     (roomy rules (last_block (windows rules taps)) tap.moment tap.until
     (rw same_terms at limits))
 
-pub ride : (rules : Rules) (account : Option State) (taps : List TapIn) (tap : TapIn) (mode : Mode)
+pub ride : (rules : TokenRules) (account : Option State) (taps : List TapIn) (tap : TapIn) (mode : Mode)
     (terms : Terms) (window counted : Window) (cents : ℕ)
     → KeepsOf rules account taps
     → tap.mode ≡ Some mode → mode.place < rules.modes → tap.until ≡ rules.until tap.moment
@@ -352,7 +352,7 @@ ride rules account taps tap mode terms window counted cents stands known listed 
     (rw limit at at) (rw same_terms at limits))
 
 -- what a token that has an account pays is what the account keeps
-pub kept_terms : (rules : Rules) (account : Option State) (state : State) (taps : List TapIn)
+pub kept_terms : (rules : TokenRules) (account : Option State) (state : State) (taps : List TapIn)
     → account ≡ Some state → KeepsOf rules account taps → KeepsTerms rules.terms state
 kept_terms rules account state taps same stands = stands.terms state same
 
@@ -368,7 +368,7 @@ unfolding kept_window window_at
 at_fresh account start until fresh = rw fresh refl
 
 -- a ride of an account that has a window
-pub next_ride : (rules : Rules) (account : Option State) (state next : State) (taps : List TapIn)
+pub next_ride : (rules : TokenRules) (account : Option State) (state next : State) (taps : List TapIn)
     (tap : TapIn) (mode : Mode) (cents : ℕ)
     → account ≡ Some state → KeepsOf rules account taps
     → tap.mode ≡ Some mode → mode.place < rules.modes → tap.until ≡ rules.until tap.moment
@@ -395,7 +395,7 @@ next_ride rules account state next taps tap mode cents same stands known listed 
     (at_kept account state tap.moment tap.until same) cost refl)
 
 -- the first ride of an account
-pub first_ride : (rules : Rules) (account next : Option State) (taps : List TapIn) (tap : TapIn)
+pub first_ride : (rules : TokenRules) (account next : Option State) (taps : List TapIn) (tap : TapIn)
     (mode : Mode) (answered : Reply)
     → account ≡ None → KeepsOf rules account taps
     → tap.mode ≡ Some mode → mode.place < rules.modes → tap.until ≡ rules.until tap.moment

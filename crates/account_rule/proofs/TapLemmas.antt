@@ -11,7 +11,7 @@ use Rattle.account_rule.specs.declared.tap.TapIn.{TapIn}
 use Rattle.account_rule.specs.Chains.{chains, continues, ends_in_transfer, is_even, is_linked}
 use Rattle.account_rule.specs.Chains.{rides}
 use Rattle.account_rule.specs.Blocks.{last_block}
-use Rattle.account_rule.specs.Rules.{Rules}
+use Rattle.account_rule.specs.TokenRules.{TokenRules}
 use Rattle.account_rule.specs.inside.Kept.{gives}
 use Rattle.account_rule.specs.Stands.{giver_of}
 use Rattle.account_rule.specs.Taps.{LiveTap, is_later, live, live_after, live_tap}
@@ -58,25 +58,25 @@ unfolding live
 live-push taps tap = live_after-push [] taps tap
 
 -- a tap that is not live changes no chain
-pub chains-same : (rules : Rules) (taps : List TapIn) (tap : TapIn) → live_tap taps tap ≡ None
+pub chains-same : (rules : TokenRules) (taps : List TapIn) (tap : TapIn) → live_tap taps tap ≡ None
     → chains rules (taps ++ tap ∷ []) ≡ chains rules taps
 unfolding chains
 chains-same rules taps tap none = rw (live-push taps tap, none, append-nil) refl
 
-pub chains-push : (rules : Rules) (taps : List TapIn) (tap : TapIn) (shown : LiveTap)
+pub chains-push : (rules : TokenRules) (taps : List TapIn) (tap : TapIn) (shown : LiveTap)
     → live_tap taps tap ≡ Some shown
     → chains rules (taps ++ tap ∷ []) ≡ extend (continues rules.permits) (chains rules taps) shown
 unfolding chains
 chains-push rules taps tap shown some =
     rw (live-push taps tap, some) (blocks_by-push (continues rules.permits) (live taps) shown)
 
-pub rides-same : (rules : Rules) (taps : List TapIn) (tap : TapIn) → live_tap taps tap ≡ None
+pub rides-same : (rules : TokenRules) (taps : List TapIn) (tap : TapIn) → live_tap taps tap ≡ None
     → rides rules (taps ++ tap ∷ []) ≡ rides rules taps
 unfolding rides
 rides-same rules taps tap none = rw (chains-same rules taps tap none) refl
 
 -- a live tap is a ride, unless it makes the last chain of even length
-pub rides-push : (rules : Rules) (taps : List TapIn) (tap : TapIn) (shown : LiveTap)
+pub rides-push : (rules : TokenRules) (taps : List TapIn) (tap : TapIn) (shown : LiveTap)
     → live_tap taps tap ≡ Some shown
     → rides rules (taps ++ tap ∷ []) ≡ rides rules taps
     ++ cond (ends_in_transfer rules (taps ++ tap ∷ [])) [] (shown ∷ [])
@@ -85,12 +85,12 @@ rides-push rules taps tap shown some =
     rw (chains-push rules taps tap shown some)
     (evens-extend (continues rules.permits) (chains rules taps) shown)
 
-pub windows-same : (rules : Rules) (taps : List TapIn) (tap : TapIn) → live_tap taps tap ≡ None
+pub windows-same : (rules : TokenRules) (taps : List TapIn) (tap : TapIn) → live_tap taps tap ≡ None
     → windows rules (taps ++ tap ∷ []) ≡ windows rules taps
 unfolding windows
 windows-same rules taps tap none = rw (rides-same rules taps tap none) refl
 
-pub windows-transfer : (rules : Rules) (taps : List TapIn) (tap : TapIn) (shown : LiveTap)
+pub windows-transfer : (rules : TokenRules) (taps : List TapIn) (tap : TapIn) (shown : LiveTap)
     → live_tap taps tap ≡ Some shown
     → ends_in_transfer rules (taps ++ tap ∷ []) ≡ true
     → windows rules (taps ++ tap ∷ []) ≡ windows rules taps
@@ -98,7 +98,7 @@ unfolding windows
 windows-transfer rules taps tap shown some transfer =
     rw (rides-push rules taps tap shown some, transfer, append-nil) refl
 
-pub windows-ride : (rules : Rules) (taps : List TapIn) (tap : TapIn) (shown : LiveTap)
+pub windows-ride : (rules : TokenRules) (taps : List TapIn) (tap : TapIn) (shown : LiveTap)
     → live_tap taps tap ≡ Some shown
     → ends_in_transfer rules (taps ++ tap ∷ []) ≡ false
     → windows rules (taps ++ tap ∷ [])
@@ -166,7 +166,7 @@ giver_of_after permits chain tap = elim (ends permits chain) [
 ]
 
 -- a live tap is a transfer exactly where the giver gives it one
-pub ends_in_transfer-push : (rules : Rules) (taps : List TapIn) (tap : TapIn) (shown : LiveTap)
+pub ends_in_transfer-push : (rules : TokenRules) (taps : List TapIn) (tap : TapIn) (shown : LiveTap)
     → live_tap taps tap ≡ Some shown
     → ends_in_transfer rules (taps ++ tap ∷ [])
     ≡ gives rules.permits (giver_of (last_block (chains rules taps))) shown
@@ -179,7 +179,7 @@ ends_in_transfer-push rules taps tap shown some =
     (is_even_after rules.permits (last_block (chains rules taps)) shown)
 
 -- and then it gives none itself
-pub giver-push : (rules : Rules) (taps : List TapIn) (tap : TapIn) (shown : LiveTap)
+pub giver-push : (rules : TokenRules) (taps : List TapIn) (tap : TapIn) (shown : LiveTap)
     → live_tap taps tap ≡ Some shown
     → giver_of (last_block (chains rules (taps ++ tap ∷ [])))
     ≡ cond (gives rules.permits (giver_of (last_block (chains rules taps))) shown) None (Some shown)
@@ -191,7 +191,7 @@ giver-push rules taps tap shown some =
     (giver_of_after rules.permits (last_block (chains rules taps)) shown)
 
 -- the last window, once the list has one more ride
-pub last_window-ride : (rules : Rules) (taps : List TapIn) (tap : TapIn) (shown : LiveTap)
+pub last_window-ride : (rules : TokenRules) (taps : List TapIn) (tap : TapIn) (shown : LiveTap)
     → live_tap taps tap ≡ Some shown
     → ends_in_transfer rules (taps ++ tap ∷ []) ≡ false
     → last_block (windows rules (taps ++ tap ∷ []))

@@ -2,7 +2,7 @@
 use Rattle.std.proofs.Common.{◌≡◌, ℕ, suc, ◌+◌, ◌-◌, ◌≤◌, true, false, cond, List, [], ◌∷◌, ◌++◌}
 use Rattle.std.proofs.Common.{length, min, ltb, Some, option_map, IfSome, refl, ap, arith}
 use Rattle.fare_table.specs.Terms.{HasLimits}
-use Rattle.account_rule.specs.Rules.{Rules}
+use Rattle.account_rule.specs.TokenRules.{TokenRules}
 use Rattle.account_rule.specs.inside.Kept.{IsRoomy, open_window, shown_of, window_at, with_ride}
 use Rattle.account_rule.specs.Stands.{window_of}
 use Rattle.account_rule.specs.Taps.{LiveTap}
@@ -17,12 +17,12 @@ counted : (rides limit : ℕ) → min (min rides limit + 1) limit ≡ min (suc r
 counted rides limit = omega arith
 
 -- a window with one more ride, or a window of that ride alone
-abbrev pub after_ride : Rules → List LiveTap → LiveTap → List LiveTap
+abbrev pub after_ride : TokenRules → List LiveTap → LiveTap → List LiveTap
 after_ride rules window ride =
     cond (is_within rules.until window ride) (window ++ ride ∷ []) (ride ∷ [])
 
 -- the numbers of the window after a ride are those before it with the ride counted
-pub window_of-after : (rules : Rules) (window : List LiveTap) (ride : LiveTap)
+pub window_of-after : (rules : TokenRules) (window : List LiveTap) (ride : LiveTap)
     → window_of rules (after_ride rules window ride)
     ≡ Some (with_ride rules.terms
     (window_at (window_of rules window) ride.moment (rules.until ride.moment)))
@@ -47,7 +47,7 @@ window_of-after rules (first ∷ window) ride =
     ]
 
 -- the ride's place in its window costs what the counted rides say
-pub charge-after : (rules : Rules) (window : List LiveTap) (ride : LiveTap)
+pub charge-after : (rules : TokenRules) (window : List LiveTap) (ride : LiveTap)
     → charge rules.terms (length (after_ride rules window ride) - 1)
     ≡ charge rules.terms
     (window_at (window_of rules window) ride.moment (rules.until ride.moment)).rides
@@ -71,7 +71,7 @@ charge-after rules (first ∷ window) ride =
     ]
 
 -- the limits of the terms leave room for one more ride
-pub roomy : (rules : Rules) (window : List LiveTap) (moment until : ℕ)
+pub roomy : (rules : TokenRules) (window : List LiveTap) (moment until : ℕ)
     → HasLimits rules.terms → IsRoomy rules.terms (window_at (window_of rules window) moment until)
 unfolding window_of window_at open_window
 roomy rules [] moment until limits = record {
@@ -100,19 +100,19 @@ roomy rules (first ∷ window) moment until limits =
     ]
 
 -- what is seen of the kept window is what the rule shows, within both limits
-pub shown_window-of : (rules : Rules) (window : List LiveTap)
+pub shown_window-of : (rules : TokenRules) (window : List LiveTap)
     → option_map shown_of (window_of rules window) ≡ shown_window rules window
 unfolding window_of shown_of shown_window
 shown_window-of rules [] = refl
 shown_window-of rules (first ∷ window) = refl
 
-pub paid-shown : (rules : Rules) (window : List LiveTap)
+pub paid-shown : (rules : TokenRules) (window : List LiveTap)
     → IfSome (shown_window rules window) (λ shown. shown.paid ≤ rules.terms.rides)
 unfolding shown_window
 paid-shown rules [] = tt
 paid-shown rules (first ∷ window) = paid_rides-le_rides rules.terms (suc (length window))
 
-pub cents-shown : (rules : Rules) (window : List LiveTap)
+pub cents-shown : (rules : TokenRules) (window : List LiveTap)
     → IfSome (shown_window rules window) (λ shown. shown.cents ≤ rules.terms.ceiling)
 unfolding shown_window
 cents-shown rules [] = tt

@@ -11,33 +11,33 @@ use Rattle.account_rule.specs.declared.tap.TapIn.{TapIn}
 use Rattle.account_rule.specs.Chains.{continues, chains, rides}
 use Rattle.account_rule.specs.Blocks.{AreBlocksOf}
 use Rattle.account_rule.specs.Replies.{replies, ride_reply}
-use Rattle.account_rule.specs.Rules.{Rules}
+use Rattle.account_rule.specs.TokenRules.{TokenRules}
 use Rattle.account_rule.specs.Taps.{LiveTap, live}
 use Rattle.account_rule.specs.Windows.{charge, is_within, windows, paid_rides, ride_cents}
 
 -- the chains are the only blocks into which links divide the live taps
 abbrev pub ChainsAreTheOnlyBlocks : Type 0
 ChainsAreTheOnlyBlocks =
-    (rules : Rules) (taps : List TapIn) (blocks : List (List LiveTap))
+    (rules : TokenRules) (taps : List TapIn) (blocks : List (List LiveTap))
     → AreBlocksOf (continues rules.permits) (live taps) blocks ↔ (blocks ≡ chains rules taps)
 
 -- the windows are the only blocks into which window ends divide the rides
 abbrev pub WindowsAreTheOnlyBlocks : Type 0
 WindowsAreTheOnlyBlocks =
-    (rules : Rules) (taps : List TapIn) (blocks : List (List LiveTap))
+    (rules : TokenRules) (taps : List TapIn) (blocks : List (List LiveTap))
     → AreBlocksOf (is_within rules.until) (rides rules taps) blocks ↔ (blocks ≡ windows rules taps)
 
 -- no window has more paid rides than the terms allow
 abbrev pub WindowsKeepTheRideLimit : Type 0
 WindowsKeepTheRideLimit =
-    (rules : Rules) (taps : List TapIn)
+    (rules : TokenRules) (taps : List TapIn)
     → All (λ window. paid_rides rules.terms (length window) ≤ rules.terms.rides)
     (windows rules taps)
 
 -- no window costs more than the ceiling
 abbrev pub WindowsKeepTheCeiling : Type 0
 WindowsKeepTheCeiling =
-    (rules : Rules) (taps : List TapIn)
+    (rules : TokenRules) (taps : List TapIn)
     → All (λ window. ride_cents rules.terms (length window) ≤ rules.terms.ceiling)
     (windows rules taps)
 
@@ -71,20 +71,20 @@ place_replies terms (suc place) = place_replies terms place ++ ride_reply (charg
 -- the replies to rides are, window by window, those of the places
 abbrev pub WindowsShareTheRides : Type 0
 WindowsShareTheRides =
-    (rules : Rules) (taps : List TapIn)
+    (rules : TokenRules) (taps : List TapIn)
     → filter is_ride (replies rules taps)
     ≡ flat_map (λ window. place_replies rules.terms (length window)) (windows rules taps)
 
 -- the cents of all replies are the cents of all windows
 abbrev pub WindowsShareTheCents : Type 0
 WindowsShareTheCents =
-    (rules : Rules) (taps : List TapIn)
+    (rules : TokenRules) (taps : List TapIn)
     → sum_by (λ reply. reply.cents) (replies rules taps)
     ≡ sum_by (λ window. ride_cents rules.terms (length window)) (windows rules taps)
 
 -- the Paid replies are the paid rides of all windows
 abbrev pub WindowsShareThePaidRides : Type 0
 WindowsShareThePaidRides =
-    (rules : Rules) (taps : List TapIn)
+    (rules : TokenRules) (taps : List TapIn)
     → count_by is_paid_reply (replies rules taps)
     ≡ sum_by (λ window. paid_rides rules.terms (length window)) (windows rules taps)

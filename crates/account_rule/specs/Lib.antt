@@ -4,8 +4,8 @@ pub mod Kept
 pub mod Laws
 pub mod Reasons
 pub mod Replies
-pub mod Rules
 pub mod Stands
 pub mod Taps
+pub mod TokenRules
 pub mod Windows
 pub mod inside

@@ -15,7 +15,7 @@ use Rattle.account_rule.specs.declared.tap.TapIn.{TapIn}
 use Rattle.account_rule.specs.Chains.{ends_in_transfer}
 use Rattle.account_rule.specs.Blocks.{last_block}
 use Rattle.account_rule.specs.Replies.{reply, reply_with, ride_reply}
-use Rattle.account_rule.specs.Rules.{Rules}
+use Rattle.account_rule.specs.TokenRules.{TokenRules}
 use Rattle.account_rule.specs.Taps.{LiveTap, is_later, live, live_at}
 use Rattle.account_rule.specs.Windows.{windows}
 
@@ -38,20 +38,20 @@ given_by None = Unknown
 given_by (Some giver) = Transfer giver.moment giver.mode
 
 -- a ride is the last one of its window (which has a ride at least)
-unfoldable pub ride_of : Rules → List LiveTap → Reason
+unfoldable pub ride_of : TokenRules → List LiveTap → Reason
 ride_of rules [] = Unknown
 ride_of rules (first ∷ window) =
     Ride first.moment (rules.until first.moment) (charge_by rules.terms (length window))
 
 -- why a live tap is answered as it is: `taps` ends with it
-unfoldable pub live_reason : Rules → List TapIn → List TapIn → Reason
+unfoldable pub live_reason : TokenRules → List TapIn → List TapIn → Reason
 live_reason rules earlier taps =
     if ends_in_transfer rules taps
     then given_by (last_or None (live earlier))
     else ride_of rules (last_block (windows rules taps))
 
 -- why a tap after the earlier ones of its token is answered as it is
-unfoldable pub reason : Rules → List TapIn → TapIn → Reason
+unfoldable pub reason : TokenRules → List TapIn → TapIn → Reason
 reason rules earlier tap =
     if is_some tap.mode
     then (if is_later earlier tap.moment then live_reason rules earlier (earlier ++ tap ∷ [])
@@ -75,14 +75,14 @@ replied_by (Ride start until charge) = ride_reply (charged_by charge)
 -- each reply is the one that follows from the reason
 abbrev pub RepliesFollow : Type 0
 RepliesFollow =
-    (rules : Rules) (earlier : List TapIn) (tap : TapIn)
+    (rules : TokenRules) (earlier : List TapIn) (tap : TapIn)
     → reply rules earlier tap ≡ replied_by (reason rules earlier tap)
 
 -- what gives a transfer is the last live tap before it: it was at the moment and on the mode that
 -- are told, and it is a ride
 abbrev pub GiversAreRides : Type 0
 GiversAreRides =
-    (rules : Rules) (earlier : List TapIn) (tap : TapIn) (moment : ℕ) (mode : Mode)
+    (rules : TokenRules) (earlier : List TapIn) (tap : TapIn) (moment : ℕ) (mode : Mode)
     → reason rules earlier tap ≡ Transfer moment mode
     → (last_or None (live earlier) ≡ Some (live_at moment mode))
     × (ends_in_transfer rules earlier ≡ false)

@@ -7,7 +7,7 @@ use Rattle.account_rule.specs.declared.window.Window.{Window}
 use Rattle.account_rule.specs.Chains.{chains}
 use Rattle.account_rule.specs.Blocks.{last_block}
 use Rattle.account_rule.specs.Kept.{KeepsTerms, State, is_after, kept_giver, kept_of, kept_window}
-use Rattle.account_rule.specs.Rules.{Rules}
+use Rattle.account_rule.specs.TokenRules.{TokenRules}
 use Rattle.account_rule.specs.Taps.{LiveTap, is_later}
 use Rattle.account_rule.specs.Windows.{windows, paid_rides, ride_cents}
 
@@ -18,7 +18,7 @@ giver_of (tap ∷ []) = Some tap
 giver_of (_ ∷ _ ∷ chain) = giver_of chain
 
 -- the numbers of a window, with its rides counted up to the limit of the terms
-unfoldable pub window_of : Rules → List LiveTap → Option Window
+unfoldable pub window_of : TokenRules → List LiveTap → Option Window
 window_of rules [] = None
 window_of rules (first ∷ window) = Some (record {
   start = first.moment;
@@ -29,7 +29,7 @@ window_of rules (first ∷ window) = Some (record {
 })
 
 -- what is kept stands for the list: it is what decides every later reply
-pub record KeepsOf (rules : Rules) (kept : Option State) (taps : List TapIn) : Type 0 where
+pub record KeepsOf (rules : TokenRules) (kept : Option State) (taps : List TapIn) : Type 0 where
   -- its last moment tells which moments are later than all known taps
   pub last : (moment : ℕ) → is_after kept moment ≡ is_later taps moment
   -- its giver is the last live tap, where that is a ride
@@ -42,9 +42,9 @@ pub record KeepsOf (rules : Rules) (kept : Option State) (taps : List TapIn) : T
   pub mode : ForSome (kept_giver kept) (λ tap. tap.mode.place < rules.modes)
 
 -- the account stands for the list: what it keeps decides each later reply as the list does
-unfoldable pub Stands : Rules → Account → List TapIn → Type 0
+unfoldable pub Stands : TokenRules → Account → List TapIn → Type 0
 Stands rules account taps = KeepsOf rules (kept_of account) taps
 
 -- there is a list of taps for which the account stands
-unfoldable pub StandsForSome : Rules → Account → Type 0
+unfoldable pub StandsForSome : TokenRules → Account → Type 0
 StandsForSome rules account = (taps : List TapIn) × Stands rules account taps

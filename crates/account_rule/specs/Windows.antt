@@ -6,7 +6,7 @@ use Rattle.account_rule.specs.declared.tap.TapIn.{TapIn}
 use Rattle.account_rule.specs.declared.window.WindowView.{WindowView}
 use Rattle.account_rule.specs.Chains.{rides}
 use Rattle.account_rule.specs.Blocks.{blocks_by, last_block}
-use Rattle.account_rule.specs.Rules.{Rules}
+use Rattle.account_rule.specs.TokenRules.{TokenRules}
 use Rattle.account_rule.specs.Taps.{LiveTap}
 
 -- whether the ride is before the end of the window, which its first ride sets
@@ -15,7 +15,7 @@ is_within until [] ride = false
 is_within until (first ∷ _) ride = nat_lt ride.moment (until first.moment)
 
 -- the rides, divided into windows
-unfoldable pub windows : Rules → List TapIn → List (List LiveTap)
+unfoldable pub windows : TokenRules → List TapIn → List (List LiveTap)
 windows rules taps = blocks_by (is_within rules.until) (rides rules taps)
 
 -- the cents of the ride at the place of its window, from place 0 on
@@ -37,7 +37,7 @@ ride_cents terms zero = 0
 ride_cents terms (suc place) = ride_cents terms place + charge terms place
 
 -- what a window shows
-unfoldable pub shown_window : Rules → List LiveTap → Option WindowView
+unfoldable pub shown_window : TokenRules → List LiveTap → Option WindowView
 shown_window rules [] = None
 shown_window rules (first ∷ window) = Some (record {
   start = first.moment;
@@ -47,5 +47,5 @@ shown_window rules (first ∷ window) = Some (record {
 })
 
 -- the last window of the taps
-unfoldable pub last_window : Rules → List TapIn → Option WindowView
+unfoldable pub last_window : TokenRules → List TapIn → Option WindowView
 last_window rules taps = shown_window rules (last_block (windows rules taps))

@@ -7,7 +7,7 @@ ghost use Rattle.fare_table.specs.Terms.{HasLimits};
 ghost use Rattle.fare_table.specs.Until.{until};
 ghost use Rattle.account_rule.specs.declared.tap.TapIn.{TapIn};
 ghost use Rattle.account_rule.specs.Replies.{reply, ride_reply};
-ghost use Rattle.account_rule.specs.Rules.{Rules, permits_of, rules_of};
+ghost use Rattle.account_rule.specs.TokenRules.{TokenRules, permits_of, rules_of};
 ghost use Rattle.account_rule.specs.Kept.{kept_of};
 ghost use Rattle.account_rule.specs.inside.Kept.{IsRoomy, gives, open_window, window_at, with_ride};
 ghost use Rattle.account_rule.specs.Stands.{Stands, StandsForSome};
@@ -47,8 +47,8 @@ pub struct Account {
 impl Account {
     /// An account that has seen no tap.
     pub fn fresh() -> Self
-        ensures stands { (rules : Rules) → Stands rules result [] }
-        ensures some { (rules : Rules) → StandsForSome rules result }
+        ensures stands { (rules : TokenRules) → Stands rules result [] }
+        ensures some { (rules : TokenRules) → StandsForSome rules result }
     {
         Account {
             last: 0,
@@ -105,11 +105,11 @@ impl Account {
     /// The last window, or `None` before the first ride: its paid rides and its cents are within
     /// the limits of the token's terms (MTA, fare capping).
     pub fn window(&self) -> Option<WindowView>
-        ensures window { (rules : Rules) (taps : List TapIn) → Stands rules self.now taps
+        ensures window { (rules : TokenRules) (taps : List TapIn) → Stands rules self.now taps
             → result ≡ last_window rules taps }
-        ensures paid { (rules : Rules) (taps : List TapIn) → Stands rules self.now taps
+        ensures paid { (rules : TokenRules) (taps : List TapIn) → Stands rules self.now taps
             → IfSome result (λ window. window.paid ≤ rules.terms.rides) }
-        ensures cents { (rules : Rules) (taps : List TapIn) → Stands rules self.now taps
+        ensures cents { (rules : TokenRules) (taps : List TapIn) → Stands rules self.now taps
             → IfSome result (λ window. window.cents ≤ rules.terms.ceiling) }
     {
         if self.has_window {
@@ -124,7 +124,7 @@ impl Account {
     /// Kept out of the step, since it runs once a token and the rest of the step at every tap.
     #[cold]
     #[inline(never)]
-    #[tactic(auto, unfolding(crate::specs::Kept::kept_of, crate::specs::inside::Kept::open_window, crate::specs::Rules::rules_of))]
+    #[tactic(auto, unfolding(crate::specs::Kept::kept_of, crate::specs::inside::Kept::open_window, crate::specs::TokenRules::rules_of))]
     fn first_ride(&mut self, table: &FareTable, token: &[u8], mode: Mode, tap: TapIn) -> Reply
         requires { length token.now ≡ 16 }
         ensures limits { let terms = (rules_of table.now token.now).terms in HasLimits terms }
@@ -152,7 +152,7 @@ impl Account {
     }
 
     /// Whether the last live tap gives a transfer to a live tap at the moment, on the mode.
-    #[tactic(auto, unfolding(crate::specs::Chains::is_linked, crate::specs::Rules::permits_of, crate::specs::inside::Kept::gives, crate::specs::Taps::live_at))]
+    #[tactic(auto, unfolding(crate::specs::Chains::is_linked, crate::specs::TokenRules::permits_of, crate::specs::inside::Kept::gives, crate::specs::Taps::live_at))]
     fn gives_transfer(&self, table: &FareTable, moment: u64, mode: Mode) -> bool
         requires giver { ForSome self.now.giver
             (λ giver. giver.place < length table.now.rules.modes) }

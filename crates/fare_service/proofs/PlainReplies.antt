@@ -6,7 +6,7 @@ use Rattle.std.proofs.lemmas.List.Elements.{filter-append}
 use Rattle.fare_table.specs.Fares.{Fares}
 use Rattle.tap_views.specs.Layout.{Tap}
 use Rattle.account_rule.specs.Replies.{reply}
-use Rattle.account_rule.specs.Rules.{Rules, rules_of}
+use Rattle.account_rule.specs.TokenRules.{TokenRules, rules_of}
 use Rattle.account_rule.specs.declared.reply.Answer.TheVariants.{Unknown}
 use Rattle.account_rule.specs.declared.tap.TapIn.{TapIn}
 use Rattle.shard_book.specs.declared.entry.Entry.{Entry}
@@ -22,7 +22,7 @@ abbrev pub bare : Entry → Entry
 bare entry = record { token = entry.token; validator = entry.validator; moment = entry.moment; answer = Unknown; cents = 0 }
 
 -- entries of one token, answered again after its earlier taps
-again : Fares → Rules → List TapIn → List Entry → List Entry
+again : Fares → TokenRules → List TapIn → List Entry → List Entry
 again fares rules earlier [] = []
 again fares rules earlier (entry ∷ entries) =
     with_reply entry (reply rules earlier (tap_of fares entry)) ∷ again fares rules (earlier ++ tap_of fares entry ∷ []) entries
@@ -68,7 +68,7 @@ legal_again fares token front [] legal = refl
 legal_again fares token front (entry ∷ rest) legal =
     by_test (is_of token entry) refl (legal_again fares token (front ++ entry ∷ []) rest (subst (λ es. IsLegal fares es) (sym (append_assoc front (entry ∷ []) rest)) legal))
   where
-    rules : Rules
+    rules : TokenRules
     rules = rules_of fares (bytes_of token)
 
     by_test : (b : Bool) → is_of token entry ≡ b

@@ -9,7 +9,7 @@ use Rattle.tap_views.specs.Layout.{Tap, num}
 use Rattle.tap_views.specs.declared.fault.LayoutFault.{LayoutFault}
 use Rattle.fare_table.specs.Fares.{Fares}
 use Rattle.account_rule.specs.Replies.{reply}
-use Rattle.account_rule.specs.Rules.{rules_of}
+use Rattle.account_rule.specs.TokenRules.{rules_of}
 use Rattle.account_rule.specs.declared.reply.Answer.TheVariants.{Unknown}
 use Rattle.account_rule.specs.declared.reply.Reply.{Reply}
 use Rattle.shard_book.specs.Entry.{tap_of, taps_of}

@@ -13,7 +13,7 @@ use Rattle.fare_table.proofs.OverlapLemmas.{chain-insert, comes_after, comes_bef
 use Rattle.fare_table.proofs.OverlapLemmas.{free_apart, rest_chain}
 use Rattle.fare_table.proofs.PartLemmas.{bind_ok, parts}
 use Rattle.fare_table.proofs.ReadLemmas.{array-read, is_table, number-read, text-read}
-use Rattle.fare_table.specs.TextRanges.{RangeGives, RangeHas, HasEntry, HasValidator, NamesMode}
+use Rattle.fare_table.specs.TextRanges.{RangeGives, RangeHas, HasRange, HasValidator, NamesMode}
 use Rattle.fare_table.specs.Fares.{Fares, has_number, mode_at, range_at}
 use Rattle.fare_table.specs.Members.{are_tables, array_at, number_at, of_kind, text_at}
 use Rattle.fare_table.specs.Modes.{mode_named}
@@ -496,7 +496,7 @@ pub record IsFound (modes : List (List ℕ)) (ranges : List (ℕ × Span)) (vali
   pub found : find (has_number validator) ranges ≡ Some range
 
 is_found : (modes : List (List ℕ)) (tree : Members) (ranges : List (ℕ × Span)) (validator place : ℕ)
-    (entry : Members) (text : AreRead modes tree ranges) → HasEntry tree place entry
+    (entry : Members) (text : AreRead modes tree ranges) → HasRange tree place entry
     → HasValidator entry validator
     → IsFound modes ranges validator text.items place entry
 is_found modes tree ranges validator place entry text listed has =

@@ -4,7 +4,7 @@ use Rattle.toml.specs.Data.{Items, Members, string, integer, array, table, get_m
 use Rattle.fare_table.specs.Modes.{mode_named}
 
 -- the text's `validators` have this entry at this place
-pub record HasEntry (tree : Members) (place : ℕ) (entry : Members) : Type 0 where
+pub record HasRange (tree : Members) (place : ℕ) (entry : Members) : Type 0 where
   pub items : Items
   pub listed : get_member (codes "validators") tree ≡ Some (array items)
   pub stands : get_item place items ≡ Some (table entry)
@@ -27,13 +27,13 @@ pub record NamesMode (modes : List (List ℕ)) (entry : Members) (mode : ℕ) : 
 -- the text's entry at this place has the validator
 pub record RangeHas (tree : Members) (validator place : ℕ) : Type 0 where
   pub entry : Members
-  pub listed : HasEntry tree place entry
+  pub listed : HasRange tree place entry
   pub has : HasValidator entry validator
 
 -- an entry of the text has the validator, and names the mode
 pub record RangeGives (modes : List (List ℕ)) (tree : Members) (validator mode : ℕ) : Type 0 where
   pub place : ℕ
   pub entry : Members
-  pub listed : HasEntry tree place entry
+  pub listed : HasRange tree place entry
   pub has : HasValidator entry validator
   pub names : NamesMode modes entry mode

@@ -46,7 +46,7 @@ pub fn permitted_pairs_are_listed()
 
 /// The mode of a validator is the one that the entry of the text's `validators` names which has it,
 /// and none exactly where no entry has it. At most one entry has it.
-pub fn modes_are_of_entries()
+pub fn modes_are_of_ranges()
     ensures some { (tree : Members) (fares : Fares) (validator mode : ℕ)
         → rules_of_tree tree ≡ Ok fares.rules
         → (mode_at fares validator ≡ Some mode) ↔ RangeGives fares.rules.modes tree validator mode }

@@ -4,20 +4,20 @@ use Rattle.std.specs.Fmt.{decimal}
 use Rattle.shard_book.specs.Sums.{Sums}
 
 -- the counts of live taps, as `taps 2 paid 1 transfers 1 capped 0`
-unfoldable pub live_counts : Sums → List ℕ
-live_counts t =
+unfoldable pub first_counts : Sums → List ℕ
+first_counts t =
     codes "taps " ++ (decimal t.taps ++ (codes " paid " ++ (decimal t.paid
     ++ (codes " transfers " ++ (decimal t.transfers ++ (codes " capped " ++ decimal t.capped))))))
 
 -- the other counts and the cents, as ` stale 0 unknown 0 cents 300`, with the end of the line
-unfoldable pub other_counts : Sums → List ℕ
-other_counts t =
+unfoldable pub last_counts : Sums → List ℕ
+last_counts t =
     codes " stale " ++ (decimal t.stale ++ (codes " unknown " ++ (decimal t.unknown
     ++ (codes " cents " ++ (decimal t.cents ++ codes "\n")))))
 
 -- the counts that end a line, as `taps 2 paid 1 transfers 1 capped 0 stale 0 unknown 0 cents 300`
 abbrev pub counts : Sums → List ℕ
-counts t = live_counts t ++ other_counts t
+counts t = first_counts t ++ last_counts t
 
 -- `totals taps 6 paid 3 ..`
 abbrev pub totals_line : Sums → List ℕ

@@ -2,7 +2,7 @@
 
 ghost use Rattle.std.specs.Prelude.{◌≡◌, ◌++◌, OnOk, string_bytes};
 ghost use Rattle.shard_book.specs.Sums.{sums_of};
-ghost use Rattle.fare_texts.specs.Counts.{counts, live_counts, other_counts, totals_line};
+ghost use Rattle.fare_texts.specs.Counts.{counts, first_counts, last_counts, totals_line};
 
 use shard_book::Totals;
 use std::alloc::AllocError;
@@ -23,15 +23,15 @@ pub fn write_counts(text: &mut String, totals: &Totals) -> Result<(), AllocError
     ensures { OnOk result (string_bytes text.new ≡ string_bytes text.old
         ++ counts (sums_of totals.now)) }
 {
-    write_live_counts(text, totals)?;
-    write_other_counts(text, totals)
+    write_first_counts(text, totals)?;
+    write_last_counts(text, totals)
 }
 
 /// Appends `taps 6 paid 3 transfers 2 capped 0`.
-#[tactic(auto, unfolding(crate::specs::Counts::live_counts))]
-fn write_live_counts(text: &mut String, totals: &Totals) -> Result<(), AllocError>
+#[tactic(auto, unfolding(crate::specs::Counts::first_counts))]
+fn write_first_counts(text: &mut String, totals: &Totals) -> Result<(), AllocError>
     ensures { OnOk result (string_bytes text.new ≡ string_bytes text.old
-        ++ live_counts (sums_of totals.now)) }
+        ++ first_counts (sums_of totals.now)) }
 {
     let taps = totals.taps;
     let paid = totals.paid;
@@ -44,10 +44,10 @@ fn write_live_counts(text: &mut String, totals: &Totals) -> Result<(), AllocErro
 }
 
 /// Appends ` stale 0 unknown 1 cents 900`, with the end of the line.
-#[tactic(auto, unfolding(crate::specs::Counts::other_counts))]
-fn write_other_counts(text: &mut String, totals: &Totals) -> Result<(), AllocError>
+#[tactic(auto, unfolding(crate::specs::Counts::last_counts))]
+fn write_last_counts(text: &mut String, totals: &Totals) -> Result<(), AllocError>
     ensures { OnOk result (string_bytes text.new ≡ string_bytes text.old
-        ++ other_counts (sums_of totals.now)) }
+        ++ last_counts (sums_of totals.now)) }
 {
     let stale = totals.stale;
     let unknown = totals.unknown;

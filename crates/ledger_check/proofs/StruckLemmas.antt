@@ -9,7 +9,7 @@ use Rattle.tap_balance.specs.Balances.{IsBalance}
 use Rattle.tap_balance.specs.declared.balance.Balance.{Balance}
 use Rattle.tap_views.specs.declared.encoder.TapFields.{TapFields}
 use Rattle.ledger_check.specs.Ledger.{AreNext, IsLedgerOf}
-use Rattle.ledger_check.specs.Struck.{AreStruck, AreTapsOfLines, HasStruck, IfUntold, posted_tap}
+use Rattle.ledger_check.specs.Struck.{AreStruck, AreTapsOfLines, HasStruck, IfUntold, tap_of_entry}
 use Rattle.ledger_check.specs.inside.Lines.{IsLine}
 use Rattle.ledger_check.specs.inside.Taps.{IsOf, TellsTap, tap_fields}
 use Rattle.ledger_check.specs.inside.Verdicts.{IsTaken}
@@ -20,7 +20,7 @@ use Rattle.ledger_check.proofs.CheckerLemmas.{ended_at_line, took_whole}
 use Rattle.ledger_check.proofs.EntryLists.{next-parts}
 use Rattle.ledger_check.proofs.ReplayLemmas.{tap_of_next}
 
-tap_same : (tap : Tap) (entry : Entry) → IsOf tap entry → posted_tap entry ≡ tap_fields tap
+tap_same : (tap : Tap) (entry : Entry) → IsOf tap entry → tap_of_entry entry ≡ tap_fields tap
 tap_same tap entry is = λ i. record { token = bytes_of (is.token i); validator = is.validator i; moment = is.moment i }
 
 none_after : (fares : Fares) (earlier after : List Entry) → AreNext fares earlier after [] → after ≡ []
@@ -28,14 +28,14 @@ none_after fares earlier [] rest = refl
 none_after fares earlier (e ∷ after) rest = absurd rest
 
 -- the head line has no tap
-pub struck_head : (fares : Fares) (lines : List (List ℕ)) (line : List ℕ) (balance : Balance) (posted : List TapFields) → lines ≡ []
-    → AreStruck fares lines balance posted → AreStruck fares (lines ++ line ∷ []) balance posted
-struck_head fares [] line balance posted none struck = record {
+pub struck_head : (fares : Fares) (lines : List (List ℕ)) (line : List ℕ) (balance : Balance) (good : List TapFields) → lines ≡ []
+    → AreStruck fares lines balance good → AreStruck fares (lines ++ line ∷ []) balance good
+struck_head fares [] line balance good none struck = record {
   taps = struck.taps;
-  told = λ entries are. ap (map posted_tap) (none_after fares [] entries are) ∙ sym struck.told;
+  told = λ entries are. ap (map tap_of_entry) (none_after fares [] entries are) ∙ sym struck.told;
   is = struck.is;
 }
-struck_head fares (l ∷ lines) line balance posted none struck = absurd cc
+struck_head fares (l ∷ lines) line balance good none struck = absurd cc
 
 -- a line more, and its tap
 line_more : (fares : Fares) (rest : List (List ℕ)) (line : List ℕ) (taps : List TapFields) (tap : Tap) → TellsTap fares line tap
@@ -44,32 +44,32 @@ line_more fares rest line taps tap tells told = λ entries are.
     let parts = next-parts fares [] entries rest line [] are in
     let whole : entries ≡ parts.entries ++ parts.entry ∷ [] = parts.whole ∙ ap (λ (es : List Entry). parts.entries ++ parts.entry ∷ es) (none_after fares _ parts.after parts.rest) in
     let of = tap_of_next fares parts.entries parts.entry line tap tells parts.is in
-    ap (map posted_tap) whole ∙ map-append posted_tap parts.entries (parts.entry ∷ [])
-    ∙ ap (λ (ts : List TapFields). ts ++ posted_tap parts.entry ∷ []) (told parts.entries parts.are)
+    ap (map tap_of_entry) whole ∙ map-append tap_of_entry parts.entries (parts.entry ∷ [])
+    ∙ ap (λ (ts : List TapFields). ts ++ tap_of_entry parts.entry ∷ []) (told parts.entries parts.are)
     ∙ ap (λ (t : TapFields). taps ++ t ∷ []) (tap_same tap parts.entry of)
 
-pub struck_more : (fares : Fares) (lines rest : List (List ℕ)) (line : List ℕ) (tap : Tap) (fields : TapFields) (old new : Balance) (posted : List TapFields)
+pub struck_more : (fares : Fares) (lines rest : List (List ℕ)) (line : List ℕ) (tap : Tap) (fields : TapFields) (old new : Balance) (good : List TapFields)
     → lines ≡ head_text ∷ rest → TellsTap fares line tap → fields ≡ tap_fields tap
-    → ((posted struck : List TapFields) → IsBalance old posted struck → IsBalance new posted (struck ++ fields ∷ []))
-    → AreStruck fares lines old posted → AreStruck fares (lines ++ line ∷ []) new posted
-struck_more fares lines rest line tap fields old new posted is tells same strikes struck = record {
+    → ((good struck : List TapFields) → IsBalance old good struck → IsBalance new good (struck ++ fields ∷ []))
+    → AreStruck fares lines old good → AreStruck fares (lines ++ line ∷ []) new good
+struck_more fares lines rest line tap fields old new good is tells same strikes struck = record {
   taps = struck.taps ++ fields ∷ [];
   told =
       subst (λ (ls : List (List ℕ)). AreTapsOfLines fares (ls ++ line ∷ []) (struck.taps ++ fields ∷ [])) (sym is)
       (subst (λ (t : TapFields). AreTapsOfLines fares (head_text ∷ (rest ++ line ∷ [])) (struck.taps ++ t ∷ [])) (sym same)
       (line_more fares rest line struck.taps tap tells (subst (λ (ls : List (List ℕ)). AreTapsOfLines fares ls struck.taps) is struck.told)));
-  is = strikes posted struck.taps struck.is;
+  is = strikes good struck.taps struck.is;
 }
 
-pub took_struck : (fares : Fares) (checker after : Checker) (old new : Balance) (text line whole : List ℕ) (posted : List TapFields) (told : Option Verdict)
-    → (is : HasStruck fares checker old text posted) → IsLine line → whole ≡ checker.part.items ++ line → after.part.items ≡ []
-    → IsTaken fares after.reading is.fed.lines whole told → IfUntold told (AreStruck fares (is.fed.lines ++ whole ∷ []) new posted)
-    → IfUntold told (HasStruck fares after new (text ++ line) posted)
-took_struck fares checker after old new text line whole posted None is ends joined empty taken struck = record {
+pub took_struck : (fares : Fares) (checker after : Checker) (old new : Balance) (text line whole : List ℕ) (good : List TapFields) (told : Option Verdict)
+    → (is : HasStruck fares checker old text good) → IsLine line → whole ≡ checker.part.items ++ line → after.part.items ≡ []
+    → IsTaken fares after.reading is.fed.lines whole told → IfUntold told (AreStruck fares (is.fed.lines ++ whole ∷ []) new good)
+    → IfUntold told (HasStruck fares after new (text ++ line) good)
+took_struck fares checker after old new text line whole good None is ends joined empty taken struck = record {
   fed = took_whole fares checker after text line whole is.fed ends joined empty taken;
   struck = struck;
 }
-took_struck fares checker after old new text line whole posted (Some verdict) is ends joined empty taken struck = struck
+took_struck fares checker after old new text line whole good (Some verdict) is ends joined empty taken struck = struck
 
 pub none_told : (told : Option Verdict) (P : Type 0) → is_some told ≡ false → IfUntold told P → P
 none_told None P none is = is
@@ -80,9 +80,9 @@ some_told None P Q some is = absurd cc
 some_told (Some verdict) P Q some is = is
 
 -- the text ends with a line
-pub all_struck : (fares : Fares) (checker : Checker) (balance : Balance) (text : List ℕ) (posted : List TapFields) → HasStruck fares checker balance text posted
-    → checker.part.items ≡ [] → (entries : List Entry) → IsLedgerOf fares entries text → IsBalance balance posted (map posted_tap entries)
-all_struck fares checker balance text posted is empty entries ledger =
+pub all_struck : (fares : Fares) (checker : Checker) (balance : Balance) (text : List ℕ) (good : List TapFields) → HasStruck fares checker balance text good
+    → checker.part.items ≡ [] → (entries : List Entry) → IsLedgerOf fares entries text → IsBalance balance good (map tap_of_entry entries)
+all_struck fares checker balance text good is empty entries ledger =
     let lines : is.fed.lines ≡ head_text ∷ ledger.lines = sym (ended_at_line fares checker text is.fed empty) ∙ ledger.split in
     let told : AreTapsOfLines fares (head_text ∷ ledger.lines) is.struck.taps = subst (λ (ls : List (List ℕ)). AreTapsOfLines fares ls is.struck.taps) lines is.struck.told in
-    subst (λ (ts : List TapFields). IsBalance balance posted ts) (sym (told entries ledger.are)) is.struck.is
+    subst (λ (ts : List TapFields). IsBalance balance good ts) (sym (told entries ledger.are)) is.struck.is

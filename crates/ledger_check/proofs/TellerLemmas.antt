@@ -5,7 +5,7 @@ use Rattle.std.proofs.lemmas.List.Elements.{All-push}
 use Rattle.fare_table.specs.Fares.{Fares}
 use Rattle.account_rule.specs.Reasons.{reason, replied_by}
 use Rattle.account_rule.specs.Replies.{reply}
-use Rattle.account_rule.specs.Rules.{rules_of}
+use Rattle.account_rule.specs.TokenRules.{rules_of}
 use Rattle.account_rule.specs.Stands.{Stands}
 use Rattle.account_rule.specs.declared.reason.Reason.{Reason}
 use Rattle.account_rule.specs.declared.tap.TapIn.{TapIn}

@@ -12,29 +12,29 @@ use Rattle.ledger_check.specs.declared.checker.Checker.{Checker}
 use Rattle.ledger_check.specs.declared.checker.Verdict.{Verdict}
 
 -- the tap of an entry, as an upload has it
-abbrev pub posted_tap : Entry → TapFields
-posted_tap entry =
+abbrev pub tap_of_entry : Entry → TapFields
+tap_of_entry entry =
     record { token = bytes_of entry.token; validator = entry.validator; moment = entry.moment }
 
 -- whatever ledger begins with these lines, the head line first, these are the taps of their entries
 abbrev pub AreTapsOfLines : Fares → List (List ℕ) → List TapFields → Type 0
 AreTapsOfLines fares [] taps = taps ≡ []
 AreTapsOfLines fares (head ∷ lines) taps =
-    (entries : List Entry) → AreNext fares [] entries lines → map posted_tap entries ≡ taps
+    (entries : List Entry) → AreNext fares [] entries lines → map tap_of_entry entries ≡ taps
 
 -- the taps of these lines were struck out, of those that were posted
 pub record AreStruck (fares : Fares) (lines : List (List ℕ)) (balance : Balance)
-    (posted : List TapFields) : Type 0 where
+    (good : List TapFields) : Type 0 where
   pub taps : List TapFields
   pub told : AreTapsOfLines fares lines taps
-  pub is : IsBalance balance posted taps
+  pub is : IsBalance balance good taps
 
 -- the checker has read this text and found no wrong line, and the taps of the whole lines were
 -- struck out
 pub record HasStruck (fares : Fares) (checker : Checker) (balance : Balance) (text : List ℕ)
-    (posted : List TapFields) : Type 0 where
+    (good : List TapFields) : Type 0 where
   pub fed : HasFed fares checker text
-  pub struck : AreStruck fares fed.lines balance posted
+  pub struck : AreStruck fares fed.lines balance good
 
 -- nothing is told, and this holds; or what is told is not `legal`
 abbrev pub IfUntold : Option Verdict → Type 0 → Type 0

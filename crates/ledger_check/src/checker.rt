@@ -10,7 +10,7 @@ ghost use Rattle.tap_views.specs.declared.encoder.TapFields.{TapFields};
 ghost use Rattle.ledger_check.specs.Ledger.{IsLedgerOf};
 ghost use Rattle.ledger_check.specs.Lines.{Lacks};
 ghost use Rattle.ledger_check.specs.inside.Lines.{IsLine};
-ghost use Rattle.ledger_check.specs.Struck.{AreStruck, HasStruck, IfUntold, posted_tap};
+ghost use Rattle.ledger_check.specs.Struck.{AreStruck, HasStruck, IfUntold, tap_of_entry};
 ghost use Rattle.ledger_check.specs.Verdicts.{HasFed, HasTaken, IsFed, IsVerdict, is_legal};
 ghost use Rattle.ledger_check.specs.inside.Verdicts.{IsTaken, number_after};
 ghost use Rattle.ledger_check.specs.declared.checker.Verdict.TheVariants.{NoLine};
@@ -71,9 +71,9 @@ impl Reading {
         ensures taken { IfOk result (λ told. (lines : List (List ℕ))
             → HasTaken table.now self.old lines
             → IsTaken table.now self.new lines line.now told) }
-        ensures struck { IfOk result (λ told. (lines : List (List ℕ)) (posted : List TapFields)
-            → HasTaken table.now self.old lines → AreStruck table.now lines balance.old posted
-            → IfUntold told (AreStruck table.now (lines ++ line.now ∷ []) balance.new posted)) }
+        ensures struck { IfOk result (λ told. (lines : List (List ℕ)) (good : List TapFields)
+            → HasTaken table.now self.old lines → AreStruck table.now lines balance.old good
+            → IfUntold told (AreStruck table.now (lines ++ line.now ∷ []) balance.new good)) }
     {
         if !self.has_head {
             if !same_bytes(line, head_line().as_bytes()) {
@@ -108,8 +108,8 @@ impl Checker {
     /// Nothing was read.
     pub fn new(alloc: Global) -> Checker
         ensures fed { (fares : Fares) → HasFed fares result [] }
-        ensures struck { (fares : Fares) (balance : Balance) (posted : List TapFields)
-            → IsBalance balance posted [] → HasStruck fares result balance [] posted }
+        ensures struck { (fares : Fares) (balance : Balance) (good : List TapFields)
+            → IsBalance balance good [] → HasStruck fares result balance [] good }
     {
         Checker {
             reading: Reading {
@@ -138,9 +138,9 @@ impl Checker {
         // After every text that was read so far.
         ensures fed { IfOk result (λ told. (text : List ℕ) → HasFed table.now self.old text
             → IsFed table.now self.new (text ++ piece.now) told) }
-        ensures struck { IfOk result (λ told. (text : List ℕ) (posted : List TapFields)
-            → HasStruck table.now self.old balance.old text posted
-            → IfUntold told (HasStruck table.now self.new balance.new (text ++ piece.now) posted)) }
+        ensures struck { IfOk result (λ told. (text : List ℕ) (good : List TapFields)
+            → HasStruck table.now self.old balance.old text good
+            → IfUntold told (HasStruck table.now self.new balance.new (text ++ piece.now) good)) }
     {
         let mut rest = piece;
         while !rest.is_empty() {
@@ -170,9 +170,9 @@ impl Checker {
         requires line { IsLine line.now }
         ensures fed { IfOk result (λ told. (text : List ℕ) → HasFed table.now self.old text
             → IsFed table.now self.new (text ++ line.now) told) }
-        ensures struck { IfOk result (λ told. (text : List ℕ) (posted : List TapFields)
-            → HasStruck table.now self.old balance.old text posted
-            → IfUntold told (HasStruck table.now self.new balance.new (text ++ line.now) posted)) }
+        ensures struck { IfOk result (λ told. (text : List ℕ) (good : List TapFields)
+            → HasStruck table.now self.old balance.old text good
+            → IfUntold told (HasStruck table.now self.new balance.new (text ++ line.now) good)) }
     {
         if self.part.is_empty() {
             let told = self.reading.take(table, clock, line, balance)?;
@@ -193,8 +193,8 @@ impl Checker {
         ensures fed { IfOk result (λ told. (fares : Fares) (text : List ℕ)
             → HasFed fares self.old text → IsFed fares self.new (text ++ rest.now) told) }
         ensures struck { IfOk result (λ told. (fares : Fares) (text : List ℕ) (balance : Balance)
-            (posted : List TapFields) → HasStruck fares self.old balance text posted
-            → IfUntold told (HasStruck fares self.new balance (text ++ rest.now) posted)) }
+            (good : List TapFields) → HasStruck fares self.old balance text good
+            → IfUntold told (HasStruck fares self.new balance (text ++ rest.now) good)) }
     {
         self.part.extend_from_slice(rest)?;
         if self.part.len() > MAX_LINE_BYTES {
@@ -211,9 +211,9 @@ impl Checker {
 
         // What is left is the balance of the taps of the ledger, where the text is one.
         ensures struck { (fares : Fares) (text : List ℕ) (balance : Balance)
-            (posted : List TapFields) → HasStruck fares self.now balance text posted
+            (good : List TapFields) → HasStruck fares self.now balance text good
             → IsTrue (is_legal result) → (entries : List Entry) → IsLedgerOf fares entries text
-            → IsBalance balance posted (map posted_tap entries) }
+            → IsBalance balance good (map tap_of_entry entries) }
     {
         if !self.reading.has_head || !self.part.is_empty() {
             return self.reading.no_line();

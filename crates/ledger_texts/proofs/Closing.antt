@@ -9,7 +9,7 @@ use Rattle.account_rule.specs.Chains.{ends_in_transfer}
 use Rattle.account_rule.specs.Blocks.{last_block}
 use Rattle.account_rule.specs.Laws.{is_ride}
 use Rattle.account_rule.specs.Replies.{reply, reply_with, ride_reply}
-use Rattle.account_rule.specs.Rules.{Rules}
+use Rattle.account_rule.specs.TokenRules.{TokenRules}
 use Rattle.account_rule.specs.Taps.{LiveTap, is_later, live_at, live_tap}
 use Rattle.account_rule.specs.Windows.{is_within, last_window, shown_window, windows}
 use Rattle.account_rule.specs.declared.reply.Answer.TheVariants.{Capped, Paid, Stale, Transfer}
@@ -25,7 +25,7 @@ use Rattle.ledger_texts.specs.Explained.{but_last, earlier_windows}
 use Rattle.ledger_texts.specs.inside.Windows.{ended}
 
 -- what windows show
-abbrev shown_in : Rules → List (List LiveTap) → List WindowView
+abbrev shown_in : TokenRules → List (List LiveTap) → List WindowView
 shown_in rules blocks = flat_map (λ window. option_to_list (shown_window rules window)) blocks
 
 -- a window before others is not the last
@@ -42,7 +42,7 @@ but_last-extend joins block next [] x =
 but_last-extend joins block next (third ∷ blocks) x = refl
 
 -- a ride that opens a window ends the one before it
-one-window : (rules : Rules) (window : List LiveTap) (ride : LiveTap)
+one-window : (rules : TokenRules) (window : List LiveTap) (ride : LiveTap)
     → shown_in rules (but_last (extend (is_within rules.until) (window ∷ []) ride))
     ≡ ended (shown_window rules window) true ride.moment
 unfolding but_last extend is_within shown_window
@@ -54,7 +54,7 @@ one-window rules (first ∷ window) ride =
     ≡ cond (not v) (option_to_list (shown_window rules (first ∷ window))) [])
     [ true ↦ refl | false ↦ refl ]
 
-ended-extend : (rules : Rules) (blocks : List (List LiveTap)) (ride : LiveTap)
+ended-extend : (rules : TokenRules) (blocks : List (List LiveTap)) (ride : LiveTap)
     → shown_in rules (but_last (extend (is_within rules.until) blocks ride))
     ≡ shown_in rules (but_last blocks)
     ++ ended (shown_window rules (last_block blocks)) true ride.moment
@@ -72,7 +72,7 @@ ended-free None moment = refl
 ended-free (Some window) moment = refl
 
 -- a tap that is no ride ends no window
-free : (rules : Rules) (taps : List TapIn) (tap : TapIn) → is_ride (reply rules taps tap) ≡ false
+free : (rules : TokenRules) (taps : List TapIn) (tap : TapIn) → is_ride (reply rules taps tap) ≡ false
     → windows rules (taps ++ tap ∷ []) ≡ windows rules taps
     → earlier_windows rules (taps ++ tap ∷ [])
     ≡ earlier_windows rules taps
@@ -100,7 +100,7 @@ free_transfer : is_ride (reply_with Transfer 0) ≡ false
 unfolding reply_with
 free_transfer = refl
 
-ride : (rules : Rules) (taps : List TapIn) (tap : TapIn) (mode : Mode)
+ride : (rules : TokenRules) (taps : List TapIn) (tap : TapIn) (mode : Mode)
     → is_ride (reply rules taps tap) ≡ true
     → windows rules (taps ++ tap ∷ [])
     ≡ extend (is_within rules.until) (windows rules taps) (live_at tap.moment mode)
@@ -111,7 +111,7 @@ unfolding earlier_windows last_window live_at
 ride rules taps tap mode is opens =
     rw (is, opens) (ended-extend rules (windows rules taps) (live_at tap.moment mode))
 
-known : (rules : Rules) (taps : List TapIn) (tap : TapIn) (mode : Mode) → tap.mode ≡ Some mode
+known : (rules : TokenRules) (taps : List TapIn) (tap : TapIn) (mode : Mode) → tap.mode ≡ Some mode
     → earlier_windows rules (taps ++ tap ∷ [])
     ≡ earlier_windows rules taps
     ++ ended (last_window rules taps) (is_ride (reply rules taps tap)) tap.moment
@@ -135,7 +135,7 @@ known rules taps tap mode is = ⊎_elim
     (cases_Bool (is_later taps tap.moment))
 
 -- one tap more ends the last window, where it is a ride that opens another
-pub earlier-push : (rules : Rules) (taps : List TapIn) (tap : TapIn)
+pub earlier-push : (rules : TokenRules) (taps : List TapIn) (tap : TapIn)
     → earlier_windows rules (taps ++ tap ∷ [])
     ≡ earlier_windows rules taps
     ++ ended (last_window rules taps) (is_ride (reply rules taps tap)) tap.moment
@@ -151,14 +151,14 @@ earlier-push rules taps tap =
     ] refl
 
 -- there is no window before the first tap
-pub earlier-none : (rules : Rules) → earlier_windows rules [] ≡ []
+pub earlier-none : (rules : TokenRules) → earlier_windows rules [] ≡ []
 unfolding earlier_windows windows but_last Rattle.account_rule.specs.Chains.rides
     Rattle.account_rule.specs.Chains.chains Rattle.account_rule.specs.Taps.live
     Rattle.account_rule.specs.Taps.live_after Rattle.account_rule.specs.Blocks.blocks_by
 earlier-none rules = refl
 
 -- the windows that are kept, with the one that a tap more ends
-pub next_earlier : (rules : Rules) (taps : List TapIn) (tap : TapIn)
+pub next_earlier : (rules : TokenRules) (taps : List TapIn) (tap : TapIn)
     (before after : List WindowView) (window : Option WindowView) (ride : Bool) (answered : Reply)
     (longer : List TapIn)
     → before ≡ earlier_windows rules taps → window ≡ last_window rules taps

@@ -7,7 +7,7 @@ use Rattle.std.specs.Option.{option_to_list}
 use Rattle.jiff_tz.specs.declared.posix.TimeZone.{TimeZone as PosixRule}
 use Rattle.fare_table.specs.Fares.{Fares, terms_at}
 use Rattle.fare_table.specs.declared.terms.Terms.{Terms}
-use Rattle.account_rule.specs.Rules.{Rules, rules_of}
+use Rattle.account_rule.specs.TokenRules.{TokenRules, rules_of}
 use Rattle.account_rule.specs.Windows.{last_window, shown_window, windows}
 use Rattle.account_rule.specs.declared.reason.Reason.{Reason}
 use Rattle.account_rule.specs.declared.tap.TapIn.{TapIn}
@@ -33,7 +33,7 @@ but_last (x ∷ []) = []
 but_last (x ∷ next ∷ xs) = x ∷ but_last (next ∷ xs)
 
 -- what the windows before the last one show, in their order
-unfoldable pub earlier_windows : Rules → List TapIn → List WindowView
+unfoldable pub earlier_windows : TokenRules → List TapIn → List WindowView
 earlier_windows rules taps =
     flat_map (λ window. option_to_list (shown_window rules window)) (but_last (windows rules taps))
 
@@ -95,7 +95,7 @@ IsLastLine clocks None line = line ≡ codes "window none\n"
 IsLastLine clocks (Some window) line = IsExplainedWindow clocks (codes "window ") window line
 
 -- the windows of these taps, the last one last
-pub record AreWindowLines (clocks : Option PosixRule) (rules : Rules) (taps : List TapIn)
+pub record AreWindowLines (clocks : Option PosixRule) (rules : TokenRules) (taps : List TapIn)
     (text : List ℕ) : Type 0 where
   pub earlier : List ℕ
   pub of_earlier : AreEarlierLines clocks (earlier_windows rules taps) earlier

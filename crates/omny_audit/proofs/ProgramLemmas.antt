@@ -36,11 +36,11 @@ loads_push names name told told' told'' files bytes all one = record {
 }
 
 -- and the taps of one more
-pub posted_push : (uploads : List (List ℕ)) (posted : List TapFields) (upload : List ℕ) (taps : List TapFields) → AreGoodTapsOfAll uploads posted
-    → AreGoodTaps upload taps → AreGoodTapsOfAll (uploads ++ upload ∷ []) (posted ++ taps)
-posted_push [] posted upload taps all one =
+pub posted_push : (uploads : List (List ℕ)) (good : List TapFields) (upload : List ℕ) (taps : List TapFields) → AreGoodTapsOfAll uploads good
+    → AreGoodTaps upload taps → AreGoodTapsOfAll (uploads ++ upload ∷ []) (good ++ taps)
+posted_push [] good upload taps all one =
     (taps, [], one, refl, ap (λ (xs : List TapFields). xs ++ taps) all ∙ sym (append-nil taps))
-posted_push (first ∷ uploads) posted upload taps all one = (
+posted_push (first ∷ uploads) good upload taps all one = (
   all.0,
   all.1 ++ taps,
   all.2,
@@ -59,12 +59,12 @@ not_zero : (n : ℕ) → nat_eq (suc n) 0 ≡ false
 not_zero n = grind (arith, nat_tests)
 
 -- taps are compared where uploads are named
-pub compared_is : (names : List (Bor Text)) (posted : List TapFields) (has : Bool) → has ≡ not (nat_eq (length names) 0)
-    → (if has then Some posted else None) ≡ compared (map (λ n. n.now) names) posted
-compared_is [] posted has is = rw is refl
-compared_is (name ∷ names) posted has is =
+pub compared_is : (names : List (Bor Text)) (good : List TapFields) (has : Bool) → has ≡ not (nat_eq (length names) 0)
+    → (if has then Some good else None) ≡ compared (map (λ n. n.now) names) good
+compared_is [] good has is = rw is refl
+compared_is (name ∷ names) good has is =
     let some : nat_eq (length (name ∷ names)) 0 ≡ false = not_zero (length names) in
-    ap (λ (b : Bool). if b then Some posted else None) (is ∙ ap not some)
+    ap (λ (b : Bool). if b then Some good else None) (is ∙ ap not some)
 
 -- a name at a place is one of the names
 pub is_one_at : (names : List (Bor Text)) (k : ℕ) (d : Bor Text) (name : Text) → k < length names → name ≡ (get_or names k d).now → IsOneOf name (map (λ n. n.now) names)

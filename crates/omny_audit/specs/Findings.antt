@@ -5,7 +5,7 @@ use Rattle.std.specs.List.Sorted.{IsPermutation}
 use Rattle.fare_table.specs.Fares.{Fares}
 use Rattle.shard_book.specs.declared.entry.Entry.{Entry}
 use Rattle.ledger_check.specs.Ledger.{IsLedgerOf}
-use Rattle.ledger_check.specs.Struck.{posted_tap}
+use Rattle.ledger_check.specs.Struck.{tap_of_entry}
 use Rattle.ledger_check.specs.Verdicts.{IsVerdict, is_legal}
 use Rattle.ledger_check.specs.declared.checker.Verdict.{Verdict}
 use Rattle.tap_balance.specs.Balances.{IsDifference}
@@ -15,9 +15,9 @@ use Rattle.omny_audit.specs.Text.{IsDifferenceText, verdict_text}
 
 -- the difference is that of the good taps and the ledger's, whatever entries the ledger has
 abbrev pub IsDifferenceOf : Fares → List ℕ → List TapFields → Option Difference → Type 0
-IsDifferenceOf fares text posted difference =
+IsDifferenceOf fares text good difference =
     (entries : List Entry) → IsLedgerOf fares entries text
-    → IsDifference posted (map posted_tap entries) difference
+    → IsDifference good (map tap_of_entry entries) difference
 
 -- whether there is no difference
 abbrev pub agrees : Option Difference → Bool
@@ -28,35 +28,35 @@ agrees (Some difference) = false
 -- there are uploads, the line of the difference. It is well where the ledger is legal and there is
 -- no difference.
 abbrev pub IsSecond : Fares → List ℕ → Option (List TapFields) → Bool → List ℕ → Bool → Type 0
-IsSecond fares text posted false rest well = (rest ≡ []) × (well ≡ false)
+IsSecond fares text good false rest well = (rest ≡ []) × (well ≡ false)
 IsSecond fares text None true rest well = (rest ≡ []) × (well ≡ true)
-IsSecond fares text (Some posted) true rest well =
+IsSecond fares text (Some good) true rest well =
     (difference : Option Difference) × IsDifferenceText difference rest
-    × (well ≡ agrees difference) × IsDifferenceOf fares text posted difference
+    × (well ≡ agrees difference) × IsDifferenceOf fares text good difference
 
 -- what is told of the text, beside the good taps of the uploads, if there are uploads: a true
 -- verdict, and the difference
-pub record IsFinding (fares : Fares) (text : List ℕ) (posted : Option (List TapFields))
+pub record IsFinding (fares : Fares) (text : List ℕ) (good : Option (List TapFields))
     (told : List ℕ) (well : Bool) : Type 0 where
   pub verdict : Verdict
   pub is_verdict : IsVerdict fares text verdict
   pub rest : List ℕ
   pub shown : told ≡ verdict_text verdict ++ rest
-  pub second : IsSecond fares text posted (is_legal verdict) rest well
+  pub second : IsSecond fares text good (is_legal verdict) rest well
 
 -- the ledger's taps are those of the uploads in some order, if there are uploads
 abbrev pub HasGoodTaps : Option (List TapFields) → List Entry → Type 0
 HasGoodTaps None entries = Unit {0}
-HasGoodTaps (Some posted) entries = IsPermutation posted (map posted_tap entries)
+HasGoodTaps (Some good) entries = IsPermutation good (map tap_of_entry entries)
 
 -- the text is, whole, a ledger of legal histories, and has the taps of the uploads
 abbrev pub IsRight : Fares → List ℕ → Option (List TapFields) → Type 0
-IsRight fares text posted =
-    (entries : List Entry) × IsLedgerOf fares entries text × HasGoodTaps posted entries
+IsRight fares text good =
+    (entries : List Entry) × IsLedgerOf fares entries text × HasGoodTaps good entries
 
 -- what is found is well exactly where the text is right
 abbrev pub FindingsDecide : Type 0
 FindingsDecide =
-    (fares : Fares) (text : List ℕ) (posted : Option (List TapFields)) (told : List ℕ)
-    (well : Bool) → IsFinding fares text posted told well
-    → (well ≡ true) ↔ IsRight fares text posted
+    (fares : Fares) (text : List ℕ) (good : Option (List TapFields)) (told : List ℕ)
+    (well : Bool) → IsFinding fares text good told well
+    → (well ≡ true) ↔ IsRight fares text good

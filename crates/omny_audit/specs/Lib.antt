@@ -1,5 +1,5 @@
-pub mod Findings
 pub mod Fault
+pub mod Findings
 pub mod Options
 pub mod Program
 pub mod Source

@@ -43,8 +43,8 @@ AreGoodTapsOfAll (upload ∷ uploads) taps =
 
 -- the taps with which a ledger's are compared, where uploads are named
 abbrev pub compared : List Text → List TapFields → Option (List TapFields)
-compared [] posted = None
-compared (name ∷ names) posted = Some posted
+compared [] good = None
+compared (name ∷ names) good = Some good
 
 -- The table was loaded, then the uploads, and then all of the ledger; what was appended to the
 -- writer is the finding on the ledger's text beside the good taps of the uploads, if uploads are
@@ -57,12 +57,12 @@ pub record Audits (asked : AuditAsked) (told told' : Option (List Loaded))
   pub loads_table : LoadsRequiredTable asked.table told after_table fares
   pub uploads : List (List ℕ)
   pub loads_uploads : LoadsNamedFiles asked.uploads after_table after_uploads uploads
-  pub posted : List TapFields
-  pub are_posted : AreGoodTapsOfAll uploads posted
+  pub good : List TapFields
+  pub are_good : AreGoodTapsOfAll uploads good
   pub ledger : List ℕ
   pub loads_ledger : TellsOne after_uploads told' asked.ledger ledger
   pub text : List ℕ
-  pub finding : IsFinding fares ledger (compared asked.uploads posted) text well
+  pub finding : IsFinding fares ledger (compared asked.uploads good) text well
   pub written : Appends out out' text
 
 -- The fault's line was told, unless a write of it failed. Where who reads the text has closed it,

@@ -8,7 +8,7 @@ ghost use Rattle.shard_book.specs.declared.entry.Entry.{Entry};
 ghost use Rattle.tap_balance.specs.Balances.{IsBalance};
 ghost use Rattle.tap_views.specs.declared.encoder.TapFields.{TapFields};
 ghost use Rattle.ledger_check.specs.Ledger.{IsLedgerOf};
-ghost use Rattle.ledger_check.specs.Struck.{posted_tap};
+ghost use Rattle.ledger_check.specs.Struck.{tap_of_entry};
 ghost use Rattle.ledger_check.specs.Verdicts.{IsVerdict, is_legal};
 ghost use Rattle.omny_audit.specs.Findings.{IsFinding, agrees};
 ghost use Rattle.omny_audit.specs.inside.Findings.{StrikesOut};
@@ -87,11 +87,11 @@ fn finding_text(
     balance: &Balance,
     has_uploads: bool,
 ) -> Result<(String, bool), AllocError>
-    ensures { IfOk result (λ told. (fares : Fares) (text : List ℕ) (posted : List TapFields)
+    ensures { IfOk result (λ told. (fares : Fares) (text : List ℕ) (good : List TapFields)
         → IsVerdict fares text verdict.now
         → (IsTrue (is_legal verdict.now) → (entries : List Entry) → IsLedgerOf fares entries text
-        → IsBalance balance.now posted (map posted_tap entries))
-        → IsFinding fares text (if has_uploads then Some posted else None)
+        → IsBalance balance.now good (map tap_of_entry entries))
+        → IsFinding fares text (if has_uploads then Some good else None)
         (string_bytes told.0) told.1) }
 {
     let mut text = verdict_line(alloc, verdict)?;
@@ -119,8 +119,8 @@ pub(crate) fn audit_over<R: Read, W: Write>(
 ) -> Result<bool, Fault<'static>>
     requires clock { clock.now ≡ table.now.zone }
     ensures told { IfOk result (λ well. (text : List ℕ) × IsAllOf (R.remaining reader.old) text
-        × ((posted : List TapFields) → IsBalance balance posted [] → (told : List ℕ)
-        × IsFinding table.now text (if has_uploads then Some posted else None) told well
+        × ((good : List TapFields) → IsBalance balance good [] → (told : List ℕ)
+        × IsFinding table.now text (if has_uploads then Some good else None) told well
         × Appends (W.contents out.old) (W.contents out.new) told)) }
 
     // Only a write that fails leaves something of a text behind.

@@ -70,10 +70,10 @@ fn load_balance<'a, S: Source>(
     names: &[&'a str],
     source: &mut S,
 ) -> Result<Balance, Fault<'a>>
-    ensures ok { IfOk result (λ balance. (files : List (List ℕ)) × (posted : List TapFields)
+    ensures ok { IfOk result (λ balance. (files : List (List ℕ)) × (good : List TapFields)
         × LoadsNamedFiles (map (λ n. n.now) names.now)
         (S.loaded source.old) (S.loaded source.new) files
-        × AreGoodTapsOfAll files posted × IsBalance balance posted []) }
+        × AreGoodTapsOfAll files good × IsBalance balance good []) }
     ensures fault { IfErr result (λ fault. is_unwritten fault ≡ false) }
     ensures named { IfErr result (λ fault. NamesOneOf (map (λ n. n.now) names.now) fault) }
 {

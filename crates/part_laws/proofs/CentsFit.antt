@@ -10,7 +10,7 @@ use Rattle.fare_table.specs.Token.{bytes_of}
 use Rattle.account_rule.specs.Chains.{ends_in_transfer}
 use Rattle.account_rule.specs.Blocks.{last_block}
 use Rattle.account_rule.specs.Replies.{live_reply, reply, reply_with, ride_reply}
-use Rattle.account_rule.specs.Rules.{Rules, rules_of}
+use Rattle.account_rule.specs.TokenRules.{TokenRules, rules_of}
 use Rattle.account_rule.specs.Taps.{is_later}
 use Rattle.account_rule.specs.Windows.{charge, windows}
 use Rattle.account_rule.specs.declared.reply.Answer.TheVariants.{Stale, Transfer, Unknown}
@@ -31,7 +31,7 @@ either : (test : Bool) (a b : Reply) → IsFew a → IsFew b → IsFew (cond tes
 either true a b few also = few
 either false a b few also = also
 
-reply_few : (rules : Rules) (earlier : List TapIn) (tap : TapIn) → HasLimits rules.terms
+reply_few : (rules : TokenRules) (earlier : List TapIn) (tap : TapIn) → HasLimits rules.terms
     → IsFew (reply rules earlier tap)
 unfolding reply live_reply
 reply_few rules earlier tap limits =

@@ -21,7 +21,7 @@ use Rattle.fare_service.specs.declared.upload_end.UploadEnd.{UploadEnd}
 use Rattle.fare_service.proofs.RunVisits.{AllZip-length}
 use Rattle.fare_service.specs.Plain.{IsPlainEnd}
 use Rattle.part_reports.specs.Lines.{End, IsUploadEnd, end_line, end_lines}
-use Rattle.part_reports.specs.Reports.{HasLegalNumbers, IsMerged, IsPartReport, Report, end_texts}
+use Rattle.part_reports.specs.Reports.{HasTapNumbers, IsMerged, IsPartReport, Report, end_texts}
 use Rattle.part_reports.specs.Reports.{joined_ends, report_text, tokens_of_reports, validators_of_reports}
 use Rattle.part_reports.specs.Reports.{sums_of_validator as listed_at}
 use Rattle.part_reports.proofs.Unique.{end_line_unique}
@@ -38,7 +38,7 @@ use Rattle.part_laws.proofs.SumsFit.{CanBeSummed, CostsFew, EntryFits, summed}
 
 -- reports that tell something else have other texts
 abbrev pub TextsDiffer : Type 0
-TextsDiffer = (a b : Report) → HasLegalNumbers a → HasLegalNumbers b → report_text a ≡ report_text b → a ≡ b
+TextsDiffer = (a b : Report) → HasTapNumbers a → HasTapNumbers b → report_text a ≡ report_text b → a ≡ b
 
 -- the report tells the part's totals, validators and tokens
 pub record TellsOf (part : Part) (told : Report) : Type 0 where
@@ -46,7 +46,7 @@ pub record TellsOf (part : Part) (told : Report) : Type 0 where
   pub validators : told.validators ≡ sums_by_validator part.history
   pub tokens : told.tokens ≡ sums_by_token part.history
 
-can_be_told : (told : Report) → IsPartReport told → HasLegalNumbers told
+can_be_told : (told : Report) → IsPartReport told → HasTapNumbers told
 can_be_told told is = record {
   number = is.number;
   ends = is.ends;
@@ -92,7 +92,7 @@ own_told part ends =
     told_by ends (sums part.history) (sums_by_validator part.history) (sums_by_token part.history)
 
 pub own_can_be_told : (part : Part) (ends : List UploadEnd) → IsWritable part
-    → ArePlainEnds part.files ends → HasLegalNumbers (own_told part ends)
+    → ArePlainEnds part.files ends → HasTapNumbers (own_told part ends)
 own_can_be_told part ends can plain = record {
   number = omega (
     arith,

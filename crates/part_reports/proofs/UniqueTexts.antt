@@ -13,7 +13,7 @@ use Rattle.part_reports.specs.Ledgers.{IsLedgerEntryLine, IsPartLedger}
 use Rattle.part_reports.specs.Lines.{End, IsUploadEnd, IsTokenSum, IsValidatorSum}
 use Rattle.part_reports.specs.Lines.{end_line, end_lines, head_line, token_line, validator_line}
 use Rattle.part_reports.specs.Reports.{IsPartReport, Report, report_text}
-use Rattle.part_reports.specs.Reports.{HasLegalNumbers}
+use Rattle.part_reports.specs.Reports.{HasTapNumbers}
 use Rattle.part_reports.specs.TokenLines.{TokenLine, text_of}
 use Rattle.part_reports.proofs.Tokens.{token_digits}
 use Rattle.part_reports.proofs.Unique.{end_line_unique, entry_line_unique, head_line_unique}
@@ -77,7 +77,7 @@ same_report : (a b : Report) → a.ends ≡ b.ends → a.totals ≡ b.totals
 same_report a b ends totals validators tokens =
     λ i. record { ends = ends i; totals = totals i; validators = validators i; tokens = tokens i }
 
-pub report_unique : (a b : Report) → HasLegalNumbers a → HasLegalNumbers b → report_text a ≡ report_text b
+pub report_unique : (a b : Report) → HasTapNumbers a → HasTapNumbers b → report_text a ≡ report_text b
     → a ≡ b
 report_unique a b fits fits_too is =
     let (number, one) = head_line_unique (codes "uploads ") (length a.ends) (length b.ends) _ _
@@ -103,7 +103,7 @@ report_unique a b fits fits_too is =
     ∙ sym (append-nil (flat_map token_line b.tokens))) in
     same_report a b ends totals validators tokens
 
-told : (report : Report) → IsPartReport report → HasLegalNumbers report
+told : (report : Report) → IsPartReport report → HasTapNumbers report
 told report part = record {
   number = part.number;
   ends = part.ends;

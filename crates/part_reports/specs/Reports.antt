@@ -34,7 +34,7 @@ report_text report =
     ++ flat_map token_line report.tokens
 
 -- the numbers of the report's lines can be those of taps, with any ends, and in any order
-pub record HasLegalNumbers (report : Report) : Type 0 where
+pub record HasTapNumbers (report : Report) : Type 0 where
   pub number : length report.ends < 2 ^ 64
   pub ends : All IsUploadEnd report.ends
   pub totals : AreCounts report.totals

@@ -3,12 +3,12 @@
 
 ghost use Rattle.std.specs.Prelude.{◌≡◌, ℕ, List};
 ghost use Rattle.part_reports.specs.Ledgers.{IsPartLedger};
-ghost use Rattle.part_reports.specs.Reports.{HasLegalNumbers, IsPartReport, Report, report_text};
+ghost use Rattle.part_reports.specs.Reports.{HasTapNumbers, IsPartReport, Report, report_text};
 ghost use Rattle.part_reports.specs.TokenLines.{TokenLine};
 
 /// Two reports that tell something else have other texts.
 pub fn texts_differ()
-    ensures any { (a b : Report) → HasLegalNumbers a → HasLegalNumbers b
+    ensures any { (a b : Report) → HasTapNumbers a → HasTapNumbers b
         → report_text a ≡ report_text b → a ≡ b }
     ensures parts { (a b : Report) → IsPartReport a → IsPartReport b
         → report_text a ≡ report_text b → a ≡ b }

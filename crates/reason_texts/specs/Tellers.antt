@@ -1,7 +1,7 @@
 -- What a teller stands for.
 use Rattle.std.specs.Prelude.{◌≡◌, List, length, map}
 use Rattle.fare_table.specs.Fares.{Fares}
-use Rattle.account_rule.specs.Rules.{rules_of}
+use Rattle.account_rule.specs.TokenRules.{rules_of}
 use Rattle.account_rule.specs.Stands.{Stands}
 use Rattle.shard_book.specs.Entry.{tap_of}
 use Rattle.fare_table.specs.Token.{bytes_of}

@@ -3,7 +3,7 @@
 ghost use Rattle.std.specs.Prelude.{◌≡◌, ◌+◌, ◌^◌, ◌<◌, ◌≤◌, ◌++◌, ◌∷◌, ◌⊎◌, [], List, ℕ, IfOk};
 ghost use Rattle.std.specs.Prelude.{length, map, string_bytes, OnErr, OnOk};
 ghost use Rattle.std.specs.Option.{ForSome};
-ghost use Rattle.account_rule.specs.Rules.{rules_of};
+ghost use Rattle.account_rule.specs.TokenRules.{rules_of};
 ghost use Rattle.account_rule.specs.Windows.{last_window};
 ghost use Rattle.fare_table.specs.Fares.{Fares};
 ghost use Rattle.fare_table.specs.Token.{bytes_of};

@@ -8,7 +8,7 @@ ghost use Rattle.settlement.specs.Settled.{IsPartFile};
 use crate::memory::release;
 use crate::pieces::Pieces;
 use std::alloc::{AllocError, Global};
-use tap_parts::{PartTaps, arrange_into, text_of};
+use tap_parts::{PartTaps, arrange_into, part_file};
 use tap_views::TapFields;
 
 /// How many taps the pieces have.
@@ -47,7 +47,7 @@ fn file_of(
     gather(pieces.as_slice(), taps)?;
     drop(pieces);
     arrange_into(alloc, taps, list)?;
-    let file = text_of(alloc, list)?;
+    let file = part_file(alloc, list)?;
     Ok(file)
 }
 

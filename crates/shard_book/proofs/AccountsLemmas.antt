@@ -5,7 +5,7 @@ use Rattle.std.specs.List.{position_or_len}
 use Rattle.indexmap.specs.IndexMap.{IsUnique, Updates, get, insert_entry, insert_index, with_value_at}
 use Rattle.indexmap.proofs.CallerLemmas.{insert_entry-new, updates-with_value_at}
 use Rattle.account_rule.specs.declared.tap.TapIn.{TapIn}
-use Rattle.account_rule.specs.Rules.{Rules}
+use Rattle.account_rule.specs.TokenRules.{TokenRules}
 use Rattle.account_rule.specs.Stands.{Stands}
 use Rattle.shard_book.specs.declared.accounts.Accounts.{Accounts}
 use Rattle.shard_book.specs.declared.accounts.KeptAccount.{KeptAccount}
@@ -22,7 +22,7 @@ use Rattle.std.proofs.lemmas.Bool.{cases_Bool, false≢true}
 use Rattle.std.proofs.lemmas.Option.{slice_get_within}
 
 -- the kept account, or else a fresh one, stands for the taps
-pub stands_or : (rules : Rules) (kept : Option KeptAccount) (here : KeptAccount) (taps : List TapIn) → IsKeptOrFresh kept here → IsKept rules kept taps → Stands rules here.account taps
+pub stands_or : (rules : TokenRules) (kept : Option KeptAccount) (here : KeptAccount) (taps : List TapIn) → IsKeptOrFresh kept here → IsKept rules kept taps → Stands rules here.account taps
 stands_or rules None here taps is empty = subst (λ (ts : List TapIn). Stands rules here.account ts) (sym empty) (is.0 rules)
 stands_or rules (Some kept) here taps is stands = subst (λ (k : KeptAccount). Stands rules k.account taps) (sym is) stands
 
@@ -62,7 +62,7 @@ slice_get-last [] x = refl
 slice_get-last (y ∷ ys) x = slice_get-last ys x
 
 -- an account that is opened stands last
-pub made_last : (old new : Accounts) (token : Token) (place : ℕ) (fresh : KeptAccount) → place ≡ length old.map.entries → kept_at old token ≡ None → kept_at new token ≡ Some fresh → new.map.entries ≡ insert_entry token_eq old.map.entries token fresh → ((rules : Rules) → Stands rules fresh.account []) → sums_of_counts fresh.counts ≡ sums_of_replies [] → IsMade old new token place
+pub made_last : (old new : Accounts) (token : Token) (place : ℕ) (fresh : KeptAccount) → place ≡ length old.map.entries → kept_at old token ≡ None → kept_at new token ≡ Some fresh → new.map.entries ≡ insert_entry token_eq old.map.entries token fresh → ((rules : TokenRules) → Stands rules fresh.account []) → sums_of_counts fresh.counts ≡ sums_of_replies [] → IsMade old new token place
 unfolding kept_at
 made_last old new token place fresh at none now entries stands counts =
     let last : new.map.entries ≡ old.map.entries ++ (token, fresh) ∷ [] = entries ∙ insert_entry-new token_eq old.map token fresh none in

@@ -8,7 +8,7 @@ use Rattle.account_rule.specs.Laws.{is_paid_reply}
 use Rattle.account_rule.specs.declared.reply.Answer.TheVariants.{Paid, Transfer, Capped, Stale, Unknown}
 use Rattle.shard_book.specs.Sums.{sums_of_replies, is_paid}
 use Rattle.account_rule.specs.Replies.{reply, replies, replies_after}
-use Rattle.account_rule.specs.Rules.{rules_of}
+use Rattle.account_rule.specs.TokenRules.{rules_of}
 use Rattle.shard_book.specs.declared.entry.Entry.{Entry}
 use Rattle.fare_table.specs.declared.token.Token.{Token}
 use Rattle.shard_book.specs.Entry.{is_of, own, tap_of, taps_of, reply_of}

@@ -2,7 +2,7 @@
 use Rattle.std.specs.Prelude.{◌≡◌, List, ◌∷◌, ◌++◌}
 use Rattle.fare_table.specs.Fares.{Fares}
 use Rattle.account_rule.specs.Replies.{reply}
-use Rattle.account_rule.specs.Rules.{rules_of}
+use Rattle.account_rule.specs.TokenRules.{rules_of}
 use Rattle.shard_book.specs.declared.entry.Entry.{Entry}
 use Rattle.shard_book.specs.Entry.{reply_of, tap_of, taps_of}
 use Rattle.fare_table.specs.Token.{bytes_of}

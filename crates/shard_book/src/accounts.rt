@@ -6,7 +6,7 @@ ghost use Rattle.std.specs.Prelude.{slice_get};
 ghost use Rattle.std.specs.Option.{ForSome};
 ghost use Rattle.fare_table.specs.Until.{until};
 ghost use Rattle.account_rule.specs.Replies.{reply};
-ghost use Rattle.account_rule.specs.Rules.{Rules, rules_of};
+ghost use Rattle.account_rule.specs.TokenRules.{TokenRules, rules_of};
 ghost use Rattle.account_rule.specs.Stands.{Stands, StandsForSome};
 ghost use Rattle.account_rule.specs.declared.tap.TapIn.{TapIn};
 ghost use Rattle.shard_book.specs.inside.Accounts.{kept_at, counted, pairs_of, IsCounting, IsKept};
@@ -70,7 +70,7 @@ impl Accounts {
     /// The token's account, a fresh one where none is kept.
     #[tactic(auto, unfolding(crate::specs::inside::Accounts::kept_at))]
     pub(crate) fn account_of(&self, token: Token) -> Account
-        ensures { (rules : Rules) (taps : List TapIn) → IsKept rules (kept_at self.now token) taps
+        ensures { (rules : TokenRules) (taps : List TapIn) → IsKept rules (kept_at self.now token) taps
             → Stands rules result taps }
     {
         match self.map.get(&token) {

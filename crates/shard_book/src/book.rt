@@ -3,7 +3,7 @@
 ghost use Rattle.std.specs.Prelude.{◌≡◌, ◌<◌, ◌≤◌, [], length, map, slice_get, IfOk, OnOk, OnErr};
 ghost use Rattle.std.specs.Prelude.{IsTrue, ◌↔◌, Some};
 ghost use Rattle.tap_views.specs.Shards.{shard_of_token};
-ghost use Rattle.account_rule.specs.Rules.{rules_of};
+ghost use Rattle.account_rule.specs.TokenRules.{rules_of};
 ghost use Rattle.account_rule.specs.Stands.{Stands};
 ghost use Rattle.shard_book.specs.inside.Counting.{AddsSums};
 ghost use Rattle.shard_book.specs.Counts.{token_counts};

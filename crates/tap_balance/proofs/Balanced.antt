@@ -14,70 +14,70 @@ use Rattle.tap_balance.proofs.Times.{one, one_self, permutation_of_times, times_
 
 -- IsBalance, of a balance's two fields
 abbrev pub Balances : BTreeMap TapKey ℕ → Option TapFields → List TapFields → List TapFields → Type 0
-Balances left surplus posted struck =
+Balances left surplus good struck =
     MatchOption surplus ((tap : TapFields)
-    → copies_among tap posted ≡ left_at left (key_of tap) + copies_among tap struck)
-    (λ tap. copies_among tap posted < copies_among tap struck)
+    → copies_among tap good ≡ left_at left (key_of tap) + copies_among tap struck)
+    (λ tap. copies_among tap good < copies_among tap struck)
 
 -- in the one map one more is left of the tap than in the other
 abbrev pub HasOneMore : BTreeMap TapKey ℕ → BTreeMap TapKey ℕ → TapKey → Type 0
 HasOneMore more less key =
     (other : TapKey) → left_at more other ≡ left_at less other + cond (is_eq (key_cmp key other)) 1 0
 
-pub added : (old new : BTreeMap TapKey ℕ) (surplus : Option TapFields) (posted : List TapFields)
+pub added : (old new : BTreeMap TapKey ℕ) (surplus : Option TapFields) (good : List TapFields)
     (tap : TapFields) → HasOneMore new old (key_of tap)
-    → Balances old surplus posted [] → Balances new surplus (posted ++ tap ∷ []) []
-added old new None posted tap more is = λ t.
-    let push = times_push t posted tap in
+    → Balances old surplus good [] → Balances new surplus (good ++ tap ∷ []) []
+added old new None good tap more is = λ t.
+    let push = times_push t good tap in
     let here = more (key_of t) in
     let before = is t in
     omega (arith, push, here, before)
-added old new (Some s) posted tap more is = absurd (omega (arith, is))
+added old new (Some s) good tap more is = absurd (omega (arith, is))
 
-pub struck_out : (old new : BTreeMap TapKey ℕ) (posted struck : List TapFields) (tap : TapFields)
+pub struck_out : (old new : BTreeMap TapKey ℕ) (good struck : List TapFields) (tap : TapFields)
     → HasOneMore old new (key_of tap)
-    → Balances old None posted struck → Balances new None posted (struck ++ tap ∷ [])
-struck_out old new posted struck tap more is = λ t.
+    → Balances old None good struck → Balances new None good (struck ++ tap ∷ [])
+struck_out old new good struck tap more is = λ t.
     let push = times_push t struck tap in
     let here = more (key_of t) in
     let before = is t in
     omega (arith, push, here, before)
 
-pub none_left : (left : BTreeMap TapKey ℕ) (posted struck : List TapFields) (tap : TapFields)
+pub none_left : (left : BTreeMap TapKey ℕ) (good struck : List TapFields) (tap : TapFields)
     → left_at left (key_of tap) ≡ 0
-    → Balances left None posted struck → copies_among tap posted < copies_among tap (struck ++ tap ∷ [])
-none_left left posted struck tap none is =
+    → Balances left None good struck → copies_among tap good < copies_among tap (struck ++ tap ∷ [])
+none_left left good struck tap none is =
     let push = times_push tap struck tap in
     let self = one_self tap in
     let before = is tap in
     omega (arith, push, self, before, none)
 
-pub still_more : (left new : BTreeMap TapKey ℕ) (posted struck : List TapFields) (tap s : TapFields)
-    → Balances left (Some s) posted struck → Balances new (Some s) posted (struck ++ tap ∷ [])
-still_more left new posted struck tap s is =
+pub still_more : (left new : BTreeMap TapKey ℕ) (good struck : List TapFields) (tap s : TapFields)
+    → Balances left (Some s) good struck → Balances new (Some s) good (struck ++ tap ∷ [])
+still_more left new good struck tap s is =
     let push = times_push s struck tap in
     omega (arith, push, is)
 
-pub all_struck : (left : BTreeMap TapKey ℕ) (posted struck : List TapFields)
+pub all_struck : (left : BTreeMap TapKey ℕ) (good struck : List TapFields)
     → ((key : TapKey) → left_at left key ≡ 0)
-    → Balances left None posted struck → IsPermutation posted struck
-all_struck left posted struck none is =
-    permutation_of_times posted struck (λ t.
+    → Balances left None good struck → IsPermutation good struck
+all_struck left good struck none is =
+    permutation_of_times good struck (λ t.
     let here = none (key_of t) in let before = is t in omega (arith, here, before))
 
-pub some_left : (left : BTreeMap TapKey ℕ) (posted struck : List TapFields) (tap : TapFields)
+pub some_left : (left : BTreeMap TapKey ℕ) (good struck : List TapFields) (tap : TapFields)
     (key : TapKey) → key_of tap ≡ key → 0 < left_at left key
-    → Balances left None posted struck → copies_among tap struck < copies_among tap posted
-some_left left posted struck tap key same some is =
+    → Balances left None good struck → copies_among tap struck < copies_among tap good
+some_left left good struck tap key same some is =
     let here = subst (λ (k : TapKey). 0 < left_at left k) (sym same) some in
     let before = is tap in
     omega (arith, here, before)
 
-pub unfound : (left : BTreeMap TapKey ℕ) (surplus : Option TapFields) (posted struck : List TapFields)
+pub unfound : (left : BTreeMap TapKey ℕ) (surplus : Option TapFields) (good struck : List TapFields)
     → is_some surplus ≡ false
-    → Balances left surplus posted struck → Balances left None posted struck
-unfound left None posted struck none is = is
-unfound left (Some s) posted struck none is = absurd cc
+    → Balances left surplus good struck → Balances left None good struck
+unfound left None good struck none is = is
+unfound left (Some s) good struck none is = absurd cc
 
 -- a number was put at the key, or raised by one
 pub one_more : (new old : TapKey → Option ℕ) (key : TapKey) (count more : ℕ)

@@ -50,15 +50,15 @@ left_at left key = unwrap_or (tree.get key_cmp left key) 0
 -- of each good tap some were struck out, and so many are left; or a tap is known that was struck
 -- out more often than the uploads have it
 abbrev pub IsBalance : Balance → List TapFields → List TapFields → Type 0
-IsBalance balance posted struck =
+IsBalance balance good struck =
     MatchOption balance.surplus
-    ((tap : TapFields) → copies_among tap posted
+    ((tap : TapFields) → copies_among tap good
     ≡ left_at balance.left (key_of tap) + copies_among tap struck)
-    (λ tap. copies_among tap posted < copies_among tap struck)
+    (λ tap. copies_among tap good < copies_among tap struck)
 
 -- the others are the good taps in some order; or the told tap is more often among the ones, or
 -- among the others
 abbrev pub IsDifference : List TapFields → List TapFields → Option Difference → Type 0
-IsDifference posted others None = IsPermutation posted others
-IsDifference posted others (Some (Missing tap)) = copies_among tap others < copies_among tap posted
-IsDifference posted others (Some (Surplus tap)) = copies_among tap posted < copies_among tap others
+IsDifference good others None = IsPermutation good others
+IsDifference good others (Some (Missing tap)) = copies_among tap others < copies_among tap good
+IsDifference good others (Some (Surplus tap)) = copies_among tap good < copies_among tap others

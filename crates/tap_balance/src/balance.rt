@@ -136,16 +136,16 @@ impl Balance {
 
     /// Adds a tap of an upload.
     fn add(&mut self, tap: &TapFields) -> Result<(), AllocError>
-        ensures { OnOk result ((posted : List TapFields) → IsBalance self.old posted []
-            → IsBalance self.new (posted ++ tap.now ∷ []) []) }
+        ensures { OnOk result ((good : List TapFields) → IsBalance self.old good []
+            → IsBalance self.new (good ++ tap.now ∷ []) []) }
     {
         put_one(&mut self.left, key_for(tap))
     }
 
     /// Adds the taps of a batch.
     fn add_batch(&mut self, batch: &Batch<'_>) -> Result<(), AllocError>
-        ensures { OnOk result ((posted : List TapFields) → IsBalance self.old posted []
-            → IsBalance self.new (posted ++ map fields_of batch.now) []) }
+        ensures { OnOk result ((good : List TapFields) → IsBalance self.old good []
+            → IsBalance self.new (good ++ map fields_of batch.now) []) }
     {
         for tap in batch.taps() {
             self.add(&TapFields::of(&tap))?;
@@ -158,8 +158,8 @@ impl Balance {
     /// is of no use.
     pub fn add_upload(&mut self, upload: &[u8]) -> Result<(), AllocError>
         ensures { OnOk result ((taps : List TapFields) × AreGoodTaps upload.now taps
-            × ((posted : List TapFields) → IsBalance self.old posted []
-            → IsBalance self.new (posted ++ taps) [])) }
+            × ((good : List TapFields) → IsBalance self.old good []
+            → IsBalance self.new (good ++ taps) [])) }
     {
         for item in batches(upload) {
             match item {
@@ -172,8 +172,8 @@ impl Balance {
 
     /// Strikes out a tap of the other side.
     pub fn strike(&mut self, tap: &TapFields)
-        ensures { (posted struck : List TapFields) → IsBalance self.old posted struck
-            → IsBalance self.new posted (struck ++ tap.now ∷ []) }
+        ensures { (good struck : List TapFields) → IsBalance self.old good struck
+            → IsBalance self.new good (struck ++ tap.now ∷ []) }
     {
         if self.surplus.is_some() {
             return;
@@ -187,8 +187,8 @@ impl Balance {
     /// have no more, else the first of those that are left, by token, moment and validator. `None`
     /// where the taps that were struck out are, in some order, those of the uploads.
     pub fn difference(&self) -> Option<Difference>
-        ensures { (posted struck : List TapFields) → IsBalance self.now posted struck
-            → IsDifference posted struck result }
+        ensures { (good struck : List TapFields) → IsBalance self.now good struck
+            → IsDifference good struck result }
     {
         if let Some(tap) = self.surplus {
             return Some(Difference::Surplus(tap));

@@ -11,6 +11,6 @@ ghost use Rattle.tap_views.specs.declared.encoder.TapFields.{TapFields};
 /// side has more often, the taps of both sides are not the same in any order.
 pub fn differences()
     ensures same { (tap other : TapFields) → (is_same tap other ≡ true) ↔ (tap ≡ other) }
-    ensures apart { (posted others : List TapFields) (difference : Difference)
-        → IsDifference posted others (Some difference) → ¬ (IsPermutation posted others) }
+    ensures apart { (good others : List TapFields) (difference : Difference)
+        → IsDifference good others (Some difference) → ¬ (IsPermutation good others) }
 {}

@@ -7,7 +7,7 @@ ghost use Rattle.upload_parts.specs.Split.{AreSplit, IsSplitEnd, IsSplitFile};
 
 use std::alloc::{AllocError, Global};
 use std::marker::Model;
-use tap_parts::{Parts, UploadTaps, arranged, text_of};
+use tap_parts::{Parts, UploadTaps, arranged, part_file};
 
 /// The taps of uploads, split by token into parts. Contracts see the taps of each part, in the
 /// order of the uploads.
@@ -68,7 +68,7 @@ impl Split {
             → AreSplit parts uploads self.now → IsSplitFile uploads parts part file.items) }
     {
         let taps = arranged(alloc, self.parts.part(part))?;
-        let file = text_of(alloc, &taps)?;
+        let file = part_file(alloc, &taps)?;
         Ok(file)
     }
 }

@@ -8,7 +8,7 @@ ghost use Rattle.hex.specs.Hex.{encode_lower};
 ghost use Rattle.shard_book.specs.Shown.{token_sum};
 ghost use Rattle.shard_book.specs.Sums.{sums_of};
 ghost use Rattle.fare_table.specs.Token.{bytes_of};
-ghost use Rattle.fare_texts.specs.Counts.{live_counts, other_counts};
+ghost use Rattle.fare_texts.specs.Counts.{first_counts, last_counts};
 ghost use Rattle.fare_service.specs.Text.{token_line};
 ghost use Rattle.fare_service.specs.declared.print_fault.PrintFault.TheVariants.{Write as ForWrite};
 
@@ -87,10 +87,10 @@ fn make_line(line: &mut Line, sum: &TokenSum)
 
 /// Puts ` stale 0 unknown 0 cents 300` and the end of the line.
 #[inline(always)]
-#[tactic(auto, unfolding(fare_texts::specs::Counts::other_counts))]
+#[tactic(auto, unfolding(fare_texts::specs::Counts::last_counts))]
 fn put_other_counts(line: &mut Line, totals: &Totals)
     requires { line.old ≡ [] }
-    ensures put { line.new ≡ other_counts (sums_of totals.now) }
+    ensures put { line.new ≡ last_counts (sums_of totals.now) }
     ensures short { length line.new ≤ 144 }
 {
     line.put(b"\n");
@@ -103,7 +103,7 @@ fn put_other_counts(line: &mut Line, totals: &Totals)
 #[inline(always)]
 fn put_live_counts(line: &mut Line, totals: &Totals)
     requires { length line.old ≤ 144 }
-    ensures put { line.new ≡ live_counts (sums_of totals.now) ++ line.old }
+    ensures put { line.new ≡ first_counts (sums_of totals.now) ++ line.old }
     ensures short { length line.new ≤ 334 }
 {
     line.put_count(b" capped ", totals.capped);

@@ -1,7 +1,7 @@
 //! The lines of a token's windows.
 
 ghost use Rattle.std.specs.Prelude.{◌≡◌, ◌++◌, List, ℕ, OnOk, codes, map, string_bytes};
-ghost use Rattle.account_rule.specs.Rules.{rules_of};
+ghost use Rattle.account_rule.specs.TokenRules.{rules_of};
 ghost use Rattle.shard_book.specs.Entry.{tap_of};
 ghost use Rattle.fare_table.specs.Token.{bytes_of};
 ghost use Rattle.ledger_texts.specs.Explained.{AreEarlierLines, AreWindowLines, IsLastLine};

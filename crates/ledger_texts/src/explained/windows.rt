@@ -2,7 +2,7 @@
 
 ghost use Rattle.std.specs.Prelude.{◌≡◌, ◌++◌, IfOk, OnOk, map};
 ghost use Rattle.account_rule.specs.Laws.{is_ride};
-ghost use Rattle.account_rule.specs.Rules.{rules_of};
+ghost use Rattle.account_rule.specs.TokenRules.{rules_of};
 ghost use Rattle.account_rule.specs.Windows.{last_window};
 ghost use Rattle.shard_book.specs.Entry.{tap_of};
 ghost use Rattle.fare_table.specs.Token.{bytes_of};

@@ -3,7 +3,7 @@ use Rattle.std.specs.Prelude.{◌≡◌, ℕ, Bool, List, [], Option, Some, None
 use Rattle.std.specs.Prelude.{IsTrue}
 use Rattle.indexmap.specs.IndexMap.{get}
 use Rattle.account_rule.specs.declared.tap.TapIn.{TapIn}
-use Rattle.account_rule.specs.Rules.{Rules}
+use Rattle.account_rule.specs.TokenRules.{TokenRules}
 use Rattle.account_rule.specs.Stands.{Stands}
 use Rattle.shard_book.specs.declared.accounts.Accounts.{Accounts}
 use Rattle.shard_book.specs.declared.accounts.KeptAccount.{KeptAccount}
@@ -22,14 +22,14 @@ abbrev pub IsCounting : Accounts → Type 0
 IsCounting accounts = IsTrue accounts.counting
 
 -- the kept account stands for the taps; where none is kept there are none
-abbrev pub IsKept : Rules → Option KeptAccount → List TapIn → Type 0
+abbrev pub IsKept : TokenRules → Option KeptAccount → List TapIn → Type 0
 IsKept rules None taps = taps ≡ []
 IsKept rules (Some kept) taps = Stands rules kept.account taps
 
 -- what was kept, or else a fresh account and the counts of nothing
 abbrev pub IsKeptOrFresh : Option KeptAccount → KeptAccount → Type 0
 IsKeptOrFresh None kept =
-    ((rules : Rules) → Stands rules kept.account [])
+    ((rules : TokenRules) → Stands rules kept.account [])
     × (sums_of_counts kept.counts ≡ sums_of_replies [])
 IsKeptOrFresh (Some old) kept = kept ≡ old
 
@@ -54,7 +54,7 @@ counted (Some kept) = sums_of_counts kept.counts
 -- what is kept now stands for the taps for which that before it stood, and counts the same: it
 -- stayed, or is fresh
 pub record StandsOn (old new : Option KeptAccount) : Type 0 where
-  pub kept : (rules : Rules) (taps : List TapIn) → IsKept rules old taps → IsKept rules new taps
+  pub kept : (rules : TokenRules) (taps : List TapIn) → IsKept rules old taps → IsKept rules new taps
   pub sums : counted new ≡ counted old
 
 -- whether an account has taps; one that was opened ahead has none yet

@@ -7,4 +7,4 @@ returns-clause-told g c =
     let found = c.in_ok-verdict.ensures.told in
     let told = c.in_ok-told.told in
     let wrote = subst (λ (t : List ℕ). Appends (g.W.Write.contents c.args.out.now) (g.W.Write.contents c.write_text.new.out) t) c.as_str.ensures.value c.in_ok-write_text.ensures.text in
-    (found.0, found.1, λ posted balanced. (string_bytes told.0, c.in_ok-told.ensures c.args.table.now found.0 posted found.2 (found.3 posted balanced), wrote))
+    (found.0, found.1, λ good balanced. (string_bytes told.0, c.in_ok-told.ensures c.args.table.now found.0 good found.2 (found.3 good balanced), wrote))

@@ -5,7 +5,7 @@ use Rattle.ledger_check.specs.Verdicts.{is_legal}
 use Rattle.omny_audit.proofs.audit.finding_text.Goals as goal
 
 pub returns-then-not-tells_legal : goal.returns-then-not-tells_legal
-returns-then-not-tells_legal c = λ fares text posted is balance.
+returns-then-not-tells_legal c = λ fares text good is balance.
     let verdict = c.args.verdict.now in
     let none : is_legal verdict ≡ false = sym c.tells_legal.ensures ∙ (first_of (cc, search (rules, tests))) in
     record {
@@ -17,7 +17,7 @@ returns-then-not-tells_legal c = λ fares text posted is balance.
     }
 
 pub returns-then-not-has_uploads : goal.returns-then-not-has_uploads
-returns-then-not-has_uploads c = λ fares text posted is balance.
+returns-then-not-has_uploads c = λ fares text good is balance.
     let verdict = c.args.verdict.now in
     let some : is_legal verdict ≡ true = sym c.tells_legal.ensures ∙ (first_of (cc, search (rules, tests))) in
     let none : c.args.has_uploads ≡ false = first_of (cc, search (rules, tests)) in
@@ -26,11 +26,11 @@ returns-then-not-has_uploads c = λ fares text posted is balance.
       is_verdict = is;
       rest = [];
       shown = c.in_ok-text.ensures ∙ sym (append-nil (verdict_text verdict));
-      second = alone fares text posted c.args.has_uploads (is_legal verdict) none some;
+      second = alone fares text good c.args.has_uploads (is_legal verdict) none some;
     }
 
 pub returns : goal.returns
-returns c = λ fares text posted is balance.
+returns c = λ fares text good is balance.
     let verdict = c.args.verdict.now in
     let legal : is_legal verdict ≡ true = sym c.tells_legal.ensures ∙ (first_of (cc, search (rules, tests))) in
     let some : c.args.has_uploads ≡ true = first_of (cc, search (rules, tests)) in
@@ -40,6 +40,6 @@ returns c = λ fares text posted is balance.
       is_verdict = is;
       rest = wrote.0;
       shown = wrote.2 ∙ ap (λ (t : List ℕ). t ++ wrote.0) c.in_ok-text.ensures;
-      second = beside fares text posted c.args.has_uploads (is_legal verdict) c.difference-told.result wrote.0 _ some legal wrote.1 c.is_even.ensures
-          (λ entries ledger. c.difference-told.ensures posted _ (balance legal entries ledger));
+      second = beside fares text good c.args.has_uploads (is_legal verdict) c.difference-told.result wrote.0 _ some legal wrote.1 c.is_even.ensures
+          (λ entries ledger. c.difference-told.ensures good _ (balance legal entries ledger));
     }

@@ -9,7 +9,7 @@ pub loop-piece-init : goal.loop-piece-init
 loop-piece-init g c = record {
   text = [];
   fed = c.new-checker.ensures.fed c.args.table.now;
-  struck = λ posted is. c.new-checker.ensures.struck c.args.table.now c.args.balance.now posted is;
+  struck = λ good is. c.new-checker.ensures.struck c.args.table.now c.args.balance.now good is;
   read = consumes-none _;
 }
 
@@ -31,7 +31,7 @@ returns-then-count-eq0-clause-told g c =
     (got.1 c.if-count-eq0.true (omega arith))
     (subst Is (sym none) (
       c.finish.ensures.verdict c.args.table.now before.text before.fed,
-      λ posted is legal entries ledger. c.finish.ensures.struck c.args.table.now before.text c.loop-piece.balance posted (before.struck posted is) legal entries ledger,
+      λ good is legal entries ledger. c.finish.ensures.struck c.args.table.now before.text c.loop-piece.balance good (before.struck good is) legal entries ledger,
     )) in
     (told.0, told.1, told.2.0, told.2.1)
 
@@ -49,7 +49,7 @@ returns-in-Some-clause-told g c =
     (consumes-more _ _ _ before.text (take c.in-Ok.count c.read.new.buf) before.read got.0)
     (λ more. (
       fed more,
-      λ posted is legal. absurd (false_true (sym (rw c.in-Some.is at (c.in_ok-verdict.ensures.struck before.text posted (before.struck posted is))) ∙ legal)),
+      λ good is legal. absurd (false_true (sym (rw c.in-Some.is at (c.in_ok-verdict.ensures.struck before.text good (before.struck good is))) ∙ legal)),
     )) in
     (told.0, told.1, told.2.0, told.2.1)
 
@@ -60,6 +60,6 @@ loop-piece-preserved g c =
     record {
       text = before.text ++ take c.in-Ok.count c.read.new.buf;
       fed = rw c.in_default-2.is at (c.in_ok-verdict.ensures.fed before.text before.fed);
-      struck = λ posted is. rw c.in_default-2.is at (c.in_ok-verdict.ensures.struck before.text posted (before.struck posted is));
+      struck = λ good is. rw c.in_default-2.is at (c.in_ok-verdict.ensures.struck before.text good (before.struck good is));
       read = consumes-more _ _ _ before.text (take c.in-Ok.count c.read.new.buf) before.read got.0;
     }

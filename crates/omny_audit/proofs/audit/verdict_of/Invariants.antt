@@ -11,6 +11,6 @@ abbrev pub invariant-loop-piece : goal.invariant-loop-piece
 invariant-loop-piece g l = record {
   text : List ℕ;
   fed : HasFed l.table l.checker text;
-  struck : (posted : List TapFields) → IsBalance l.fn.balance posted [] → HasStruck l.table l.checker l.balance text posted;
+  struck : (good : List TapFields) → IsBalance l.fn.balance good [] → HasStruck l.table l.checker l.balance text good;
   read : Consumes (g.R.Read.remaining l.fn.reader) (g.R.Read.remaining l.reader) text;
 }

@@ -25,12 +25,12 @@ returns-clause-ok g c =
       loads_table = c.in_ok-table.ensures.ok;
       uploads = loaded.0;
       loads_uploads = loads_same c.as_slice-names.result.now c.args.options.now.uploads.items _ _ loaded.0 names loaded.2;
-      posted = loaded.1;
-      are_posted = loaded.3;
+      good = loaded.1;
+      are_good = loaded.3;
       ledger = told.0;
       loads_ledger = opened _ _ _ _ told.0 c.in_ok-ledger.ensures.ok told.1;
       text = finding.0;
-      finding = subst (λ (posted : Option (List TapFields)). IsFinding c.in_ok-table.table told.0 posted finding.0 well) same finding.1;
+      finding = subst (λ (good : Option (List TapFields)). IsFinding c.in_ok-table.table told.0 good finding.0 well) same finding.1;
       written = finding.2;
     })
     c.audit_over.ensures.told

@@ -7,6 +7,6 @@ use Rattle.omny_audit.proofs.program.load_balance.Given as goal
 -- so far these were loaded, and the balance has their taps
 abbrev pub invariant-loop-name : goal.invariant-loop-name
 invariant-loop-name g l =
-    (files : List (List ℕ)) × (posted : List TapFields)
+    (files : List (List ℕ)) × (good : List TapFields)
     × LoadsNamedFiles (map (λ n. n.now) (take l.name-index l.names)) (g.S.Source.loaded l.fn.source) (g.S.Source.loaded l.source) files
-    × AreGoodTapsOfAll files posted × IsBalance l.balance posted []
+    × AreGoodTapsOfAll files good × IsBalance l.balance good []

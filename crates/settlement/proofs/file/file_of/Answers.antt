@@ -7,8 +7,8 @@ use Rattle.tap_parts.specs.Canonical.{IsCanonical}
 use Rattle.tap_parts.specs.Parts.{IsFileOf}
 use Rattle.settlement.proofs.file.file_of.Goals as goal
 
-pub text_of-requires : goal.text_of-requires
-text_of-requires c =
+pub part_file-requires : goal.part_file-requires
+part_file-requires c =
     let list = c.arrange_into.new.list.items in
     let is = subst (λ ts. IsCanonical ts list)
     (c.deref.ensures.value ∙ (c.in_ok-gather.ensures ∙ c.as_slice.ensures))

@@ -1,7 +1,7 @@
 use Rattle.std.proofs.Common.{◌∙◌, ap, List, filter}
 use Rattle.account_rule.specs.declared.reply.Reply.{Reply}
 use Rattle.account_rule.specs.Laws.{is_ride}
-use Rattle.account_rule.specs.Rules.{rules_of}
+use Rattle.account_rule.specs.TokenRules.{rules_of}
 use Rattle.shard_book.specs.Entry.{taps_of}
 use Rattle.fare_table.specs.Token.{bytes_of}
 use Rattle.shard_book.proofs.WindowsLemmas.{replies-own, paid-own, cents-own}

@@ -11,11 +11,11 @@ use Rattle.tap_balance.proofs.laws.differences.Goals as goal
 pub returns-clause-same : goal.returns-clause-same
 returns-clause-same c = λ tap other. (same_exact tap other, same_of tap other)
 
-differ : (posted others : List TapFields) (difference : Difference)
-    → IsDifference posted others (Some difference) → IsPermutation posted others → ⊥
-differ posted others (Missing tap) is moved = let e = times_permutation tap posted others moved in
+differ : (good others : List TapFields) (difference : Difference)
+    → IsDifference good others (Some difference) → IsPermutation good others → ⊥
+differ good others (Missing tap) is moved = let e = times_permutation tap good others moved in
     absurd (omega (arith, is, e))
-differ posted others (Surplus tap) is moved = let e = times_permutation tap posted others moved in
+differ good others (Surplus tap) is moved = let e = times_permutation tap good others moved in
     absurd (omega (arith, is, e))
 
 pub returns-clause-apart : goal.returns-clause-apart

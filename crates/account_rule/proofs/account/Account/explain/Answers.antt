@@ -1,7 +1,7 @@
 -- Each way out is one of the rule's four kinds of reason.
 use Rattle.std.proofs.Common.{refl, sym, ◌∙◌}
 use Rattle.account_rule.specs.Kept.{kept_giver, kept_of}
-use Rattle.account_rule.specs.Rules.{rules_of}
+use Rattle.account_rule.specs.TokenRules.{rules_of}
 use Rattle.account_rule.specs.Stands.{Stands, StandsForSome}
 use Rattle.account_rule.specs.Taps.{live_at}
 use Rattle.account_rule.proofs.ReasonLemmas.{reason_unknown, why_ride, why_stale, why_transfer}

@@ -1,7 +1,7 @@
 -- Each way out of the step is one of the rule's four cases: unknown, stale, transfer, ride.
 use Rattle.std.proofs.Common.{List, [], ◌∷◌, ◌++◌, Some, refl, sym, ap, ◌∙◌}
 use Rattle.account_rule.specs.Replies.{ride_reply}
-use Rattle.account_rule.specs.Rules.{rules_of}
+use Rattle.account_rule.specs.TokenRules.{rules_of}
 use Rattle.account_rule.specs.Kept.{state_of, kept_giver, kept_of}
 use Rattle.account_rule.specs.Stands.{StandsForSome, Stands}
 use Rattle.account_rule.specs.Taps.{live_at}

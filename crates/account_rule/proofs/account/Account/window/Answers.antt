@@ -4,7 +4,7 @@ use Rattle.std.specs.Prelude.{IfSome}
 use Rattle.account_rule.specs.Blocks.{last_block}
 use Rattle.account_rule.specs.Kept.{kept_of, kept_window}
 use Rattle.account_rule.specs.inside.Kept.{shown_of}
-use Rattle.account_rule.specs.Rules.{Rules}
+use Rattle.account_rule.specs.TokenRules.{TokenRules}
 use Rattle.account_rule.specs.Stands.{Stands}
 use Rattle.account_rule.specs.Windows.{last_window, windows}
 use Rattle.account_rule.specs.declared.account.Account.{Account}
@@ -14,7 +14,7 @@ use Rattle.account_rule.proofs.StepLemmas.{kept-fresh, kept-open}
 use Rattle.account_rule.proofs.WindowLemmas.{cents-shown, paid-shown, shown_window-of}
 use Rattle.account_rule.proofs.account.Account.window.Goals as goal
 
-seen : (rules : Rules) (account : Account) (taps : List TapIn) (shown : Option WindowView)
+seen : (rules : TokenRules) (account : Account) (taps : List TapIn) (shown : Option WindowView)
     → Stands rules account taps
     → shown ≡ option_map shown_of (kept_window (kept_of account)) → shown ≡ last_window rules taps
 unfolding Stands last_window

@@ -1,11 +1,11 @@
 use Rattle.std.proofs.Common.{codes}
 use Rattle.std.specs.Fmt.{decimal}
-use Rattle.fare_texts.specs.Counts.{live_counts}
+use Rattle.fare_texts.specs.Counts.{first_counts}
 use Rattle.fare_service.proofs.Parts.{four_counts}
 use Rattle.fare_service.proofs.text.token_lines.put_live_counts.Goals as goal
 
 pub returns-clause-put : goal.returns-clause-put
-unfolding live_counts
+unfolding first_counts
 returns-clause-put c =
     let t = c.args.totals.now in
     four_counts c.args.line.now _ _ _ _ (codes "taps ") (decimal t.taps) (codes " paid ") (decimal t.paid)

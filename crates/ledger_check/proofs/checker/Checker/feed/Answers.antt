@@ -46,30 +46,30 @@ loop-rest-preserved c =
           subst (λ (t : List ℕ). HasFed fares c.take_line.new.self t) (append_assoc text before.consumed line)
           (fed_none fares c.take_line.new.self ((text ++ before.consumed) ++ line) c.in_ok-told-2.told (sym c.is_some.ensures ∙ c.if-is_some.false)
           (c.in_ok-told-2.ensures.fed (text ++ before.consumed) (before.fed text fed)));
-      struck = λ text posted struck.
-          subst (λ (t : List ℕ). HasStruck fares c.take_line.new.self c.take_line.new.balance t posted) (append_assoc text before.consumed line)
+      struck = λ text good struck.
+          subst (λ (t : List ℕ). HasStruck fares c.take_line.new.self c.take_line.new.balance t good) (append_assoc text before.consumed line)
           (none_told c.in_ok-told-2.told _ (sym c.is_some.ensures ∙ c.if-is_some.false)
-          (c.in_ok-told-2.ensures.struck (text ++ before.consumed) posted (before.struck text posted struck)));
+          (c.in_ok-told-2.ensures.struck (text ++ before.consumed) good (before.struck text good struck)));
     }
 
 pub returns-in_default-clause-struck : goal.returns-in_default-clause-struck
-returns-in_default-clause-struck c = λ text posted struck.
+returns-in_default-clause-struck c = λ text good struck.
     let fares = c.args.table.now in
     let before = c.loop-rest.invariant in
     let joined : (text ++ before.consumed) ++ c.loop-rest.rest.now ≡ text ++ c.args.piece.now =
     append_assoc text before.consumed c.loop-rest.rest.now ∙ ap (λ (p : List ℕ). text ++ p) (sym before.whole) in
-    subst (λ (t : List ℕ). IfUntold c.in_ok-told.told (HasStruck fares c.keep.new.self c.loop-rest.balance t posted)) joined
-    (c.in_ok-told.ensures.struck fares (text ++ before.consumed) c.loop-rest.balance posted (before.struck text posted struck))
+    subst (λ (t : List ℕ). IfUntold c.in_ok-told.told (HasStruck fares c.keep.new.self c.loop-rest.balance t good)) joined
+    (c.in_ok-told.ensures.struck fares (text ++ before.consumed) c.loop-rest.balance good (before.struck text good struck))
 
 pub returns-then-is_some-clause-struck : goal.returns-then-is_some-clause-struck
-returns-then-is_some-clause-struck c = λ text posted struck.
+returns-then-is_some-clause-struck c = λ text good struck.
     let before = c.loop-rest.invariant in
     some_told c.in_ok-told-2.told _ _ (sym c.is_some.ensures ∙ c.if-is_some.true)
-    (c.in_ok-told-2.ensures.struck (text ++ before.consumed) posted (before.struck text posted struck))
+    (c.in_ok-told-2.ensures.struck (text ++ before.consumed) good (before.struck text good struck))
 
 pub returns-clause-struck : goal.returns-clause-struck
-returns-clause-struck c = λ text posted struck.
+returns-clause-struck c = λ text good struck.
     let before = c.loop-rest.invariant in
     let none : c.loop-rest.rest.now ≡ [] = empty_list c.loop-rest.rest.now (first_of (omega arith, grind (arith, nat_tests), search (rules, tests))) in
     let all : before.consumed ≡ c.args.piece.now = sym (append-nil before.consumed) ∙ sym (before.whole ∙ ap (λ (r : List ℕ). before.consumed ++ r) none) in
-    subst (λ (p : List ℕ). HasStruck c.args.table.now c.loop-rest.self c.loop-rest.balance (text ++ p) posted) all (before.struck text posted struck)
+    subst (λ (p : List ℕ). HasStruck c.args.table.now c.loop-rest.self c.loop-rest.balance (text ++ p) good) all (before.struck text good struck)

@@ -33,11 +33,11 @@ false_true : false ≡ true → ⊥
 false_true h = cc
 
 pub returns-then-not-self-clause-struck : goal.returns-then-not-self-clause-struck
-returns-then-not-self-clause-struck c = λ fares text balance posted struck legal.
+returns-then-not-self-clause-struck c = λ fares text balance good struck legal.
     absurd (false_true (subst (λ (v : Verdict). IsTrue (is_legal v)) c.no_line.ensures legal))
 
 pub returns-clause-struck : goal.returns-clause-struck
-returns-clause-struck c = λ fares text balance posted struck legal entries is.
+returns-clause-struck c = λ fares text balance good struck legal entries is.
     let checker = c.args.self.now in
     let none : length checker.part.items ≤ 0 = grind (arith, nat_tests, checker.part.ok.0) in
-    all_struck fares checker balance text posted struck (empty_list checker.part.items none) entries is
+    all_struck fares checker balance text good struck (empty_list checker.part.items none) entries is

@@ -17,10 +17,10 @@ returns-clause-fed c = λ fares text fed.
     kept fares c.args.self.now _ text c.args.rest.now fed c.requires.rest refl c.in_ok-extend_from_slice.ensures.items short
 
 pub returns-then-len-gt-MAX_LINE_BYTES-clause-struck : goal.returns-then-len-gt-MAX_LINE_BYTES-clause-struck
-returns-then-len-gt-MAX_LINE_BYTES-clause-struck c = λ fares text balance posted struck. ap is_legal c.no_line.ensures
+returns-then-len-gt-MAX_LINE_BYTES-clause-struck c = λ fares text balance good struck. ap is_legal c.no_line.ensures
 
 pub returns-clause-struck : goal.returns-clause-struck
-returns-clause-struck c = λ fares text balance posted struck.
+returns-clause-struck c = λ fares text balance good struck.
     let whole = c.extend_from_slice.new.self.items in
     let short : length whole ≤ 255 = omega (arith, c.extend_from_slice.new.self.ok.0) in
     record {

@@ -13,7 +13,7 @@ returns-clause-fed c = λ fares.
     }
 
 pub returns-clause-struck : goal.returns-clause-struck
-returns-clause-struck c = λ fares balance posted is.
+returns-clause-struck c = λ fares balance good is.
     let empty = c.new-3.ensures.items in record {
       fed = record {
         lines = [];

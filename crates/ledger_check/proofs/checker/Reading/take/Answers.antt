@@ -49,22 +49,22 @@ returns-in-Legal-clause-taken c = λ lines taken.
     subst (λ (ls : List (List ℕ)). HasTaken fares after (ls ++ line ∷ [])) (sym head.is) (some, refl, step.0)
 
 pub returns-in-Legal-clause-struck : goal.returns-in-Legal-clause-struck
-returns-in-Legal-clause-struck c = λ lines posted taken struck.
+returns-in-Legal-clause-struck c = λ lines good taken struck.
     let fares = c.args.table.now in
     let reading = c.args.self.now in
     let some : reading.has_head ≡ true = first_of (cc, search (rules, tests), grind (arith, nat_tests)) in
     let head = headed fares reading lines some taken in
     let step = rw c.in-Legal.is at (c.in_ok-tap.ensures head.rest head.read) in
-    struck_more fares lines head.rest c.args.line.now c.in-Legal.tap c.fields.result c.args.balance.now _ posted head.is step.1 c.fields.ensures
+    struck_more fares lines head.rest c.args.line.now c.in-Legal.tap c.fields.result c.args.balance.now _ good head.is step.1 c.fields.ensures
     c.strike.ensures struck
 
 pub returns-then-not-self-clause-struck : goal.returns-then-not-self-clause-struck
-returns-then-not-self-clause-struck c = λ lines posted taken struck.
+returns-then-not-self-clause-struck c = λ lines good taken struck.
     let none : c.args.self.now.has_head ≡ false = first_of (cc, search (rules, tests), grind (arith, nat_tests)) in
-    struck_head c.args.table.now lines c.args.line.now c.args.balance.now posted (no_head c.args.table.now c.args.self.now lines none taken).0 struck
+    struck_head c.args.table.now lines c.args.line.now c.args.balance.now good (no_head c.args.table.now c.args.self.now lines none taken).0 struck
 
 pub returns-in_ok-clone-in-Wants-clause-struck : goal.returns-in_ok-clone-in-Wants-clause-struck
-returns-in_ok-clone-in-Wants-clause-struck c = λ lines posted taken struck. refl
+returns-in_ok-clone-in-Wants-clause-struck c = λ lines good taken struck. refl
 
 pub returns-in-NoLine-clause-struck : goal.returns-in-NoLine-clause-struck
-returns-in-NoLine-clause-struck c = λ lines posted taken struck. refl
+returns-in-NoLine-clause-struck c = λ lines good taken struck. refl

@@ -2,7 +2,7 @@
 use Rattle.std.proofs.Common.{List, map, take, sym, ap, subst, ◌∙◌, arith}
 use Rattle.std.proofs.lemmas.List.{length-take-le, take_all}
 use Rattle.account_rule.specs.Reasons.{replied_by}
-use Rattle.account_rule.specs.Rules.{rules_of}
+use Rattle.account_rule.specs.TokenRules.{rules_of}
 use Rattle.account_rule.proofs.ReasonLemmas.{reply-follows}
 use Rattle.shard_book.specs.Entry.{tap_of}
 use Rattle.shard_book.specs.declared.entry.Entry.{Entry}

@@ -1,5 +1,5 @@
 use Rattle.std.proofs.Common.{◌≡◌, map, take}
-use Rattle.account_rule.specs.Rules.{rules_of}
+use Rattle.account_rule.specs.TokenRules.{rules_of}
 use Rattle.shard_book.specs.Entry.{tap_of}
 use Rattle.fare_table.specs.Token.{bytes_of}
 use Rattle.reason_texts.specs.Tellers.{HasTold}

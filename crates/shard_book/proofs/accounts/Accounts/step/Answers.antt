@@ -1,7 +1,7 @@
 -- The step is taken on what stands at the token's place, and written there.
 use Rattle.std.proofs.Common.{arith, List, [], ◌∷◌, ◌++◌, Option, slice_get, subst, sym, ap, ◌∙◌}
 use Rattle.indexmap.proofs.CallerLemmas.{keys-with_value_at}
-use Rattle.account_rule.specs.Rules.{rules_of}
+use Rattle.account_rule.specs.TokenRules.{rules_of}
 use Rattle.account_rule.specs.Stands.{Stands, StandsForSome}
 use Rattle.shard_book.specs.declared.accounts.KeptAccount.{KeptAccount}
 use Rattle.fare_table.specs.declared.token.Token.{Token}

@@ -22,9 +22,9 @@ loop-item-init c =
       made = (
         [],
         refl,
-        λ posted is.
+        λ good is.
             subst (λ (ts : List TapFields). IsBalance c.args.self.now ts [])
-            (sym (append-nil posted))
+            (sym (append-nil good))
             is,
       );
     }
@@ -43,14 +43,14 @@ loop-item-preserved c =
       made = (
         made.0 ++ c.in-Ok.batch ∷ [],
         yielded_more c.loop-item.yielded made.0 c.in-Some.item c.in-Ok.batch made.1 c.in-Ok.is,
-        λ posted is.
+        λ good is.
             let before = map fields_of (taps_of_batches made.0) in
-            let more = c.in_ok-add_batch-in-Ok.ensures (posted ++ before) (made.2 posted is) in
+            let more = c.in_ok-add_batch-in-Ok.ensures (good ++ before) (made.2 good is) in
             subst (λ (ts : List TapFields). IsBalance c.add_batch.new.self ts [])
-            (append_assoc posted before (map fields_of c.in-Ok.batch)
+            (append_assoc good before (map fields_of c.in-Ok.batch)
             ∙ ap (λ (ts : List TapFields).
-            posted ++ ts) (sym (map-append fields_of (taps_of_batches made.0) c.in-Ok.batch))
-            ∙ ap (λ (ts : List Tap). posted ++ map fields_of ts)
+            good ++ ts) (sym (map-append fields_of (taps_of_batches made.0) c.in-Ok.batch))
+            ∙ ap (λ (ts : List Tap). good ++ map fields_of ts)
             (sym (taps_more made.0 c.in-Ok.batch))) more,
       );
     }

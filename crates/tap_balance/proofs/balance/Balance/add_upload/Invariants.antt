@@ -13,6 +13,6 @@ invariant-loop-item l = record {
   ends : (goal.iterator-loop-item).is_finite l.item-iterator;
   reading : IsReading l.upload (l.yielded ++ l.item-iterator);
   made : (done : List (List Tap)) × (l.yielded ≡ map Ok done)
-      × ((posted : List TapFields) → IsBalance l.fn.self posted []
-      → IsBalance l.self (posted ++ map fields_of (taps_of_batches done)) []);
+      × ((good : List TapFields) → IsBalance l.fn.self good []
+      → IsBalance l.self (good ++ map fields_of (taps_of_batches done)) []);
 }

@@ -5,11 +5,11 @@ use Rattle.tap_balance.proofs.Balanced.{none_left, unfound}
 use Rattle.tap_balance.proofs.balance.Balance.strike.Goals as goal
 
 pub returns-then-not-take_one : goal.returns-then-not-take_one
-returns-then-not-take_one c = λ posted struck is.
+returns-then-not-take_one c = λ good struck is.
     let balance = c.args.self.now in
     let none : c.take_one.result ≡ false = first_of (cc, search (rules, tests)) in
-    none_left balance.left posted struck c.args.tap.now
+    none_left balance.left good struck c.args.tap.now
     (subst (λ (k : TapKey). left_at balance.left k ≡ 0) c.key_for.ensures
     (c.take_one.ensures.none none))
-    (unfound balance.left balance.surplus posted struck (sym c.is_some.ensures
+    (unfound balance.left balance.surplus good struck (sym c.is_some.ensures
     ∙ c.if-is_some.false) is)

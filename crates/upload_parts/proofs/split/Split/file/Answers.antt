@@ -8,8 +8,8 @@ use Rattle.tap_parts.specs.Canonical.{IsCanonical}
 use Rattle.tap_parts.specs.Parts.{uploads_joined}
 use Rattle.upload_parts.proofs.split.Split.file.Goals as goal
 
-pub text_of-requires : goal.text_of-requires
-text_of-requires c =
+pub part_file-requires : goal.part_file-requires
+part_file-requires c =
     let lists = c.self.inside.parts in
     let E : List TapFields → Type 0 = λ taps. AreEarly (λ (tap : TapFields). tap.moment) taps in
     let within : c.args.part < length lists =

@@ -2,7 +2,7 @@ use Rattle.std.proofs.Common.{◌≡◌, ◌++◌, List, length}
 use Rattle.tap_views.specs.declared.encoder.TapFields.{TapFields}
 use Rattle.tap_views.specs.Encoding.{AreEarly}
 use Rattle.tap_parts.specs.Parts.{IsFileOf}
-use Rattle.tap_parts.proofs.text.text_of.Given as goal
+use Rattle.tap_parts.proofs.file.part_file.Given as goal
 
 abbrev pub invariant-loop-left : goal.invariant-loop-left
 invariant-loop-left l = (done : List TapFields) × IsFileOf l.text.items done

@@ -1,5 +1,5 @@
 use Rattle.fare_table.proofs.EntryLemmas.{mode-given, mode-none, one-entry}
-use Rattle.fare_table.proofs.laws.modes_are_of_entries.Goals as goal
+use Rattle.fare_table.proofs.laws.modes_are_of_ranges.Goals as goal
 
 pub returns-clause-some : goal.returns-clause-some
 returns-clause-some c = mode-given

@@ -6,7 +6,7 @@ use Rattle.fare_table.specs.Fares.{Fares, is_permitted, terms_at}
 use Rattle.fare_table.specs.Until.{until}
 
 -- what the rule takes from a table for the taps of one token
-pub record Rules : Type 0 where
+pub record TokenRules : Type 0 where
   -- how many modes there are
   pub modes : ℕ
   -- the terms of the token's rider class
@@ -21,7 +21,7 @@ unfoldable pub permits_of : Fares → Mode → Mode → Bool
 permits_of fares from to = is_permitted fares from.place to.place
 
 -- the rules of the token
-unfoldable pub rules_of : Fares → List ℕ → Rules
+unfoldable pub rules_of : Fares → List ℕ → TokenRules
 rules_of fares token = record {
   modes = length fares.rules.modes;
   terms = terms_at fares token;

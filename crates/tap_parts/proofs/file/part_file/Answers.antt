@@ -8,7 +8,7 @@ use Rattle.tap_views.specs.Layout.{moment_limit}
 use Rattle.tap_views.specs.declared.encoder.TapFields.{TapFields}
 use Rattle.tap_parts.specs.Parts.{IsFileOf}
 use Rattle.tap_parts.proofs.Texts.{more_text, no_text}
-use Rattle.tap_parts.proofs.text.text_of.Goals as goal
+use Rattle.tap_parts.proofs.file.part_file.Goals as goal
 
 abbrev Early : TapFields → Type 0
 Early tap = tap.moment < moment_limit

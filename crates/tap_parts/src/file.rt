@@ -16,7 +16,7 @@ fn room_for(taps: usize) -> usize {
 
 /// The taps as a file of `TAP1` batches, as few as may be, from which these taps are read again and
 /// no fault. Each moment is before 2100, so that it can be read. Its one error is refused memory.
-pub fn text_of(alloc: Global, taps: &[TapFields]) -> Result<Vec<u8>, AllocError>
+pub fn part_file(alloc: Global, taps: &[TapFields]) -> Result<Vec<u8>, AllocError>
     requires { AreEarly (λ tap. tap.moment) taps.now }
     ensures { IfOk result (λ text. IsFileOf text.items taps.now) }
 {
