@@ -7,7 +7,7 @@ use crate::stop::{Case, Stop, again, ended, promise};
 use account_rule::Answer;
 use fare_table::Clock;
 use sample_table::{BUS, START, SUBWAY, bytes_of};
-use shard_book::{Ends, Entry, Replies, RunEnd, ShardBook, Token, TokenKeys};
+use shard_book::{Ends, Entry, Replies, RunEnd, ShardBook, Token, TokenKeys, TokenSums};
 use std::alloc::Global;
 use std::random::RandomSource;
 use tap_views::{Batch, Run, TapFields, encode};
@@ -247,9 +247,10 @@ fn adds_up(alloc: Global, book: &ShardBook) -> Case {
             "other sums of a validator",
         )?;
     }
-    let sums = book.by_token(alloc)?;
+    let sums = TokenSums::of(alloc, std::slice::from_ref(book))?;
     promise(sums.len() == 40, "another number of sums")?;
-    for sum in &sums {
+    for place in 0..sums.len() {
+        let sum = sums.get(place);
         promise(
             sum.totals.taps == 1 && sum.totals.cents == 300,
             "other sums of a token",
@@ -258,7 +259,7 @@ fn adds_up(alloc: Global, book: &ShardBook) -> Case {
     Ok(())
 }
 
-/// `by_validator` and `by_token`. Would catch one that always gives up, or does so for good after a
+/// `by_validator` and `TokenSums::of`. Would catch one that always gives up, or does so for good after a
 /// refusal.
 pub(crate) fn sums<R: RandomSource>(rt: &R, alloc: Global) -> Case {
     let book = full_book(rt, alloc)?;

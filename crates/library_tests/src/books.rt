@@ -88,7 +88,9 @@ fn differences_from_a_list(rt: HostRuntime) -> Result<(), Fail> {
 /// The tokens of a book, with what each comes to.
 fn by_token(alloc: Global, book: &ShardBook) -> Result<Vec<(Token, [u128; 7])>, Fail> {
     let mut list = Vec::new(alloc);
-    for sum in &book.by_token(alloc)? {
+    let sums = TokenSums::of(alloc, std::slice::from_ref(book))?;
+    for place in 0..sums.len() {
+        let sum = sums.get(place);
         list.push((sum.token, shown(&sum.totals)))?;
     }
     Ok(list)
@@ -136,45 +138,16 @@ fn sharing_books<R: RandomSource>(alloc: Global, rt: &R) -> Result<[ShardBook; 2
     Ok([one, other])
 }
 
-/// A token that stands in two books is told once, in both lists of sums.
+/// A token that stands in two books is told once.
 #[test]
 fn sums_of_a_shared_token(rt: HostRuntime) -> Result<(), Fail> {
     let alloc = rt.alloc();
     let books = sharing_books(alloc, &rt)?;
-    let kept = sums_by_token(alloc, &books)?;
-    let listed = TokenSums::of(alloc, &books)?;
-    assert!(rt; kept.len() == 1 && listed.len() == 1);
+    let sums = TokenSums::of(alloc, &books)?;
+    assert_eq!(rt; sums.len(), 1);
+    let sum = sums.get(0);
     let wanted = (token(0xa1), [5, 2, 2, 0, 0, 1, 600]);
-    let (one, other) = (kept[0], listed.get(0));
-    assert_eq!(rt; (one.token, shown(&one.totals)), wanted);
-    assert_eq!(rt; (other.token, shown(&other.totals)), wanted);
-    Ok(())
-}
-
-/// One reply, counted by totals and by a tally.
-#[tactic(auto, unfolding(shard_book::specs::Sums::sums_of_replies))]
-fn counted(reply: Reply) -> (Totals, Totals) {
-    let mut totals = Totals::new();
-    totals.add(reply);
-    let mut tally = Tally::new();
-    tally.add(reply);
-    (totals, tally.totals())
-}
-
-#[test]
-fn a_tally_counts_as_totals_do(rt: HostRuntime) -> Result<(), Fail> {
-    let answers = [
-        Answer::Paid,
-        Answer::Transfer,
-        Answer::Capped,
-        Answer::Stale,
-        Answer::Unknown,
-    ];
-    for answer in answers {
-        let (totals, tallied) = counted(Reply { answer, cents: 290 });
-        let is_same = tallied == totals;
-        assert_eq!(rt; (totals.taps, totals.cents, is_same), (1, 290, true));
-    }
+    assert_eq!(rt; (sum.token, shown(&sum.totals)), wanted);
     Ok(())
 }
 

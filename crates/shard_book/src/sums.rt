@@ -109,18 +109,6 @@ pub(crate) fn totals_of_entries(entries: &[Entry]) -> Totals
     tally.totals()
 }
 
-/// The totals of all entries of the books, one scan a book.
-pub fn totals_of(books: &[ShardBook]) -> Totals
-    requires { length books.now ≤ 64 }
-    ensures { sums_of result ≡ sums (all_entries books.now) }
-{
-    let mut totals = Totals::new();
-    for book in books {
-        totals.add_all(&book.totals());
-    }
-    totals
-}
-
 /// The validators of the books, rising, each with the totals of its entries: one scan a book, and a
 /// sort of the validators. Of many entries, threads go over a quarter of the books each.
 #[tactic(auto, unfolding(crate::specs::inside::Groups::sums_by, crate::specs::inside::Groups::group, crate::specs::Groups::sums_by_validator, crate::specs::Groups::validators, crate::specs::Groups::at))]
@@ -143,7 +131,7 @@ pub fn sums_by_validator<R: Threads + Sync>(
 /// The tokens of the books, rising, each with the totals of its entries: one scan of what the
 /// books keep of their tokens, and a sort of the tokens. Where two books may share a token, a scan
 /// of the histories.
-pub fn sums_by_token(alloc: Global, books: &[ShardBook]) -> Result<Vec<TokenSum>, NoMemory>
+pub(crate) fn sums_by_token(alloc: Global, books: &[ShardBook]) -> Result<Vec<TokenSum>, NoMemory>
     requires { length books.now ≤ 64 }
     ensures { IfOk result (λ list.
         map token_sum list.items ≡ sums_by_token (all_entries books.now)) }
@@ -208,7 +196,7 @@ impl ShardBook {
 
     /// The tokens of the history, rising, each with the totals of its entries: one scan of what
     /// the book keeps of its tokens, and a sort of them.
-    pub fn by_token(&self, alloc: Global) -> Result<Vec<TokenSum>, NoMemory>
+    pub(crate) fn by_token(&self, alloc: Global) -> Result<Vec<TokenSum>, NoMemory>
         ensures { IfOk result (λ list. map token_sum list.items ≡ sums_by_token self.now.entries) }
     {
         sums_by_token(alloc, std::slice::from_ref(self))

@@ -2,8 +2,6 @@
 
 ghost use Rattle.std.specs.Prelude.{◌≡◌, ◌+◌, ◌*◌, ◌≤◌};
 
-use account_rule::{Answer, Reply};
-
 /// How many taps were posted, how many of each answer, and the cents charged.
 #[derive(Clone, Copy, Debug, PartialEq, Eq)]
 pub struct Totals {
@@ -26,7 +24,7 @@ pub struct Totals {
 }
 
 impl Totals {
-    ghost use Rattle.std.specs.Prelude.{◌≡◌, ◌+◌, ◌^◌, ◌<◌, ◌≤◌, [], ◌∷◌};
+    ghost use Rattle.std.specs.Prelude.{◌≡◌, ◌+◌, ◌^◌, ◌≤◌, []};
     ghost use Rattle.shard_book.specs.Sums.{sums_of, sums_of_replies, add_sums};
     ghost use Rattle.shard_book.specs.Tally.{sums_of_places};
     ghost use Rattle.shard_book.specs.Places.{all_of};
@@ -64,23 +62,6 @@ impl Totals {
             unknown,
             cents,
         }
-    }
-
-    /// Counts one reply more.
-    #[tactic(auto, unfolding(crate::specs::Sums::sums_of_replies))]
-    pub fn add(&mut self, reply: Reply)
-        requires { self.old.taps < 2 ^ 95 }
-        ensures { sums_of self.new ≡ add_sums (sums_of self.old) (sums_of_replies (reply ∷ [])) }
-    {
-        self.taps += 1;
-        match reply.answer {
-            Answer::Paid => self.paid += 1,
-            Answer::Transfer => self.transfers += 1,
-            Answer::Capped => self.capped += 1,
-            Answer::Stale => self.stale += 1,
-            Answer::Unknown => self.unknown += 1,
-        }
-        self.cents += u128::from(reply.cents);
     }
 
     /// Adds what other totals count.
