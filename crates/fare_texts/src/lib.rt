@@ -12,5 +12,5 @@ pub use counts::{write_counts, write_totals};
 pub use digits::Digits;
 pub use local::write_local;
 pub use moment::write_moment;
-pub use names::{answer_name, mode_name};
+pub use names::answer_name;
 pub use statement::{statement_text, write_entry_words, write_statement_head, write_window_words};

@@ -7,7 +7,7 @@ use account_rule::Answer;
 use fare_table::FareTable;
 
 /// The name of the validator's mode, or `-` where the table does not know the validator.
-pub fn mode_name(table: &FareTable, validator: u32) -> &str
+pub(crate) fn mode_name(table: &FareTable, validator: u32) -> &str
     ensures { result.now ≡ mode_text table.now validator }
 {
     match table.mode_of(validator) {

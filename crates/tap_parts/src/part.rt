@@ -9,7 +9,7 @@ use byteorder::{BigEndian, ByteOrder};
 /// number of parts.
 ///
 /// 64 numbers in a row fall to one part, so a part has tokens of all shards, 1 to 64 of them.
-pub fn part_of(token: &[u8], parts: u32) -> u32
+pub(crate) fn part_of(token: &[u8], parts: u32) -> u32
     requires token { length token.now ≡ 16 }
     requires least { 1 ≤ parts }
     ensures value { result ≡ part_of_token token.now parts }

@@ -16,8 +16,8 @@ use Rattle.tap_views.specs.Layout.{Tap}
 use Rattle.tap_parts.specs.Parts.{IsFileOf}
 use Rattle.tap_parts.proofs.Texts.{no_text}
 use Rattle.tap_rows.specs.Rows.{IsRow, IsNoRow}
-use Rattle.tap_rows.specs.Tables.{IsHead, BeginsWithRows, IsTapTable, IsTableOf, IsRowsFault, IsEncoded, IsOfTable}
-use Rattle.tap_rows.specs.inside.Tables.{IsEncodedAs, IsNextRow}
+use Rattle.tap_rows.specs.Tables.{IsHead, BeginsWithRows, IsTapTable, IsRowsFault, IsEncoded, IsOfTable}
+use Rattle.tap_rows.specs.inside.Tables.{IsEncodedAs, IsNextRow, IsTableOf}
 use Rattle.tap_rows.specs.declared.column.Column.{Column}
 use Rattle.tap_rows.specs.declared.fault.RowsFault.{RowsFault}
 use Rattle.tap_rows.specs.declared.fault.RowsFault.TheVariants.{Head, Row, Unread, Changed, Write, NoMemory}

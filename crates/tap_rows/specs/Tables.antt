@@ -66,12 +66,6 @@ IsOfTable Unread = ⊥
 IsOfTable Write = ⊥
 IsOfTable NoMemory = ⊥
 
--- the text is a table, and so many taps stand in it
-pub record IsTableOf (text : List ℕ) (count : ℕ) : Type 0 where
-  pub taps : List TapFields
-  pub table : IsTapTable text taps
-  pub number : length taps ≡ count
-
 -- what was written behind the old bytes is an upload with no fault, of exactly the taps of the
 -- table, in their order
 pub record IsEncoded (text : List ℕ) (old new : Option (List ℕ)) (count : ℕ) : Type 0 where

@@ -16,5 +16,3 @@ pub use column::Column;
 pub use fault::RowsFault;
 pub use into_table::{decode, write_head};
 pub use into_upload::encode;
-pub use read::check;
-pub use row::tap_of;

@@ -5,8 +5,8 @@ ghost use Rattle.std.specs.Prelude.{IsTrue, OnOk};
 ghost use Rattle.std.specs.Prelude.{if◌then◌else◌, length, true, false};
 ghost use Rattle.std.specs.Io.BufRead.{drop_through, ends_with_byte, first_line, strip_last};
 ghost use Rattle.std.specs.Io.BufRead.{take_through};
-ghost use Rattle.tap_rows.specs.Tables.{IsHead, IsRowsFault, IsTableOf};
-ghost use Rattle.tap_rows.specs.inside.Tables.{IsHeadFault, IsNextRow};
+ghost use Rattle.tap_rows.specs.Tables.{IsHead, IsRowsFault};
+ghost use Rattle.tap_rows.specs.inside.Tables.{IsHeadFault, IsNextRow, IsTableOf};
 ghost use Rattle.tap_views.specs.Layout.{moment_limit};
 
 use crate::fault::RowsFault;
@@ -109,7 +109,7 @@ pub(crate) fn next_row<R: BufRead>(
 }
 
 /// The number of taps of a table.
-pub fn check<R: BufRead>(alloc: Global, table: &mut R) -> Result<u64, RowsFault>
+pub(crate) fn check<R: BufRead>(alloc: Global, table: &mut R) -> Result<u64, RowsFault>
     ensures table { IfOk result
         (λ count. IfSome (R.remaining table.old) (λ text. IsTableOf text count)) }
     ensures refused { IfErr result

@@ -30,7 +30,7 @@ fn validator_in(value: &[u8]) -> Option<u32>
 }
 
 /// The tap of a row, which is given without its line feed; else its first column that is wrong.
-pub fn tap_of(line: &[u8]) -> Result<TapFields, Column>
+pub(crate) fn tap_of(line: &[u8]) -> Result<TapFields, Column>
     ensures row { IfOk result (IsRow line.now) }
     ensures wrong { IfErr result (IsNoRow line.now) }
 {

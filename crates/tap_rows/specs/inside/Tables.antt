@@ -1,5 +1,5 @@
 -- Tables: what private functions alone cite.
-use Rattle.std.specs.Prelude.{◌≡◌, ℕ, List, [], Some, None, Ok, Err, Result, Option}
+use Rattle.std.specs.Prelude.{◌≡◌, ℕ, List, [], Some, None, Ok, Err, Result, Option, length}
 use Rattle.std.specs.Io.BufRead.{first_line, drop_through}
 use Rattle.std.specs.Io.KnownBytes.{Appends}
 use Rattle.tap_views.specs.declared.encoder.TapFields.{TapFields}
@@ -8,9 +8,15 @@ use Rattle.tap_rows.specs.Rows.{IsRow, IsNoRow}
 use Rattle.tap_rows.specs.declared.fault.RowsFault.{RowsFault}
 use Rattle.tap_rows.specs.declared.fault.RowsFault.TheVariants.{Head, Row, Unread, Changed, Write}
 use Rattle.tap_rows.specs.declared.fault.RowsFault.TheVariants.{NoMemory}
-use Rattle.tap_rows.specs.Tables.{IsHead}
+use Rattle.tap_rows.specs.Tables.{IsHead, IsTapTable}
 
 -- ---- what the private functions tell each other
+-- the text is a table, and so many taps stand in it
+pub record IsTableOf (text : List ℕ) (count : ℕ) : Type 0 where
+  pub taps : List TapFields
+  pub table : IsTapTable text taps
+  pub number : length taps ≡ count
+
 -- the next row of what is left of a table, which has this number, and what is left then
 abbrev pub IsNextRow : List ℕ → ℕ → Option (List ℕ) → Result (Option TapFields) RowsFault → Type 0
 IsNextRow left number new (Ok None) = left ≡ []
