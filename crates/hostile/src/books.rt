@@ -259,8 +259,8 @@ fn adds_up(alloc: Global, book: &ShardBook) -> Case {
     Ok(())
 }
 
-/// `by_validator` and `TokenSums::of`. Would catch one that always gives up, or does so for good after a
-/// refusal.
+/// `by_validator` and `TokenSums::of`. Would catch one that always gives up, or does so for good
+/// after a refusal.
 pub(crate) fn sums<R: RandomSource>(rt: &R, alloc: Global) -> Case {
     let book = full_book(rt, alloc)?;
     match adds_up(alloc, &book) {
