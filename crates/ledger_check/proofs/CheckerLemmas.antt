@@ -92,37 +92,37 @@ head_ends : (line : List ℕ) → Lacks 10 line → line ≢ head_text
 head_ends line lacks is =
     lacks-last 10 (codes "token,line,moment,validator,mode,answer,cents,window_start,window_end,ride,reason,points_at") line is lacks
 
-pub part_true : (fares : Fares) (reading : Reading) (lines : List (List ℕ)) (part : List ℕ) (more : List (List ℕ)) → HasTaken fares reading lines
-    → Lacks 10 part → IsTrueOf fares (lines ++ part ∷ more) (NoLine (number_after reading))
-part_true fares reading lines part more taken lacks =
-    no_line_true fares reading lines part more taken (head_ends part lacks)
-    (λ rest read. wrong fares reading.replay rest part read (λ entry is. next_ends fares read.entries entry part is lacks))
+pub begun_true : (fares : Fares) (reading : Reading) (lines : List (List ℕ)) (begun : List ℕ) (more : List (List ℕ)) → HasTaken fares reading lines
+    → Lacks 10 begun → IsTrueOf fares (lines ++ begun ∷ more) (NoLine (number_after reading))
+begun_true fares reading lines begun more taken lacks =
+    no_line_true fares reading lines begun more taken (head_ends begun lacks)
+    (λ rest read. wrong fares reading.replay rest begun read (λ entry is. next_ends fares read.entries entry begun is lacks))
 
 -- a piece without a newline
 pub cut_more : (fares : Fares) (checker : Checker) (text piece : List ℕ) (fed : HasFed fares checker text) (more : List ℕ)
-    → lines_of ((text ++ piece) ++ more) ≡ fed.lines ++ lines_of ((checker.part.items ++ piece) ++ more)
+    → lines_of ((text ++ piece) ++ more) ≡ fed.lines ++ lines_of ((checker.begun.items ++ piece) ++ more)
 cut_more fares checker text piece fed more =
     ap lines_of (append_assoc text piece more) ∙ fed.split (piece ++ more)
-    ∙ ap (λ (t : List ℕ). fed.lines ++ lines_of t) (sym (append_assoc checker.part.items piece more))
+    ∙ ap (λ (t : List ℕ). fed.lines ++ lines_of t) (sym (append_assoc checker.begun.items piece more))
 
 abbrev pub kept : (fares : Fares) (checker after : Checker) (text piece : List ℕ) → HasFed fares checker text → Lacks 10 piece
-    → after.reading ≡ checker.reading → after.part.items ≡ checker.part.items ++ piece → length after.part.items ≤ 255
+    → after.reading ≡ checker.reading → after.begun.items ≡ checker.begun.items ++ piece → length after.begun.items ≤ 255
     → HasFed fares after (text ++ piece)
-kept fares checker after text piece fed lacks same part short = record {
+kept fares checker after text piece fed lacks same begun short = record {
   lines = fed.lines;
   taken = subst (λ (r : Reading). HasTaken fares r fed.lines) (sym same) fed.taken;
-  split = λ more. cut_more fares checker text piece fed more ∙ ap (λ (p : List ℕ). fed.lines ++ lines_of (p ++ more)) (sym part);
-  lacks = subst (Lacks 10) (sym part) (lacks-append 10 checker.part.items piece fed.lacks lacks);
+  split = λ more. cut_more fares checker text piece fed more ∙ ap (λ (p : List ℕ). fed.lines ++ lines_of (p ++ more)) (sym begun);
+  lacks = subst (Lacks 10) (sym begun) (lacks-append 10 checker.begun.items piece fed.lacks lacks);
   short = short;
 }
 
 pub too_long : (fares : Fares) (checker : Checker) (text piece whole : List ℕ) → HasFed fares checker text → Lacks 10 piece
-    → whole ≡ checker.part.items ++ piece → 255 < length whole
+    → whole ≡ checker.begun.items ++ piece → 255 < length whole
     → (more : List ℕ) → IsVerdict fares ((text ++ piece) ++ more) (NoLine (number_after checker.reading))
-too_long fares checker text piece whole fed lacks part long more =
-    let joined = checker.part.items ++ piece in
-    let size : 255 < length joined = subst (λ (p : List ℕ). 255 < length p) part long in
-    let opens = lines-open joined more (lacks-append 10 checker.part.items piece fed.lacks lacks) (omega arith) in
+too_long fares checker text piece whole fed lacks begun long more =
+    let joined = checker.begun.items ++ piece in
+    let size : 255 < length joined = subst (λ (p : List ℕ). 255 < length p) begun long in
+    let opens = lines-open joined more (lacks-append 10 checker.begun.items piece fed.lacks lacks) (omega arith) in
     let line = joined ++ opens.rest in
     subst (λ (ls : List (List ℕ)). IsTrueOf fares ls (NoLine (number_after checker.reading)))
     (sym (cut_more fares checker text piece fed more ∙ ap (λ (ls : List (List ℕ)). fed.lines ++ ls) opens.is))
@@ -130,44 +130,44 @@ too_long fares checker text piece whole fed lacks part long more =
 
 -- a piece that ends a line
 line_cut : (fares : Fares) (checker : Checker) (text line : List ℕ) (fed : HasFed fares checker text) → IsLine line → (more : List ℕ)
-    → lines_of ((text ++ line) ++ more) ≡ fed.lines ++ (checker.part.items ++ line) ∷ lines_of more
+    → lines_of ((text ++ line) ++ more) ≡ fed.lines ++ (checker.begun.items ++ line) ∷ lines_of more
 line_cut fares checker text line fed is more =
-    let part = checker.part.items in
-    let whole : part ++ line ≡ (part ++ is.front) ++ 10 ∷ [] = ap (λ (l : List ℕ). part ++ l) is.shown ∙ sym (append_assoc part is.front (10 ∷ [])) in
-    let split : (part ++ line) ++ more ≡ (part ++ is.front) ++ 10 ∷ more = ap (λ (l : List ℕ). l ++ more) whole ∙ append_assoc (part ++ is.front) (10 ∷ []) more in
+    let begun = checker.begun.items in
+    let whole : begun ++ line ≡ (begun ++ is.front) ++ 10 ∷ [] = ap (λ (l : List ℕ). begun ++ l) is.shown ∙ sym (append_assoc begun is.front (10 ∷ [])) in
+    let split : (begun ++ line) ++ more ≡ (begun ++ is.front) ++ 10 ∷ more = ap (λ (l : List ℕ). l ++ more) whole ∙ append_assoc (begun ++ is.front) (10 ∷ []) more in
     cut_more fares checker text line fed more
     ∙ ap (λ (t : List ℕ). fed.lines ++ lines_of t) split
-    ∙ ap (λ (ls : List (List ℕ)). fed.lines ++ ls) (lines-line (part ++ is.front) more (lacks-append 10 part is.front fed.lacks is.lacks))
+    ∙ ap (λ (ls : List (List ℕ)). fed.lines ++ ls) (lines-line (begun ++ is.front) more (lacks-append 10 begun is.front fed.lacks is.lacks))
     ∙ ap (λ (l : List ℕ). fed.lines ++ l ∷ lines_of more) (sym whole)
 
 pub took_cut : (fares : Fares) (checker after : Checker) (text line whole : List ℕ) → (fed : HasFed fares checker text) → IsLine line
-    → whole ≡ checker.part.items ++ line → after.part.items ≡ [] → (more : List ℕ)
-    → lines_of ((text ++ line) ++ more) ≡ (fed.lines ++ whole ∷ []) ++ lines_of (after.part.items ++ more)
+    → whole ≡ checker.begun.items ++ line → after.begun.items ≡ [] → (more : List ℕ)
+    → lines_of ((text ++ line) ++ more) ≡ (fed.lines ++ whole ∷ []) ++ lines_of (after.begun.items ++ more)
 took_cut fares checker after text line whole fed is joined empty more =
     line_cut fares checker text line fed is more
     ∙ ap (λ (l : List ℕ). fed.lines ++ l ∷ lines_of more) (sym joined)
     ∙ sym (append_assoc fed.lines (whole ∷ []) (lines_of more))
     ∙ ap (λ (p : List ℕ). (fed.lines ++ whole ∷ []) ++ lines_of (p ++ more)) (sym empty)
 
-pub none_short : (part : List ℕ) → part ≡ [] → length part ≤ 255
-none_short part empty = subst (λ (p : List ℕ). length p ≤ 255) (sym empty) (omega arith)
+pub none_short : (begun : List ℕ) → begun ≡ [] → length begun ≤ 255
+none_short begun empty = subst (λ (p : List ℕ). length p ≤ 255) (sym empty) (omega arith)
 
-pub none_lacks : (part : List ℕ) → part ≡ [] → Lacks 10 part
-none_lacks part empty = subst (Lacks 10) (sym empty) tt
+pub none_lacks : (begun : List ℕ) → begun ≡ [] → Lacks 10 begun
+none_lacks begun empty = subst (Lacks 10) (sym empty) tt
 
 abbrev pub took_whole : (fares : Fares) (checker after : Checker) (text line whole : List ℕ) → (fed : HasFed fares checker text) → IsLine line
-    → whole ≡ checker.part.items ++ line → after.part.items ≡ [] → HasTaken fares after.reading (fed.lines ++ whole ∷ [])
+    → whole ≡ checker.begun.items ++ line → after.begun.items ≡ [] → HasTaken fares after.reading (fed.lines ++ whole ∷ [])
     → HasFed fares after (text ++ line)
 took_whole fares checker after text line whole fed is joined empty taken = record {
   lines = fed.lines ++ whole ∷ [];
   taken = taken;
   split = took_cut fares checker after text line whole fed is joined empty;
-  lacks = none_lacks after.part.items empty;
-  short = none_short after.part.items empty;
+  lacks = none_lacks after.begun.items empty;
+  short = none_short after.begun.items empty;
 }
 
 pub took_line : (fares : Fares) (checker after : Checker) (text line whole : List ℕ) (told : Option Verdict) → (fed : HasFed fares checker text) → IsLine line
-    → whole ≡ checker.part.items ++ line → after.part.items ≡ [] → IsTaken fares after.reading fed.lines whole told
+    → whole ≡ checker.begun.items ++ line → after.begun.items ≡ [] → IsTaken fares after.reading fed.lines whole told
     → IsFed fares after (text ++ line) told
 took_line fares checker after text line whole None fed is joined empty taken = took_whole fares checker after text line whole fed is joined empty taken
 took_line fares checker after text line whole (Some verdict) fed is joined empty taken = λ more.
@@ -176,24 +176,24 @@ took_line fares checker after text line whole (Some verdict) fed is joined empty
     (taken (lines_of more))
 
 -- the text ends
-whole_cut : (fares : Fares) (checker : Checker) (text : List ℕ) (fed : HasFed fares checker text) → lines_of text ≡ fed.lines ++ lines_of checker.part.items
+whole_cut : (fares : Fares) (checker : Checker) (text : List ℕ) (fed : HasFed fares checker text) → lines_of text ≡ fed.lines ++ lines_of checker.begun.items
 whole_cut fares checker text fed =
-    ap lines_of (sym (append-nil text)) ∙ fed.split [] ∙ ap (λ (p : List ℕ). fed.lines ++ lines_of p) (append-nil checker.part.items)
+    ap lines_of (sym (append-nil text)) ∙ fed.split [] ∙ ap (λ (p : List ℕ). fed.lines ++ lines_of p) (append-nil checker.begun.items)
 
-pub ended_in_part : (fares : Fares) (checker : Checker) (text : List ℕ) → HasFed fares checker text → 0 < length checker.part.items
+pub ended_in_line : (fares : Fares) (checker : Checker) (text : List ℕ) → HasFed fares checker text → 0 < length checker.begun.items
     → IsVerdict fares text (NoLine (number_after checker.reading))
-ended_in_part fares checker text fed some =
-    let part = checker.part.items in
+ended_in_line fares checker text fed some =
+    let begun = checker.begun.items in
     subst (λ (ls : List (List ℕ)). IsTrueOf fares ls (NoLine (number_after checker.reading)))
-    (sym (whole_cut fares checker text fed ∙ ap (λ (ls : List (List ℕ)). fed.lines ++ ls) (lines-part part fed.lacks some)))
-    (part_true fares checker.reading fed.lines part [] fed.taken fed.lacks)
+    (sym (whole_cut fares checker text fed ∙ ap (λ (ls : List (List ℕ)). fed.lines ++ ls) (lines-part begun fed.lacks some)))
+    (begun_true fares checker.reading fed.lines begun [] fed.taken fed.lacks)
 
-pub ended_at_line : (fares : Fares) (checker : Checker) (text : List ℕ) (fed : HasFed fares checker text) → checker.part.items ≡ [] → lines_of text ≡ fed.lines
+pub ended_at_line : (fares : Fares) (checker : Checker) (text : List ℕ) (fed : HasFed fares checker text) → checker.begun.items ≡ [] → lines_of text ≡ fed.lines
 unfolding lines_of
 ended_at_line fares checker text fed empty =
     whole_cut fares checker text fed ∙ ap (λ (p : List ℕ). fed.lines ++ lines_of p) empty ∙ append-nil fed.lines
 
-pub ended_headless : (fares : Fares) (checker : Checker) (text : List ℕ) → HasFed fares checker text → checker.part.items ≡ []
+pub ended_headless : (fares : Fares) (checker : Checker) (text : List ℕ) → HasFed fares checker text → checker.begun.items ≡ []
     → checker.reading.has_head ≡ false → IsVerdict fares text (NoLine (number_after checker.reading))
 ended_headless fares checker text fed empty none =
     let first = no_head fares checker.reading fed.lines none fed.taken in
@@ -206,7 +206,7 @@ ended_headless fares checker text fed empty none =
     nothing : (others : List (List ℕ)) → [] ≡ head_text ∷ others → ⊥
     nothing others is = cc
 
-pub ended_whole : (fares : Fares) (checker : Checker) (text : List ℕ) → HasFed fares checker text → checker.part.items ≡ []
+pub ended_whole : (fares : Fares) (checker : Checker) (text : List ℕ) → HasFed fares checker text → checker.begun.items ≡ []
     → checker.reading.has_head ≡ true → IsVerdict fares text (Legal checker.reading.replay.lines)
 ended_whole fares checker text fed empty some =
     let head = headed fares checker.reading fed.lines some fed.taken in
@@ -245,6 +245,6 @@ pub ended_unheaded : (fares : Fares) (checker : Checker) (text : List ℕ) → H
     → checker.reading.has_head ≡ false → IsVerdict fares text (NoLine (number_after checker.reading))
 ended_unheaded fares checker text fed none =
     ⊎_elim
-    (λ (some : 0 < length checker.part.items). ended_in_part fares checker text fed some)
-    (λ (empty : length checker.part.items ≤ 0). ended_headless fares checker text fed (empty_list checker.part.items empty) none)
-    (cases_lt 0 (length checker.part.items))
+    (λ (some : 0 < length checker.begun.items). ended_in_line fares checker text fed some)
+    (λ (empty : length checker.begun.items ≤ 0). ended_headless fares checker text fed (empty_list checker.begun.items empty) none)
+    (cases_lt 0 (length checker.begun.items))

@@ -70,37 +70,37 @@ lines-line (byte ∷ front) rest lacks =
     begin byte (front ++ 10 ∷ rest) lacks.0 ∙ ap (λ (ls : List (List ℕ)). begun_with byte ls) (lines-line front rest lacks.1)
 
 -- a text without a newline is one line
-pub lines-part : (part : List ℕ) → Lacks 10 part → 0 < length part → lines_of part ≡ part ∷ []
+pub lines-part : (begun : List ℕ) → Lacks 10 begun → 0 < length begun → lines_of begun ≡ begun ∷ []
 unfolding lines_of begun_with
 lines-part [] lacks some = absurd (omega arith)
 lines-part (byte ∷ []) lacks some = begin byte [] lacks.0
-lines-part (byte ∷ next ∷ part) lacks some =
-    begin byte (next ∷ part) lacks.0
-    ∙ ap (λ (ls : List (List ℕ)). begun_with byte ls) (lines-part (next ∷ part) lacks.1 (omega arith))
+lines-part (byte ∷ next ∷ begun) lacks some =
+    begin byte (next ∷ begun) lacks.0
+    ∙ ap (λ (ls : List (List ℕ)). begun_with byte ls) (lines-part (next ∷ begun) lacks.1 (omega arith))
 
 -- what a text begins with, its first line begins with
-pub record Opens (part : List ℕ) (lines : List (List ℕ)) : Type 0 where
+pub record Opens (begun : List ℕ) (lines : List (List ℕ)) : Type 0 where
   pub rest : List ℕ
   pub after : List (List ℕ)
-  pub is : lines ≡ (part ++ rest) ∷ after
+  pub is : lines ≡ (begun ++ rest) ∷ after
 
 begun-open : (byte : ℕ) (lines : List (List ℕ)) → Opens (byte ∷ []) (begun_with byte lines)
 unfolding begun_with
 begun-open byte [] = record { rest = []; after = []; is = refl }
 begun-open byte (line ∷ lines) = record { rest = line; after = lines; is = refl }
 
-pub lines-open : (part more : List ℕ) → Lacks 10 part → 0 < length part → Opens part (lines_of (part ++ more))
+pub lines-open : (begun more : List ℕ) → Lacks 10 begun → 0 < length begun → Opens begun (lines_of (begun ++ more))
 unfolding begun_with
 lines-open [] more lacks some = absurd (omega arith)
 lines-open (byte ∷ []) more lacks some =
     let opens = begun-open byte (lines_of more) in
     record { rest = opens.rest; after = opens.after; is = begin byte more lacks.0 ∙ opens.is }
-lines-open (byte ∷ next ∷ part) more lacks some =
-    let opens = lines-open (next ∷ part) more lacks.1 (omega arith) in
+lines-open (byte ∷ next ∷ begun) more lacks some =
+    let opens = lines-open (next ∷ begun) more lacks.1 (omega arith) in
     record {
       rest = opens.rest;
       after = opens.after;
-      is = begin byte ((next ∷ part) ++ more) lacks.0 ∙ ap (λ (ls : List (List ℕ)). begun_with byte ls) opens.is;
+      is = begin byte ((next ∷ begun) ++ more) lacks.0 ∙ ap (λ (ls : List (List ℕ)). begun_with byte ls) opens.is;
     }
 
 -- what stands before a place at which and before which no such byte is

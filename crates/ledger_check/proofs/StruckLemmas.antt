@@ -62,7 +62,7 @@ struck_more fares lines rest line tap fields old new good is tells same strikes 
 }
 
 pub took_struck : (fares : Fares) (checker after : Checker) (old new : Balance) (text line whole : List ℕ) (good : List TapFields) (told : Option Verdict)
-    → (is : HasStruck fares checker old text good) → IsLine line → whole ≡ checker.part.items ++ line → after.part.items ≡ []
+    → (is : HasStruck fares checker old text good) → IsLine line → whole ≡ checker.begun.items ++ line → after.begun.items ≡ []
     → IsTaken fares after.reading is.fed.lines whole told → IfUntold told (AreStruck fares (is.fed.lines ++ whole ∷ []) new good)
     → IfUntold told (HasStruck fares after new (text ++ line) good)
 took_struck fares checker after old new text line whole good None is ends joined empty taken struck = record {
@@ -81,7 +81,7 @@ some_told (Some verdict) P Q some is = is
 
 -- the text ends with a line
 pub all_struck : (fares : Fares) (checker : Checker) (balance : Balance) (text : List ℕ) (good : List TapFields) → HasStruck fares checker balance text good
-    → checker.part.items ≡ [] → (entries : List Entry) → IsLedgerOf fares entries text → IsBalance balance good (map tap_of_entry entries)
+    → checker.begun.items ≡ [] → (entries : List Entry) → IsLedgerOf fares entries text → IsBalance balance good (map tap_of_entry entries)
 all_struck fares checker balance text good is empty entries ledger =
     let lines : is.fed.lines ≡ head_text ∷ ledger.lines = sym (ended_at_line fares checker text is.fed empty) ∙ ledger.split in
     let told : AreTapsOfLines fares (head_text ∷ ledger.lines) is.struck.taps = subst (λ (ls : List (List ℕ)). AreTapsOfLines fares ls is.struck.taps) lines is.struck.told in

@@ -71,15 +71,15 @@ HasTaken fares reading [] = (reading.has_head ≡ false) × HasRead fares readin
 HasTaken fares reading (line ∷ lines) =
     (reading.has_head ≡ true) × (line ≡ head_text) × HasRead fares reading.replay lines
 
--- the checker has read this text and found no wrong line: these whole lines, and a part of the next
+-- the checker has read this text and found no wrong line: these whole lines, and some of the next
 -- one
 pub record HasFed (fares : Fares) (checker : Checker) (text : List ℕ) : Type 0 where
   pub lines : List (List ℕ)
   pub taken : HasTaken fares checker.reading lines
   pub split : (more : List ℕ)
-      → lines_of (text ++ more) ≡ lines ++ lines_of (checker.part.items ++ more)
-  pub lacks : Lacks 10 checker.part.items
-  pub short : length checker.part.items ≤ 255
+      → lines_of (text ++ more) ≡ lines ++ lines_of (checker.begun.items ++ more)
+  pub lacks : Lacks 10 checker.begun.items
+  pub short : length checker.begun.items ≤ 255
 
 -- the text was read and no wrong line found, or what is told is true of the text, whatever follows
 abbrev pub IsFed : Fares → Checker → List ℕ → Option Verdict → Type 0

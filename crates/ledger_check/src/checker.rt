@@ -101,7 +101,7 @@ pub struct Checker {
     /// The whole lines.
     reading: Reading,
     /// The beginning of the line whose end has not come yet.
-    part: Vec<u8>,
+    begun: Vec<u8>,
 }
 
 impl Checker {
@@ -117,7 +117,7 @@ impl Checker {
                 replay: Replay::new(),
                 wanted: String::new(alloc),
             },
-            part: Vec::new(alloc),
+            begun: Vec::new(alloc),
         }
     }
 
@@ -174,15 +174,15 @@ impl Checker {
             → HasStruck table.now self.old balance.old text good
             → IfUntold told (HasStruck table.now self.new balance.new (text ++ line.now) good)) }
     {
-        if self.part.is_empty() {
+        if self.begun.is_empty() {
             let told = self.reading.take(table, clock, line, balance)?;
             return Ok(told);
         }
-        self.part.extend_from_slice(line)?;
+        self.begun.extend_from_slice(line)?;
         let told = self
             .reading
-            .take(table, clock, self.part.as_slice(), balance)?;
-        self.part.clear();
+            .take(table, clock, self.begun.as_slice(), balance)?;
+        self.begun.clear();
         Ok(told)
     }
 
@@ -196,8 +196,8 @@ impl Checker {
             (good : List TapFields) → HasStruck fares self.old balance text good
             → IfUntold told (HasStruck fares self.new balance (text ++ rest.now) good)) }
     {
-        self.part.extend_from_slice(rest)?;
-        if self.part.len() > MAX_LINE_BYTES {
+        self.begun.extend_from_slice(rest)?;
+        if self.begun.len() > MAX_LINE_BYTES {
             return Ok(Some(self.reading.no_line()));
         }
         Ok(None)
@@ -215,7 +215,7 @@ impl Checker {
             → IsTrue (is_legal result) → (entries : List Entry) → IsLedgerOf fares entries text
             → IsBalance balance good (map tap_of_entry entries) }
     {
-        if !self.reading.has_head || !self.part.is_empty() {
+        if !self.reading.has_head || !self.begun.is_empty() {
             return self.reading.no_line();
         }
         Verdict::Legal(self.reading.replay.lines)

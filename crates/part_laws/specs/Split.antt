@@ -22,8 +22,8 @@ pub record Part : Type 0 where
   pub history : List Entry
 
 -- a part of these files and this history
-abbrev pub part_of : List (List ℕ) → List Entry → Part
-part_of files history = record { files = files; history = history }
+abbrev pub part_with : List (List ℕ) → List Entry → Part
+part_with files history = record { files = files; history = history }
 
 -- the entries of all parts, part by part
 abbrev pub entries_of_parts : List Part → List Entry

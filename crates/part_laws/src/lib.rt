@@ -24,7 +24,7 @@ ghost use Rattle.part_reports.specs.Reports.{IsMerged};
 ghost use Rattle.part_laws.specs.Files.{HasNoFault, ends_texts};
 ghost use Rattle.part_laws.specs.Sizes.{CanBeWritten, HasSize, HaveLimits};
 ghost use Rattle.part_laws.specs.Split.{AreTokensOf, AreValidatorsOf, IsPartOf, IsSplit, Part};
-ghost use Rattle.part_laws.specs.Split.{entries_of_parts, part_of};
+ghost use Rattle.part_laws.specs.Split.{entries_of_parts, part_with};
 
 use fare_service::laws::one_reading_each;
 use part_reports::laws::texts_differ;
@@ -41,7 +41,7 @@ pub fn split_part(uploads: &[Vec<u8>], files: &[Vec<u8>])
         → AreTapsOfEach (map (λ upload. upload.items) uploads.now) taps
         → IsSettledHistory fares (map (λ file. file.items) files.now) history
         → IsPartOf fares (uploads_joined taps) number parts
-        (part_of (map (λ file. file.items) files.now) history) }
+        (part_with (map (λ file. file.items) files.now) history) }
 {
     one_reading_each(uploads);
     one_reading_each(files);

@@ -5,7 +5,7 @@ use Rattle.std.specs.Prelude.{IsTrue}
 use Rattle.ledger_check.specs.Verdicts.{IsVerdict, is_legal}
 use Rattle.ledger_check.specs.declared.checker.Verdict.{Verdict}
 use Rattle.ledger_check.proofs.StruckLemmas.{all_struck}
-use Rattle.ledger_check.proofs.CheckerLemmas.{empty_list, ended_in_part, ended_unheaded, ended_whole}
+use Rattle.ledger_check.proofs.CheckerLemmas.{empty_list, ended_in_line, ended_unheaded, ended_whole}
 use Rattle.ledger_check.proofs.checker.Checker.finish.Goals as goal
 use Rattle.ledger_check.proofs.checker.Checker.finish.Goals.{then-not-self-via-then-not-self, then-not-self-via-else-not-self+then-not-is_empty}
 
@@ -18,16 +18,16 @@ returns-then-not-self-clause-verdict c = λ fares text fed.
           let none : checker.reading.has_head ≡ false = first_of (cc, search (rules, tests), grind (arith, nat_tests)) in
           ended_unheaded fares checker text fed none
       | then-not-self-via-else-not-self+then-not-is_empty w ↦
-          let some : 0 < length checker.part.items = grind (arith, nat_tests, checker.part.ok.0) in
-          ended_in_part fares checker text fed some
+          let some : 0 < length checker.begun.items = grind (arith, nat_tests, checker.begun.ok.0) in
+          ended_in_line fares checker text fed some
     ])
 
 pub returns-clause-verdict : goal.returns-clause-verdict
 returns-clause-verdict c = λ fares text fed.
     let checker = c.args.self.now in
-    let none : length checker.part.items ≤ 0 = grind (arith, nat_tests, checker.part.ok.0) in
+    let none : length checker.begun.items ≤ 0 = grind (arith, nat_tests, checker.begun.ok.0) in
     let some : checker.reading.has_head ≡ true = first_of (cc, search (rules, tests), grind (arith, nat_tests)) in
-    ended_whole fares checker text fed (empty_list checker.part.items none) some
+    ended_whole fares checker text fed (empty_list checker.begun.items none) some
 
 false_true : false ≡ true → ⊥
 false_true h = cc
@@ -39,5 +39,5 @@ returns-then-not-self-clause-struck c = λ fares text balance good struck legal.
 pub returns-clause-struck : goal.returns-clause-struck
 returns-clause-struck c = λ fares text balance good struck legal entries is.
     let checker = c.args.self.now in
-    let none : length checker.part.items ≤ 0 = grind (arith, nat_tests, checker.part.ok.0) in
-    all_struck fares checker balance text good struck (empty_list checker.part.items none) entries is
+    let none : length checker.begun.items ≤ 0 = grind (arith, nat_tests, checker.begun.ok.0) in
+    all_struck fares checker balance text good struck (empty_list checker.begun.items none) entries is

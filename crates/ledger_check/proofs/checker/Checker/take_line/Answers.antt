@@ -7,8 +7,8 @@ use Rattle.ledger_check.proofs.checker.Checker.take_line.Goals as goal
 pub returns-then-is_empty-clause-fed : goal.returns-then-is_empty-clause-fed
 returns-then-is_empty-clause-fed c = λ text fed.
     let checker = c.args.self.now in
-    let none : length checker.part.items ≤ 0 = grind (arith, nat_tests, checker.part.ok.0) in
-    let empty = empty_list checker.part.items none in
+    let none : length checker.begun.items ≤ 0 = grind (arith, nat_tests, checker.begun.ok.0) in
+    let empty = empty_list checker.begun.items none in
     took_line c.args.table.now checker _ text c.args.line.now c.args.line.now _ fed c.requires.line
     (ap (λ (p : List ℕ). p ++ c.args.line.now) (sym empty)) empty (c.in_ok-told.ensures.taken fed.lines fed.taken)
 
@@ -20,8 +20,8 @@ returns-clause-fed c = λ text fed.
 pub returns-then-is_empty-clause-struck : goal.returns-then-is_empty-clause-struck
 returns-then-is_empty-clause-struck c = λ text good struck.
     let checker = c.args.self.now in
-    let none : length checker.part.items ≤ 0 = grind (arith, nat_tests, checker.part.ok.0) in
-    let empty = empty_list checker.part.items none in
+    let none : length checker.begun.items ≤ 0 = grind (arith, nat_tests, checker.begun.ok.0) in
+    let empty = empty_list checker.begun.items none in
     took_struck c.args.table.now checker _ c.args.balance.now _ text c.args.line.now c.args.line.now good _ struck c.requires.line
     (ap (λ (p : List ℕ). p ++ c.args.line.now) (sym empty)) empty (c.in_ok-told.ensures.taken struck.fed.lines struck.fed.taken)
     (c.in_ok-told.ensures.struck struck.fed.lines good struck.fed.taken struck.struck)
