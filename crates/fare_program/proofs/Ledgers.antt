@@ -6,7 +6,7 @@ use Rattle.std.proofs.lemmas.List.Sorted.{IsPermutation-map, list_any-IsPermutat
 use Rattle.fare_table.specs.Fares.{Fares}
 use Rattle.shard_book.specs.Book.{Book}
 use Rattle.shard_book.specs.Entry.{own}
-use Rattle.shard_book.specs.Groups.{all_entries, token_of, tokens}
+use Rattle.shard_book.specs.SumsByKey.{all_entries, token_of, tokens}
 use Rattle.shard_book.specs.Rising.{rising}
 use Rattle.fare_table.specs.Token.{token_cmp}
 use Rattle.shard_book.specs.declared.entry.Entry.{Entry}
@@ -16,7 +16,7 @@ use Rattle.shard_book.proofs.TokenLemmas.{token_cmp-total, token_cmp-ties}
 use Rattle.fare_service.specs.Outcomes.{OutcomeView}
 use Rattle.fare_service.proofs.PlainSums.{same_entries}
 use Rattle.ledger_texts.specs.Ledger.{AreLinesOfEach, IsLedgerOfBooks, IsLedgerOver, tokens_told}
-use Rattle.ledger_texts.proofs.Grouping.{each_same}
+use Rattle.ledger_texts.proofs.ByToken.{each_same}
 
 same_tokens : (entries others : List Entry) → ((token : Token) → own token entries ≡ own token others) → tokens entries ≡ tokens others
 unfolding tokens

@@ -11,7 +11,7 @@ use Rattle.account_rule.specs.declared.reply.Reply.{Reply}
 use Rattle.shard_book.specs.declared.entry.Entry.{Entry}
 use Rattle.shard_book.specs.Book.{Book}
 use Rattle.shard_book.specs.Entry.{reply_of}
-use Rattle.shard_book.specs.Groups.{all_entries}
+use Rattle.shard_book.specs.SumsByKey.{all_entries}
 use Rattle.shard_book.specs.declared.sums.totals.Totals.{Totals}
 use Rattle.shard_book.specs.Sums.{Sums, sums, sums_of, sums_of_replies, add_sums, is_paid, is_transfer, is_capped, is_stale, is_unknown}
 use Rattle.shared_books.specs.Drawing.{NoneTwice}

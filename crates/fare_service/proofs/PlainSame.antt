@@ -9,7 +9,7 @@ use Rattle.tap_views.specs.Faults.{IsFault, Row, fault_order}
 use Rattle.tap_views.specs.declared.fault.LayoutFault.{LayoutFault}
 use Rattle.tap_views.specs.declared.fault.LayoutFault.TheVariants.{Short, Magic, Flags, TooMany, Length, Moment}
 use Rattle.shard_book.specs.declared.entry.Entry.{Entry}
-use Rattle.shard_book.specs.Groups.{sums_by_validator, sums_by_token}
+use Rattle.shard_book.specs.SumsByKey.{sums_by_validator, sums_by_token}
 use Rattle.shard_book.specs.Sums.{sums}
 use Rattle.fare_service.specs.declared.upload_end.UploadEnd.{UploadEnd}
 use Rattle.fare_service.specs.Ends.{end_by}

@@ -14,7 +14,7 @@ use Rattle.shard_book.specs.Book.{Book, AreOfShard}
 use Rattle.shard_book.specs.declared.entry.Entry.{Entry}
 use Rattle.fare_table.specs.declared.token.Token.{Token}
 use Rattle.shard_book.specs.Entry.{is_of, is_at, own, reply_of}
-use Rattle.shard_book.specs.Groups.{all_entries, at, validators, tokens, sums_by_validator, sums_by_token, validator_of, token_of}
+use Rattle.shard_book.specs.SumsByKey.{all_entries, at, validators, tokens, sums_by_validator, sums_by_token, validator_of, token_of}
 use Rattle.shard_book.specs.Keys.{same_token}
 use Rattle.shard_book.specs.Rising.{rising, IsRising}
 use Rattle.shard_book.specs.Sums.{sums, sums_of_replies, is_paid, is_transfer, is_capped, is_stale, is_unknown}

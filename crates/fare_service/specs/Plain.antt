@@ -13,7 +13,7 @@ use Rattle.account_rule.specs.TokenRules.{rules_of}
 use Rattle.account_rule.specs.declared.reply.Answer.TheVariants.{Unknown}
 use Rattle.account_rule.specs.declared.reply.Reply.{Reply}
 use Rattle.shard_book.specs.Entry.{tap_of, taps_of}
-use Rattle.shard_book.specs.Groups.{sums_by_validator, sums_by_token}
+use Rattle.shard_book.specs.SumsByKey.{sums_by_validator, sums_by_token}
 use Rattle.shard_book.specs.Statement.{IsStatement}
 use Rattle.shard_book.specs.Sums.{sums}
 use Rattle.fare_table.specs.Token.{bytes_of}

@@ -4,7 +4,7 @@ use Rattle.tap_views.specs.Shards.{shard_of_token}
 use Rattle.shard_book.specs.Book.{Book}
 use Rattle.shard_book.specs.declared.statement.Statement.{Statement}
 use Rattle.fare_table.specs.declared.token.Token.{Token}
-use Rattle.shard_book.specs.Groups.{all_entries, sums_by_validator, sums_by_token}
+use Rattle.shard_book.specs.SumsByKey.{all_entries, sums_by_validator, sums_by_token}
 use Rattle.shard_book.specs.Statement.{IsStatement}
 use Rattle.shard_book.specs.Sums.{sums}
 use Rattle.fare_table.specs.Token.{bytes_of}

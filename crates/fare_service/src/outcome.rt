@@ -42,7 +42,7 @@ impl Model for Outcome {
 
 impl Outcome {
     ghost use Rattle.std.specs.Prelude.{◌≡◌, ◌<◌, ◌≤◌, length, slice_get, Some};
-    ghost use Rattle.shard_book.specs.Groups.{all_entries};
+    ghost use Rattle.shard_book.specs.SumsByKey.{all_entries};
     ghost use Rattle.shard_book.specs.Sums.{sums, sums_of};
 
     /// How many shards there are, 1 to 64.

@@ -5,7 +5,7 @@ use Rattle.std.specs.List.Sorted.{IsStrictlySortedBy}
 use Rattle.std.specs.declared.cmp.Ordering.TheVariants.{Less}
 use Rattle.fare_table.specs.Fares.{Fares}
 use Rattle.shard_book.specs.Entry.{own}
-use Rattle.shard_book.specs.Groups.{token_of, tokens}
+use Rattle.shard_book.specs.SumsByKey.{token_of, tokens}
 use Rattle.shard_book.specs.History.{IsLegal}
 use Rattle.fare_table.specs.Token.{token_cmp}
 use Rattle.shard_book.specs.declared.entry.Entry.{Entry}

@@ -8,7 +8,7 @@ ghost use Rattle.shard_book.specs.declared.entry.Entry.{Entry};
 ghost use Rattle.fare_table.specs.declared.token.Token.{Token};
 ghost use Rattle.shard_book.specs.Book.{Book};
 ghost use Rattle.shard_book.specs.Entry.{own};
-ghost use Rattle.shard_book.specs.Groups.{all_entries};
+ghost use Rattle.shard_book.specs.SumsByKey.{all_entries};
 ghost use Rattle.shard_book.specs.History.{IsLegal};
 ghost use Rattle.ledger_check.specs.Ledger.{IsLedgerOf, IsPostable};
 ghost use Rattle.ledger_check.specs.Verdicts.{IsVerdict, is_legal};

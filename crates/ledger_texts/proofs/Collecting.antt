@@ -5,7 +5,7 @@ use Rattle.std.proofs.lemmas.List.{flat_map_more, map-append, take_more}
 use Rattle.std.proofs.lemmas.Option.{slice_get_within, slice_get-get_or, get_or_from_slice_get}
 use Rattle.shard_book.specs.Book.{Book}
 use Rattle.shard_book.specs.Entry.{own}
-use Rattle.shard_book.specs.Groups.{all_entries}
+use Rattle.shard_book.specs.SumsByKey.{all_entries}
 use Rattle.shard_book.specs.declared.entry.Entry.{Entry}
 use Rattle.fare_table.specs.declared.token.Token.{Token}
 use Rattle.ledger_texts.specs.inside.Spots.{book_at, entry_in, entry_at_spot, no_entry, place_at, seen}

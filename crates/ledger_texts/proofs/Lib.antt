@@ -1,5 +1,5 @@
 pub mod Rising
-pub mod Grouping
+pub mod ByToken
 pub mod Sorting
 pub mod Writing
 pub mod Whole

@@ -6,7 +6,7 @@ ghost use Rattle.std.specs.Prelude.{slice_get, string_bytes};
 ghost use Rattle.std.specs.Io.KnownBytes.{Appends};
 ghost use Rattle.ledger_texts.specs.Fault.{KeepsUnlessLedgerWrite};
 ghost use Rattle.shard_book.specs.Book.{Book};
-ghost use Rattle.shard_book.specs.Groups.{all_entries};
+ghost use Rattle.shard_book.specs.SumsByKey.{all_entries};
 ghost use Rattle.reason_texts.specs.Ledger.{head_text};
 ghost use Rattle.ledger_texts.specs.Ledger.{IsLedgerOfBooks};
 ghost use Rattle.ledger_texts.specs.inside.Lines.{IsByToken};

@@ -13,7 +13,7 @@ use Rattle.std.proofs.lemmas.List.Elements.{All-from_recursion, All-weaker, recu
 use Rattle.fare_table.specs.Fares.{Fares}
 use Rattle.fare_table.specs.declared.token.Token.{Token}
 use Rattle.shard_book.specs.declared.entry.Entry.{Entry}
-use Rattle.shard_book.specs.Groups.{sums_by_token, sums_by_validator}
+use Rattle.shard_book.specs.SumsByKey.{sums_by_token, sums_by_validator}
 use Rattle.shard_book.specs.Sums.{Sums, add_all, sums}
 use Rattle.fare_service.specs.Plain.{ArePlainEnds, IsReportOver}
 use Rattle.fare_service.specs.Text.{report, upload_lines}

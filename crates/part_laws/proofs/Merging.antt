@@ -16,8 +16,8 @@ use Rattle.fare_table.specs.Fares.{Fares}
 use Rattle.shard_book.specs.declared.entry.Entry.{Entry}
 use Rattle.fare_table.specs.declared.token.Token.{Token}
 use Rattle.shard_book.specs.Entry.{is_of, is_at, own, reply_of}
-use Rattle.shard_book.specs.Groups.{at, validators, tokens, sums_by_validator, sums_by_token}
-use Rattle.shard_book.specs.Groups.{validator_of, token_of}
+use Rattle.shard_book.specs.SumsByKey.{at, validators, tokens, sums_by_validator, sums_by_token}
+use Rattle.shard_book.specs.SumsByKey.{validator_of, token_of}
 use Rattle.shard_book.specs.Keys.{same_token}
 use Rattle.shard_book.specs.Rising.{rising, IsRising}
 use Rattle.shard_book.specs.Sums.{sums, sums_of_replies, is_paid, is_transfer, is_capped, is_stale}

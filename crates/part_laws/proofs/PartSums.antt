@@ -13,7 +13,7 @@ use Rattle.std.proofs.lemmas.Bool.Decides.{nat_tests}
 use Rattle.std.proofs.lemmas.List.{map-append}
 use Rattle.std.proofs.lemmas.List.Elements.{filter-append}
 use Rattle.shard_book.specs.declared.entry.Entry.{Entry}
-use Rattle.shard_book.specs.Groups.{at, sums_by_validator, validators, validator_of}
+use Rattle.shard_book.specs.SumsByKey.{at, sums_by_validator, validators, validator_of}
 use Rattle.shard_book.specs.Rising.{rising}
 use Rattle.shard_book.specs.Sums.{Sums, add_all, add_sums, sums, sums_of_replies}
 use Rattle.part_reports.specs.Reports.{sums_of_validator as listed_at}

@@ -19,7 +19,7 @@ use Rattle.fare_table.specs.Fares.{Fares}
 use Rattle.shard_book.specs.declared.entry.Entry.{Entry}
 use Rattle.fare_table.specs.declared.token.Token.{Token}
 use Rattle.shard_book.specs.Entry.{own}
-use Rattle.shard_book.specs.Groups.{tokens, sums_by_token, token_of}
+use Rattle.shard_book.specs.SumsByKey.{tokens, sums_by_token, token_of}
 use Rattle.shard_book.specs.Rising.{rising}
 use Rattle.shard_book.specs.Sums.{Sums, sums}
 use Rattle.fare_table.specs.Token.{bytes_of, token_cmp}

@@ -10,7 +10,7 @@ use Rattle.std.proofs.lemmas.List.Sorted.{IsPermutation-map, list_any-IsPermutat
 use Rattle.fare_table.specs.Fares.{Fares}
 use Rattle.shard_book.specs.declared.entry.Entry.{Entry}
 use Rattle.shard_book.specs.Entry.{is_at}
-use Rattle.shard_book.specs.Groups.{at, validators, sums_by_validator, validator_of}
+use Rattle.shard_book.specs.SumsByKey.{at, validators, sums_by_validator, validator_of}
 use Rattle.shard_book.specs.Rising.{rising}
 use Rattle.shard_book.specs.Sums.{Sums, sums, add_sums}
 use Rattle.shard_book.specs.Sums.{add_all}

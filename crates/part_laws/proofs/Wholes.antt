@@ -21,8 +21,8 @@ use Rattle.fare_table.specs.Token.{token_cmp}
 use Rattle.fare_table.specs.declared.token.Token.{Token}
 use Rattle.shard_book.specs.declared.entry.Entry.{Entry}
 use Rattle.shard_book.specs.Entry.{own, reply_of}
-use Rattle.shard_book.specs.Groups.{at, sums_by_token, sums_by_validator, token_of, tokens}
-use Rattle.shard_book.specs.Groups.{validator_of, validators}
+use Rattle.shard_book.specs.SumsByKey.{at, sums_by_token, sums_by_validator, token_of, tokens}
+use Rattle.shard_book.specs.SumsByKey.{validator_of, validators}
 use Rattle.shard_book.specs.Rising.{rising}
 use Rattle.shard_book.specs.Sums.{Sums, add_all, sums, sums_of_replies}
 use Rattle.fare_service.specs.Ends.{end_by}

@@ -9,7 +9,7 @@ ghost use Rattle.fare_table.specs.Fares.{Fares};
 ghost use Rattle.shard_book.specs.declared.entry.Entry.{Entry};
 ghost use Rattle.fare_table.specs.declared.token.Token.{Token};
 ghost use Rattle.shard_book.specs.Entry.{own};
-ghost use Rattle.shard_book.specs.Groups.{sums_by_token, sums_by_validator};
+ghost use Rattle.shard_book.specs.SumsByKey.{sums_by_token, sums_by_validator};
 ghost use Rattle.shard_book.specs.Sums.{Sums, add_all, sums};
 ghost use Rattle.fare_table.specs.Token.{bytes_of};
 ghost use Rattle.fare_service.specs.Plain.{ArePlainEnds, AreTapsOfEach, HasOneReading};

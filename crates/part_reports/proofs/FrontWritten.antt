@@ -46,13 +46,13 @@ pub line_written : (old now mid new : List ℕ) (items : List (Bor ℕ × Bor To
 line_written old now mid new items validator totals first second third =
     third ∙ ap (λ text. text ++ counts (sums_of totals.now)) (second
     ∙ ap (λ text. text ++ (codes "validator " ++ (decimal validator.now ++ codes " "))) first)
-    ∙ regroup old (flat_map validator_line (shown (map deref_pair items))) (codes "validator ")
+    ∙ reassoc old (flat_map validator_line (shown (map deref_pair items))) (codes "validator ")
     (decimal validator.now) (codes " ") (counts (sums_of totals.now))
     ∙ ap (λ text. old ++ text) (sym (shown_more items validator totals))
   where
-    regroup : (a b c d e f : List ℕ) → ((a ++ b) ++ (c ++ (d ++ e))) ++ f ≡ a
+    reassoc : (a b c d e f : List ℕ) → ((a ++ b) ++ (c ++ (d ++ e))) ++ f ≡ a
         ++ (b ++ (c ++ (d ++ (e ++ f))))
-    regroup a b c d e f = simp append_assoc
+    reassoc a b c d e f = simp append_assoc
 
 shown_length : (entries : List (ℕ × Totals)) → length (shown entries) ≡ length entries
 shown_length [] = refl
@@ -89,8 +89,8 @@ front_joined ends list sums count first with_ends whole none totals heads lines 
     let lines_is : lines ≡ (t ++ v) ++ f = p6 ∙ ap (λ text. text ++ f) heads_is in
     let all_is : all ≡ ((t ++ v) ++ f) ++ k = p7 ∙ ap (λ text. text ++ k) lines_is in
     p8 ∙ ap (λ text. text ++ all) ends_is ∙ ap (λ text. (h ++ e) ++ text) all_is
-    ∙ regroup h e t v f k
+    ∙ reassoc h e t v f k
   where
-    regroup : (h e t v f k : List ℕ) → (h ++ e) ++ (((t ++ v) ++ f) ++ k) ≡ h
+    reassoc : (h e t v f k : List ℕ) → (h ++ e) ++ (((t ++ v) ++ f) ++ k) ≡ h
         ++ (e ++ (t ++ (v ++ (f ++ k))))
-    regroup h e t v f k = simp append_assoc
+    reassoc h e t v f k = simp append_assoc

@@ -15,7 +15,7 @@ use Rattle.tap_views.specs.Encoding.{fields_of}
 use Rattle.tap_views.specs.Layout.{Tap}
 use Rattle.tap_views.specs.declared.encoder.TapFields.{TapFields}
 use Rattle.shard_book.specs.Entry.{own}
-use Rattle.shard_book.specs.Groups.{all_entries}
+use Rattle.shard_book.specs.SumsByKey.{all_entries}
 use Rattle.fare_table.specs.Token.{bytes_of}
 use Rattle.shard_book.specs.Visits.{AreEntriesOf}
 use Rattle.shard_book.specs.declared.entry.Entry.{Entry}

@@ -7,9 +7,9 @@ use Rattle.std.proofs.lemmas.Grind.{div_ceil_times}
 use Rattle.shard_book.specs.declared.entry.Entry.{Entry}
 use Rattle.shard_book.specs.declared.sums.tally.Tally.{Tally}
 use Rattle.shard_book.specs.Book.{Book}
-use Rattle.shard_book.specs.Groups.{all_entries}
-use Rattle.shard_book.specs.inside.Grouping.{IsGrouped, HaveRoom}
-use Rattle.shard_book.proofs.MergeLemmas.{parts-room, parts-grouped, parts-few}
+use Rattle.shard_book.specs.SumsByKey.{all_entries}
+use Rattle.shard_book.specs.inside.TalliesByKey.{AreByKey, HaveRoom}
+use Rattle.shard_book.proofs.MergeLemmas.{parts-room, parts-by_key, parts-few}
 
 -- no chunks are of no books
 pub no-chunks : (size : ℕ) (books : List Book) → 0 < size → 0 ≡ length books / size + min 1 (length books % size) → books ≡ []
@@ -20,7 +20,7 @@ no-chunks size books some none =
 module _ {K S E : Type 0} (eq : K → K → Bool) (key_of : Entry → K) where
   -- what came of tallying these books
   pub record IsTallied (books : List Book) (result : Result (HashMap K Tally S) E) : Type 0 where
-    pub grouped : IfOk result (λ tallies. IsGrouped eq key_of (all_entries books) tallies.entries)
+    pub by_key : IfOk result (λ tallies. AreByKey eq key_of (all_entries books) tallies.entries)
     pub few : OnOk result (length (all_entries books) ≤ length books * 2 ^ 64)
 
   -- what came of tallying the chunks of these books, in their order
@@ -34,7 +34,7 @@ module _ {K S E : Type 0} (eq : K → K → Bool) (key_of : Entry → K) where
     pub before : List Book
     pub after : List Book
     pub whole : books ≡ before ++ after
-    pub grouped : IsGrouped eq key_of (all_entries before) now
+    pub by_key : AreByKey eq key_of (all_entries before) now
     pub few : length (all_entries before) ≤ length before * 2 ^ 64
     pub rest : AreTallied size after left
 
@@ -73,7 +73,7 @@ module _ {K S E : Type 0} (eq : K → K → Bool) (key_of : Entry → K) where
     before = take size books;
     after = drop size books;
     whole = sym (take-append-drop size books);
-    grouped = tallied.0.grouped;
+    by_key = tallied.0.by_key;
     few = tallied.0.few;
     rest = tallied.1;
   }
@@ -90,18 +90,18 @@ module _ {K S E : Type 0} (eq : K → K → Bool) (key_of : Entry → K) where
     merging-room few =
         let all : length books ≡ length (merging.before ++ chunk) + length (drop merging.size merging.after) = ap length cut ∙ length-append (merging.before ++ chunk) (drop merging.size merging.after) in
         parts-room eq key_of (merging.before ++ chunk) merging.before chunk now more.entries (omega (arith, few, all)) refl
-        merging.few merging.rest.0.few merging.grouped merging.rest.0.grouped
+        merging.few merging.rest.0.few merging.by_key merging.rest.0.by_key
 
     -- the tallies of the next chunk are added
     pub merging-more : (new : List (K × Tally))
-        → ((before after : List Entry) → IsGrouped eq key_of before now → IsGrouped eq key_of after more.entries → IsGrouped eq key_of (before ++ after) new)
+        → ((before after : List Entry) → AreByKey eq key_of before now → AreByKey eq key_of after more.entries → AreByKey eq key_of (before ++ after) new)
         → IsMerging books new left
     merging-more new adds = record {
       size = merging.size;
       before = merging.before ++ chunk;
       after = drop merging.size merging.after;
       whole = cut;
-      grouped = parts-grouped eq key_of (merging.before ++ chunk) merging.before chunk new refl (adds (all_entries merging.before) (all_entries chunk) merging.grouped merging.rest.0.grouped);
+      by_key = parts-by_key eq key_of (merging.before ++ chunk) merging.before chunk new refl (adds (all_entries merging.before) (all_entries chunk) merging.by_key merging.rest.0.by_key);
       few = parts-few (merging.before ++ chunk) merging.before chunk refl merging.few merging.rest.0.few;
       rest = merging.rest.1;
     }
@@ -111,8 +111,8 @@ module _ {K S E : Type 0} (eq : K → K → Bool) (key_of : Entry → K) where
     whole : books ≡ merging.before
     whole = merging.whole ∙ ap (λ (bs : List Book). merging.before ++ bs) merging.rest ∙ append-nil merging.before
 
-    pub merging-grouped : IsGrouped eq key_of (all_entries books) now
-    merging-grouped = subst (λ (bs : List Book). IsGrouped eq key_of (all_entries bs) now) (sym whole) merging.grouped
+    pub merging-by_key : AreByKey eq key_of (all_entries books) now
+    merging-by_key = subst (λ (bs : List Book). AreByKey eq key_of (all_entries bs) now) (sym whole) merging.by_key
 
     pub merging-few : length (all_entries books) ≤ length books * 2 ^ 64
     merging-few = subst (λ (bs : List Book). length (all_entries bs) ≤ length bs * 2 ^ 64) (sym whole) merging.few

@@ -11,7 +11,7 @@ use Rattle.fare_table.specs.declared.token.Token.{Token}
 use Rattle.shard_book.specs.inside.Accounts.{kept_at, counted}
 use Rattle.shard_book.specs.inside.Counting.{AreCounted}
 use Rattle.shard_book.specs.Entry.{is_of, own, reply_of}
-use Rattle.shard_book.specs.Groups.{token_of}
+use Rattle.shard_book.specs.SumsByKey.{token_of}
 use Rattle.shard_book.specs.Sums.{Sums, sums, sums_of_replies, add_sums}
 use Rattle.shard_book.specs.inside.Sums.{has_taps}
 use Rattle.fare_table.specs.Token.{token_eq}

@@ -1,7 +1,7 @@
 pub mod AccountsLemmas
 pub mod ChunkLemmas
 pub mod CountingLemmas
-pub mod GroupingLemmas
+pub mod ByKeyLemmas
 pub mod Histories
 pub mod HistoryLemmas
 pub mod MergeLemmas

@@ -14,12 +14,12 @@ use Rattle.std.proofs.lemmas.Grind.{flat_map-append}
 use Rattle.shard_book.specs.declared.entry.Entry.{Entry}
 use Rattle.shard_book.specs.declared.sums.tally.Tally.{Tally}
 use Rattle.shard_book.specs.Book.{Book}
-use Rattle.shard_book.specs.Groups.{all_entries}
-use Rattle.shard_book.specs.inside.Groups.{group}
-use Rattle.shard_book.specs.inside.Grouping.{IsGrouped, HaveRoom, kept_sums}
+use Rattle.shard_book.specs.SumsByKey.{all_entries}
+use Rattle.shard_book.specs.inside.ByKey.{with_key}
+use Rattle.shard_book.specs.inside.TalliesByKey.{AreByKey, HaveRoom, kept_sums}
 use Rattle.shard_book.specs.Sums.{Sums, sums, sums_of_replies, add_sums}
 use Rattle.shard_book.specs.Tally.{sums_of_tally}
-use Rattle.shard_book.proofs.GroupingLemmas.{kept-or}
+use Rattle.shard_book.proofs.ByKeyLemmas.{kept-or}
 use Rattle.shard_book.proofs.SumsLemmas.{sums-append, sums-taps}
 
 -- what is kept of each key now and what is left to add make up what was kept at first and all that is to be added
@@ -119,28 +119,28 @@ module _ {K : Type 0} {eq : K → K → Bool} (laws : IsEquivalence eq) (same : 
   -- there is room for each tally
   pub room-adding : (key_of : Entry → K) (first all now rest : List (K × Tally)) (key : K) (tally : Tally) → HaveRoom eq key_of first all
       → IsAdding eq first all now ((key, tally) ∷ rest) → (kept_sums (lookup (eq key) now)).taps + (sums_of_tally tally).taps ≤ 2 ^ 95
-  unfolding HaveRoom group
+  unfolding HaveRoom with_key
   room-adding key_of first all now rest key tally room adding =
       let here : add_sums (kept_sums (lookup (eq key) now)) (sums_of_tally tally) ≡ add_sums (kept_sums (lookup (eq key) first)) (kept_sums (lookup (eq key) all)) =
       ap (λ (b : Bool). add_sums (kept_sums (lookup (eq key) now)) (kept_sums (cond b (Some tally) (lookup (eq key) rest)))) (sym (laws.refl key)) ∙ adding.sums key in
       let taps : (kept_sums (lookup (eq key) now)).taps + (sums_of_tally tally).taps ≡ (kept_sums (lookup (eq key) first)).taps + (kept_sums (lookup (eq key) all)).taps = ap (λ (s : Sums). s.taps) here in
-      let front : (kept_sums (lookup (eq key) first)).taps ≡ length (group eq key_of key room.0) = ap (λ (s : Sums). s.taps) (room.2.sums key) ∙ sums-taps (group eq key_of key room.0) in
-      let back : (kept_sums (lookup (eq key) all)).taps ≡ length (group eq key_of key room.1) = ap (λ (s : Sums). s.taps) (room.3.sums key) ∙ sums-taps (group eq key_of key room.1) in
-      let few : length (group eq key_of key room.0) ≤ length room.0 = omega (arith, length-filter (λ (entry : Entry). eq (key_of entry) key) room.0, count_by-le-length (λ (entry : Entry). eq (key_of entry) key) room.0) in
-      let few_more : length (group eq key_of key room.1) ≤ length room.1 = omega (arith, length-filter (λ (entry : Entry). eq (key_of entry) key) room.1, count_by-le-length (λ (entry : Entry). eq (key_of entry) key) room.1) in
+      let front : (kept_sums (lookup (eq key) first)).taps ≡ length (with_key eq key_of key room.0) = ap (λ (s : Sums). s.taps) (room.2.sums key) ∙ sums-taps (with_key eq key_of key room.0) in
+      let back : (kept_sums (lookup (eq key) all)).taps ≡ length (with_key eq key_of key room.1) = ap (λ (s : Sums). s.taps) (room.3.sums key) ∙ sums-taps (with_key eq key_of key room.1) in
+      let few : length (with_key eq key_of key room.0) ≤ length room.0 = omega (arith, length-filter (λ (entry : Entry). eq (key_of entry) key) room.0, count_by-le-length (λ (entry : Entry). eq (key_of entry) key) room.0) in
+      let few_more : length (with_key eq key_of key room.1) ≤ length room.1 = omega (arith, length-filter (λ (entry : Entry). eq (key_of entry) key) room.1, count_by-le-length (λ (entry : Entry). eq (key_of entry) key) room.1) in
       let bound : length room.0 + length room.1 ≤ 2 ^ 95 = room.4 in
       omega (arith, taps, front, back, few, few_more, bound)
 
   -- once nothing is left, the tallies are those of all entries
   pub adding-done : (key_of : Entry → K) (first all now : List (K × Tally)) (before after : List Entry) → IsAdding eq first all now []
-      → IsGrouped eq key_of before first → IsGrouped eq key_of after all → IsGrouped eq key_of (before ++ after) now
-  unfolding group
+      → AreByKey eq key_of before first → AreByKey eq key_of after all → AreByKey eq key_of (before ++ after) now
+  unfolding with_key
   adding-done key_of first all now before after adding front back = record {
     sums = λ q.
         sym (add-none (kept_sums (lookup (eq q) now)))
         ∙ adding.sums q
         ∙ (λ i. add_sums (front.sums q i) (back.sums q i))
-        ∙ sym (sums-append (group eq key_of q before) (group eq key_of q after))
+        ∙ sym (sums-append (with_key eq key_of q before) (with_key eq key_of q after))
         ∙ ap sums (sym (filter-append (λ e. eq (key_of e) q) before after));
     keys = λ q.
         sym (or-none (is_some (lookup (eq q) now)))
@@ -154,17 +154,17 @@ module _ {K : Type 0} {eq : K → K → Bool} (laws : IsEquivalence eq) (same : 
 pub parts-room : {K : Type 0} (eq : K → K → Bool) (key_of : Entry → K) (books front back : List Book) (first more : List (K × Tally))
     → length books ≤ 64 → books ≡ front ++ back
     → length (all_entries front) ≤ length front * 2 ^ 64 → length (all_entries back) ≤ length back * 2 ^ 64
-    → IsGrouped eq key_of (all_entries front) first → IsGrouped eq key_of (all_entries back) more → HaveRoom eq key_of first more
+    → AreByKey eq key_of (all_entries front) first → AreByKey eq key_of (all_entries back) more → HaveRoom eq key_of first more
 unfolding HaveRoom
-parts-room eq key_of books front back first more few parts few_front few_back grouped grouped_more =
+parts-room eq key_of books front back first more few parts few_front few_back by_key by_key_more =
     let all : length books ≡ length front + length back = ap length parts ∙ length-append front back in
-    (all_entries front, all_entries back, grouped, grouped_more, omega (arith, few, all, few_front, few_back))
+    (all_entries front, all_entries back, by_key, by_key_more, omega (arith, few, all, few_front, few_back))
 
 -- the tallies of both parts are those of the books
-pub parts-grouped : {K : Type 0} (eq : K → K → Bool) (key_of : Entry → K) (books front back : List Book) (now : List (K × Tally))
-    → books ≡ front ++ back → IsGrouped eq key_of (all_entries front ++ all_entries back) now → IsGrouped eq key_of (all_entries books) now
-parts-grouped eq key_of books front back now parts grouped =
-    subst (λ (entries : List Entry). IsGrouped eq key_of entries now) (sym (ap all_entries parts ∙ flat_map-append (λ (book : Book). book.entries) front back)) grouped
+pub parts-by_key : {K : Type 0} (eq : K → K → Bool) (key_of : Entry → K) (books front back : List Book) (now : List (K × Tally))
+    → books ≡ front ++ back → AreByKey eq key_of (all_entries front ++ all_entries back) now → AreByKey eq key_of (all_entries books) now
+parts-by_key eq key_of books front back now parts by_key =
+    subst (λ (entries : List Entry). AreByKey eq key_of entries now) (sym (ap all_entries parts ∙ flat_map-append (λ (book : Book). book.entries) front back)) by_key
 
 -- so few entries have the books as their parts have
 pub parts-few : (books front back : List Book) → books ≡ front ++ back

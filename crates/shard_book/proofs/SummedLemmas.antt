@@ -26,7 +26,7 @@ use Rattle.shard_book.specs.Book.{Book, AreOfShard}
 use Rattle.shard_book.specs.inside.Counting.{AreCounted, AreSummed, AddsSums, AreBelow}
 use Rattle.shard_book.specs.Counts.{sums_of_counts, token_counts}
 use Rattle.shard_book.specs.Entry.{is_of, own}
-use Rattle.shard_book.specs.Groups.{token_of, tokens, sums_by_token, all_entries}
+use Rattle.shard_book.specs.SumsByKey.{token_of, tokens, sums_by_token, all_entries}
 use Rattle.shard_book.specs.Sums.{Sums, sums, sums_of_replies}
 use Rattle.shard_book.specs.inside.Sums.{has_taps}
 use Rattle.fare_table.specs.Token.{bytes_of, token_eq, token_cmp}

@@ -3,7 +3,7 @@ pub mod Counts
 pub mod Difference
 pub mod Entry
 pub mod Folding
-pub mod Groups
+pub mod SumsByKey
 pub mod History
 pub mod Keys
 pub mod Places

@@ -2,7 +2,7 @@
 
 ghost use Rattle.std.specs.Prelude.{◌≡◌, ◌<◌, ◌≤◌, ◌^◌, length, map, IfOk};
 ghost use Rattle.shard_book.specs.Counts.{token_counts};
-ghost use Rattle.shard_book.specs.Groups.{all_entries, sums_by_validator, sums_by_token, tokens};
+ghost use Rattle.shard_book.specs.SumsByKey.{all_entries, sums_by_validator, sums_by_token, tokens};
 ghost use Rattle.shard_book.specs.Shown.{validator_sum, token_sum};
 ghost use Rattle.shard_book.specs.Sums.{Sums, sums, sums_of};
 
@@ -11,7 +11,7 @@ use crate::entry::Entry;
 use crate::sums::by_threads::tallies_by_validator;
 use crate::sums::by_token::rising_counts;
 use crate::sums::counts::TokenCounts;
-use crate::sums::groups::{GroupKey, listed, sums_of_books};
+use crate::sums::by_key::{SumKey, listed, sums_of_books};
 use crate::sums::tally::Tally;
 use crate::sums::totals::Totals;
 use fare_table::{NoMemory, Token};
@@ -22,7 +22,7 @@ use std::thread::Threads;
 pub(crate) mod by_threads;
 pub(crate) mod by_token;
 pub(crate) mod counts;
-pub(crate) mod groups;
+pub(crate) mod by_key;
 pub(crate) mod tally;
 pub(crate) mod token_sums;
 pub(crate) mod totals;
@@ -45,8 +45,8 @@ pub struct TokenSum {
     pub totals: Totals,
 }
 
-impl GroupKey for u32 {
-    ghost use Rattle.shard_book.specs.Groups.{validator_of};
+impl SumKey for u32 {
+    ghost use Rattle.shard_book.specs.SumsByKey.{validator_of};
     ghost use Rattle.shard_book.specs.Shown.{validator_sum};
     ghost use Rattle.shard_book.specs.Sums.{sums_of};
     ghost use Rattle.shard_book.specs.inside.Keys.{same_number};
@@ -71,8 +71,8 @@ impl GroupKey for u32 {
     }
 }
 
-impl GroupKey for Token {
-    ghost use Rattle.shard_book.specs.Groups.{token_of};
+impl SumKey for Token {
+    ghost use Rattle.shard_book.specs.SumsByKey.{token_of};
     ghost use Rattle.shard_book.specs.Shown.{token_sum};
     ghost use Rattle.shard_book.specs.Sums.{sums_of};
     ghost use Rattle.shard_book.specs.Keys.{same_token};
@@ -111,7 +111,7 @@ pub(crate) fn totals_of_entries(entries: &[Entry]) -> Totals
 
 /// The validators of the books, rising, each with the totals of its entries: one scan a book, and a
 /// sort of the validators. Of many entries, threads go over a quarter of the books each.
-#[tactic(auto, unfolding(crate::specs::inside::Groups::sums_by, crate::specs::inside::Groups::group, crate::specs::Groups::sums_by_validator, crate::specs::Groups::validators, crate::specs::Groups::at))]
+#[tactic(auto, unfolding(crate::specs::inside::ByKey::sums_by, crate::specs::inside::ByKey::with_key, crate::specs::SumsByKey::sums_by_validator, crate::specs::SumsByKey::validators, crate::specs::SumsByKey::at))]
 pub fn sums_by_validator<R: Threads + Sync>(
     rt: &R,
     alloc: Global,
@@ -143,7 +143,7 @@ pub(crate) fn sums_by_token(alloc: Global, books: &[ShardBook]) -> Result<Vec<To
 }
 
 /// The same, added up entry by entry.
-#[tactic(auto, unfolding(crate::specs::inside::Groups::sums_by, crate::specs::inside::Groups::group, crate::specs::Groups::sums_by_token, crate::specs::Groups::tokens, crate::specs::Entry::own))]
+#[tactic(auto, unfolding(crate::specs::inside::ByKey::sums_by, crate::specs::inside::ByKey::with_key, crate::specs::SumsByKey::sums_by_token, crate::specs::SumsByKey::tokens, crate::specs::Entry::own))]
 pub(crate) fn added_by_token(alloc: Global, books: &[ShardBook]) -> Result<Vec<TokenSum>, NoMemory>
     requires { length books.now ≤ 64 }
     ensures { IfOk result (λ list.
@@ -186,7 +186,7 @@ impl ShardBook {
 
     /// The validators of the history, rising, each with the totals of its entries: one scan of
     /// the history, and a sort of the validators.
-    #[tactic(auto, unfolding(crate::specs::inside::Groups::sums_by, crate::specs::inside::Groups::group, crate::specs::Groups::sums_by_validator, crate::specs::Groups::validators, crate::specs::Groups::at))]
+    #[tactic(auto, unfolding(crate::specs::inside::ByKey::sums_by, crate::specs::inside::ByKey::with_key, crate::specs::SumsByKey::sums_by_validator, crate::specs::SumsByKey::validators, crate::specs::SumsByKey::at))]
     pub fn by_validator(&self, alloc: Global) -> Result<Vec<ValidatorSum>, NoMemory>
         ensures { IfOk result (λ list.
             map validator_sum list.items ≡ sums_by_validator self.now.entries) }

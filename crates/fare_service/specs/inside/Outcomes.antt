@@ -1,7 +1,7 @@
 -- Outcomes: what private functions alone cite.
 use Rattle.std.specs.Prelude.{◌≡◌, ℕ, ◌<◌, ◌≤◌, length, Some, slice_get}
 use Rattle.shard_book.specs.Book.{Book}
-use Rattle.shard_book.specs.Groups.{all_entries}
+use Rattle.shard_book.specs.SumsByKey.{all_entries}
 use Rattle.shard_book.specs.Sums.{sums}
 use Rattle.fare_service.specs.Outcomes.{OutcomeView}
 

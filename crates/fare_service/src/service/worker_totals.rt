@@ -1,7 +1,7 @@
 //! The totals of the workers, added up.
 
 ghost use Rattle.std.specs.Prelude.{◌≡◌, ◌<◌, ◌≤◌, ◌^◌, length, map};
-ghost use Rattle.shard_book.specs.Groups.{all_entries};
+ghost use Rattle.shard_book.specs.SumsByKey.{all_entries};
 ghost use Rattle.shard_book.specs.Sums.{sums_of};
 ghost use Rattle.shard_book.specs.Sums.{add_all};
 

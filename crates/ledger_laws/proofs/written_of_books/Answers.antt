@@ -1,4 +1,4 @@
-use Rattle.shard_book.specs.Groups.{all_entries}
+use Rattle.shard_book.specs.SumsByKey.{all_entries}
 use Rattle.ledger_laws.specs.Written.{told_entries}
 use Rattle.ledger_laws.proofs.Books.{books_are_read}
 use Rattle.ledger_laws.proofs.written_of_books.Goals as goal

@@ -9,7 +9,7 @@ use Rattle.shard_book.specs.declared.entry.Entry.{Entry}
 use Rattle.fare_table.specs.declared.token.Token.{Token}
 use Rattle.shard_book.specs.inside.Accounts.{kept_at, counted}
 use Rattle.shard_book.specs.Entry.{own}
-use Rattle.shard_book.specs.Groups.{token_of}
+use Rattle.shard_book.specs.SumsByKey.{token_of}
 use Rattle.shard_book.specs.Sums.{Sums, sums}
 use Rattle.fare_table.specs.Token.{bytes_of, token_eq}
 

@@ -5,13 +5,13 @@ ghost use Rattle.std.specs.Prelude.{IfOk, OnOk};
 ghost use Rattle.std.specs.HashMap.{get};
 ghost use Rattle.shard_book.specs.declared.entry.Entry.{Entry};
 ghost use Rattle.shard_book.specs.declared.sums.tally.Tally.{Tally};
-ghost use Rattle.shard_book.specs.inside.Grouping.{HaveRoom, IsGrouped, kept_sums};
-ghost use Rattle.shard_book.specs.Groups.{all_entries, validator_of};
+ghost use Rattle.shard_book.specs.inside.TalliesByKey.{HaveRoom, AreByKey, kept_sums};
+ghost use Rattle.shard_book.specs.SumsByKey.{all_entries, validator_of};
 ghost use Rattle.shard_book.specs.Sums.{add_sums};
 ghost use Rattle.shard_book.specs.Tally.{sums_of_tally};
 
 use crate::book::ShardBook;
-use crate::sums::groups::{GroupKey, tallies_of};
+use crate::sums::by_key::{SumKey, tallies_of};
 use crate::sums::tally::Tally;
 use crate::token_hash::TokenKeys;
 use fare_table::NoMemory;
@@ -26,7 +26,7 @@ use std::thread::Threads;
 const WORTH_THREADS: u64 = 65_536;
 
 /// Adds one tally to that of its key.
-fn add_tally<K: GroupKey>(
+fn add_tally<K: SumKey>(
     tallies: &mut HashMap<K, Tally, TokenKeys>,
     key: K,
     tally: &Tally,
@@ -45,15 +45,15 @@ fn add_tally<K: GroupKey>(
 }
 
 /// Adds the tallies of more entries.
-fn add_tallies<K: GroupKey>(
+fn add_tallies<K: SumKey>(
     tallies: &mut HashMap<K, Tally, TokenKeys>,
     more: &HashMap<K, Tally, TokenKeys>,
 ) -> Result<(), NoMemory>
     requires { HaveRoom K.eq K.key_of tallies.old.entries more.now.entries }
     ensures { OnOk result ((before after : List Entry)
-        → IsGrouped K.eq K.key_of before tallies.old.entries
-        → IsGrouped K.eq K.key_of after more.now.entries
-        → IsGrouped K.eq K.key_of (before ++ after) tallies.new.entries) }
+        → AreByKey K.eq K.key_of before tallies.old.entries
+        → AreByKey K.eq K.key_of after more.now.entries
+        → AreByKey K.eq K.key_of (before ++ after) tallies.new.entries) }
 {
     for (key, tally) in more.iter() {
         add_tally(tallies, *key, tally)?;
@@ -70,8 +70,8 @@ fn tallies_by_four<R: Threads + Sync>(
     books: &[ShardBook],
 ) -> Result<HashMap<u32, Tally, TokenKeys>, NoMemory>
     requires { length books.now ≤ 64 }
-    ensures grouped { IfOk result
-        (λ tallies. IsGrouped ◌==◌ validator_of (all_entries books.now) tallies.entries) }
+    ensures by_key { IfOk result
+        (λ tallies. AreByKey ◌==◌ validator_of (all_entries books.now) tallies.entries) }
     ensures few { OnOk result (length (all_entries books.now) ≤ length books.now * 2 ^ 64) }
 {
     let size = books.len().div_ceil(4).max(1);
@@ -111,8 +111,8 @@ pub(crate) fn tallies_by_validator<R: Threads + Sync>(
     books: &[ShardBook],
 ) -> Result<HashMap<u32, Tally, TokenKeys>, NoMemory>
     requires { length books.now ≤ 64 }
-    ensures grouped { IfOk result
-        (λ tallies. IsGrouped ◌==◌ validator_of (all_entries books.now) tallies.entries) }
+    ensures by_key { IfOk result
+        (λ tallies. AreByKey ◌==◌ validator_of (all_entries books.now) tallies.entries) }
     ensures few { OnOk result (length (all_entries books.now) ≤ length books.now * 2 ^ 64) }
 {
     if are_worth_threads(books) {

@@ -5,7 +5,7 @@ ghost use Rattle.std.specs.List.Sorted.{IsPermutation, IsSorted};
 ghost use Rattle.std.specs.Map.{keys_of};
 ghost use Rattle.shard_book.specs.inside.Counting.{AreSummed};
 ghost use Rattle.shard_book.specs.Counts.{token_counts};
-ghost use Rattle.shard_book.specs.Groups.{all_entries, sums_by_token};
+ghost use Rattle.shard_book.specs.SumsByKey.{all_entries, sums_by_token};
 ghost use Rattle.fare_table.specs.Token.{token_cmp};
 
 use crate::book::ShardBook;

@@ -1,7 +1,7 @@
 //! The sums of the tokens of many books, in the little memory that the books keep of each.
 
 ghost use Rattle.std.specs.Prelude.{◌≡◌, ◌<◌, ◌≤◌, length, slice_get, Some, IfOk};
-ghost use Rattle.shard_book.specs.Groups.{all_entries, sums_by_token};
+ghost use Rattle.shard_book.specs.SumsByKey.{all_entries, sums_by_token};
 ghost use Rattle.shard_book.specs.Shown.{token_sum};
 
 use crate::book::ShardBook;

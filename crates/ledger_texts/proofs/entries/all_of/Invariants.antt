@@ -1,5 +1,5 @@
 use Rattle.std.proofs.Common.{◌≡◌, take}
-use Rattle.shard_book.specs.Groups.{all_entries}
+use Rattle.shard_book.specs.SumsByKey.{all_entries}
 use Rattle.ledger_texts.specs.inside.Spots.{seen}
 use Rattle.ledger_texts.proofs.entries.all_of.Given as goal
 

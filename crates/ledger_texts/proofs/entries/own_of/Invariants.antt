@@ -1,6 +1,6 @@
 use Rattle.std.proofs.Common.{◌≡◌, take}
 use Rattle.shard_book.specs.Entry.{own}
-use Rattle.shard_book.specs.Groups.{all_entries}
+use Rattle.shard_book.specs.SumsByKey.{all_entries}
 use Rattle.ledger_texts.proofs.entries.own_of.Given as goal
 
 abbrev pub invariant-loop-book : goal.invariant-loop-book

@@ -4,7 +4,7 @@ use Rattle.std.specs.HashMap.Entry.{map_with_value}
 use Rattle.std.specs.Option.{unwrap_or}
 use Rattle.shard_book.specs.declared.sums.tally.Tally.{Tally}
 use Rattle.shard_book.specs.Sums.{Sums}
-use Rattle.shard_book.proofs.GroupingLemmas.{kept-or}
+use Rattle.shard_book.proofs.ByKeyLemmas.{kept-or}
 use Rattle.shard_book.proofs.MergeLemmas.{tally-written}
 use Rattle.shard_book.proofs.sums.by_threads.add_tally.Goals as goal
 

@@ -3,21 +3,21 @@ use Rattle.std.specs.Prelude.{slice_index_or}
 use Rattle.std.proofs.lemmas.List.{nil_from_length}
 use Rattle.std.specs.Vec.Iter.{into_iter_items, into_iter_len}
 use Rattle.shard_book.specs.Book.{Book}
-use Rattle.shard_book.specs.Groups.{all_entries, validator_of}
-use Rattle.shard_book.specs.inside.Grouping.{IsGrouped}
-use Rattle.shard_book.proofs.GroupingLemmas.{grouped-none}
-use Rattle.shard_book.proofs.ChunkLemmas.{IsTallied, AreTallied, IsMerging, no-chunks, all-tallied, merging-first, merging-room, merging-more, merging-grouped}
+use Rattle.shard_book.specs.SumsByKey.{all_entries, validator_of}
+use Rattle.shard_book.specs.inside.TalliesByKey.{AreByKey}
+use Rattle.shard_book.proofs.ByKeyLemmas.{by_key-none}
+use Rattle.shard_book.proofs.ChunkLemmas.{IsTallied, AreTallied, IsMerging, no-chunks, all-tallied, merging-first, merging-room, merging-more, merging-by_key}
 use Rattle.shard_book.proofs.sums.by_threads.tallies_by_four.Goals as goal
 
 -- without chunks there are no books
-pub returns-in_default-clause-grouped : goal.returns-in_default-clause-grouped
-returns-in_default-clause-grouped g c =
+pub returns-in_default-clause-by_key : goal.returns-in_default-clause-by_key
+returns-in_default-clause-by_key g c =
     let books = c.args.books.now in
     let some : 0 < c.max-size.result = omega (arith, c.max-size.ensures) in
     let none : 0 ≡ length books / c.max-size.result + min 1 (length books % c.max-size.result) =
     sym (c.in_default.ensures.cases.0) ∙ (c.into_iter-parts.ensures.len ∙ c.in_ok-parts.ensures.len) in
-    subst (λ (bs : List Book). IsGrouped ◌==◌ validator_of (all_entries bs) c.with_hasher.result.entries) (sym (no-chunks c.max-size.result books some none))
-    (grouped-none ◌==◌ validator_of c.with_hasher.result.entries c.with_hasher.ensures.empty)
+    subst (λ (bs : List Book). AreByKey ◌==◌ validator_of (all_entries bs) c.with_hasher.result.entries) (sym (no-chunks c.max-size.result books some none))
+    (by_key-none ◌==◌ validator_of c.with_hasher.result.entries c.with_hasher.ensures.empty)
 
 pub loop-more-init : goal.loop-more-init
 loop-more-init g c =
@@ -31,7 +31,7 @@ loop-more-init g c =
     (λ n d l.
     let given = (c.in_ok-parts.ensures.each n d l).1 in
     let call = given.call in
-    subst (λ (bs : List Book). IsTallied ◌==◌ validator_of bs (slice_index_or parts.items n d)) given.argument_is.value (record { grouped = search rules; few = search rules })) in
+    subst (λ (bs : List Book). IsTallied ◌==◌ validator_of bs (slice_index_or parts.items n d)) given.argument_is.value (record { by_key = search rules; few = search rules })) in
     let same = c.into_iter-more-iterator.ensures.into_iter_gives in
     record {
       may = tt;
@@ -62,8 +62,8 @@ loop-more-preserved g c =
           c.add_tallies.new.tallies.entries c.in_ok-add_tallies.ensures;
     }
 
-pub returns-clause-grouped : goal.returns-clause-grouped
-returns-clause-grouped g c =
+pub returns-clause-by_key : goal.returns-clause-by_key
+returns-clause-by_key g c =
     let none = nil_from_length (into_iter_items c.loop-more.more-iterator) (sym c.loop-more.invariant.left_len ∙ c.in-None.ensures.steps.0) in
-    merging-grouped ◌==◌ validator_of c.args.books.now c.loop-more.tallies.entries
+    merging-by_key ◌==◌ validator_of c.args.books.now c.loop-more.tallies.entries
     (subst (λ rs. IsMerging ◌==◌ validator_of c.args.books.now c.loop-more.tallies.entries rs) none c.loop-more.invariant.merging)

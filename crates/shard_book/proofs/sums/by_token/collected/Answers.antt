@@ -6,7 +6,7 @@ use Rattle.shard_book.specs.declared.entry.Entry.{Entry}
 use Rattle.fare_table.specs.declared.token.Token.{Token}
 use Rattle.shard_book.specs.inside.Counting.{AreSummed, AreBelow}
 use Rattle.shard_book.specs.Counts.{token_counts}
-use Rattle.shard_book.specs.Groups.{all_entries}
+use Rattle.shard_book.specs.SumsByKey.{all_entries}
 use Rattle.shard_book.specs.Sums.{Sums}
 use Rattle.fare_table.specs.Token.{bytes_of}
 use Rattle.shard_book.proofs.SummedLemmas.{summed-none, summed-no_books, summed-more}

@@ -1,9 +1,9 @@
 use Rattle.std.proofs.Common.{◌++◌, take, List, subst, arith}
 use Rattle.std.proofs.lemmas.List.{length-append, length-take-le}
 use Rattle.shard_book.specs.declared.entry.Entry.{Entry}
-use Rattle.shard_book.specs.inside.Grouping.{HasRoom, IsGrouped}
+use Rattle.shard_book.specs.inside.TalliesByKey.{HasRoom, AreByKey}
 use Rattle.shard_book.proofs.HistoryLemmas.{grown-read}
-use Rattle.shard_book.proofs.sums.groups.add_entries.Goals as goal
+use Rattle.shard_book.proofs.sums.by_key.add_entries.Goals as goal
 
 pub add_entry-requires : goal.add_entry-requires
 unfolding HasRoom
@@ -14,7 +14,7 @@ add_entry-requires g c = (
 )
 
 pub loop-i-preserved : goal.loop-i-preserved
-loop-i-preserved g c = λ before grouped.
-    subst (λ (entries : List Entry). IsGrouped g.K.PartialEq.eq g.K.GroupKey.key_of entries c.add_entry.new.tallies.entries)
+loop-i-preserved g c = λ before by_key.
+    subst (λ (entries : List Entry). AreByKey g.K.PartialEq.eq g.K.SumKey.key_of entries c.add_entry.new.tallies.entries)
     (grown-read before c.args.book.now.entries c.loop-i.i c.entry-entry.result c.entry-entry.ensures)
-    (c.in_ok-add_entry.ensures (before ++ take c.loop-i.i c.args.book.now.entries) (c.loop-i.invariant before grouped))
+    (c.in_ok-add_entry.ensures (before ++ take c.loop-i.i c.args.book.now.entries) (c.loop-i.invariant before by_key))

@@ -1,11 +1,11 @@
 use Rattle.std.proofs.Common.{◌≤◌, ◌*◌, ◌^◌, length, take, arith}
-use Rattle.shard_book.specs.Groups.{all_entries}
-use Rattle.shard_book.specs.inside.Grouping.{HasRoom}
-use Rattle.shard_book.proofs.GroupingLemmas.{grouped-none}
-use Rattle.shard_book.proofs.sums.groups.tallies_of.Goals as goal
+use Rattle.shard_book.specs.SumsByKey.{all_entries}
+use Rattle.shard_book.specs.inside.TalliesByKey.{HasRoom}
+use Rattle.shard_book.proofs.ByKeyLemmas.{by_key-none}
+use Rattle.shard_book.proofs.sums.by_key.tallies_of.Goals as goal
 
 pub loop-book-init : goal.loop-book-init
-loop-book-init g c = (grouped-none _ _ _ c.with_hasher-tallies.ensures.empty, omega arith)
+loop-book-init g c = (by_key-none _ _ _ c.with_hasher-tallies.ensures.empty, omega arith)
 
 pub add_entries-requires : goal.add_entries-requires
 unfolding HasRoom

@@ -3,9 +3,9 @@
 ghost use Rattle.std.specs.Prelude.{◌≡◌, ◌+◌, ◌*◌, ◌<◌, ◌≤◌, ◌^◌, List, [], ◌∷◌, ◌++◌, length, map};
 ghost use Rattle.std.specs.Prelude.{true, IfOk, OnOk};
 ghost use Rattle.shard_book.specs.declared.entry.Entry.{Entry};
-ghost use Rattle.shard_book.specs.Groups.{all_entries};
-ghost use Rattle.shard_book.specs.inside.Groups.{sums_by};
-ghost use Rattle.shard_book.specs.inside.Grouping.{IsGrouped, HasRoom, kept_sums};
+ghost use Rattle.shard_book.specs.SumsByKey.{all_entries};
+ghost use Rattle.shard_book.specs.inside.ByKey.{sums_by};
+ghost use Rattle.shard_book.specs.inside.TalliesByKey.{AreByKey, HasRoom, kept_sums};
 ghost use Rattle.shard_book.specs.Rising.{rising};
 ghost use Rattle.std.specs.HashMap.{get};
 ghost use Rattle.shard_book.specs.Sums.{Sums, sums_of};
@@ -21,7 +21,7 @@ use std::collections::HashMap;
 use std::hash::Hash;
 
 /// What entries are summed by.
-pub(crate) trait GroupKey: Copy + Ord + Hash + Drop {
+pub(crate) trait SumKey: Copy + Ord + Hash + Drop {
     /// A key with its totals.
     type Sum: Drop;
 
@@ -44,14 +44,14 @@ pub(crate) trait GroupKey: Copy + Ord + Hash + Drop {
 }
 
 /// Adds one entry to the tally of its key.
-fn add_entry<K: GroupKey>(
+fn add_entry<K: SumKey>(
     tallies: &mut HashMap<K, Tally, TokenKeys>,
     entry: &Entry,
 ) -> Result<(), NoMemory>
     requires { HasRoom K.eq K.key_of tallies.old.entries 1 }
     ensures { OnOk result ((before : List Entry)
-        → IsGrouped K.eq K.key_of before tallies.old.entries
-        → IsGrouped K.eq K.key_of (before ++ entry.now ∷ []) tallies.new.entries) }
+        → AreByKey K.eq K.key_of before tallies.old.entries
+        → AreByKey K.eq K.key_of (before ++ entry.now ∷ []) tallies.new.entries) }
 {
     let kept = tallies.entry(K::of(entry))?.or_insert(Tally::new());
     kept.add(entry.reply());
@@ -59,14 +59,14 @@ fn add_entry<K: GroupKey>(
 }
 
 /// Adds the entries of a book to the tallies of their keys.
-fn add_entries<K: GroupKey>(
+fn add_entries<K: SumKey>(
     tallies: &mut HashMap<K, Tally, TokenKeys>,
     book: &ShardBook,
 ) -> Result<(), NoMemory>
     requires { HasRoom K.eq K.key_of tallies.old.entries (length book.now.entries) }
-    ensures grouped { OnOk result ((before : List Entry)
-        → IsGrouped K.eq K.key_of before tallies.old.entries
-        → IsGrouped K.eq K.key_of (before ++ book.now.entries) tallies.new.entries) }
+    ensures by_key { OnOk result ((before : List Entry)
+        → AreByKey K.eq K.key_of before tallies.old.entries
+        → AreByKey K.eq K.key_of (before ++ book.now.entries) tallies.new.entries) }
     ensures few { length book.now.entries < 2 ^ 64 }
 {
     for i in 0..book.len() {
@@ -77,12 +77,12 @@ fn add_entries<K: GroupKey>(
 }
 
 /// The keys, rising.
-fn rising_keys<K: GroupKey>(
+fn rising_keys<K: SumKey>(
     alloc: Global,
     tallies: &HashMap<K, Tally, TokenKeys>,
 ) -> Result<Vec<K>, NoMemory>
     ensures { IfOk result (λ keys. (entries : List Entry)
-        → IsGrouped K.eq K.key_of entries tallies.now.entries
+        → AreByKey K.eq K.key_of entries tallies.now.entries
         → keys.items ≡ rising K.cmp (map K.key_of entries)) }
 {
     let mut keys: Vec<K> = tallies.keys().copied().collect(alloc)?;
@@ -91,7 +91,7 @@ fn rising_keys<K: GroupKey>(
 }
 
 /// The totals that are kept for the key, of nothing where there are none.
-fn kept_totals<K: GroupKey>(tallies: &HashMap<K, Tally, TokenKeys>, key: K) -> Totals
+fn kept_totals<K: SumKey>(tallies: &HashMap<K, Tally, TokenKeys>, key: K) -> Totals
     requires { HasRoom K.eq K.key_of tallies.now.entries 0 }
     ensures { sums_of result ≡ kept_sums (get K.eq tallies.now key) }
 {
@@ -102,13 +102,13 @@ fn kept_totals<K: GroupKey>(tallies: &HashMap<K, Tally, TokenKeys>, key: K) -> T
 }
 
 /// Each key with its totals, by rising keys.
-pub(crate) fn listed<K: GroupKey>(
+pub(crate) fn listed<K: SumKey>(
     alloc: Global,
     tallies: &HashMap<K, Tally, TokenKeys>,
 ) -> Result<Vec<K::Sum>, NoMemory>
     requires { HasRoom K.eq K.key_of tallies.now.entries 0 }
     ensures { IfOk result (λ list. (entries : List Entry)
-        → IsGrouped K.eq K.key_of entries tallies.now.entries
+        → AreByKey K.eq K.key_of entries tallies.now.entries
         → map K.shown list.items ≡ sums_by K.cmp K.eq K.key_of entries) }
 {
     let keys = rising_keys(alloc, tallies)?;
@@ -120,14 +120,14 @@ pub(crate) fn listed<K: GroupKey>(
 }
 
 /// The tallies of all entries of the books by their keys.
-pub(crate) fn tallies_of<K: GroupKey>(
+pub(crate) fn tallies_of<K: SumKey>(
     alloc: Global,
     keys: TokenKeys,
     books: &[ShardBook],
 ) -> Result<HashMap<K, Tally, TokenKeys>, NoMemory>
     requires { length books.now ≤ 64 }
-    ensures grouped { IfOk result
-        (λ tallies. IsGrouped K.eq K.key_of (all_entries books.now) tallies.entries) }
+    ensures by_key { IfOk result
+        (λ tallies. AreByKey K.eq K.key_of (all_entries books.now) tallies.entries) }
     ensures few { OnOk result (length (all_entries books.now) ≤ length books.now * 2 ^ 64) }
 {
     let mut tallies = HashMap::with_hasher(alloc, keys);
@@ -140,7 +140,7 @@ pub(crate) fn tallies_of<K: GroupKey>(
 }
 
 /// The sums of all entries of the books by their keys.
-pub(crate) fn sums_of_books<K: GroupKey>(
+pub(crate) fn sums_of_books<K: SumKey>(
     alloc: Global,
     books: &[ShardBook],
 ) -> Result<Vec<K::Sum>, NoMemory>

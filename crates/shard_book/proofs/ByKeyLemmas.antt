@@ -22,14 +22,14 @@ use Rattle.std.proofs.lemmas.List.Folds.{list_any-append}
 use Rattle.shard_book.specs.declared.entry.Entry.{Entry}
 use Rattle.shard_book.specs.declared.sums.tally.Tally.{Tally}
 use Rattle.shard_book.specs.Entry.{reply_of, own}
-use Rattle.shard_book.specs.Groups.{sums_by_token, sums_by_validator, tokens, validators, all_entries}
-use Rattle.shard_book.specs.inside.Groups.{group, sums_by}
+use Rattle.shard_book.specs.SumsByKey.{sums_by_token, sums_by_validator, tokens, validators, all_entries}
+use Rattle.shard_book.specs.inside.ByKey.{with_key, sums_by}
 use Rattle.shard_book.specs.Shown.{token_sum, validator_sum}
 use Rattle.shard_book.specs.declared.sums.TokenSum.{TokenSum}
 use Rattle.shard_book.specs.declared.sums.ValidatorSum.{ValidatorSum}
 use Rattle.fare_table.specs.declared.token.Token.{Token}
 use Rattle.shard_book.specs.Book.{Book}
-use Rattle.shard_book.specs.inside.Grouping.{IsGrouped, HasRoom, kept_sums}
+use Rattle.shard_book.specs.inside.TalliesByKey.{AreByKey, HasRoom, kept_sums}
 use Rattle.shard_book.specs.Sums.{Sums, sums, sums_of_replies, add_sums}
 use Rattle.shard_book.specs.Tally.{sums_of_tally}
 use Rattle.shard_book.proofs.SumsLemmas.{sums-append, sums-taps}
@@ -47,26 +47,26 @@ pub kept-or : (kept : Option Tally) (fresh tally : Tally) → tally ≡ unwrap_o
 kept-or None fresh tally is none = ap sums_of_tally is ∙ none
 kept-or (Some kept) fresh tally is none = ap sums_of_tally is
 
--- a group is no longer than the entries
+-- a with_key is no longer than the entries
 pub room-kept : {K : Type 0} (eq : K → K → Bool) (key_of : Entry → K) (pairs : List (K × Tally)) (key : K) (taps more : ℕ) → HasRoom eq key_of pairs more → taps ≡ (kept_sums (lookup (eq key) pairs)).taps → taps + more ≤ 2 ^ 95
-unfolding HasRoom group
+unfolding HasRoom with_key
 room-kept eq key_of pairs key taps more room is =
-    let count : taps ≡ length (group eq key_of key room.0) = is ∙ ap (λ (s : Sums). s.taps) (room.1.sums key) ∙ sums-taps (group eq key_of key room.0) in
-    let few : length (group eq key_of key room.0) ≤ length room.0 = omega (arith, length-filter (λ (entry : Entry). eq (key_of entry) key) room.0, count_by-le-length (λ (entry : Entry). eq (key_of entry) key) room.0) in
+    let count : taps ≡ length (with_key eq key_of key room.0) = is ∙ ap (λ (s : Sums). s.taps) (room.1.sums key) ∙ sums-taps (with_key eq key_of key room.0) in
+    let few : length (with_key eq key_of key room.0) ≤ length room.0 = omega (arith, length-filter (λ (entry : Entry). eq (key_of entry) key) room.0, count_by-le-length (λ (entry : Entry). eq (key_of entry) key) room.0) in
     let bound : length room.0 + more ≤ 2 ^ 95 = room.2 in
     omega arith
 
 module _ {K : Type 0} {eq : K → K → Bool} (laws : IsEquivalence eq) (same : (a b : K) → eq a b ≡ true → a ≡ b) (key_of : Entry → K) where
-  group-push : (key : K) (before : List Entry) (entry : Entry) → group eq key_of key (before ++ entry ∷ []) ≡ group eq key_of key before ++ cond (eq (key_of entry) key) (entry ∷ []) []
-  unfolding group
-  group-push key before entry = filter-append (λ e. eq (key_of e) key) before (entry ∷ [])
+  with_key-push : (key : K) (before : List Entry) (entry : Entry) → with_key eq key_of key (before ++ entry ∷ []) ≡ with_key eq key_of key before ++ cond (eq (key_of entry) key) (entry ∷ []) []
+  unfolding with_key
+  with_key-push key before entry = filter-append (λ e. eq (key_of e) key) before (entry ∷ [])
 
   -- one entry more in the totals of its key, and the other totals as they were
-  pub grouped-push : (before : List Entry) (entry : Entry) (old new : List (K × Tally)) (totals : Tally)
+  pub by_key-push : (before : List Entry) (entry : Entry) (old new : List (K × Tally)) (totals : Tally)
       → ((q : K) → lookup (eq q) new ≡ cond (eq (key_of entry) q) (Some totals) (lookup (eq q) old))
       → sums_of_tally totals ≡ add_sums (kept_sums (lookup (eq (key_of entry)) old)) (sums_of_replies (reply_of entry ∷ []))
-      → IsGrouped eq key_of before old → IsGrouped eq key_of (before ++ entry ∷ []) new
-  grouped-push before entry old new totals updates added grouped = record {
+      → AreByKey eq key_of before old → AreByKey eq key_of (before ++ entry ∷ []) new
+  by_key-push before entry old new totals updates added by_key = record {
     sums = λ q.
         ap kept_sums (updates q)
         ∙ ⊎_elim
@@ -74,16 +74,16 @@ module _ {K : Type 0} {eq : K → K → Bool} (laws : IsEquivalence eq) (same : 
         let is : key_of entry ≡ q = same (key_of entry) q here in
         ap (λ (b : Bool). kept_sums (cond b (Some totals) (lookup (eq q) old))) here
         ∙ added
-        ∙ ap (λ (s : Sums). add_sums s (sums_of_replies (reply_of entry ∷ []))) (grouped.sums (key_of entry) ∙ ap (λ (k : K). sums (group eq key_of k before)) is)
-        ∙ sym (sums-append (group eq key_of q before) (entry ∷ []))
-        ∙ ap (λ (b : Bool). sums (group eq key_of q before ++ cond b (entry ∷ []) [])) (sym here)
-        ∙ ap sums (sym (group-push q before entry)))
+        ∙ ap (λ (s : Sums). add_sums s (sums_of_replies (reply_of entry ∷ []))) (by_key.sums (key_of entry) ∙ ap (λ (k : K). sums (with_key eq key_of k before)) is)
+        ∙ sym (sums-append (with_key eq key_of q before) (entry ∷ []))
+        ∙ ap (λ (b : Bool). sums (with_key eq key_of q before ++ cond b (entry ∷ []) [])) (sym here)
+        ∙ ap sums (sym (with_key-push q before entry)))
         (λ (apart : eq (key_of entry) q ≡ false).
         ap (λ (b : Bool). kept_sums (cond b (Some totals) (lookup (eq q) old))) apart
-        ∙ grouped.sums q
-        ∙ ap sums (sym (append-nil (group eq key_of q before)))
-        ∙ ap (λ (b : Bool). sums (group eq key_of q before ++ cond b (entry ∷ []) [])) (sym apart)
-        ∙ ap sums (sym (group-push q before entry)))
+        ∙ by_key.sums q
+        ∙ ap sums (sym (append-nil (with_key eq key_of q before)))
+        ∙ ap (λ (b : Bool). sums (with_key eq key_of q before ++ cond b (entry ∷ []) [])) (sym apart)
+        ∙ ap sums (sym (with_key-push q before entry)))
         (cases_Bool (eq (key_of entry) q));
     keys = λ q.
         ap is_some (updates q)
@@ -95,7 +95,7 @@ module _ {K : Type 0} {eq : K → K → Bool} (laws : IsEquivalence eq) (same : 
         ∙ sym (member-push q before entry))
         (λ (apart : eq (key_of entry) q ≡ false).
         ap (λ (b : Bool). is_some (cond b (Some totals) (lookup (eq q) old))) apart
-        ∙ grouped.keys q
+        ∙ by_key.keys q
         ∙ or-false (is_member eq (map key_of before) q)
         ∙ ap (λ (b : Bool). is_member eq (map key_of before) q || (b || false)) (sym (laws.symm q (key_of entry) ∙ apart))
         ∙ sym (member-push q before entry))
@@ -106,7 +106,7 @@ module _ {K : Type 0} {eq : K → K → Bool} (laws : IsEquivalence eq) (same : 
       member-push q before entry = ap (λ (ks : List K). list_any (eq q) ks) (map-append key_of before (entry ∷ [])) ∙ list_any-append (eq q) (map key_of before) (key_of entry ∷ [])
 
   -- the same, as a map's entry tells it once its value was written
-  pub grouped-written : {S : Type 0} (before : List Entry) (entry : Entry) (key : K) (old next : HashMap K Tally S) (pairs : List (K × Tally)) (kept : Tally) (fresh : Tally) (totals : Tally) (answered : Reply)
+  pub by_key-written : {S : Type 0} (before : List Entry) (entry : Entry) (key : K) (old next : HashMap K Tally S) (pairs : List (K × Tally)) (kept : Tally) (fresh : Tally) (totals : Tally) (answered : Reply)
       → key ≡ key_of entry
       → pairs ≡ next.entries
       → Updates eq old next key (Some totals)
@@ -114,27 +114,27 @@ module _ {K : Type 0} {eq : K → K → Bool} (laws : IsEquivalence eq) (same : 
       → sums_of_tally fresh ≡ sums_of_replies []
       → answered ≡ reply_of entry
       → sums_of_tally totals ≡ add_sums (sums_of_tally kept) (sums_of_replies (answered ∷ []))
-      → IsGrouped eq key_of before old.entries → IsGrouped eq key_of (before ++ entry ∷ []) pairs
-  grouped-written before entry key old next pairs kept fresh totals answered is_key same_pairs updates is_kept none is_reply added grouped =
-      grouped-push before entry old.entries pairs totals
+      → AreByKey eq key_of before old.entries → AreByKey eq key_of (before ++ entry ∷ []) pairs
+  by_key-written before entry key old next pairs kept fresh totals answered is_key same_pairs updates is_kept none is_reply added by_key =
+      by_key-push before entry old.entries pairs totals
       (λ q. ap (λ (es : List (K × Tally)). lookup (eq q) es) same_pairs ∙ updates.0 q ∙ ap (λ (k : K). cond (eq k q) (Some totals) (lookup (eq q) old.entries)) is_key)
       (added
       ∙ ap (λ (s : Sums). add_sums s (sums_of_replies (answered ∷ []))) (kept-or (get eq old key) fresh kept is_kept none ∙ ap (λ (k : K). kept_sums (get eq old k)) is_key)
       ∙ ap (λ (r : Reply). add_sums (kept_sums (get eq old (key_of entry))) (sums_of_replies (r ∷ []))) is_reply)
-      grouped
+      by_key
 
 -- the keys of the totals, once sorted, are the rising keys of the entries
 pub keys-rising : {K : Type 0} {cmp : K → K → Ordering} {eq : K → K → Bool} (total : IsTotalOrder cmp) (laws : IsEquivalence eq) (same : (a b : K) → eq a b ≡ true → a ≡ b) (ties : (a b : K) → eq a b ≡ eq_by_cmp cmp a b)
     (key_of : Entry → K) (entries : List Entry) (pairs : List (K × Tally)) (keys sorted : List K)
-    → keys ≡ keys_of pairs → IsDistinct eq (keys_of pairs) → IsPermutation keys sorted → IsSorted cmp sorted → IsGrouped eq key_of entries pairs → sorted ≡ rising cmp (map key_of entries)
-keys-rising {K = K} {cmp = cmp} {eq = eq} total laws same ties key_of entries pairs keys sorted is_keys distinct moved in_order grouped =
+    → keys ≡ keys_of pairs → IsDistinct eq (keys_of pairs) → IsPermutation keys sorted → IsSorted cmp sorted → AreByKey eq key_of entries pairs → sorted ≡ rising cmp (map key_of entries)
+keys-rising {K = K} {cmp = cmp} {eq = eq} total laws same ties key_of entries pairs keys sorted is_keys distinct moved in_order by_key =
     let alike : eq ≡ eq_by_cmp cmp = λ i a b. ties a b i in
     let apart : IsDistinct eq keys = subst (λ (ks : List K). IsDistinct eq ks) (sym is_keys) distinct in
     rising-only total (λ a b tied. same a b (ties a b ∙ ap is_eq tied)) (map key_of entries) sorted (record {
       rises = sorted-rises total (λ a b tied. same a b (ties a b ∙ ap is_eq tied)) sorted in_order
           (subst (λ (e : K → K → Bool). IsDistinct e sorted) alike (IsDistinct-IsPermutation eq laws.symm keys sorted moved apart));
       same = λ q. subst (λ (e : K → K → Bool). is_member e sorted q ≡ is_member e (map key_of entries) q) alike
-          (sym (list_any-IsPermutation (eq q) keys sorted moved) ∙ ap (λ (ks : List K). list_any (eq q) ks) is_keys ∙ sym (is_some-lookup (eq q) pairs) ∙ grouped.keys q);
+          (sym (list_any-IsPermutation (eq q) keys sorted moved) ∙ ap (λ (ks : List K). list_any (eq q) ks) is_keys ∙ sym (is_some-lookup (eq q) pairs) ∙ by_key.keys q);
     })
 
 -- the rising keys, each with its kept sums, are the sums of the entries
@@ -143,18 +143,18 @@ pub sums-listed : {K : Type 0} (cmp : K → K → Ordering) (eq : K → K → Bo
     → length items ≤ n
     → items ≡ keys
     → keys ≡ rising cmp (map key_of entries)
-    → IsGrouped eq key_of entries pairs
+    → AreByKey eq key_of entries pairs
     → shown ≡ sums_by cmp eq key_of entries
 unfolding sums_by
-sums-listed {K = K} cmp eq key_of entries pairs keys items n shown is whole same_items risen grouped =
+sums-listed {K = K} cmp eq key_of entries pairs keys items n shown is whole same_items risen by_key =
     is
     ∙ ap (λ (ks : List K). map (λ key. (key, kept_sums (lookup (eq key) pairs))) ks) (take_all n items whole ∙ same_items ∙ risen)
-    ∙ (λ i. map (λ key. (key, grouped.sums key i)) (rising cmp (map key_of entries)))
+    ∙ (λ i. map (λ key. (key, by_key.sums key i)) (rising cmp (map key_of entries)))
 
 -- no totals stand for no entries
-pub grouped-none : {K : Type 0} (eq : K → K → Bool) (key_of : Entry → K) (pairs : List (K × Tally)) → pairs ≡ [] → IsGrouped eq key_of [] pairs
-unfolding group
-grouped-none {K = K} eq key_of pairs none = subst (λ (es : List (K × Tally)). IsGrouped eq key_of [] es) (sym none) (record { sums = λ key. refl; keys = λ key. refl })
+pub by_key-none : {K : Type 0} (eq : K → K → Bool) (key_of : Entry → K) (pairs : List (K × Tally)) → pairs ≡ [] → AreByKey eq key_of [] pairs
+unfolding with_key
+by_key-none {K = K} eq key_of pairs none = subst (λ (es : List (K × Tally)). AreByKey eq key_of [] es) (sym none) (record { sums = λ key. refl; keys = λ key. refl })
 
 -- no books have no sums
 pub sums_by-none : {K Y : Type 0} (cmp : K → K → Ordering) (eq : K → K → Bool) (key_of : Entry → K) (shown : Y → K × Sums) (books : List Book) (items : List Y) → items ≡ [] → None ≡ slice_get books 0 → map shown items ≡ sums_by cmp eq key_of (all_entries books)

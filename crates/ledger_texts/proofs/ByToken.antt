@@ -10,7 +10,7 @@ use Rattle.std.proofs.lemmas.Bool.{cases_Bool}
 use Rattle.std.proofs.lemmas.List.Sorted.{IsPermutation-map, list_any-IsPermutation}
 use Rattle.fare_table.specs.Fares.{Fares}
 use Rattle.shard_book.specs.Entry.{own}
-use Rattle.shard_book.specs.Groups.{token_of, tokens}
+use Rattle.shard_book.specs.SumsByKey.{token_of, tokens}
 use Rattle.shard_book.specs.Rising.{IsRising, rising}
 use Rattle.fare_table.specs.Token.{token_cmp, token_eq}
 use Rattle.shard_book.specs.declared.entry.Entry.{Entry}
@@ -38,7 +38,7 @@ or_twice false b = refl
 
 -- What the text of entries is that follow those before, while the lines of a token are told: first
 -- the other lines of that token, and then those of each later token.
-record Grouped (fares : Fares) (whole : List Entry) (token : Token) (before rest : List Entry)
+record RestOfToken (fares : Fares) (whole : List Entry) (token : Token) (before rest : List Entry)
     (text : List ℕ) : Type 0 where
   pub own_lines : List ℕ
   pub of_own : AreLinesAfter fares token (own token before) (own token rest) own_lines
@@ -64,8 +64,8 @@ module _ (fares : Fares) (whole before : List Entry) (entry : Entry) (rest : Lis
     ≡ line ++ more) where
   -- the entry is of the token whose lines are told
   same_case : (token : Token) → token_eq entry.token token ≡ true
-      → Grouped fares whole token (before ++ entry ∷ []) rest more
-      → Grouped fares whole token before (entry ∷ rest) text
+      → RestOfToken fares whole token (before ++ entry ∷ []) rest more
+      → RestOfToken fares whole token before (entry ∷ rest) text
   same_case token here g =
       let same : entry.token ≡ token = same_token entry.token token here in
       record {
@@ -96,7 +96,7 @@ module _ (fares : Fares) (whole before : List Entry) (entry : Entry) (rest : Lis
 
   -- the entry is the first of its token: all lines of its token
   all_lines : own entry.token before ≡ []
-      → (g : Grouped fares whole entry.token (before ++ entry ∷ []) rest more)
+      → (g : RestOfToken fares whole entry.token (before ++ entry ∷ []) rest more)
       → AreTokenLines fares entry.token (own entry.token whole) (line ++ g.own_lines)
   all_lines none g =
       let here = token_eq-refl entry.token in
@@ -120,7 +120,7 @@ module _ (fares : Fares) (whole before : List Entry) (entry : Entry) (rest : Lis
 
   -- the entry is the first of its token: its token's lines, and those of each later token
   each_lines : own entry.token before ≡ []
-      → (g : Grouped fares whole entry.token (before ++ entry ∷ []) rest more)
+      → (g : RestOfToken fares whole entry.token (before ++ entry ∷ []) rest more)
       → AreLinesOfEach fares whole (entry.token ∷ g.others) text
   each_lines none g = (
     line ++ g.own_lines,
@@ -134,8 +134,8 @@ module _ (fares : Fares) (whole before : List Entry) (entry : Entry) (rest : Lis
   next_case : (token : Token) → AreUpTo before token → IsUpTo token entry.token
       → RiseFrom entry.token rest → token_eq entry.token token ≡ false
       → token_eq token entry.token ≡ false
-      → Grouped fares whole entry.token (before ++ entry ∷ []) rest more
-      → Grouped fares whole token before (entry ∷ rest) text
+      → RestOfToken fares whole entry.token (before ++ entry ∷ []) rest more
+      → RestOfToken fares whole token before (entry ∷ rest) text
   unfolding IsStrictlySortedBy
   next_case token up to rise apart beyond g =
       let less = up_apart token entry.token to apart in
@@ -153,7 +153,7 @@ module _ (fares : Fares) (whole before : List Entry) (entry : Entry) (rest : Lis
       }
 
 no_more : (fares : Fares) (whole : List Entry) (token : Token) (before : List Entry) (text : List ℕ)
-    → text ≡ [] → Grouped fares whole token before [] text
+    → text ≡ [] → RestOfToken fares whole token before [] text
 unfolding IsStrictlySortedBy own
 no_more fares whole token before text none = record {
   own_lines = [];
@@ -166,25 +166,25 @@ no_more fares whole token before text none = record {
   shown = none;
 }
 
-group : (fares : Fares) (whole : List Entry) (token : Token) (before rest : List Entry)
+rest_of_token : (fares : Fares) (whole : List Entry) (token : Token) (before rest : List Entry)
     (text : List ℕ) → whole ≡ before ++ rest → AreUpTo before token → RiseFrom token rest
-    → AreLinesAlong fares before rest text → Grouped fares whole token before rest text
-group fares whole token before [] text is up rise none = no_more fares whole token before text none
-group fares whole token before (entry ∷ rest) text is up rise (line, more, told, along, shown) =
+    → AreLinesAlong fares before rest text → RestOfToken fares whole token before rest text
+rest_of_token fares whole token before [] text is up rise none = no_more fares whole token before text none
+rest_of_token fares whole token before (entry ∷ rest) text is up rise (line, more, told, along, shown) =
     let longer : whole ≡ (before ++ entry ∷ []) ++ rest =
     is ∙ sym (append_assoc before (entry ∷ []) rest) in
     ⊎_elim
     (λ (here : token_eq entry.token token ≡ true).
     let same : entry.token ≡ token = same_token entry.token token here in
     same_case fares whole before entry rest line more text is told shown token here
-    (group fares whole token (before ++ entry ∷ []) rest more longer
+    (rest_of_token fares whole token (before ++ entry ∷ []) rest more longer
     (up_push before entry token up
     (subst (λ (t : Token). IsUpTo t token) (sym same) (up_itself token)))
     (subst (λ (t : Token). RiseFrom t rest) same rise.1) along))
     (λ (apart : token_eq entry.token token ≡ false).
     next_case fares whole before entry rest line more text is told shown token up rise.0 rise.1
     apart (token_eq-sym token entry.token ∙ apart)
-    (group fares whole entry.token (before ++ entry ∷ []) rest more longer
+    (rest_of_token fares whole entry.token (before ++ entry ∷ []) rest more longer
     (up_push before entry entry.token (up_weaker before token entry.token up rise.0)
     (up_itself entry.token)) rise.1 along))
     (cases_Bool (token_eq entry.token token))
@@ -197,7 +197,7 @@ each_token : (fares : Fares) (entries : List Entry) (text : List ℕ) → Rise e
 unfolding IsStrictlySortedBy
 each_token fares [] text rise none = ([], record { rises = tt; same = λ key. refl }, none)
 each_token fares (entry ∷ rest) text rise (line, more, told, along, shown) =
-    let g = group fares (entry ∷ rest) entry.token (entry ∷ []) rest more refl
+    let g = rest_of_token fares (entry ∷ rest) entry.token (entry ∷ []) rest more refl
     (up_itself entry.token, tt) rise along in (
       entry.token ∷ g.others,
       record { rises = g.rises; same = g.members },
@@ -218,11 +218,11 @@ each_same fares entries others (token ∷ order) text same (lines, rest, are, ea
   shown,
 )
 
-pub grouped : (fares : Fares) (entries list : List Entry) (text : List ℕ) → IsByToken entries list
+pub each_token : (fares : Fares) (entries list : List Entry) (text : List ℕ) → IsByToken entries list
     → AreLinesAlong fares [] list text
     → AreLinesOfEach fares entries (tokens entries) text
 unfolding tokens
-grouped fares entries list text is along =
+each_token fares entries list text is along =
     let (order, risen, each) = each_token fares list text is.rise along in
     let same : order ≡ rising token_cmp (map token_of entries) =
     rising-only token_cmp-total token_cmp-ties (map token_of entries) order (record {
