@@ -33,7 +33,7 @@ use Rattle.fare_program.specs.inside.Options.{HasNumber}
 abbrev pub arg_at : Command → ℕ → Arg → Arg
 arg_at c k d = slice_index_or (args_of c) k d
 
--- an argument of a plain command that takes a value, and has a default
+-- an argument of a simple command that takes a value, and has a default
 pub record IsDefaulted (c : Command) (k : ℕ) (d : Arg) (q : ValueParser) : Type 0 where
   pub no_groups : NamesNoGroup c
   pub groups : groups_of c ≡ []

@@ -1,5 +1,5 @@
--- A token's explained statement: the plain one, with the reason behind each line, the token's terms
--- before the lines, and all its windows.
+-- A token's explained statement: the lines of its statement with the reason behind each, the token's
+-- terms before the lines, and all its windows.
 use Rattle.std.specs.Prelude.{◌≡◌, ℕ, List, [], ◌∷◌, ◌++◌, Option, Some, None, codes, flat_map, map}
 use Rattle.std.specs.Prelude.{slice_get}
 use Rattle.std.specs.Fmt.{decimal}
@@ -43,7 +43,7 @@ terms_line terms =
     codes "terms fare " ++ (decimal terms.fare ++ (codes " rides " ++ (decimal terms.rides
     ++ (codes " ceiling " ++ (decimal terms.ceiling ++ codes "\n")))))
 
--- the entry's plain line, then its reason, and under a zone what clocks showed, as
+-- the entry's line of a statement, then its reason, and under a zone what clocks showed, as
 -- `2024-03-08T17:00:00.000Z subway 1000 paid 300 because .., local 2024-03-08T12:00:00-05:00`
 pub record IsExplainedLine (fares : Fares) (entry : Entry) (why : Reason) (line : List ℕ)
     : Type 0 where

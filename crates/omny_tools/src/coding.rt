@@ -32,7 +32,7 @@ fn encode_table<'a, R: BufRead, S: BufRead, W: Write + Drop>(
     }
 }
 
-/// Writes the upload of the table of this name: a plain file is read twice, anything else is held
+/// Writes the upload of the table of this name: a regular file is read twice, anything else is held
 /// in memory.
 pub(crate) fn encode<'a, W: Write + Drop>(
     rt: &HostRuntime,

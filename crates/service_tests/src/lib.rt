@@ -9,7 +9,7 @@ mod callers;
 #[cfg(test)]
 mod damaged;
 #[cfg(test)]
-mod plain;
+mod reference;
 #[cfg(test)]
 mod rows;
 #[cfg(test)]

@@ -2,7 +2,7 @@
 
 ghost use Rattle.std.specs.Prelude.{◌<◌};
 
-use crate::plain::PlainAccount;
+use crate::reference::ReferenceAccount;
 use crate::sample::{START, bytes_of, run};
 use fare_service::{OpenGate, Outcome, UploadEnd};
 use shard_book::{ShardBook, Statement};
@@ -76,10 +76,10 @@ fn some_upload(alloc: Global, numbers: &mut Numbers) -> Result<Vec<u8>, Fail> {
     Ok(file)
 }
 
-/// Every line, the totals and the window of a statement are those of the plain account over the
+/// Every line, the totals and the window of a statement are those of the reference account over the
 /// order that it shows.
 fn is_explained<R: Abort>(rt: &R, alloc: Global, statement: &Statement) -> Result<(), Fail> {
-    let mut account = PlainAccount::new(alloc);
+    let mut account = ReferenceAccount::new(alloc);
     let mut cents = 0u128;
     for place in 0..statement.lines.len() {
         let line = statement.lines.get(place);

@@ -63,8 +63,8 @@ before_last (x ∷ v) (y ∷ w) e =
 -- a field's text stands for one value at most
 pub one_value : (text value other : List ℕ) → FieldStandsFor text value → FieldStandsFor text other → value ≡ other
 one_value text value other (inl is) (inl also) = sym is.same ∙ also.same
-one_value text value other (inl is) (inr also) = absurd (is.plain (other ++ 34 ∷ []) also)
-one_value text value other (inr is) (inl also) = absurd (also.plain (value ++ 34 ∷ []) is)
+one_value text value other (inl is) (inr also) = absurd (is.unquoted (other ++ 34 ∷ []) also)
+one_value text value other (inr is) (inl also) = absurd (also.unquoted (value ++ 34 ∷ []) is)
 one_value text value other (inr is) (inr also) =
     let tails : value ++ 34 ∷ [] ≡ other ++ 34 ∷ [] = cc in
     before_last value other tails
@@ -73,7 +73,7 @@ one_value text value other (inr is) (inr also) =
 pub ends_quoted : (text value : List ℕ) → 0 < length text → slice_index text 0 ≡ 34 → FieldStandsFor text value
     → (0 < length text - 1) × (slice_index text (length text - 1) ≡ 34)
 ends_quoted [] value some quote stands = absurd (omega (arith, some))
-ends_quoted (x ∷ text) value some quote (inl is) = absurd (is.plain text (ap (λ z. z ∷ text) quote))
+ends_quoted (x ∷ text) value some quote (inl is) = absurd (is.unquoted text (ap (λ z. z ∷ text) quote))
 ends_quoted (x ∷ text) value some quote (inr is) =
     let size : length (x ∷ text) ≡ length value + 2 = ap length is ∙ ap suc (length-append value (34 ∷ [])) ∙ omega arith in
     let at : length (x ∷ text) - 1 ≡ suc (length value) = omega (arith, size) in

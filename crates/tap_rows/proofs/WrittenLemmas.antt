@@ -23,16 +23,16 @@ abbrev pub AreHigh : List ℕ → Type 0
 AreHigh text = AllByRecursion (λ byte. 47 < byte) text
 
 -- each byte comes after the line breaks
-abbrev pub ArePlain : List ℕ → Type 0
-ArePlain text = AllByRecursion (λ byte. 13 < byte) text
+abbrev pub IsUnbroken : List ℕ → Type 0
+IsUnbroken text = AllByRecursion (λ byte. 13 < byte) text
 
-plain_high : (text : List ℕ) → AreHigh text → ArePlain text
-plain_high [] high = tt
-plain_high (x ∷ text) high = (omega (arith, high.0), plain_high text high.1)
+high_unbroken : (text : List ℕ) → AreHigh text → IsUnbroken text
+high_unbroken [] high = tt
+high_unbroken (x ∷ text) high = (omega (arith, high.0), high_unbroken text high.1)
 
-plain_joined : (text more : List ℕ) → ArePlain text → ArePlain more → ArePlain (text ++ more)
-plain_joined [] more is also = also
-plain_joined (x ∷ text) more is also = (is.0, plain_joined text more is.1 also)
+unbroken_joined : (text more : List ℕ) → IsUnbroken text → IsUnbroken more → IsUnbroken (text ++ more)
+unbroken_joined [] more is also = also
+unbroken_joined (x ∷ text) more is also = (is.0, unbroken_joined text more is.1 also)
 
 -- high bytes have no comma
 no_comma : (text : List ℕ) → AreHigh text → (k d : ℕ) → k < length text → ¬ (slice_index_or text k d ≡ 44)
@@ -57,14 +57,14 @@ is_not : (x y : ℕ) → y < x → (x == y) ≡ false
 is_not x y less = grind (arith, nat_tests)
 
 -- up to and with the line feed
-taken : (line rest : List ℕ) → ArePlain line → take_through 10 (line ++ 10 ∷ rest) ≡ line ++ 10 ∷ []
-taken [] rest plain = refl
-taken (x ∷ line) rest plain = let other = is_not x 10 (omega (arith, plain.0)) in rw other (ap (λ bytes. x ∷ bytes) (taken line rest plain.1))
+taken : (line rest : List ℕ) → IsUnbroken line → take_through 10 (line ++ 10 ∷ rest) ≡ line ++ 10 ∷ []
+taken [] rest unbroken = refl
+taken (x ∷ line) rest unbroken = let other = is_not x 10 (omega (arith, unbroken.0)) in rw other (ap (λ bytes. x ∷ bytes) (taken line rest unbroken.1))
 
 -- behind the line feed
-pub dropped : (line rest : List ℕ) → ArePlain line → drop_through 10 (line ++ 10 ∷ rest) ≡ rest
-dropped [] rest plain = refl
-dropped (x ∷ line) rest plain = let other = is_not x 10 (omega (arith, plain.0)) in rw other (dropped line rest plain.1)
+pub dropped : (line rest : List ℕ) → IsUnbroken line → drop_through 10 (line ++ 10 ∷ rest) ≡ rest
+dropped [] rest unbroken = refl
+dropped (x ∷ line) rest unbroken = let other = is_not x 10 (omega (arith, unbroken.0)) in rw other (dropped line rest unbroken.1)
 
 -- a line without its end
 abbrev trimmed : List ℕ → List ℕ
@@ -93,20 +93,20 @@ no_feed line =
     let ends = ends_so line in
     rw ends (ap (λ k. take k (line ++ 10 ∷ [])) at ∙ take_front line (10 ∷ []))
 
-plain_at : (line : List ℕ) → ArePlain line → (k : ℕ) → k < length line → 13 < slice_index line k
-plain_at [] plain k within = absurd (omega (arith, within))
-plain_at (x ∷ line) plain zero within = plain.0
-plain_at (x ∷ line) plain (suc k) within = plain_at line plain.1 k (omega (arith, within))
+unbroken_at : (line : List ℕ) → IsUnbroken line → (k : ℕ) → k < length line → 13 < slice_index line k
+unbroken_at [] unbroken k within = absurd (omega (arith, within))
+unbroken_at (x ∷ line) unbroken zero within = unbroken.0
+unbroken_at (x ∷ line) unbroken (suc k) within = unbroken_at line unbroken.1 k (omega (arith, within))
 
 and_false : (b : Bool) → (b && false) ≡ false
 and_false true = refl
 and_false false = refl
 
 -- no carriage return stands last
-no_return : (line : List ℕ) → ArePlain line → ends_with_byte 13 line ≡ false
-no_return [] plain = refl
-no_return (x ∷ line) plain =
-    let last = plain_at (x ∷ line) plain (length (x ∷ line) - 1) (omega arith) in
+no_return : (line : List ℕ) → IsUnbroken line → ends_with_byte 13 line ≡ false
+no_return [] unbroken = refl
+no_return (x ∷ line) unbroken =
+    let last = unbroken_at (x ∷ line) unbroken (length (x ∷ line) - 1) (omega arith) in
     let other = is_not (slice_index (x ∷ line) (length (x ∷ line) - 1)) 13 last in
     rw other (and_false (nat_lt 0 (length (x ∷ line))))
 
@@ -114,11 +114,11 @@ strip_none : (line : List ℕ) → ends_with_byte 13 line ≡ false → strip_la
 strip_none line none = rw none refl
 
 -- the line without its end
-pub first : (line rest : List ℕ) → ArePlain line → first_line (line ++ 10 ∷ rest) ≡ line
-first line rest plain =
+pub first : (line rest : List ℕ) → IsUnbroken line → first_line (line ++ 10 ∷ rest) ≡ line
+first line rest unbroken =
     let ends = ends_so line in
     let whole : trimmed (line ++ 10 ∷ []) ≡ strip_last 13 (strip_last 10 (line ++ 10 ∷ [])) = rw ends refl in
-    ap trimmed (taken line rest plain) ∙ whole ∙ ap (strip_last 13) (no_feed line) ∙ strip_none line (no_return line plain)
+    ap trimmed (taken line rest unbroken) ∙ whole ∙ ap (strip_last 13) (no_feed line) ∙ strip_none line (no_return line unbroken)
 
 -- whether each byte is above this one
 abbrev all_above : ℕ → List ℕ → Bool
@@ -147,7 +147,7 @@ no_quote (x ∷ text) high rest e = let first : x ≡ 34 = cc in absurd (omega (
 
 -- high bytes stand for themselves
 bare : (text : List ℕ) → AreHigh text → FieldStandsFor text text
-bare text high = inl (record { same = refl; plain = no_quote text high })
+bare text high = inl (record { same = refl; unquoted = no_quote text high })
 
 high_fields : (first second third : List ℕ) → AreHigh first → AreHigh second → AreHigh third → AreFields (first ++ 44 ∷ (second ++ 44 ∷ third)) first second third
 high_fields first second third is also last = record {
@@ -174,10 +174,10 @@ token_high tap is =
 decimal_high : (number : ℕ) → number < 2 ^ 64 → AreHigh (decimal number)
 decimal_high number small = digits_high (decimal number) (decimal_is_IsNumeral number small).0.1
 
-line_plain : (tap : TapFields) → IsTapFields tap → ArePlain (line_of tap)
-line_plain tap is =
-    plain_joined (encode_lower tap.token) (44 ∷ (decimal tap.validator ++ 44 ∷ decimal tap.moment)) (plain_high _ (token_high tap is))
-    (omega arith, plain_joined (decimal tap.validator) (44 ∷ decimal tap.moment) (plain_high _ (decimal_high tap.validator (omega (arith, is.validator)))) (omega arith, plain_high _ (decimal_high tap.moment (omega (arith, is.moment)))))
+line_unbroken : (tap : TapFields) → IsTapFields tap → IsUnbroken (line_of tap)
+line_unbroken tap is =
+    unbroken_joined (encode_lower tap.token) (44 ∷ (decimal tap.validator ++ 44 ∷ decimal tap.moment)) (high_unbroken _ (token_high tap is))
+    (omega arith, unbroken_joined (decimal tap.validator) (44 ∷ decimal tap.moment) (high_unbroken _ (decimal_high tap.validator (omega (arith, is.validator)))) (omega arith, high_unbroken _ (decimal_high tap.moment (omega (arith, is.moment)))))
 
 row_back : (tap : TapFields) → IsTapFields tap → IsRow (line_of tap) tap
 row_back tap is = record {
@@ -204,9 +204,9 @@ rows_back : (taps : List TapFields) → AllByRecursion IsTapFields taps → Begi
 rows_back [] are = refl
 rows_back (tap ∷ taps) are =
     let spelt = row_spelt tap (rows_text taps) in
-    let plain = line_plain tap are.0 in
-    let line : first_line (rows_text (tap ∷ taps)) ≡ line_of tap = ap first_line spelt ∙ first (line_of tap) (rows_text taps) plain in
-    let rest : drop_through 10 (rows_text (tap ∷ taps)) ≡ rows_text taps = ap (drop_through 10) spelt ∙ dropped (line_of tap) (rows_text taps) plain in
+    let unbroken = line_unbroken tap are.0 in
+    let line : first_line (rows_text (tap ∷ taps)) ≡ line_of tap = ap first_line spelt ∙ first (line_of tap) (rows_text taps) unbroken in
+    let rest : drop_through 10 (rows_text (tap ∷ taps)) ≡ rows_text taps = ap (drop_through 10) spelt ∙ dropped (line_of tap) (rows_text taps) unbroken in
     (subst (λ text. IsRow text tap) (sym line) (row_back tap are.0), subst (λ text. BeginsWithRows text taps []) (sym rest) (rows_back taps are.1))
 
 -- the head that is written is a head
@@ -227,8 +227,8 @@ head_back =
 
 pub table_back : (taps : List TapFields) → AllByRecursion IsTapFields taps → IsTapTable (table_of_taps taps) taps
 table_back taps are =
-    let plain : ArePlain head = above_test 13 head refl in
+    let unbroken : IsUnbroken head = above_test 13 head refl in
     record {
-      head_line = subst IsHead (sym (first head (rows_text taps) plain)) head_back;
-      rows = subst (λ text. BeginsWithRows text taps []) (sym (dropped head (rows_text taps) plain)) (rows_back taps are);
+      head_line = subst IsHead (sym (first head (rows_text taps) unbroken)) head_back;
+      rows = subst (λ text. BeginsWithRows text taps []) (sym (dropped head (rows_text taps) unbroken)) (rows_back taps are);
     }

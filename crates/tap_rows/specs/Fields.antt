@@ -16,7 +16,7 @@ pub record AreFields (line first second third : List ℕ) : Type 0 where
 -- the text is the value as it is, and its first byte is no double quote
 pub record IsBare (text value : List ℕ) : Type 0 where
   pub same : text ≡ value
-  pub plain : (rest : List ℕ) → ¬ (text ≡ 34 ∷ rest)
+  pub unquoted : (rest : List ℕ) → ¬ (text ≡ 34 ∷ rest)
 
 -- the text is a double quote, the value, and a double quote
 abbrev pub IsQuoted : List ℕ → List ℕ → Type 0

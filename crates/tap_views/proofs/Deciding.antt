@@ -46,16 +46,16 @@ module _ (bytes : List ℕ) where
       → (3 < p → flags_in bytes ≡ 0)
       → (4 < p → count_in bytes ≤ 4096) → (5 < p → size_in bytes ≤ length bytes)
       → (other : LayoutFault) → fault_order other < p → ¬ (Row other bytes)
-  rows_before p last whole known plain few long (Short have) before row =
+  rows_before p last whole known no_flags few long (Short have) before row =
       omega (arith, whole before, row.1)
-  rows_before p last whole known plain few long Magic before row =
+  rows_before p last whole known no_flags few long Magic before row =
       elim (known before) [ inl is ↦ row.0 is | inr is ↦ row.1 is ]
-  rows_before p last whole known plain few long Flags before row = row (plain before)
-  rows_before p last whole known plain few long (TooMany count) before row =
+  rows_before p last whole known no_flags few long Flags before row = row (no_flags before)
+  rows_before p last whole known no_flags few long (TooMany count) before row =
       omega (arith, few before, row.0, row.1)
-  rows_before p last whole known plain few long (Length want have) before row =
+  rows_before p last whole known no_flags few long (Length want have) before row =
       omega (arith, long before, row.0, row.1, row.2)
-  rows_before p last whole known plain few long (Moment index) before row =
+  rows_before p last whole known no_flags few long (Moment index) before row =
       omega (arith, last, before)
 
   abbrev Late : ℕ → Type 0
@@ -107,17 +107,17 @@ module _ (bytes : List ℕ) where
   from_moments : header (layout_in bytes) ≤ length bytes → IsKnown → flags_in bytes ≡ 0
       → count_in bytes ≤ 4096 → size_in bytes ≤ length bytes
       → Late bytes (count_in bytes) ⊎ AllEarly bytes (count_in bytes) → Found bytes
-  from_moments whole known plain few long (inl late) = inr (
+  from_moments whole known no_flags few long (inl late) = inr (
     Moment late.0,
     record {
       holds = (late.1, late.2, late.3);
-      first = rows_before bytes 6 (omega arith) (λ _. whole) (λ _. known) (λ _. plain) (λ _.
+      first = rows_before bytes 6 (omega arith) (λ _. whole) (λ _. known) (λ _. no_flags) (λ _.
           few) (λ _. long);
     },
   )
-  from_moments whole known plain few long (inr early) =
+  from_moments whole known no_flags few long (inr early) =
       measured (record {
-        sound = record { whole = whole; known = known; plain = plain; count = refl; most = few };
+        sound = record { whole = whole; known = known; no_flags = no_flags; count = refl; most = few };
         whole = long;
         early = early;
       })
@@ -125,29 +125,29 @@ module _ (bytes : List ℕ) where
   from_length : header (layout_in bytes) ≤ length bytes → IsKnown → flags_in bytes ≡ 0
       → count_in bytes ≤ 4096
       → (length bytes < size_in bytes) ⊎ (size_in bytes ≤ length bytes) → Found bytes
-  from_length whole known plain few (inl cut_off) = inr (
+  from_length whole known no_flags few (inl cut_off) = inr (
     Length (size_in bytes) (length bytes),
     record {
       holds = (refl, refl, cut_off);
-      first = rows_before bytes 5 (omega arith) (λ _. whole) (λ _. known) (λ _. plain) (λ _.
+      first = rows_before bytes 5 (omega arith) (λ _. whole) (λ _. known) (λ _. no_flags) (λ _.
           few) (λ no. absurd (omega (arith, no)));
     },
   )
-  from_length whole known plain few (inr long) =
-      from_moments whole known plain few long (late_or_early bytes (count_in bytes))
+  from_length whole known no_flags few (inr long) =
+      from_moments whole known no_flags few long (late_or_early bytes (count_in bytes))
 
   from_count : header (layout_in bytes) ≤ length bytes → IsKnown → flags_in bytes ≡ 0
       → (4096 < count_in bytes) ⊎ (count_in bytes ≤ 4096) → Found bytes
-  from_count whole known plain (inl many) = inr (
+  from_count whole known no_flags (inl many) = inr (
     TooMany (count_in bytes),
     record {
       holds = (refl, many);
-      first = rows_before bytes 4 (omega arith) (λ _. whole) (λ _. known) (λ _. plain) (λ no.
+      first = rows_before bytes 4 (omega arith) (λ _. whole) (λ _. known) (λ _. no_flags) (λ no.
           absurd (omega (arith, no))) (λ no. absurd (omega (arith, no)));
     },
   )
-  from_count whole known plain (inr few) =
-      from_length whole known plain few (cases_lt (length bytes) (size_in bytes))
+  from_count whole known no_flags (inr few) =
+      from_length whole known no_flags few (cases_lt (length bytes) (size_in bytes))
 
   from_flags : header (layout_in bytes) ≤ length bytes → IsKnown → (0 < flags_in bytes)
       ⊎ (flags_in bytes ≤ 0) → Found bytes

@@ -360,7 +360,7 @@ headed_1 : (e f g h : ℕ) (more : List ℕ) (n : ℕ)
     → IsHeader (codes "TAP1" ++ (e ∷ f ∷ g ∷ h ∷ more)) n
     → Headed (codes "TAP1" ++ (e ∷ f ∷ g ∷ h ∷ more))
 headed_1 e f g h more n sound =
-    let flags : (g * 256 + (h * 1 + 0) ≡ 0) = sound.plain in
+    let flags : (g * 256 + (h * 1 + 0) ≡ 0) = sound.no_flags in
     let g0 : g ≡ 0 = omega arith in
     let h0 : h ≡ 0 = omega arith in (
       Tap1,
@@ -380,7 +380,7 @@ headed_2 : (e f g h : ℕ) (more : List ℕ) (n : ℕ)
     → IsHeader (codes "TAP2" ++ (e ∷ f ∷ g ∷ h ∷ more)) n
     → Headed (codes "TAP2" ++ (e ∷ f ∷ g ∷ h ∷ more))
 headed_2 e f g h more n sound =
-    let flags : (g * 256 + (h * 1 + 0) ≡ 0) = sound.plain in
+    let flags : (g * 256 + (h * 1 + 0) ≡ 0) = sound.no_flags in
     let g0 : g ≡ 0 = omega arith in
     let h0 : h ≡ 0 = omega arith in
     let long : 12 ≤ 8 + length more = omega (arith, sound.whole) in

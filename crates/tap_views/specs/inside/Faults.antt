@@ -12,7 +12,7 @@ AllEarly bytes n = (index : ℕ) → index < n → moment_in bytes index < momen
 pub record IsHeader (bytes : List ℕ) (n : ℕ) : Type 0 where
   pub whole : header (layout_in bytes) ≤ length bytes
   pub known : (take 4 bytes ≡ codes "TAP1") ⊎ (take 4 bytes ≡ codes "TAP2")
-  pub plain : flags_in bytes ≡ 0
+  pub no_flags : flags_in bytes ≡ 0
   pub count : n ≡ count_in bytes
   pub most : n ≤ 4096
 

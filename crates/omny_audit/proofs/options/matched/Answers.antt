@@ -5,9 +5,9 @@ use Rattle.clap.proofs.OnLiterals.{clap_on_literals}
 use Rattle.omny_audit.specs.Options.{audit_program}
 use Rattle.omny_audit.proofs.options.matched.Goals as goal
 
-is_plain : is_simple audit_program ≡ true
+program_is_simple : is_simple audit_program ≡ true
 unfolding audit_program clap_on_literals
-is_plain = refl
+program_is_simple = refl
 
 is_free : is_simple_and_free audit_program ≡ true
 unfolding audit_program clap_on_literals
@@ -17,7 +17,7 @@ pub returns-clause-rows : goal.returns-clause-rows
 returns-clause-rows c =
     let words = map string_bytes c.args.words.now in
     let same : app_of c.in_ok-command.field-0 ≡ audit_program = c.in_ok-command.ensures in
-    IfOk-weaker c.try_get_matches_from.result _ _ (λ m h. subst (λ (a : App). rows_of (found_of m) ≡ matches_of a words) same (h (ap is_simple same ∙ is_plain)).0)
+    IfOk-weaker c.try_get_matches_from.result _ _ (λ m h. subst (λ (a : App). rows_of (found_of m) ≡ matches_of a words) same (h (ap is_simple same ∙ program_is_simple)).0)
     c.try_get_matches_from.ensures.matches
 
 pub returns-clause-kinds : goal.returns-clause-kinds

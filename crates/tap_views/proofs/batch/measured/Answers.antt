@@ -25,5 +25,5 @@ returns-in-Some-clause-fault c =
     record {
       holds = (rw (← sound.count) late.0, late.1, late.2);
       first = rows_before bytes 6 (omega arith) (λ _. sound.whole) (λ _. sound.known) (λ _.
-          sound.plain) (λ _. rw (← sound.count) sound.most) (λ _. whole);
+          sound.no_flags) (λ _. rw (← sound.count) sound.most) (λ _. whole);
     }

@@ -1,4 +1,4 @@
-//! The plain account: it keeps all taps of a token, and works the rule out anew from the whole list
+//! The reference account: it keeps all taps of a token, and works the rule out anew from the whole list
 //! at each.
 //!
 //! It asks no table: its modes, transfers and terms are its own, and its windows end after seven
@@ -22,15 +22,15 @@ struct Known {
 
 /// All known taps of a token, in the order in which they were posted.
 #[derive(Drop)]
-pub(crate) struct PlainAccount {
+pub(crate) struct ReferenceAccount {
     alloc: Global,
     known: Vec<Known>,
 }
 
-impl PlainAccount {
+impl ReferenceAccount {
     /// An account without taps.
     pub(crate) fn new(alloc: Global) -> Self {
-        PlainAccount {
+        ReferenceAccount {
             alloc,
             known: Vec::new(alloc),
         }
