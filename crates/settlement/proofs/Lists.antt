@@ -1,4 +1,4 @@
--- Uploads that were dealt into several lists of parts.
+-- Uploads that were split into several lists of parts.
 use Rattle.std.proofs.Common.{◌≡◌, ℕ, ◌<◌, List, [], ◌++◌, length, map, get_or, sym, ap, ◌∙◌}
 use Rattle.std.proofs.lemmas.List.Concat.{flat_map-append}
 use Rattle.std.proofs.lemmas.List.Elements.{All-append}
@@ -10,7 +10,7 @@ use Rattle.tap_parts.proofs.Adding.{fields-append}
 use Rattle.fare_service.specs.Plain.{AreTapsOf, IsPlainEnd}
 use Rattle.fare_service.specs.declared.upload_end.UploadEnd.{UploadEnd}
 use Rattle.fare_service.proofs.PlainRuns.{AllZip-append}
-use Rattle.settlement.specs.inside.Dealt.{AreDealt, in_part}
+use Rattle.settlement.specs.inside.SplitTaps.{AreInParts, in_part}
 use Rattle.tap_parts.specs.Parts.{uploads_joined}
 
 -- the taps of a part in two runs of uploads
@@ -24,11 +24,11 @@ parts_joined part parts one other =
     ∙ fields-append part parts (uploads_joined one) (uploads_joined other)
 
 -- a run of uploads, and then the next run
-pub both_dealt : (parts : ℕ) (one other : List (List ℕ)) (lists more : List (List (List TapFields)))
+pub both_split : (parts : ℕ) (one other : List (List ℕ)) (lists more : List (List (List TapFields)))
     (ends later : List UploadEnd)
-    → AreDealt parts one lists ends → AreDealt parts other more later
-    → AreDealt parts (one ++ other) (lists ++ more) (ends ++ later)
-both_dealt parts one other lists more ends later front back = record {
+    → AreInParts parts one lists ends → AreInParts parts other more later
+    → AreInParts parts (one ++ other) (lists ++ more) (ends ++ later)
+both_split parts one other lists more ends later front back = record {
   taps = front.taps ++ back.taps;
   of_uploads = AllZip-append AreTapsOf one front.taps other back.taps front.of_uploads
       back.of_uploads;

@@ -1,8 +1,8 @@
-//! The taps of each part, in the pieces in which several threads dealt them.
+//! The taps of each part, in the pieces that several threads made of it.
 
 ghost use Rattle.std.specs.Prelude.{◌≡◌, ◌<◌, ◌++◌, [], ℕ, All, flat_map, length, IfOk, OnOk};
 ghost use Rattle.std.specs.Prelude.{slice_index_or};
-ghost use Rattle.settlement.specs.inside.Dealt.{ArePiecesAdded, in_part};
+ghost use Rattle.settlement.specs.inside.SplitTaps.{ArePiecesAdded, in_part};
 
 use std::alloc::{AllocError, Global};
 use std::marker::Model;
@@ -11,7 +11,7 @@ use tap_parts::{PartTaps, Parts};
 /// The taps of one part. Its memory goes when it is dropped, while other parts stay.
 #[derive(Drop)]
 pub(crate) struct Pieces {
-    /// A piece from each thread that dealt, in their order.
+    /// A piece from each thread, in their order.
     list: Vec<PartTaps>,
 }
 
@@ -63,7 +63,7 @@ fn no_pieces(alloc: Global, parts: u32) -> Result<Vec<Pieces>, AllocError>
     Ok(made)
 }
 
-/// Adds to each part the piece that a thread dealt to it.
+/// Adds to each part the piece that a thread made of it.
 fn join(parts: &mut [Pieces], lists: Vec<PartTaps>) -> Result<(), AllocError>
     requires { length lists.items ≡ length parts.old }
     ensures { OnOk result (ArePiecesAdded lists.items parts.old parts.new) }
@@ -76,7 +76,7 @@ fn join(parts: &mut [Pieces], lists: Vec<PartTaps>) -> Result<(), AllocError>
     Ok(())
 }
 
-/// The pieces of each part, in the order of the lists that the threads dealt.
+/// The pieces of each part, in the order of the threads' lists.
 pub(crate) fn pieces_of(
     alloc: Global,
     lists: Vec<Parts>,

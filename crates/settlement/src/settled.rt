@@ -4,7 +4,7 @@ ghost use Rattle.std.specs.Prelude.{◌≤◌, IfOk, map};
 ghost use Rattle.settlement.specs.Settled.{IsSettled};
 
 use crate::arranging::files_by_threads;
-use crate::dealing::{Dealt, bytes_of, deal_by_threads};
+use crate::splitting::{SplitTaps, bytes_of, split_by_threads};
 use crate::pieces::pieces_of;
 use fare_service::UploadEnd;
 use fare_table::NoMemory;
@@ -39,10 +39,10 @@ fn parts_for(uploads: &[Vec<u8>]) -> u32
     (bytes_of(uploads) / BYTES_OF_PART).clamp(1, MAX_PARTS) as u32
 }
 
-/// Settles uploads. Four threads deal the taps, and four put the parts' taps into order; where one
-/// is refused, another does its work. Its one error is want of memory. The bytes of an upload are
-/// given back as soon as its taps are dealt to parts, and the taps of a part as soon as its upload
-/// is made.
+/// Settles uploads. Four threads split the taps by part, and four put the parts' taps into order;
+/// where one is refused, another does its work. Its one error is want of memory. The bytes of an
+/// upload are given back as soon as its taps are split, and the taps of a part as soon as its
+/// upload is made.
 pub fn settle<R: Threads + Sync>(
     rt: &R,
     alloc: Global,
@@ -52,7 +52,7 @@ pub fn settle<R: Threads + Sync>(
         made.ends.items (map (λ file. file.items) made.files.items)) }
 {
     let parts = parts_for(&uploads);
-    let Dealt { lists, ends } = deal_by_threads(rt, alloc, uploads, parts, HALVINGS)?;
+    let SplitTaps { lists, ends } = split_by_threads(rt, alloc, uploads, parts, HALVINGS)?;
     let pieces = pieces_of(alloc, lists, parts)?;
     let files = files_by_threads(rt, alloc, pieces, HALVINGS)?;
     Ok(Settled { ends, files })

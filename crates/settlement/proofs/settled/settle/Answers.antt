@@ -4,7 +4,7 @@ use Rattle.std.proofs.lemmas.List.{get_or_default}
 use Rattle.tap_views.specs.Encoding.{fields_of, AreEarly}
 use Rattle.tap_views.specs.declared.encoder.TapFields.{TapFields}
 use Rattle.tap_parts.specs.Parts.{of_part}
-use Rattle.settlement.specs.inside.Dealt.{in_part}
+use Rattle.settlement.specs.inside.SplitTaps.{in_part}
 use Rattle.settlement.specs.Settled.{IsPartFile}
 use Rattle.tap_parts.specs.Parts.{uploads_joined}
 use Rattle.tap_parts.proofs.Early.{part_early}
@@ -16,39 +16,39 @@ use Rattle.settlement.proofs.settled.settle.Goals as goal
 pub files_by_threads-requires-clause-early : goal.files_by_threads-requires-clause-early
 files_by_threads-requires-clause-early g c =
     let parts = c.parts_for-parts.result in
-    let dealt = c.in_ok-lists.ensures in
+    let split = c.in_ok-lists.ensures in
     let pieces = c.in_ok-pieces.ensures in
     let E : List TapFields → Type 0 = λ taps. AreEarly (λ (tap : TapFields). tap.moment) taps in
     λ _ _. all_by E c.in_ok-pieces.pieces.items (λ part d there.
     let within : part < parts = omega (arith, there, pieces.number) in
-    let early = part_early part parts (uploads_joined dealt.taps)
-    (uploads_early (map bytes_in c.args.uploads.items) dealt.taps dealt.of_uploads) in
+    let early = part_early part parts (uploads_joined split.taps)
+    (uploads_early (map bytes_in c.args.uploads.items) split.taps split.of_uploads) in
     subst E (sym (get_or_default c.in_ok-pieces.pieces.items part d [] there
-    ∙ pieces.each part within ∙ dealt.each part within)) early)
+    ∙ pieces.each part within ∙ split.each part within)) early)
 
 pub returns : goal.returns
 returns g c =
     let parts = c.parts_for-parts.result in
     let made = c.in_ok-lists.field-0 in
-    let dealt = c.in_ok-lists.ensures in
+    let split = c.in_ok-lists.ensures in
     let pieces = c.in_ok-pieces.pieces.items in
     let bytes = map bytes_in c.in_ok-files.files.items in
     let zip = c.in_ok-files.ensures in
     let number : parts ≡ length bytes =
     omega (arith, c.in_ok-pieces.ensures.number, zip_length IsPartFile pieces bytes zip) in
     record {
-      ended = dealt.ended;
-      taps = dealt.taps;
-      of_uploads = dealt.of_uploads;
+      ended = split.ended;
+      taps = split.taps;
+      of_uploads = split.of_uploads;
       some_part = omega (arith, number, c.parts_for-parts.ensures.least);
       few_parts = omega (arith, number, c.parts_for-parts.ensures.most);
       each = λ part file there.
           let within : part < parts = omega (arith, number, there_below bytes part file there) in
           let here : get_or pieces part []
-          ≡ map fields_of (of_part part parts (uploads_joined dealt.taps)) =
-          c.in_ok-pieces.ensures.each part within ∙ dealt.each part within in
+          ≡ map fields_of (of_part part parts (uploads_joined split.taps)) =
+          c.in_ok-pieces.ensures.each part within ∙ split.each part within in
           let Q : List TapFields → Type 0 = λ taps. IsPartFile taps file in
-          let N : ℕ → Type 0 = λ n. IsPartFile (map fields_of (of_part part n (uploads_joined dealt.taps)))
+          let N : ℕ → Type 0 = λ n. IsPartFile (map fields_of (of_part part n (uploads_joined split.taps)))
           file in
           subst N number (subst Q here (zip_there IsPartFile pieces bytes [] zip part file there));
     }

@@ -4,10 +4,10 @@ use Rattle.std.proofs.lemmas.List.Elements.{All-nil, All-cons}
 use Rattle.tap_views.specs.Encoding.{fields_of}
 use Rattle.tap_views.specs.declared.encoder.TapFields.{TapFields}
 use Rattle.tap_parts.specs.Parts.{of_part}
-use Rattle.settlement.specs.inside.Dealt.{AreDealt}
+use Rattle.settlement.specs.inside.SplitTaps.{AreInParts}
 use Rattle.tap_parts.specs.Parts.{uploads_joined}
 use Rattle.settlement.proofs.Files.{bytes_in}
-use Rattle.settlement.proofs.dealing.deal.Goals as goal
+use Rattle.settlement.proofs.splitting.split_uploads.Goals as goal
 
 pub returns : goal.returns
 returns c =
@@ -17,7 +17,7 @@ returns c =
     let list = c.add_all.new.parts in
     let P : List (List TapFields) → Type 0 = λ l. length l ≡ parts in
     let lists = c.in_ok-push.ensures.items ∙ ap (λ ls. ls ++ list ∷ []) c.new-lists.ensures.items in
-    subst (λ ls. AreDealt parts (map bytes_in c.args.uploads.items) ls c.in_ok-ends.ends.items)
+    subst (λ ls. AreInParts parts (map bytes_in c.args.uploads.items) ls c.in_ok-ends.ends.items)
     (sym lists) (record {
       taps = all.taps;
       of_uploads = all.of_uploads;

@@ -10,7 +10,7 @@ use Rattle.tap_parts.proofs.Adding.{none_added, batch_added}
 use Rattle.tap_parts.specs.Uploads.{IsUploadAdded}
 use Rattle.upload_facts.specs.Facts.{taps_of_batches}
 use Rattle.settlement.proofs.Ends.{plain_end, taps_added}
-use Rattle.settlement.proofs.dealing.add_all.Goals as goal
+use Rattle.settlement.proofs.splitting.add_all.Goals as goal
 
 abbrev bytes_in : Vec ℕ Global → List ℕ
 bytes_in upload = upload.items

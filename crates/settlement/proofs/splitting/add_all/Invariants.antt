@@ -4,7 +4,7 @@ use Rattle.tap_views.specs.Layout.{Tap}
 use Rattle.tap_parts.specs.Parts.{AreAdded}
 use Rattle.fare_service.specs.Plain.{AreTapsOfEach, ArePlainEnds}
 use Rattle.tap_parts.specs.Parts.{uploads_joined}
-use Rattle.settlement.proofs.dealing.add_all.Given as goal
+use Rattle.settlement.proofs.splitting.add_all.Given as goal
 
 abbrev pub invariant-loop-upload : goal.invariant-loop-upload
 invariant-loop-upload l = record {

@@ -1,4 +1,4 @@
--- What is known of uploads whose taps were dealt to parts. Private functions alone cite this.
+-- What is known of uploads whose taps were split into parts. Private functions alone cite this.
 use Rattle.std.specs.Prelude.{◌≡◌, ◌<◌, ◌++◌, ℕ, List, [], All, length, map, flat_map}
 use Rattle.std.specs.Prelude.{slice_index_or}
 use Rattle.tap_views.specs.Encoding.{fields_of}
@@ -29,7 +29,7 @@ pub record AreAllAdded (uploads : List (List ℕ)) (old new : List (List TapFiel
 
 -- each of so many parts has, over all lists, exactly the uploads' good taps that fall to it, in
 -- their order, and these are the uploads' ends
-pub record AreDealt (parts : ℕ) (uploads : List (List ℕ)) (lists : List (List (List TapFields)))
+pub record AreInParts (parts : ℕ) (uploads : List (List ℕ)) (lists : List (List (List TapFields)))
     (ends : List UploadEnd) : Type 0 where
   pub taps : List (List Tap)
   pub of_uploads : AreTapsOfEach uploads taps

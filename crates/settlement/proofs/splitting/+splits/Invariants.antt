@@ -1,8 +1,8 @@
 use Prim.Native.Nat.{◌+◌, ◌*◌}
-use Rattle.settlement.proofs.dealing.+deals.Given as goal
+use Rattle.settlement.proofs.splitting.+splits.Given as goal
 
-abbrev pub decreases-deal_by_threads : goal.decreases-deal_by_threads
-decreases-deal_by_threads g l = 2 * l.halvings
+abbrev pub decreases-split_by_threads : goal.decreases-split_by_threads
+decreases-split_by_threads g l = 2 * l.halvings
 
 abbrev pub decreases-first : goal.decreases-first
 decreases-first g l = 2 * l.fewer + 1

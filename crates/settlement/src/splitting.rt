@@ -1,9 +1,9 @@
-//! The taps of uploads, dealt to parts by several threads.
+//! The taps of uploads, split into parts by several threads.
 
 ghost use Rattle.std.specs.Prelude.{◌≡◌, ◌≤◌, ◌++◌, length, IfOk, map};
 ghost use denote.Param.Send.{IsSync};
 ghost use Rattle.fare_service.specs.Ends.{end_by};
-ghost use Rattle.settlement.specs.inside.Dealt.{AreAllAdded, AreDealt};
+ghost use Rattle.settlement.specs.inside.SplitTaps.{AreAllAdded, AreInParts};
 
 use crate::memory::release;
 use fare_service::UploadEnd;
@@ -14,11 +14,11 @@ use std::thread::Threads;
 use tap_parts::{Parts, UploadTaps};
 use tap_views::TAP2_TAP_BYTES;
 
-/// What a run of uploads was dealt as.
+/// The taps of uploads in parts, and how each upload ends.
 #[derive(Drop)]
-pub(crate) struct Dealt {
-    /// The taps of each part, a list of parts for each thread that dealt: those of earlier uploads
-    /// come first.
+pub(crate) struct SplitTaps {
+    /// The taps of each part, a list of parts for each thread: those of earlier uploads come
+    /// first.
     pub(crate) lists: Vec<Parts>,
     /// How each upload ends.
     pub(crate) ends: Vec<UploadEnd>,
@@ -67,20 +67,20 @@ fn add_all(
     Ok(ends)
 }
 
-/// Deals the taps of the uploads to so many parts. Each part has room for half as many taps again
+/// Splits the taps of the uploads into so many parts. Each part has room for half as many taps again
 /// as its share, if tokens were even.
-fn deal(alloc: Global, uploads: Vec<Vec<u8>>, parts: u32) -> Result<Dealt, AllocError>
+fn split_uploads(alloc: Global, uploads: Vec<Vec<u8>>, parts: u32) -> Result<SplitTaps, AllocError>
     requires least { 1 ≤ parts }
     requires most { parts ≤ 65535 }
-    ensures { IfOk result (λ dealt. AreDealt parts (map (λ upload. upload.items) uploads.items)
-        dealt.lists.items dealt.ends.items) }
+    ensures { IfOk result (λ split. AreInParts parts (map (λ upload. upload.items) uploads.items)
+        split.lists.items split.ends.items) }
 {
     let share = bytes_of(&uploads) / TAP2_TAP_BYTES / parts as usize;
     let mut list = Parts::with_room(alloc, parts, share + share / 2)?;
     let ends = add_all(alloc, &mut list, uploads)?;
     let mut lists = Vec::new(alloc);
     lists.push(list)?;
-    Ok(Dealt { lists, ends })
+    Ok(SplitTaps { lists, ends })
 }
 
 /// The first so many uploads that have half of the bytes, about, and the others.
@@ -108,41 +108,41 @@ fn middle_of(uploads: &[Vec<u8>]) -> usize
     uploads.len()
 }
 
-/// Deals the taps of the uploads to so many parts. The uploads are halved so many times, and each
-/// piece is dealt by a thread of its own. Where one is refused, both halves are dealt one after the
+/// Splits the taps of the uploads into so many parts. The uploads are halved so many times, and a
+/// thread of its own splits each piece. Where one is refused, both halves are split one after the
 /// other.
-#[cycle(deals)]
-pub(crate) fn deal_by_threads<R: Threads + Sync>(
+#[cycle(splits)]
+pub(crate) fn split_by_threads<R: Threads + Sync>(
     rt: &R,
     alloc: Global,
     uploads: Vec<Vec<u8>>,
     parts: u32,
     halvings: u32,
-) -> Result<Dealt, AllocError>
+) -> Result<SplitTaps, AllocError>
     requires least { 1 ≤ parts }
     requires most { parts ≤ 65535 }
-    ensures { IfOk result (λ dealt. AreDealt parts (map (λ upload. upload.items) uploads.items)
-        dealt.lists.items dealt.ends.items) }
+    ensures { IfOk result (λ split. AreInParts parts (map (λ upload. upload.items) uploads.items)
+        split.lists.items split.ends.items) }
 {
     if halvings == 0 {
-        return deal(alloc, uploads, parts);
+        return split_uploads(alloc, uploads, parts);
     }
     let fewer = halvings - 1;
     let (front, back) = halves(uploads)?;
-    let first = move || -> Result<Dealt, AllocError>
+    let first = move || -> Result<SplitTaps, AllocError>
         requires { IsSync R.row × (1 ≤ parts) × (parts ≤ 65535) }
-        ensures { IfOk result (λ dealt. AreDealt parts (map (λ upload. upload.items) front.items)
-            dealt.lists.items dealt.ends.items) }
-    { deal_by_threads(rt, alloc, front, parts, fewer) };
-    let second = move || -> Result<Dealt, AllocError>
+        ensures { IfOk result (λ split. AreInParts parts (map (λ upload. upload.items) front.items)
+            split.lists.items split.ends.items) }
+    { split_by_threads(rt, alloc, front, parts, fewer) };
+    let second = move || -> Result<SplitTaps, AllocError>
         requires { IsSync R.row × (1 ≤ parts) × (parts ≤ 65535) }
-        ensures { IfOk result (λ dealt. AreDealt parts (map (λ upload. upload.items) back.items)
-            dealt.lists.items dealt.ends.items) }
-    { deal_by_threads(rt, alloc, back, parts, fewer) };
-    let (dealt, more) = thread::join(rt, first, second);
-    let mut dealt = dealt?;
+        ensures { IfOk result (λ split. AreInParts parts (map (λ upload. upload.items) back.items)
+            split.lists.items split.ends.items) }
+    { split_by_threads(rt, alloc, back, parts, fewer) };
+    let (split, more) = thread::join(rt, first, second);
+    let mut split = split?;
     let mut more = more?;
-    dealt.lists.append(&mut more.lists)?;
-    dealt.ends.append(&mut more.ends)?;
-    Ok(dealt)
+    split.lists.append(&mut more.lists)?;
+    split.ends.append(&mut more.ends)?;
+    Ok(split)
 }
