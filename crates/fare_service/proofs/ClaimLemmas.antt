@@ -77,20 +77,20 @@ halved_more n claims given left new few l g h = record {
         at_least (suc k) claims some le = let d = doubled_some k in omega arith
 
 -- a share from which others were split has what they have not
-pub record AreSplit (shards : ℕ) (first : ShareView) (others : List ShareView) : Type 0 where
+pub record AreSharesSplit (shards : ℕ) (first : ShareView) (others : List ShareView) : Type 0 where
   pub drawing : Halved (length others) first.drawer.claims (sum_by (λ share. share.drawer.claims) others)
   pub books : (shard : ℕ) → shard < shards → Halved (length others) (claims_at shard first.passes) (sum_by (λ share. claims_at shard share.passes) others)
 
 one_alone : (f : ShareView → ℕ) (share : ShareView) → sum_by f (share ∷ []) ≡ f share
 one_alone f share = let c = sum_by-cons f share [] in omega arith
 
-pub split_none : (shards : ℕ) (first : ShareView) → HasAllClaims shards first → AreSplit shards first []
+pub split_none : (shards : ℕ) (first : ShareView) → HasAllClaims shards first → AreSharesSplit shards first []
 split_none shards first h = record {
   drawing = halved_first first.drawer.claims (sym (one_alone (λ share. share.drawer.claims) first) ∙ h.drawing);
   books = λ shard within. halved_first (claims_at shard first.passes) (sym (one_alone (λ share. claims_at shard share.passes) first) ∙ h.books shard within);
 }
 
-pub split_more : (shards : ℕ) (first first' new : ShareView) (others : List ShareView) → length others < 15 → first' ≡ left_share first → HasHalf first new → AreSplit shards first others → AreSplit shards first' (others ++ new ∷ [])
+pub split_more : (shards : ℕ) (first first' new : ShareView) (others : List ShareView) → length others < 15 → first' ≡ left_share first → HasHalf first new → AreSharesSplit shards first others → AreSharesSplit shards first' (others ++ new ∷ [])
 split_more shards first first' new others few is half h =
     let number : length others + 1 ≡ length (others ++ new ∷ []) = sym (length-append others (new ∷ [])) in
     record {
@@ -104,7 +104,7 @@ split_more shards first first' new others few is half h =
     same_halved : {n m c g s : ℕ} → n ≡ m → s ≡ g → Halved n c g → Halved m c s
     same_halved {n} {m} {c} {g} {s} e f h = subst (λ k. Halved k c s) e (subst (λ k. Halved n c k) (sym f) h)
 
-pub split_all : (shards : ℕ) (first : ShareView) (others : List ShareView) → AreSplit shards first others → HaveAllClaims shards (first ∷ others)
+pub split_all : (shards : ℕ) (first : ShareView) (others : List ShareView) → AreSharesSplit shards first others → HaveAllClaims shards (first ∷ others)
 split_all shards first others h = record {
   drawing = sum_by-cons (λ (share : ShareView). share.drawer.claims) first others ∙ h.drawing.all;
   books = λ shard within. sum_by-cons (λ (share : ShareView). claims_at shard share.passes) first others ∙ (h.books shard within).all;

@@ -115,7 +115,7 @@ next_of fares teller after earlier wanted tap goes stands can short few =
         validator = subst (λ (n : ℕ). n < 2 ^ 32) (sym validator) can.0;
         moment = subst (λ (n : ℕ). n < 4_102_444_800_000) (sym moment) can.1;
       };
-      rises = subst (λ (t : Token). All (λ (e : Entry). token_number e.token ≤ token_number t) earlier) (sym goes.token) stands.up_to;
+      no_fall = subst (λ (t : Token). All (λ (e : Entry). token_number e.token ≤ token_number t) earlier) (sym goes.token) stands.up_to;
       replied = goes.replied;
       shown = goes.shown;
       short = short;

@@ -28,8 +28,8 @@ IsNextLine fares earlier entry line = IsTokenLine fares entry.token earlier entr
 pub record IsNext (fares : Fares) (earlier : List Entry) (entry : Entry) (line : List ℕ)
     : Type 0 where
   pub postable : IsPostable entry
-  -- tokens rise
-  pub rises : All (λ before. token_number before.token ≤ token_number entry.token) earlier
+  -- tokens do not fall
+  pub no_fall : All (λ before. token_number before.token ≤ token_number entry.token) earlier
   -- its reply is the account rule's for its token's earlier taps
   pub replied : IsReplied fares earlier entry
   pub shown : IsNextLine fares (own entry.token earlier) entry line

@@ -61,9 +61,9 @@ record IsOwn (fares : Fares) (token : Token) (entries : List Entry) : Type 0 whe
   pub legal : IsLegal fares entries
 
 module _ (fares : Fares) (letters : AreLetters fares.rules.modes) (token : Token) (done : List Entry) (below : AreBelow token done) where
-  rises : (earlier : List Entry) (entry : Entry) → AllOf token earlier → entry.token ≡ token → IsPostable entry
+  no_fall : (earlier : List Entry) (entry : Entry) → AllOf token earlier → entry.token ≡ token → IsPostable entry
       → AllByRecursion (λ before. token_number before.token ≤ token_number entry.token) (done ++ earlier)
-  rises earlier entry all is postable =
+  no_fall earlier entry all is postable =
       all_append _ done earlier
       (all_weaker _ _ done (λ before known.
       let less = less_number before.token entry.token known.0.token postable.token (subst (λ (t : Token). token_cmp before.token t ≡ Less) (sym is) known.1) in
@@ -90,7 +90,7 @@ module _ (fares : Fares) (letters : AreLetters fares.rules.modes) (token : Token
       = subst (λ (t : Token). IsLedgerLine fares t (length earlier + 1) entry (reason_after fares t earlier entry) line) (sym is) shown in
       record {
         postable = postable;
-        rises = all_read (λ (before : Entry). token_number before.token ≤ token_number entry.token) (done ++ earlier) (rises earlier entry of.0 is postable);
+        no_fall = all_read (λ (before : Entry). token_number before.token ≤ token_number entry.token) (done ++ earlier) (no_fall earlier entry of.0 is postable);
         replied = replied_same fares earlier (done ++ earlier) entry (alone ∙ sym owned) (known.legal.each earlier entry rest refl);
         shown = subst (λ (es : List Entry). IsNextLine fares es entry line) (sym owned) line_is;
         short = short;

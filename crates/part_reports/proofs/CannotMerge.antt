@@ -322,7 +322,7 @@ joined_of parts whole moved rise =
     record {
       apart = apart_of (part_lines parts) (λ token. subst (λ some. length some ≤ 1) (same token)
           (once token));
-      rise = falls_from lines (rise_of whole rise);
+      no_fall = falls_from lines (rise_of whole rise);
       same = same;
     }
   where

@@ -48,7 +48,7 @@ pub no_lines : (file : List ℕ) (now : Option (List ℕ)) → now ≡ Some (dro
 no_lines file now left none lines is =
     known (λ left. (list : List TokenLine) → ¬ (IsTextOf (Entries, left) list)) now
     (drop_through 10 file) left none lines
-    ((is.each, is.rise), ap (drop_through 10) is.shown ∙ head_left (text_of lines))
+    ((is.each, is.no_fall), ap (drop_through 10) is.shown ∙ head_left (text_of lines))
 
 -- ---- several ledgers
 pub begun_push : (files : List (Option (List ℕ))) (ats : List Standing)
@@ -109,7 +109,7 @@ texts_to (file ∷ files) [] parts shown are = elim shown [ ]
 texts_to (file ∷ files) (left ∷ lefts) [] shown are = elim are [ ]
 texts_to (file ∷ files) (left ∷ lefts) (lines ∷ parts) shown are = (
   (
-    (are.0.each, are.0.rise),
+    (are.0.each, are.0.no_fall),
     append_cancel_left head_text left (text_of lines) (sym shown.0 ∙ are.0.shown),
   ),
   texts_to files lefts parts shown.1 are.1,
@@ -126,7 +126,7 @@ texts_from (file ∷ files) (left ∷ lefts) [] shown are = elim are [ ]
 texts_from (file ∷ files) (left ∷ lefts) (lines ∷ parts) shown are = (
   record {
     each = are.0.0.0;
-    rise = are.0.0.1;
+    no_fall = are.0.0.1;
     shown = shown.0 ∙ ap (λ left. head_text ++ left) are.0.1;
   },
   texts_from files lefts parts shown.1 are.1,

@@ -602,7 +602,7 @@ merging_end texts ats old new merging none =
             subst (λ first. HaveOtherTokens first second) same
             (subst (λ second. HaveOtherTokens p.done second) same_too
             (others_all p.done q.done (merging.past a b p q other there there_too).others));
-        rise = falls_from merging.joined merging.rise;
+        no_fall = falls_from merging.joined merging.rise;
         same = λ token. merging.same token
             ∙ ap (lines_of_token token) (sym (join_of_map (λ (part : Part). part.done) parts));
       },

@@ -176,7 +176,7 @@ whole_tokens lists joined all is rise each lines fit =
       moved = permuted all of_joined.sums same;
       rise = subst (λ keys. IsStrictlySortedBy token_cmp keys)
           (ap (map (λ (line : TokenLine). line.token)) of_joined.is ∙ lines_keys of_joined.sums)
-          (strictly_rise joined is.rise once);
+          (strictly_rise joined is.no_fall once);
     }
 
 -- ---- the validators

@@ -17,7 +17,7 @@ pub record IsLedgerEntryLine (line : TokenLine) : Type 0 where
 -- the text is a ledger: the head line, and these lines, whose tokens do not fall
 pub record IsPartLedger (lines : List TokenLine) (text : List ℕ) : Type 0 where
   pub each : All IsLedgerEntryLine lines
-  pub rise : DoNotFall lines
+  pub no_fall : DoNotFall lines
   pub shown : text ≡ head_text ++ text_of lines
 
 -- the text is the ledger of the whole, of the parts whose ledgers these texts are

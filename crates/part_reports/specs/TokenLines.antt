@@ -32,10 +32,10 @@ ShareNoToken lists = (a b : ℕ) (first second : List TokenLine) → a ≢ b
     → slice_get lists a ≡ Some first → slice_get lists b ≡ Some second
     → HaveOtherTokens first second
 
--- the lines of all lists by rising tokens, those of one token in the order that they have in their
--- list
+-- the lines of all lists, whose tokens do not fall, those of one token in the order that they have
+-- in their list
 pub record IsMergedByToken (lists : List (List TokenLine)) (joined : List TokenLine) : Type 0 where
   pub apart : ShareNoToken lists
-  pub rise : DoNotFall joined
+  pub no_fall : DoNotFall joined
   pub same : (token : Token)
       → lines_of_token token joined ≡ lines_of_token token (flat_map (λ list. list) lists)

@@ -4,7 +4,7 @@ use Rattle.fare_service.specs.Claims.{HaveAllClaims}
 use Rattle.fare_service.specs.ServiceView.{shards_of}
 use Rattle.fare_service.specs.ShareView.{ShareView}
 use Rattle.fare_service.specs.Shares.{IsFresh, IsShareOf}
-use Rattle.fare_service.proofs.ClaimLemmas.{AreSplit, split_none, split_more, split_all}
+use Rattle.fare_service.proofs.ClaimLemmas.{AreSharesSplit, split_none, split_more, split_all}
 use Rattle.fare_service.proofs.EndingLemmas.{fresh_left}
 use Rattle.fare_service.proofs.service.Service.share_out.Goals as goal
 
@@ -18,7 +18,7 @@ loop-init c =
       each = subst P (sym nothing) (All-nil S);
       number = omega (arith, ap length nothing);
       fresh = λ f. (f, subst (λ (ss : List ShareView). All IsFresh ss) (sym nothing) (All-nil IsFresh));
-      claims = λ whole. subst (λ ss. AreSplit (shards_of c.args.self.now) c.args.first ss) (sym nothing) (split_none (shards_of c.args.self.now) c.args.first whole);
+      claims = λ whole. subst (λ ss. AreSharesSplit (shards_of c.args.self.now) c.args.first ss) (sym nothing) (split_none (shards_of c.args.self.now) c.args.first whole);
     }
 
 pub loop-preserved : goal.loop-preserved
@@ -37,7 +37,7 @@ loop-preserved c =
           ));
       claims = λ whole. (
           let few : length c.loop.shares.items < 15 = omega (arith, c.loop.invariant.number, c.requires.few) in
-          subst (λ ss. AreSplit (shards_of c.args.self.now) c.share.new.old ss) (sym c.in_ok-push.ensures.items)
+          subst (λ ss. AreSharesSplit (shards_of c.args.self.now) c.share.new.old ss) (sym c.in_ok-push.ensures.items)
           (split_more (shards_of c.args.self.now) c.loop.first c.share.new.old share c.loop.shares.items few c.in_ok-share.ensures.old c.in_ok-share.ensures.half (c.loop.invariant.claims whole)));
     }
 

@@ -22,7 +22,7 @@ returns-in-Less-clause-stands c = λ fares entries is.
     last.0.up_to (subst (λ (t : Token). token_number c.in-Some.teller.token < token_number t) (sym first.token) less)
 
 pub returns-in-Greater-clause-less : goal.returns-in-Greater-clause-less
-returns-in-Greater-clause-less c = λ fares entries is rises.
+returns-in-Greater-clause-less c = λ fares entries is no_fall.
     let last = subst (λ (t : Option Teller). HasTeller fares t entries) c.in-Some.is is in
     let greater = greater_number c.in-Some.teller.token c.args.token last.0.fits c.requires (sym c.cmp.ensures ∙ c.in-Greater.is) in
-    own-some c.in-Some.teller.token entries (token_number c.args.token) (subst (λ (n : ℕ). 0 < n) last.0.told.counted last.1) rises greater
+    own-some c.in-Some.teller.token entries (token_number c.args.token) (subst (λ (n : ℕ). 0 < n) last.0.told.counted last.1) no_fall greater
