@@ -158,7 +158,7 @@ pub first_drawn : (drawing : Drawing) (opened : List SharedBookView) (shares : L
 first_drawn drawing opened shares drawer passes closed held drawn all books number is = (
   λ shard h. whole_closed drawing opened shares drawer passes closed all books shard (omega (arith, h, number)),
   All-weaker (λ share. share.drawer.seen ≤ drawer.seen) (λ share. share.drawer.seen ≤ drawn) (λ s h. omega (arith, h, is.later)) shares all.seen,
-  omega (arith, is.within, ap (λ d. d.numbers) all.source),
+  omega (arith, is.within, ap (λ d. d.numbers) all.drawn_from),
 )
 
 pub first_undrawn : (opened : List SharedBookView) (uploads : ℕ) (shares : List ShareView) (closed : List Book) (held drawn : ℕ) → shares ≡ [] → AreUnseen opened closed → length closed ≡ length opened → drawn ≤ uploads

@@ -41,7 +41,7 @@ keepings service (s ∷ shares) all =
     (first.works ∷ rest.0, (first.keeps, rest.1))
 
 pub belongs_all : (service : ServiceView) (shares : List ShareView) → All (IsShareOf service) shares → All (Belongs service.drawing service.books) shares
-belongs_all service shares all = All-weaker (IsShareOf service) (Belongs service.drawing service.books) (λ s h. record { source = h.drawer; of_books = h.passes }) shares all
+belongs_all service shares all = All-weaker (IsShareOf service) (Belongs service.drawing service.books) (λ s h. record { drawn_from = h.drawer; of_books = h.passes }) shares all
 
 all_each : (service : ServiceView) (shares : List ShareView) (works : List (List Worked)) → Kept service shares works → All (λ done. All (IsWorked service) done) works
 all_each service [] [] kept = All-nil (λ done. All (IsWorked service) done)

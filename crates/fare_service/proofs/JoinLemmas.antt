@@ -96,7 +96,7 @@ pub joined_more : (drawing : Drawing) (books : List SharedBookView) (nobody : �
     → ((shard : ℕ) → claims_at shard passes' ≡ claims_at shard passes + claims_at shard share.passes)
     → IsJoinedOf drawing books nobody (shares ++ share ∷ []) drawer' passes'
 joined_more drawing books nobody shares share drawer drawer' passes passes' below all met of_books joined claims = record {
-  source = met.source ∙ all.source;
+  drawn_from = met.drawn_from ∙ all.drawn_from;
   claims = omega (arith, met.claims, all.claims, sum_by-append (λ (s : ShareView). s.drawer.claims) shares (share ∷ []), sum_by-cons (λ (s : ShareView). s.drawer.claims) share []);
   pass_claims = λ shard. omega (arith, claims shard, all.pass_claims shard, sum_by-append (λ (s : ShareView). claims_at shard s.passes) shares (share ∷ []), sum_by-cons (λ (s : ShareView). claims_at shard s.passes) share []);
   drawn = met.drawn ∙ (ap (λ ds. ds ++ share.drawer.drawn) all.drawn ∙ sym (flat_map-append (λ s. s.drawer.drawn) shares (share ∷ []) ∙ ap (λ ds. flat_map (λ s. s.drawer.drawn) shares ++ ds) (append-nil share.drawer.drawn)));
@@ -113,7 +113,7 @@ joined_more drawing books nobody shares share drawer drawer' passes passes' belo
 -- the first share
 pub joined_first : (drawing : Drawing) (books : List SharedBookView) (nobody : ℕ) (share : ShareView) → 0 < nobody → Belongs drawing books share → IsJoinedOf drawing books nobody (share ∷ []) share.drawer share.passes
 joined_first drawing books nobody share some is = record {
-  source = is.source;
+  drawn_from = is.drawn_from;
   claims = omega (arith, sum_by-cons (λ (s : ShareView). s.drawer.claims) share []);
   pass_claims = λ shard. omega (arith, sum_by-cons (λ (s : ShareView). claims_at shard s.passes) share []);
   drawn = sym (append-nil share.drawer.drawn);

@@ -74,9 +74,9 @@ keeps_more service old new works more k h = record {
       ∙ sym (ap (λ vs. sums (entries_of vs)) (all_visits-append works more) ∙ ap sums (flat_map-append (λ v. v.entries) (all_visits works) (all_visits more)) ∙ sums-append (entries_of (all_visits works)) (entries_of (all_visits more))));
 }
 
-pub share_more : (service : ServiceView) (old new : ShareView) (more : List Worked) → (share : IsShareOf service old) → HasWorked service old new more → new.drawer.source ≡ old.drawer.source → new.totals.taps ≤ old.totals.taps + 2 ^ 60 * length more → IsShareOf service new
-share_more service old new more share h source few = record {
-  drawer = source ∙ share.drawer;
+pub share_more : (service : ServiceView) (old new : ShareView) (more : List Worked) → (share : IsShareOf service old) → HasWorked service old new more → new.drawer.drawn_from ≡ old.drawer.drawn_from → new.totals.taps ≤ old.totals.taps + 2 ^ 60 * length more → IsShareOf service new
+share_more service old new more share h drawn_from few = record {
+  drawer = drawn_from ∙ share.drawer;
   passes = h.made.books ∙ share.passes;
   works = share.works ++ more;
   keeps = keeps_more service old new share.works more share.keeps h;
@@ -98,12 +98,12 @@ next_done service drawer drawer' passes passes' totals totals' done done' upload
     worked_one service (holding drawer passes totals done) (holding drawer' passes' totals' done') (worked upload end visits) is claims drawn more made
 
 pub next_share : (service : ServiceView) (drawer drawer' : DrawerView) (passes passes' : List PassView) (totals totals' : Sums) (done done' : List Done) (upload : ℕ) (end : UploadEnd) (old : ShareView)
-    → holding drawer passes totals done ≡ old → IsShareOf service old → drawer'.claims ≡ drawer.claims → drawer'.drawn ≡ drawer.drawn ++ upload ∷ [] → drawer'.source ≡ drawer.source → done' ≡ done ++ record { upload = upload; end = end } ∷ []
+    → holding drawer passes totals done ≡ old → IsShareOf service old → drawer'.claims ≡ drawer.claims → drawer'.drawn ≡ drawer.drawn ++ upload ∷ [] → drawer'.drawn_from ≡ drawer.drawn_from → done' ≡ done ++ record { upload = upload; end = end } ∷ []
     → ((visits : List Visit) × Made (shards_of service) passes passes' totals totals' visits × IsWorked service (worked upload end visits)) → totals'.taps ≤ totals.taps + 2 ^ 60 → IsShareOf service (holding drawer' passes' totals' done')
-next_share service drawer drawer' passes passes' totals totals' done done' upload end old is share claims drawn source more (visits, made, did) few =
+next_share service drawer drawer' passes passes' totals totals' done done' upload end old is share claims drawn drawn_from more (visits, made, did) few =
     let P : ShareView → Type 0 = IsShareOf service in
     share_more service (holding drawer passes totals done) (holding drawer' passes' totals' done') (worked upload end visits ∷ []) (subst P (sym is) share)
-    (next_done service drawer drawer' passes passes' totals totals' done done' upload end visits claims drawn more made did) source (omega (arith, few))
+    (next_done service drawer drawer' passes passes' totals totals' done done' upload end visits claims drawn more made did) drawn_from (omega (arith, few))
 
 -- the totals of a share have room for another upload
 pub has_room : (service : ServiceView) (share : ShareView) → IsShareOf service share → length share.drawer.drawn < 2 ^ 32 → share.totals.taps + 2 ^ 60 ≤ 2 ^ 94
@@ -164,10 +164,10 @@ books_split [] = refl
 books_split (p ∷ ps) = ap (λ xs. p.book ∷ xs) (books_split ps)
 
 -- a share with which nothing was done
-pub fresh_share : (service : ServiceView) (drawer : DrawerView) (passes : List PassView) (totals : Sums) (done : List Done) → drawer.source ≡ service.drawing → drawer.drawn ≡ [] → books_of passes ≡ service.books
+pub fresh_share : (service : ServiceView) (drawer : DrawerView) (passes : List PassView) (totals : Sums) (done : List Done) → drawer.drawn_from ≡ service.drawing → drawer.drawn ≡ [] → books_of passes ≡ service.books
     → ((shard : ℕ) → own_at shard passes ≡ []) → totals ≡ sums [] → done ≡ [] → IsShareOf service (holding drawer passes totals done)
-fresh_share service drawer passes totals done source drawn books own zero_totals none = record {
-  drawer = source;
+fresh_share service drawer passes totals done drawn_from drawn books own zero_totals none = record {
+  drawer = drawn_from;
   passes = books;
   works = [];
   keeps = record { each = All-nil (IsWorked service); drawn = drawn; done = none; visits = own; totals = zero_totals };

@@ -83,8 +83,8 @@ module _ (service : ServiceView) (drawer drawer' : DrawerView) (passes : List Pa
   stays : HasWorked service (holding drawer passes totals done) (holding drawer' passes totals done) []
   stays = worked_none service (holding drawer passes totals done) (holding drawer' passes totals done) claims same refl refl refl
 
-  pub share_stays : IsShareOf service (holding drawer passes totals done) → drawer'.source ≡ drawer.source → IsShareOf service (holding drawer' passes totals done)
-  share_stays share source = share_more service (holding drawer passes totals done) (holding drawer' passes totals done) [] share stays source (omega arith)
+  pub share_stays : IsShareOf service (holding drawer passes totals done) → drawer'.drawn_from ≡ drawer.drawn_from → IsShareOf service (holding drawer' passes totals done)
+  share_stays share drawn_from = share_more service (holding drawer passes totals done) (holding drawer' passes totals done) [] share stays drawn_from (omega arith)
 
   pub none_next : (old : ShareView) → Going service old (holding drawer passes totals done) → drawer'.seen ≡ length service.uploads → StoppedWell service old (holding drawer' passes totals done)
   none_next old going seen = stopped_none service old (holding drawer passes totals done) (holding drawer' passes totals done) going stays (λ h. h) seen

@@ -28,7 +28,7 @@ HasAllClaims shards share = HaveAllClaims shards (share ∷ [])
 abbrev pub left_drawer : DrawerView → DrawerView
 left_drawer drawer =
     record {
-      source = drawer.source;
+      drawn_from = drawer.drawn_from;
       claims = claims_left drawer.claims;
       seen = drawer.seen;
       drawn = drawer.drawn;

@@ -104,7 +104,7 @@ pub record Keeps (service : ServiceView) (share : ShareView) (works : List Worke
 
 -- the share belongs to the service, and keeps what was done for some uploads
 pub record IsShareOf (service : ServiceView) (share : ShareView) : Type 0 where
-  pub drawer : share.drawer.source ≡ service.drawing
+  pub drawer : share.drawer.drawn_from ≡ service.drawing
   pub passes : books_of share.passes ≡ service.books
   pub works : List Worked
   pub keeps : Keeps service share works

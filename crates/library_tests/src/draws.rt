@@ -21,7 +21,7 @@ fn no_number_is_drawn_of_none(rt: HostRuntime) -> Result<(), Fail> {
 
 /// Two drawers draw 0 and 1, and the third draw finds none.
 fn drawn_by_two<R: Abort>(rt: &R, alloc: Global) -> Result<(Draw, Drawer, Drawer), NoMemory>
-    ensures { IfOk result (λ r. (r.1.source ≡ r.0) × (r.2.source ≡ r.0)) }
+    ensures { IfOk result (λ r. (r.1.drawn_from ≡ r.0) × (r.2.drawn_from ≡ r.0)) }
 {
     let (draw, mut one) = Draw::new(alloc, 2)?;
     let mut two = draw.split(&mut one)?;
@@ -93,8 +93,8 @@ fn an_owner_without_a_drawer_finishes_too(rt: HostRuntime) -> Result<(), Fail> {
 
 /// Draws until there are no more.
 fn draw_all(draw: &Draw, mut drawer: Drawer) -> Drawer
-    requires own { drawer.source ≡ draw.now }
-    ensures { result.source ≡ draw.now }
+    requires own { drawer.drawn_from ≡ draw.now }
+    ensures { result.drawn_from ≡ draw.now }
 {
     while draw.draw(&mut drawer).is_some() {}
     drawer
@@ -102,19 +102,19 @@ fn draw_all(draw: &Draw, mut drawer: Drawer) -> Drawer
 
 /// Two drawers draw in threads of their own until there are no more.
 fn draw_by_two<R: Threads + Sync>(rt: &R, draw: &Draw, one: Drawer, two: Drawer) -> (Drawer, Drawer)
-    requires one { one.source ≡ draw.now }
-    requires two { two.source ≡ draw.now }
-    ensures { (result.0.source ≡ draw.now) × (result.1.source ≡ draw.now) }
+    requires one { one.drawn_from ≡ draw.now }
+    requires two { two.drawn_from ≡ draw.now }
+    ensures { (result.0.drawn_from ≡ draw.now) × (result.1.drawn_from ≡ draw.now) }
 {
     thread::join(
         rt,
         || -> Drawer
-            requires { one.source ≡ draw.now }
-            ensures { result.source ≡ draw.entry.now }
+            requires { one.drawn_from ≡ draw.now }
+            ensures { result.drawn_from ≡ draw.entry.now }
         { draw_all(draw, one) },
         || -> Drawer
-            requires { two.source ≡ draw.now }
-            ensures { result.source ≡ draw.entry.now }
+            requires { two.drawn_from ≡ draw.now }
+            ensures { result.drawn_from ≡ draw.entry.now }
         { draw_all(draw, two) },
     )
 }
@@ -129,12 +129,12 @@ fn four_threads_draw_each_number_once(rt: HostRuntime) -> Result<(), Fail> {
     let ((mut one, two), (three, four)) = thread::join(
         &rt,
         || -> (Drawer, Drawer)
-            requires { (one.source ≡ all.now) × (two.source ≡ all.now) }
-            ensures { (result.0.source ≡ all.entry.now) × (result.1.source ≡ all.entry.now) }
+            requires { (one.drawn_from ≡ all.now) × (two.drawn_from ≡ all.now) }
+            ensures { (result.0.drawn_from ≡ all.entry.now) × (result.1.drawn_from ≡ all.entry.now) }
         { draw_by_two(&rt, all, one, two) },
         || -> (Drawer, Drawer)
-            requires { (three.source ≡ all.now) × (four.source ≡ all.now) }
-            ensures { (result.0.source ≡ all.entry.now) × (result.1.source ≡ all.entry.now) }
+            requires { (three.drawn_from ≡ all.now) × (four.drawn_from ≡ all.now) }
+            ensures { (result.0.drawn_from ≡ all.entry.now) × (result.1.drawn_from ≡ all.entry.now) }
         { draw_by_two(&rt, all, three, four) },
     );
     draw.join(&mut one, two);

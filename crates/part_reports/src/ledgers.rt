@@ -57,7 +57,7 @@ fn begin_ledgers<R: BufRead + Drop>(
 }
 
 /// Merges the ledgers of parts, and writes the ledger of all: the head line, and the lines of all
-/// ledgers by rising tokens. A fault names a ledger by its number, from 0.
+/// ledgers in order of tokens. A fault names a ledger by its number, from 0.
 pub fn merge_ledgers<R: BufRead + Drop, W: Write>(
     alloc: Global,
     ledgers: Vec<R>,

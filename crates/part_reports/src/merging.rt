@@ -1,4 +1,4 @@
-//! Lines of several texts by rising tokens, merged into one text.
+//! Lines of several texts in order of tokens, merged into one text.
 
 ghost use Rattle.std.specs.Prelude.{◌≡◌, ℕ, List, Some, IfErr, IfOk, IfSome, MatchOption};
 ghost use Rattle.std.specs.Prelude.{IsTrue, MatchResult, OnOk, Option, ◌<◌, ◌↔◌, length, map};
@@ -31,7 +31,7 @@ pub(crate) enum Lines {
     Entries,
 }
 
-/// A text whose lines are by rising tokens, at one of its lines or at its end.
+/// A text whose lines are in order of tokens, at one of its lines or at its end.
 #[derive(Drop)]
 pub(crate) struct Source<R: BufRead + Drop> {
     /// The text.
@@ -258,7 +258,7 @@ fn write_at<R: BufRead + Drop, W: Write>(
     Ok(())
 }
 
-/// Writes the lines of all texts, by rising tokens.
+/// Writes the lines of all texts, in order of tokens.
 pub(crate) fn write_merged<R: BufRead + Drop, W: Write>(
     alloc: Global,
     sources: &mut [Source<R>],

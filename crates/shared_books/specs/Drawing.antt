@@ -26,7 +26,7 @@ pub record Drawing : Type 0 where
 -- what contracts see of a drawer: the drawing that it belongs to, its claims, how many numbers it
 -- has seen drawn, and those that it drew
 pub record DrawerView : Type 0 where
-  pub source : Drawing
+  pub drawn_from : Drawing
   pub claims : ℕ
   pub seen : ℕ
   pub drawn : List ℕ
@@ -34,7 +34,7 @@ pub record DrawerView : Type 0 where
 -- a drawer that took over what another one holds: no number is there twice, so the two had none in
 -- common
 pub record HasMet (old other new : DrawerView) : Type 0 where
-  pub source : new.source ≡ old.source
+  pub drawn_from : new.drawn_from ≡ old.drawn_from
   pub claims : new.claims ≡ old.claims + other.claims
   pub drawn : new.drawn ≡ old.drawn ++ other.drawn
   pub apart : NoneTwice new.drawn
@@ -45,5 +45,5 @@ pub record HasMet (old other new : DrawerView) : Type 0 where
 -- holds, and not less than any count that it has seen
 pub record IsCount (count : ℕ) (drawer : DrawerView) : Type 0 where
   pub later : drawer.seen ≤ count
-  pub within : count ≤ drawer.source.numbers
+  pub within : count ≤ drawer.drawn_from.numbers
   pub below : AllBelow count drawer.drawn

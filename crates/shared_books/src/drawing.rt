@@ -50,7 +50,7 @@ impl Model for Drawer {
     ghost use Rattle.shared_books.specs.inside.Hands.{IsHeld};
 
     ghost view = { λ d. record {
-      source = record { home = d.seat.table_id; numbers = d.seat.me.0.numbers };
+      drawn_from = record { home = d.seat.table_id; numbers = d.seat.me.0.numbers };
       claims = d.seat.me.0.claims;
       seen = d.seat.me.0.seen;
       drawn = d.seat.me.0.drawn;
@@ -80,7 +80,7 @@ impl Draw {
     pub fn new(alloc: Global, numbers: u32) -> Result<(Draw, Drawer), NoMemory>
         ensures draw { IfOk result (λ r. r.0.numbers ≡ numbers) }
         ensures drawer { IfOk result (λ r. r.1
-            ≡ record { source = r.0; claims = all_claims; seen = 0; drawn = [] }) }
+            ≡ record { drawn_from = r.0; claims = all_claims; seen = 0; drawn = [] }) }
     {
         let (table, seat) = Table::<(), DrawerState, u32, DrawRule, Global>::of_words(
             alloc,
@@ -100,7 +100,7 @@ impl Draw {
     /// Draws a number that no other drawing gives, or `None` where all are drawn. It waits for
     /// nobody.
     pub fn draw(&self, drawer: &mut Drawer) -> Option<u32>
-        requires own { drawer.old.source ≡ self.now }
+        requires own { drawer.old.drawn_from ≡ self.now }
         ensures some { IfSome result (λ number. (drawer.old.seen ≤ number)
             × (number < self.now.numbers)
             × (drawer.new ≡ record drawer.old {
@@ -129,7 +129,7 @@ impl Draw {
     /// A new drawer, which holds no number and gets half of the claims. The old one keeps all that
     /// it holds. A single claim is lost.
     pub fn split(&self, drawer: &mut Drawer) -> Result<Drawer, NoMemory>
-        requires own { drawer.old.source ≡ self.now }
+        requires own { drawer.old.drawn_from ≡ self.now }
         ensures new { IsOkAnd result (λ new. new
             ≡ record drawer.old { claims = claims_given drawer.old.claims; drawn = [] }) }
         ensures old { drawer.new
@@ -145,8 +145,8 @@ impl Draw {
 
     /// The drawer takes over what another one holds.
     pub fn join(&self, drawer: &mut Drawer, other: Drawer)
-        requires own { drawer.old.source ≡ self.now }
-        requires other { other.source ≡ self.now }
+        requires own { drawer.old.drawn_from ≡ self.now }
+        requires other { other.drawn_from ≡ self.now }
         ensures met { HasMet drawer.old other drawer.new }
     {
         let Drawer { seat, held, seen } = drawer;
@@ -163,7 +163,7 @@ impl Draw {
     /// How many numbers were drawn, where the drawer holds them all. So it is where it has all
     /// claims.
     pub fn finish(self, drawer: Drawer) -> Result<u32, DrawMissing>
-        requires own { drawer.source ≡ self }
+        requires own { drawer.drawn_from ≡ self }
         ensures ok { IfOk result (λ drawn. HasAll drawn drawer.drawn × (drawn ≡ length drawer.drawn)
             × IsCount drawn drawer) }
         ensures err { IfErr result (λ missing. (missing.held ≡ length drawer.drawn)
@@ -212,7 +212,7 @@ impl Drawer {
         ensures count { result ≡ length self.now.drawn }
         ensures distinct { NoneTwice self.now.drawn }
         ensures below { AllBelow self.now.seen self.now.drawn
-            × (self.now.seen ≤ self.now.source.numbers) }
+            × (self.now.seen ≤ self.now.drawn_from.numbers) }
     {
         self.held
     }

@@ -58,13 +58,13 @@ pub record AreSignedAt (nobody shard : ℕ) (shares : List ShareView) (passes : 
 -- the share belongs to the drawing and to the books
 pub record Belongs (drawing : Drawing) (books : List SharedBookView) (share : ShareView)
     : Type 0 where
-  pub source : share.drawer.source ≡ drawing
+  pub drawn_from : share.drawer.drawn_from ≡ drawing
   pub of_books : books_of share.passes ≡ books
 
 -- a drawer and passes that have what these shares had
 pub record IsJoinedOf (drawing : Drawing) (books : List SharedBookView) (nobody : ℕ)
     (shares : List ShareView) (drawer : DrawerView) (passes : List PassView) : Type 0 where
-  pub source : drawer.source ≡ drawing
+  pub drawn_from : drawer.drawn_from ≡ drawing
   pub claims : drawer.claims ≡ sum_by (λ share. share.drawer.claims) shares
   pub pass_claims : (shard : ℕ)
       → claims_at shard passes ≡ sum_by (λ share. claims_at shard share.passes) shares

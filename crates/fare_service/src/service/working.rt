@@ -313,7 +313,7 @@ impl<'a> Service<'a> {
         buffers: &mut Buffers,
         gate: &G,
     ) -> Option<(Done, bool)>
-        requires drawer { drawer.old.source ≡ self.now.drawing }
+        requires drawer { drawer.old.drawn_from ≡ self.now.drawing }
         requires passes { books_of posting.old.passes.items ≡ self.now.books }
         requires clock { buffers.old.run.clock ≡ self.now.table.zone }
         requires runs { length buffers.old.runs ≡ shards_of self.now }

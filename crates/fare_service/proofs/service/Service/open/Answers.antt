@@ -26,7 +26,7 @@ returns-clause-share g c =
     let service : ServiceView = record { table = c.args.table; drawing = c.in_ok-draw.draw; books = c.in_ok-books.books.items; uploads = map (λ upload. upload.items) c.args.uploads.now } in
     let P : List PassView → Type 0 = λ ps. (shard : ℕ) → own_at shard ps ≡ [] in
     fresh_share service c.in_ok-draw.drawer c.in_ok-books.passes.items (sums_of c.new-3.result) c.new-4.result.items
-    (ap (λ d. d.source) c.in_ok-draw.ensures.drawer) (ap (λ d. d.drawn) c.in_ok-draw.ensures.drawer) (ap books_of c.in_ok-books.ensures.passes ∙ books_new c.in_ok-books.books.items)
+    (ap (λ d. d.drawn_from) c.in_ok-draw.ensures.drawer) (ap (λ d. d.drawn) c.in_ok-draw.ensures.drawer) (ap books_of c.in_ok-books.ensures.passes ∙ books_new c.in_ok-books.books.items)
     (subst P (sym c.in_ok-books.ensures.passes) (λ shard. own_new shard c.in_ok-books.books.items)) c.new-3.ensures c.new-4.ensures.items
 
 pub returns-clause-fresh : goal.returns-clause-fresh

@@ -55,7 +55,7 @@ loop-preserved g c =
       share = next_share c.args.self.now c.loop.drawer c.next_upload.new.drawer c.loop.posting.passes.items c.next_upload.new.posting.passes.items
           (sums_of c.loop.posting.totals) (sums_of c.next_upload.new.posting.totals) c.loop.done.items c.push_reserved.new.self.items next.upload next.end
           (holding c.loop.drawer c.loop.posting.passes.items (sums_of c.loop.posting.totals) c.loop.done.items) refl c.loop.invariant.share
-          (ap (λ d. d.claims) e.drawn.2) (ap (λ d. d.drawn) e.drawn.2) (ap (λ d. d.source) e.drawn.2) c.push_reserved.ensures.items e.worked c.next_upload.ensures.few;
+          (ap (λ d. d.claims) e.drawn.2) (ap (λ d. d.drawn) e.drawn.2) (ap (λ d. d.drawn_from) e.drawn.2) c.push_reserved.ensures.items e.worked c.next_upload.ensures.few;
       going = going_next c.args.self.now c.args.share c.loop.drawer c.next_upload.new.drawer c.loop.posting.passes.items c.next_upload.new.posting.passes.items
           (sums_of c.loop.posting.totals) (sums_of c.next_upload.new.posting.totals) c.loop.done.items c.push_reserved.new.self.items next
           c.loop.invariant.going (ap (λ d. d.claims) e.drawn.2) (ap (λ d. d.drawn) e.drawn.2) c.push_reserved.ensures.items e.worked c.next_upload.ensures.full (e.goes_on c.if-not-goes_on.false);
@@ -80,7 +80,7 @@ returns-then-not-goes_on-clause-share g c =
     next_share c.args.self.now c.loop.drawer c.next_upload.new.drawer c.loop.posting.passes.items c.next_upload.new.posting.passes.items
     (sums_of c.loop.posting.totals) (sums_of c.next_upload.new.posting.totals) c.loop.done.items c.push_reserved.new.self.items next.upload next.end
     (holding c.loop.drawer c.loop.posting.passes.items (sums_of c.loop.posting.totals) c.loop.done.items) refl c.loop.invariant.share
-    (ap (λ d. d.claims) e.drawn.2) (ap (λ d. d.drawn) e.drawn.2) (ap (λ d. d.source) e.drawn.2) c.push_reserved.ensures.items e.worked c.next_upload.ensures.few
+    (ap (λ d. d.claims) e.drawn.2) (ap (λ d. d.drawn) e.drawn.2) (ap (λ d. d.drawn_from) e.drawn.2) c.push_reserved.ensures.items e.worked c.next_upload.ensures.few
 
 pub returns-then-not-goes_on-clause-went_on : goal.returns-then-not-goes_on-clause-went_on
 returns-then-not-goes_on-clause-went_on g c =

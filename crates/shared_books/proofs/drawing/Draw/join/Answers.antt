@@ -6,14 +6,14 @@ use Rattle.shared_books.proofs.drawing.Draw.join.Goals as goal
 
 pub join_seat-requires : goal.join_seat-requires
 join_seat-requires c =
-    let home : c.drawer.inside.seat.table_id ≡ c.self.inside.table.shared.table_id = ap (λ d. d.source.home) c.drawer.view_is ∙ (ap (λ d. d.home) c.requires.own ∙ sym (ap (λ d. d.home) c.self.view_is)) in
-    let other : c.other.inside.seat.table_id ≡ c.self.inside.table.shared.table_id = ap (λ d. d.source.home) c.other.view_is ∙ (ap (λ d. d.home) c.requires.other ∙ sym (ap (λ d. d.home) c.self.view_is)) in
+    let home : c.drawer.inside.seat.table_id ≡ c.self.inside.table.shared.table_id = ap (λ d. d.drawn_from.home) c.drawer.view_is ∙ (ap (λ d. d.home) c.requires.own ∙ sym (ap (λ d. d.home) c.self.view_is)) in
+    let other : c.other.inside.seat.table_id ≡ c.self.inside.table.shared.table_id = ap (λ d. d.drawn_from.home) c.other.view_is ∙ (ap (λ d. d.home) c.requires.other ∙ sym (ap (λ d. d.home) c.self.view_is)) in
     let word : 0 < c.self.inside.table.shared.table_id.words = omega (arith, c.self.invariant.1) in
     (home, other, c.other.invariant.carries, word, meets _ _ _ _ _ c.drawer.invariant.live c.other.invariant.live)
 
 pub load-requires : goal.load-requires
 load-requires c =
-    let home : c.drawer.inside.seat.table_id ≡ c.self.inside.table.shared.table_id = ap (λ d. d.source.home) c.drawer.view_is ∙ (ap (λ d. d.home) c.requires.own ∙ sym (ap (λ d. d.home) c.self.view_is)) in
+    let home : c.drawer.inside.seat.table_id ≡ c.self.inside.table.shared.table_id = ap (λ d. d.drawn_from.home) c.drawer.view_is ∙ (ap (λ d. d.home) c.requires.own ∙ sym (ap (λ d. d.home) c.self.view_is)) in
     let word : 0 < c.self.inside.table.shared.table_id.words = omega (arith, c.self.invariant.1) in
     (c.join_seat.ensures.0 ∙ home, word, looks _ _ _ _ (ap (λ m. m.0.live) c.join_seat.ensures.2))
 
@@ -34,7 +34,7 @@ returns c =
     let home : c.load.new.seat.table_id ≡ c.drawer.inside.seat.table_id = c.load.ensures.0 ∙ c.join_seat.ensures.0 in
     record {
       met = record {
-        source = (λ k. record { home = home k; numbers = numbers k }) ∙ ap (λ d. d.source) c.drawer.view_is;
+        drawn_from = (λ k. record { home = home k; numbers = numbers k }) ∙ ap (λ d. d.drawn_from) c.drawer.view_is;
         claims = ap (λ v. v.claims) looked.seen ∙ (ap (λ m. m.0.claims) met ∙ (ap (λ (d : DrawerView). d.claims + c.other.inside.seat.me.0.claims) c.drawer.view_is ∙ ap (λ (d : DrawerView). c.args.drawer.now.claims + d.claims) c.other.view_is));
         drawn = ap (λ v. v.drawn) looked.seen ∙ (ap (λ m. m.0.drawn) met ∙ (ap (λ (d : DrawerView). d.drawn ++ c.other.inside.seat.me.0.drawn) c.drawer.view_is ∙ ap (λ (d : DrawerView). c.args.drawer.now.drawn ++ d.drawn) c.other.view_is));
         apart = subst (λ xs. NoneTwice xs) (ap (λ v. v.drawn) (sym looked.seen)) looked.none_twice;
