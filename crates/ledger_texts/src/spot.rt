@@ -18,7 +18,7 @@ const MAX_PLACES: u64 = 281_474_976_710_656;
 #[derive(Clone, Copy)]
 pub(crate) struct Spot {
     /// The book's place among the books in the lowest 16 bits, the entry's place in its book above.
-    word: u64,
+    bits: u64,
 }
 
 /// What stands where no entry is.
@@ -49,7 +49,7 @@ impl Spot {
             return Err(NoMemory);
         }
         Ok(Spot {
-            word: place * MAX_BOOKS + number,
+            bits: place * MAX_BOOKS + number,
         })
     }
 
@@ -60,8 +60,8 @@ impl Spot {
     {
         match entry_at(
             books,
-            (self.word % MAX_BOOKS) as usize,
-            self.word / MAX_BOOKS,
+            (self.bits % MAX_BOOKS) as usize,
+            self.bits / MAX_BOOKS,
         ) {
             Some(entry) => entry,
             None => nothing(),

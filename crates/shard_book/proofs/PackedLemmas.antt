@@ -13,7 +13,7 @@ use Rattle.shard_book.specs.declared.accounts.KeptAccount.{KeptAccount}
 use Rattle.shard_book.specs.declared.entry.Entry.{Entry}
 use Rattle.shard_book.specs.declared.packed.PackedEntry.{PackedEntry}
 use Rattle.fare_table.specs.declared.token.Token.{Token}
-use Rattle.shard_book.specs.inside.Packed.{ArePlaced, HasToken, KeepPlaces, answer_at, entry_of, entry_with, history_of, no_token, word_answer, word_cents, word_moment}
+use Rattle.shard_book.specs.inside.Packed.{ArePlaced, HasToken, KeepPlaces, answer_at, entry_of, entry_with, history_of, no_token, bits_answer, bits_cents, bits_moment}
 use Rattle.shard_book.specs.inside.Places.{count_place}
 
 -- the answer with the number of an answer is that answer
@@ -32,22 +32,22 @@ place-below Capped = omega arith
 place-below Stale = omega arith
 place-below Unknown = omega arith
 
--- a word gives its three parts back
-pub moment-back : (cents number moment : ℕ) → moment < 2 ^ 42 → word_moment ((cents * 8 + number) * 2 ^ 42 + moment) ≡ moment
+-- the bits of an entry give their three parts back
+pub moment-back : (cents number moment : ℕ) → moment < 2 ^ 42 → bits_moment ((cents * 8 + number) * 2 ^ 42 + moment) ≡ moment
 moment-back cents number moment early = mod-mul-add (cents * 8 + number) (2 ^ 42) moment early
 
 -- what is above the moment
 upper-back : (upper moment : ℕ) → moment < 2 ^ 42 → (upper * 2 ^ 42 + moment) / 2 ^ 42 ≡ upper
 upper-back upper moment early = div-mul-add upper (2 ^ 42) moment early
 
-pub answer-in_word : (cents moment : ℕ) (answer : Answer) → moment < 2 ^ 42 → word_answer ((cents * 8 + count_place answer) * 2 ^ 42 + moment) ≡ answer
-answer-in_word cents moment answer early =
+pub answer-in_bits : (cents moment : ℕ) (answer : Answer) → moment < 2 ^ 42 → bits_answer ((cents * 8 + count_place answer) * 2 ^ 42 + moment) ≡ answer
+answer-in_bits cents moment answer early =
     ap (λ (upper : ℕ). answer_at (upper % 8)) (upper-back (cents * 8 + count_place answer) moment early)
     ∙ ap answer_at (mod-mul-add cents 8 (count_place answer) (place-below answer))
     ∙ answer-back answer
 
-pub cents-in_word : (cents moment : ℕ) (answer : Answer) → moment < 2 ^ 42 → word_cents ((cents * 8 + count_place answer) * 2 ^ 42 + moment) ≡ cents
-cents-in_word cents moment answer early =
+pub cents-in_bits : (cents moment : ℕ) (answer : Answer) → moment < 2 ^ 42 → bits_cents ((cents * 8 + count_place answer) * 2 ^ 42 + moment) ≡ cents
+cents-in_bits cents moment answer early =
     ap (λ (upper : ℕ). upper / 8) (upper-back (cents * 8 + count_place answer) moment early)
     ∙ div-mul-add cents 8 (count_place answer) (place-below answer)
 
@@ -65,23 +65,23 @@ abbrev pub with_token : PackedEntry → Token → Entry
 with_token packed token = record {
   token = token;
   validator = packed.validator;
-  moment = word_moment packed.word;
-  answer = word_answer packed.word;
-  cents = word_cents packed.word;
+  moment = bits_moment packed.bits;
+  answer = bits_answer packed.bits;
+  cents = bits_cents packed.bits;
 }
 
 -- an entry by its parts
-pub parts-same : (token : Token) (validator word moment : ℕ) (reply : Reply) → word_moment word ≡ moment → word_answer word ≡ reply.answer → word_cents word ≡ reply.cents
-    → record_of token validator (word_moment word) (word_answer word) (word_cents word) ≡ entry_with token validator moment reply
-parts-same token validator word moment reply is_moment is_answer is_cents =
-    ap (λ (m : ℕ). record_of token validator m (word_answer word) (word_cents word)) is_moment
-    ∙ ap (λ (a : Answer). record_of token validator moment a (word_cents word)) is_answer
+pub parts-same : (token : Token) (validator bits moment : ℕ) (reply : Reply) → bits_moment bits ≡ moment → bits_answer bits ≡ reply.answer → bits_cents bits ≡ reply.cents
+    → record_of token validator (bits_moment bits) (bits_answer bits) (bits_cents bits) ≡ entry_with token validator moment reply
+parts-same token validator bits moment reply is_moment is_answer is_cents =
+    ap (λ (m : ℕ). record_of token validator m (bits_answer bits) (bits_cents bits)) is_moment
+    ∙ ap (λ (a : Answer). record_of token validator moment a (bits_cents bits)) is_answer
     ∙ ap (λ (cents : ℕ). record_of token validator moment reply.answer cents) is_cents
 
 -- the entry that is read of a packed one, with its answer
-pub answer-same : (packed : PackedEntry) (token : Token) (answer : Answer) → answer ≡ word_answer packed.word
-    → record_of token packed.validator (word_moment packed.word) answer (word_cents packed.word) ≡ with_token packed token
-answer-same packed token answer is = ap (λ (a : Answer). record_of token packed.validator (word_moment packed.word) a (word_cents packed.word)) is
+pub answer-same : (packed : PackedEntry) (token : Token) (answer : Answer) → answer ≡ bits_answer packed.bits
+    → record_of token packed.validator (bits_moment packed.bits) answer (bits_cents packed.bits) ≡ with_token packed token
+answer-same packed token answer is = ap (λ (a : Answer). record_of token packed.validator (bits_moment packed.bits) a (bits_cents packed.bits)) is
 
 -- a packed entry stands for the entry of the token at its place
 pub entry-at : (tokens : List Token) (packed : PackedEntry) (token : Token) → slice_get tokens packed.place ≡ Some token → entry_of tokens packed ≡ with_token packed token

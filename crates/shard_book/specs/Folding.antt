@@ -1,4 +1,4 @@
--- The hash of the accounts: a product for each word, its halves joined by xor.
+-- The hash of the accounts: a product for each eight bytes, its halves joined by xor.
 use Rattle.std.specs.Prelude.{ℕ, ◌*◌, ◌/◌, ◌-◌, ◌^◌, List, [], ◌∷◌, length, nat_le, nat_lt}
 use Rattle.std.specs.Prelude.{if◌then◌else◌, slice_index, bit_and, bit_xor}
 use Rattle.std.specs.Int.{from_le_bytes, w32, w64}
@@ -10,8 +10,8 @@ unfoldable pub folded_multiply : ℕ → ℕ → ℕ
 folded_multiply a b = bit_xor (bit_and (a * b) (2 ^ 64 - 1)) (a * b / 2 ^ 64)
 
 -- the number in the first eight, four or one of the bytes
-unfoldable pub first_word : List ℕ → ℕ
-first_word bytes =
+unfoldable pub leading_number : List ℕ → ℕ
+leading_number bytes =
     let at = slice_index bytes in
     if nat_le 8 (length bytes)
     then from_le_bytes w64 (at 0 ∷ at 1 ∷ at 2 ∷ at 3 ∷ at 4 ∷ at 5 ∷ at 6 ∷ at 7 ∷ [])
@@ -22,7 +22,7 @@ first_word bytes =
 unfoldable pub state_after_write : FoldedProduct → List ℕ → FoldedProduct
 state_after_write hasher bytes =
     record {
-      state = folded_multiply (bit_xor hasher.state (first_word bytes)) hasher.multiplier;
+      state = folded_multiply (bit_xor hasher.state (leading_number bytes)) hasher.multiplier;
       multiplier = hasher.multiplier;
     }
 

@@ -5,17 +5,17 @@ ghost use Rattle.account_rule.specs.declared.reply.Reply.{Reply};
 ghost use Rattle.shard_book.specs.declared.entry.Entry.{Entry};
 ghost use Rattle.fare_table.specs.declared.token.Token.{Token};
 ghost use Rattle.shard_book.specs.inside.Packed.{answer_at, entry_of, entry_with};
-ghost use Rattle.shard_book.specs.inside.Packed.{word_answer, word_cents, word_moment};
+ghost use Rattle.shard_book.specs.inside.Packed.{bits_answer, bits_cents, bits_moment};
 
 use crate::entry::Entry;
 use crate::sums::tally::place_of;
 use account_rule::{Answer, Reply};
 use fare_table::Token;
 
-/// 2^42, above every moment: a word's moment is what is left when it is divided by it.
+/// 2^42, above every moment: the moment in bits is what is left when they are divided by it.
 const MOMENTS: u64 = 4_398_046_511_104;
 
-/// From 8 answers on a word counts cents: five are needed.
+/// Room for 8 answers, of which there are five: the bits above count cents.
 const ANSWERS: u64 = 8;
 
 /// An entry of the history. The accounts know its token, by the place of the token's account.
@@ -26,17 +26,17 @@ pub(crate) struct PackedEntry {
     /// The number of the validator.
     validator: u32,
     /// The moment in the lowest 42 bits, the answer's number in three, and the cents in 19.
-    word: u64,
+    bits: u64,
 }
 
-/// The word of a moment and a reply.
+/// The bits of a moment and a reply.
 #[inline(always)]
-fn word_of(moment: u64, reply: Reply) -> u64
+fn bits_of(moment: u64, reply: Reply) -> u64
     requires early { moment < 2 ^ 42 }
     requires few { reply.cents ≤ 100_000 }
-    ensures moment { word_moment result ≡ moment }
-    ensures answer { word_answer result ≡ reply.answer }
-    ensures cents { word_cents result ≡ reply.cents }
+    ensures moment { bits_moment result ≡ moment }
+    ensures answer { bits_answer result ≡ reply.answer }
+    ensures cents { bits_cents result ≡ reply.cents }
 {
     let number = place_of(reply.answer) as u64;
     (u64::from(reply.cents) * ANSWERS + number) * MOMENTS + moment
@@ -70,7 +70,7 @@ impl PackedEntry {
         PackedEntry {
             place,
             validator,
-            word: word_of(moment, reply),
+            bits: bits_of(moment, reply),
         }
     }
 
@@ -88,11 +88,11 @@ impl PackedEntry {
         ensures { (tokens : List Token) → slice_get tokens self.now.place ≡ Some token
             → result ≡ entry_of tokens self.now }
     {
-        let upper = self.word / MOMENTS;
+        let upper = self.bits / MOMENTS;
         Entry {
             token,
             validator: self.validator,
-            moment: self.word % MOMENTS,
+            moment: self.bits % MOMENTS,
             answer: answer_of(upper % ANSWERS),
             cents: (upper / ANSWERS) as u32,
         }

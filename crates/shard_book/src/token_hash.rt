@@ -4,7 +4,7 @@
 //! seed is random, made once a service, and handed to each book that is opened.
 
 ghost use Rattle.std.specs.Prelude.{◌≡◌};
-ghost use Rattle.shard_book.specs.Folding.{first_word, folded_multiply};
+ghost use Rattle.shard_book.specs.Folding.{leading_number, folded_multiply};
 
 use fare_table::NoMemory;
 use std::hash::{BuildHasher, Hasher, RandomState};
@@ -12,7 +12,7 @@ use std::random::RandomSource;
 
 /// The seed under which a book hashes tokens. One value serves any number of books.
 ///
-/// The hash multiplies each word into a state and folds the two halves of the product: a few
+/// The hash multiplies each eight bytes into a state and folds the two halves of the product: a few
 /// instructions a token. State and multiplier are 128 bits from the system's randomness. No proof
 /// says that a stranger cannot find tokens that collide; a collision costs time and changes no
 /// answer.
@@ -20,7 +20,7 @@ use std::random::RandomSource;
 pub struct TokenKeys {
     /// The state with which each hash begins.
     state: u64,
-    /// By what each word is multiplied.
+    /// By what each eight bytes are multiplied.
     multiplier: u64,
 }
 
@@ -43,16 +43,16 @@ impl TokenKeys {
 /// The hasher of a book's accounts: a folded product for each eight bytes.
 #[derive(Clone, Copy)]
 pub struct FoldedProduct {
-    /// The hash of the words so far.
+    /// The hash of the bytes so far.
     state: u64,
-    /// By what each word is multiplied.
+    /// By what each eight bytes are multiplied.
     multiplier: u64,
 }
 
 /// The whole number in the first eight, four or one of these bytes, the lowest first.
-#[tactic(auto, unfolding(crate::specs::Folding::first_word))]
-fn first_word(bytes: &[u8]) -> u64
-    ensures { result ≡ first_word bytes.now }
+#[tactic(auto, unfolding(crate::specs::Folding::leading_number))]
+fn leading_number(bytes: &[u8]) -> u64
+    ensures { result ≡ leading_number bytes.now }
 {
     if bytes.len() >= 8 {
         u64::from_le_bytes([
@@ -85,7 +85,7 @@ impl Hasher for FoldedProduct {
 
     #[tactic(auto, unfolding(crate::specs::Folding::state_after_write))]
     fn write(&mut self, bytes: &[u8]) {
-        self.state = folded_multiply(self.state ^ first_word(bytes), self.multiplier);
+        self.state = folded_multiply(self.state ^ leading_number(bytes), self.multiplier);
     }
 
     fn finish(&self) -> u64 {

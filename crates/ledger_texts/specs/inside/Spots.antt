@@ -8,11 +8,11 @@ use Rattle.ledger_texts.specs.declared.spot.Spot.{Spot}
 
 -- the place of the book among the books
 abbrev pub book_at : Spot → ℕ
-book_at spot = spot.word % 65536
+book_at spot = spot.bits % 65536
 
 -- the place of the entry in its book
 abbrev pub place_at : Spot → ℕ
-place_at spot = spot.word / 65536
+place_at spot = spot.bits / 65536
 
 -- the entry at a place of a book, if there is one
 abbrev pub entry_in : List Book → ℕ → ℕ → Option Entry

@@ -17,17 +17,17 @@ answer_at number =
     if number == 0 then Paid else (if number == 1 then Transfer
     else (if number == 2 then Capped else (if number == 3 then Stale else Unknown)))
 
--- the moment in a word: its lowest 42 bits
-abbrev pub word_moment : ℕ → ℕ
-word_moment word = word % 2 ^ 42
+-- the moment in an entry's bits: its lowest 42 bits
+abbrev pub bits_moment : ℕ → ℕ
+bits_moment bits = bits % 2 ^ 42
 
--- the answer in a word: the three bits above
-abbrev pub word_answer : ℕ → Answer
-word_answer word = answer_at (word / 2 ^ 42 % 8)
+-- the answer in an entry's bits: the three bits above
+abbrev pub bits_answer : ℕ → Answer
+bits_answer bits = answer_at (bits / 2 ^ 42 % 8)
 
--- the cents in a word: all that is above
-abbrev pub word_cents : ℕ → ℕ
-word_cents word = word / 2 ^ 42 / 8
+-- the cents in an entry's bits: all that is above
+abbrev pub bits_cents : ℕ → ℕ
+bits_cents bits = bits / 2 ^ 42 / 8
 
 -- the tokens of the accounts, by their places
 abbrev pub tokens_of : Accounts → List Token
@@ -52,9 +52,9 @@ unfoldable pub entry_of : List Token → PackedEntry → Entry
 entry_of tokens packed = record {
   token = unwrap_or (slice_get tokens packed.place) no_token;
   validator = packed.validator;
-  moment = word_moment packed.word;
-  answer = word_answer packed.word;
-  cents = word_cents packed.word;
+  moment = bits_moment packed.bits;
+  answer = bits_answer packed.bits;
+  cents = bits_cents packed.bits;
 }
 
 -- the entries for which a packed history stands
