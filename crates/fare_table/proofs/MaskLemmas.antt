@@ -22,7 +22,7 @@ or-true : (b : Bool) → (b || true) ≡ true
 or-true true = refl
 or-true false = refl
 
--- the words with bit t of the word at f set
+-- the masks with bit t of the mask at f set
 with_bit : List ℕ → ℕ → ℕ → List ℕ
 with_bit masks f t = slice_set masks f (bit_or (get_or masks f 0) (1 * 2 ^ t % 2 ^ 32))
 

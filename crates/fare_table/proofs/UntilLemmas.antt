@@ -184,7 +184,7 @@ picked_window_end zone start shown instant dt midnight date later below at shows
     below at shows
     (ap epoch_day is_midnight.0 ∙ seven ∙ ap (λ d. epoch_day d +ℤ pos 7) is) is_midnight.1
 
--- a cast to an unsigned word keeps it
+-- a cast to an unsigned number of 64 bits keeps it
 pub cast_back : (z : ℤ) (n : ℕ) → z ≡ pos n → n < 5_000_000_000_000 → to_z w64 (of_z w64 z) ≡ pos n
 cast_back z n is small =
     let fits : FitsSigned w64 (pos n) = omega (arith, signed_arith) in

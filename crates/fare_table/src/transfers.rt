@@ -12,7 +12,7 @@ use std::marker::Model;
 pub struct Transfers {
     /// The pairs.
     pairs: Vec<(u8, u8)>,
-    /// Bit `to` of the word at `from` stands for the pair, so that a look-up reads one word.
+    /// Bit `to` of the mask at `from` stands for the pair, so that a look-up reads one mask.
     masks: [u32; MAX_MODES],
 }
 

@@ -24,7 +24,7 @@ S = State (Unit {0}) DrawerState
 acts : (h : DrawerState) → h.live ≡ true → IsSpent h → ⊥
 acts h live spent = true≢false (sym live ∙ spent.0)
 
--- what a drawer drew is below the word, and nothing twice
+-- what a drawer drew is below the count of drawn ones, and nothing twice
 pub drawn_once : (n : ℕ) (s : S) (j : ℕ) (h : DrawerState) → IsDrawn n s → get_elem? s.views j ≡ some h → NoneTwice h.drawn × AllBelow (get_or s.words 0 0) h.drawn
 drawn_once n s j h r at = (
   (λ x. let part = sum_part (λ v. times x v.drawn) s.views j h at in dite (dec_le (get_or s.words 0 0) x) (λ le. let z = r.no_other x le in omega arith) (λ no. let o = r.once x (lt_of_not-le no) in omega arith)),
@@ -109,7 +109,7 @@ draws n slots id me old live seen more s r count at fits =
     exchange_lost : (ws : List ℕ) (old : ℕ) → get_or ws 0 0 ≢ old → ws ≡ set ws 0 (either (eqb (get_or ws 0 0) old) (old + 1) (get_or ws 0 0))
     exchange_lost ws old ne = exchanged (get_or ws 0 0) old (old + 1) (λ k. ws ≡ set ws 0 k) (λ e. absurd (ne e)) (λ _. sym (set-get_or ws 0 0))
 
--- a look at the word
+-- a look at the count of drawn numbers
 pub looks : (n slots id : ℕ) (me : Me (Unit {0}) DrawerState) → me.0.live ≡ true
     → Allows (IsDrawn n) slots id me 0 (λ k. k) (HasLooked (step slots 0 0 0 none) me)
 looks n slots id me live s r count at fits =

@@ -68,7 +68,7 @@ out_later a b c number book g h =
       carries = h.carries;
     }
 
--- the word found is below twice 2^62, or all visits are counted
+-- the turn word found is below twice 2^62, or all visits are counted
 pub half_of : (found n : ℕ) → (found ≡ 2 * n) ⊎ (found ≡ 2 * n + 1) → found / 2 ≡ n
 half_of found n w = ⊎_elim (λ e. even found n e) (λ e. odd found n e) w
   where

@@ -44,7 +44,7 @@ holder_of : (h : Maybe ℕ) → (h ≡ none) ⊎ ((seat : ℕ) × (h ≡ some se
 holder_of none = inl refl
 holder_of (some seat) = inr (seat, refl)
 
--- nobody has the turn at an even word, and somebody at an odd one
+-- nobody has the turn at an even turn word, and somebody at an odd one
 pub word_of : (k : Opening) (m : Machine) (s : S) → ShowsMachine k m s → ((m.holder ≡ none) × (get_or s.words 0 0 ≡ 2 * m.count)) ⊎ ((seat : ℕ) × (m.holder ≡ some seat) × (get_or s.words 0 0 ≡ 2 * m.count + 1))
 word_of k m s r = ⊎_elim (λ e. inl (e, (r.free e).0)) (λ t. inr (t.0, t.1, (r.held t.0 t.1).0)) (holder_of m.holder)
 
@@ -108,7 +108,7 @@ caught_up k m s id v r f =
 begins_itself : (vs : List (List Entry)) → Begins vs vs
 begins_itself vs = ([], sym (append-nil vs))
 
--- a look at the word
+-- a look at the turn word
 pub looks : (k : Opening) (slots id : ℕ) (me : Seat) → me.0.live ≡ true
     → Allows (IsTurn k) slots id me 0 (λ n. n) (λ n w. HasSeen me n w)
 looks k slots id me live s r count at fits =
@@ -169,7 +169,7 @@ took k m s id v marks r at live nobody_has all few counts =
       claims = claims_set (λ u. u.claims) IsNobody s.views id v w at refl (acts v live) r.claims;
     }
 
--- a try to take the turn, at an even word
+-- a try to take the turn, at an even turn word
 pub takes_turn : (k : Opening) (slots id : ℕ) (me : Seat) (old half : ℕ) → me.0.live ≡ true → me.0.turn ≡ false → old ≡ 2 * half → old < 2 ^ 63
     → Allows (IsTurn k) slots id me 0 (λ n. either (eqb n old) (old + 1) n) (HasTriedTurn (step slots 0 old (old + 1) none) me)
 takes_turn k slots id me old half live off even few s r count at fits = dite (ℕ_discrete (get_or s.words 0 0) old)

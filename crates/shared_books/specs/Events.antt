@@ -1,4 +1,4 @@
--- What word, slot and views show of the turn machine, between any two steps.
+-- What turn word, slot and views show of the turn machine, between any two steps.
 use Rattle.std.specs.Prelude.{◌≡◌, ℕ, ◌+◌, ◌*◌, ◌^◌, ◌<◌, List, [], ◌∷◌, ◌++◌, length, slice_index}
 use Rattle.std.specs.Prelude.{slice_set, Option, Some, true, false}
 use mathlib.Core.Option.{some, none}
@@ -13,8 +13,8 @@ use Rattle.shared_books.specs.Marks.{mark, others, visits_of, joined, Begins}
 use Rattle.shared_books.specs.Turns.{Boxed, book_after, HasBook, HoldsTurn, IsTurn}
 use Rattle.shared_books.specs.Views.{view}
 
--- the word is even: so many visits are counted, nobody has the turn, and the book of all visits is
--- in the slot
+-- the turn word is even: so many visits are counted, nobody has the turn, and the book of all
+-- visits is in the slot
 pub record ShowsFree (k : Opening) (m : Machine) (s : State (Option Boxed) PassState) (count : ℕ)
     : Type 0 where
   pub count_is : m.count ≡ count
@@ -22,7 +22,7 @@ pub record ShowsFree (k : Opening) (m : Machine) (s : State (Option Boxed) PassS
   pub no_turn : (seat : ℕ) → HoldsTurn s seat → ⊥
   pub book : HasBook k m.visits s
 
--- the word is odd: one seat has the turn and no other, and the slot is that seat's alone
+-- the turn word is odd: one seat has the turn and no other, and the slot is that seat's alone
 pub record ShowsHeld (m : Machine) (s : State (Option Boxed) PassState) (count : ℕ) : Type 0 where
   pub seat : ℕ
   pub count_is : m.count ≡ count
@@ -31,7 +31,7 @@ pub record ShowsHeld (m : Machine) (s : State (Option Boxed) PassState) (count :
   pub alone : (other : ℕ) → HoldsTurn s other → other ≡ seat
   pub empty : get_elem? s.homes 0 ≡ some none
 
--- word, slot and views show this state of the machine; each pass has seen a beginning of its
+-- turn word, slot and views show this state of the machine; each pass has seen a beginning of its
 -- visits, and their history is legal
 pub record IsShown (k : Opening) (m : Machine) (s : State (Option Boxed) PassState) : Type 0 where
   pub even : (n : ℕ) → slice_index s.words 0 ≡ 2 * n → ShowsFree k m s n
@@ -51,8 +51,8 @@ pub record IsReached (k : Opening) (s : State (Option Boxed) PassState) : Type 0
 abbrev pub StepsAreEvents : Type 0
 StepsAreEvents = (k : Opening) (s : State (Option Boxed) PassState) → IsTurn k s → IsReached k s
 
--- the state after a seat took the turn: the word is one more, the slot is empty, and the seat has
--- seen the visits between
+-- the state after a seat took the turn: the turn word is one more, the slot is empty, and the seat
+-- has seen the visits between
 abbrev pub taken_by : State (Option Boxed) PassState → ℕ → PassState → List (List Entry)
     → State (Option Boxed) PassState
 taken_by s seat v between = record {
@@ -61,8 +61,8 @@ taken_by s seat v between = record {
   views = slice_set s.views seat (view v.opened v.claims true (v.marks ++ others between) v.met);
 }
 
--- the state after a seat gave the turn back with a visit: the word is one more, and the book is in
--- the slot
+-- the state after a seat gave the turn back with a visit: the turn word is one more, and the book
+-- is in the slot
 abbrev pub given_back_by : State (Option Boxed) PassState → ℕ → PassState → List Entry → Boxed
     → State (Option Boxed) PassState
 given_back_by s seat v visit book = record {
@@ -72,7 +72,7 @@ given_back_by s seat v visit book = record {
       (view v.opened v.claims false (v.marks ++ mark true visit ∷ []) v.met);
 }
 
--- a take at an even word is the event of its seat
+-- a take at an even turn word is the event of its seat
 abbrev pub TakesAreEvents : Type 0
 TakesAreEvents =
     (k : Opening) (s : State (Option Boxed) PassState) (seat : ℕ) (v : PassState) (t : IsTurn k s)

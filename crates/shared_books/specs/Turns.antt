@@ -1,5 +1,5 @@
--- The rule of a shared book: between any two steps, word, slot and all views show a state of the
--- turn machine.
+-- The rule of a shared book: between any two steps, turn word, slot and all views show a state of
+-- the turn machine.
 use Rattle.std.specs.Prelude.{◌≡◌, ℕ, ◌+◌, ◌*◌, ◌^◌, ◌<◌, ◌≤◌, true, false, List, [], length}
 use Rattle.std.specs.Prelude.{slice_index, sum_by, Option, Some}
 use mathlib.Core.Option.{none, some}
@@ -56,7 +56,7 @@ HoldsTurn s seat =
 abbrev pub IsNobody : PassState → Type 0
 IsNobody v = (v.live ≡ false) × (v.marks ≡ []) × (v.met ≡ [])
 
--- word, slot and views show this state of the machine, and no claim is there twice
+-- turn word, slot and views show this state of the machine, and no claim is there twice
 pub record ShowsMachine (k : Opening) (m : Machine) (s : State (Option Boxed) PassState)
     : Type 0 where
   pub one_word : length s.words ≡ 1

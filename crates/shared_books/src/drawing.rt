@@ -8,11 +8,11 @@ use thiserror::Error;
 
 mod rule;
 
-/// The numbers `0, 1, ..` below a number of uploads, which drawers draw from. One word says how
+/// The numbers `0, 1, ..` below a number of uploads, which drawers draw from. One number says how
 /// many are drawn.
 #[derive(Drop)]
 pub struct Draw {
-    /// The word that counts the drawn numbers, and all drawers' seats.
+    /// The number of drawn numbers, and all drawers' seats.
     table: Table<(), DrawerState, u32, DrawRule, Global>,
     /// How many numbers there are.
     numbers: u32,

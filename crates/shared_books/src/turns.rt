@@ -11,16 +11,16 @@ pub(crate) mod answers;
 mod closing;
 mod passes;
 pub(crate) mod rule;
+mod turn_word;
 mod visits;
 mod waiting;
-mod word;
 
-/// A shard's book that passes take turns at. One word is `2k` where `k` visits are counted and
+/// A shard's book that passes take turns at. The turn word is `2k` where `k` visits are counted and
 /// nobody has the turn, and `2k + 1` where a pass has it. The book lies in one slot, which is empty
 /// while a pass has the turn.
 #[derive(Drop)]
 pub struct SharedBook {
-    /// The word, and the slot with the book.
+    /// The turn word, and the slot with the book.
     table: Table<Slot, PassState, Opening, TurnRule, Global>,
     /// The number of the first visit.
     first: u64,

@@ -3,7 +3,7 @@ use Rattle.std.specs.Prelude.{ℕ, ◌≡◌, ◌<◌, ◌==◌, List, slice_ind
 use Rattle.std.specs.Int.{bit_at}
 use Rattle.fare_table.specs.Transfers.{has_pair}
 
--- bit `to` of the word at `from` says whether the pairs have one from `from` to `to`
+-- bit `to` of the mask at `from` says whether the pairs have one from `from` to `to`
 abbrev pub AreMasksOf : List ℕ → List (ℕ × ℕ) → Type 0
 AreMasksOf masks pairs =
     (from to : ℕ) → from < 32 → to < 32

@@ -1,4 +1,4 @@
--- Drawing: the rule under which numbers are drawn. One word says how many are drawn.
+-- Drawing: the rule under which numbers are drawn. One number says how many are drawn.
 use Rattle.std.specs.Prelude.{◌≡◌, ℕ, ◌≤◌, ◌<◌, List, [], length, true, false, sum_by, slice_index}
 use mathlib.Core.Option.{some}
 use lib.ListN.{get_elem?}
@@ -15,8 +15,8 @@ times_drawn x hands = sum_by (λ h. times x h.drawn) hands
 abbrev pub IsSpent : DrawerState → Type 0
 IsSpent h = (h.live ≡ false) × (h.drawn ≡ [])
 
--- between any two steps: each number below the word was drawn by one drawer and once, no other
--- number was, no drawer has seen more than the word, and no claim is there twice
+-- between any two steps: each number below the count of drawn ones was drawn by one drawer and
+-- once, no other number was, no drawer has seen more than that count, and no claim is there twice
 pub record IsDrawn (numbers : ℕ) (s : State (Unit {0}) DrawerState) : Type 0 where
   pub one_word : length s.words ≡ 1
   pub within : slice_index s.words 0 ≤ numbers

@@ -41,7 +41,7 @@ pub record HasTried (s : Step (Unit {0})) (before : Me (Unit {0}) DrawerState) (
   pub within : found ≤ before.0.numbers
   pub carries : after.1 ≡ before.1
 
--- a look at the word: what the drawer drew is below it, and nothing twice
+-- a look at the count of drawn numbers: what the drawer drew is below it, and nothing twice
 pub record HasLooked (s : Step (Unit {0})) (before : Me (Unit {0}) DrawerState) (found : ℕ)
     (after : Me (Unit {0}) DrawerState) : Type 0 where
   pub seen : after.0 ≡ hand before.0.claims before.0.numbers found before.0.drawn
@@ -51,7 +51,7 @@ pub record HasLooked (s : Step (Unit {0})) (before : Me (Unit {0}) DrawerState) 
   pub below : AllBelow found before.0.drawn
   pub carries : after.1 ≡ before.1
 
--- what a drawer keeps of its number of numbers, its word and its seat
+-- what a drawer keeps of its number of numbers, the count that it saw, and its seat
 pub record IsHeld (held seen : ℕ) (me : Me (Unit {0}) DrawerState) : Type 0 where
   pub live : me.0.live ≡ true
   pub carries : me.1 ≡ []

@@ -44,17 +44,17 @@ left_view v = view v.opened (claims_left v.claims) v.turn v.marks v.met
 abbrev pub both_views : PassState → PassState → PassState
 both_views v w = view v.opened (v.claims + w.claims) v.turn v.marks w.marks
 
--- the word found is twice the count of visits seen, and one more where a pass holds the turn
-abbrev pub IsWord : ℕ → Opening → List Mark → Type 0
-IsWord found o marks =
+-- the turn word found is twice the count of visits seen, and one more where a pass holds the turn
+abbrev pub IsTurnWord : ℕ → Opening → List Mark → Type 0
+IsTurnWord found o marks =
     (found ≡ 2 * (o.first + length marks)) ⊎ (found ≡ 2 * (o.first + length marks) + 1)
 
--- a look at the word: the pass has seen all visits that are counted
+-- a look at the turn word: the pass has seen all visits that are counted
 pub record HasSeen (before : Seat) (found : ℕ) (after : Seat) : Type 0 where
   pub between : List (List Entry)
   pub view_is : after.0 ≡ view before.0.opened before.0.claims before.0.turn
       (before.0.marks ++ others between) before.0.met
-  pub word : IsWord found before.0.opened (before.0.marks ++ others between)
+  pub word : IsTurnWord found before.0.opened (before.0.marks ++ others between)
   pub most : found ≤ 2 ^ 63
   pub legal : IsLegal before.0.opened.book.value.table
       (joined (visits_of (before.0.marks ++ others between)))

@@ -16,7 +16,7 @@ pub struct DrawerState {
     pub drawn: LinkedList<u64>,
 }
 
-/// The rule over the word and all drawers' hands.
+/// The rule over the number of drawn numbers and all drawers' hands.
 pub struct DrawRule;
 
 impl TableRule<(), DrawerState, u32> for DrawRule {

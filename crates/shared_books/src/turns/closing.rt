@@ -56,7 +56,7 @@ impl SharedBook {
     }
 }
 
-/// The word and the slot of a closed table. Its memory is given back.
+/// The turn word and the slot of a closed table. Its memory is given back.
 fn taken_from(mut closed: Closed<Slot, Global>) -> (u64, Slot)
     requires sizes { (slots_len closed.words ≡ 1) × (slots_len closed.slots ≡ 1) }
     requires full { IsFull closed.words × IsFull closed.slots }

@@ -40,7 +40,8 @@ pub struct PassState {
     pub met: LinkedList<Mark>,
 }
 
-/// The rule over the word, the slot and all passes' views: they show a state of the turn machine.
+/// The rule over the turn word, the slot and all passes' views. They show a state of the turn
+/// machine.
 pub struct TurnRule;
 
 impl TableRule<Slot, PassState, Opening> for TurnRule {
@@ -54,7 +55,7 @@ impl TableRule<Slot, PassState, Opening> for TurnRule {
     ghost first = { λ k. view k all_claims false [] [] };
 }
 
-/// A look at the word.
+/// A look at the turn word.
 pub struct Looks;
 
 impl Play<Slot, PassState> for Looks {

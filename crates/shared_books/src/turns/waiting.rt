@@ -1,16 +1,17 @@
-//! Waiting for the turn at a shared book: a pass looks at the word for a while, and then sleeps.
+//! Waiting for the turn at a shared book: a pass looks at the turn word for a while, and then
+//! sleeps.
 
 use super::SharedBook;
 use super::answers::Full;
 use super::rule::{PassState, Slot};
-use super::word::FULL;
+use super::turn_word::FULL;
 use atomic_table::Seat;
 use shard_book::ShardBook;
 use std::hint;
 use std::sync::Wait;
 use std::sync::atomic::Ordering;
 
-/// How often a waiting visit looks at the word before it sleeps. It looks no more where others
+/// How often a waiting visit looks at the turn word before it sleeps. It looks no more where others
 /// sleep already.
 const LOOKS_BEFORE_SLEEP: u32 = 100;
 
@@ -19,7 +20,7 @@ impl SharedBook {
     ghost use Rattle.shared_books.specs.inside.Views.{IsFree, HasBookOut, FindsFull};
 
     /// Takes the turn with the number of the visit and the book. Where nobody has visited since the
-    /// pass did, the number is the expected one, and the word need not be looked at before.
+    /// pass did, the number is the expected one, and the turn word need not be looked at before.
     pub(super) fn take<R: Wait>(
         &self,
         rt: &R,
@@ -74,8 +75,8 @@ impl SharedBook {
         unreachable!()
     }
 
-    /// Waits until the word is no longer the one that was found, and tells whether it slept. It may
-    /// return sooner.
+    /// Waits until the turn word is no longer the one that was found, and tells whether it slept.
+    /// It may return sooner.
     fn rest<R: Wait>(&self, rt: &R, found: u64) -> bool {
         for _ in 0..LOOKS_BEFORE_SLEEP {
             if self.table.shared.peek(0) != found {

@@ -1,4 +1,4 @@
-//! The word of a shared book: how many visits are counted, and whether a pass has the turn.
+//! The turn word of a shared book: how many visits are counted, and whether a pass has the turn.
 
 use super::SharedBook;
 use super::rule::{Gives, Looks, PassState, Slot, Takes};
@@ -6,7 +6,7 @@ use atomic_table::Seat;
 use shard_book::ShardBook;
 use std::sync::atomic::Ordering;
 
-/// The word at which `2^62` visits are counted.
+/// The turn word at which `2^62` visits are counted.
 pub(super) const FULL: u64 = 1 << 63;
 
 impl SharedBook {
@@ -18,7 +18,7 @@ impl SharedBook {
     ghost use Rattle.shared_books.specs.inside.Steps.{HasSeen};
     ghost use Rattle.shared_books.specs.inside.Views.{IsFree, SeesMore, HasBookOut, BringsVisit};
 
-    /// Loads the word.
+    /// Loads the turn word.
     pub(super) fn look(&self, seat: &mut Seat<Slot, PassState>) -> u64
         requires own { seat.old.table_id ≡ self.now.home }
         requires free { IsFree seat.old.me }
@@ -28,7 +28,7 @@ impl SharedBook {
         self.table.shared.load::<Looks>(seat, 0)
     }
 
-    /// Tries to take the turn, where the word was even.
+    /// Tries to take the turn, where the turn word was even.
     pub(super) fn try_take(&self, seat: &mut Seat<Slot, PassState>, found: u64) -> Slot
         requires own { seat.old.table_id ≡ self.now.home }
         requires free { IsFree seat.old.me }
@@ -50,7 +50,7 @@ impl SharedBook {
         }
     }
 
-    /// Tries to take the turn as if the word stood at the expected number.
+    /// Tries to take the turn as if the turn word stood at the expected number.
     pub(super) fn try_expected(&self, seat: &mut Seat<Slot, PassState>, expected: u64) -> Slot
         requires own { seat.old.table_id ≡ self.now.home }
         requires free { IsFree seat.old.me }
