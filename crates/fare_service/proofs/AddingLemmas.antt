@@ -28,7 +28,7 @@ use Rattle.fare_service.specs.inside.ServiceView.{IsService}
 use Rattle.fare_service.specs.ShareView.{ShareView}
 use Rattle.fare_service.specs.inside.Joining.{told_all}
 use Rattle.fare_service.specs.Outcomes.{OutcomeView}
-use Rattle.fare_service.specs.Runs.{Visit, IsEntered, entries_of, taps_posted}
+use Rattle.fare_service.specs.Runs.{RunVisit, IsEntered, entries_of, taps_posted}
 use Rattle.fare_service.specs.inside.Runs.{visits_to}
 use Rattle.fare_service.specs.Shares.{Worked, all_visits, IsWorkOf, IsEndOf, IsShareOf, all_works, file_at}
 use Rattle.fare_service.proofs.GatherLemmas.{has_gathered, times_same, fewer_after, not_drawn, end_same, end_other}
@@ -135,25 +135,25 @@ sum_of_book f table shard shards works book is =
     ap (sum_by f) is.history
     ∙ (sum_by-joined f (λ (v : Signed). v.entries) is.visits
     ∙ (sum_by_key (λ (v : Signed). v.worker) ent (length works) is.visits is.signed
-    ∙ sum_of_places (λ done. sum_by (λ (v : Visit). sum_by f v.entries) (visits_to shard (all_visits done))) works (λ w. sum_by ent (filter (λ v. v.worker == w) is.visits)) own))
+    ∙ sum_of_places (λ done. sum_by (λ (v : RunVisit). sum_by f v.entries) (visits_to shard (all_visits done))) works (λ w. sum_by ent (filter (λ v. v.worker == w) is.visits)) own))
   where
     own : (worker : ℕ) (done : List Worked) → slice_get works worker ≡ Some done
         → sum_by (λ v. sum_by f v.entries) (filter (λ v. v.worker == worker) is.visits) ≡ sum_by (λ v. sum_by f v.entries) (visits_to shard (all_visits done))
     own worker done at =
         sym (sum_by-joined f (λ (v : Signed). v.entries) (filter (λ v. v.worker == worker) is.visits))
-        ∙ (ap (λ vs. sum_by f (joined vs)) (is.order worker done at) ∙ sum_by-joined f (λ (v : Visit). v.entries) (visits_to shard (all_visits done)))
+        ∙ (ap (λ vs. sum_by f (joined vs)) (is.order worker done at) ∙ sum_by-joined f (λ (v : RunVisit). v.entries) (visits_to shard (all_visits done)))
 
 all_within : (given : Given) (done : List Worked) → All (IsWorkOf given.shards given.uploads) done → All (λ v. v.shard < given.shards) (all_visits done)
-all_within given [] all = All-nil (λ (v : Visit). v.shard < given.shards)
+all_within given [] all = All-nil (λ (v : RunVisit). v.shard < given.shards)
 all_within given (w ∷ done) all =
-    All-append (λ (v : Visit). v.shard < given.shards) w.visits (all_visits done)
+    All-append (λ (v : RunVisit). v.shard < given.shards) w.visits (all_visits done)
     (All-weaker (IsEntered given.shards) (λ v. v.shard < given.shards) (λ v e. e.within) w.visits (All-head (IsWorkOf given.shards given.uploads) w done all).entered) (all_within given done (All-tail (IsWorkOf given.shards given.uploads) w done all))
 
 -- f of all books' entries is f of all entries that the workers' visits made
 sum_of_books : (f : Entry → ℕ) (given : Given) (works : List (List Worked)) (outcome : OutcomeView) → IsGathered given works outcome
     → sum_by f (all_entries outcome.books) ≡ sum_by f (flat_map (λ done. entries_of (all_visits done)) works)
 sum_of_books f given works outcome is =
-    let ent : Visit → ℕ = λ v. sum_by f v.entries in
+    let ent : RunVisit → ℕ = λ v. sum_by f v.entries in
     let at_shard : ℕ → List Worked → ℕ = λ s done. sum_by ent (visits_to s (all_visits done)) in
     let h : ℕ → ℕ = λ s. sum_by (at_shard s) works in
     sum_by-flat_map f (λ (b : Book). b.entries) outcome.books
@@ -165,13 +165,13 @@ sum_of_books f given works outcome is =
   where
     here : (done : List Worked) → All (IsWorkOf given.shards given.uploads) done → sum_below (λ s. sum_by (λ v. sum_by f v.entries) (visits_to s (all_visits done))) given.shards ≡ sum_by f (entries_of (all_visits done))
     here done all =
-        sym (sum_by_key (λ (v : Visit). v.shard) (λ v. sum_by f v.entries) given.shards (all_visits done) (all_within given done all))
-        ∙ sym (sum_by-flat_map f (λ (v : Visit). v.entries) (all_visits done))
+        sym (sum_by_key (λ (v : RunVisit). v.shard) (λ v. sum_by f v.entries) given.shards (all_visits done) (all_within given done all))
+        ∙ sym (sum_by-flat_map f (λ (v : RunVisit). v.entries) (all_visits done))
 
-    each : All (λ done. sum_below (λ s. sum_by (λ (v : Visit). sum_by f v.entries) (visits_to s (all_visits done))) given.shards ≡ sum_by f (entries_of (all_visits done))) works
+    each : All (λ done. sum_below (λ s. sum_by (λ (v : RunVisit). sum_by f v.entries) (visits_to s (all_visits done))) given.shards ≡ sum_by f (entries_of (all_visits done))) works
     each =
         All-weaker (λ done. All (IsWorkOf given.shards given.uploads) done)
-        (λ done. sum_below (λ s. sum_by (λ (v : Visit). sum_by f v.entries) (visits_to s (all_visits done))) given.shards ≡ sum_by f (entries_of (all_visits done))) here works is.each
+        (λ done. sum_below (λ s. sum_by (λ (v : RunVisit). sum_by f v.entries) (visits_to s (all_visits done))) given.shards ≡ sum_by f (entries_of (all_visits done))) here works is.each
 
 pub length_sum : {X : Type 0} (xs : List X) → length xs ≡ sum_by (λ x. 1) xs
 length_sum [] = refl
@@ -244,14 +244,14 @@ uploads_sum given works each =
     ∙ sym (sum_by-flat_map (λ e. 1) (λ done. entries_of (all_visits done)) works))
   where
     one : (w : Worked) → IsWorkOf given.shards given.uploads w → taps_told w.end ≡ sum_by (λ v. sum_by (λ e. 1) v.entries) w.visits
-    one w is = told_end_taps given w is ∙ (length_sum (entries_of w.visits) ∙ sum_by-flat_map (λ e. 1) (λ (v : Visit). v.entries) w.visits)
+    one w is = told_end_taps given w is ∙ (length_sum (entries_of w.visits) ∙ sum_by-flat_map (λ e. 1) (λ (v : RunVisit). v.entries) w.visits)
 
     here : (done : List Worked) → All (IsWorkOf given.shards given.uploads) done → sum_by (λ w. taps_told w.end) done ≡ sum_by (λ e. 1) (entries_of (all_visits done))
     here done all =
         same_sum (λ w. taps_told w.end) (λ w. sum_by (λ v. sum_by (λ e. 1) v.entries) w.visits) done
         (All-weaker (IsWorkOf given.shards given.uploads) (λ w. taps_told w.end ≡ sum_by (λ v. sum_by (λ e. 1) v.entries) w.visits) one done all)
-        ∙ (sym (sum_by-flat_map (λ (v : Visit). sum_by (λ e. 1) v.entries) (λ (w : Worked). w.visits) done)
-        ∙ sym (sum_by-flat_map (λ e. 1) (λ (v : Visit). v.entries) (all_visits done)))
+        ∙ (sym (sum_by-flat_map (λ (v : RunVisit). sum_by (λ e. 1) v.entries) (λ (w : Worked). w.visits) done)
+        ∙ sym (sum_by-flat_map (λ e. 1) (λ (v : RunVisit). v.entries) (all_visits done)))
 
 all_uploads : (given : Given) (works : List (List Worked)) → All (λ done. All (IsWorkOf given.shards given.uploads) done) works → All (λ w. w.upload < length given.uploads) (all_works works)
 all_uploads given [] each = All-nil (λ (w : Worked). w.upload < length given.uploads)

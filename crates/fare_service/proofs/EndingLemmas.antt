@@ -23,7 +23,7 @@ use Rattle.fare_service.specs.Faults.{visits_held}
 use Rattle.fare_service.specs.Headline.{Signed, HasOutcome, ToldUndrawn}
 use Rattle.fare_service.specs.Outcomes.{OutcomeView}
 use Rattle.fare_service.specs.Plain.{WasNotCut}
-use Rattle.fare_service.specs.Runs.{PlacedTap, placed_from, of_shard, Run, run, if_any, runs_below, runs_of, Visit, run_of_visit, ArePosted, AreCut, IsEntered, taps_of_placed, entries_to, entries_of, taps_posted}
+use Rattle.fare_service.specs.Runs.{PlacedTap, placed_from, of_shard, Run, run, if_any, runs_below, runs_of, RunVisit, run_of_visit, ArePosted, AreCut, IsEntered, taps_of_placed, entries_to, entries_of, taps_posted}
 use Rattle.fare_service.specs.inside.Runs.{visits_to}
 use Rattle.fare_service.specs.ServiceView.{ServiceView, shards_of}
 use Rattle.fare_service.specs.ShareView.{ShareView}
@@ -182,7 +182,7 @@ runs_some shards place (batch ∷ batches) =
     All-append (λ (r : Run). 0 < length r.taps) (runs_below shards shards (placed_from place batch)) (runs_of shards (place + length batch) batches) (below_some shards shards (placed_from place batch)) (runs_some shards (place + length batch) batches)
 
 -- visits of runs that have a tap posted one each
-visits_few : (shards : ℕ) (before more : List Run) (visits : List Visit) → map run_of_visit visits ≡ before ++ more → All (λ r. 0 < length r.taps) before → All (IsEntered shards) visits
+visits_few : (shards : ℕ) (before more : List Run) (visits : List RunVisit) → map run_of_visit visits ≡ before ++ more → All (λ r. 0 < length r.taps) before → All (IsEntered shards) visits
     → length visits ≤ taps_posted visits + length more
 visits_few shards [] more visits same some entered = omega (arith, ap length same, length-map visits run_of_visit)
 visits_few shards (r ∷ before) more [] same some entered = absurd (cc)
@@ -248,8 +248,8 @@ works_few given (done ∷ works) all =
     let rest = works_few given works (All-tail (λ (d : List Worked). All (IsWorkOf given.shards given.uploads) d) done works all) in
     omega (arith, first, rest, sum_by-cons (λ (d : List Worked). length (all_visits d)) done works, sum_by-cons (λ (d : List Worked). sum_by (λ (w : Worked). taps_told w.end) d) done works, sum_by-cons cuts_in done works)
 
-to_few : (shard : ℕ) (visits : List Visit) → length (entries_to shard visits) ≤ length visits
-to_few shard visits = omega (arith, length-map (visits_to shard visits) (λ (v : Visit). v.entries), length-filter (λ (v : Visit). v.shard == shard) visits, count_by-le-length (λ (v : Visit). v.shard == shard) visits)
+to_few : (shard : ℕ) (visits : List RunVisit) → length (entries_to shard visits) ≤ length visits
+to_few shard visits = omega (arith, length-map (visits_to shard visits) (λ (v : RunVisit). v.entries), length-filter (λ (v : RunVisit). v.shard == shard) visits, count_by-le-length (λ (v : RunVisit). v.shard == shard) visits)
 
 -- the visits to a shard that shares hold are not more than all that their workers made
 held_few : (service : ServiceView) (shard : ℕ) (news : List ShareView) (works : List (List Worked)) → AllZip (Keeps service) news works → visits_held shard news ≤ sum_by (λ done. length (all_visits done)) works

@@ -15,7 +15,7 @@ use Rattle.fare_service.specs.declared.upload_end.UploadEnd.{UploadEnd}
 use Rattle.fare_service.specs.declared.upload_end.UploadEnd.TheVariants.{Posted, Refused, Cut, Undrawn}
 use Rattle.fare_service.specs.Headline.{end_of}
 use Rattle.fare_service.specs.Placing.{posted_of, in_posting_order, WerePostedOf}
-use Rattle.fare_service.specs.Runs.{PlacedTap, placed_from, taps_of_placed, of_shard, Run, run, if_any, runs_below, runs_of, Visit, IsEntered, run_of_visit, ArePosted, AreCut, entries_of, taps_posted}
+use Rattle.fare_service.specs.Runs.{PlacedTap, placed_from, taps_of_placed, of_shard, Run, run, if_any, runs_below, runs_of, RunVisit, IsEntered, run_of_visit, ArePosted, AreCut, entries_of, taps_posted}
 use Rattle.fare_service.specs.inside.Runs.{visits_to}
 use Rattle.fare_service.specs.Shares.{Worked, all_visits, IsWorkOf, IsEndOf, file_at}
 use Rattle.fare_service.proofs.GatherLemmas.{drawn_times, times_same, times_other, fewer_after, end_same, end_other}
@@ -60,10 +60,10 @@ own_runs shards place (batch ∷ batches) =
     (own_below shards shards (placed_from place batch)) (own_runs shards (place + length batch) batches)
 
 -- each tap of a visit is of its shard
-pub IsOwnVisit : ℕ → Visit → Type 0
+pub IsOwnVisit : ℕ → RunVisit → Type 0
 IsOwnVisit shards v = IsOwnRun shards (run_of_visit v)
 
-own_posted : (shards : ℕ) (runs : List Run) (visits : List Visit) → All (IsOwnRun shards) runs → ArePosted runs visits → All (IsOwnVisit shards) visits
+own_posted : (shards : ℕ) (runs : List Run) (visits : List RunVisit) → All (IsOwnRun shards) runs → ArePosted runs visits → All (IsOwnVisit shards) visits
 unfolding IsOwnVisit
 own_posted shards runs visits all posted =
     let P : List Run → Type 0 = All (IsOwnRun shards) in
@@ -73,7 +73,7 @@ own_take : (shards posted : ℕ) (r : Run) → IsOwnRun shards r → IsOwnRun sh
 unfolding IsOwnRun
 own_take shards posted r own = All-take (λ p. shard_of_token p.tap.token shards ≡ r.shard) posted r.taps own
 
-own_cut : (shards : ℕ) (runs : List Run) (visits : List Visit) → All (IsOwnRun shards) runs → AreCut runs visits → All (IsOwnVisit shards) visits
+own_cut : (shards : ℕ) (runs : List Run) (visits : List RunVisit) → All (IsOwnRun shards) runs → AreCut runs visits → All (IsOwnVisit shards) visits
 own_cut shards runs visits all c = made c.made
   where
     whole : All (IsOwnRun shards) (c.before ++ c.cut ∷ c.after)
@@ -116,7 +116,7 @@ filter_none p [] all = refl
 filter_none p (x ∷ xs) all =
     ap (λ b. cond b (x ∷ filter p xs) (filter p xs)) (All-head (λ y. p y ≡ false) x xs all) ∙ filter_none p xs (All-tail (λ y. p y ≡ false) x xs all)
 
-one_visit : (shard shards : ℕ) (v : Visit) → IsOwnVisit shards v → (((v.shard == shard) ≡ true) × (v.shard ≡ shard)) ⊎ (((v.shard == shard) ≡ false) × (v.shard ≢ shard))
+one_visit : (shard shards : ℕ) (v : RunVisit) → IsOwnVisit shards v → (((v.shard == shard) ≡ true) × (v.shard ≡ shard)) ⊎ (((v.shard == shard) ≡ false) × (v.shard ≢ shard))
     → of_shard shard shards v.taps ≡ cond (v.shard == shard) v.taps []
 unfolding IsOwnVisit IsOwnRun
 one_visit shard shards v own (inl (b, e)) =
@@ -128,12 +128,12 @@ one_visit shard shards v own (inr (b, ne)) =
     (All-weaker (λ p. shard_of_token p.tap.token shards ≡ v.shard) (λ p. (shard_of_token p.tap.token shards == shard) ≡ false) (λ p h. ne_eqb (shard_of_token p.tap.token shards) shard (λ k. ne (sym h ∙ k))) v.taps own)
     ∙ sym (ap (λ t. cond t v.taps []) b)
 
-kept_taps : (b : Bool) (v : Visit) (visits : List Visit) → flat_map (λ x. x.taps) (cond b (v ∷ visits) visits) ≡ cond b v.taps [] ++ flat_map (λ x. x.taps) visits
+kept_taps : (b : Bool) (v : RunVisit) (visits : List RunVisit) → flat_map (λ x. x.taps) (cond b (v ∷ visits) visits) ≡ cond b v.taps [] ++ flat_map (λ x. x.taps) visits
 kept_taps true v visits = refl
 kept_taps false v visits = refl
 
 -- the taps of a shard among those of the visits are those of the visits to the shard
-pub shard_taps : (shard shards : ℕ) (visits : List Visit) → All (IsOwnVisit shards) visits
+pub shard_taps : (shard shards : ℕ) (visits : List RunVisit) → All (IsOwnVisit shards) visits
     → of_shard shard shards (flat_map (λ v. v.taps) visits) ≡ flat_map (λ v. v.taps) (visits_to shard visits)
 shard_taps shard shards [] all = refl
 shard_taps shard shards (v ∷ visits) all =
@@ -143,18 +143,18 @@ shard_taps shard shards (v ∷ visits) all =
     ∙ sym (kept_taps (v.shard == shard) v (visits_to shard visits))))
 
 -- each tap of the visits has an entry
-visits_length : (shards : ℕ) (visits : List Visit) → All (IsEntered shards) visits → taps_posted visits ≡ length (flat_map (λ v. v.taps) visits)
+visits_length : (shards : ℕ) (visits : List RunVisit) → All (IsEntered shards) visits → taps_posted visits ≡ length (flat_map (λ v. v.taps) visits)
 visits_length shards [] all = refl
 visits_length shards (v ∷ visits) all =
     let here : length (taps_of_placed v.taps) ≡ length v.entries = AllZip-length IsEntryOf (taps_of_placed v.taps) v.entries (All-head (IsEntered shards) v visits all).fields in
     let rest : length (entries_of visits) ≡ length (flat_map (λ x. x.taps) visits) = visits_length shards visits (All-tail (IsEntered shards) v visits all) in
-    omega (arith, length-map v.taps (λ (p : PlacedTap). p.tap), length-append v.entries (entries_of visits), length-append v.taps (flat_map (λ (x : Visit). x.taps) visits))
+    omega (arith, length-map v.taps (λ (p : PlacedTap). p.tap), length-append v.entries (entries_of visits), length-append v.taps (flat_map (λ (x : RunVisit). x.taps) visits))
 
-runs_taps_are : (visits : List Visit) → flat_map (λ v. v.taps) visits ≡ flat_map (λ r. r.taps) (map run_of_visit visits)
+runs_taps_are : (visits : List RunVisit) → flat_map (λ v. v.taps) visits ≡ flat_map (λ r. r.taps) (map run_of_visit visits)
 runs_taps_are [] = refl
 runs_taps_are (v ∷ visits) = ap (λ ts. v.taps ++ ts) (runs_taps_are visits)
 
-posted_taps_are : (runs : List Run) (visits : List Visit) → ArePosted runs visits → flat_map (λ v. v.taps) visits ≡ flat_map (λ r. r.taps) runs
+posted_taps_are : (runs : List Run) (visits : List RunVisit) → ArePosted runs visits → flat_map (λ v. v.taps) visits ≡ flat_map (λ r. r.taps) runs
 posted_taps_are runs visits posted = runs_taps_are visits ∙ ap (λ rs. flat_map (λ (r : Run). r.taps) rs) posted
 
 take_front : {X : Type 0} (xs ys zs : List X) → zs ≡ xs ++ ys → take (length xs) zs ≡ xs
@@ -165,7 +165,7 @@ record IsFront (order taps : List PlacedTap) : Type 0 where
   fewer : length taps < length order
   front : taps ≡ take (length taps) order
 
-cut_taps_are : (runs : List Run) (visits : List Visit) → AreCut runs visits → IsFront (flat_map (λ r. r.taps) runs) (flat_map (λ v. v.taps) visits)
+cut_taps_are : (runs : List Run) (visits : List RunVisit) → AreCut runs visits → IsFront (flat_map (λ r. r.taps) runs) (flat_map (λ v. v.taps) visits)
 cut_taps_are runs visits c = made c.made
   where
     order : flat_map (λ r. r.taps) runs ≡ flat_map (λ r. r.taps) c.before ++ (c.cut.taps ++ flat_map (λ r. r.taps) c.after)
@@ -246,13 +246,13 @@ end_posted given upload (w ∷ works) all once =
     by_test (inl (b, e)) rest =
         let none : works_on upload works ≡ [] = no_works_on upload works (omega (arith, once upload, times_same w works upload b)) in
         let only : works_on upload (w ∷ works) ≡ w ∷ [] = ap (λ t. cond t (w ∷ works_on upload works) (works_on upload works)) b ∙ ap (λ ws. w ∷ ws) none in
-        let taps : posted_of upload (w ∷ works) ≡ flat_map (λ v. v.taps) w.visits = ap (λ ws. flat_map (λ (v : Visit). v.taps) (all_visits ws)) only ∙ ap (λ vs. flat_map (λ (v : Visit). v.taps) vs) (append-nil w.visits) in
+        let taps : posted_of upload (w ∷ works) ≡ flat_map (λ v. v.taps) w.visits = ap (λ ws. flat_map (λ (v : RunVisit). v.taps) (all_visits ws)) only ∙ ap (λ vs. flat_map (λ (v : RunVisit). v.taps) vs) (append-nil w.visits) in
         let U : ℕ → Type 0 = λ u. WerePostedOf given.shards (file_at given.uploads u) w.end (flat_map (λ v. v.taps) w.visits) in
         let E : UploadEnd → Type 0 = λ end. WerePostedOf given.shards (file_at given.uploads upload) end (flat_map (λ v. v.taps) w.visits) in
         let T : List PlacedTap → Type 0 = WerePostedOf given.shards (file_at given.uploads upload) (end_of upload (w ∷ works)) in
         subst T (sym taps) (subst E (sym (end_same w works upload b)) (subst U e (worked_posted given w (All-head (IsWorkOf given.shards given.uploads) w works all))))
     by_test (inr (b, ne)) rest =
-        let same : posted_of upload (w ∷ works) ≡ posted_of upload works = ap (λ t. flat_map (λ (v : Visit). v.taps) (all_visits (cond t (w ∷ works_on upload works) (works_on upload works)))) b in
+        let same : posted_of upload (w ∷ works) ≡ posted_of upload works = ap (λ t. flat_map (λ (v : RunVisit). v.taps) (all_visits (cond t (w ∷ works_on upload works) (works_on upload works)))) b in
         let E : UploadEnd → Type 0 = λ end. WerePostedOf given.shards (file_at given.uploads upload) end (posted_of upload works) in
         let T : List PlacedTap → Type 0 = WerePostedOf given.shards (file_at given.uploads upload) (end_of upload (w ∷ works)) in
         subst T (sym same) (subst E (sym (end_other w works upload b)) rest)

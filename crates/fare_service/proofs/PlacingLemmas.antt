@@ -17,7 +17,7 @@ use Rattle.fare_service.specs.declared.upload_end.UploadEnd.{UploadEnd}
 use Rattle.fare_service.specs.Headline.{Signed, by_worker}
 use Rattle.fare_service.specs.Outcomes.{OutcomeView}
 use Rattle.fare_service.specs.Placing.{Origin, of_upload, posted_of, StandOnce, WerePostedOf}
-use Rattle.fare_service.specs.Runs.{PlacedTap, taps_of_placed, of_shard, Visit, IsEntered, entries_to}
+use Rattle.fare_service.specs.Runs.{PlacedTap, taps_of_placed, of_shard, RunVisit, IsEntered, entries_to}
 use Rattle.fare_service.specs.inside.Runs.{visits_to}
 use Rattle.fare_service.specs.Shares.{Worked, all_visits, IsWorkOf, all_works, file_at}
 use Rattle.fare_service.proofs.GatherLemmas.{drawn_times, times_same, each_work}
@@ -28,9 +28,9 @@ use Rattle.fare_service.proofs.GatheredWork.{Given, IsBookOfWork, IsGathered}
 -- a visit, and the upload of its taps
 record Labelled : Type 0 where
   upload : ℕ
-  visit : Visit
+  visit : RunVisit
 
-abbrev label : ℕ → Visit → Labelled
+abbrev label : ℕ → RunVisit → Labelled
 label upload visit = record { upload = upload; visit = visit }
 
 -- a labelled visit, and the worker that made it
@@ -69,7 +69,7 @@ unlabelled (w ∷ done) =
     map-append (λ (x : Labelled). x.visit) (map (label w.upload) w.visits) (labelled done)
     ∙ (ap (λ vs. vs ++ map (λ (x : Labelled). x.visit) (labelled done)) (map-map (λ (x : Labelled). x.visit) (label w.upload) w.visits ∙ same w.visits) ∙ ap (λ vs. w.visits ++ vs) (unlabelled done))
   where
-    same : (vs : List Visit) → map (λ v. v) vs ≡ vs
+    same : (vs : List RunVisit) → map (λ v. v) vs ≡ vs
     same [] = refl
     same (v ∷ vs) = ap (λ ws. v ∷ ws) (same vs)
 
@@ -79,7 +79,7 @@ unlabelled_to shard done =
 
 entries_are : (shard : ℕ) (done : List Worked) → map entries_made (to_shard shard done) ≡ entries_to shard (all_visits done)
 entries_are shard done =
-    sym (map-map (λ (v : Visit). v.entries) (λ (x : Labelled). x.visit) (to_shard shard done)) ∙ ap (map (λ v. v.entries)) (unlabelled_to shard done)
+    sym (map-map (λ (v : RunVisit). v.entries) (λ (x : Labelled). x.visit) (to_shard shard done)) ∙ ap (map (λ v. v.entries)) (unlabelled_to shard done)
 
 -- The signed visits of a book, each as the visit that its worker made.
 record IsSpread (P : ℕ → Labelled → Type 0) (visits : List Signed) (left : ℕ → List Labelled) : Type 0 where
@@ -338,13 +338,13 @@ labels_for upload [] = refl
 labels_for upload (w ∷ done) =
     filter-append (λ (x : Labelled). x.upload == upload) (map (label w.upload) w.visits) (labelled done) ∙ by_test (cases_Bool (w.upload == upload)) (labels_for upload done)
   where
-    same : (vs : List Visit) → (w.upload == upload) ≡ true → filter (λ x. x.upload == upload) (map (label w.upload) vs) ≡ map (label w.upload) vs
+    same : (vs : List RunVisit) → (w.upload == upload) ≡ true → filter (λ x. x.upload == upload) (map (label w.upload) vs) ≡ map (label w.upload) vs
     same [] b = refl
     same (v ∷ vs) b =
         let more : List Labelled = filter (λ x. x.upload == upload) (map (label w.upload) vs) in
         ap (λ t. cond t (label w.upload v ∷ more) more) b ∙ ap (λ ys. label w.upload v ∷ ys) (same vs b)
 
-    none : (vs : List Visit) → (w.upload == upload) ≡ false → filter (λ x. x.upload == upload) (map (label w.upload) vs) ≡ []
+    none : (vs : List RunVisit) → (w.upload == upload) ≡ false → filter (λ x. x.upload == upload) (map (label w.upload) vs) ≡ []
     none [] b = refl
     none (v ∷ vs) b =
         let more : List Labelled = filter (λ x. x.upload == upload) (map (label w.upload) vs) in
@@ -377,8 +377,8 @@ exactly_posted given works each once shard upload made own all =
     ∙ (ap taps_made (filter_within (λ y. y.made.upload == upload) (λ y. y.worker == s.worker) made implied)
     ∙ (flat_map-map (λ (x : Labelled). x.visit.taps) (λ (y : By). y.made) (made_for upload (filter (λ y. y.worker == s.worker) made))
     ∙ (ap (flat_map (λ (x : Labelled). x.visit.taps)) labels
-    ∙ (flat_map-map (λ (v : Visit). v.taps) (λ (x : Labelled). x.visit) (to_shard shard (works_on upload (all_works works)))
-    ∙ (ap (flat_map (λ (v : Visit). v.taps)) (unlabelled_to shard (works_on upload (all_works works)))
+    ∙ (flat_map-map (λ (v : RunVisit). v.taps) (λ (x : Labelled). x.visit) (to_shard shard (works_on upload (all_works works)))
+    ∙ (ap (flat_map (λ (v : RunVisit). v.taps)) (unlabelled_to shard (works_on upload (all_works works)))
     ∙ sym (shard_taps shard given.shards (all_visits (works_on upload (all_works works)))
     (own_all given (works_on upload (all_works works)) (All-filter (λ w. w.upload == upload) (IsWorkOf given.shards given.uploads) (all_works works) (each_work given works each)))))))))
   where

@@ -14,7 +14,7 @@ use Rattle.shard_book.specs.Keys.{same_token}
 use Rattle.fare_table.specs.Token.{bytes_of}
 use Rattle.shared_books.specs.Marks.{joined}
 use Rattle.fare_service.specs.Plain.{unanswered, token_of_bytes, IsNamed}
-use Rattle.fare_service.specs.Runs.{PlacedTap, placed_from, taps_of_placed, of_shard, Run, run, if_any, runs_below, runs_of, Visit, IsEntered, run_of_visit, ArePosted, entries_to}
+use Rattle.fare_service.specs.Runs.{PlacedTap, placed_from, taps_of_placed, of_shard, Run, run, if_any, runs_below, runs_of, RunVisit, IsEntered, run_of_visit, ArePosted, entries_to}
 use Rattle.fare_service.proofs.PlainReplies.{bare}
 use Rattle.fare_service.proofs.RunLemmas.{taps-of_shard}
 
@@ -76,7 +76,7 @@ AllZip-append R (x ∷ xs) [] us vs one other = absurd one
 AllZip-append R (x ∷ xs) (y ∷ ys) us vs one other = (one.0, AllZip-append R xs ys us vs one.1 other)
 
 -- the visits to a shard have an entry for each tap of their runs to it
-visits_entries : (shards shard : ℕ) (visits : List Visit) → All (IsEntered shards) visits → AllZip IsEntryOf (taps_at shard (map run_of_visit visits)) (joined (entries_to shard visits))
+visits_entries : (shards shard : ℕ) (visits : List RunVisit) → All (IsEntered shards) visits → AllZip IsEntryOf (taps_at shard (map run_of_visit visits)) (joined (entries_to shard visits))
 visits_entries shards shard [] all = tt
 visits_entries shards shard (visit ∷ visits) all =
     by_test (visit.shard == shard) refl (visits_entries shards shard visits (All-tail (IsEntered shards) visit visits all))
@@ -88,7 +88,7 @@ visits_entries shards shard (visit ∷ visits) all =
         (All-head (IsEntered shards) visit visits all).fields more)
     by_test false is more = rw is more
 
-pub shard_entries : (shards shard : ℕ) (batches : List (List Tap)) (visits : List Visit) → shard < shards → ArePosted (runs_of shards 0 batches) visits → All (IsEntered shards) visits
+pub shard_entries : (shards shard : ℕ) (batches : List (List Tap)) (visits : List RunVisit) → shard < shards → ArePosted (runs_of shards 0 batches) visits → All (IsEntered shards) visits
     → AllZip IsEntryOf (run_of shard shards (flat_map (λ batch. batch) batches)) (joined (entries_to shard visits))
 shard_entries shards shard batches visits within posted all =
     let P : List Tap → Type 0 = λ taps. AllZip IsEntryOf taps (joined (entries_to shard visits)) in

@@ -11,7 +11,7 @@ use Rattle.shard_book.specs.Entry.{reply_of}
 use Rattle.shard_book.specs.Sums.{Sums}
 use Rattle.shared_books.specs.Passes.{PassView}
 use Rattle.fare_service.specs.declared.service.working.Stop.{Stop}
-use Rattle.fare_service.specs.Runs.{Run, Visit, placed_from, runs_below, runs_of, AreCut, entries_of, taps_posted}
+use Rattle.fare_service.specs.Runs.{Run, RunVisit, placed_from, runs_below, runs_of, AreCut, entries_of, taps_posted}
 use Rattle.fare_service.specs.inside.Runs.{WerePosted}
 use Rattle.fare_service.specs.Shares.{Made, IsRefusal, IsFaultOf}
 use Rattle.fare_service.proofs.RunLemmas.{cut_early}
@@ -127,7 +127,7 @@ batches_cut shards p q r s t u done more batch before here =
     (visits, made, subst P (sym (runs_of-append shards 0 (done ++ batch ∷ []) more)) (cut_early (runs_of shards 0 (done ++ batch ∷ [])) (runs_of shards (0 + batches_taps (done ++ batch ∷ [])) more) visits first))
 
 -- how far the totals count
-pub counted_taps : (shards : ℕ) (p q : List PassView) (s t : Sums) (more : List Visit) → Made shards p q s t more → t.taps ≡ s.taps + taps_posted more
+pub counted_taps : (shards : ℕ) (p q : List PassView) (s t : Sums) (more : List RunVisit) → Made shards p q s t more → t.taps ≡ s.taps + taps_posted more
 counted_taps shards p q s t more made =
     ap (λ x. x.taps) made.counted ∙ taps_after s (map reply_of (entries_of more)) ∙ ap (λ n. s.taps + n) (length-map (entries_of more) reply_of)
 
@@ -136,7 +136,7 @@ pub done_room : (file : List ℕ) (done more : List (List Tap)) (rest : List ℕ
 done_room file done more rest is =
     omega (arith, file_room file (done ++ more) rest is, sum_by-append (λ (b : List Tap). length b) done more)
 
-pub posted_few : (shards : ℕ) (p q : List PassView) (s t : Sums) (more : List Visit) (file : List ℕ) (batches : List (List Tap)) (whole : Bool)
+pub posted_few : (shards : ℕ) (p q : List PassView) (s t : Sums) (more : List RunVisit) (file : List ℕ) (batches : List (List Tap)) (whole : Bool)
     → Made shards p q s t more → WerePosted (runs_of shards 0 batches) whole more → 24 * batches_taps batches ≤ length file → length file < 2 ^ 64 → t.taps ≤ s.taps + 2 ^ 60
 posted_few shards p q s t more file batches whole made posted room small =
     let count = counted_taps shards p q s t more made in
@@ -157,6 +157,6 @@ same_items file yielded left done item iterator r e step =
 -- an upload that was cut, told by an answer that is an error
 pub cut_upload : (r : Result (Option (ℕ × LayoutFault)) Stop) (shards : ℕ) (file : List ℕ) (p q : List PassView) (s t : Sums) (batches : List (List Tap)) (rest : List ℕ)
     → IsErr r → IsFile file batches rest → Cuts shards p q s t (runs_of shards 0 batches)
-    → (batches : List (List Tap)) × (rest : List ℕ) × IsFile file batches rest × ((more : List Visit) × Made shards p q s t more × WerePosted (runs_of shards 0 batches) (is_ok r) more) × IfOk r (IsFaultOf file rest)
+    → (batches : List (List Tap)) × (rest : List ℕ) × IsFile file batches rest × ((more : List RunVisit) × Made shards p q s t more × WerePosted (runs_of shards 0 batches) (is_ok r) more) × IfOk r (IsFaultOf file rest)
 cut_upload (Ok x) shards file p q s t batches rest err is cut = absurd (cc)
 cut_upload (Err e) shards file p q s t batches rest err is cut = (batches, rest, is, cut, tt)

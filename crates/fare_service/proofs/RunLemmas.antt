@@ -4,7 +4,7 @@ use Rattle.std.proofs.Common.{refl, sym, ◌∙◌, ap, inl, inr, subst, append_
 use Rattle.std.proofs.lemmas.List.{map-append, length-map}
 use Rattle.tap_views.specs.Layout.{Tap}
 use Rattle.tap_views.specs.Shards.{shard_of_token, run_of}
-use Rattle.fare_service.specs.Runs.{PlacedTap, placed_from, taps_of_placed, of_shard, Run, run, if_any, runs_below, Visit, run_of_visit, ArePosted, AreCut}
+use Rattle.fare_service.specs.Runs.{PlacedTap, placed_from, taps_of_placed, of_shard, Run, run, if_any, runs_below, RunVisit, run_of_visit, ArePosted, AreCut}
 
 -- the placed taps of a shard are the run's taps
 pub taps-of_shard : (shard shards place : ℕ) (taps : List Tap) → taps_of_placed (of_shard shard shards (placed_from place taps)) ≡ run_of shard shards taps
@@ -30,11 +30,11 @@ pub no_run : (shard : ℕ) (taps : List PlacedTap) → length taps ≡ 0 → if_
 no_run shard [] none = refl
 no_run shard (tap ∷ taps) none = absurd (omega arith)
 
-pub posted_posted : (first then : List Run) (visits more : List Visit) → ArePosted first visits → ArePosted then more → ArePosted (first ++ then) (visits ++ more)
+pub posted_posted : (first then : List Run) (visits more : List RunVisit) → ArePosted first visits → ArePosted then more → ArePosted (first ++ then) (visits ++ more)
 posted_posted first then visits more a b = map-append run_of_visit visits more ∙ (ap (λ rs. rs ++ map run_of_visit more) a ∙ ap (λ rs. first ++ rs) b)
 
 -- runs before a cut
-pub posted_cut : (first then : List Run) (visits more : List Visit) → ArePosted first visits → AreCut then more → AreCut (first ++ then) (visits ++ more)
+pub posted_cut : (first then : List Run) (visits more : List RunVisit) → ArePosted first visits → AreCut then more → AreCut (first ++ then) (visits ++ more)
 posted_cut first then visits more a b = record {
   before = first ++ b.before;
   cut = b.cut;
@@ -55,7 +55,7 @@ posted_cut first then visits more a b = record {
         inr (posted, few, joined (b.before ++ run b.cut.shard (take posted b.cut.taps) ∷ []) e ∙ sym (append_assoc first b.before (run b.cut.shard (take posted b.cut.taps) ∷ [])))
 
 -- nothing more is posted after a cut
-pub cut_early : (first then : List Run) (visits : List Visit) → AreCut first visits → AreCut (first ++ then) visits
+pub cut_early : (first then : List Run) (visits : List RunVisit) → AreCut first visits → AreCut (first ++ then) visits
 cut_early first then visits c = record {
   before = c.before;
   cut = c.cut;
@@ -77,7 +77,7 @@ cut_none shard taps some = record {
 }
 
 -- a run of which the first taps were posted
-pub cut_some : (shard : ℕ) (taps : List PlacedTap) (posted : ℕ) (visit : Visit) → posted < length taps → run_of_visit visit ≡ run shard (take posted taps) → AreCut (if_any shard taps) (visit ∷ [])
+pub cut_some : (shard : ℕ) (taps : List PlacedTap) (posted : ℕ) (visit : RunVisit) → posted < length taps → run_of_visit visit ≡ run shard (take posted taps) → AreCut (if_any shard taps) (visit ∷ [])
 cut_some shard taps posted visit few e = record {
   before = [];
   cut = run shard taps;
@@ -88,7 +88,7 @@ cut_some shard taps posted visit few e = record {
 }
 
 -- a run that was posted whole
-pub whole_run : (shard : ℕ) (taps : List PlacedTap) (visit : Visit) → 0 < length taps → run_of_visit visit ≡ run shard taps → ArePosted (if_any shard taps) (visit ∷ [])
+pub whole_run : (shard : ℕ) (taps : List PlacedTap) (visit : RunVisit) → 0 < length taps → run_of_visit visit ≡ run shard taps → ArePosted (if_any shard taps) (visit ∷ [])
 whole_run shard taps visit some e = ap (λ r. r ∷ []) e ∙ sym (some_run shard taps some)
 
 -- the runs of one more shard
@@ -98,7 +98,7 @@ below_more shards shard taps =
     ap (λ n. runs_below shards n taps) e
 
 -- a batch cut at one of its shards is cut, whatever shards are left
-pub below_cut : (shards shard left : ℕ) (taps : List PlacedTap) (visits : List Visit) → AreCut (runs_below shards shard taps) visits → AreCut (runs_below shards (left + shard) taps) visits
+pub below_cut : (shards shard left : ℕ) (taps : List PlacedTap) (visits : List RunVisit) → AreCut (runs_below shards shard taps) visits → AreCut (runs_below shards (left + shard) taps) visits
 below_cut shards shard zero taps visits c =
     let e : shard ≡ 0 + shard = omega arith in
     let P : ℕ → Type 0 = λ n. AreCut (runs_below shards n taps) visits in

@@ -18,14 +18,14 @@ use Rattle.shared_books.specs.Passes.{PassView, SharedBookView, IsLater, Visits}
 use Rattle.fare_service.specs.declared.service.working.Stop.{Stop}
 use Rattle.fare_service.specs.ServiceView.{ServiceView, shards_of}
 use Rattle.fare_service.specs.inside.ServiceView.{IsService, IsBookOf}
-use Rattle.fare_service.specs.Runs.{PlacedTap, placed_from, of_shard, Run, if_any, Visit, IsEntered, ArePosted, AreCut, entries_to}
+use Rattle.fare_service.specs.Runs.{PlacedTap, placed_from, of_shard, Run, if_any, RunVisit, IsEntered, ArePosted, AreCut, entries_to}
 use Rattle.fare_service.specs.inside.Runs.{WerePosted}
 use Rattle.fare_service.specs.Shares.{own_visits, marks_at, own_at, Made}
 use Rattle.fare_service.proofs.RunLemmas.{taps-of_shard, length-of_shard, no_run, cut_none, cut_some, whole_run}
 use Rattle.fare_service.proofs.VisitLemmas.{made_none, made_by_pass, own-visits, own-later, add_none}
 
 -- an answer that is an error tells of a cut
-pub was_cut : (r : Result (Unit {0}) Stop) (runs : List Run) (visits : List Visit) → IsErr r → AreCut runs visits → WerePosted runs (is_ok r) visits
+pub was_cut : (r : Result (Unit {0}) Stop) (runs : List Run) (visits : List RunVisit) → IsErr r → AreCut runs visits → WerePosted runs (is_ok r) visits
 was_cut (Ok x) runs visits e c = absurd (cc)
 was_cut (Err x) runs visits e c = c
 
@@ -45,18 +45,18 @@ is_whole Whole = true
 is_whole (Cut posted) = false
 
 -- the visit of a run of a batch, with the places of its taps
-pub record IsVisitOf (shards shard place : ℕ) (batch : List Tap) (how : RunEnd) (entries : List Entry) (visit : Visit) : Type 0 where
+pub record IsVisitOf (shards shard place : ℕ) (batch : List Tap) (how : RunEnd) (entries : List Entry) (visit : RunVisit) : Type 0 where
   pub shard_is : visit.shard ≡ shard
   pub entries_are : visit.entries ≡ entries
   pub entered : IsEntered shards visit
   pub posted : WerePosted (if_any shard (of_shard shard shards (placed_from place batch))) (is_whole how) (visit ∷ [])
 
 pub visit_of : (shards shard place : ℕ) (batch : List Tap) (how : RunEnd) (entries : List Entry) → shard < shards → 0 < length (run_of shard shards batch)
-    → IsVisit (run_of shard shards batch) how entries → (visit : Visit) × IsVisitOf shards shard place batch how entries visit
+    → IsVisit (run_of shard shards batch) how entries → (visit : RunVisit) × IsVisitOf shards shard place batch how entries visit
 visit_of shards shard place batch Whole entries within some h =
     let placed = of_shard shard shards (placed_from place batch) in
     let P : List Tap → Type 0 = λ taps. AreEntriesOf taps entries in
-    let visit : Visit = record { shard = shard; taps = placed; entries = entries } in
+    let visit : RunVisit = record { shard = shard; taps = placed; entries = entries } in
     let there : 0 < length placed = omega (arith, length-of_shard shard shards place batch) in (
       visit,
       record {
@@ -69,7 +69,7 @@ visit_of shards shard place batch Whole entries within some h =
 visit_of shards shard place batch (Cut posted) entries within some h =
     let placed = of_shard shard shards (placed_from place batch) in
     let P : List Tap → Type 0 = λ taps. AreEntriesOf taps entries in
-    let visit : Visit = record { shard = shard; taps = take posted placed; entries = entries } in
+    let visit : RunVisit = record { shard = shard; taps = take posted placed; entries = entries } in
     let few : posted < length placed = omega (arith, length-of_shard shard shards place batch, h.0) in (
       visit,
       record {
@@ -91,7 +91,7 @@ marks_here passes shard old within is =
     get_or-map (λ p. p.marks) passes shard old [] within ∙ ap (λ p. p.marks) (sym is)
 
 -- a pass that made a visit of a run
-pub made_visit : (shards shard : ℕ) (passes : List PassView) (old new : PassView) (number : ℕ) (visit : Visit) (totals totals' : Sums) → shard < length passes
+pub made_visit : (shards shard : ℕ) (passes : List PassView) (old new : PassView) (number : ℕ) (visit : RunVisit) (totals totals' : Sums) → shard < length passes
     → old ≡ get_or passes shard old → visit.shard ≡ shard → Visits old new number visit.entries → totals' ≡ add_sums totals (sums visit.entries) → IsEntered shards visit
     → Made shards passes (set passes shard new) totals totals' (visit ∷ [])
 made_visit shards shard passes old new number visit totals totals' within is at v counted entered =
@@ -133,13 +133,13 @@ same_run r batch shard n shards is same = ap run_taps is ∙ ap (λ k. run_of sh
 
 -- a run without taps
 pub run_empty : (shards shard place : ℕ) (batch : List Tap) (passes : List PassView) (totals : Sums) → length (run_of shard shards batch) ≡ 0
-    → (more : List Visit) × Made shards passes passes totals totals more × ArePosted (if_any shard (of_shard shard shards (placed_from place batch))) more
+    → (more : List RunVisit) × Made shards passes passes totals totals more × ArePosted (if_any shard (of_shard shard shards (placed_from place batch))) more
 run_empty shards shard place batch passes totals none =
     ([], made_none shards passes totals, sym (no_run shard (of_shard shard shards (placed_from place batch)) (length-of_shard shard shards place batch ∙ none)))
 
 -- a run of which nothing was posted, since memory was refused before its turn
 pub run_refused : (shards shard place : ℕ) (batch : List Tap) (passes : List PassView) (totals : Sums) (r : Result (Unit {0}) Stop) → 0 < length (run_of shard shards batch) → IsErr r
-    → (more : List Visit) × Made shards passes passes totals totals more × WerePosted (if_any shard (of_shard shard shards (placed_from place batch))) (is_ok r) more
+    → (more : List RunVisit) × Made shards passes passes totals totals more × WerePosted (if_any shard (of_shard shard shards (placed_from place batch))) (is_ok r) more
 run_refused shards shard place batch passes totals r some err =
     let placed = of_shard shard shards (placed_from place batch) in
     let there : 0 < length placed = omega (arith, length-of_shard shard shards place batch) in
@@ -148,7 +148,7 @@ run_refused shards shard place batch passes totals r some err =
 -- a run of which nothing was posted, since its book takes no more visits
 pub run_full : (shards shard place : ℕ) (batch : List Tap) (passes : List PassView) (old new : PassView) (totals : Sums) (r : Result (Unit {0}) Stop) → 0 < length (run_of shard shards batch) → IsErr r
     → shard < length passes → old ≡ get_or passes shard old → IsLater old new
-    → (more : List Visit) × Made shards passes (set passes shard new) totals totals more × WerePosted (if_any shard (of_shard shard shards (placed_from place batch))) (is_ok r) more
+    → (more : List RunVisit) × Made shards passes (set passes shard new) totals totals more × WerePosted (if_any shard (of_shard shard shards (placed_from place batch))) (is_ok r) more
 run_full shards shard place batch passes old new totals r some err within is later =
     let placed = of_shard shard shards (placed_from place batch) in
     let there : 0 < length placed = omega (arith, length-of_shard shard shards place batch) in
@@ -158,7 +158,7 @@ run_full shards shard place batch passes old new totals r some err within is lat
 pub run_visited : (shards shard place : ℕ) (batch : List Tap) (passes : List PassView) (old new : PassView) (number : ℕ) (how : RunEnd) (entries : List Entry) (totals totals' : Sums)
     → 0 < length (run_of shard shards batch) → shard < shards → shard < length passes → old ≡ get_or passes shard old
     → Visits old new number entries → IsVisit (run_of shard shards batch) how entries → totals' ≡ add_sums totals (sums entries)
-    → (more : List Visit) × Made shards passes (set passes shard new) totals totals' more × WerePosted (if_any shard (of_shard shard shards (placed_from place batch))) (is_whole how) more
+    → (more : List RunVisit) × Made shards passes (set passes shard new) totals totals' more × WerePosted (if_any shard (of_shard shard shards (placed_from place batch))) (is_whole how) more
 run_visited shards shard place batch passes old new number how entries totals totals' some below within is v h counted =
     let (visit, of) = visit_of shards shard place batch how entries below some h in
     let P : List Entry → Type 0 = λ es. Visits old new number es in (

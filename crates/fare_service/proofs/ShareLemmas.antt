@@ -13,7 +13,7 @@ use Rattle.fare_service.specs.declared.upload_end.UploadEnd.{UploadEnd}
 use Rattle.fare_service.specs.Claims.{claims_at, left_share}
 use Rattle.fare_service.specs.ServiceView.{ServiceView, shards_of}
 use Rattle.fare_service.specs.ShareView.{ShareView}
-use Rattle.fare_service.specs.Runs.{Visit, entries_to, entries_of}
+use Rattle.fare_service.specs.Runs.{RunVisit, entries_to, entries_of}
 use Rattle.fare_service.specs.Shares.{Worked, all_visits, done_of, IsWorked, Keeps, IsShareOf, IsFresh, HasWorked, WentOn, Made, own_at, own_visits, books_of}
 use Rattle.fare_service.specs.inside.Shares.{worked}
 use Rattle.fare_service.proofs.VisitLemmas.{made_none, made_more, entries_to-append, sums-append, own-others, no_taps}
@@ -38,7 +38,7 @@ worked_none service old new claims drawn done passes totals =
 pub worked_one : (service : ServiceView) (old new : ShareView) (w : Worked) → IsWorked service w → new.drawer.claims ≡ old.drawer.claims → new.drawer.drawn ≡ old.drawer.drawn ++ w.upload ∷ [] → new.done ≡ old.done ++ done_of w ∷ []
     → Made (shards_of service) old.passes new.passes old.totals new.totals w.visits → HasWorked service old new (w ∷ [])
 worked_one service old new w is claims drawn done made =
-    let P : List Visit → Type 0 = λ vs. Made (shards_of service) old.passes new.passes old.totals new.totals vs in
+    let P : List RunVisit → Type 0 = λ vs. Made (shards_of service) old.passes new.passes old.totals new.totals vs in
     record {
       each = All-cons (IsWorked service) w [] is (All-nil (IsWorked service));
       claims = claims;
@@ -50,7 +50,7 @@ worked_one service old new w is claims drawn done made =
 -- some uploads, and then others
 pub worked_more : (service : ServiceView) (a b c : ShareView) (xs ys : List Worked) → HasWorked service a b xs → HasWorked service b c ys → HasWorked service a c (xs ++ ys)
 worked_more service a b c xs ys p q =
-    let P : List Visit → Type 0 = λ vs. Made (shards_of service) a.passes c.passes a.totals c.totals vs in
+    let P : List RunVisit → Type 0 = λ vs. Made (shards_of service) a.passes c.passes a.totals c.totals vs in
     record {
       each = All-append (IsWorked service) xs ys p.each q.each;
       claims = q.claims ∙ p.claims;
@@ -91,7 +91,7 @@ abbrev pub holding : DrawerView → List PassView → Sums → List Done → Sha
 holding drawer passes totals done = record { drawer = drawer; passes = passes; totals = totals; done = done }
 
 -- a worker that drew an upload and posted it
-pub next_done : (service : ServiceView) (drawer drawer' : DrawerView) (passes passes' : List PassView) (totals totals' : Sums) (done done' : List Done) (upload : ℕ) (end : UploadEnd) (visits : List Visit)
+pub next_done : (service : ServiceView) (drawer drawer' : DrawerView) (passes passes' : List PassView) (totals totals' : Sums) (done done' : List Done) (upload : ℕ) (end : UploadEnd) (visits : List RunVisit)
     → drawer'.claims ≡ drawer.claims → drawer'.drawn ≡ drawer.drawn ++ upload ∷ [] → done' ≡ done ++ record { upload = upload; end = end } ∷ [] → Made (shards_of service) passes passes' totals totals' visits → IsWorked service (worked upload end visits)
     → HasWorked service (holding drawer passes totals done) (holding drawer' passes' totals' done') (worked upload end visits ∷ [])
 next_done service drawer drawer' passes passes' totals totals' done done' upload end visits claims drawn more made is =
@@ -99,7 +99,7 @@ next_done service drawer drawer' passes passes' totals totals' done done' upload
 
 pub next_share : (service : ServiceView) (drawer drawer' : DrawerView) (passes passes' : List PassView) (totals totals' : Sums) (done done' : List Done) (upload : ℕ) (end : UploadEnd) (old : ShareView)
     → holding drawer passes totals done ≡ old → IsShareOf service old → drawer'.claims ≡ drawer.claims → drawer'.drawn ≡ drawer.drawn ++ upload ∷ [] → drawer'.drawn_from ≡ drawer.drawn_from → done' ≡ done ++ record { upload = upload; end = end } ∷ []
-    → ((visits : List Visit) × Made (shards_of service) passes passes' totals totals' visits × IsWorked service (worked upload end visits)) → totals'.taps ≤ totals.taps + 2 ^ 60 → IsShareOf service (holding drawer' passes' totals' done')
+    → ((visits : List RunVisit) × Made (shards_of service) passes passes' totals totals' visits × IsWorked service (worked upload end visits)) → totals'.taps ≤ totals.taps + 2 ^ 60 → IsShareOf service (holding drawer' passes' totals' done')
 next_share service drawer drawer' passes passes' totals totals' done done' upload end old is share claims drawn drawn_from more (visits, made, did) few =
     let P : ShareView → Type 0 = IsShareOf service in
     share_more service (holding drawer passes totals done) (holding drawer' passes' totals' done') (worked upload end visits ∷ []) (subst P (sym is) share)

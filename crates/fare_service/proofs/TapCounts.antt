@@ -10,7 +10,7 @@ use Rattle.tap_views.specs.Layout.{Tap, IsBatch, Layout, Tap1, Tap2, IsTapOf, sp
 use Rattle.tap_views.specs.Files.{IsFile}
 use Rattle.tap_views.specs.Shards.{shard_of_token}
 use Rattle.shard_book.specs.Entry.{IsEntryOf}
-use Rattle.fare_service.specs.Runs.{PlacedTap, placed_from, taps_of_placed, of_shard, Run, run, if_any, runs_below, runs_of, Visit, IsEntered, run_of_visit, ArePosted, AreCut, entries_of, taps_posted}
+use Rattle.fare_service.specs.Runs.{PlacedTap, placed_from, taps_of_placed, of_shard, Run, run, if_any, runs_below, runs_of, RunVisit, IsEntered, run_of_visit, ArePosted, AreCut, entries_of, taps_posted}
 use Rattle.fare_service.proofs.RunVisits.{AllZip-length}
 
 abbrev pub runs_taps : List Run → ℕ
@@ -20,7 +20,7 @@ abbrev pub batches_taps : List (List Tap) → ℕ
 batches_taps batches = sum_by (λ b. length b) batches
 
 -- a visit has as many entries as taps
-pub visits_taps : (shards : ℕ) (visits : List Visit) → All (IsEntered shards) visits → taps_posted visits ≡ runs_taps (map run_of_visit visits)
+pub visits_taps : (shards : ℕ) (visits : List RunVisit) → All (IsEntered shards) visits → taps_posted visits ≡ runs_taps (map run_of_visit visits)
 visits_taps shards [] all = refl
 visits_taps shards (visit ∷ visits) all =
     let here : length visit.entries ≡ length visit.taps =
@@ -32,11 +32,11 @@ visits_taps shards (visit ∷ visits) all =
     omega arith
 
 -- whole runs post all their taps
-pub posted_taps : (shards : ℕ) (runs : List Run) (visits : List Visit) → All (IsEntered shards) visits → ArePosted runs visits → taps_posted visits ≡ runs_taps runs
+pub posted_taps : (shards : ℕ) (runs : List Run) (visits : List RunVisit) → All (IsEntered shards) visits → ArePosted runs visits → taps_posted visits ≡ runs_taps runs
 posted_taps shards runs visits all posted = visits_taps shards visits all ∙ ap runs_taps posted
 
 -- runs up to a cut post no more
-pub cut_taps : (shards : ℕ) (runs : List Run) (visits : List Visit) → All (IsEntered shards) visits → AreCut runs visits → taps_posted visits ≤ runs_taps runs
+pub cut_taps : (shards : ℕ) (runs : List Run) (visits : List RunVisit) → All (IsEntered shards) visits → AreCut runs visits → taps_posted visits ≤ runs_taps runs
 cut_taps shards runs visits all c = made c.made
   where
     whole : runs_taps runs ≡ runs_taps c.before + runs_taps (c.cut ∷ c.after)

@@ -17,7 +17,7 @@ use Rattle.shard_book.specs.Sums.{Sums, sums, sums_of_replies, add_sums, is_paid
 use Rattle.shared_books.specs.declared.turns.rule.Mark.{Mark}
 use Rattle.shared_books.specs.Marks.{mark, others}
 use Rattle.shared_books.specs.Passes.{PassView, IsLater, Visits}
-use Rattle.fare_service.specs.Runs.{Visit, IsEntered, entries_to, entries_of}
+use Rattle.fare_service.specs.Runs.{RunVisit, IsEntered, entries_to, entries_of}
 use Rattle.fare_service.specs.inside.Runs.{visits_to}
 use Rattle.fare_service.specs.Shares.{own_visits, marks_at, own_at, Made}
 
@@ -86,7 +86,7 @@ marks-set_other passes shard other new ne =
     ∙ get_or-set_other (map (λ p. p.marks) passes) shard other new.marks [] ne
 
 -- what one visit changed, or a look
-pub made_by_pass : (shards : ℕ) (passes : List PassView) (shard : ℕ) (old new : PassView) (totals totals' : Sums) (more : List Visit) → shard < length passes
+pub made_by_pass : (shards : ℕ) (passes : List PassView) (shard : ℕ) (old new : PassView) (totals totals' : Sums) (more : List RunVisit) → shard < length passes
     → new.book ≡ (get_or passes shard old).book → new.claims ≡ (get_or passes shard old).claims → own_visits new.marks ≡ own_at shard passes ++ entries_to shard more
     → ((other : ℕ) → other ≢ shard → entries_to other more ≡ [])
     → totals' ≡ add_sums totals (sums (entries_of more)) → All (IsEntered shards) more
@@ -117,11 +117,11 @@ made_none shards passes totals = record {
 }
 
 -- two lists of visits
-pub entries_to-append : (shard : ℕ) (xs ys : List Visit) → entries_to shard (xs ++ ys) ≡ entries_to shard xs ++ entries_to shard ys
+pub entries_to-append : (shard : ℕ) (xs ys : List RunVisit) → entries_to shard (xs ++ ys) ≡ entries_to shard xs ++ entries_to shard ys
 entries_to-append shard xs ys =
     ap (map (λ v. v.entries)) (filter-append (λ v. v.shard == shard) xs ys) ∙ map-append (λ v. v.entries) (visits_to shard xs) (visits_to shard ys)
 
-pub made_more : (shards : ℕ) (p q r : List PassView) (s t u : Sums) (xs ys : List Visit) → Made shards p q s t xs → Made shards q r t u ys → Made shards p r s u (xs ++ ys)
+pub made_more : (shards : ℕ) (p q r : List PassView) (s t u : Sums) (xs ys : List RunVisit) → Made shards p q s t xs → Made shards q r t u ys → Made shards p r s u (xs ++ ys)
 made_more shards p q r s t u xs ys a b = record {
   books = b.books ∙ a.books;
   claims = b.claims ∙ a.claims;

@@ -54,26 +54,26 @@ runs_of shards place (batch ∷ batches) =
     ++ runs_of shards (place + length batch) batches
 
 -- a visit that a worker made to a shard: the taps that it posted, and an entry for each
-pub record Visit : Type 0 where
+pub record RunVisit : Type 0 where
   pub shard : ℕ
   pub taps : List PlacedTap
   pub entries : List Entry
 
 -- the visit is to one of the shards, and has the fields of its taps' bytes, tap by tap
-pub record IsEntered (shards : ℕ) (visit : Visit) : Type 0 where
+pub record IsEntered (shards : ℕ) (visit : RunVisit) : Type 0 where
   pub within : visit.shard < shards
   pub fields : AllZip IsEntryOf (taps_of_placed visit.taps) visit.entries
 
 -- the run that a visit posted
-abbrev pub run_of_visit : Visit → Run
+abbrev pub run_of_visit : RunVisit → Run
 run_of_visit visit = run visit.shard visit.taps
 
 -- the runs were posted whole, in their order
-abbrev pub ArePosted : List Run → List Visit → Type 0
+abbrev pub ArePosted : List Run → List RunVisit → Type 0
 ArePosted runs visits = map run_of_visit visits ≡ runs
 
 -- the runs were posted up to a cut one: of it nothing was posted, or its first taps and not all
-pub record AreCut (runs : List Run) (visits : List Visit) : Type 0 where
+pub record AreCut (runs : List Run) (visits : List RunVisit) : Type 0 where
   pub before : List Run
   pub cut : Run
   pub after : List Run
@@ -84,14 +84,14 @@ pub record AreCut (runs : List Run) (visits : List Visit) : Type 0 where
       × (map run_of_visit visits ≡ before ++ run cut.shard (take posted cut.taps) ∷ []))
 
 -- the entries of the visits to a shard, visit by visit
-abbrev pub entries_to : ℕ → List Visit → List (List Entry)
+abbrev pub entries_to : ℕ → List RunVisit → List (List Entry)
 entries_to shard visits =
     map (λ visit. visit.entries) (filter (λ visit. visit.shard == shard) visits)
 
 -- the entries of the visits, visit by visit
-abbrev pub entries_of : List Visit → List Entry
+abbrev pub entries_of : List RunVisit → List Entry
 entries_of visits = flat_map (λ visit. visit.entries) visits
 
 -- how many taps the visits posted
-abbrev pub taps_posted : List Visit → ℕ
+abbrev pub taps_posted : List RunVisit → ℕ
 taps_posted visits = length (entries_of visits)

@@ -18,7 +18,7 @@ use Rattle.fare_service.specs.declared.service.share.Done.{Done}
 use Rattle.fare_service.specs.Claims.{claims_of}
 use Rattle.fare_service.specs.ServiceView.{ServiceView, shards_of}
 use Rattle.fare_service.specs.ShareView.{ShareView}
-use Rattle.fare_service.specs.Runs.{Visit, IsEntered, ArePosted, AreCut, runs_of, entries_to}
+use Rattle.fare_service.specs.Runs.{RunVisit, IsEntered, ArePosted, AreCut, runs_of, entries_to}
 use Rattle.fare_service.specs.Runs.{entries_of, taps_posted}
 
 -- the books that the passes belong to
@@ -41,10 +41,10 @@ own_at shard passes = own_visits (marks_at shard passes)
 pub record Worked : Type 0 where
   pub upload : ℕ
   pub end : UploadEnd
-  pub visits : List Visit
+  pub visits : List RunVisit
 
 -- the visits of all these uploads, upload by upload
-abbrev pub all_visits : List Worked → List Visit
+abbrev pub all_visits : List Worked → List RunVisit
 all_visits works = flat_map (λ w. w.visits) works
 
 -- what all workers did
@@ -67,7 +67,7 @@ IsFaultOf file rest None = rest ≡ []
 IsFaultOf file rest (Some (offset, fault)) = IsRefusal file rest offset fault
 
 -- how an upload of these batches and this rest ended, by the visits that were made for it
-abbrev pub IsEndOf : ℕ → List ℕ → List (List Tap) → List ℕ → List Visit → UploadEnd → Type 0
+abbrev pub IsEndOf : ℕ → List ℕ → List (List Tap) → List ℕ → List RunVisit → UploadEnd → Type 0
 IsEndOf shards file batches rest visits (Posted taps) =
     (rest ≡ []) × ArePosted (runs_of shards 0 batches) visits × (taps ≡ taps_posted visits)
 IsEndOf shards file batches rest visits (Refused taps offset fault) =
@@ -120,7 +120,7 @@ pub record IsFresh (share : ShareView) : Type 0 where
 -- what a worker's visits changed: the passes have made them and keep their claims, and the totals
 -- count their replies
 pub record Made (shards : ℕ) (passes passes' : List PassView) (totals totals' : Sums)
-    (more : List Visit) : Type 0 where
+    (more : List RunVisit) : Type 0 where
   pub books : books_of passes' ≡ books_of passes
   pub claims : claims_of passes' ≡ claims_of passes
   pub visits : (shard : ℕ) → own_at shard passes' ≡ own_at shard passes ++ entries_to shard more

@@ -1,5 +1,5 @@
--- A token's explained statement: the lines of its statement with the reason behind each, the token's
--- terms before the lines, and all its windows.
+-- A token's explained statement: the lines of its statement with the reason behind each, the
+-- token's terms before the lines, and all its windows.
 use Rattle.std.specs.Prelude.{◌≡◌, ℕ, List, [], ◌∷◌, ◌++◌, Option, Some, None, codes, flat_map, map}
 use Rattle.std.specs.Prelude.{slice_get}
 use Rattle.std.specs.Fmt.{decimal}

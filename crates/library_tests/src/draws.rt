@@ -130,11 +130,13 @@ fn four_threads_draw_each_number_once(rt: HostRuntime) -> Result<(), Fail> {
         &rt,
         || -> (Drawer, Drawer)
             requires { (one.drawn_from ≡ all.now) × (two.drawn_from ≡ all.now) }
-            ensures { (result.0.drawn_from ≡ all.entry.now) × (result.1.drawn_from ≡ all.entry.now) }
+            ensures { (result.0.drawn_from ≡ all.entry.now)
+                × (result.1.drawn_from ≡ all.entry.now) }
         { draw_by_two(&rt, all, one, two) },
         || -> (Drawer, Drawer)
             requires { (three.drawn_from ≡ all.now) × (four.drawn_from ≡ all.now) }
-            ensures { (result.0.drawn_from ≡ all.entry.now) × (result.1.drawn_from ≡ all.entry.now) }
+            ensures { (result.0.drawn_from ≡ all.entry.now)
+                × (result.1.drawn_from ≡ all.entry.now) }
         { draw_by_two(&rt, all, three, four) },
     );
     draw.join(&mut one, two);

@@ -1,5 +1,5 @@
-//! The reference account: it keeps all taps of a token, and works the rule out anew from the whole list
-//! at each.
+//! The reference account: it keeps all taps of a token and works the rule out anew from the whole
+//! list at each.
 //!
 //! It asks no table: its modes, transfers and terms are its own, and its windows end after seven
 //! days.

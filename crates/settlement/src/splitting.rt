@@ -67,8 +67,8 @@ fn add_all(
     Ok(ends)
 }
 
-/// Splits the taps of the uploads into so many parts. Each part has room for half as many taps again
-/// as its share, if tokens were even.
+/// Splits the taps of the uploads into so many parts. Each part has room for half as many taps
+/// again as its share, if tokens were even.
 fn split_uploads(alloc: Global, uploads: Vec<Vec<u8>>, parts: u32) -> Result<SplitTaps, AllocError>
     requires least { 1 ≤ parts }
     requires most { parts ≤ 65535 }

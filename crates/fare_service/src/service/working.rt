@@ -142,7 +142,7 @@ impl<'a> Service<'a> {
     ghost use Rattle.tap_views.specs.Runs.{AreRuns};
     ghost use Rattle.tap_views.specs.Layout.{Tap};
     ghost use Rattle.tap_views.specs.Files.{IsFile};
-    ghost use Rattle.fare_service.specs.Runs.{Visit, if_any, of_shard, placed_from, runs_below};
+    ghost use Rattle.fare_service.specs.Runs.{RunVisit, if_any, of_shard, placed_from, runs_below};
     ghost use Rattle.fare_service.specs.Runs.{runs_of};
     ghost use Rattle.fare_service.specs.inside.Runs.{WerePosted};
     ghost use Rattle.fare_service.specs.Shares.{Made, books_of, IsFaultOf, IsShareOf, IsWorked};
@@ -169,7 +169,7 @@ impl<'a> Service<'a> {
         requires passes { books_of posting.old.passes.items ≡ self.now.books }
         requires clock { buffers.old.clock ≡ self.now.table.zone }
         requires room { posting.old.totals.taps + 4096 ≤ 2 ^ 95 }
-        ensures made { (place : ℕ) → (more : List Visit)
+        ensures made { (place : ℕ) → (more : List RunVisit)
             × Made (shards_of self.now) posting.old.passes.items posting.new.passes.items
             (sums_of posting.old.totals) (sums_of posting.new.totals) more
             × WerePosted (if_any shard
@@ -215,7 +215,7 @@ impl<'a> Service<'a> {
         requires clock { buffers.old.run.clock ≡ self.now.table.zone }
         requires runs { length buffers.old.runs ≡ shards_of self.now }
         requires room { posting.old.totals.taps + 2 ^ 18 ≤ 2 ^ 95 }
-        ensures made { (place : ℕ) → (more : List Visit)
+        ensures made { (place : ℕ) → (more : List RunVisit)
             × Made (shards_of self.now) posting.old.passes.items posting.new.passes.items
             (sums_of posting.old.totals) (sums_of posting.new.totals) more
             × WerePosted (runs_below (shards_of self.now) (shards_of self.now)
@@ -245,7 +245,7 @@ impl<'a> Service<'a> {
         requires runs { length buffers.old.runs ≡ shards_of self.now }
         requires room { posting.old.totals.taps + 2 ^ 60 ≤ 2 ^ 94 }
         ensures made { (batches : List (List Tap)) × (rest : List ℕ) × IsFile file.now batches rest
-            × ((more : List Visit) × Made
+            × ((more : List RunVisit) × Made
             (shards_of self.now) posting.old.passes.items posting.new.passes.items
             (sums_of posting.old.totals) (sums_of posting.new.totals) more
             × WerePosted (runs_of (shards_of self.now) 0 batches) (is_ok result) more)
@@ -282,7 +282,7 @@ impl<'a> Service<'a> {
         requires clock { buffers.old.run.clock ≡ self.now.table.zone }
         requires runs { length buffers.old.runs ≡ shards_of self.now }
         requires room { posting.old.totals.taps + 2 ^ 60 ≤ 2 ^ 94 }
-        ensures worked { (visits : List Visit)
+        ensures worked { (visits : List RunVisit)
             × Made (shards_of self.now) posting.old.passes.items posting.new.passes.items
             (sums_of posting.old.totals) (sums_of posting.new.totals) visits
             × IsWorked self.now (worked upload result.0 visits) }
@@ -327,7 +327,7 @@ impl<'a> Service<'a> {
               seen = next.0.upload + 1;
               drawn = drawer.old.drawn ++ next.0.upload ∷ [];
             })) }
-        ensures worked { IfSome result (λ next. (visits : List Visit)
+        ensures worked { IfSome result (λ next. (visits : List RunVisit)
             × Made (shards_of self.now) posting.old.passes.items posting.new.passes.items
             (sums_of posting.old.totals) (sums_of posting.new.totals) visits
             × IsWorked self.now (worked next.0.upload next.0.end visits)) }
