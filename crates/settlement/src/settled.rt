@@ -4,8 +4,8 @@ ghost use Rattle.std.specs.Prelude.{◌≤◌, IfOk, map};
 ghost use Rattle.settlement.specs.Settled.{IsSettled};
 
 use crate::arranging::files_by_threads;
-use crate::splitting::{SplitTaps, bytes_of, split_by_threads};
 use crate::pieces::pieces_of;
+use crate::splitting::{SplitTaps, bytes_of, split_by_threads};
 use fare_service::UploadEnd;
 use fare_table::NoMemory;
 use std::alloc::Global;

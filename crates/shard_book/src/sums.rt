@@ -8,10 +8,10 @@ ghost use Rattle.shard_book.specs.Sums.{Sums, sums, sums_of};
 
 use crate::book::ShardBook;
 use crate::entry::Entry;
+use crate::sums::by_key::{SumKey, listed, sums_of_books};
 use crate::sums::by_threads::tallies_by_validator;
 use crate::sums::by_token::rising_counts;
 use crate::sums::counts::TokenCounts;
-use crate::sums::by_key::{SumKey, listed, sums_of_books};
 use crate::sums::tally::Tally;
 use crate::sums::totals::Totals;
 use fare_table::{NoMemory, Token};
@@ -19,10 +19,10 @@ use std::alloc::Global;
 use std::marker::Sync;
 use std::thread::Threads;
 
+pub(crate) mod by_key;
 pub(crate) mod by_threads;
 pub(crate) mod by_token;
 pub(crate) mod counts;
-pub(crate) mod by_key;
 pub(crate) mod tally;
 pub(crate) mod token_sums;
 pub(crate) mod totals;
