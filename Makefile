@@ -9,7 +9,7 @@
 # make wrong    all wrong bodies, those in wrong/ too: each must be refused by the function that it
 #               changes. Some crates alone: make wrong CRATES="tap_views fare_table"
 # make hostile  memory, reads, writes, threads and the seed refused one at a time, in every place
-# make bench    one table of speed and memory beside plain Rust, within ten minutes
+# make bench    one table of speed and memory beside Rust without proofs, within ten minutes
 # make audit    the checkers of ledgers over the example, a generated week and 20 spoilt ledgers
 # make sql      the example's ledger in SQLite and in PostgreSQL, and an auditor's questions
 # make viewer   the page that shows a ledger, in headless Chromium
