@@ -1,4 +1,5 @@
-//! The peer: what the program does, written in Rust without proofs, over std alone, as a measure of its speed.
+//! The peer: what the program does, in Rust without proofs, over std alone, as a measure of its
+//! speed.
 //!
 //! `peer --table F [--workers N] [--shards N] [--token HEX] FILE...` posts the files to books and prints the report,
 //! or the statement of one token. It claims nothing and proves nothing; its tables have no zone.
