@@ -4,8 +4,7 @@ use Rattle.std.specs.Prelude.{None, Some, Ok, MatchBool}
 use Rattle.std.specs.Io.KnownBytes.{Appends, Keeps}
 use Rattle.hex.specs.Hex.{decode_sized}
 use Rattle.fare_table.specs.Fares.{Fares}
-use Rattle.fare_table.specs.Rules.{rules_in}
-use Rattle.fare_table.specs.Zone.{IsZoneOf}
+use Rattle.fare_table.specs.Meaning.{Means}
 use Rattle.fare_table.specs.Token.{bytes_of}
 use Rattle.fare_table.specs.declared.token.Token.{Token}
 use Rattle.fare_service.specs.declared.upload_end.UploadEnd.{UploadEnd}
@@ -25,10 +24,6 @@ use Rattle.ledger_texts.specs.Ledger.{IsLedgerOfBooks}
 use Rattle.program_manners.specs.Loads.{Loaded, Tells, TellsOne}
 use Rattle.program_manners.specs.LineWritten.{LineWritten}
 use Rattle.fare_program.specs.Uploads.{IsListing}
-
--- The text's rules, and the zone that it names, are those of these fares.
-abbrev pub Means : List ℕ → Fares → Type 0
-Means text fares = (rules_in text ≡ Ok fares.rules) × IsZoneOf fares.rules.zone fares.zone
 
 -- Where a table is named, its file was loaded under that name, and its text means these fares.
 abbrev pub LoadsTable : Option (List ℕ) → Option (List Loaded) → Option (List Loaded) → Option Fares

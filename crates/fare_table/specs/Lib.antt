@@ -3,6 +3,7 @@ pub mod Classes
 pub mod Fares
 pub mod Faults
 pub mod Key
+pub mod Meaning
 pub mod Members
 pub mod Modes
 pub mod OrFault

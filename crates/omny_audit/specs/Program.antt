@@ -1,11 +1,10 @@
 -- What a run of the program does.
-use Rattle.std.specs.Prelude.{◌≡◌, ℕ, Bool, false, List, [], ◌∷◌, ◌++◌, map, Option, None, Some, Ok}
+use Rattle.std.specs.Prelude.{◌≡◌, ℕ, Bool, false, List, [], ◌∷◌, ◌++◌, map, Option, None, Some}
 use Rattle.std.specs.Prelude.{MatchBool}
 use Rattle.std.specs.Io.KnownBytes.{Appends, Keeps}
 use Rattle.clap.specs.Words.{Text}
 use Rattle.fare_table.specs.Fares.{Fares}
-use Rattle.fare_table.specs.Rules.{rules_in}
-use Rattle.fare_table.specs.Zone.{IsZoneOf}
+use Rattle.fare_table.specs.Meaning.{Means}
 use Rattle.tap_balance.specs.Balances.{AreGoodTaps}
 use Rattle.tap_views.specs.declared.encoder.TapFields.{TapFields}
 use Rattle.omny_audit.specs.Findings.{IsFinding}
@@ -14,10 +13,6 @@ use Rattle.omny_audit.specs.Options.{AuditAsked}
 use Rattle.program_manners.specs.Loads.{Loaded, Tells, TellsOne}
 use Rattle.program_manners.specs.LineWritten.{LineWritten}
 use Rattle.omny_audit.specs.declared.fault.Fault.{Fault}
-
--- The text's rules, and the zone that it names, are those of these fares.
-abbrev pub Means : List ℕ → Fares → Type 0
-Means text fares = (rules_in text ≡ Ok fares.rules) × IsZoneOf fares.rules.zone fares.zone
 
 -- The file of this name was loaded, and its text means these fares.
 pub record LoadsRequiredTable (name : Text) (told told' : Option (List Loaded)) (fares : Fares)
