@@ -4,7 +4,6 @@ use Rattle.std.specs.Prelude.{if◌then◌else◌, is_ok, is_some}
 use Rattle.hex.specs.Hex.{decode_sized}
 use Rattle.fare_service.specs.declared.faults.GatherFault.{GatherFault}
 use Rattle.fare_service.specs.declared.faults.GatherFault.TheVariants as gather
-use Rattle.ledger_texts.specs.declared.fault.LedgerFault.TheVariants as ledger
 use Rattle.program_manners.specs.Lines.{load_text, table_text}
 use Rattle.fare_program.specs.Options.{Asked}
 use Rattle.fare_program.specs.declared.fault.Fault.{Fault}

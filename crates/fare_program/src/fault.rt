@@ -6,7 +6,6 @@ ghost use Rattle.program_manners.specs.Lines.{load_text, table_text};
 
 use fare_service::{GatherFault, OpenFault, PrintFault, RunFault};
 use fare_table::{NoMemory, TableFault};
-use ledger_texts::LedgerFault;
 use program_manners::{FileFault, LoadFault, TableLine};
 use std::fmt;
 
@@ -81,17 +80,6 @@ impl<'a> Fault<'a> {
         }
     }
 
-    /// Why a text was not printed: a write failed, or memory was refused.
-    fn unprinted(is_write: bool) -> Fault<'a>
-        ensures { result ≡ (if is_write then Fault.Write else Fault.NoMemory) }
-    {
-        if is_write {
-            Fault::Write
-        } else {
-            Fault::NoMemory
-        }
-    }
-
     /// The status with which the program ends.
     pub(crate) fn status(&self) -> u8
         ensures { result ≡ status_of self.now }
@@ -131,17 +119,10 @@ impl From<PrintFault> for Fault<'_> {
     ghost from_gives = { λ refused fault. fault ≡ printed_as refused };
 
     fn from(fault: PrintFault) -> Self {
-        Fault::unprinted(matches!(fault, PrintFault::Write))
-    }
-}
-
-impl From<LedgerFault> for Fault<'_> {
-    ghost use Rattle.fare_program.specs.inside.Fault.{told_as};
-
-    ghost from_gives = { λ refused fault. fault ≡ told_as refused };
-
-    fn from(fault: LedgerFault) -> Self {
-        Fault::unprinted(matches!(fault, LedgerFault::Write))
+        match fault {
+            PrintFault::Write => Fault::Write,
+            PrintFault::NoMemory => Fault::NoMemory,
+        }
     }
 }
 

@@ -1,4 +1,4 @@
--- What is printed of an outcome, and what a fault of printing leaves.
+-- What is printed of an outcome.
 use Rattle.std.specs.Prelude.{◌≡◌, ℕ, List, length, slice_get, Some}
 use Rattle.tap_views.specs.Shards.{shard_of_token}
 use Rattle.shard_book.specs.Book.{Book}
@@ -8,8 +8,6 @@ use Rattle.shard_book.specs.SumsByKey.{all_entries, sums_by_validator, sums_by_t
 use Rattle.shard_book.specs.Statement.{IsStatement}
 use Rattle.shard_book.specs.Sums.{sums}
 use Rattle.fare_table.specs.Token.{bytes_of}
-use Rattle.fare_service.specs.declared.print_fault.PrintFault.{PrintFault}
-use Rattle.fare_service.specs.declared.print_fault.PrintFault.TheVariants.{Write, NoMemory}
 use Rattle.fare_service.specs.declared.upload_end.UploadEnd.{UploadEnd}
 use Rattle.fare_service.specs.Outcomes.{OutcomeView}
 use Rattle.fare_texts.specs.StatementText.{IsStatementText}
@@ -33,8 +31,3 @@ pub record IsStatementOf (o : OutcomeView) (token : Token) (text : List ℕ) : T
   pub statement : Statement
   pub of_book : IsStatement book.table book.entries token statement
   pub shown : IsStatementText book.table statement text
-
--- the statement `kept` holds, unless the fault is a write that failed
-abbrev pub KeepsUnlessWrite : PrintFault → Type 0 → Type 0
-KeepsUnlessWrite Write kept = Unit {0}
-KeepsUnlessWrite NoMemory kept = kept

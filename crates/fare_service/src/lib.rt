@@ -5,14 +5,13 @@
 mod faults;
 pub mod laws;
 mod outcome;
-mod print_fault;
 mod service;
 mod text;
 mod upload_end;
 
+pub use fare_texts::PrintFault;
 pub use faults::{GatherFault, OpenFault, RunFault};
 pub use outcome::Outcome;
-pub use print_fault::PrintFault;
 pub use service::Service;
 pub use service::share::{Done, Share};
 pub use service::working::{Gate, OpenGate};

@@ -1,5 +1,8 @@
 //! How an upload ended.
 
+ghost use Rattle.std.specs.Prelude.{◌≡◌};
+ghost use Rattle.fare_service.specs.Ends.{end_by};
+
 use tap_views::LayoutFault;
 
 /// How an upload ended. `taps` counts what was posted of it.
@@ -28,4 +31,21 @@ pub enum UploadEnd {
     },
     /// No share drew it.
     Undrawn,
+}
+
+impl UploadEnd {
+    /// The end of an upload of which all taps before its layout fault, if it has one, were posted:
+    /// so many taps. A fault comes with the offset of its batch, in bytes.
+    pub fn by_fault(taps: u64, found: Option<(u64, LayoutFault)>) -> UploadEnd
+        ensures { result ≡ end_by taps found }
+    {
+        match found {
+            None => UploadEnd::Posted { taps },
+            Some((offset, fault)) => UploadEnd::Refused {
+                taps,
+                offset,
+                fault,
+            },
+        }
+    }
 }

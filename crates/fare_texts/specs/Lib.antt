@@ -1,4 +1,5 @@
 pub mod Counts
 pub mod Local
 pub mod Moments
+pub mod PrintFaults
 pub mod StatementText

@@ -1,4 +1,3 @@
 pub mod Explained
-pub mod Fault
 pub mod Ledger
 pub mod inside

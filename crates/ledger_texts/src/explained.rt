@@ -6,24 +6,21 @@ ghost use Rattle.std.specs.Prelude.{string_bytes};
 ghost use Rattle.std.specs.Io.KnownBytes.{Appends};
 ghost use Rattle.shard_book.specs.Sums.{sums, sums_of};
 ghost use Rattle.ledger_texts.specs.Explained.{IsExplained, IsExplainedOf, terms_line};
-ghost use Rattle.ledger_texts.specs.Fault.{KeepsUnlessLedgerWrite};
+ghost use Rattle.fare_texts.specs.PrintFaults.{KeepsUnlessWrite};
 
 mod lines;
-mod totals;
 mod window_lines;
 mod windows;
 
 use crate::entries::own_of;
-use crate::fault::LedgerFault;
 use crate::ledger::table_of;
 use crate::lines::pass_on;
 use fare_table::{FareTable, NoMemory, Terms};
-use fare_texts::{write_statement_head, write_totals};
+use fare_texts::{PrintFault, write_statement_head, write_totals};
 use lines::write_lines;
-use shard_book::{Entry, ShardBook, Token};
+use shard_book::{Entry, ShardBook, Token, totals_of_entries};
 use std::alloc::{AllocError, Global};
 use std::io::Write;
-use totals::totals_of;
 use window_lines::write_windows;
 
 /// Appends the line of the token's terms.
@@ -52,7 +49,7 @@ fn text_of(
     write_statement_head(&mut text, token)?;
     write_terms(&mut text, table.terms_of(&bytes))?;
     write_lines(&mut text, table, &clock, token, entries)?;
-    write_totals(&mut text, &totals_of(entries))?;
+    write_totals(&mut text, &totals_of_entries(entries))?;
     write_windows(alloc, &mut text, table, &clock, token, entries)?;
     Ok(text)
 }
@@ -77,11 +74,11 @@ pub fn write_explained<W: Write>(
     books: &[ShardBook],
     token: Token,
     out: &mut W,
-) -> Result<(), LedgerFault>
+) -> Result<(), PrintFault>
     requires { 0 < length books.now }
     ensures ok { OnOk result ((text : List ℕ) × IsExplainedOf books.now token text
         × Appends (W.contents out.old) (W.contents out.new) text) }
-    ensures fault { IfErr result (λ fault. KeepsUnlessLedgerWrite fault (out.new ≡ out.old)) }
+    ensures fault { IfErr result (λ fault. KeepsUnlessWrite fault (out.new ≡ out.old)) }
 {
     let mut text = explained_text(alloc, books, token)?;
     pass_on(&mut text, out)?;

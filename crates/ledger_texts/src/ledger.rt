@@ -4,7 +4,7 @@ ghost use Rattle.std.specs.Prelude.{◌≡◌, ◌<◌, ℕ, List, ◌++◌, IfE
 ghost use Rattle.std.specs.Prelude.{None, Some, length};
 ghost use Rattle.std.specs.Prelude.{slice_get, string_bytes};
 ghost use Rattle.std.specs.Io.KnownBytes.{Appends};
-ghost use Rattle.ledger_texts.specs.Fault.{KeepsUnlessLedgerWrite};
+ghost use Rattle.fare_texts.specs.PrintFaults.{KeepsUnlessWrite};
 ghost use Rattle.shard_book.specs.Book.{Book};
 ghost use Rattle.shard_book.specs.SumsByKey.{all_entries};
 ghost use Rattle.reason_texts.specs.Ledger.{head_text};
@@ -13,10 +13,10 @@ ghost use Rattle.ledger_texts.specs.inside.Lines.{IsByToken};
 ghost use Rattle.ledger_texts.specs.inside.Spots.{seen};
 
 use crate::entries::{by_token, own_of};
-use crate::fault::LedgerFault;
 use crate::lines::{PIECE_BYTES, pass_on, write_lines};
 use crate::spot::Spot;
 use fare_table::{FareTable, NoMemory};
+use fare_texts::PrintFault;
 use reason_texts::{head_line, write_token_lines};
 use shard_book::{ShardBook, Token};
 use std::alloc::Global;
@@ -48,11 +48,11 @@ fn begun(alloc: Global, books: &[ShardBook]) -> Result<(String, Vec<Spot>), NoMe
 }
 
 /// Writes the ledger of all tokens.
-fn write_all<W: Write>(alloc: Global, books: &[ShardBook], out: &mut W) -> Result<(), LedgerFault>
+fn write_all<W: Write>(alloc: Global, books: &[ShardBook], out: &mut W) -> Result<(), PrintFault>
     requires { 0 < length books.now }
     ensures ok { OnOk result ((text : List ℕ) × IsLedgerOfBooks books.now None text
         × Appends (W.contents out.old) (W.contents out.new) text) }
-    ensures fault { IfErr result (λ fault. KeepsUnlessLedgerWrite fault (out.new ≡ out.old)) }
+    ensures fault { IfErr result (λ fault. KeepsUnlessWrite fault (out.new ≡ out.old)) }
 {
     let table = table_of(books);
     let clock = table.clock(alloc)?;
@@ -81,11 +81,11 @@ fn write_own<W: Write>(
     books: &[ShardBook],
     token: Token,
     out: &mut W,
-) -> Result<(), LedgerFault>
+) -> Result<(), PrintFault>
     requires { 0 < length books.now }
     ensures ok { OnOk result ((text : List ℕ) × IsLedgerOfBooks books.now (Some token) text
         × Appends (W.contents out.old) (W.contents out.new) text) }
-    ensures fault { IfErr result (λ fault. KeepsUnlessLedgerWrite fault (out.new ≡ out.old)) }
+    ensures fault { IfErr result (λ fault. KeepsUnlessWrite fault (out.new ≡ out.old)) }
 {
     let mut text = own_text(alloc, books, token)?;
     pass_on(&mut text, out)?;
@@ -102,11 +102,11 @@ pub fn write_ledger<W: Write>(
     books: &[ShardBook],
     only: Option<Token>,
     out: &mut W,
-) -> Result<(), LedgerFault>
+) -> Result<(), PrintFault>
     requires { 0 < length books.now }
     ensures ok { OnOk result ((text : List ℕ) × IsLedgerOfBooks books.now only text
         × Appends (W.contents out.old) (W.contents out.new) text) }
-    ensures fault { IfErr result (λ fault. KeepsUnlessLedgerWrite fault (out.new ≡ out.old)) }
+    ensures fault { IfErr result (λ fault. KeepsUnlessWrite fault (out.new ≡ out.old)) }
 {
     match only {
         None => write_all(alloc, books, out),

@@ -4,11 +4,9 @@
 
 mod entries;
 mod explained;
-mod fault;
 mod ledger;
 mod lines;
 mod spot;
 
 pub use explained::write_explained;
-pub use fault::LedgerFault;
 pub use ledger::write_ledger;

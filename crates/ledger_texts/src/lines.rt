@@ -2,16 +2,16 @@
 
 ghost use Rattle.std.specs.Prelude.{◌≡◌, ◌≤◌, ℕ, List, [], ◌++◌, IfErr, OnOk, string_bytes};
 ghost use Rattle.std.specs.Io.KnownBytes.{Appends, Keeps, append_known};
-ghost use Rattle.ledger_texts.specs.declared.fault.LedgerFault.TheVariants.{Write as ForWrite};
+ghost use Rattle.fare_texts.specs.declared.print_fault.PrintFault.TheVariants.{Write as ForWrite};
 ghost use Rattle.ledger_texts.specs.inside.Lines.{AreLinesAlong, HasCome, IsUpTo, Rise, RiseFrom};
 ghost use Rattle.ledger_texts.specs.inside.Spots.{seen};
 ghost use Rattle.fare_table.specs.Fares.{Fares};
 ghost use Rattle.fare_table.specs.declared.token.Token.{Token};
 ghost use Rattle.shard_book.specs.declared.entry.Entry.{Entry};
 
-use crate::fault::LedgerFault;
 use crate::spot::Spot;
 use fare_table::{Clock, FareTable};
+use fare_texts::{PrintFault, write_out};
 use reason_texts::Teller;
 use shard_book::{ShardBook, Token};
 use std::io::Write;
@@ -20,19 +20,8 @@ use std::io::Write;
 /// them.
 pub(crate) const PIECE_BYTES: usize = 65_536;
 
-/// Writes the bytes.
-fn write_out<W: Write>(bytes: &[u8], out: &mut W) -> Result<(), LedgerFault>
-    ensures ok { OnOk result (Appends (W.contents out.old) (W.contents out.new) bytes.now) }
-    ensures fault { IfErr result (λ fault. fault ≡ ForWrite) }
-{
-    if out.write_all(bytes).is_err() {
-        return Err(LedgerFault::Write);
-    }
-    Ok(())
-}
-
 /// Writes out what waits in the text, whose room stays.
-pub(crate) fn pass_on<W: Write>(text: &mut String, out: &mut W) -> Result<(), LedgerFault>
+pub(crate) fn pass_on<W: Write>(text: &mut String, out: &mut W) -> Result<(), PrintFault>
     ensures kept { OnOk result (Keeps (append_known (W.contents out.old) (string_bytes text.old))
         (append_known (W.contents out.new) (string_bytes text.new))) }
     ensures empty { OnOk result (string_bytes text.new ≡ []) }
@@ -44,7 +33,7 @@ pub(crate) fn pass_on<W: Write>(text: &mut String, out: &mut W) -> Result<(), Le
 }
 
 /// Writes out what waits in the text, where it is a piece.
-fn pass_piece<W: Write>(text: &mut String, out: &mut W) -> Result<(), LedgerFault>
+fn pass_piece<W: Write>(text: &mut String, out: &mut W) -> Result<(), PrintFault>
     ensures kept { OnOk result (Keeps (append_known (W.contents out.old) (string_bytes text.old))
         (append_known (W.contents out.new) (string_bytes text.new))) }
     ensures fault { IfErr result (λ fault. fault ≡ ForWrite) }
@@ -77,7 +66,7 @@ fn write_pieces<W: Write>(
     books: &[ShardBook],
     spots: &[Spot],
     out: &mut W,
-) -> Result<(), LedgerFault>
+) -> Result<(), PrintFault>
     requires clock { clock.now ≡ table.now.zone }
     requires rise { RiseFrom first (seen books.now spots.now) }
     ensures lines { OnOk result ((lines : List ℕ)
@@ -92,7 +81,7 @@ fn write_pieces<W: Write>(
         go_on_to(&mut teller, entry.token);
         // The text has room for a line, so that none is refused.
         let Ok(()) = teller.write_next(text, table, clock, &entry) else {
-            return Err(LedgerFault::Write);
+            return Err(PrintFault::Write);
         };
         pass_piece(text, out)?;
     }
@@ -108,7 +97,7 @@ fn write_some<W: Write>(
     books: &[ShardBook],
     spots: &[Spot],
     out: &mut W,
-) -> Result<(), LedgerFault>
+) -> Result<(), PrintFault>
     requires clock { clock.now ≡ table.now.zone }
     requires rise { Rise (seen books.now spots.now) }
     ensures lines { OnOk result ((lines : List ℕ)
@@ -134,7 +123,7 @@ pub(crate) fn write_lines<W: Write>(
     books: &[ShardBook],
     spots: &[Spot],
     out: &mut W,
-) -> Result<(), LedgerFault>
+) -> Result<(), PrintFault>
     requires clock { clock.now ≡ table.now.zone }
     requires rise { Rise (seen books.now spots.now) }
     ensures ok { OnOk result ((lines : List ℕ)

@@ -2,7 +2,6 @@
 
 ghost use Rattle.std.specs.Prelude.{◌≡◌, ◌≤◌, ◌++◌, length, IfOk, map};
 ghost use denote.Param.Send.{IsSync};
-ghost use Rattle.fare_service.specs.Ends.{end_by};
 ghost use Rattle.settlement.specs.inside.SplitTaps.{AreAllAdded, AreInParts};
 
 use crate::memory::release;
@@ -11,7 +10,7 @@ use std::alloc::{AllocError, Global};
 use std::marker::Sync;
 use std::thread;
 use std::thread::Threads;
-use tap_parts::{Parts, UploadTaps};
+use tap_parts::Parts;
 use tap_views::TAP2_TAP_BYTES;
 
 /// The taps of uploads in parts, and how each upload ends.
@@ -33,21 +32,6 @@ pub(crate) fn bytes_of(uploads: &[Vec<u8>]) -> usize {
     bytes
 }
 
-/// How an upload ends whose taps before its first layout fault are all posted.
-fn end_of(added: UploadTaps) -> UploadEnd
-    ensures { result ≡ end_by added.taps added.fault }
-{
-    let UploadTaps { taps, fault } = added;
-    match fault {
-        None => UploadEnd::Posted { taps },
-        Some((offset, fault)) => UploadEnd::Refused {
-            taps,
-            offset,
-            fault,
-        },
-    }
-}
-
 /// Adds the taps of each upload, and returns how each ends. An upload's memory is given back as
 /// soon as its taps are added.
 fn add_all(
@@ -61,7 +45,7 @@ fn add_all(
     let mut ends = Vec::new(alloc);
     for upload in uploads {
         let added = parts.add_upload(upload.as_slice())?;
-        ends.push(end_of(added))?;
+        ends.push(UploadEnd::by_fault(added.taps, added.fault))?;
         release(upload);
     }
     Ok(ends)

@@ -98,7 +98,7 @@ impl SumKey for Token {
 }
 
 /// The totals of a list of entries, in one scan.
-pub(crate) fn totals_of_entries(entries: &[Entry]) -> Totals
+pub fn totals_of_entries(entries: &[Entry]) -> Totals
     ensures sums { sums_of result ≡ sums entries.now }
     ensures few { result.taps < 2 ^ 64 }
 {

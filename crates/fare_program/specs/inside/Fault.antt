@@ -7,21 +7,14 @@ use Rattle.fare_program.specs.Fault.{mistake, status_of}
 use Rattle.fare_program.specs.Options.{Asked}
 use Rattle.fare_program.specs.declared.fault.Fault.{Fault}
 use Rattle.std.specs.Prelude.{◌<◌}
-use Rattle.fare_service.specs.declared.print_fault.PrintFault.{PrintFault}
-use Rattle.fare_service.specs.declared.print_fault.PrintFault.TheVariants as print
-use Rattle.ledger_texts.specs.declared.fault.LedgerFault.{LedgerFault}
-use Rattle.ledger_texts.specs.declared.fault.LedgerFault.TheVariants as ledger
+use Rattle.fare_texts.specs.declared.print_fault.PrintFault.{PrintFault}
+use Rattle.fare_texts.specs.declared.print_fault.PrintFault.TheVariants as print
 use Rattle.fare_program.specs.declared.fault.Fault.TheVariants.{Uploads, Gather, Write, NoMemory}
 
--- why a report or a statement was not printed
+-- why a text was not printed
 abbrev pub printed_as : PrintFault → Fault
 printed_as print.Write = Write
 printed_as print.NoMemory = NoMemory
-
--- why a ledger was not printed
-abbrev pub told_as : LedgerFault → Fault
-told_as ledger.Write = Write
-told_as ledger.NoMemory = NoMemory
 
 -- why a run over so many uploads came to nothing: there were too many of them, or memory or the
 -- gathering failed

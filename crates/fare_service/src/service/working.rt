@@ -4,7 +4,6 @@ ghost use Rattle.std.specs.Prelude.{◌≡◌, ◌⊎◌, ℕ, ◌+◌, ◌*◌,
 ghost use Rattle.std.specs.Prelude.{IfNone, IfSome, is_ok, is_some, map, true, false, ◌++◌, ◌∷◌};
 ghost use Rattle.std.specs.Prelude.{[]};
 ghost use Rattle.shard_book.specs.Sums.{sums_of, sums_of_replies, add_sums};
-ghost use Rattle.fare_service.specs.Ends.{end_by};
 
 use crate::service::Service;
 use crate::service::share::{Done, Posting, Share};
@@ -114,20 +113,6 @@ fn count(totals: &mut Totals, replies: &Replies)
         tally.add(replies.get(place));
     }
     totals.add_all(&tally.totals());
-}
-
-/// The end of an upload whose batches before its fault, if it has one, were posted whole.
-fn end_of(taps: u64, found: Option<(u64, LayoutFault)>) -> UploadEnd
-    ensures { result ≡ end_by taps found }
-{
-    match found {
-        None => UploadEnd::Posted { taps },
-        Some((offset, fault)) => UploadEnd::Refused {
-            taps,
-            offset,
-            fault,
-        },
-    }
 }
 
 /// How many bytes the file has.
@@ -298,7 +283,7 @@ impl<'a> Service<'a> {
         let posted = self.post_batches(rt, posting, buffers, file);
         let taps = (posting.totals.taps - before) as u64;
         match posted {
-            Ok(found) => (end_of(taps, found), true),
+            Ok(found) => (UploadEnd::by_fault(taps, found), true),
             Err(stop) => (UploadEnd::Cut { taps }, stop == Stop::Full),
         }
     }

@@ -6,16 +6,14 @@ ghost use Rattle.std.specs.Io.KnownBytes.{Appends};
 ghost use Rattle.std.specs.List.{flat_map};
 ghost use Rattle.fare_service.specs.Text.{token_line};
 ghost use Rattle.fare_service.specs.Printed.{report_of, report_with, IsStatementOf};
-ghost use Rattle.fare_service.specs.Printed.{KeepsUnlessWrite};
-ghost use Rattle.fare_service.specs.declared.print_fault.PrintFault.TheVariants.{Write as ForWrite};
+ghost use Rattle.fare_texts.specs.PrintFaults.{KeepsUnlessWrite};
 
 use crate::outcome::Outcome;
-use crate::print_fault::PrintFault;
 use crate::text::report::report_front;
 use crate::text::token_lines::write_lines;
 use crate::upload_end::UploadEnd;
 use fare_table::NoMemory;
-use fare_texts::statement_text;
+use fare_texts::{PrintFault, statement_text, write_out};
 use shard_book::{Token, TokenSums, sums_by_validator};
 use std::alloc::Global;
 use std::io::Write;
@@ -26,17 +24,6 @@ use tap_views::shard_of;
 /// How much room there is at least for lines of a report that wait to be written: so many that a
 /// write is little beside them.
 const PIECE_BYTES: usize = 65_536;
-
-/// Writes the text at once.
-pub(crate) fn write_out<W: Write>(text: &[u8], out: &mut W) -> Result<(), PrintFault>
-    ensures ok { OnOk result (Appends (W.contents out.old) (W.contents out.new) text.now) }
-    ensures fault { IfErr result (λ fault. fault ≡ ForWrite) }
-{
-    if out.write_all(text).is_err() {
-        return Err(PrintFault::Write);
-    }
-    Ok(())
-}
 
 impl Outcome {
     /// The text of the report with these ends of uploads, up to the lines of the tokens, with room

@@ -10,11 +10,10 @@ ghost use Rattle.shard_book.specs.Sums.{sums_of};
 ghost use Rattle.fare_table.specs.Token.{bytes_of};
 ghost use Rattle.fare_texts.specs.Counts.{first_counts, last_counts};
 ghost use Rattle.fare_service.specs.Text.{token_line};
-ghost use Rattle.fare_service.specs.declared.print_fault.PrintFault.TheVariants.{Write as ForWrite};
+ghost use Rattle.fare_texts.specs.declared.print_fault.PrintFault.TheVariants.{Write as ForWrite};
 
-use crate::print_fault::PrintFault;
 use crate::text::line::Line;
-use crate::text::printing::write_out;
+use fare_texts::{PrintFault, write_out};
 use shard_book::{Token, TokenSum, TokenSums, Totals};
 use std::io::Write;
 

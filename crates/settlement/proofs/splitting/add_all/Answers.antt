@@ -46,7 +46,7 @@ loop-upload-preserved c =
     subst (λ bytes. IsUploadAdded bytes c.loop-upload.parts c.add_upload.new.self added_taps)
     c.as_slice.ensures.value c.in_ok-added.ensures in
     let more = taps_of_batches one.batches in
-    let end = c.end_of.result in
+    let end = c.by_fault.result in
     let files = map bytes_in yielded in
     let all = map-append bytes_in yielded (upload ∷ []) in
     let T : List (List ℕ) → Type 0 = λ fs. AreTapsOfEach fs (taps ++ more ∷ []) in
@@ -68,7 +68,7 @@ loop-upload-preserved c =
             (AllZip-append IsPlainEnd files c.loop-upload.ends.items (upload.items ∷ []) (end ∷ [])
             ended (
               plain_end upload.items c.loop-upload.parts c.add_upload.new.self added_taps end one
-                  c.end_of.ensures,
+                  c.by_fault.ensures,
               tt,
             ))),
       );

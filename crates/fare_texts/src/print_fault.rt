@@ -2,8 +2,8 @@
 
 use fare_table::NoMemory;
 
-/// Why a report or a statement was not printed.
-#[derive(Debug, Drop, thiserror::Error)]
+/// Why a text was not printed.
+#[derive(Clone, Copy, Debug, PartialEq, Eq, thiserror::Error)]
 pub enum PrintFault {
     /// The writer failed. Nothing is known of how much of the text went out.
     #[error("cannot write")]
@@ -14,7 +14,7 @@ pub enum PrintFault {
 }
 
 impl From<NoMemory> for PrintFault {
-    ghost use Rattle.fare_service.specs.declared.print_fault.PrintFault.TheVariants as faults;
+    ghost use Rattle.fare_texts.specs.declared.print_fault.PrintFault.TheVariants as faults;
     ghost use Rattle.std.specs.Prelude.{◌≡◌};
 
     ghost from_gives = { λ _ e. e ≡ faults.NoMemory };
