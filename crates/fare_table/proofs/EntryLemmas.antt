@@ -9,8 +9,8 @@ use Rattle.std.specs.Ordering.{nat_cmp}
 use Rattle.std.specs.Prelude.{pos, nat_le, if◌then◌else◌}
 use Rattle.toml.specs.Data.{Data, Items, no_items, item, Members, string, integer, array, table}
 use Rattle.toml.specs.Data.{as_table, get_member, get_item}
-use Rattle.fare_table.proofs.OverlapLemmas.{chain-insert, comes_after, comes_before, ends_after}
-use Rattle.fare_table.proofs.OverlapLemmas.{free_apart, rest_chain}
+use Rattle.fare_table.proofs.OverlapLemmas.{stands-insert, comes_after, comes_before, ends_after}
+use Rattle.fare_table.proofs.OverlapLemmas.{free_apart, rest_stands}
 use Rattle.fare_table.proofs.PartLemmas.{bind_ok, parts}
 use Rattle.fare_table.proofs.ReadLemmas.{array-read, is_table, number-read, text-read}
 use Rattle.fare_table.specs.TextRanges.{RangeGives, RangeHas, HasRange, HasValidator, NamesMode}
@@ -19,14 +19,14 @@ use Rattle.fare_table.specs.Members.{are_tables, array_at, number_at, of_kind, t
 use Rattle.fare_table.specs.Modes.{mode_named}
 use Rattle.fare_table.specs.OrFault.{OrFault, ◌>>=◌}
 use Rattle.fare_table.specs.Rules.{TableRules, rules_of_tree}
-use Rattle.fare_table.specs.Validators.{is_chain, range_in, range_of, ranges_from, ranges_of}
+use Rattle.fare_table.specs.Validators.{stand_apart, range_in, range_of, ranges_from, ranges_of}
 use Rattle.fare_table.specs.Validators.{share_number, with_range}
 use Rattle.fare_table.specs.declared.fault.Key.TheVariants as the_key
 use Rattle.fare_table.specs.declared.fault.TableFault.{TableFault}
 use Rattle.fare_table.specs.declared.fault.TableFault.TheVariants.{Kind, Overlap}
 use Rattle.fare_table.specs.declared.validators.Span.{Span}
 
--- ---- ranges in a chain, and one more
+-- ---- ranges that stand apart, and one more
 -- of two choices that exclude each other the order is free
 swap : {A : Type 0} (a b : Bool) (x y z : A) → (a ≡ true → b ≡ false)
     → cond a x (cond b y z) ≡ cond b y (cond a x z)
@@ -65,15 +65,15 @@ found_step n range other more order further free ih = elim (free_apart range oth
 -- one more range that shares no number with the others has its numbers, and each other keeps its
 -- own
 found_with : (n : ℕ) (range : ℕ × Span) (ranges : List (ℕ × Span)) → range.0 ≤ range.1.last
-    → is_chain ranges ≡ true → list_any (share_number range) ranges ≡ false
+    → stand_apart ranges ≡ true → list_any (share_number range) ranges ≡ false
     → find (has_number n) (with_one range ranges)
     ≡ cond (has_number n range) (Some range) (find (has_number n) ranges)
 unfolding with_one
-found_with n range [] order chain free = refl
-found_with n range (other ∷ more) order chain free =
+found_with n range [] order stands free = refl
+found_with n range (other ∷ more) order stands free =
     let apart = or_parts (share_number range other) (list_any (share_number range) more) free in
-    found_step n range other more order (ends_after other more chain) apart.0
-    (found_with n range more order (rest_chain other more chain) apart.1)
+    found_step n range other more order (ends_after other more stands) apart.0
+    (found_with n range more order (rest_stands other more stands) apart.1)
 
 -- ranges that both have a number share it
 both_have : (n : ℕ) (range other : ℕ × Span) → has_number n range ≡ true → has_number n other ≡ true
@@ -218,7 +218,7 @@ pub record Steps (modes : List (List ℕ)) (earlier : List (ℕ × Span)) (value
   pub next : List (ℕ × Span)
   pub free : list_any (share_number range) earlier ≡ false
   pub order : range.0 ≤ range.1.last
-  pub chain : is_chain next ≡ true
+  pub stands : stand_apart next ≡ true
   pub found : (n : ℕ) → find (has_number n) next
       ≡ cond (has_number n range) (Some range) (find (has_number n) earlier)
   pub rest : ranges_from modes next more ≡ Ok ranges
@@ -229,10 +229,10 @@ after_range modes earlier more range =
 
 pub step : (modes : List (List ℕ)) (earlier : List (ℕ × Span)) (value : Data) (more : Items)
     (ranges : List (ℕ × Span))
-    → ranges_from modes earlier (item value more) ≡ Ok ranges → is_chain earlier ≡ true
+    → ranges_from modes earlier (item value more) ≡ Ok ranges → stand_apart earlier ≡ true
     → Steps modes earlier value more ranges
 unfolding with_one
-step modes earlier value more ranges is chain =
+step modes earlier value more ranges is stands =
     let one = bind_ok (range_in modes value) (after_range modes earlier more) ranges is in
     let two = bind_ok (with_range earlier one.0) (λ next. ranges_from modes next more) ranges
     one.2 in
@@ -244,9 +244,9 @@ step modes earlier value more ranges is chain =
       next = two.0;
       free = added.free;
       order = order;
-      chain = rw added.one (chain-insert one.0 earlier order chain added.free);
+      stands = rw added.one (stands-insert one.0 earlier order stands added.free);
       found = λ n. ap (find (has_number n)) added.one
-          ∙ found_with n one.0 earlier order chain added.free;
+          ∙ found_with n one.0 earlier order stands added.free;
       rest = two.2;
     }
 
@@ -262,37 +262,37 @@ has_if false n range found next is = (found, is)
 -- an earlier range that has a number is kept
 still : (modes : List (List ℕ)) (n : ℕ) (earlier : List (ℕ × Span)) (items : Items)
     (ranges : List (ℕ × Span)) (found : ℕ × Span) → ranges_from modes earlier items ≡ Ok ranges
-    → is_chain earlier ≡ true
+    → stand_apart earlier ≡ true
     → find (has_number n) earlier ≡ Some found → find (has_number n) ranges ≡ Some found
-still modes n earlier no_items ranges found is chain at = let same : earlier ≡ ranges = cc in
+still modes n earlier no_items ranges found is stands at = let same : earlier ≡ ranges = cc in
     rw (← same) at
-still modes n earlier (item value more) ranges found is chain at =
-    let s = step modes earlier value more ranges is chain in
+still modes n earlier (item value more) ranges found is stands at =
+    let s = step modes earlier value more ranges is stands in
     elim (cases_Bool (has_number n s.range)) [
       | inl both ↦ absurd (false≢true (sym s.free ∙ shares n s.range found earlier both at))
-      | inr none ↦ still modes n s.next more ranges found s.rest s.chain (s.found n
+      | inr none ↦ still modes n s.next more ranges found s.rest s.stands (s.found n
           ∙ ap (λ b. cond b (Some s.range) (find (has_number n) earlier)) none ∙ at)
     ]
 
 -- what an entry reads as, and that it is found by its numbers
 there : (modes : List (List ℕ)) (n : ℕ) (earlier : List (ℕ × Span)) (items : Items)
     (ranges : List (ℕ × Span)) (place : ℕ) (value : Data)
-    → ranges_from modes earlier items ≡ Ok ranges → is_chain earlier ≡ true
+    → ranges_from modes earlier items ≡ Ok ranges → stand_apart earlier ≡ true
     → get_item place items ≡ Some value
     → (range : ℕ × Span) × (range_in modes value ≡ Ok range)
     × (has_number n range ≡ true → find (has_number n) ranges ≡ Some range)
-there modes n earlier no_items ranges place value is chain at = absurd (cc)
-there modes n earlier (item first more) ranges zero value is chain at =
-    let s = step modes earlier first more ranges is chain in
+there modes n earlier no_items ranges place value is stands at = absurd (cc)
+there modes n earlier (item first more) ranges zero value is stands at =
+    let s = step modes earlier first more ranges is stands in
     let same : first ≡ value = cc in (
       s.range,
       ap (range_in modes) (sym same) ∙ s.read,
-      λ has. still modes n s.next more ranges s.range s.rest s.chain (s.found n
+      λ has. still modes n s.next more ranges s.range s.rest s.stands (s.found n
           ∙ ap (λ b. cond b (Some s.range) (find (has_number n) earlier)) has),
     )
-there modes n earlier (item first more) ranges (suc place) value is chain at =
-    let s = step modes earlier first more ranges is chain in
-    there modes n s.next more ranges place value s.rest s.chain at
+there modes n earlier (item first more) ranges (suc place) value is stands at =
+    let s = step modes earlier first more ranges is stands in
+    there modes n s.next more ranges place value s.rest s.stands at
 
 came_if : (modes : List (List ℕ)) (n : ℕ) (earlier : List (ℕ × Span)) (value : Data) (more : Items)
     (range found : ℕ × Span) (b : Bool) → range_in modes value ≡ Ok range
@@ -306,35 +306,35 @@ came_if modes n earlier value more range found false read at = inl at
 -- a range that is found is an earlier one or an entry's
 came : (modes : List (List ℕ)) (n : ℕ) (earlier : List (ℕ × Span)) (items : Items) (ranges : List (ℕ
     × Span)) (found : ℕ × Span) → ranges_from modes earlier items ≡ Ok ranges
-    → is_chain earlier ≡ true
+    → stand_apart earlier ≡ true
     → find (has_number n) ranges ≡ Some found → (find (has_number n) earlier ≡ Some found)
     ⊎ ((place : ℕ) × IsRangeAt modes items place found)
-came modes n earlier no_items ranges found is chain at = let same : earlier ≡ ranges = cc in
+came modes n earlier no_items ranges found is stands at = let same : earlier ≡ ranges = cc in
     inl (rw same at)
-came modes n earlier (item value more) ranges found is chain at =
-    let s = step modes earlier value more ranges is chain in
+came modes n earlier (item value more) ranges found is stands at =
+    let s = step modes earlier value more ranges is stands in
     ⊎_elim
     (λ before. came_if modes n earlier value more s.range found (has_number n s.range) s.read
     (sym (s.found n) ∙ before))
     (λ later. inr (suc later.0, later.1))
-    (came modes n s.next more ranges found s.rest s.chain at)
+    (came modes n s.next more ranges found s.rest s.stands at)
 
 -- no entry has a number that an earlier range has
 again : (modes : List (List ℕ)) (n : ℕ) (earlier : List (ℕ × Span)) (items : Items)
     (ranges : List (ℕ × Span)) (place : ℕ) (value : Data) (range : ℕ × Span)
-    → ranges_from modes earlier items ≡ Ok ranges → is_chain earlier ≡ true
+    → ranges_from modes earlier items ≡ Ok ranges → stand_apart earlier ≡ true
     → HasOne n earlier → get_item place items ≡ Some value → range_in modes value ≡ Ok range
     → has_number n range ≡ true → ⊥
-again modes n earlier no_items ranges place value range is chain old at read has = absurd (cc)
-again modes n earlier (item first more) ranges zero value range is chain old at read has =
-    let s = step modes earlier first more ranges is chain in
+again modes n earlier no_items ranges place value range is stands old at read has = absurd (cc)
+again modes n earlier (item first more) ranges zero value range is stands old at read has =
+    let s = step modes earlier first more ranges is stands in
     let same : first ≡ value = cc in
     let both : Ok s.range ≡ Ok range = sym s.read ∙ ap (range_in modes) same ∙ read in
     let one : s.range ≡ range = cc in
     false≢true (sym s.free ∙ shares n s.range old.0 earlier (rw one has) old.1)
-again modes n earlier (item first more) ranges (suc place) value range is chain old at read has =
-    let s = step modes earlier first more ranges is chain in
-    again modes n s.next more ranges place value range s.rest s.chain
+again modes n earlier (item first more) ranges (suc place) value range is stands old at read has =
+    let s = step modes earlier first more ranges is stands in
+    again modes n s.next more ranges place value range s.rest s.stands
     (has_if (has_number n s.range) n s.range old.0 s.next (s.found n
     ∙ ap (λ o. cond (has_number n s.range) (Some s.range) o) old.1)) at read has
 
@@ -355,31 +355,31 @@ first_has modes n earlier first value one range next is found at read has =
 -- an entry that has a number is the only one
 only : (modes : List (List ℕ)) (n : ℕ) (earlier : List (ℕ × Span)) (items : Items) (ranges : List (ℕ
     × Span)) (place place' : ℕ) (value value' : Data) (range range' : ℕ × Span)
-    → ranges_from modes earlier items ≡ Ok ranges → is_chain earlier ≡ true
+    → ranges_from modes earlier items ≡ Ok ranges → stand_apart earlier ≡ true
     → get_item place items ≡ Some value → range_in modes value ≡ Ok range
     → has_number n range ≡ true
     → get_item place' items ≡ Some value' → range_in modes value' ≡ Ok range'
     → has_number n range' ≡ true → place ≡ place'
-only modes n earlier no_items ranges place place' value value' range range' is chain at read has at'
+only modes n earlier no_items ranges place place' value value' range range' is stands at read has at'
     read' has' = absurd (cc)
-only modes n earlier (item first more) ranges zero zero value value' range range' is chain at read
+only modes n earlier (item first more) ranges zero zero value value' range range' is stands at read
     has at' read' has' = refl
-only modes n earlier (item first more) ranges zero (suc place') value value' range range' is chain
+only modes n earlier (item first more) ranges zero (suc place') value value' range range' is stands
     at read has at' read' has' =
-    let s = step modes earlier first more ranges is chain in
-    absurd (again modes n s.next more ranges place' value' range' s.rest s.chain
+    let s = step modes earlier first more ranges is stands in
+    absurd (again modes n s.next more ranges place' value' range' s.rest s.stands
     (first_has modes n earlier first value s.range range s.next s.read (s.found n) at read has)
     at' read' has')
-only modes n earlier (item first more) ranges (suc place) zero value value' range range' is chain at
+only modes n earlier (item first more) ranges (suc place) zero value value' range range' is stands at
     read has at' read' has' =
-    let s = step modes earlier first more ranges is chain in
-    absurd (again modes n s.next more ranges place value range s.rest s.chain
+    let s = step modes earlier first more ranges is stands in
+    absurd (again modes n s.next more ranges place value range s.rest s.stands
     (first_has modes n earlier first value' s.range range' s.next s.read (s.found n) at' read'
     has') at read has)
 only modes n earlier (item first more) ranges (suc place) (suc place') value value' range range' is
-    chain at read has at' read' has' =
-    let s = step modes earlier first more ranges is chain in
-    ap suc (only modes n s.next more ranges place place' value value' range range' s.rest s.chain at
+    stands at read has at' read' has' =
+    let s = step modes earlier first more ranges is stands in
+    ap suc (only modes n s.next more ranges place place' value value' range range' s.rest s.stands at
     read has at' read' has')
 
 -- ---- the laws

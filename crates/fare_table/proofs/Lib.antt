@@ -1,4 +1,4 @@
-pub mod ChainLemmas
+pub mod ApartLemmas
 pub mod EntryLemmas
 pub mod FaultLemmas
 pub mod MaskLemmas

@@ -21,8 +21,8 @@ use Rattle.fare_table.proofs.FaultLemmas.{Stand, classes-told, default-told, don
 use Rattle.fare_table.proofs.FaultLemmas.{modes-known, modes-told, named-told, needs, number_tells}
 use Rattle.fare_table.proofs.FaultLemmas.{stand_all, stand_here, stand_next, steps, told}
 use Rattle.fare_table.proofs.FaultLemmas.{told_needed, told_two, transfers-told}
-use Rattle.fare_table.proofs.OverlapLemmas.{chain-insert, comes_after, comes_before, ends_after}
-use Rattle.fare_table.proofs.OverlapLemmas.{free_apart, rest_chain}
+use Rattle.fare_table.proofs.OverlapLemmas.{stands-insert, comes_after, comes_before, ends_after}
+use Rattle.fare_table.proofs.OverlapLemmas.{free_apart, rest_stands}
 use Rattle.fare_table.proofs.PayLemmas.{Named, by_class, classes_read, classes_sound, named_with}
 use Rattle.fare_table.proofs.ReadLemmas.{number-read}
 use Rattle.fare_table.specs.Classes.{checked, class_named, classes_of, default_of}
@@ -42,7 +42,7 @@ use Rattle.fare_table.specs.Riders.{with_rider}
 use Rattle.fare_table.specs.Riders as riders
 use Rattle.fare_table.specs.Rules.{TableRules, rules_in, rules_of_tree}
 use Rattle.fare_table.specs.Transfers.{transfers_of}
-use Rattle.fare_table.specs.Validators.{is_chain, range_of, ranges_from, ranges_of, share_number}
+use Rattle.fare_table.specs.Validators.{stand_apart, range_of, ranges_from, ranges_of, share_number}
 use Rattle.fare_table.specs.Validators.{with_range}
 use Rattle.fare_table.specs.Zone.{zone_in, zone_of}
 use Rattle.fare_table.specs.declared.fault.Key.TheVariants as the_key
@@ -137,14 +137,14 @@ any_step test one other more order further free ih = elim (free_apart one other 
 
 -- a test of ranges holds of one more range or of the others
 any_with : (test : ℕ × Span → Bool) (one : ℕ × Span) (ranges : List (ℕ × Span)) → one.0 ≤ one.1.last
-    → is_chain ranges ≡ true → list_any (share_number one) ranges ≡ false
+    → stand_apart ranges ≡ true → list_any (share_number one) ranges ≡ false
     → list_any test (with_one one ranges) ≡ (test one || list_any test ranges)
 unfolding with_one
-any_with test one [] order chain free = refl
-any_with test one (other ∷ more) order chain free =
+any_with test one [] order stands free = refl
+any_with test one (other ∷ more) order stands free =
     let apart = or_parts (share_number one other) (list_any (share_number one) more) free in
-    any_step test one other more order (ends_after other more chain) apart.0
-    (any_with test one more order (rest_chain other more chain) apart.1)
+    any_step test one other more order (ends_after other more stands) apart.0
+    (any_with test one more order (rest_stands other more stands) apart.1)
 
 -- the range shares a number with the entry at a place
 abbrev meets : Members → ℕ × Span → ℕ → Bool
@@ -199,22 +199,22 @@ met tree n one other is =
     ∙ ap (λ (b : ℕ). nat_le other.0 (last_at tree n) && nat_le b other.1.last) (sym is.first)
 
 earlier_next : (tree : Members) (n : ℕ) (one : ℕ × Span) (earlier : List (ℕ × Span))
-    → Numbers tree n one → one.0 ≤ one.1.last → is_chain earlier ≡ true
+    → Numbers tree n one → one.0 ≤ one.1.last → stand_apart earlier ≡ true
     → list_any (share_number one) earlier ≡ false
     → AreEarlier tree n earlier → AreEarlier tree (suc n) (with_one one earlier)
-earlier_next tree n one earlier is order chain free are other =
-    any_with (share_number other) one earlier order chain free
+earlier_next tree n one earlier is order stands free are other =
+    any_with (share_number other) one earlier order stands free
     ∙ ap (λ (b : Bool). b || list_any (share_number other) earlier) (met tree n one other is)
     ∙ ap (λ (b : Bool). meets tree other n || b) (are other)
 
 ranges-told : (tree : Members) (modes : List (List ℕ)) (n : ℕ) (earlier : List (ℕ × Span))
     (part : Items) → mode_names tree ≡ modes → StandItems (entries_in tree) n part
     → are_tables part ≡ true
-    → is_chain earlier ≡ true → AreEarlier tree n earlier
+    → stand_apart earlier ≡ true → AreEarlier tree n earlier
     → fault_in (ranges_from modes earlier part) ≡ first_row tree (range_rows n part)
 unfolding with_one
-ranges-told tree modes n earlier no_items known stand tables chain are = refl
-ranges-told tree modes n earlier (item (table inner) more) known stand tables chain are =
+ranges-told tree modes n earlier no_items known stand tables stands are = refl
+ranges-told tree modes n earlier (item (table inner) more) known stand tables stands are =
     let at : get_item n (entries_in tree) ≡ Some (table inner) = stand zero n (omega arith) in
     let here : members_at (range n) tree ≡ inner = ap members_of at in
     steps tree (range_of modes inner) (λ one.
@@ -228,12 +228,12 @@ ranges-told tree modes n earlier (item (table inner) more) known stand tables ch
     ranges_from modes next more) (first_row tree (range_rows (suc n) more))
     (λ free. ranges-told tree modes (suc n) (with_one one earlier) more known (λ k j same.
     stand (suc k) j (omega (arith, same))) tables
-    (chain-insert one earlier r.order chain free)
-    (earlier_next tree n one earlier nums r.order chain free are))
+    (stands-insert one earlier r.order stands free)
+    (earlier_next tree n one earlier nums r.order stands free are))
     ∙ ap (λ (b : Bool). cond b (Some Overlap) (first_row tree (range_rows (suc n) more))) (are one
     ∙ shared tree n one nums)
     ∙ sym (told tree (range n) Overlap (range_rows (suc n) more)))
-ranges-told tree modes n earlier (item _ more) known stand tables chain are =
+ranges-told tree modes n earlier (item _ more) known stand tables stands are =
     absurd (false≢true tables)
 
 entries_if : (b : Bool) (modes : List (List ℕ)) (ds : Items) (rest : Option TableFault)

@@ -13,11 +13,11 @@ use Rattle.fare_table.specs.declared.fault.TableFault.TheVariants.{Kind, Overlap
 use Rattle.fare_table.specs.declared.validators.Span.{Span}
 
 -- each range begins no later than it ends, and ends before the next one begins
-abbrev pub is_chain : List (ℕ × Span) → Bool
-is_chain [] = true
-is_chain (range ∷ []) = nat_le range.0 range.1.last
-is_chain (range ∷ next ∷ more) =
-    nat_le range.0 range.1.last && nat_lt range.1.last next.0 && is_chain (next ∷ more)
+abbrev pub stand_apart : List (ℕ × Span) → Bool
+stand_apart [] = true
+stand_apart (range ∷ []) = nat_le range.0 range.1.last
+stand_apart (range ∷ next ∷ more) =
+    nat_le range.0 range.1.last && nat_lt range.1.last next.0 && stand_apart (next ∷ more)
 
 -- each range's mode is one of so many
 abbrev pub are_modes_below : ℕ → List (ℕ × Span) → Bool

@@ -4,7 +4,7 @@ use Rattle.ledger_texts.specs.inside.Lines.{AreLinesAlong, HasCome, TokensDoNotF
 use Rattle.ledger_texts.specs.inside.Spots.{seen}
 use Rattle.ledger_texts.proofs.lines.write_pieces.Given as goal
 
--- the teller has come past the entries so far, whose lines were written, and the others rise
+-- the teller has come past the entries so far, whose lines were written; the others do not fall
 abbrev pub invariant-loop-spot : goal.invariant-loop-spot
 invariant-loop-spot g l = record {
   come : HasCome l.table l.teller (take l.spot-index (seen l.books l.spots));
