@@ -168,7 +168,7 @@ last_begun-split n (r ∷ rest) (suc i) front back =
     (λ k d low high. back (suc k) d (omega arith) (omega arith)) in
     rw (last_of_cons r (take i rest), ih, before)
 
--- the first numbers of a chain rise
+-- the first numbers of ranges that stand apart rise
 pub stands-rises : (ranges : List (ℕ × Span)) → stand_apart ranges ≡ true
     → is_rising (map (λ range. range.0) ranges) ≡ true
 stands-rises [] stands = refl

@@ -21,7 +21,7 @@ use Rattle.shard_book.proofs.TokenLemmas.{token_cmp-total, token_cmp-ties}
 use Rattle.reason_texts.specs.Ledger.{AreLinesAfter, AreTokenLines, IsLedgerLine, reason_after}
 use Rattle.ledger_texts.specs.Ledger.{AreLinesOfEach}
 use Rattle.ledger_texts.specs.inside.Lines.{AreLinesAlong, AreUpTo, IsByToken, IsLineAfter, IsUpTo}
-use Rattle.ledger_texts.specs.inside.Lines.{TokensDoNotFall, TokensDoNotFallFrom}
+use Rattle.ledger_texts.specs.inside.Lines.{NoFall, NoFallFrom}
 use Rattle.ledger_texts.proofs.Rising.{none_above, none_below, own_both, own_here, own_none}
 use Rattle.ledger_texts.proofs.Rising.{own_not, own_push, up_apart, up_itself, up_push, up_weaker}
 
@@ -132,7 +132,7 @@ module _ (fares : Fares) (whole before : List Entry) (entry : Entry) (rest : Lis
 
   -- the entry is of a later token than the one whose lines were told
   next_case : (token : Token) → AreUpTo before token → IsUpTo token entry.token
-      → TokensDoNotFallFrom entry.token rest → token_eq entry.token token ≡ false
+      → NoFallFrom entry.token rest → token_eq entry.token token ≡ false
       → token_eq token entry.token ≡ false
       → RestOfToken fares whole entry.token (before ++ entry ∷ []) rest more
       → RestOfToken fares whole token before (entry ∷ rest) text
@@ -167,7 +167,7 @@ no_more fares whole token before text none = record {
 }
 
 rest_of_token : (fares : Fares) (whole : List Entry) (token : Token) (before rest : List Entry)
-    (text : List ℕ) → whole ≡ before ++ rest → AreUpTo before token → TokensDoNotFallFrom token rest
+    (text : List ℕ) → whole ≡ before ++ rest → AreUpTo before token → NoFallFrom token rest
     → AreLinesAlong fares before rest text → RestOfToken fares whole token before rest text
 rest_of_token fares whole token before [] text is up no_fall none = no_more fares whole token before text none
 rest_of_token fares whole token before (entry ∷ rest) text is up no_fall (line, more, told, along, shown) =
@@ -180,7 +180,7 @@ rest_of_token fares whole token before (entry ∷ rest) text is up no_fall (line
     (rest_of_token fares whole token (before ++ entry ∷ []) rest more longer
     (up_push before entry token up
     (subst (λ (t : Token). IsUpTo t token) (sym same) (up_itself token)))
-    (subst (λ (t : Token). TokensDoNotFallFrom t rest) same no_fall.1) along))
+    (subst (λ (t : Token). NoFallFrom t rest) same no_fall.1) along))
     (λ (apart : token_eq entry.token token ≡ false).
     next_case fares whole before entry rest line more text is told shown token up no_fall.0 no_fall.1
     apart (token_eq-sym token entry.token ∙ apart)
@@ -190,7 +190,7 @@ rest_of_token fares whole token before (entry ∷ rest) text is up no_fall (line
     (cases_Bool (token_eq entry.token token))
 
 -- the lines along entries in order of token are those of each token, rising
-each_token : (fares : Fares) (entries : List Entry) (text : List ℕ) → TokensDoNotFall entries
+each_token : (fares : Fares) (entries : List Entry) (text : List ℕ) → NoFall entries
     → AreLinesAlong fares [] entries text
     → (order : List Token) × IsRising token_cmp (map token_of entries) order
     × AreLinesOfEach fares entries order text

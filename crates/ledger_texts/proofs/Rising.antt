@@ -16,7 +16,7 @@ use Rattle.shard_book.specs.declared.entry.Entry.{Entry}
 use Rattle.fare_table.specs.declared.token.Token.{Token}
 use Rattle.shard_book.proofs.Histories.{same_token, token_eq-refl}
 use Rattle.shard_book.proofs.TokenLemmas.{token_cmp-total, token_cmp-ties}
-use Rattle.ledger_texts.specs.inside.Lines.{AreUpTo, IsUpTo, TokensDoNotFallFrom}
+use Rattle.ledger_texts.specs.inside.Lines.{AreUpTo, IsUpTo, NoFallFrom}
 
 -- ---- the order of tokens
 ranked : IsStrictWeakOrder (λ (a b : Token). is_lt (token_cmp a b))
@@ -103,7 +103,7 @@ none_below (entry ∷ entries) a b up to apart =
 
 -- entries whose tokens do not fall from one on have none of a token before it
 pub none_above : (token from : Token) (entries : List Entry) → IsUpTo token from
-    → token_eq from token ≡ false → TokensDoNotFallFrom from entries → own token entries ≡ []
+    → token_eq from token ≡ false → NoFallFrom from entries → own token entries ≡ []
 none_above token from [] to apart no_fall = own_none token
 none_above token from (entry ∷ entries) to apart no_fall =
     let beyond = by (token_eq entry.token token) refl in

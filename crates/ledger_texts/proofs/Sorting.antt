@@ -10,7 +10,7 @@ use Rattle.shard_book.specs.Entry.{is_of, own}
 use Rattle.fare_table.specs.Token.{token_cmp, token_eq}
 use Rattle.shard_book.specs.declared.entry.Entry.{Entry}
 use Rattle.fare_table.specs.declared.token.Token.{Token}
-use Rattle.ledger_texts.specs.inside.Lines.{IsByToken, TokensDoNotFall, TokensDoNotFallFrom}
+use Rattle.ledger_texts.specs.inside.Lines.{IsByToken, NoFall, NoFallFrom}
 use Rattle.ledger_texts.specs.inside.Spots.{entry_at_spot, seen}
 use Rattle.ledger_texts.specs.declared.spot.Spot.{Spot}
 use Rattle.shard_book.proofs.Histories.{same_token}
@@ -19,7 +19,7 @@ use Rattle.shard_book.specs.Book.{Book}
 abbrev pub key : List Book → Spot → Token
 key books spot = (entry_at_spot books spot).token
 
-rise_from : (books : List Book) (first : Spot) (list : List Spot) → IsSortedByKey (key books) token_cmp (first ∷ list) → TokensDoNotFallFrom (key books first) (seen books list)
+rise_from : (books : List Book) (first : Spot) (list : List Spot) → IsSortedByKey (key books) token_cmp (first ∷ list) → NoFallFrom (key books first) (seen books list)
 rise_from books first [] sorted = tt
 rise_from books first (next ∷ list) sorted = (
   sorted 0 first (omega arith) (omega arith),
@@ -28,7 +28,7 @@ rise_from books first (next ∷ list) sorted = (
       subst (λ n. is_lt (token_cmp (key books (get_or (first ∷ next ∷ list) n d)) (key books (get_or (next ∷ list) k d))) ≡ false) step (sorted (suc k) d (omega arith) (omega (arith, within)))),
 )
 
-no_fall : (books : List Book) (list : List Spot) → IsSortedByKey (key books) token_cmp list → TokensDoNotFall (seen books list)
+no_fall : (books : List Book) (list : List Spot) → IsSortedByKey (key books) token_cmp list → NoFall (seen books list)
 no_fall books [] sorted = tt
 no_fall books (first ∷ list) sorted = rise_from books first list sorted
 

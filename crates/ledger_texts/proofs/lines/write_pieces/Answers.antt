@@ -6,7 +6,7 @@ use Rattle.shard_book.specs.Entry.{own}
 use Rattle.shard_book.specs.declared.entry.Entry.{Entry}
 use Rattle.fare_table.specs.declared.token.Token.{Token}
 use Rattle.reason_texts.specs.Ledger.{IsTokenLine}
-use Rattle.ledger_texts.specs.inside.Lines.{AreLinesAlong, HasCome, IsLineAfter, IsUpTo, TokensDoNotFallFrom}
+use Rattle.ledger_texts.specs.inside.Lines.{AreLinesAlong, HasCome, IsLineAfter, IsUpTo, NoFallFrom}
 use Rattle.ledger_texts.specs.inside.Spots.{seen}
 use Rattle.ledger_texts.proofs.Writing.{along_push, come_first, come_next, grown, rise_here}
 use Rattle.ledger_texts.proofs.Writing.{rise_on, seen_taken}
@@ -15,7 +15,7 @@ use Rattle.ledger_texts.proofs.lines.write_pieces.Goals as goal
 pub loop-spot-init : goal.loop-spot-init
 loop-spot-init g c = record {
   come = come_first c.args.table.now _ (c.of-teller.ensures.told c.args.table.now);
-  no_fall = subst (λ (t : Token). TokensDoNotFallFrom t (seen c.args.books.now c.args.spots.now)) (sym c.of-teller.ensures.token) c.requires.no_fall;
+  no_fall = subst (λ (t : Token). NoFallFrom t (seen c.args.books.now c.args.spots.now)) (sym c.of-teller.ensures.token) c.requires.no_fall;
   few = omega (arith, c.of-teller.ensures.none);
   written = [];
   along = refl;
@@ -57,7 +57,7 @@ loop-spot-preserved g c =
     record {
       come = subst (λ (es : List Entry). HasCome fares c.write_next.new.self es) (sym taken)
           (subst (λ (e : Entry). HasCome fares c.write_next.new.self (done ++ e ∷ [])) is next);
-      no_fall = subst (λ (t : Token). TokensDoNotFallFrom t (drop (i + 1) (seen books list)))
+      no_fall = subst (λ (t : Token). NoFallFrom t (drop (i + 1) (seen books list)))
           (sym (c.in-Ok.ensures.token ∙ c.go_on_to.ensures.token ∙ ap (λ (e : Entry). e.token) is))
           (rise_on books list i _ c.loop-spot.teller.token c.loop-spot-test.true inv.no_fall);
       few = omega (arith, c.in-Ok.ensures.number, c.go_on_to.ensures.few, inv.few);
