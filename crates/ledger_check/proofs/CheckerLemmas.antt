@@ -85,7 +85,7 @@ next_ends fares earlier entry line is lacks =
     let one = lacks-end 10 (line_head entry.token _) _ (subst (Lacks 10) shown.shown lacks) in
     let two = lacks-end 10 shown.moment _ one in
     let three = lacks-end 10 (entry_fields fares entry) _ two in
-    let four = lacks-end 10 shown.because (10 ∷ []) three in
+    let four = lacks-end 10 shown.reason_fields (10 ∷ []) three in
     four.0 refl
 
 head_ends : (line : List ℕ) → Lacks 10 line → line ≢ head_text

@@ -3,7 +3,8 @@
 ghost use Rattle.std.specs.Prelude.{◌≡◌, ◌≤◌, ℕ, List, [], ◌++◌, IfErr, OnOk, string_bytes};
 ghost use Rattle.std.specs.Io.KnownBytes.{Appends, Keeps, append_known};
 ghost use Rattle.fare_texts.specs.declared.print_fault.PrintFault.TheVariants.{Write as ForWrite};
-ghost use Rattle.ledger_texts.specs.inside.Lines.{AreLinesAlong, HasCome, IsUpTo, NoFall, NoFallFrom};
+ghost use Rattle.ledger_texts.specs.inside.Lines.{AreLinesAlong, HasCome, IsUpTo, NoFall};
+ghost use Rattle.ledger_texts.specs.inside.Lines.{NoFallFrom};
 ghost use Rattle.ledger_texts.specs.inside.Spots.{seen};
 ghost use Rattle.fare_table.specs.Fares.{Fares};
 ghost use Rattle.fare_table.specs.declared.token.Token.{Token};
