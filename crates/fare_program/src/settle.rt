@@ -11,7 +11,7 @@ use crate::options::Options;
 use crate::posting::Posted;
 use crate::run::outcome_of;
 use fare_service::Outcome;
-use fare_service::laws::ended_whole;
+use fare_service::laws::none_was_cut;
 use fare_table::FareTable;
 use settlement::{Settled, laws, settle};
 use std::alloc::Global;
@@ -22,7 +22,7 @@ use std::thread::Threads;
 
 /// Runs the service over these uploads. There is no outcome of a part of them: where memory cut
 /// one, it is want of memory.
-fn whole_outcome_of<'a, R: Threads + Wait + RandomSource + Sync>(
+fn uncut_outcome_of<'a, R: Threads + Wait + RandomSource + Sync>(
     rt: &R,
     alloc: Global,
     table: FareTable,
@@ -35,7 +35,7 @@ fn whole_outcome_of<'a, R: Threads + Wait + RandomSource + Sync>(
     ensures status { IfErr result (λ fault. status_of fault ≡ 1) }
 {
     let outcome = outcome_of(rt, alloc, table, options, files)?;
-    if !ended_whole(&outcome) {
+    if !none_was_cut(&outcome) {
         return Err(Fault::NoMemory);
     }
     Ok(outcome)
@@ -57,7 +57,7 @@ pub(crate) fn post_settled<'a, R: Threads + Wait + RandomSource + Sync>(
 {
     let Settled { ends, files } = settle(rt, alloc, files)?;
     let settled = files.as_slice();
-    let outcome = whole_outcome_of(rt, alloc, table, options, settled)?;
+    let outcome = uncut_outcome_of(rt, alloc, table, options, settled)?;
     // proof: the outcome tells the settled history of the files that were given
     laws::settled(settled, &outcome);
     Ok(Posted {

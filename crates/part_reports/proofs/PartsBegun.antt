@@ -17,7 +17,7 @@ use Rattle.part_reports.specs.inside.Fronts.{IsFront, MayBePart, ToldFront, told
 use Rattle.part_reports.specs.inside.Kinds.{IsTextOf}
 use Rattle.part_reports.specs.inside.Parts.{AreParts, Begun, IsNoPart, IsPart, begun_text}
 use Rattle.part_reports.specs.inside.Parts.{left_text}
-use Rattle.part_reports.specs.inside.Reading.{IsRead}
+use Rattle.part_reports.specs.inside.LinesRead.{IsRead}
 use Rattle.part_reports.specs.inside.Sources.{IsSource, Standing}
 use Rattle.part_reports.specs.inside.Sums.{AreFew, AreFrontsCounted, WithFront}
 use Rattle.part_reports.proofs.TextsRead.{no_files, split}

@@ -10,7 +10,7 @@ ghost use Rattle.part_reports.specs.inside.Sources.{standing};
 
 use crate::fault::{MergeFault, Wrong};
 use crate::merging::{Lines, Source, write_merged, write_text};
-use crate::reading::Reading;
+use crate::line_reader::LineReader;
 use reason_texts::head_line;
 use std::alloc::Global;
 use std::io::{BufRead, Write};
@@ -27,12 +27,12 @@ fn begin_ledger<R: BufRead + Drop>(
         → IfSome (R.remaining from) IsNoLedger) }
     ensures no_taps { IfErr result (λ fault. ¬ (IsOfTaps fault)) }
 {
-    let mut reading = Reading::new(alloc, from, text);
-    reading.next()?;
-    if reading.line() == head_line().as_bytes() {
-        Source::begin(reading, Lines::Entries)
+    let mut reader = LineReader::new(alloc, from, text);
+    reader.next()?;
+    if reader.line() == head_line().as_bytes() {
+        Source::begin(reader, Lines::Entries)
     } else {
-        Err(reading.fault(Wrong::Form))
+        Err(reader.fault(Wrong::Form))
     }
 }
 

@@ -12,7 +12,7 @@ mod front;
 pub mod laws;
 mod ledgers;
 mod merging;
-mod reading;
+mod line_reader;
 mod reports;
 mod sums;
 mod upload_ends;

@@ -16,7 +16,7 @@ ghost use Rattle.part_reports.specs.inside.Sources.{IsMovedAt, IsStuckAt, standi
 
 use crate::fault::{MergeFault, Wrong};
 use crate::form::{ledger_token_of, token_sum_of};
-use crate::reading::Reading;
+use crate::line_reader::LineReader;
 use shard_book::Token;
 use std::alloc::{AllocError, Global};
 use std::cmp::Ordering;
@@ -35,7 +35,7 @@ pub(crate) enum Lines {
 #[derive(Drop)]
 pub(crate) struct Source<R: BufRead + Drop> {
     /// The text.
-    reading: Reading<R>,
+    reader: LineReader<R>,
     /// What its lines are.
     lines: Lines,
     /// The token of the line that was read last; none at the end.
@@ -124,16 +124,16 @@ fn may_stand(lines: Lines, before: Option<Token>, head: Option<Token>) -> bool
 
 impl<R: BufRead + Drop> Source<R> {
     /// The text at the next line, which is the first of these lines.
-    pub(crate) fn begin(reading: Reading<R>, lines: Lines) -> Result<Source<R>, MergeFault>
-        ensures begun { IfOk result (λ source. IfSome (R.remaining reading.from)
+    pub(crate) fn begin(reader: LineReader<R>, lines: Lines) -> Result<Source<R>, MergeFault>
+        ensures begun { IfOk result (λ source. IfSome (R.remaining reader.from)
             (λ left. IsSource (lines, left) (standing R.remaining source))) }
         ensures refused { IfErr result (λ fault. IsOfTexts fault
-            → IfSome (R.remaining reading.from)
+            → IfSome (R.remaining reader.from)
             (λ left. (list : List TokenLine) → ¬ (IsTextOf (lines, left) list))) }
         ensures no_taps { IfErr result (λ fault. ¬ (IsOfTaps fault)) }
     {
         let mut source = Source {
-            reading,
+            reader,
             lines,
             head: None,
         };
@@ -143,17 +143,17 @@ impl<R: BufRead + Drop> Source<R> {
 
     /// Reads the next line, or the end.
     fn read(&mut self) -> Result<(), MergeFault>
-        ensures read { OnOk result (IfSome (R.remaining self.old.reading.from)
+        ensures read { OnOk result (IfSome (R.remaining self.old.reader.from)
             (λ left. IsSource (self.old.lines, left) (standing R.remaining self.new))) }
         ensures refused { IfErr result (λ fault. IsOfTexts fault
-            → IfSome (R.remaining self.old.reading.from)
+            → IfSome (R.remaining self.old.reader.from)
             (λ left. (list : List TokenLine) → ¬ (IsTextOf (self.old.lines, left) list))) }
         ensures no_taps { IfErr result (λ fault. ¬ (IsOfTaps fault)) }
     {
-        self.reading.next()?;
+        self.reader.next()?;
         let (lines, head) = self
-            .reading
-            .told(first_of(self.lines, self.reading.line()))?;
+            .reader
+            .told(first_of(self.lines, self.reader.line()))?;
         self.lines = lines;
         self.head = head;
         Ok(())
@@ -161,12 +161,12 @@ impl<R: BufRead + Drop> Source<R> {
 
     /// Goes on to the next line. Gives its token, which is not below this line's.
     fn advance(&mut self) -> Result<Option<Token>, MergeFault>
-        ensures read { OnOk result (IfSome (R.remaining self.old.reading.from)
+        ensures read { OnOk result (IfSome (R.remaining self.old.reader.from)
             (λ left. IsSource (self.old.lines, left) (standing R.remaining self.new))) }
         ensures follows { IfOk result (λ head. MayFollowHead self.old.lines self.old.head head) }
         ensures head { IfOk result (λ head. head ≡ self.new.head) }
         ensures refused { IfErr result (λ fault. IsOfTexts fault
-            → IfSome (R.remaining self.old.reading.from)
+            → IfSome (R.remaining self.old.reader.from)
             (λ left. (list : List TokenLine) → IsTextOf (self.old.lines, left) list
             → IfSome self.old.head (λ before. ¬ (MayFollowAll self.old.lines before list)))) }
         ensures no_taps { IfErr result (λ fault. ¬ (IsOfTaps fault)) }
@@ -176,7 +176,7 @@ impl<R: BufRead + Drop> Source<R> {
         if may_stand(lines, before, self.head) {
             Ok(self.head)
         } else {
-            Err(self.reading.fault(Wrong::Order))
+            Err(self.reader.fault(Wrong::Order))
         }
     }
 }
@@ -221,7 +221,7 @@ fn fault_in<R: BufRead + Drop>(sources: &[Source<R>], at: usize, wrong: Wrong) -
     ensures { ¬ (IsOfTaps result) }
 {
     match sources.get(at) {
-        Some(source) => source.reading.fault(wrong),
+        Some(source) => source.reader.fault(wrong),
         None => MergeFault::Unread(at),
     }
 }
@@ -253,7 +253,7 @@ fn write_at<R: BufRead + Drop, W: Write>(
     ensures no_taps { IfErr result (λ fault. ¬ (IsOfTaps fault)) }
 {
     let source = &mut sources[at];
-    write_text(out, source.reading.line())?;
+    write_text(out, source.reader.line())?;
     heads[at] = source.advance()?;
     Ok(())
 }

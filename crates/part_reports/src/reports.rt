@@ -22,7 +22,7 @@ ghost use Rattle.shard_book.specs.Sums.{sums_of};
 use crate::fault::{MergeFault, Wrong};
 use crate::front::read_front;
 use crate::merging::{Lines, Source, write_merged, write_text};
-use crate::reading::Reading;
+use crate::line_reader::LineReader;
 use crate::sums::{WholeSums, add_front, no_sums};
 use crate::upload_ends::UploadEnds;
 use crate::upload_ends::read::read_ends;
@@ -54,13 +54,13 @@ fn read_part<R: BufRead + Drop>(
         → IfSome (R.remaining from) (IsNoPart sums.old)) }
     ensures other { IfErr result (λ fault. ¬ (IsOfTaps fault)) }
 {
-    let mut reading = Reading::new(alloc, from, text);
-    let front = read_front(alloc, &mut reading)?;
+    let mut reader = LineReader::new(alloc, from, text);
+    let front = read_front(alloc, &mut reader)?;
     if !add_front(sums, &front)? {
-        return Err(reading.fault(Wrong::Sums));
+        return Err(reader.fault(Wrong::Sums));
     }
     let left = front.tokens;
-    Source::begin(reading, Lines::Tokens { left })
+    Source::begin(reader, Lines::Tokens { left })
 }
 
 /// Reads the reports of parts up to the lines of their first tokens. The first of the texts has

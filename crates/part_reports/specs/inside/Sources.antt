@@ -24,8 +24,8 @@ pub record Standing : Type 0 where
 -- the same of a source, at what its reader says is left
 abbrev pub standing : {R : Type 0} → (R → Option (List ℕ)) → Source R → Standing
 standing remaining source = record {
-  left = remaining source.reading.from;
-  line = source.reading.line.items;
+  left = remaining source.reader.from;
+  line = source.reader.line.items;
   behind = source.lines;
   head = source.head;
 }

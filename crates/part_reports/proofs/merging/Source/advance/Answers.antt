@@ -10,6 +10,6 @@ returns-else-may_stand-clause-refused g c = λ of_texts.
     let at = standing g.R.Read.remaining c.read.new.self in
     let wrong : ¬ (MayFollowHead lines before c.read.new.self.head) = λ may.
     false≢true (c.if-may_stand.ensures.1 may) in
-    weaker (g.R.Read.remaining c.args.self.now.reading.from) _ _
+    weaker (g.R.Read.remaining c.args.self.now.reader.from) _ _
     (λ text source list is. no_order lines text at before source wrong list is)
     c.in_ok-read.ensures.read
