@@ -41,7 +41,8 @@ liveness_of before tap =
 -- the livenesses of taps that follow those before
 abbrev pub livenesses_after : List Listed → List Listed → List Liveness
 livenesses_after before [] = []
-livenesses_after before (tap ∷ taps) = liveness_of before tap ∷ livenesses_after (before ++ tap ∷ []) taps
+livenesses_after before (tap ∷ taps) =
+    liveness_of before tap ∷ livenesses_after (before ++ tap ∷ []) taps
 
 -- whether the two livenesses are the same
 abbrev pub is_same_liveness : Liveness → Liveness → Bool

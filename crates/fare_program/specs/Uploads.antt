@@ -26,7 +26,8 @@ listed_in fares (Err refused ∷ items) = listed_in fares items
 -- the lines of taps that follow those before; the first has this number in its upload
 abbrev pub tap_lines : ℕ → ℕ → List Listed → List Listed → List ℕ
 tap_lines upload number before [] = []
-tap_lines upload number before (tap ∷ taps) = tap_line upload number tap.tap (liveness_of before tap)
+tap_lines upload number before (tap ∷ taps) =
+    tap_line upload number tap.tap (liveness_of before tap)
     ++ tap_lines upload (number + 1) (before ++ tap ∷ []) taps
 
 -- the lines of what is given of an upload: of each batch its taps', and one for a layout fault

@@ -2,14 +2,19 @@
 //! upload files by a fare table and prints what they cost, or lists them, each as live, stale or
 //! unknown.
 //!
-//! | module | what it does | |---|---| | `asked`, `options` | what a command line asks for; its
-//! words, as `clap` reads them | | `source`, `ahead` | whole files from a source; those that are
-//! read before their turns | | `host` | the system's files and standard input as a source | |
-//! `listing` | the liveness of each tap, from those before it | | `lines`, `uploads` | the text of
-//! a listing | | `run` | a run of the service | | `settle` | taps that are put into their one order
-//! before they are posted | | `posting` | files that are posted, settled or not, and the text that
-//! is asked for | | `output` | texts written out whole | | `fault` | why the program gives up, and
-//! the line that says so | | `program` | the whole |
+//! | module | what it does |
+//! |---|---|
+//! | `command_line`, `options` | what a command line asks for; its words, as `clap` reads them |
+//! | `source`, `early_files` | whole files from a source; those that are read before their turns |
+//! | `host` | the system's files and standard input as a source |
+//! | `listing` | the liveness of each tap, from those before it |
+//! | `lines`, `uploads` | the text of a listing |
+//! | `run` | a run of the service |
+//! | `settle` | taps that are put into their one order before they are posted |
+//! | `posting` | files that are posted, settled or not, and the text that is asked for |
+//! | `output` | texts written out whole |
+//! | `fault` | why the program gives up, and the line that says so |
+//! | `program` | the whole |
 #![tactic(auto)]
 
 mod command_line;

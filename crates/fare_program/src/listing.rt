@@ -112,7 +112,11 @@ fn liveness_next(
     let mut token = [0u8; 16];
     token.copy_from_slice(tap.token());
     let is_live = advance(last, token, tap.moment_ms())?;
-    Ok(if is_live { Liveness::Live } else { Liveness::Stale })
+    Ok(if is_live {
+        Liveness::Live
+    } else {
+        Liveness::Stale
+    })
 }
 
 /// Gives each tap its liveness, from the taps that were listed before it.

@@ -68,4 +68,5 @@ tokens_section sums = tokens_head (length sums) ++ flat_map token_line sums
 -- token
 abbrev pub report : List UploadEnd → Sums → List (ℕ × Sums) → List (Token × Sums) → List ℕ
 report ends totals validators tokens =
-    uploads_section ends ++ (totals_line totals ++ (validators_section validators ++ tokens_section tokens))
+    uploads_section ends
+    ++ (totals_line totals ++ (validators_section validators ++ tokens_section tokens))

@@ -66,8 +66,7 @@ AreExplainedAfter fares token earlier (entry ∷ entries) text =
     × (text ≡ line ++ rest)
 
 -- the words, the window as `2024-03-08T17:00:00.000Z 2024-03-15T17:00:00.000Z paid 1 cents 300`,
--- and
--- under a zone what clocks show at its start and at its end
+-- and under a zone what clocks show at its start and at its end
 pub record IsExplainedWindow (clocks : Option PosixRule) (word : List ℕ) (window : WindowView)
     (line : List ℕ) : Type 0 where
   pub start : List ℕ

@@ -74,7 +74,10 @@ fn next_validator<R: BufRead + Drop>(reader: &mut LineReader<R>) -> Result<Valid
 }
 
 /// Reads the lines of so many uploads, each of which was posted.
-fn read_posted<R: BufRead + Drop>(reader: &mut LineReader<R>, uploads: u64) -> Result<(), MergeFault>
+fn read_posted<R: BufRead + Drop>(
+    reader: &mut LineReader<R>,
+    uploads: u64,
+) -> Result<(), MergeFault>
     ensures read { IsRead (λ _ _. Unit {0}) (AreSoManyPosted uploads) (end_lines 0)
         (R.remaining reader.old.from) (R.remaining reader.new.from) result }
     ensures other { IfErr result (λ fault. ¬ (IsOfTaps fault)) }

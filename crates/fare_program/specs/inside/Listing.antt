@@ -38,13 +38,15 @@ AddsUp counts = counts.taps ≡ counts.live + counts.stale + counts.unknown
 -- one
 abbrev pub last_after : Liveness → List ℕ → ℕ → List (List ℕ × ℕ) → List ℕ → Option ℕ
 last_after liveness token moment last other =
-    if is_same_liveness Live liveness && bytes_eq token other then Some moment else last_of last other
+    if is_same_liveness Live liveness && bytes_eq token other then Some moment
+    else last_of last other
 
 -- the counts with one tap more, of which the listing says this liveness
 abbrev pub liveness_counted : Liveness → ListCounts → ListCounts
 liveness_counted Live counts = record counts { taps = counts.taps + 1; live = counts.live + 1 }
 liveness_counted Stale counts = record counts { taps = counts.taps + 1; stale = counts.stale + 1 }
-liveness_counted Unknown counts = record counts { taps = counts.taps + 1; unknown = counts.unknown + 1 }
+liveness_counted Unknown counts =
+    record counts { taps = counts.taps + 1; unknown = counts.unknown + 1 }
 
 -- the liveness of a tap by what is kept
 abbrev pub liveness_by : List (List ℕ × ℕ) → Listed → Liveness

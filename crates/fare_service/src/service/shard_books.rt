@@ -7,7 +7,7 @@ ghost use Rattle.fare_service.specs.inside.ServiceView.{AreOpened};
 
 use crate::service::Service;
 use fare_table::{FareTable, NoMemory};
-use shard_book::{ShardBook, HashSeed};
+use shard_book::{HashSeed, ShardBook};
 use shared_books::{Pass, SharedBook};
 use std::alloc::Global;
 

@@ -1,7 +1,7 @@
 use Rattle.std.proofs.lemmas.Bool.{false≢true}
 use Rattle.part_reports.specs.inside.Sources.{MayFollowHead, standing}
 use Rattle.part_reports.proofs.Firsts.{no_order, weaker}
-use Rattle.part_reports.proofs.merging.Source.advance.Goals as goal
+use Rattle.part_reports.proofs.merging.LineSource.advance.Goals as goal
 
 pub returns-else-may_stand-clause-refused : goal.returns-else-may_stand-clause-refused
 returns-else-may_stand-clause-refused g c = λ of_texts.
