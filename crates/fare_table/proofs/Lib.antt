@@ -1,5 +1,5 @@
 pub mod ApartLemmas
-pub mod EntryLemmas
+pub mod ElementLemmas
 pub mod FaultLemmas
 pub mod MaskLemmas
 pub mod MemberLemmas

@@ -9,7 +9,7 @@ use Rattle.std.specs.List.Sorted.{IsStrictlySortedBy}
 use Rattle.std.specs.Map.{keys_of}
 use Rattle.std.specs.Ordering.{match_ordering, nat_cmp, ordering_reverse}
 use Rattle.toml.specs.Data.{Data, Items, no_items, item, Members, no_members, member, get_member}
-use Rattle.fare_table.proofs.EntryLemmas.{ranges_read, step}
+use Rattle.fare_table.proofs.ElementLemmas.{ranges_read, step}
 use Rattle.fare_table.proofs.PartLemmas.{bind_ok, parts}
 use Rattle.fare_table.proofs.PayLemmas.{AreRiders, adds_rider, after_rider, riders_read}
 use Rattle.fare_table.specs.Riders.{rider_of, riders_from, with_rider}

@@ -44,8 +44,8 @@ pub fn permitted_pairs_are_listed()
         → (has_pair rules.transfers from to ≡ true) ↔ ListsPair rules.modes tree from to }
 {}
 
-/// The mode of a validator is the one that the entry of the text's `validators` names which has it,
-/// and none exactly where no entry has it. At most one entry has it.
+/// The mode of a validator is the one that the element of the text's `validators` names which has
+/// it, and none exactly where no element has it. At most one element has it.
 pub fn modes_are_of_ranges()
     ensures some { (tree : Members) (fares : Fares) (validator mode : ℕ)
         → rules_of_tree tree ≡ Ok fares.rules

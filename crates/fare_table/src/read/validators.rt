@@ -39,7 +39,7 @@ pub(crate) fn ranges_of(
     Ok(Ranges::new(alloc, ranges)?)
 }
 
-/// The ranges of these entries by their first numbers.
+/// The ranges of these elements by their first numbers.
 fn ranges_from(
     alloc: Global,
     modes: &[String],
@@ -96,16 +96,16 @@ fn range_in(modes: &[String], value: &Value) -> Result<(u32, Span), TableFault>
     range_of(modes, of_kind(value.as_table(), Key::Validators)?)
 }
 
-/// The range of an entry: its first number, its last one and its mode.
+/// The range of an element: its first number, its last one and its mode.
 #[tactic(auto, unfolding(crate::specs::Validators::range_of))]
-fn range_of(modes: &[String], entry: &Table) -> Result<(u32, Span), TableFault>
+fn range_of(modes: &[String], element: &Table) -> Result<(u32, Span), TableFault>
     requires { length modes.now ≤ 32 }
-    ensures range { result ≡ spec.range_of (map string_bytes modes.now) (table_view entry.now) }
+    ensures range { result ≡ spec.range_of (map string_bytes modes.now) (table_view element.now) }
     ensures order { IfOk result (λ range. range.0 ≤ range.1.last) }
     ensures known { IfOk result (λ range. range.1.mode < length modes.now) }
 {
-    let first = number_at(entry, "first", Key::First, 0, u32::MAX)?;
-    let last = number_at(entry, "last", Key::Last, first, u32::MAX)?;
-    let mode = mode_named(modes, text_at(entry, "mode", Key::ModeName)?)?;
+    let first = number_at(element, "first", Key::First, 0, u32::MAX)?;
+    let last = number_at(element, "last", Key::Last, first, u32::MAX)?;
+    let mode = mode_named(modes, text_at(element, "mode", Key::ModeName)?)?;
     Ok((first, Span { last, mode }))
 }

@@ -1,4 +1,4 @@
--- The mode of a validator is the one that the text's entry which has it names.
+-- The mode of a validator is the one that the text's element which has it names.
 use Rattle.std.proofs.Common.{◌≡◌, ◌⊎◌, ◌↔◌, ℕ, ◌<◌, ◌≤◌, ◌||◌, Bool, true, false, List, [], ◌∷◌}
 use Rattle.std.proofs.Common.{Option, Some, None, Ok, Err, cond, option_map, refl, sym, ap, ◌∙◌}
 use Rattle.std.proofs.Common.{arith, inl, inr, ⊎_elim, zero, suc, codes, le-leb}
@@ -110,7 +110,7 @@ shares n range found (other ∷ more) has at =
     shared_if n range other more (has_number n other) found has refl at
     (shares n range found more has)
 
--- ---- what the entries read as
+-- ---- what the elements read as
 pub record AddsRange (earlier : List (ℕ × Span)) (range : ℕ
     × Span) (ranges : List (ℕ × Span)) : Type 0 where
   pub free : list_any (share_number range) earlier ≡ false
@@ -128,14 +128,14 @@ pub adds_range : (earlier ranges : List (ℕ × Span)) (range : ℕ × Span)
 adds_range earlier ranges range is =
     added_if (list_any (share_number range) earlier) earlier ranges range refl is
 
--- what an entry says that reads as a range
+-- what an element says that reads as a range
 pub record Reads (modes : List (List ℕ)) (value : Data) (range : ℕ × Span) : Type 0 where
-  pub entry : Members
-  pub is_table : value ≡ table entry
-  pub first : get_member (codes "first") entry ≡ Some (integer (pos range.0))
-  pub last : get_member (codes "last") entry ≡ Some (integer (pos range.1.last))
+  pub element : Members
+  pub is_table : value ≡ table element
+  pub first : get_member (codes "first") element ≡ Some (integer (pos range.0))
+  pub last : get_member (codes "last") element ≡ Some (integer (pos range.1.last))
   pub order : range.0 ≤ range.1.last
-  pub names : NamesMode modes entry range.1.mode
+  pub names : NamesMode modes element range.1.mode
 
 abbrev pub span_of : ℕ → ℕ → Span
 span_of last mode = record { last = last; mode = mode }
@@ -147,12 +147,12 @@ abbrev by_name : List (List ℕ) → ℕ → ℕ → List ℕ → OrFault (ℕ �
 by_name modes first last name = mode_named modes name >>= by_mode first last
 
 abbrev by_last : List (List ℕ) → Members → ℕ → ℕ → OrFault (ℕ × Span)
-by_last modes entry first last =
-    text_at (codes "mode") the_key.ModeName entry >>= by_name modes first last
+by_last modes element first last =
+    text_at (codes "mode") the_key.ModeName element >>= by_name modes first last
 
 abbrev by_first : List (List ℕ) → Members → ℕ → OrFault (ℕ × Span)
-by_first modes entry first =
-    number_at (codes "last") the_key.Last first 4_294_967_295 entry >>= by_last modes entry first
+by_first modes element first =
+    number_at (codes "last") the_key.Last first 4_294_967_295 element >>= by_last modes element first
 
 one_range : (first last mode : ℕ) (range : ℕ × Span) → by_mode first last mode ≡ Ok range
     → (first ≡ range.0) × (last ≡ range.1.last) × (mode ≡ range.1.mode)
@@ -171,29 +171,29 @@ one_range first last mode range is =
     mode_of d (Ok r) = r.1.mode
     mode_of d (Err e) = d
 
-reads_table : (modes : List (List ℕ)) (value : Data) (entry : Members) (range : ℕ × Span)
-    → value ≡ table entry → range_of modes entry ≡ Ok range → Reads modes value range
+reads_table : (modes : List (List ℕ)) (value : Data) (element : Members) (range : ℕ × Span)
+    → value ≡ table element → range_of modes element ≡ Ok range → Reads modes value range
 unfolding range_of
-reads_table modes value entry range whole is =
-    let first = bind_ok (number_at (codes "first") the_key.First 0 4_294_967_295 entry)
-    (by_first modes entry) range is in
-    let last = bind_ok (number_at (codes "last") the_key.Last first.0 4_294_967_295 entry)
-    (by_last modes entry first.0) range first.2 in
-    let name = bind_ok (text_at (codes "mode") the_key.ModeName entry)
+reads_table modes value element range whole is =
+    let first = bind_ok (number_at (codes "first") the_key.First 0 4_294_967_295 element)
+    (by_first modes element) range is in
+    let last = bind_ok (number_at (codes "last") the_key.Last first.0 4_294_967_295 element)
+    (by_last modes element first.0) range first.2 in
+    let name = bind_ok (text_at (codes "mode") the_key.ModeName element)
     (by_name modes first.0 last.0) range last.2 in
     let mode = bind_ok (mode_named modes name.0) (by_mode first.0 last.0) range name.2 in
     let same = one_range first.0 last.0 mode.0 range mode.2 in
-    let from = number-read (codes "first") the_key.First 0 4_294_967_295 entry first.0 first.1 in
-    let upto = number-read (codes "last") the_key.Last first.0 4_294_967_295 entry last.0 last.1 in
+    let from = number-read (codes "first") the_key.First 0 4_294_967_295 element first.0 first.1 in
+    let upto = number-read (codes "last") the_key.Last first.0 4_294_967_295 element last.0 last.1 in
     record {
-      entry = entry;
+      element = element;
       is_table = whole;
       first = from.is ∙ ap (λ n. Some (integer (pos n))) same.0;
       last = upto.is ∙ ap (λ n. Some (integer (pos n))) same.1;
       order = omega (arith, upto.above, same.0, same.1);
       names = record {
         name = name.0;
-        written = text-read (codes "mode") the_key.ModeName entry name.0 name.1;
+        written = text-read (codes "mode") the_key.ModeName element name.0 name.1;
         named = mode.1 ∙ ap (λ m. Ok m) same.2;
       };
     }
@@ -201,11 +201,11 @@ reads_table modes value entry range whole is =
 pub reads : (modes : List (List ℕ)) (value : Data) (range : ℕ × Span)
     → range_in modes value ≡ Ok range → Reads modes value range
 reads modes value range is =
-    let entry = bind_ok (of_kind the_key.Validators (as_table value)) (range_of modes) range is in
-    reads_table modes value entry.0 range (is_table value the_key.Validators entry.0 entry.1)
-    entry.2
+    let element = bind_ok (of_kind the_key.Validators (as_table value)) (range_of modes) range is in
+    reads_table modes value element.0 range (is_table value the_key.Validators element.0 element.1)
+    element.2
 
--- ---- the ranges behind some entries
+-- ---- the ranges behind some elements
 -- the item at the place reads as the range
 abbrev pub IsRangeAt : List (List ℕ) → Items → ℕ → ℕ × Span → Type 0
 IsRangeAt modes items place range =
@@ -274,7 +274,7 @@ still modes n earlier (item value more) ranges found is stands at =
           ∙ ap (λ b. cond b (Some s.range) (find (has_number n) earlier)) none ∙ at)
     ]
 
--- what an entry reads as, and that it is found by its numbers
+-- what an element reads as, and that it is found by its numbers
 there : (modes : List (List ℕ)) (n : ℕ) (earlier : List (ℕ × Span)) (items : Items)
     (ranges : List (ℕ × Span)) (place : ℕ) (value : Data)
     → ranges_from modes earlier items ≡ Ok ranges → stand_apart earlier ≡ true
@@ -303,7 +303,7 @@ came_if modes n earlier value more range found true read at = let same : range �
     inr (zero, (value, refl, read ∙ ap (λ r. Ok r) same))
 came_if modes n earlier value more range found false read at = inl at
 
--- a range that is found is an earlier one or an entry's
+-- a range that is found is an earlier one or an element's
 came : (modes : List (List ℕ)) (n : ℕ) (earlier : List (ℕ × Span)) (items : Items) (ranges : List (ℕ
     × Span)) (found : ℕ × Span) → ranges_from modes earlier items ≡ Ok ranges
     → stand_apart earlier ≡ true
@@ -319,7 +319,7 @@ came modes n earlier (item value more) ranges found is stands at =
     (λ later. inr (suc later.0, later.1))
     (came modes n s.next more ranges found s.rest s.stands at)
 
--- no entry has a number that an earlier range has
+-- no element has a number that an earlier range has
 again : (modes : List (List ℕ)) (n : ℕ) (earlier : List (ℕ × Span)) (items : Items)
     (ranges : List (ℕ × Span)) (place : ℕ) (value : Data) (range : ℕ × Span)
     → ranges_from modes earlier items ≡ Ok ranges → stand_apart earlier ≡ true
@@ -352,7 +352,7 @@ first_has modes n earlier first value one range next is found at read has =
           ∙ has),
     )
 
--- an entry that has a number is the only one
+-- an element that has a number is the only one
 only : (modes : List (List ℕ)) (n : ℕ) (earlier : List (ℕ × Span)) (items : Items) (ranges : List (ℕ
     × Span)) (place place' : ℕ) (value value' : Data) (range range' : ℕ × Span)
     → ranges_from modes earlier items ≡ Ok ranges → stand_apart earlier ≡ true
@@ -421,13 +421,13 @@ found_says : {A : Type 0} (p : A → Bool) (xs : List A) (y : A) → find p xs �
 found_says p [] y at = absurd (cc)
 found_says p (x ∷ xs) y at = found_says_if p (p x) x y (find p xs) refl (found_says p xs y) at
 
--- a validator that an entry has is one of the range that it reads as
-agrees : (modes : List (List ℕ)) (entry : Members) (range : ℕ × Span) (validator : ℕ)
-    → Reads modes (table entry) range → HasValidator entry validator
+-- a validator that an element has is one of the range that it reads as
+agrees : (modes : List (List ℕ)) (element : Members) (range : ℕ × Span) (validator : ℕ)
+    → Reads modes (table element) range → HasValidator element validator
     → has_number validator range ≡ true
-agrees modes entry range validator r has =
-    let whole : table entry ≡ table r.entry = r.is_table in
-    let same : entry ≡ r.entry = cc in
+agrees modes element range validator r has =
+    let whole : table element ≡ table r.element = r.is_table in
+    let same : element ≡ r.element = cc in
     let at_first : Some (integer (pos has.first)) ≡ Some (integer (pos range.0)) =
     sym has.is_first ∙ ap (get_member (codes "first")) same ∙ r.first in
     let at_last : Some (integer (pos has.last)) ≡ Some (integer (pos range.1.last)) =
@@ -441,7 +441,7 @@ agrees modes entry range validator r has =
 -- and the other way round
 has_it : (modes : List (List ℕ)) (value : Data) (range : ℕ
     × Span) (validator : ℕ) (r : Reads modes value range) → has_number validator range ≡ true
-    → HasValidator r.entry validator
+    → HasValidator r.element validator
 has_it modes value range validator r has =
     let both = and_parts (nat_le range.0 validator) (nat_le validator range.1.last) has in
     record {
@@ -466,17 +466,17 @@ gives : (modes : List (List ℕ)) (tree : Members) (ranges : List (ℕ × Span))
     → RangeGives modes tree validator mode
 gives modes tree ranges validator mode text at = ⊎_elim
     (λ none. absurd (cc (none)))
-    (λ entry.
-    let r = reads modes entry.1.0 at.0 entry.1.2 in
+    (λ element.
+    let r = reads modes element.1.0 at.0 element.1.2 in
     record {
-      place = entry.0;
-      entry = r.entry;
+      place = element.0;
+      element = r.element;
       listed = record {
         items = text.items;
         listed = text.listed;
-        stands = entry.1.1 ∙ ap (λ (v : Data). Some v) r.is_table;
+        stands = element.1.1 ∙ ap (λ (v : Data). Some v) r.is_table;
       };
-      has = has_it modes entry.1.0 at.0 validator r
+      has = has_it modes element.1.0 at.0 validator r
           (found_says (has_number validator) ranges at.0 at.1);
       names = record {
         name = r.names.name;
@@ -486,37 +486,37 @@ gives modes tree ranges validator mode text at = ⊎_elim
     })
     (came modes validator [] text.items ranges at.0 text.read refl at.1)
 
--- an entry that has the validator reads as the range that is found
+-- an element that has the validator reads as the range that is found
 pub record IsFound (modes : List (List ℕ)) (ranges : List (ℕ × Span)) (validator : ℕ)
-    (items : Items) (place : ℕ) (entry : Members) : Type 0 where
+    (items : Items) (place : ℕ) (element : Members) : Type 0 where
   pub range : ℕ × Span
-  pub stands : get_item place items ≡ Some (table entry)
-  pub read : range_in modes (table entry) ≡ Ok range
+  pub stands : get_item place items ≡ Some (table element)
+  pub read : range_in modes (table element) ≡ Ok range
   pub has : has_number validator range ≡ true
   pub found : find (has_number validator) ranges ≡ Some range
 
 is_found : (modes : List (List ℕ)) (tree : Members) (ranges : List (ℕ × Span)) (validator place : ℕ)
-    (entry : Members) (text : AreRead modes tree ranges) → HasRange tree place entry
-    → HasValidator entry validator
-    → IsFound modes ranges validator text.items place entry
-is_found modes tree ranges validator place entry text listed has =
+    (element : Members) (text : AreRead modes tree ranges) → HasRange tree place element
+    → HasValidator element validator
+    → IsFound modes ranges validator text.items place element
+is_found modes tree ranges validator place element text listed has =
     let both : Some (array listed.items) ≡ Some (array text.items) =
     sym listed.listed ∙ text.listed in
     let same : listed.items ≡ text.items = cc in
-    let stands : get_item place text.items ≡ Some (table entry) =
+    let stands : get_item place text.items ≡ Some (table element) =
     ap (get_item place) (sym same) ∙ listed.stands in
-    let at = there modes validator [] text.items ranges place (table entry) text.read refl stands in
-    let here = agrees modes entry at.0 validator (reads modes (table entry) at.0 at.1) has in
+    let at = there modes validator [] text.items ranges place (table element) text.read refl stands in
+    let here = agrees modes element at.0 validator (reads modes (table element) at.0 at.1) has in
     record { range = at.0; stands = stands; read = at.1; has = here; found = at.2 here }
 
 is_given : (modes : List (List ℕ)) (tree : Members) (ranges : List (ℕ × Span)) (validator mode : ℕ)
     → AreRead modes tree ranges → RangeGives modes tree validator mode
     → option_map (λ (range : ℕ × Span). range.1.mode) (range_at ranges validator) ≡ Some mode
 is_given modes tree ranges validator mode text g =
-    let f = is_found modes tree ranges validator g.place g.entry text g.listed g.has in
-    let r = reads modes (table g.entry) f.range f.read in
-    let whole : table g.entry ≡ table r.entry = r.is_table in
-    let same : g.entry ≡ r.entry = cc in
+    let f = is_found modes tree ranges validator g.place g.element text g.listed g.has in
+    let r = reads modes (table g.element) f.range f.read in
+    let whole : table g.element ≡ table r.element = r.is_table in
+    let same : g.element ≡ r.element = cc in
     let texts : Some (string g.names.name) ≡ Some (string r.names.name) =
     sym g.names.written ∙ ap (get_member (codes "mode")) same ∙ r.names.written in
     let name : g.names.name ≡ r.names.name = cc in
@@ -552,13 +552,13 @@ mode-none tree fares validator is =
     let text = ranges_read fares.rules.modes tree fares.rules.ranges
     (parts tree fares.rules is).ranges in (
       λ none place e.
-          let f = is_found fares.rules.modes tree fares.rules.ranges validator place e.entry text
+          let f = is_found fares.rules.modes tree fares.rules.ranges validator place e.element text
           e.listed e.has in
           maps_none (range_at fares.rules.ranges validator) f.range f.found none,
       λ none. none_or_gives (mode_at fares validator) (λ mode at.
           let g = gives fares.rules.modes tree fares.rules.ranges validator mode text
           (maps (range_at fares.rules.ranges validator) mode at) in
-          none g.place (record { entry = g.entry; listed = g.listed; has = g.has })),
+          none g.place (record { element = g.element; listed = g.listed; has = g.has })),
     )
 
 pub one-entry : (tree : Members) (rules : TableRules) (validator place place' : ℕ)
@@ -566,10 +566,10 @@ pub one-entry : (tree : Members) (rules : TableRules) (validator place place' : 
     → RangeHas tree validator place → RangeHas tree validator place' → place ≡ place'
 one-entry tree rules validator place place' is one other =
     let text = ranges_read rules.modes tree rules.ranges (parts tree rules is).ranges in
-    let f = is_found rules.modes tree rules.ranges validator place one.entry text one.listed
+    let f = is_found rules.modes tree rules.ranges validator place one.element text one.listed
     one.has in
-    let g = is_found rules.modes tree rules.ranges validator place' other.entry text other.listed
+    let g = is_found rules.modes tree rules.ranges validator place' other.element text other.listed
     other.has in
-    only rules.modes validator [] text.items rules.ranges place place' (table one.entry)
-    (table other.entry) f.range g.range text.read refl f.stands f.read f.has g.stands g.read
+    only rules.modes validator [] text.items rules.ranges place place' (table one.element)
+    (table other.element) f.range g.range text.read refl f.stands f.read f.has g.stands g.read
     g.has
