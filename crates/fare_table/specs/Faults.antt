@@ -168,7 +168,7 @@ is_in_limits the_key.Zone beside value = true
 abbrev pub is_mode : List (List ℕ) → List ℕ → Bool
 is_mode names name = is_some (position (same_name name) names)
 
--- one of the names of a transfer, or that of an element of `validators`, is none of the text's modes
+-- one of the names of a transfer, or that of an element of `validators`, is not one of the modes
 abbrev pub names_no_mode : Where → Members → Bool
 names_no_mode top tree =
     list_any (λ pair. not (is_mode (mode_names tree) pair.0 && is_mode (mode_names tree) pair.1))

@@ -19,7 +19,8 @@ small number =
 
 -- the validator's number at a key
 abbrev pub validator_at : List ℕ → Members → Option ℕ
-validator_at key element = option_and_then small (option_and_then as_integer (get_member key element))
+validator_at key element =
+    option_and_then small (option_and_then as_integer (get_member key element))
 
 -- the validator lies from the one number to the other
 abbrev pub is_from_to : ℕ → ℕ → ℕ → Bool
