@@ -2,7 +2,7 @@
 ghost use Rattle.std.specs.Prelude.{◌≡◌, All, IfErr, IfOk, map};
 ghost use Rattle.fare_service.specs.Plain.{WasNotCut};
 ghost use Rattle.fare_program.specs.Fault.{status_of};
-ghost use Rattle.fare_program.specs.Program.{IsRun};
+ghost use Rattle.fare_service.specs.Headline.{HasRun};
 ghost use Rattle.fare_program.specs.inside.Settling.{IsOutcomeOf};
 ghost use Rattle.fare_program.specs.inside.PostedFiles.{ends_of};
 
@@ -29,8 +29,8 @@ fn uncut_outcome_of<'a, R: Threads + Wait + RandomSource + Sync>(
     options: &Options<'a>,
     files: &[Vec<u8>],
 ) -> Result<Outcome, Fault<'a>>
-    ensures run { IfOk result (λ outcome. IsRun table options.now.shards options.now.workers
-        (map (λ f. f.items) files.now) outcome) }
+    ensures run { IfOk result (λ outcome. HasRun table options.now.shards
+        (map (λ f. f.items) files.now) options.now.workers outcome) }
     ensures whole { IfOk result (λ outcome. All WasNotCut outcome.ends) }
     ensures status { IfErr result (λ fault. status_of fault ≡ 1) }
 {
