@@ -1,6 +1,6 @@
 -- A listing that is under way: what it has come to, and what is still to come.
 use Rattle.std.proofs.Common.{◌≡◌, ◌+◌, ◌∙◌, ℕ, List, [], ◌∷◌, ◌++◌, refl, sym, ap, subst, append-nil, append_assoc, length, map, zero-add, ◌≤◌, arith, length-append, Ok, Err, Bool, true, false, ◌&&◌}
-use Rattle.fare_program.specs.Listing.{Listed, word_of}
+use Rattle.fare_program.specs.Listing.{Listed, liveness_of}
 use Rattle.fare_program.specs.inside.Listing.{KeptListing, StandsFor}
 use Rattle.std.specs.Prelude.{Option, is_ok}
 use Rattle.std.specs.List.{list_all}
@@ -29,7 +29,7 @@ goes_on kept kept' text text' upload number tap left all_text all_taps lists goi
   stands = (lists going.so_far going.stands).1;
   taps = append_assoc going.so_far (tap ∷ []) left ∙ going.taps;
   lines = rw ((lists going.so_far going.stands).0, append-nil)
-      (append_assoc text (tap_line upload number tap.tap (word_of going.so_far tap)) _ ∙ going.lines);
+      (append_assoc text (tap_line upload number tap.tap (liveness_of going.so_far tap)) _ ∙ going.lines);
 }
 
 pub goes_nowhere : (kept : KeptListing) (text : List ℕ) (upload number : ℕ) (all_text : List ℕ) (all_taps : List Listed)

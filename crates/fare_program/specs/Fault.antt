@@ -53,46 +53,46 @@ status_of _ = 1
 
 -- What is wrong with the token that is asked for, if anything: first its digits, and then that
 -- there is no table.
-abbrev pub token_fault_of : Option (List ℕ) → Option (List ℕ) → Option Fault
-token_fault_of None table = None
-token_fault_of (Some digits) table =
+abbrev pub token_mistake_of : Option (List ℕ) → Option (List ℕ) → Option Fault
+token_mistake_of None table = None
+token_mistake_of (Some digits) table =
     if is_ok (decode_sized digits 16) then (if is_some table then None else Some NoTable)
     else Some Digits
 
 -- what is wrong with `--token` among these words
-abbrev pub token_fault : Asked → Option Fault
-token_fault asked = token_fault_of asked.token asked.table
+abbrev pub token_mistake : Asked → Option Fault
+token_mistake asked = token_mistake_of asked.token asked.table
 
 -- What is wrong with what is asked for and needs a table: first that there is none, and then that
 -- the taps are to be listed.
-abbrev pub charge_fault_of : Fault → Fault → Bool → Bool → Option (List ℕ) → Option Fault
-charge_fault_of untabled listed false list table = None
-charge_fault_of untabled listed true list None = Some untabled
-charge_fault_of untabled listed true false (Some name) = None
-charge_fault_of untabled listed true true (Some name) = Some listed
+abbrev pub charge_mistake_of : Fault → Fault → Bool → Bool → Option (List ℕ) → Option Fault
+charge_mistake_of untabled listed false list table = None
+charge_mistake_of untabled listed true list None = Some untabled
+charge_mistake_of untabled listed true false (Some name) = None
+charge_mistake_of untabled listed true true (Some name) = Some listed
 
 -- what is wrong with settling where it is asked for
-abbrev pub settle_fault : Asked → Option Fault
-settle_fault asked =
-    charge_fault_of SettleNoTable SettleList asked.settle asked.list asked.table
+abbrev pub settle_mistake : Asked → Option Fault
+settle_mistake asked =
+    charge_mistake_of SettleNoTable SettleList asked.settle asked.list asked.table
 
 -- what is wrong with the ledger where it is asked for
-abbrev pub ledger_fault : Asked → Option Fault
-ledger_fault asked =
-    charge_fault_of LedgerNoTable LedgerList asked.ledger asked.list asked.table
+abbrev pub ledger_mistake : Asked → Option Fault
+ledger_mistake asked =
+    charge_mistake_of LedgerNoTable LedgerList asked.ledger asked.list asked.table
 
 -- What is wrong with an explained statement where it is asked for: first that there is no token,
 -- then that the taps are to be listed, and then that the ledger is asked for.
-abbrev pub explain_fault_of : Bool → Bool → Bool → Option (List ℕ) → Option Fault
-explain_fault_of false list ledger token = None
-explain_fault_of true list ledger None = Some ExplainNoToken
-explain_fault_of true true ledger (Some digits) = Some ExplainList
-explain_fault_of true false true (Some digits) = Some ExplainLedger
-explain_fault_of true false false (Some digits) = None
+abbrev pub explain_mistake_of : Bool → Bool → Bool → Option (List ℕ) → Option Fault
+explain_mistake_of false list ledger token = None
+explain_mistake_of true list ledger None = Some ExplainNoToken
+explain_mistake_of true true ledger (Some digits) = Some ExplainList
+explain_mistake_of true false true (Some digits) = Some ExplainLedger
+explain_mistake_of true false false (Some digits) = None
 
 -- what is wrong with `--explain` among them
-abbrev pub explain_fault : Asked → Option Fault
-explain_fault asked = explain_fault_of asked.explain asked.list asked.ledger asked.token
+abbrev pub explain_mistake : Asked → Option Fault
+explain_mistake asked = explain_mistake_of asked.explain asked.list asked.ledger asked.token
 
 -- the first of two faults, if there is one
 abbrev pub first_of_two : Option Fault → Option Fault → Option Fault
@@ -103,5 +103,5 @@ first_of_two (Some fault) other = Some fault
 -- then the ledger, then the explained statement
 abbrev pub mistake : Asked → Option Fault
 mistake asked =
-    first_of_two (token_fault asked) (first_of_two (settle_fault asked)
-    (first_of_two (ledger_fault asked) (explain_fault asked)))
+    first_of_two (token_mistake asked) (first_of_two (settle_mistake asked)
+    (first_of_two (ledger_mistake asked) (explain_mistake asked)))

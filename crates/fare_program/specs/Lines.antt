@@ -4,21 +4,21 @@ use Rattle.hex.specs.Hex.{encode_lower}
 use Rattle.tap_views.specs.Layout.{Tap, num}
 use Rattle.tap_views.specs.Names.{fault_name}
 use Rattle.tap_views.specs.declared.fault.LayoutFault.{LayoutFault}
-use Rattle.fare_program.specs.declared.listing.Word.{Word}
-use Rattle.fare_program.specs.declared.listing.Word.TheVariants.{Live, Stale, Unknown}
+use Rattle.fare_program.specs.declared.listing.Liveness.{Liveness}
+use Rattle.fare_program.specs.declared.listing.Liveness.TheVariants.{Live, Stale, Unknown}
 use Rattle.fare_program.specs.declared.listing.ListCounts.{ListCounts}
 
--- the word as it is printed
-abbrev pub word_text : Word → List ℕ
+-- the liveness as it is printed
+abbrev pub word_text : Liveness → List ℕ
 word_text Live = codes "live"
 word_text Stale = codes "stale"
 word_text Unknown = codes "unknown"
 
--- the number of the upload and of the tap in it, token, validator, moment and word
-unfoldable pub tap_line : ℕ → ℕ → Tap → Word → List ℕ
-tap_line upload number tap word = decimal upload ++ (codes " " ++ (decimal number ++ (codes " "
+-- the number of the upload and of the tap in it, token, validator, moment and liveness
+unfoldable pub tap_line : ℕ → ℕ → Tap → Liveness → List ℕ
+tap_line upload number tap liveness = decimal upload ++ (codes " " ++ (decimal number ++ (codes " "
     ++ (encode_lower tap.token ++ (codes " " ++ (decimal (num tap.validator) ++ (codes " "
-    ++ (decimal (num tap.moment) ++ (codes " " ++ (word_text word ++ codes "\n"))))))))))
+    ++ (decimal (num tap.moment) ++ (codes " " ++ (word_text liveness ++ codes "\n"))))))))))
 
 -- the number of the upload, the offset of the batch that was refused, and the name of its fault
 unfoldable pub refused_line : ℕ → ℕ → LayoutFault → List ℕ

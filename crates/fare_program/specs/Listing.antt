@@ -4,8 +4,8 @@ use Rattle.std.specs.Prelude.{◌++◌, length, filter, count_by, nat_lt}
 use Rattle.std.specs.List.{list_all}
 use Rattle.std.specs.Str.{bytes_eq}
 use Rattle.tap_views.specs.Layout.{Tap, num}
-use Rattle.fare_program.specs.declared.listing.Word.{Word}
-use Rattle.fare_program.specs.declared.listing.Word.TheVariants.{Live, Stale, Unknown}
+use Rattle.fare_program.specs.declared.listing.Liveness.{Liveness}
+use Rattle.fare_program.specs.declared.listing.Liveness.TheVariants.{Live, Stale, Unknown}
 use Rattle.fare_program.specs.declared.listing.ListCounts.{ListCounts}
 
 -- a tap, and whether its validator is known
@@ -34,27 +34,28 @@ abbrev pub is_live : List Listed → Listed → Bool
 is_live before tap = are_before (listed_moment tap) (known_of tap.tap.token before)
 
 -- what the listing says of a tap, after the taps before it
-abbrev pub word_of : List Listed → Listed → Word
-word_of before tap =
+abbrev pub liveness_of : List Listed → Listed → Liveness
+liveness_of before tap =
     if tap.known then (if is_live before tap then Live else Stale) else Unknown
 
--- the words of taps that follow those before
-abbrev pub words_after : List Listed → List Listed → List Word
-words_after before [] = []
-words_after before (tap ∷ taps) = word_of before tap ∷ words_after (before ++ tap ∷ []) taps
+-- the livenesses of taps that follow those before
+abbrev pub livenesses_after : List Listed → List Listed → List Liveness
+livenesses_after before [] = []
+livenesses_after before (tap ∷ taps) =
+    liveness_of before tap ∷ livenesses_after (before ++ tap ∷ []) taps
 
--- whether the two words are the same
-abbrev pub is_word : Word → Word → Bool
-is_word Live Live = true
-is_word Stale Stale = true
-is_word Unknown Unknown = true
-is_word _ _ = false
+-- whether the two livenesses are the same
+abbrev pub is_same_liveness : Liveness → Liveness → Bool
+is_same_liveness Live Live = true
+is_same_liveness Stale Stale = true
+is_same_liveness Unknown Unknown = true
+is_same_liveness _ _ = false
 
--- how many of the taps have the word
-abbrev pub count_of : Word → List Listed → ℕ
-count_of word taps = count_by (is_word word) (words_after [] taps)
+-- how many of the taps have the liveness
+abbrev pub count_of : Liveness → List Listed → ℕ
+count_of liveness taps = count_by (is_same_liveness liveness) (livenesses_after [] taps)
 
--- how many taps there are, and how many of each word
+-- how many taps there are, and how many of each liveness
 abbrev pub counts_of : List Listed → ListCounts
 counts_of taps = record {
   taps = length taps;

@@ -64,11 +64,6 @@ pub record RunsListing (table : Option (List ℕ)) (names : List (List ℕ))
   pub listing : IsListing fares files text clean
   pub written : Appends out out' text
 
--- A service of so many shards, over these files and by these fares, was run by so many workers to
--- this outcome, and the headline holds.
-abbrev pub IsRun : Fares → ℕ → ℕ → List (List ℕ) → OutcomeView → Type 0
-IsRun fares shards workers files outcome = HasRun fares shards files workers outcome
-
 -- the text is the statement of this token, explained where that is asked for
 abbrev pub ShowsStatement : Bool → Token → OutcomeView → List ℕ → Type 0
 ShowsStatement explain token outcome text =
@@ -108,7 +103,7 @@ IsTokenIn _ _ = ⊥
 pub record ShowsLive (asked : Asked) (fares : Fares) (files : List (List ℕ)) (token : Option Token)
     (text : List ℕ) (well : Bool) : Type 0 where
   pub outcome : OutcomeView
-  pub run : IsRun fares asked.shards asked.workers files outcome
+  pub run : HasRun fares asked.shards files asked.workers outcome
   pub shows : ShowsOf asked token outcome.ends outcome text
   pub is_well : well ≡ are_posted outcome.ends
   pub plain : asked.ledger ≡ false → well ≡ true

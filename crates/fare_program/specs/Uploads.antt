@@ -6,7 +6,7 @@ use Rattle.tap_views.specs.Layout.{Tap, num}
 use Rattle.tap_views.specs.Files.{IsReading, Item}
 use Rattle.fare_table.specs.Fares.{Fares, mode_at}
 use Rattle.fare_program.specs.Lines.{counts_line, refused_line, tap_line}
-use Rattle.fare_program.specs.Listing.{Listed, counts_of, listed_of, word_of}
+use Rattle.fare_program.specs.Listing.{Listed, counts_of, listed_of, liveness_of}
 
 -- Without a table every validator is known; with one, those that have a mode.
 abbrev pub is_known : Option Fares → Tap → Bool
@@ -26,7 +26,8 @@ listed_in fares (Err refused ∷ items) = listed_in fares items
 -- the lines of taps that follow those before; the first has this number in its upload
 abbrev pub tap_lines : ℕ → ℕ → List Listed → List Listed → List ℕ
 tap_lines upload number before [] = []
-tap_lines upload number before (tap ∷ taps) = tap_line upload number tap.tap (word_of before tap)
+tap_lines upload number before (tap ∷ taps) =
+    tap_line upload number tap.tap (liveness_of before tap)
     ++ tap_lines upload (number + 1) (before ++ tap ∷ []) taps
 
 -- the lines of what is given of an upload: of each batch its taps', and one for a layout fault

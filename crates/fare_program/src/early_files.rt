@@ -1,7 +1,7 @@
 //! Files that are read before they are due, several at once.
 ghost use Rattle.std.specs.Prelude.{◌≡◌, ◌<◌, ◌≤◌, ◌++◌, ◌∷◌, [], IfNone, IfSome, length};
 ghost use Rattle.std.specs.Prelude.{string_bytes};
-ghost use Rattle.fare_program.specs.inside.Ahead.{IsNotNext};
+ghost use Rattle.fare_program.specs.inside.EarlyFiles.{IsNotNext};
 
 use program_manners::LoadFault;
 use std::alloc::{AllocError, Global};
@@ -83,7 +83,7 @@ fn read_one<D: Disk>(
 }
 
 /// Reads these files, up to the first that is not whole.
-fn read_part<D: Disk>(alloc: Global, disk: &D, names: &[&str]) -> Vec<Early> {
+fn read_some<D: Disk>(alloc: Global, disk: &D, names: &[&str]) -> Vec<Early> {
     let mut part = Vec::new(alloc);
     for name in names {
         if !read_one(alloc, disk, &mut part, name).unwrap_or(false) {
@@ -93,8 +93,8 @@ fn read_part<D: Disk>(alloc: Global, disk: &D, names: &[&str]) -> Vec<Early> {
     part
 }
 
-/// Reads these files by so many threads at most, each a part of them.
-fn read_parts<R: Threads + Sync, D: Disk + Sync>(
+/// Reads these files by so many threads at most, each some of them.
+fn read_by_threads<R: Threads + Sync, D: Disk + Sync>(
     rt: &R,
     alloc: Global,
     disk: &D,
@@ -109,7 +109,7 @@ fn read_parts<R: Threads + Sync, D: Disk + Sync>(
         alloc,
         names,
         size,
-        &|_, part: &[&str]| { read_part(alloc, disk, part) },
+        &|_, part: &[&str]| { read_some(alloc, disk, part) },
     )?;
     let mut early = Vec::new(alloc);
     for mut part in parts {
@@ -133,7 +133,7 @@ pub fn read_early<R: Threads + Sync, D: Disk + Sync>(
         return Vec::new(alloc);
     }
     let names = &names[..count_early(disk, names)];
-    match read_parts(rt, alloc, disk, names, threads) {
+    match read_by_threads(rt, alloc, disk, names, threads) {
         Ok(early) => early,
         Err(_) => Vec::new(alloc),
     }

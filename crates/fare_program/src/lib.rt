@@ -4,10 +4,10 @@
 //!
 //! | module | what it does |
 //! |---|---|
-//! | `asked`, `options` | what a command line asks for; its words, as `clap` reads them |
-//! | `source`, `ahead` | whole files from a source; those that are read before their turns |
+//! | `command_line`, `options` | what a command line asks for; its words, as `clap` reads them |
+//! | `source`, `early_files` | whole files from a source; those that are read before their turns |
 //! | `host` | the system's files and standard input as a source |
-//! | `listing` | the word of each tap, from those before it |
+//! | `listing` | the liveness of each tap, from those before it |
 //! | `lines`, `uploads` | the text of a listing |
 //! | `run` | a run of the service |
 //! | `settle` | taps that are put into their one order before they are posted |

@@ -2,20 +2,20 @@
 ghost use Rattle.std.specs.Prelude.{◌≡◌, ◌++◌, OnOk, Some, string_bytes};
 ghost use Rattle.fare_program.specs.Lines.{counts_line, refused_line, tap_line, word_text};
 
-use crate::listing::{ListCounts, Word};
+use crate::listing::{ListCounts, Liveness};
 use fare_table::{NoMemory, Token};
 use fare_texts::Digits;
 use std::fmt;
 use tap_views::{LayoutFault, TapView};
 
-impl fmt::Display for Word {
-    ghost output = { λ word. Some (word_text word) };
+impl fmt::Display for Liveness {
+    ghost output = { λ liveness. Some (word_text liveness) };
 
     fn fmt<W: fmt::Write>(&self, f: &mut fmt::Formatter<W>) -> fmt::Result {
         f.write_str(match self {
-            Word::Live => "live",
-            Word::Stale => "stale",
-            Word::Unknown => "unknown",
+            Liveness::Live => "live",
+            Liveness::Stale => "stale",
+            Liveness::Unknown => "unknown",
         })
     }
 }
@@ -27,17 +27,17 @@ pub(crate) fn write_tap(
     upload: u64,
     number: u64,
     tap: &TapView,
-    word: Word,
+    liveness: Liveness,
 ) -> Result<(), NoMemory>
     ensures { OnOk result (string_bytes text.new
-        ≡ string_bytes text.old ++ tap_line upload number tap.now word) }
+        ≡ string_bytes text.old ++ tap_line upload number tap.now liveness) }
 {
     let token = Digits(Token::of(tap.token()));
     let validator = tap.validator_number();
     let moment = tap.moment_ms();
     write!(
         text,
-        "{upload} {number} {token} {validator} {moment} {word}\n"
+        "{upload} {number} {token} {validator} {moment} {liveness}\n"
     )?;
     Ok(())
 }

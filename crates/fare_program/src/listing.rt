@@ -1,14 +1,14 @@
-//! The word of each tap of a listing, from the taps before it.
+//! The liveness of each tap of a listing, from the taps before it.
 ghost use Rattle.std.specs.Prelude.{◌≡◌, ◌+◌, ◌^◌, ◌<◌, ℕ, List, [], ◌∷◌, ◌++◌, IfOk, OnOk, OnErr};
 ghost use Rattle.std.specs.Prelude.{◌&&◌, if◌then◌else◌};
 ghost use Rattle.std.specs.Str.{bytes_eq};
 ghost use Rattle.tap_views.specs.Layout.{num};
 ghost use Rattle.fare_program.specs.Listing.{Listed, counts_of};
 ghost use Rattle.fare_program.specs.inside.Listing.{StandsFor, is_after_last};
-ghost use Rattle.fare_program.specs.inside.Listing.{AddsUp, word_counted};
-ghost use Rattle.fare_program.specs.Listing.{listed_of, word_of};
+ghost use Rattle.fare_program.specs.inside.Listing.{AddsUp, liveness_counted};
+ghost use Rattle.fare_program.specs.Listing.{listed_of, liveness_of};
 ghost use Rattle.fare_program.specs.inside.Listing.{last_of};
-ghost use Rattle.fare_program.specs.inside.Listing.{last_after, word_by};
+ghost use Rattle.fare_program.specs.inside.Listing.{last_after, liveness_by};
 
 use fare_table::NoMemory;
 use std::alloc::Global;
@@ -18,7 +18,7 @@ use tap_views::TapView;
 
 /// What a listing says of a tap.
 #[derive(Clone, Copy, Debug, PartialEq, Eq)]
-pub(crate) enum Word {
+pub(crate) enum Liveness {
     /// The validator is known, and the tap is later than every known tap of its token before it.
     Live,
     /// The validator is known, and a known tap of the token with this moment or a later one came
@@ -28,7 +28,7 @@ pub(crate) enum Word {
     Unknown,
 }
 
-/// How many taps were listed, and how many with each word.
+/// How many taps were listed, and how many with each liveness.
 #[derive(Clone, Copy, Debug, PartialEq, Eq)]
 pub(crate) struct ListCounts {
     /// All taps; the other three add up to it.
@@ -50,17 +50,17 @@ impl ListCounts {
         unknown: 0,
     };
 
-    /// Counts a tap with this word.
-    fn count(&mut self, word: Word)
+    /// Counts a tap with this liveness.
+    fn count(&mut self, liveness: Liveness)
         requires sums { AddsUp self.old }
         requires room { self.old.taps < 2 ^ 127 }
-        ensures { self.new ≡ word_counted word self.old }
+        ensures { self.new ≡ liveness_counted liveness self.old }
     {
         self.taps += 1;
-        match word {
-            Word::Live => self.live += 1,
-            Word::Stale => self.stale += 1,
-            Word::Unknown => self.unknown += 1,
+        match liveness {
+            Liveness::Live => self.live += 1,
+            Liveness::Stale => self.stale += 1,
+            Liveness::Unknown => self.unknown += 1,
         }
     }
 }
@@ -94,33 +94,37 @@ fn advance(
     Ok(is_live)
 }
 
-/// The word of a tap by the last moments, of which a live tap's becomes one.
-fn word_next(
+/// The liveness of a tap by the last moments, of which a live tap's becomes one.
+fn liveness_next(
     last: &mut BTreeMap<[u8; 16], u64>,
     tap: &TapView,
     known: bool,
-) -> Result<Word, NoMemory>
-    ensures word { IfOk result (λ word. word
-        ≡ word_by last.old.entries (listed_of tap.now known)) }
-    ensures last { IfOk result (λ word. (other : List ℕ) → last_of last.new.entries other
-        ≡ last_after word tap.now.token (num tap.now.moment) last.old.entries other) }
+) -> Result<Liveness, NoMemory>
+    ensures liveness { IfOk result (λ liveness. liveness
+        ≡ liveness_by last.old.entries (listed_of tap.now known)) }
+    ensures last { IfOk result (λ liveness. (other : List ℕ) → last_of last.new.entries other
+        ≡ last_after liveness tap.now.token (num tap.now.moment) last.old.entries other) }
     ensures err { OnErr result (last.new.entries ≡ last.old.entries) }
 {
     if !known {
-        return Ok(Word::Unknown);
+        return Ok(Liveness::Unknown);
     }
     let mut token = [0u8; 16];
     token.copy_from_slice(tap.token());
     let is_live = advance(last, token, tap.moment_ms())?;
-    Ok(if is_live { Word::Live } else { Word::Stale })
+    Ok(if is_live {
+        Liveness::Live
+    } else {
+        Liveness::Stale
+    })
 }
 
-/// Gives each tap its word, from the taps that were listed before it.
+/// Gives each tap its liveness, from the taps that were listed before it.
 #[derive(Drop)]
 pub(crate) struct Listing {
     /// The moment of the last live tap of each token.
     last: BTreeMap<[u8; 16], u64>,
-    /// How many taps were listed, and with which words.
+    /// How many taps were listed, and with which livenesses.
     counts: ListCounts,
 }
 
@@ -146,23 +150,23 @@ impl Listing {
         }
     }
 
-    /// Lists one more tap, `known` where its validator is, and says its word. A listing whose
+    /// Lists one more tap, `known` where its validator is, and says its liveness. A listing whose
     /// memory was refused stays as it was.
-    pub(crate) fn add(&mut self, tap: &TapView, known: bool) -> Result<Word, NoMemory>
+    pub(crate) fn add(&mut self, tap: &TapView, known: bool) -> Result<Liveness, NoMemory>
         requires { self.old.counts.taps < 2 ^ 127 }
-        ensures word { IfOk result (λ word. (taps : List Listed) → StandsFor self.old taps
-            → word ≡ word_of taps (listed_of tap.now known)) }
+        ensures liveness { IfOk result (λ liveness. (taps : List Listed) → StandsFor self.old taps
+            → liveness ≡ liveness_of taps (listed_of tap.now known)) }
         ensures stands { OnOk result ((taps : List Listed) → StandsFor self.old taps
             → StandsFor self.new (taps ++ listed_of tap.now known ∷ [])) }
         ensures taps { OnOk result (self.new.counts.taps ≡ self.old.counts.taps + 1) }
         ensures err { OnErr result (self.new ≡ self.old) }
     {
-        let word = word_next(&mut self.last, tap, known)?;
-        self.counts.count(word);
-        Ok(word)
+        let liveness = liveness_next(&mut self.last, tap, known)?;
+        self.counts.count(liveness);
+        Ok(liveness)
     }
 
-    /// How many taps were listed, and how many with each word.
+    /// How many taps were listed, and how many with each liveness.
     pub(crate) fn counts(&self) -> ListCounts
         ensures kept { result ≡ self.now.counts }
         ensures counts { (taps : List Listed) → StandsFor self.now taps → result ≡ counts_of taps }

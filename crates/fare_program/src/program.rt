@@ -4,8 +4,8 @@ ghost use Rattle.std.specs.Prelude.{List, true, false, None, Some, IfErr, IfOk, 
 ghost use Rattle.std.specs.Prelude.{is_some, map, option_map, string_bytes};
 ghost use Rattle.clap.specs.Words.{kind_of};
 ghost use Rattle.std.specs.Io.KnownBytes.{Appends, Keeps};
-ghost use Rattle.fare_program.specs.Fault.{charge_fault_of, explain_fault, fault_text, mistake};
-ghost use Rattle.fare_program.specs.Fault.{status_of, token_fault};
+ghost use Rattle.fare_program.specs.Fault.{charge_mistake_of, explain_mistake, fault_text, mistake};
+ghost use Rattle.fare_program.specs.Fault.{status_of, token_mistake};
 ghost use Rattle.fare_program.specs.inside.Fault.{IsLoadLine, IsTableLine, IsWhyOf};
 ghost use Rattle.fare_program.specs.Options.{AsksForText, Parses, asked_by};
 ghost use Rattle.fare_program.specs.inside.Options.{asked_of};
@@ -147,8 +147,8 @@ fn load<'a, R: Threads + Sync, D: Disk + Sync, S: Source>(
 /// The token whose statement is asked for, if any: 32 hexadecimal digits, and a table to charge by.
 fn asked_token<'a>(options: &Options<'a>) -> Result<Option<Token>, Fault<'a>>
     ensures token { IfOk result (IsTokenIn (asked_of options.now).token) }
-    ensures right { OnOk result (token_fault (asked_of options.now) ≡ None) }
-    ensures fault { IfErr result (λ fault. token_fault (asked_of options.now) ≡ Some fault) }
+    ensures right { OnOk result (token_mistake (asked_of options.now) ≡ None) }
+    ensures fault { IfErr result (λ fault. token_mistake (asked_of options.now) ≡ Some fault) }
     ensures status { IfErr result (λ fault. status_of fault ≡ 2) }
 {
     let Some(digits) = options.token else {
@@ -173,9 +173,9 @@ fn check_charged<'a>(
 ) -> Result<(), Fault<'a>>
     requires untabled { status_of untabled ≡ 2 }
     requires listed { status_of listed ≡ 2 }
-    ensures right { OnOk result (charge_fault_of untabled.entry listed.entry asked
+    ensures right { OnOk result (charge_mistake_of untabled.entry listed.entry asked
         (asked_of options.now).list (asked_of options.now).table ≡ None) }
-    ensures fault { IfErr result (λ fault. charge_fault_of untabled.entry listed.entry asked
+    ensures fault { IfErr result (λ fault. charge_mistake_of untabled.entry listed.entry asked
         (asked_of options.now).list (asked_of options.now).table ≡ Some fault) }
     ensures status { IfErr result (λ fault. status_of fault ≡ 2) }
 {
@@ -194,8 +194,8 @@ fn check_charged<'a>(
 /// Looks whether the statement may be explained, where that is asked for: there is a token, and
 /// neither a listing nor the ledger is asked for.
 fn check_explain<'a>(options: &Options<'a>) -> Result<(), Fault<'a>>
-    ensures right { OnOk result (explain_fault (asked_of options.now) ≡ None) }
-    ensures fault { IfErr result (λ fault. explain_fault (asked_of options.now) ≡ Some fault) }
+    ensures right { OnOk result (explain_mistake (asked_of options.now) ≡ None) }
+    ensures fault { IfErr result (λ fault. explain_mistake (asked_of options.now) ≡ Some fault) }
     ensures status { IfErr result (λ fault. status_of fault ≡ 2) }
 {
     if !options.explain {

@@ -5,7 +5,8 @@ ghost use Rattle.fare_table.specs.declared.token.Token.{Token};
 ghost use Rattle.fare_program.specs.Fault.{status_of};
 ghost use Rattle.fare_program.specs.inside.Fault.{IsRunFailure};
 ghost use Rattle.fare_program.specs.Posted.{are_posted, is_posted};
-ghost use Rattle.fare_program.specs.Program.{IsRun, ShowsPlain};
+ghost use Rattle.fare_program.specs.Program.{ShowsPlain};
+ghost use Rattle.fare_service.specs.Headline.{HasRun};
 ghost use Rattle.fare_program.specs.inside.Program.{Shows};
 ghost use Rattle.fare_program.specs.inside.PostedFiles.{IsLive, ends_of};
 
@@ -28,8 +29,8 @@ pub(crate) fn outcome_of<'a, R: Threads + Wait + RandomSource + Sync>(
     options: &Options<'a>,
     files: &[Vec<u8>],
 ) -> Result<Outcome, Fault<'a>>
-    ensures run { IfOk result (λ outcome. IsRun table options.now.shards options.now.workers
-        (map (λ f. f.items) files.now) outcome) }
+    ensures run { IfOk result (λ outcome. HasRun table options.now.shards
+        (map (λ f. f.items) files.now) options.now.workers outcome) }
     ensures fault { IfErr result (IsRunFailure (length files.now)) }
 {
     let (service, share) = match Service::open(rt, alloc, table, options.shards, files) {
@@ -46,7 +47,7 @@ pub(crate) fn outcome_of<'a, R: Threads + Wait + RandomSource + Sync>(
 /// plain history of the files. Reads no tap and no entry.
 fn shows_plain(files: &[Vec<u8>], outcome: &Outcome)
     ensures { (fares : Fares) (shards workers : ℕ) (explain : Bool) (token : Option Token)
-        (text : List ℕ) → IsRun fares shards workers (map (λ f. f.items) files.now) outcome.now
+        (text : List ℕ) → HasRun fares shards (map (λ f. f.items) files.now) workers outcome.now
         → are_posted outcome.now.ends ≡ true → Shows explain token outcome.now text
         → ShowsPlain explain fares (map (λ f. f.items) files.now) token text }
 {

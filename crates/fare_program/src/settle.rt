@@ -2,7 +2,7 @@
 ghost use Rattle.std.specs.Prelude.{◌≡◌, All, IfErr, IfOk, map};
 ghost use Rattle.fare_service.specs.Plain.{WasNotCut};
 ghost use Rattle.fare_program.specs.Fault.{status_of};
-ghost use Rattle.fare_program.specs.Program.{IsRun};
+ghost use Rattle.fare_service.specs.Headline.{HasRun};
 ghost use Rattle.fare_program.specs.inside.Settling.{IsOutcomeOf};
 ghost use Rattle.fare_program.specs.inside.PostedFiles.{ends_of};
 
@@ -11,7 +11,7 @@ use crate::options::Options;
 use crate::posting::Posted;
 use crate::run::outcome_of;
 use fare_service::Outcome;
-use fare_service::laws::ended_whole;
+use fare_service::laws::none_was_cut;
 use fare_table::FareTable;
 use settlement::{Settled, laws, settle};
 use std::alloc::Global;
@@ -22,20 +22,20 @@ use std::thread::Threads;
 
 /// Runs the service over these uploads. There is no outcome of a part of them: where memory cut
 /// one, it is want of memory.
-fn whole_outcome_of<'a, R: Threads + Wait + RandomSource + Sync>(
+fn uncut_outcome_of<'a, R: Threads + Wait + RandomSource + Sync>(
     rt: &R,
     alloc: Global,
     table: FareTable,
     options: &Options<'a>,
     files: &[Vec<u8>],
 ) -> Result<Outcome, Fault<'a>>
-    ensures run { IfOk result (λ outcome. IsRun table options.now.shards options.now.workers
-        (map (λ f. f.items) files.now) outcome) }
+    ensures run { IfOk result (λ outcome. HasRun table options.now.shards
+        (map (λ f. f.items) files.now) options.now.workers outcome) }
     ensures whole { IfOk result (λ outcome. All WasNotCut outcome.ends) }
     ensures status { IfErr result (λ fault. status_of fault ≡ 1) }
 {
     let outcome = outcome_of(rt, alloc, table, options, files)?;
-    if !ended_whole(&outcome) {
+    if !none_was_cut(&outcome) {
         return Err(Fault::NoMemory);
     }
     Ok(outcome)
@@ -57,7 +57,7 @@ pub(crate) fn post_settled<'a, R: Threads + Wait + RandomSource + Sync>(
 {
     let Settled { ends, files } = settle(rt, alloc, files)?;
     let settled = files.as_slice();
-    let outcome = whole_outcome_of(rt, alloc, table, options, settled)?;
+    let outcome = uncut_outcome_of(rt, alloc, table, options, settled)?;
     // proof: the outcome tells the settled history of the files that were given
     laws::settled(settled, &outcome);
     Ok(Posted {

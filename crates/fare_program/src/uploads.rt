@@ -37,8 +37,8 @@ fn list_tap(
         (listed (option_copied table.entry) tap.now ∷ [])) }
     ensures taps { OnOk result (listing.new.counts.taps ≡ listing.old.counts.taps + 1) }
 {
-    let word = listing.add(tap, is_known(table, tap))?;
-    write_tap(text, upload, number, tap, word)
+    let liveness = listing.add(tap, is_known(table, tap))?;
+    write_tap(text, upload, number, tap, liveness)
 }
 
 /// Lists the taps of a batch, the first of which has this number in its upload.

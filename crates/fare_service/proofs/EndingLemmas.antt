@@ -27,7 +27,7 @@ use Rattle.fare_service.specs.Runs.{PlacedTap, placed_from, of_shard, Run, run, 
 use Rattle.fare_service.specs.inside.Runs.{visits_to}
 use Rattle.fare_service.specs.ServiceView.{ServiceView, shards_of}
 use Rattle.fare_service.specs.ShareView.{ShareView}
-use Rattle.fare_service.specs.Shares.{Worked, done_of, all_visits, file_at, IsEndOf, IsFresh, IsShareOf, IsWorkOf, Keeps, own_at, marks_at, books_of}
+use Rattle.fare_service.specs.Shares.{Worked, done_of, all_visits, file_at, IsEndOf, IsFresh, IsShareOf, IsWorkOf, KeepsWorks, own_at, marks_at, books_of}
 use Rattle.fare_service.specs.Stopping.{SomeFull, MayGoOn, WasCut, StoppedWell, HaveStopped, FullIsMade, is_cut, cuts, posting}
 use Rattle.fare_service.specs.inside.Stopping.{WorkedOn}
 use Rattle.fare_service.specs.inside.Closing.{IsClosedWork}
@@ -85,7 +85,7 @@ no_work : (done : List Worked) → map done_of done ≡ [] → done ≡ []
 no_work [] none = refl
 no_work (w ∷ done) none = absurd (cc)
 
-stops : (service : ServiceView) (old new : ShareView) (done : List Worked) → IsFresh old → Keeps service new done → WorkedOn service old new → Stops service new done
+stops : (service : ServiceView) (old new : ShareView) (done : List Worked) → IsFresh old → KeepsWorks service new done → WorkedOn service old new → Stops service new done
 stops service old new done fresh kept w = by_stop w.stopped
   where
     idle : map done_of done ≡ [] → Stops service new done
@@ -117,7 +117,7 @@ stops service old new done fresh kept w = by_stop w.stopped
     by_stop (inl same) = idle (sym kept.done ∙ (ap (λ (s : ShareView). s.done) same ∙ fresh.done))
     by_stop (inr s) = by_last s.before s.last (sym kept.done ∙ (s.worked.done ∙ ap (λ ds. ds ++ map done_of (s.before ++ option_to_list s.last)) fresh.done)) s.went_on s.stopped
 
-pub all_stop : (service : ServiceView) (olds news : List ShareView) (works : List (List Worked)) → All IsFresh olds → AllZip (WorkedOn service) olds news → AllZip (Keeps service) news works → AllZip (Stops service) news works
+pub all_stop : (service : ServiceView) (olds news : List ShareView) (works : List (List Worked)) → All IsFresh olds → AllZip (WorkedOn service) olds news → AllZip (KeepsWorks service) news works → AllZip (Stops service) news works
 all_stop service [] [] [] fresh worked kept = tt
 all_stop service [] [] (done ∷ works) fresh worked kept = absurd kept
 all_stop service [] (new ∷ news) works fresh worked kept = absurd worked
@@ -252,7 +252,7 @@ to_few : (shard : ℕ) (visits : List RunVisit) → length (entries_to shard vis
 to_few shard visits = omega (arith, length-map (visits_to shard visits) (λ (v : RunVisit). v.entries), length-filter (λ (v : RunVisit). v.shard == shard) visits, count_by-le-length (λ (v : RunVisit). v.shard == shard) visits)
 
 -- the visits to a shard that shares hold are not more than all that their workers made
-held_few : (service : ServiceView) (shard : ℕ) (news : List ShareView) (works : List (List Worked)) → AllZip (Keeps service) news works → visits_held shard news ≤ sum_by (λ done. length (all_visits done)) works
+held_few : (service : ServiceView) (shard : ℕ) (news : List ShareView) (works : List (List Worked)) → AllZip (KeepsWorks service) news works → visits_held shard news ≤ sum_by (λ done. length (all_visits done)) works
 held_few service shard [] [] kept = omega arith
 held_few service shard [] (done ∷ works) kept = absurd kept
 held_few service shard (new ∷ news) [] kept = absurd kept

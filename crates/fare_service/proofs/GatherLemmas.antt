@@ -26,12 +26,12 @@ use Rattle.fare_service.specs.inside.Joining.{Belongs, told, told_all}
 use Rattle.fare_service.specs.Outcomes.{OutcomeView}
 use Rattle.fare_service.specs.inside.Outcomes.{IsOutcome}
 use Rattle.fare_service.specs.Runs.{entries_of}
-use Rattle.fare_service.specs.Shares.{Worked, all_visits, all_works, done_of, file_at, IsWorked, IsWorkOf, Keeps, IsShareOf, IsEndOf}
+use Rattle.fare_service.specs.Shares.{Worked, all_visits, all_works, done_of, file_at, IsWorked, IsWorkOf, KeepsWorks, IsShareOf, IsEndOf}
 use Rattle.fare_service.proofs.GatheredWork.{Given, given_of, IsBookOfWork, IsGathered}
 
 -- what each share keeps
 abbrev Kept : ServiceView → List ShareView → List (List Worked) → Type 0
-Kept service shares works = AllZip (Keeps service) shares works
+Kept service shares works = AllZip (KeepsWorks service) shares works
 
 pub keepings : (service : ServiceView) (shares : List ShareView) → All (IsShareOf service) shares → (works : List (List Worked)) × Kept service shares works
 keepings service [] all = ([], tt)
@@ -77,13 +77,13 @@ kept_length service (s ∷ shares) [] kept = absurd kept
 kept_length service (s ∷ shares) (w ∷ works) kept = ap suc (kept_length service shares works kept.1)
 
 kept_at : (service : ServiceView) (shares : List ShareView) (works : List (List Worked)) (worker : ℕ) (done : List Worked) → Kept service shares works → slice_get works worker ≡ Some done
-    → (share : ShareView) × (slice_get shares worker ≡ Some share) × Keeps service share done
+    → (share : ShareView) × (slice_get shares worker ≡ Some share) × KeepsWorks service share done
 kept_at service [] [] worker done kept at = absurd (cc)
 kept_at service [] (w ∷ works) worker done kept at = absurd kept
 kept_at service (s ∷ shares) [] worker done kept at = absurd kept
 kept_at service (s ∷ shares) (w ∷ works) zero done kept at =
     let same : w ≡ done = cc in
-    let K : List Worked → Type 0 = Keeps service s in
+    let K : List Worked → Type 0 = KeepsWorks service s in
     (s, refl, subst K same kept.0)
 kept_at service (s ∷ shares) (w ∷ works) (suc worker) done kept at = kept_at service shares works worker done kept.1 at
 
@@ -216,7 +216,7 @@ gathered books ends workers totals = record { books = books; ends = ends; worker
 
 -- what was gathered of shares, by what each keeps
 abbrev pub HasGathered : ServiceView → List ShareView → OutcomeView → Type 0
-HasGathered service shares outcome = (works : List (List Worked)) × AllZip (Keeps service) shares works × IsGathered (given_of service) works outcome
+HasGathered service shares outcome = (works : List (List Worked)) × AllZip (KeepsWorks service) shares works × IsGathered (given_of service) works outcome
 
 pub has_gathered : (service : ServiceView) → IsService service → (shares : List ShareView) → All (IsShareOf service) shares → (closed : List Book) → IsClosedWork service.books shares closed
     → (ends : List UploadEnd) → ends ≡ told_all (replicate (length service.uploads) Undrawn) shares → length ends ≡ length service.uploads

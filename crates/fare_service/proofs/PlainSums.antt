@@ -20,7 +20,7 @@ use Rattle.shard_book.specs.Rising.{rising, IsRising}
 use Rattle.shard_book.specs.Sums.{sums, sums_of_replies, is_paid, is_transfer, is_capped, is_stale, is_unknown}
 use Rattle.fare_table.specs.Token.{bytes_of, token_cmp, token_eq}
 use Rattle.fare_service.specs.Outcomes.{OutcomeView}
-use Rattle.fare_service.specs.Plain.{HasOneReading, IsWholeGathering, IsReportOver}
+use Rattle.fare_service.specs.Plain.{HasOneReading, IsUncutGathering, IsReportOver}
 use Rattle.fare_service.specs.Printed.{report_of, report_with}
 use Rattle.fare_service.specs.Text.{report}
 use Rattle.fare_service.specs.declared.upload_end.UploadEnd.{UploadEnd}
@@ -113,7 +113,7 @@ own_elsewhere token shard shards (entry ∷ entries) here apart =
 abbrev pub AllHere : OutcomeView → Type 0
 AllHere outcome = (shard : ℕ) (book : Book) → slice_get outcome.books shard ≡ Some book → AreOfShard book.shard book.shards book.entries
 
-module _ (given : Given) (outcome : OutcomeView) (history : List Entry) (some : 0 < length outcome.books) (named : AllNamed outcome) (here : AllHere outcome) (cuts : All HasOneReading given.uploads) (w : IsWholeGathering given.table given.shards given.uploads outcome history) where
+module _ (given : Given) (outcome : OutcomeView) (history : List Entry) (some : 0 < length outcome.books) (named : AllNamed outcome) (here : AllHere outcome) (cuts : All HasOneReading given.uploads) (w : IsUncutGathering given.table given.shards given.uploads outcome history) where
   -- the entries of a token in all books are those of the plain history
   pub own_all : (token : Token) → own token (all_entries outcome.books) ≡ own token history
   own_all token =

@@ -19,7 +19,7 @@ use Rattle.shard_book.specs.Statement.{IsStatement}
 use Rattle.shard_book.specs.Sums.{sums}
 use Rattle.fare_table.specs.Token.{bytes_of}
 use Rattle.fare_service.specs.Outcomes.{OutcomeView}
-use Rattle.fare_service.specs.Plain.{AreTapsOf, AreTapsOfEach, HasOneReading, IsNamed, IsPlain, IsWholeGathering, IsStatementOver, plain}
+use Rattle.fare_service.specs.Plain.{AreTapsOf, AreTapsOfEach, HasOneReading, IsNamed, IsPlain, IsUncutGathering, IsStatementOver, plain}
 use Rattle.fare_service.specs.Printed.{IsStatementOf}
 use Rattle.fare_texts.specs.StatementText.{IsStatementText}
 use Rattle.fare_service.proofs.HeadlineLemmas.{gathered_of}
@@ -60,7 +60,7 @@ legal_plain fares files history is =
 abbrev pub AllNamed : OutcomeView → Type 0
 AllNamed outcome = (shard : ℕ) (book : Book) → slice_get outcome.books shard ≡ Some book → All IsNamed book.entries
 
-pub stands : (given : Given) (outcome : OutcomeView) (history : List Entry) → 0 < length outcome.books → AllNamed outcome → All HasOneReading given.uploads → (w : IsWholeGathering given.table given.shards given.uploads outcome history)
+pub stands : (given : Given) (outcome : OutcomeView) (history : List Entry) → 0 < length outcome.books → AllNamed outcome → All HasOneReading given.uploads → (w : IsUncutGathering given.table given.shards given.uploads outcome history)
     → Stands given w.works outcome w.plain_is.taps
 stands given outcome history some named cuts w = record {
   gathered = gathered_of given w.works outcome w.headline;
@@ -72,7 +72,7 @@ stands given outcome history some named cuts w = record {
 }
 
 -- the entries of a token in the book of its shard are those of the plain history
-pub same_own : (given : Given) (outcome : OutcomeView) (history : List Entry) → 0 < length outcome.books → AllNamed outcome → All HasOneReading given.uploads → IsWholeGathering given.table given.shards given.uploads outcome history
+pub same_own : (given : Given) (outcome : OutcomeView) (history : List Entry) → 0 < length outcome.books → AllNamed outcome → All HasOneReading given.uploads → IsUncutGathering given.table given.shards given.uploads outcome history
     → (token : Token) (book : Book) → slice_get outcome.books (shard_of_token (bytes_of token) (length outcome.books)) ≡ Some book → own token book.entries ≡ own token history
 same_own given outcome history some named cuts w token book at =
     let S : ℕ → Type 0 = λ n. slice_get outcome.books (shard_of_token (bytes_of token) n) ≡ Some book in
@@ -90,7 +90,7 @@ statement_same fares xs ys token statement same is = record {
 }
 
 -- the text of a token's statement is that over the plain history
-pub same_statement : (given : Given) (outcome : OutcomeView) (history : List Entry) → 0 < length outcome.books → AllNamed outcome → All HasOneReading given.uploads → IsWholeGathering given.table given.shards given.uploads outcome history
+pub same_statement : (given : Given) (outcome : OutcomeView) (history : List Entry) → 0 < length outcome.books → AllNamed outcome → All HasOneReading given.uploads → IsUncutGathering given.table given.shards given.uploads outcome history
     → (token : Token) (text : List ℕ) → IsStatementOf outcome token text ↔ IsStatementOver given.table history token text
 same_statement given outcome history some named cuts w token text = (there, back)
   where

@@ -14,7 +14,7 @@ use Rattle.fare_service.specs.Claims.{claims_at, left_share}
 use Rattle.fare_service.specs.ServiceView.{ServiceView, shards_of}
 use Rattle.fare_service.specs.ShareView.{ShareView}
 use Rattle.fare_service.specs.Runs.{RunVisit, entries_to, entries_of}
-use Rattle.fare_service.specs.Shares.{Worked, all_visits, done_of, IsWorked, Keeps, IsShareOf, IsFresh, HasWorked, WentOn, Made, own_at, own_visits, books_of}
+use Rattle.fare_service.specs.Shares.{Worked, all_visits, done_of, IsWorked, KeepsWorks, IsShareOf, IsFresh, HasWorked, WentOn, Made, own_at, own_visits, books_of}
 use Rattle.fare_service.specs.inside.Shares.{worked}
 use Rattle.fare_service.proofs.VisitLemmas.{made_none, made_more, entries_to-append, sums-append, own-others, no_taps}
 
@@ -64,7 +64,7 @@ pub went_on_more : (service : ServiceView) (a b c : ShareView) → WentOn servic
 went_on_more service a b c (xs, p) (ys, q) = (xs ++ ys, worked_more service a b c xs ys p q)
 
 -- what a share keeps after it went on
-pub keeps_more : (service : ServiceView) (old new : ShareView) (works more : List Worked) → Keeps service old works → HasWorked service old new more → Keeps service new (works ++ more)
+pub keeps_more : (service : ServiceView) (old new : ShareView) (works more : List Worked) → KeepsWorks service old works → HasWorked service old new more → KeepsWorks service new (works ++ more)
 keeps_more service old new works more k h = record {
   each = All-append (IsWorked service) works more k.each h.each;
   drawn = h.drawn ∙ (ap (λ ds. ds ++ map (λ w. w.upload) more) k.drawn ∙ sym (map-append (λ w. w.upload) works more));

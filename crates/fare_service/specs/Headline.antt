@@ -17,7 +17,7 @@ use Rattle.fare_service.specs.ShareView.{ShareView}
 use Rattle.fare_service.specs.Outcomes.{OutcomeView}
 use Rattle.fare_service.specs.Placing.{StandOnce}
 use Rattle.fare_service.specs.Runs.{entries_to}
-use Rattle.fare_service.specs.Shares.{Worked, all_works, all_visits, IsWorkOf, Keeps}
+use Rattle.fare_service.specs.Shares.{Worked, all_works, all_visits, IsWorkOf, KeepsWorks}
 
 -- a visit to a shard's book, and the worker that made it
 pub record Signed : Type 0 where
@@ -85,7 +85,7 @@ HasRun fares shards files workers outcome =
 -- the headline, for what the workers of these shares of a service did
 abbrev pub HasOutcome : ServiceView → List ShareView → OutcomeView → Type 0
 HasOutcome service shares outcome =
-    (works : List (List Worked)) × AllZip (Keeps service) shares works
+    (works : List (List Worked)) × AllZip (KeepsWorks service) shares works
     × Headline service.table (shards_of service) service.uploads works outcome
 
 -- an upload that nobody drew: no share has seen it drawn. Uploads are drawn in their order, so

@@ -118,7 +118,7 @@ HasOneReading file =
 
 -- The headline holds, no upload was cut or left undrawn, and no token has taps in two uploads. The
 -- history is the plain one of the uploads.
-pub record IsWholeGathering (fares : Fares) (shards : ℕ) (uploads : List (List ℕ))
+pub record IsUncutGathering (fares : Fares) (shards : ℕ) (uploads : List (List ℕ))
     (outcome : OutcomeView) (history : List Entry) : Type 0 where
   pub works : List (List Worked)
   pub headline : Headline fares shards uploads works outcome

@@ -95,7 +95,8 @@ abbrev pub IsWorked : ServiceView → Worked → Type 0
 IsWorked service = IsWorkOf (shards_of service) service.uploads
 
 -- the share keeps what was done for these uploads, in the order in which it drew them
-pub record Keeps (service : ServiceView) (share : ShareView) (works : List Worked) : Type 0 where
+pub record KeepsWorks (service : ServiceView) (share : ShareView) (works : List Worked)
+    : Type 0 where
   pub each : All (IsWorked service) works
   pub drawn : share.drawer.drawn ≡ map (λ w. w.upload) works
   pub done : share.done ≡ map done_of works
@@ -107,7 +108,7 @@ pub record IsShareOf (service : ServiceView) (share : ShareView) : Type 0 where
   pub drawer : share.drawer.drawn_from ≡ service.drawing
   pub passes : books_of share.passes ≡ service.books
   pub works : List Worked
-  pub keeps : Keeps service share works
+  pub keeps : KeepsWorks service share works
   pub room : share.totals.taps ≤ 2 ^ 60 * length works
 
 -- nothing was done with the share yet

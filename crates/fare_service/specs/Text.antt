@@ -53,19 +53,20 @@ abbrev pub token_line : Token × Sums → List ℕ
 token_line sum = (codes "token " ++ (encode_lower (bytes_of sum.0) ++ codes " ")) ++ counts sum.1
 
 -- the uploads of a report
-abbrev pub uploads_part : List UploadEnd → List ℕ
-uploads_part ends = uploads_head (length ends) ++ upload_lines 0 ends
+abbrev pub uploads_section : List UploadEnd → List ℕ
+uploads_section ends = uploads_head (length ends) ++ upload_lines 0 ends
 
 -- the validators of a report
-abbrev pub validators_part : List (ℕ × Sums) → List ℕ
-validators_part sums = validators_head (length sums) ++ flat_map validator_line sums
+abbrev pub validators_section : List (ℕ × Sums) → List ℕ
+validators_section sums = validators_head (length sums) ++ flat_map validator_line sums
 
 -- the tokens of a report
-abbrev pub tokens_part : List (Token × Sums) → List ℕ
-tokens_part sums = tokens_head (length sums) ++ flat_map token_line sums
+abbrev pub tokens_section : List (Token × Sums) → List ℕ
+tokens_section sums = tokens_head (length sums) ++ flat_map token_line sums
 
 -- the report: the end of each upload, the totals, the sums of each validator and those of each
 -- token
 abbrev pub report : List UploadEnd → Sums → List (ℕ × Sums) → List (Token × Sums) → List ℕ
 report ends totals validators tokens =
-    uploads_part ends ++ (totals_line totals ++ (validators_part validators ++ tokens_part tokens))
+    uploads_section ends
+    ++ (totals_line totals ++ (validators_section validators ++ tokens_section tokens))

@@ -5,5 +5,5 @@ mod schedules;
 
 pub use places::{posted_taps, posting_order};
 pub use schedules::{
-    ended_whole, ends, names, one_reading_each, plain_history, report, same_texts, statements,
+    ends, names, none_was_cut, one_reading_each, plain_history, report, same_texts, statements,
 };

@@ -4,7 +4,7 @@ use crate::faults::OpenFault;
 use crate::service::shard_books::open_books;
 use crate::service::share::{Posting, Share};
 use fare_table::{FareTable, NoMemory};
-use shard_book::{TokenKeys, Totals};
+use shard_book::{HashSeed, Totals};
 use shared_books::{Draw, SharedBook};
 use std::alloc::Global;
 use std::marker::Model;
@@ -91,9 +91,9 @@ impl<'a> Service<'a> {
         if uploads.len() > MAX_UPLOADS {
             return Err(OpenFault::Uploads);
         }
-        let keys = TokenKeys::new(rt)?;
+        let seed = HashSeed::new(rt)?;
         let (draw, drawer) = Draw::new(alloc, uploads.len() as u32)?;
-        let (books, passes) = open_books(alloc, keys, &table, shards)?;
+        let (books, passes) = open_books(alloc, seed, &table, shards)?;
         let service = Service {
             table,
             draw,

@@ -1,5 +1,5 @@
-pub mod ChainLemmas
-pub mod EntryLemmas
+pub mod ApartLemmas
+pub mod ElementLemmas
 pub mod FaultLemmas
 pub mod MaskLemmas
 pub mod MemberLemmas

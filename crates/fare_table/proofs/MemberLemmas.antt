@@ -23,9 +23,9 @@ each_item_is_table (value ∷ more) = ap (λ rest. is_table value && rest) (each
 pub each_is_table : (entries : List (String Global × Value))
     → list_all is_table (values_of entries) ≡ hold_tables (members_view entries)
 each_is_table [] = refl
-each_is_table (entry ∷ more) = ap (λ rest. is_table entry.1 && rest) (each_is_table more)
+each_is_table (element ∷ more) = ap (λ rest. is_table element.1 && rest) (each_is_table more)
 
 pub each_is_string : (entries : List (String Global × Value))
     → list_all is_string (values_of entries) ≡ hold_strings (members_view entries)
 each_is_string [] = refl
-each_is_string (entry ∷ more) = ap (λ rest. is_string entry.1 && rest) (each_is_string more)
+each_is_string (element ∷ more) = ap (λ rest. is_string element.1 && rest) (each_is_string more)

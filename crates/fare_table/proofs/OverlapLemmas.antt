@@ -13,8 +13,8 @@ use Rattle.std.specs.Cmp.{nat_cmp_is}
 use Rattle.std.specs.Ordering.{nat_cmp, is_lt, match_ordering}
 use Rattle.std.specs.Prelude.{nat_le, nat_lt}
 use Rattle.std.specs.declared.ops.Bound.TheVariants.{Unbounded, Included}
-use Rattle.fare_table.proofs.ChainLemmas.{AreApart, apart, or_twice}
-use Rattle.fare_table.specs.Validators.{are_modes_below, is_chain, share_number}
+use Rattle.fare_table.proofs.ApartLemmas.{AreApart, apart, or_twice}
+use Rattle.fare_table.specs.Validators.{are_modes_below, stand_apart, share_number}
 use Rattle.fare_table.specs.inside.Validators.{last_begun}
 use Rattle.fare_table.specs.declared.validators.Span.{Span}
 
@@ -34,8 +34,8 @@ last_of-append (y ∷ ys) x = rw (last_of-append ys x)
 abbrev pub begun : ℕ → List (ℕ × Span) → List (ℕ × Span)
 begun n ranges = entries_between nat_cmp Unbounded (Included n) ranges
 
-alone : (range : ℕ × Span) → is_chain (range ∷ []) ≡ true → range.0 ≤ range.1.last
-alone range chain = leb-true _ _ chain
+alone : (range : ℕ × Span) → stand_apart (range ∷ []) ≡ true → range.0 ≤ range.1.last
+alone range stands = leb-true _ _ stands
 
 not_past : (n q : ℕ) → not (is_lt (nat_cmp n q)) ≡ nat_le q n
 not_past n q = grind (arith, nat_tests)
@@ -51,11 +51,11 @@ begun_step n range more after rest =
     let past : nat_le range.0 n ≡ false = grind (arith, nat_tests) in
     begun_cons n range more ∙ rw (past, rest)
 
-begun_none : (n : ℕ) (range : ℕ × Span) (more : List (ℕ × Span)) → is_chain (range ∷ more) ≡ true
+begun_none : (n : ℕ) (range : ℕ × Span) (more : List (ℕ × Span)) → stand_apart (range ∷ more) ≡ true
     → n < range.0 → begun n (range ∷ more) ≡ []
-begun_none n range [] chain after = begun_step n range [] after refl
-begun_none n range (next ∷ more) chain after =
-    let two = apart range next more chain in
+begun_none n range [] stands after = begun_step n range [] after refl
+begun_none n range (next ∷ more) stands after =
+    let two = apart range next more stands in
     let later : n < next.0 = omega (arith, two.begins, two.ends) in
     begun_step n range (next ∷ more) after (begun_none n next more two.rest later)
 
@@ -67,24 +67,24 @@ and_true : (b : Bool) → (b && true) ≡ b
 and_true true = refl
 and_true false = refl
 
-pub rest_chain : (range : ℕ × Span) (more : List (ℕ × Span)) → is_chain (range ∷ more) ≡ true
-    → is_chain more ≡ true
-rest_chain range [] chain = refl
-rest_chain range (next ∷ more) chain = (apart range next more chain).rest
+pub rest_stands : (range : ℕ × Span) (more : List (ℕ × Span)) → stand_apart (range ∷ more) ≡ true
+    → stand_apart more ≡ true
+rest_stands range [] stands = refl
+rest_stands range (next ∷ more) stands = (apart range next more stands).rest
 
 -- what a map's range up to a number ends with
-pub last_begun-begun : (n : ℕ) (ranges : List (ℕ × Span)) → is_chain ranges ≡ true
+pub last_begun-begun : (n : ℕ) (ranges : List (ℕ × Span)) → stand_apart ranges ≡ true
     → last_of (begun n ranges) ≡ last_begun n ranges
-last_begun-begun n [] chain = refl
-last_begun-begun n (range ∷ more) chain = elim (leb_tells range.0 n) [
-  | inl a ↦ rw (begun_cons n range more, a.0, last_begun-begun n more (rest_chain range more chain))
-  | inr a ↦ rw (begun_none n range more chain a.1, a.0)
+last_begun-begun n [] stands = refl
+last_begun-begun n (range ∷ more) stands = elim (leb_tells range.0 n) [
+  | inl a ↦ rw (begun_cons n range more, a.0, last_begun-begun n more (rest_stands range more stands))
+  | inr a ↦ rw (begun_none n range more stands a.1, a.0)
 ]
 
-pub ends_after : (range : ℕ × Span) (more : List (ℕ × Span)) → is_chain (range ∷ more) ≡ true
+pub ends_after : (range : ℕ × Span) (more : List (ℕ × Span)) → stand_apart (range ∷ more) ≡ true
     → range.0 ≤ range.1.last
-ends_after range [] chain = alone range chain
-ends_after range (next ∷ more) chain = (apart range next more chain).begins
+ends_after range [] stands = alone range stands
+ends_after range (next ∷ more) stands = (apart range next more stands).begins
 
 -- the range reaches back to the number
 abbrev pub reaches : ℕ → Option (ℕ × Span) → Bool
@@ -92,12 +92,12 @@ reaches number None = false
 reaches number (Some range) = nat_le number range.1.last
 
 -- the last range that begins no later than a number reaches any number that an earlier one reaches
-reached : (x n : ℕ) (range : ℕ × Span) (more : List (ℕ × Span)) → is_chain (range ∷ more) ≡ true
+reached : (x n : ℕ) (range : ℕ × Span) (more : List (ℕ × Span)) → stand_apart (range ∷ more) ≡ true
     → nat_le range.0 n ≡ true → x ≤ range.1.last
     → reaches x (last_begun n (range ∷ more)) ≡ true
-reached x n range [] chain here back = rw here (le-leb _ _ back)
-reached x n range (next ∷ more) chain here back =
-    let two = apart range next more chain in
+reached x n range [] stands here back = rw here (le-leb _ _ back)
+reached x n range (next ∷ more) stands here back =
+    let two = apart range next more stands in
     elim (leb_tells next.0 n) [
       | inl a ↦
           let further : next.0 ≤ next.1.last = ends_after next more two.rest in
@@ -152,23 +152,23 @@ shares_step range other next more order two ih back (inl a) (inr d) =
 -- a range shares a number with one of those that stand apart where the last one that begins no
 -- later than it ends reaches back to it
 pub shares-last_begun : (range : ℕ × Span) (ranges : List (ℕ × Span)) → range.0 ≤ range.1.last
-    → is_chain ranges ≡ true
+    → stand_apart ranges ≡ true
     → list_any (share_number range) ranges ≡ reaches range.0 (last_begun range.1.last ranges)
-shares-last_begun range [] order chain = refl
-shares-last_begun range (other ∷ []) order chain = elim (leb_tells other.0 range.1.last) [
+shares-last_begun range [] order stands = refl
+shares-last_begun range (other ∷ []) order stands = elim (leb_tells other.0 range.1.last) [
   | inl a ↦ rw (a.0, and_true (nat_le range.0 other.1.last), or-false (nat_le range.0 other.1.last))
   | inr a ↦ rw (a.0, and_false (nat_le range.0 other.1.last))
 ]
-shares-last_begun range (other ∷ next ∷ more) order chain =
-    shares_step range other next more order (apart other next more chain)
-    (shares-last_begun range (next ∷ more) order (rest_chain other (next ∷ more) chain))
+shares-last_begun range (other ∷ next ∷ more) order stands =
+    shares_step range other next more order (apart other next more stands)
+    (shares-last_begun range (next ∷ more) order (rest_stands other (next ∷ more) stands))
     (leb_tells range.0 other.1.last) (leb_tells other.0 range.1.last)
     (leb_tells next.0 range.1.last)
 
-cons_chain : (range next : ℕ × Span) (more : List (ℕ × Span)) → range.0 ≤ range.1.last
-    → range.1.last < next.0 → is_chain (next ∷ more) ≡ true
-    → is_chain (range ∷ next ∷ more) ≡ true
-cons_chain range next more begins ends rest =
+cons_stands : (range next : ℕ × Span) (more : List (ℕ × Span)) → range.0 ≤ range.1.last
+    → range.1.last < next.0 → stand_apart (next ∷ more) ≡ true
+    → stand_apart (range ∷ next ∷ more) ≡ true
+cons_stands range next more begins ends rest =
     let first : nat_le range.0 range.1.last ≡ true = grind (arith, nat_tests) in
     let second : nat_lt range.1.last next.0 ≡ true = grind (arith, nat_tests) in
     rw (first, second, rest)
@@ -205,59 +205,59 @@ one_after : (range other : ℕ × Span) (more : List (ℕ × Span)) → nat_cmp 
 unfolding with_one
 one_after range other more greater = rw greater
 
--- before a chain that goes on with a new range stands a range that ends before both
+-- before ranges that go on with a new one stands a range that ends before both
 cons_with_one : (first range next : ℕ × Span) (more : List (ℕ × Span)) → first.0 ≤ first.1.last
     → first.1.last < range.0 → first.1.last < next.0
     → range.0 ≤ range.1.last → next.0 ≤ next.1.last → share_number range next ≡ false
-    → is_chain (with_one range (next ∷ more)) ≡ true
-    → is_chain (first ∷ with_one range (next ∷ more)) ≡ true
-cons_with_one first range next more begins ends further order onward free chain =
+    → stand_apart (with_one range (next ∷ more)) ≡ true
+    → stand_apart (first ∷ with_one range (next ∷ more)) ≡ true
+cons_with_one first range next more begins ends further order onward free stands =
     elim (free_apart range next free) [
       | inl a ↦
           let same = one_before range next more (comes_before range next order a) in
-          rw same (cons_chain first range (next ∷ more) begins ends (rw same at chain))
+          rw same (cons_stands first range (next ∷ more) begins ends (rw same at stands))
       | inr a ↦
           let same = one_after range next more (comes_after range next onward a) in
-          rw same (cons_chain first next (with_one range more) begins further (rw same at chain))
+          rw same (cons_stands first next (with_one range more) begins further (rw same at stands))
     ]
 
-chain-with_one : (range other : ℕ × Span) (more : List (ℕ × Span)) → range.0 ≤ range.1.last
-    → is_chain (other ∷ more) ≡ true
+stands-with_one : (range other : ℕ × Span) (more : List (ℕ × Span)) → range.0 ≤ range.1.last
+    → stand_apart (other ∷ more) ≡ true
     → list_any (share_number range) (other ∷ more) ≡ false
-    → is_chain (with_one range (other ∷ more)) ≡ true
+    → stand_apart (with_one range (other ∷ more)) ≡ true
 unfolding with_one
-chain-with_one range other [] order chain free =
-    let begins : other.0 ≤ other.1.last = alone other chain in
+stands-with_one range other [] order stands free =
+    let begins : other.0 ≤ other.1.last = alone other stands in
     elim (free_apart range other (or_parts (share_number range other) false free).0) [
       | inl a ↦ rw (one_before range other [] (comes_before range other order a))
-          (cons_chain range other [] order a chain)
+          (cons_stands range other [] order a stands)
       | inr a ↦ rw (one_after range other [] (comes_after range other begins a))
-          (cons_chain other range [] begins a (le-leb _ _ order))
+          (cons_stands other range [] begins a (le-leb _ _ order))
     ]
-chain-with_one range other (next ∷ more) order chain free =
-    let two = apart other next more chain in
+stands-with_one range other (next ∷ more) order stands free =
+    let two = apart other next more stands in
     let apart_from = or_parts (share_number range other)
     (list_any (share_number range) (next ∷ more)) free in
     let later = or_parts (share_number range next) (list_any (share_number range) more)
     apart_from.1 in
     elim (free_apart range other apart_from.0) [
       | inl a ↦ rw (one_before range other (next ∷ more) (comes_before range other order a))
-          (cons_chain range other (next ∷ more) order a chain)
+          (cons_stands range other (next ∷ more) order a stands)
       | inr a ↦ rw (one_after range other (next ∷ more) (comes_after range other two.begins a))
           (cons_with_one other range next more two.begins a two.ends order
           (ends_after next more two.rest) later.0
-          (chain-with_one range next more order two.rest apart_from.1))
+          (stands-with_one range next more order two.rest apart_from.1))
     ]
 
 -- ranges that stand apart stay so with a range that shares no number with them
-pub chain-insert : (range : ℕ × Span) (ranges : List (ℕ × Span)) → range.0 ≤ range.1.last
-    → is_chain ranges ≡ true
+pub stands-insert : (range : ℕ × Span) (ranges : List (ℕ × Span)) → range.0 ≤ range.1.last
+    → stand_apart ranges ≡ true
     → list_any (share_number range) ranges ≡ false
-    → is_chain (insert_entry nat_cmp ranges range.0 range.1) ≡ true
+    → stand_apart (insert_entry nat_cmp ranges range.0 range.1) ≡ true
 unfolding with_one
-chain-insert range [] order chain free = le-leb _ _ order
-chain-insert range (other ∷ more) order chain free =
-    chain-with_one range other more order chain free
+stands-insert range [] order stands free = le-leb _ _ order
+stands-insert range (other ∷ more) order stands free =
+    stands-with_one range other more order stands free
 
 known_step : (count : ℕ) (range other : ℕ × Span) (more : List (ℕ × Span)) (o : Ordering)
     → nat_lt range.1.mode count ≡ true → are_modes_below count (other ∷ more) ≡ true

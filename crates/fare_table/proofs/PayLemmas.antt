@@ -13,7 +13,7 @@ use Rattle.std.specs.Ordering.{is_eq, match_ordering, nat_cmp}
 use Rattle.std.specs.Prelude.{pos, if◌then◌else◌}
 use Rattle.toml.specs.Data.{Data, Members, no_members, member, string, integer, table, as_str}
 use Rattle.toml.specs.Data.{as_table, get_member}
-use Rattle.fare_table.proofs.EntryLemmas.{if_ok}
+use Rattle.fare_table.proofs.ElementLemmas.{if_ok}
 use Rattle.fare_table.proofs.PartLemmas.{bind_ok, parts}
 use Rattle.fare_table.proofs.ReadLemmas.{is_number, is_table, is_text, number-read, table-read}
 use Rattle.fare_table.proofs.ReadLemmas.{text-read}
@@ -413,11 +413,11 @@ abbrev by_ceiling : ℕ → ℕ → ℕ → OrFault Terms
 by_ceiling fare rides ceiling = Ok (terms_by fare rides ceiling)
 
 abbrev by_rides : Members → ℕ → ℕ → OrFault Terms
-by_rides entry fare rides =
-    ceiling_of (rides * fare) (get_member (codes "ceiling") entry) >>= by_ceiling fare rides
+by_rides element fare rides =
+    ceiling_of (rides * fare) (get_member (codes "ceiling") element) >>= by_ceiling fare rides
 
 abbrev by_fare : Members → ℕ → OrFault Terms
-by_fare entry fare = number_at (codes "rides") the_key.Rides 1 1_000 entry >>= by_rides entry fare
+by_fare element fare = number_at (codes "rides") the_key.Rides 1 1_000 element >>= by_rides element fare
 
 is_ceiling : (price : ℕ) (value : Option Data) (ceiling : ℕ) → ceiling_of price value ≡ Ok ceiling
     → IsCeiling price value ceiling
@@ -425,13 +425,13 @@ is_ceiling price None ceiling is = let same : price ≡ ceiling = cc in sym same
 is_ceiling price (Some value) ceiling is =
     (is_number value the_key.Ceiling 1 100_000_000 ceiling is).is
 
--- the class of this name is in the table, and its entry has these terms
+-- the class of this name is in the table, and its element has these terms
 pub record IsNamed (classes : Members) (class : List ℕ) (terms : Terms) : Type 0 where
-  pub entry : Members
-  pub stands : get_member class classes ≡ Some (table entry)
-  pub fare : get_member (codes "fare") entry ≡ Some (integer (pos terms.fare))
-  pub rides : get_member (codes "rides") entry ≡ Some (integer (pos terms.rides))
-  pub ceiling : IsCeiling (terms.rides * terms.fare) (get_member (codes "ceiling") entry)
+  pub element : Members
+  pub stands : get_member class classes ≡ Some (table element)
+  pub fare : get_member (codes "fare") element ≡ Some (integer (pos terms.fare))
+  pub rides : get_member (codes "rides") element ≡ Some (integer (pos terms.rides))
+  pub ceiling : IsCeiling (terms.rides * terms.fare) (get_member (codes "ceiling") element)
       terms.ceiling
 
 moved : (classes : Members) (class : List ℕ) (fare rides ceiling : ℕ) (terms : Terms)
@@ -441,24 +441,24 @@ moved classes class fare rides ceiling terms is has =
     let same : terms_by fare rides ceiling ≡ terms = cc in
     subst (λ (t : Terms). IsNamed classes class t) same has
 
-entry_terms : (classes entry : Members) (class : List ℕ) (terms : Terms)
-    → get_member class classes ≡ Some (table entry) → class_of entry ≡ Ok terms
+entry_terms : (classes element : Members) (class : List ℕ) (terms : Terms)
+    → get_member class classes ≡ Some (table element) → class_of element ≡ Ok terms
     → IsNamed classes class terms
 unfolding class_of
-entry_terms classes entry class terms stands is =
-    let fare = bind_ok (number_at (codes "fare") the_key.Fare 1 100_000 entry) (by_fare entry) terms
+entry_terms classes element class terms stands is =
+    let fare = bind_ok (number_at (codes "fare") the_key.Fare 1 100_000 element) (by_fare element) terms
     is in
-    let rides = bind_ok (number_at (codes "rides") the_key.Rides 1 1_000 entry)
-    (by_rides entry fare.0) terms fare.2 in
-    let ceiling = bind_ok (ceiling_of (rides.0 * fare.0) (get_member (codes "ceiling") entry))
+    let rides = bind_ok (number_at (codes "rides") the_key.Rides 1 1_000 element)
+    (by_rides element fare.0) terms fare.2 in
+    let ceiling = bind_ok (ceiling_of (rides.0 * fare.0) (get_member (codes "ceiling") element))
     (by_ceiling fare.0 rides.0) terms rides.2 in
     moved classes class fare.0 rides.0 ceiling.0 terms ceiling.2
     (record {
-      entry = entry;
+      element = element;
       stands = stands;
-      fare = (number-read (codes "fare") the_key.Fare 1 100_000 entry fare.0 fare.1).is;
-      rides = (number-read (codes "rides") the_key.Rides 1 1_000 entry rides.0 rides.1).is;
-      ceiling = is_ceiling (rides.0 * fare.0) (get_member (codes "ceiling") entry) ceiling.0
+      fare = (number-read (codes "fare") the_key.Fare 1 100_000 element fare.0 fare.1).is;
+      rides = (number-read (codes "rides") the_key.Rides 1 1_000 element rides.0 rides.1).is;
+      ceiling = is_ceiling (rides.0 * fare.0) (get_member (codes "ceiling") element) ceiling.0
           ceiling.1;
     })
 
@@ -470,9 +470,9 @@ named_terms : (classes : Members) (class : List ℕ) (terms : Terms)
     → class_named classes class ≡ Ok terms → IsNamed classes class terms
 named_terms classes class terms is =
     let value = bind_ok (ok_or (get_member class classes) Rider) class_in terms is in
-    let entry = bind_ok (of_kind the_key.Classes (as_table value.0)) class_of terms value.2 in
-    entry_terms classes entry.0 class terms (value_found (get_member class classes) value.0 value.1
-    ∙ ap (λ (d : Data). Some d) (is_table value.0 the_key.Classes entry.0 entry.1)) entry.2
+    let element = bind_ok (of_kind the_key.Classes (as_table value.0)) class_of terms value.2 in
+    entry_terms classes element.0 class terms (value_found (get_member class classes) value.0 value.1
+    ∙ ap (λ (d : Data). Some d) (is_table value.0 the_key.Classes element.0 element.1)) element.2
 
 abbrev pub by_check : Members → Unit {0} → OrFault Members
 by_check some sound = Ok some
@@ -542,7 +542,7 @@ has_terms tree classes class terms read is =
     record {
       classes = classes;
       listed = classes_read tree classes read;
-      entry = n.entry;
+      element = n.element;
       stands = n.stands;
       fare = n.fare;
       rides = n.rides;
@@ -573,22 +573,22 @@ one_terms : (tree : Members) (class : List ℕ) (terms terms' : Terms) → HasTe
 one_terms tree class terms terms' one two =
     let classes = table_of (get_member (codes "classes") tree) one.classes two.classes one.listed
     two.listed in
-    let entry = table_of (get_member class two.classes) one.entry two.entry
+    let element = table_of (get_member class two.classes) one.element two.element
     (ap (get_member class) (sym classes) ∙ one.stands) two.stands in
-    let fare = number_of (get_member (codes "fare") two.entry) terms.fare terms'.fare
-    (ap (get_member (codes "fare")) (sym entry) ∙ one.fare) two.fare in
-    let rides = number_of (get_member (codes "rides") two.entry) terms.rides terms'.rides
-    (ap (get_member (codes "rides")) (sym entry) ∙ one.rides) two.rides in
+    let fare = number_of (get_member (codes "fare") two.element) terms.fare terms'.fare
+    (ap (get_member (codes "fare")) (sym element) ∙ one.fare) two.fare in
+    let rides = number_of (get_member (codes "rides") two.element) terms.rides terms'.rides
+    (ap (get_member (codes "rides")) (sym element) ∙ one.rides) two.rides in
     let price : terms.rides * terms.fare ≡ terms'.rides * terms'.fare =
     ap (λ n. n * terms.fare) rides ∙ ap (λ n. terms'.rides * n) fare in
-    let same_price : IsCeiling (terms'.rides * terms'.fare) (get_member (codes "ceiling") one.entry)
+    let same_price : IsCeiling (terms'.rides * terms'.fare) (get_member (codes "ceiling") one.element)
     terms.ceiling = subst (λ p.
-    IsCeiling p (get_member (codes "ceiling") one.entry) terms.ceiling) price one.ceiling in
-    let same_entry : IsCeiling (terms'.rides * terms'.fare) (get_member (codes "ceiling") two.entry)
+    IsCeiling p (get_member (codes "ceiling") one.element) terms.ceiling) price one.ceiling in
+    let same_entry : IsCeiling (terms'.rides * terms'.fare) (get_member (codes "ceiling") two.element)
     terms.ceiling = subst (λ (e : Members).
-    IsCeiling (terms'.rides * terms'.fare) (get_member (codes "ceiling") e) terms.ceiling) entry
+    IsCeiling (terms'.rides * terms'.fare) (get_member (codes "ceiling") e) terms.ceiling) element
     same_price in
-    let ceiling = one_ceiling (terms'.rides * terms'.fare) (get_member (codes "ceiling") two.entry)
+    let ceiling = one_ceiling (terms'.rides * terms'.fare) (get_member (codes "ceiling") two.element)
     terms.ceiling terms'.ceiling same_entry two.ceiling in
     all_same terms.fare terms'.fare terms.rides terms'.rides terms.ceiling terms'.ceiling fare rides
     ceiling

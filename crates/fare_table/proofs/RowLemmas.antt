@@ -1,4 +1,4 @@
--- The same of the entries of `validators`, the keys of `riders` and the zone, and of the whole.
+-- The same of the elements of `validators`, the keys of `riders` and the zone, and of the whole.
 use Rattle.std.proofs.Common.{◌≡◌, ◌↔◌, ℕ, zero, suc, ◌+◌, ◌≤◌, ◌&&◌, ◌||◌, not, Bool, true, false}
 use Rattle.std.proofs.Common.{List, [], ◌∷◌, ◌++◌, Option, Some, None, Ok, Err, cond, option_map}
 use Rattle.std.proofs.Common.{refl, sym, ap, ◌∙◌, subst, arith, codes, inl, inr, ◌≢◌, Result, IfErr}
@@ -16,19 +16,19 @@ use Rattle.jiff.specs.Words.{read_whole}
 use Rattle.toml.specs.Data.{Data, Items, no_items, item, Members, no_members, member, string}
 use Rattle.toml.specs.Data.{integer, array, table, get_member, get_item, as_str, as_array}
 use Rattle.toml.specs.Parse.{parse_document}
-use Rattle.fare_table.proofs.EntryLemmas.{Reads, by_mode, by_tables, reads}
+use Rattle.fare_table.proofs.ElementLemmas.{Reads, by_mode, by_tables, reads}
 use Rattle.fare_table.proofs.FaultLemmas.{Stand, classes-told, default-told, done, fails, fault_in}
 use Rattle.fare_table.proofs.FaultLemmas.{modes-known, modes-told, named-told, needs, number_tells}
 use Rattle.fare_table.proofs.FaultLemmas.{stand_all, stand_here, stand_next, steps, told}
 use Rattle.fare_table.proofs.FaultLemmas.{told_needed, told_two, transfers-told}
-use Rattle.fare_table.proofs.OverlapLemmas.{chain-insert, comes_after, comes_before, ends_after}
-use Rattle.fare_table.proofs.OverlapLemmas.{free_apart, rest_chain}
+use Rattle.fare_table.proofs.OverlapLemmas.{stands-insert, comes_after, comes_before, ends_after}
+use Rattle.fare_table.proofs.OverlapLemmas.{free_apart, rest_stands}
 use Rattle.fare_table.proofs.PayLemmas.{Named, by_class, classes_read, classes_sound, named_with}
 use Rattle.fare_table.proofs.ReadLemmas.{number-read}
 use Rattle.fare_table.specs.Classes.{checked, class_named, classes_of, default_of}
 use Rattle.fare_table.specs.Faults.{Where, classes_step, default_step, riders_step, transfers_step}
 use Rattle.fare_table.specs.Faults.{validators_step, zone_step, top, range, rider, a_row, amount_of}
-use Rattle.fare_table.specs.Faults.{classes_in, entries_in, first_at, first_fault, first_row}
+use Rattle.fare_table.specs.Faults.{classes_in, elements_in, first_at, first_fault, first_row}
 use Rattle.fare_table.specs.Faults.{is_again, is_earlier, is_from, is_kind, is_mode, is_no_zone}
 use Rattle.fare_table.specs.Faults.{is_wrong, items_of, last_at, member_at, members_at, members_of}
 use Rattle.fare_table.specs.Faults.{mode_names, needed_rows, passes, range_rows, rider_rows}
@@ -42,7 +42,7 @@ use Rattle.fare_table.specs.Riders.{with_rider}
 use Rattle.fare_table.specs.Riders as riders
 use Rattle.fare_table.specs.Rules.{TableRules, rules_in, rules_of_tree}
 use Rattle.fare_table.specs.Transfers.{transfers_of}
-use Rattle.fare_table.specs.Validators.{is_chain, range_of, ranges_from, ranges_of, share_number}
+use Rattle.fare_table.specs.Validators.{stand_apart, range_of, ranges_from, ranges_of, share_number}
 use Rattle.fare_table.specs.Validators.{with_range}
 use Rattle.fare_table.specs.Zone.{zone_in, zone_of}
 use Rattle.fare_table.specs.declared.fault.Key.TheVariants as the_key
@@ -53,7 +53,7 @@ use Rattle.fare_table.specs.declared.fault.TableFault.TheVariants.{Overlap, Ride
 use Rattle.fare_table.specs.declared.terms.Terms.{Terms}
 use Rattle.fare_table.specs.declared.validators.Span.{Span}
 
--- ---- one entry of `validators`
+-- ---- one element of `validators`
 told_three : (tree : Members) (at : Where) (one two three : TableFault)
     → first_row tree (a_row at one ∷ a_row at two ∷ a_row at three ∷ [])
     ≡ cond (is_wrong tree at one) (Some one)
@@ -115,7 +115,7 @@ range-told tree modes n known =
     (sym known)
     ∙ sym (told_three tree at (Missing the_key.ModeName) (Kind the_key.ModeName) Mode)))
 
--- ---- the entries, each with those before it
+-- ---- the elements, each with those before it
 swap_or : (a b c : Bool) → (a || (b || c)) ≡ (b || (a || c))
 swap_or true true c = refl
 swap_or true false c = refl
@@ -137,20 +137,20 @@ any_step test one other more order further free ih = elim (free_apart one other 
 
 -- a test of ranges holds of one more range or of the others
 any_with : (test : ℕ × Span → Bool) (one : ℕ × Span) (ranges : List (ℕ × Span)) → one.0 ≤ one.1.last
-    → is_chain ranges ≡ true → list_any (share_number one) ranges ≡ false
+    → stand_apart ranges ≡ true → list_any (share_number one) ranges ≡ false
     → list_any test (with_one one ranges) ≡ (test one || list_any test ranges)
 unfolding with_one
-any_with test one [] order chain free = refl
-any_with test one (other ∷ more) order chain free =
+any_with test one [] order stands free = refl
+any_with test one (other ∷ more) order stands free =
     let apart = or_parts (share_number one other) (list_any (share_number one) more) free in
-    any_step test one other more order (ends_after other more chain) apart.0
-    (any_with test one more order (rest_chain other more chain) apart.1)
+    any_step test one other more order (ends_after other more stands) apart.0
+    (any_with test one more order (rest_stands other more stands) apart.1)
 
--- the range shares a number with the entry at a place
+-- the range shares a number with the element at a place
 abbrev meets : Members → ℕ × Span → ℕ → Bool
 meets tree one place = nat_le one.0 (last_at tree place) && nat_le (first_at tree place) one.1.last
 
--- the ranges are those of the entries before a place
+-- the ranges are those of the elements before a place
 abbrev AreEarlier : Members → ℕ → List (ℕ × Span) → Type 0
 AreEarlier tree n earlier =
     (one : ℕ × Span) → list_any (share_number one) earlier ≡ is_earlier (meets tree one) n
@@ -165,7 +165,7 @@ overlap_if : (b : Bool) (next : List (ℕ × Span)) (f : List (ℕ × Span)
 overlap_if true next f rest same = refl
 overlap_if false next f rest same = same refl
 
--- the numbers of an entry that reads as a range
+-- the numbers of an element that reads as a range
 record Numbers (tree : Members) (n : ℕ) (one : ℕ × Span) : Type 0 where
   first : first_at tree n ≡ one.0
   last : last_at tree n ≡ one.1.last
@@ -173,8 +173,8 @@ record Numbers (tree : Members) (n : ℕ) (one : ℕ × Span) : Type 0 where
 numbers : (tree : Members) (modes : List (List ℕ)) (n : ℕ) (inner : Members) (one : ℕ × Span)
     → members_at (range n) tree ≡ inner → Reads modes (table inner) one → Numbers tree n one
 numbers tree modes n inner one here r =
-    let whole : table inner ≡ table r.entry = r.is_table in
-    let same : inner ≡ r.entry = cc in
+    let whole : table inner ≡ table r.element = r.is_table in
+    let same : inner ≡ r.element = cc in
     record {
       first = amount_is (value_at (range n) the_key.First tree) one.0
           (ap (get_member (codes "first")) (here ∙ same) ∙ r.first);
@@ -199,23 +199,23 @@ met tree n one other is =
     ∙ ap (λ (b : ℕ). nat_le other.0 (last_at tree n) && nat_le b other.1.last) (sym is.first)
 
 earlier_next : (tree : Members) (n : ℕ) (one : ℕ × Span) (earlier : List (ℕ × Span))
-    → Numbers tree n one → one.0 ≤ one.1.last → is_chain earlier ≡ true
+    → Numbers tree n one → one.0 ≤ one.1.last → stand_apart earlier ≡ true
     → list_any (share_number one) earlier ≡ false
     → AreEarlier tree n earlier → AreEarlier tree (suc n) (with_one one earlier)
-earlier_next tree n one earlier is order chain free are other =
-    any_with (share_number other) one earlier order chain free
+earlier_next tree n one earlier is order stands free are other =
+    any_with (share_number other) one earlier order stands free
     ∙ ap (λ (b : Bool). b || list_any (share_number other) earlier) (met tree n one other is)
     ∙ ap (λ (b : Bool). meets tree other n || b) (are other)
 
 ranges-told : (tree : Members) (modes : List (List ℕ)) (n : ℕ) (earlier : List (ℕ × Span))
-    (part : Items) → mode_names tree ≡ modes → StandItems (entries_in tree) n part
+    (part : Items) → mode_names tree ≡ modes → StandItems (elements_in tree) n part
     → are_tables part ≡ true
-    → is_chain earlier ≡ true → AreEarlier tree n earlier
+    → stand_apart earlier ≡ true → AreEarlier tree n earlier
     → fault_in (ranges_from modes earlier part) ≡ first_row tree (range_rows n part)
 unfolding with_one
-ranges-told tree modes n earlier no_items known stand tables chain are = refl
-ranges-told tree modes n earlier (item (table inner) more) known stand tables chain are =
-    let at : get_item n (entries_in tree) ≡ Some (table inner) = stand zero n (omega arith) in
+ranges-told tree modes n earlier no_items known stand tables stands are = refl
+ranges-told tree modes n earlier (item (table inner) more) known stand tables stands are =
+    let at : get_item n (elements_in tree) ≡ Some (table inner) = stand zero n (omega arith) in
     let here : members_at (range n) tree ≡ inner = ap members_of at in
     steps tree (range_of modes inner) (λ one.
     with_range earlier one >>= (λ next. ranges_from modes next more)) (rows_of_range n)
@@ -228,12 +228,12 @@ ranges-told tree modes n earlier (item (table inner) more) known stand tables ch
     ranges_from modes next more) (first_row tree (range_rows (suc n) more))
     (λ free. ranges-told tree modes (suc n) (with_one one earlier) more known (λ k j same.
     stand (suc k) j (omega (arith, same))) tables
-    (chain-insert one earlier r.order chain free)
-    (earlier_next tree n one earlier nums r.order chain free are))
+    (stands-insert one earlier r.order stands free)
+    (earlier_next tree n one earlier nums r.order stands free are))
     ∙ ap (λ (b : Bool). cond b (Some Overlap) (first_row tree (range_rows (suc n) more))) (are one
     ∙ shared tree n one nums)
     ∙ sym (told tree (range n) Overlap (range_rows (suc n) more)))
-ranges-told tree modes n earlier (item _ more) known stand tables chain are =
+ranges-told tree modes n earlier (item _ more) known stand tables stands are =
     absurd (false≢true tables)
 
 entries_if : (b : Bool) (modes : List (List ℕ)) (ds : Items) (rest : Option TableFault)
@@ -262,18 +262,18 @@ stand_items whole part same k j is = let one : j ≡ k = omega (arith, is) in
 entries-told : (tree : Members) (modes : List (List ℕ)) → mode_names tree ≡ modes
     → fault_in (ranges_of modes tree)
     ≡ first_row tree (a_row top (Missing the_key.Validators)
-    ∷ a_row top (Kind the_key.Validators) ∷ range_rows 0 (entries_in tree))
+    ∷ a_row top (Kind the_key.Validators) ∷ range_rows 0 (elements_in tree))
 unfolding ranges_of
 entries-told tree modes known =
     let o = get_member (codes "validators") tree in
-    entries_steps o modes (first_row tree (range_rows 0 (entries_in tree))) (λ ds is tables.
-    let same : entries_in tree ≡ ds = ap items_of is in
-    ranges-told tree modes 0 [] ds known (stand_items (entries_in tree) ds same) tables refl (λ one.
+    entries_steps o modes (first_row tree (range_rows 0 (elements_in tree))) (λ ds is tables.
+    let same : elements_in tree ≡ ds = ap items_of is in
+    ranges-told tree modes 0 [] ds known (stand_items (elements_in tree) ds same) tables refl (λ one.
     refl) ∙ ap (λ (d : Items). first_row tree (range_rows 0 d)) (sym same))
     ∙ sym (told tree top (Missing the_key.Validators) (a_row top (Kind the_key.Validators)
-    ∷ range_rows 0 (entries_in tree))
+    ∷ range_rows 0 (elements_in tree))
     ∙ ap (λ (x : Option TableFault). cond (is_none o) (Some (Missing the_key.Validators)) x)
-    (told tree top (Kind the_key.Validators) (range_rows 0 (entries_in tree))))
+    (told tree top (Kind the_key.Validators) (range_rows 0 (elements_in tree))))
 
 -- ---- the riders
 -- the riders are those of the keys before a place

@@ -9,12 +9,12 @@ use Rattle.std.specs.List.Sorted.{IsStrictlySortedBy}
 use Rattle.std.specs.Map.{keys_of}
 use Rattle.std.specs.Ordering.{match_ordering, nat_cmp, ordering_reverse}
 use Rattle.toml.specs.Data.{Data, Items, no_items, item, Members, no_members, member, get_member}
-use Rattle.fare_table.proofs.EntryLemmas.{ranges_read, step}
+use Rattle.fare_table.proofs.ElementLemmas.{ranges_read, step}
 use Rattle.fare_table.proofs.PartLemmas.{bind_ok, parts}
 use Rattle.fare_table.proofs.PayLemmas.{AreRiders, adds_rider, after_rider, riders_read}
 use Rattle.fare_table.specs.Riders.{rider_of, riders_from, with_rider}
 use Rattle.fare_table.specs.Rules.{TableRules, rules_of_tree}
-use Rattle.fare_table.specs.Validators.{is_chain, ranges_from}
+use Rattle.fare_table.specs.Validators.{stand_apart, ranges_from}
 use Rattle.fare_table.specs.declared.terms.Terms.{Terms}
 use Rattle.fare_table.specs.declared.validators.Span.{Span}
 
@@ -102,17 +102,17 @@ riders-rise tree rules is =
     rise_all p.table (get_member (codes "riders") tree) rules.riders
     (riders_read p.table tree rules.riders p.riders)
 
-chain_from : (modes : List (List ℕ)) (earlier : List (ℕ × Span)) (part : Items) (ranges : List (ℕ
-    × Span)) → ranges_from modes earlier part ≡ Ok ranges → is_chain earlier ≡ true
-    → is_chain ranges ≡ true
-chain_from modes earlier no_items ranges is chain = let same : earlier ≡ ranges = cc in
-    subst (λ (r : List (ℕ × Span)). is_chain r ≡ true) same chain
-chain_from modes earlier (item value more) ranges is chain =
-    let s = step modes earlier value more ranges is chain in
-    chain_from modes s.next more ranges s.rest s.chain
+stands_from : (modes : List (List ℕ)) (earlier : List (ℕ × Span)) (part : Items) (ranges : List (ℕ
+    × Span)) → ranges_from modes earlier part ≡ Ok ranges → stand_apart earlier ≡ true
+    → stand_apart ranges ≡ true
+stands_from modes earlier no_items ranges is stands = let same : earlier ≡ ranges = cc in
+    subst (λ (r : List (ℕ × Span)). stand_apart r ≡ true) same stands
+stands_from modes earlier (item value more) ranges is stands =
+    let s = step modes earlier value more ranges is stands in
+    stands_from modes s.next more ranges s.rest s.stands
 
 pub ranges-rise : (tree : Members) (rules : TableRules) → rules_of_tree tree ≡ Ok rules
-    → is_chain rules.ranges ≡ true
+    → stand_apart rules.ranges ≡ true
 ranges-rise tree rules is =
     let text = ranges_read rules.modes tree rules.ranges (parts tree rules is).ranges in
-    chain_from rules.modes [] text.items rules.ranges text.read refl
+    stands_from rules.modes [] text.items rules.ranges text.read refl

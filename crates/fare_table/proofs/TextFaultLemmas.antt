@@ -141,18 +141,18 @@ ceiling_of-text : (price : ℕ) (value : Option Data) → NotText (ceiling_of pr
 ceiling_of-text price None = an_ok price
 ceiling_of-text price (Some value) = number_in-text the_key.Ceiling 1 100_000_000 value
 
-class_of-text : (entry : Members) → NotText (class_of entry)
+class_of-text : (element : Members) → NotText (class_of element)
 unfolding class_of
-class_of-text entry = steps (number_at (codes "fare") the_key.Fare 1 100_000 entry) _
-    (number_at-text (codes "fare") the_key.Fare 1 100_000 entry)
-    (λ fare. steps (number_at (codes "rides") the_key.Rides 1 1_000 entry) _
-    (number_at-text (codes "rides") the_key.Rides 1 1_000 entry)
-    (λ rides. steps (ceiling_of (rides * fare) (get_member (codes "ceiling") entry)) _
-    (ceiling_of-text (rides * fare) (get_member (codes "ceiling") entry)) (λ ceiling. an_ok _)))
+class_of-text element = steps (number_at (codes "fare") the_key.Fare 1 100_000 element) _
+    (number_at-text (codes "fare") the_key.Fare 1 100_000 element)
+    (λ fare. steps (number_at (codes "rides") the_key.Rides 1 1_000 element) _
+    (number_at-text (codes "rides") the_key.Rides 1 1_000 element)
+    (λ rides. steps (ceiling_of (rides * fare) (get_member (codes "ceiling") element)) _
+    (ceiling_of-text (rides * fare) (get_member (codes "ceiling") element)) (λ ceiling. an_ok _)))
 
 class_in-text : (value : Data) → NotText (class_in value)
 class_in-text value =
-    steps (of_kind the_key.Classes (as_table value)) (λ entry. class_of entry)
+    steps (of_kind the_key.Classes (as_table value)) (λ element. class_of element)
     (of_kind-text the_key.Classes (as_table value)) class_of-text
 
 checked-text : (classes : Members) → NotText (checked classes)
@@ -188,20 +188,20 @@ default_of-text classes tree =
     class_named classes name) (text_at-text (codes "default_class") the_key.DefaultClass tree)
     (class_named-text classes)
 
-range_of-text : (modes : List (List ℕ)) (entry : Members) → NotText (range_of modes entry)
+range_of-text : (modes : List (List ℕ)) (element : Members) → NotText (range_of modes element)
 unfolding range_of
-range_of-text modes entry =
-    steps (number_at (codes "first") the_key.First 0 4_294_967_295 entry) _
-    (number_at-text (codes "first") the_key.First 0 4_294_967_295 entry)
-    (λ first. steps (number_at (codes "last") the_key.Last first 4_294_967_295 entry) _
-    (number_at-text (codes "last") the_key.Last first 4_294_967_295 entry)
-    (λ last. steps (text_at (codes "mode") the_key.ModeName entry) _
-    (text_at-text (codes "mode") the_key.ModeName entry)
+range_of-text modes element =
+    steps (number_at (codes "first") the_key.First 0 4_294_967_295 element) _
+    (number_at-text (codes "first") the_key.First 0 4_294_967_295 element)
+    (λ first. steps (number_at (codes "last") the_key.Last first 4_294_967_295 element) _
+    (number_at-text (codes "last") the_key.Last first 4_294_967_295 element)
+    (λ last. steps (text_at (codes "mode") the_key.ModeName element) _
+    (text_at-text (codes "mode") the_key.ModeName element)
     (λ name. steps (mode_named modes name) _ (mode_named-text modes name) (λ mode. an_ok _))))
 
 range_in-text : (modes : List (List ℕ)) (value : Data) → NotText (range_in modes value)
 range_in-text modes value =
-    steps (of_kind the_key.Validators (as_table value)) (λ entry. range_of modes entry)
+    steps (of_kind the_key.Validators (as_table value)) (λ element. range_of modes element)
     (of_kind-text the_key.Validators (as_table value)) (range_of-text modes)
 
 ranges_from-text : (modes : List (List ℕ)) (earlier : List (ℕ × Span)) (items : Items)

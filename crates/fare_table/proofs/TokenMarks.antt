@@ -43,16 +43,16 @@ pub lookup-unmarked : (marks : List Bool) (token : Token) (entries : List (Token
     → All (λ key. is_marked marks key ≡ true) (keys_of entries)
     → is_marked marks token ≡ false → lookup (is_at (token_cmp token)) entries ≡ None
 lookup-unmarked marks token [] all free = refl
-lookup-unmarked marks token (entry ∷ entries) all free =
-    let head : is_marked marks entry.0 ≡ true =
+lookup-unmarked marks token (element ∷ entries) all free =
+    let head : is_marked marks element.0 ≡ true =
     All-head (λ key. is_marked marks key ≡ true) _ _ all in
     let rest = lookup-unmarked marks token entries
     (All-tail (λ key. is_marked marks key ≡ true) _ _ all) free in
-    other (is_eq (token_cmp token entry.0)) (λ same. let low = same_low token entry.0 same in cc)
+    other (is_eq (token_cmp token element.0)) (λ same. let low = same_low token element.0 same in cc)
     rest
   where
     other : (same : Bool) → (same ≡ true → false ≡ true)
         → lookup (is_at (token_cmp token)) entries ≡ None
-        → cond same (Some entry.1) (lookup (is_at (token_cmp token)) entries) ≡ None
+        → cond same (Some element.1) (lookup (is_at (token_cmp token)) entries) ≡ None
     other true never rest = absurd (cc (never refl))
     other false never rest = rest

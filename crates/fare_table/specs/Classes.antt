@@ -16,10 +16,10 @@ ceiling_of price (Some value) = number_in the_key.Ceiling 1 100_000_000 value
 
 -- the terms of a class: its fare, its rides and its ceiling, within their limits
 unfoldable pub class_of : Members → OrFault Terms
-class_of entry = do
-  fare ← number_at (codes "fare") the_key.Fare 1 100_000 entry
-  rides ← number_at (codes "rides") the_key.Rides 1 1_000 entry
-  ceiling ← ceiling_of (rides * fare) (get_member (codes "ceiling") entry)
+class_of element = do
+  fare ← number_at (codes "fare") the_key.Fare 1 100_000 element
+  rides ← number_at (codes "rides") the_key.Rides 1 1_000 element
+  ceiling ← ceiling_of (rides * fare) (get_member (codes "ceiling") element)
   Ok (record {
     fare = fare;
     rides = rides;
@@ -29,8 +29,8 @@ class_of entry = do
 -- the terms of a value that is a table
 abbrev pub class_in : Data → OrFault Terms
 class_in value = do
-  entry ← of_kind the_key.Classes (as_table value)
-  class_of entry
+  element ← of_kind the_key.Classes (as_table value)
+  class_of element
 
 -- the first fault of the classes, class by class
 abbrev pub checked : Members → OrFault (Unit {0})

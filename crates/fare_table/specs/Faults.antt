@@ -22,9 +22,9 @@ use Rattle.fare_table.specs.declared.fault.TableFault.{TableFault}
 use Rattle.fare_table.specs.declared.fault.TableFault.TheVariants.{Text, Missing, Kind, Range, Mode}
 use Rattle.fare_table.specs.declared.fault.TableFault.TheVariants.{Overlap, Rider, NoMemory, Zone}
 
--- where a row looks: at the keys of the text, at those of one of its classes or of one entry of its
--- `validators`, or at one key of its `riders`, each by its place. Classes and keys have the places
--- of their byte order (`laws::keys_come_in_byte_order`).
+-- where a row looks: at the keys of the text, at those of one of its classes or of one element of
+-- its `validators`, or at one key of its `riders`, each by its place. Classes and keys have the
+-- places of their byte order (`laws::keys_come_in_byte_order`).
 pub data Where : Type 0 where
   top : Where
   class : ℕ → Where
@@ -93,9 +93,9 @@ mode_names tree = texts (items_of (get_member (codes "modes") tree))
 abbrev pub classes_in : Members → Members
 classes_in tree = members_of (get_member (codes "classes") tree)
 
--- the text's entries of `validators`
-abbrev pub entries_in : Members → Items
-entries_in tree = items_of (get_member (codes "validators") tree)
+-- the text's elements of `validators`
+abbrev pub elements_in : Members → Items
+elements_in tree = items_of (get_member (codes "validators") tree)
 
 -- the text's keys of `riders`
 abbrev pub riders_in : Members → Members
@@ -106,7 +106,7 @@ abbrev pub members_at : Where → Members → Members
 members_at top tree = tree
 members_at (class place) tree =
     members_of (option_map (λ one. one.1) (member_at place (classes_in tree)))
-members_at (range place) tree = members_of (get_item place (entries_in tree))
+members_at (range place) tree = members_of (get_item place (elements_in tree))
 members_at (rider place) tree = no_members
 
 -- the value at a key
@@ -168,7 +168,7 @@ is_in_limits the_key.Zone beside value = true
 abbrev pub is_mode : List (List ℕ) → List ℕ → Bool
 is_mode names name = is_some (position (same_name name) names)
 
--- one of the names of a transfer, or that of an entry of `validators`, is none of the text's modes
+-- one of the names of a transfer, or that of an element of `validators`, is not one of the modes
 abbrev pub names_no_mode : Where → Members → Bool
 names_no_mode top tree =
     list_any (λ pair. not (is_mode (mode_names tree) pair.0 && is_mode (mode_names tree) pair.1))
@@ -183,15 +183,15 @@ abbrev pub is_earlier : (ℕ → Bool) → ℕ → Bool
 is_earlier test zero = false
 is_earlier test (suc place) = test place || is_earlier test place
 
--- the first validator of the entry at a place
+-- the first validator of the element at a place
 abbrev pub first_at : Members → ℕ → ℕ
 first_at tree place = amount_of (value_at (range place) the_key.First tree)
 
--- the last validator of the entry at a place
+-- the last validator of the element at a place
 abbrev pub last_at : Members → ℕ → ℕ
 last_at tree place = amount_of (value_at (range place) the_key.Last tree)
 
--- the entry shares a validator with an earlier one
+-- the element shares a validator with an earlier one
 abbrev pub shares_validator : Where → Members → Bool
 shares_validator top tree = false
 shares_validator (class place) tree = false
@@ -272,7 +272,7 @@ rows_of_class place =
     ++ (a_row (class place) (Kind the_key.Ceiling) ∷ a_row (class place) (Range the_key.Ceiling)
     ∷ []))
 
--- of one entry of `validators`: `first`, `last`, `mode`
+-- of one element of `validators`: `first`, `last`, `mode`
 abbrev pub rows_of_range : ℕ → List FaultRow
 rows_of_range place =
     needed_rows (range place) the_key.First
@@ -285,7 +285,7 @@ abbrev pub class_rows : ℕ → Members → List FaultRow
 class_rows place no_members = []
 class_rows place (member name value more) = rows_of_class place ++ class_rows (suc place) more
 
--- entry by entry, each with the entries before it
+-- element by element, each with the elements before it
 abbrev pub range_rows : ℕ → Items → List FaultRow
 range_rows place no_items = []
 range_rows place (item value more) =
@@ -315,7 +315,7 @@ default_step =
 abbrev pub validators_step : Members → List FaultRow
 validators_step tree =
     a_row top (Missing the_key.Validators) ∷ a_row top (Kind the_key.Validators)
-    ∷ range_rows 0 (entries_in tree)
+    ∷ range_rows 0 (elements_in tree)
 
 -- the step `riders`
 abbrev pub riders_step : Members → List FaultRow

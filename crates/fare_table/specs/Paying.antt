@@ -27,12 +27,12 @@ IsCeiling price (Some value) ceiling = value ≡ integer (pos ceiling)
 pub record HasTerms (tree : Members) (class : List ℕ) (terms : Terms) : Type 0 where
   pub classes : Members
   pub listed : get_member (codes "classes") tree ≡ Some (table classes)
-  pub entry : Members
-  pub stands : get_member class classes ≡ Some (table entry)
-  pub fare : get_member (codes "fare") entry ≡ Some (integer (pos terms.fare))
-  pub rides : get_member (codes "rides") entry ≡ Some (integer (pos terms.rides))
+  pub element : Members
+  pub stands : get_member class classes ≡ Some (table element)
+  pub fare : get_member (codes "fare") element ≡ Some (integer (pos terms.fare))
+  pub rides : get_member (codes "rides") element ≡ Some (integer (pos terms.rides))
   pub ceiling : IsCeiling (terms.rides * terms.fare)
-      (get_member (codes "ceiling") entry) terms.ceiling
+      (get_member (codes "ceiling") element) terms.ceiling
 
 -- the terms of the class that the token pays by
 pub record Pays (tree : Members) (token : List ℕ) (terms : Terms) : Type 0 where

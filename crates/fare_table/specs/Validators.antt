@@ -13,11 +13,11 @@ use Rattle.fare_table.specs.declared.fault.TableFault.TheVariants.{Kind, Overlap
 use Rattle.fare_table.specs.declared.validators.Span.{Span}
 
 -- each range begins no later than it ends, and ends before the next one begins
-abbrev pub is_chain : List (ℕ × Span) → Bool
-is_chain [] = true
-is_chain (range ∷ []) = nat_le range.0 range.1.last
-is_chain (range ∷ next ∷ more) =
-    nat_le range.0 range.1.last && nat_lt range.1.last next.0 && is_chain (next ∷ more)
+abbrev pub stand_apart : List (ℕ × Span) → Bool
+stand_apart [] = true
+stand_apart (range ∷ []) = nat_le range.0 range.1.last
+stand_apart (range ∷ next ∷ more) =
+    nat_le range.0 range.1.last && nat_lt range.1.last next.0 && stand_apart (next ∷ more)
 
 -- each range's mode is one of so many
 abbrev pub are_modes_below : ℕ → List (ℕ × Span) → Bool
@@ -33,20 +33,20 @@ with_range earlier range =
     if list_any (share_number range) earlier then Err Overlap
     else Ok (insert_entry nat_cmp earlier range.0 range.1)
 
--- the range of an entry: its first number, its last one and its mode
+-- the range of an element: its first number, its last one and its mode
 unfoldable pub range_of : List (List ℕ) → Members → OrFault (ℕ × Span)
-range_of modes entry = do
-  first ← number_at (codes "first") the_key.First 0 4_294_967_295 entry
-  last ← number_at (codes "last") the_key.Last first 4_294_967_295 entry
-  name ← text_at (codes "mode") the_key.ModeName entry
+range_of modes element = do
+  first ← number_at (codes "first") the_key.First 0 4_294_967_295 element
+  last ← number_at (codes "last") the_key.Last first 4_294_967_295 element
+  name ← text_at (codes "mode") the_key.ModeName element
   mode ← mode_named modes name
   Ok (first, record { last = last; mode = mode })
 
 -- the range of a value that is a table
 abbrev pub range_in : List (List ℕ) → Data → OrFault (ℕ × Span)
 range_in modes value = do
-  entry ← of_kind the_key.Validators (as_table value)
-  range_of modes entry
+  element ← of_kind the_key.Validators (as_table value)
+  range_of modes element
 
 -- the earlier ranges and those of the items
 abbrev pub ranges_from : List (List ℕ) → List (ℕ × Span) → Items → OrFault (List (ℕ × Span))

@@ -70,8 +70,9 @@ impl fmt::Display for Key {
 
 /// The first fault of a table's text, in the order in which its keys are read: `modes`,
 /// `transfers`, `classes` (class by class in the order of the names: `fare`, `rides`, `ceiling`),
-/// `default_class`, `validators` (entry by entry: `first`, `last`, `mode`, the range), `riders` (in
-/// the order of the tokens), `zone`. Of an array or table the kind of all its elements comes first.
+/// `default_class`, `validators` (element by element: `first`, `last`, `mode`, the range),
+/// `riders` (in the order of the tokens), `zone`. Of an array or table the kind of all its elements
+/// comes first.
 #[derive(Clone, Copy, Debug, PartialEq, Eq, Error)]
 pub enum TableFault {
     /// The bytes are no TOML text, or not UTF-8.
@@ -98,7 +99,7 @@ pub enum TableFault {
     /// A transfer or a range of validators names none of the table's modes.
     #[error("a name is no mode of the table")]
     Mode,
-    /// A range of validators shares a number with an earlier entry's.
+    /// A range of validators shares a number with an earlier element's.
     #[error("two ranges share a validator")]
     Overlap,
     /// A rider's token is not 32 hexadecimal digits or is named twice, or a class does not exist.

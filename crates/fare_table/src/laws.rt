@@ -16,7 +16,7 @@ ghost use Rattle.fare_table.specs.Paying.{NamesRider, Pays};
 ghost use Rattle.fare_table.specs.Rules.{TableRules, rules_in, rules_of_tree};
 ghost use Rattle.fare_table.specs.Transfers.{has_pair, ListsPair};
 ghost use Rattle.fare_table.specs.Until.{IsWindowEnd, until};
-ghost use Rattle.fare_table.specs.Validators.{is_chain};
+ghost use Rattle.fare_table.specs.Validators.{stand_apart};
 ghost use Rattle.fare_table.specs.declared.fault.TableFault.{TableFault};
 ghost use Rattle.fare_table.specs.declared.terms.Terms.{Terms};
 
@@ -44,8 +44,8 @@ pub fn permitted_pairs_are_listed()
         → (has_pair rules.transfers from to ≡ true) ↔ ListsPair rules.modes tree from to }
 {}
 
-/// The mode of a validator is the one that the entry of the text's `validators` names which has it,
-/// and none exactly where no entry has it. At most one entry has it.
+/// The mode of a validator is the one that the element of the text's `validators` names which has
+/// it, and none exactly where no element has it. At most one element has it.
 pub fn modes_are_of_ranges()
     ensures some { (tree : Members) (fares : Fares) (validator mode : ℕ)
         → rules_of_tree tree ≡ Ok fares.rules
@@ -79,7 +79,7 @@ pub fn keys_come_in_byte_order()
 /// The ranges of a table rise and stand apart. Its riders come in the byte order of their tokens.
 pub fn rules_come_in_order()
     ensures ranges { (tree : Members) (rules : TableRules) → rules_of_tree tree ≡ Ok rules
-        → is_chain rules.ranges ≡ true }
+        → stand_apart rules.ranges ≡ true }
     ensures riders { (tree : Members) (rules : TableRules) → rules_of_tree tree ≡ Ok rules
         → IsStrictlySortedBy (slice_cmp nat_cmp) (keys_of rules.riders) }
 {}

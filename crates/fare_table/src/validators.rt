@@ -2,7 +2,7 @@
 ghost use Rattle.std.specs.Prelude.{◌≡◌, ◌<◌, ◌≤◌, true, if◌then◌else◌, IfOk, IfSome, IsTrue, None};
 ghost use Rattle.std.specs.Prelude.{length, nat_le, option_copied};
 ghost use Rattle.fare_table.specs.Fares.{range_at};
-ghost use Rattle.fare_table.specs.Validators.{is_chain};
+ghost use Rattle.fare_table.specs.Validators.{stand_apart};
 ghost use Rattle.fare_table.specs.inside.Validators.{is_rising, last_begun, AreSearchable};
 ghost use Rattle.fare_table.specs.inside.Validators.{IsSplitAt};
 
@@ -53,12 +53,12 @@ impl Ranges {
     ghost use Rattle.std.specs.Prelude.{◌≡◌, ◌≤◌, true, IfOk, length, nat_le, map, option_copied};
     ghost use Rattle.std.specs.Prelude.{option_map};
     ghost use Rattle.fare_table.specs.Fares.{range_at};
-    ghost use Rattle.fare_table.specs.Validators.{is_chain};
+    ghost use Rattle.fare_table.specs.Validators.{stand_apart};
 
     /// The ranges of a map by their first numbers. `NoMemory` is answered where a growth is
     /// refused.
     pub(crate) fn new(alloc: Global, ranges: BTreeMap<u32, Span>) -> Result<Ranges, NoMemory>
-        requires { is_chain ranges.entries ≡ true }
+        requires { stand_apart ranges.entries ≡ true }
         ensures { IfOk result (λ r. r ≡ ranges.entries) }
     {
         let firsts = ranges.keys().copied().collect(alloc)?;
@@ -100,7 +100,7 @@ fn range_at<'a>(
 }
 
 /// The range of the number, or that none has it, if the range at the guessed place or the next one
-/// says so; else `None`. At most one range of a chain has the number, so a wrong guess cannot give
+/// says so; else `None`. At most one of these ranges has the number, so a wrong guess cannot give
 /// a wrong range. The choice between the two is a sum and no branch, since numbers come in no order
 /// that a processor could guess.
 fn range_near<'a>(
@@ -108,7 +108,7 @@ fn range_near<'a>(
     guess: usize,
     number: u32,
 ) -> Option<Option<&'a (u32, Span)>>
-    requires { is_chain ranges.now ≡ true }
+    requires { stand_apart ranges.now ≡ true }
     ensures { IfSome result (λ found. option_copied found ≡ range_at ranges.now number) }
 {
     let near = ranges.get(guess)?;
@@ -126,7 +126,7 @@ fn range_near<'a>(
 
 /// Whether the number lies before the range at the place, and behind the one before that.
 fn is_just_before(ranges: &[(u32, Span)], place: usize, number: u32) -> bool
-    requires apart { is_chain ranges.now ≡ true }
+    requires apart { stand_apart ranges.now ≡ true }
     requires inside { place < length ranges.now }
     ensures { IsTrue result → range_at ranges.now number ≡ None }
 {
@@ -137,7 +137,7 @@ fn is_just_before(ranges: &[(u32, Span)], place: usize, number: u32) -> bool
 }
 
 /// The range of the number, found by halves.
-#[tactic(auto, using(crate::proofs::ChainLemmas::found))]
+#[tactic(auto, using(crate::proofs::ApartLemmas::found))]
 fn range_by_halves<'a>(
     ranges: &'a [(u32, Span)],
     firsts: &[u32],

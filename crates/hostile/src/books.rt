@@ -7,7 +7,7 @@ use crate::stop::{Case, Stop, again, ended, promise};
 use account_rule::Answer;
 use fare_table::Clock;
 use sample_table::{BUS, START, SUBWAY, bytes_of};
-use shard_book::{Ends, Entry, Replies, RunEnd, ShardBook, Token, TokenKeys, TokenSums};
+use shard_book::{Ends, Entry, Replies, RunEnd, ShardBook, Token, HashSeed, TokenSums};
 use std::alloc::Global;
 use std::random::RandomSource;
 use tap_views::{Batch, Run, TapFields, encode};
@@ -16,9 +16,9 @@ use tap_views::{Batch, Run, TapFields, encode};
 fn book<R: RandomSource>(rt: &R, alloc: Global) -> Result<ShardBook, Stop>
     ensures { IfOk result (λ book. (book.shard ≡ 0) × (book.shards ≡ 1)) }
 {
-    let keys = TokenKeys::new(rt)?;
+    let seed = HashSeed::new(rt)?;
     let table = table(alloc)?;
-    Ok(ShardBook::open(alloc, keys, table, 0, 1))
+    Ok(ShardBook::open(alloc, seed, table, 0, 1))
 }
 
 /// Forty rides, each of a token of its own.

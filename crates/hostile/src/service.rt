@@ -124,7 +124,7 @@ pub(crate) fn run<R: Threads + Wait + RandomSource + Sync + Print>(rt: &R, alloc
 }
 
 /// An outcome of which each upload was posted whole.
-fn whole_outcome<R: Threads + Wait + RandomSource + Sync>(
+fn uncut_outcome<R: Threads + Wait + RandomSource + Sync>(
     rt: &R,
     alloc: Global,
 ) -> Result<Outcome, Stop> {
@@ -156,7 +156,7 @@ pub(crate) fn prints_report<R: Threads + Wait + RandomSource + Sync>(
     rt: &R,
     alloc: Global,
 ) -> Case {
-    let outcome = whole_outcome(rt, alloc)?;
+    let outcome = uncut_outcome(rt, alloc)?;
     let mut written = Vec::with_capacity(alloc, 2000)?;
     let answer = outcome.write_report(rt, alloc, &mut written);
     match is_written(answer, &written, REPORT) {
@@ -173,7 +173,7 @@ pub(crate) fn prints_statement<R: Threads + Wait + RandomSource + Sync>(
     rt: &R,
     alloc: Global,
 ) -> Case {
-    let outcome = whole_outcome(rt, alloc)?;
+    let outcome = uncut_outcome(rt, alloc)?;
     let token = Token::of(&bytes_of(0xa1));
     let mut written = Vec::with_capacity(alloc, 2000)?;
     let answer = outcome.write_statement(alloc, &token, &mut written);

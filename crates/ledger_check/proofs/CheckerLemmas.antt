@@ -12,7 +12,7 @@ use Rattle.ledger_check.specs.inside.Replays.{IsStep}
 use Rattle.ledger_check.specs.Verdicts.{HasFed, HasTaken, IsFed, IsFirstWrong, IsTrueOf, IsVerdict}
 use Rattle.ledger_check.specs.inside.Verdicts.{IsTaken, number_after}
 use Rattle.ledger_check.specs.declared.checker.Checker.{Checker}
-use Rattle.ledger_check.specs.declared.checker.Reading.{Reading}
+use Rattle.ledger_check.specs.declared.checker.LinesSoFar.{LinesSoFar}
 use Rattle.ledger_check.specs.declared.checker.Verdict.{Verdict}
 use Rattle.ledger_check.specs.declared.checker.Verdict.TheVariants.{Legal, NoLine}
 use Rattle.ledger_check.specs.declared.replay.Replay.{Replay}
@@ -23,21 +23,21 @@ apart : true ≡ false → ⊥
 apart is = cc
 
 -- before the head line nothing was read
-pub no_head : (fares : Fares) (reading : Reading) (lines : List (List ℕ)) → reading.has_head ≡ false → HasTaken fares reading lines
-    → (lines ≡ []) × HasRead fares reading.replay []
-no_head fares reading [] none taken = (refl, taken.1)
-no_head fares reading (l ∷ lines) none taken = absurd (apart (sym taken.0 ∙ none))
+pub no_head : (fares : Fares) (so_far : LinesSoFar) (lines : List (List ℕ)) → so_far.has_head ≡ false → HasTaken fares so_far lines
+    → (lines ≡ []) × HasRead fares so_far.replay []
+no_head fares so_far [] none taken = (refl, taken.1)
+no_head fares so_far (l ∷ lines) none taken = absurd (apart (sym taken.0 ∙ none))
 
 -- behind the head line stand the lines that were read
-pub record Headed (fares : Fares) (reading : Reading) (lines : List (List ℕ)) : Type 0 where
+pub record Headed (fares : Fares) (so_far : LinesSoFar) (lines : List (List ℕ)) : Type 0 where
   pub rest : List (List ℕ)
   pub is : lines ≡ head_text ∷ rest
-  pub read : HasRead fares reading.replay rest
+  pub read : HasRead fares so_far.replay rest
 
-pub headed : (fares : Fares) (reading : Reading) (lines : List (List ℕ)) → reading.has_head ≡ true → HasTaken fares reading lines
-    → Headed fares reading lines
-headed fares reading [] some taken = absurd (apart (sym some ∙ taken.0))
-headed fares reading (l ∷ lines) some taken = record { rest = lines; is = ap (λ (x : List ℕ). x ∷ lines) taken.1; read = taken.2 }
+pub headed : (fares : Fares) (so_far : LinesSoFar) (lines : List (List ℕ)) → so_far.has_head ≡ true → HasTaken fares so_far lines
+    → Headed fares so_far lines
+headed fares so_far [] some taken = absurd (apart (sym some ∙ taken.0))
+headed fares so_far (l ∷ lines) some taken = record { rest = lines; is = ap (λ (x : List ℕ). x ∷ lines) taken.1; read = taken.2 }
 
 abbrev pub first_wrong : (fares : Fares) (replay : Replay) (rest : List (List ℕ)) (line : List ℕ) (more : List (List ℕ)) (number : ℕ)
     → HasRead fares replay rest → number ≡ replay.lines + 2 → IsWrongAfter fares rest line
@@ -54,29 +54,29 @@ first_wrong fares replay rest line more number read counted wrong = record {
 }
 
 -- a line that is neither the head line nor can follow what was read
-pub no_line_true : (fares : Fares) (reading : Reading) (lines : List (List ℕ)) (line : List ℕ) (more : List (List ℕ)) → HasTaken fares reading lines
-    → line ≢ head_text → ((rest : List (List ℕ)) → HasRead fares reading.replay rest → IsWrongAfter fares rest line)
-    → IsTrueOf fares (lines ++ line ∷ more) (NoLine (number_after reading))
-no_line_true fares reading [] line more taken other wrong =
-    inl (ap (λ (b : Bool). cond b (reading.replay.lines + 2) 1) taken.0, λ others is. other (same_head line head_text more others is))
+pub no_line_true : (fares : Fares) (so_far : LinesSoFar) (lines : List (List ℕ)) (line : List ℕ) (more : List (List ℕ)) → HasTaken fares so_far lines
+    → line ≢ head_text → ((rest : List (List ℕ)) → HasRead fares so_far.replay rest → IsWrongAfter fares rest line)
+    → IsTrueOf fares (lines ++ line ∷ more) (NoLine (number_after so_far))
+no_line_true fares so_far [] line more taken other wrong =
+    inl (ap (λ (b : Bool). cond b (so_far.replay.lines + 2) 1) taken.0, λ others is. other (same_head line head_text more others is))
   where
     same_head : (a b : List ℕ) (xs ys : List (List ℕ)) → a ∷ xs ≡ b ∷ ys → a ≡ b
     same_head a b xs ys is = cc
-no_line_true fares reading (l ∷ lines) line more taken other wrong =
-    inr (subst (λ (head : List ℕ). IsFirstWrong fares (head ∷ (lines ++ line ∷ more)) (number_after reading)) (sym taken.1)
-    (first_wrong fares reading.replay lines line more (number_after reading) taken.2
-    (ap (λ (b : Bool). cond b (reading.replay.lines + 2) 1) taken.0) (wrong lines taken.2)))
+no_line_true fares so_far (l ∷ lines) line more taken other wrong =
+    inr (subst (λ (head : List ℕ). IsFirstWrong fares (head ∷ (lines ++ line ∷ more)) (number_after so_far)) (sym taken.1)
+    (first_wrong fares so_far.replay lines line more (number_after so_far) taken.2
+    (ap (λ (b : Bool). cond b (so_far.replay.lines + 2) 1) taken.0) (wrong lines taken.2)))
 
 -- the head line's length
 head_short : length head_text ≤ 255
 head_short = omega arith
 
-pub long_true : (fares : Fares) (reading : Reading) (lines : List (List ℕ)) (line : List ℕ) (more : List (List ℕ)) → HasTaken fares reading lines
-    → 255 < length line → IsTrueOf fares (lines ++ line ∷ more) (NoLine (number_after reading))
-long_true fares reading lines line more taken long =
-    no_line_true fares reading lines line more taken
+pub long_true : (fares : Fares) (so_far : LinesSoFar) (lines : List (List ℕ)) (line : List ℕ) (more : List (List ℕ)) → HasTaken fares so_far lines
+    → 255 < length line → IsTrueOf fares (lines ++ line ∷ more) (NoLine (number_after so_far))
+long_true fares so_far lines line more taken long =
+    no_line_true fares so_far lines line more taken
     (λ is. let same : length line ≤ 255 = subst (λ (l : List ℕ). length l ≤ 255) (sym is) head_short in absurd (omega arith))
-    (λ rest read. wrong_long fares reading.replay rest line read long)
+    (λ rest read. wrong_long fares so_far.replay rest line read long)
 
 -- a ledger's line ends with a newline
 next_ends : (fares : Fares) (earlier : List Entry) (entry : Entry) (line : List ℕ) → IsNext fares earlier entry line → Lacks 10 line → ⊥
@@ -85,18 +85,18 @@ next_ends fares earlier entry line is lacks =
     let one = lacks-end 10 (line_head entry.token _) _ (subst (Lacks 10) shown.shown lacks) in
     let two = lacks-end 10 shown.moment _ one in
     let three = lacks-end 10 (entry_fields fares entry) _ two in
-    let four = lacks-end 10 shown.because (10 ∷ []) three in
+    let four = lacks-end 10 shown.reason_fields (10 ∷ []) three in
     four.0 refl
 
 head_ends : (line : List ℕ) → Lacks 10 line → line ≢ head_text
 head_ends line lacks is =
     lacks-last 10 (codes "token,line,moment,validator,mode,answer,cents,window_start,window_end,ride,reason,points_at") line is lacks
 
-pub begun_true : (fares : Fares) (reading : Reading) (lines : List (List ℕ)) (begun : List ℕ) (more : List (List ℕ)) → HasTaken fares reading lines
-    → Lacks 10 begun → IsTrueOf fares (lines ++ begun ∷ more) (NoLine (number_after reading))
-begun_true fares reading lines begun more taken lacks =
-    no_line_true fares reading lines begun more taken (head_ends begun lacks)
-    (λ rest read. wrong fares reading.replay rest begun read (λ entry is. next_ends fares read.entries entry begun is lacks))
+pub begun_true : (fares : Fares) (so_far : LinesSoFar) (lines : List (List ℕ)) (begun : List ℕ) (more : List (List ℕ)) → HasTaken fares so_far lines
+    → Lacks 10 begun → IsTrueOf fares (lines ++ begun ∷ more) (NoLine (number_after so_far))
+begun_true fares so_far lines begun more taken lacks =
+    no_line_true fares so_far lines begun more taken (head_ends begun lacks)
+    (λ rest read. wrong fares so_far.replay rest begun read (λ entry is. next_ends fares read.entries entry begun is lacks))
 
 -- a piece without a newline
 pub cut_more : (fares : Fares) (checker : Checker) (text piece : List ℕ) (fed : HasFed fares checker text) (more : List ℕ)
@@ -106,11 +106,11 @@ cut_more fares checker text piece fed more =
     ∙ ap (λ (t : List ℕ). fed.lines ++ lines_of t) (sym (append_assoc checker.begun.items piece more))
 
 abbrev pub kept : (fares : Fares) (checker after : Checker) (text piece : List ℕ) → HasFed fares checker text → Lacks 10 piece
-    → after.reading ≡ checker.reading → after.begun.items ≡ checker.begun.items ++ piece → length after.begun.items ≤ 255
+    → after.so_far ≡ checker.so_far → after.begun.items ≡ checker.begun.items ++ piece → length after.begun.items ≤ 255
     → HasFed fares after (text ++ piece)
 kept fares checker after text piece fed lacks same begun short = record {
   lines = fed.lines;
-  taken = subst (λ (r : Reading). HasTaken fares r fed.lines) (sym same) fed.taken;
+  taken = subst (λ (r : LinesSoFar). HasTaken fares r fed.lines) (sym same) fed.taken;
   split = λ more. cut_more fares checker text piece fed more ∙ ap (λ (p : List ℕ). fed.lines ++ lines_of (p ++ more)) (sym begun);
   lacks = subst (Lacks 10) (sym begun) (lacks-append 10 checker.begun.items piece fed.lacks lacks);
   short = short;
@@ -118,15 +118,15 @@ kept fares checker after text piece fed lacks same begun short = record {
 
 pub too_long : (fares : Fares) (checker : Checker) (text piece whole : List ℕ) → HasFed fares checker text → Lacks 10 piece
     → whole ≡ checker.begun.items ++ piece → 255 < length whole
-    → (more : List ℕ) → IsVerdict fares ((text ++ piece) ++ more) (NoLine (number_after checker.reading))
+    → (more : List ℕ) → IsVerdict fares ((text ++ piece) ++ more) (NoLine (number_after checker.so_far))
 too_long fares checker text piece whole fed lacks begun long more =
     let joined = checker.begun.items ++ piece in
     let size : 255 < length joined = subst (λ (p : List ℕ). 255 < length p) begun long in
     let opens = lines-open joined more (lacks-append 10 checker.begun.items piece fed.lacks lacks) (omega arith) in
     let line = joined ++ opens.rest in
-    subst (λ (ls : List (List ℕ)). IsTrueOf fares ls (NoLine (number_after checker.reading)))
+    subst (λ (ls : List (List ℕ)). IsTrueOf fares ls (NoLine (number_after checker.so_far)))
     (sym (cut_more fares checker text piece fed more ∙ ap (λ (ls : List (List ℕ)). fed.lines ++ ls) opens.is))
-    (long_true fares checker.reading fed.lines line opens.after fed.taken (omega (arith, length-append joined opens.rest)))
+    (long_true fares checker.so_far fed.lines line opens.after fed.taken (omega (arith, length-append joined opens.rest)))
 
 -- a piece that ends a line
 line_cut : (fares : Fares) (checker : Checker) (text line : List ℕ) (fed : HasFed fares checker text) → IsLine line → (more : List ℕ)
@@ -156,7 +156,7 @@ pub none_lacks : (begun : List ℕ) → begun ≡ [] → Lacks 10 begun
 none_lacks begun empty = subst (Lacks 10) (sym empty) tt
 
 abbrev pub took_whole : (fares : Fares) (checker after : Checker) (text line whole : List ℕ) → (fed : HasFed fares checker text) → IsLine line
-    → whole ≡ checker.begun.items ++ line → after.begun.items ≡ [] → HasTaken fares after.reading (fed.lines ++ whole ∷ [])
+    → whole ≡ checker.begun.items ++ line → after.begun.items ≡ [] → HasTaken fares after.so_far (fed.lines ++ whole ∷ [])
     → HasFed fares after (text ++ line)
 took_whole fares checker after text line whole fed is joined empty taken = record {
   lines = fed.lines ++ whole ∷ [];
@@ -167,7 +167,7 @@ took_whole fares checker after text line whole fed is joined empty taken = recor
 }
 
 pub took_line : (fares : Fares) (checker after : Checker) (text line whole : List ℕ) (told : Option Verdict) → (fed : HasFed fares checker text) → IsLine line
-    → whole ≡ checker.begun.items ++ line → after.begun.items ≡ [] → IsTaken fares after.reading fed.lines whole told
+    → whole ≡ checker.begun.items ++ line → after.begun.items ≡ [] → IsTaken fares after.so_far fed.lines whole told
     → IsFed fares after (text ++ line) told
 took_line fares checker after text line whole None fed is joined empty taken = took_whole fares checker after text line whole fed is joined empty taken
 took_line fares checker after text line whole (Some verdict) fed is joined empty taken = λ more.
@@ -181,12 +181,12 @@ whole_cut fares checker text fed =
     ap lines_of (sym (append-nil text)) ∙ fed.split [] ∙ ap (λ (p : List ℕ). fed.lines ++ lines_of p) (append-nil checker.begun.items)
 
 pub ended_in_line : (fares : Fares) (checker : Checker) (text : List ℕ) → HasFed fares checker text → 0 < length checker.begun.items
-    → IsVerdict fares text (NoLine (number_after checker.reading))
+    → IsVerdict fares text (NoLine (number_after checker.so_far))
 ended_in_line fares checker text fed some =
     let begun = checker.begun.items in
-    subst (λ (ls : List (List ℕ)). IsTrueOf fares ls (NoLine (number_after checker.reading)))
+    subst (λ (ls : List (List ℕ)). IsTrueOf fares ls (NoLine (number_after checker.so_far)))
     (sym (whole_cut fares checker text fed ∙ ap (λ (ls : List (List ℕ)). fed.lines ++ ls) (lines-part begun fed.lacks some)))
-    (begun_true fares checker.reading fed.lines begun [] fed.taken fed.lacks)
+    (begun_true fares checker.so_far fed.lines begun [] fed.taken fed.lacks)
 
 pub ended_at_line : (fares : Fares) (checker : Checker) (text : List ℕ) (fed : HasFed fares checker text) → checker.begun.items ≡ [] → lines_of text ≡ fed.lines
 unfolding lines_of
@@ -194,11 +194,11 @@ ended_at_line fares checker text fed empty =
     whole_cut fares checker text fed ∙ ap (λ (p : List ℕ). fed.lines ++ lines_of p) empty ∙ append-nil fed.lines
 
 pub ended_headless : (fares : Fares) (checker : Checker) (text : List ℕ) → HasFed fares checker text → checker.begun.items ≡ []
-    → checker.reading.has_head ≡ false → IsVerdict fares text (NoLine (number_after checker.reading))
+    → checker.so_far.has_head ≡ false → IsVerdict fares text (NoLine (number_after checker.so_far))
 ended_headless fares checker text fed empty none =
-    let first = no_head fares checker.reading fed.lines none fed.taken in
+    let first = no_head fares checker.so_far fed.lines none fed.taken in
     inl (
-      ap (λ (b : Bool). cond b (checker.reading.replay.lines + 2) 1) none,
+      ap (λ (b : Bool). cond b (checker.so_far.replay.lines + 2) 1) none,
       λ others is.
           nothing others (sym (ended_at_line fares checker text fed empty ∙ first.0) ∙ is),
     )
@@ -206,10 +206,10 @@ ended_headless fares checker text fed empty none =
     nothing : (others : List (List ℕ)) → [] ≡ head_text ∷ others → ⊥
     nothing others is = cc
 
-pub ended_whole : (fares : Fares) (checker : Checker) (text : List ℕ) → HasFed fares checker text → checker.begun.items ≡ []
-    → checker.reading.has_head ≡ true → IsVerdict fares text (Legal checker.reading.replay.lines)
-ended_whole fares checker text fed empty some =
-    let head = headed fares checker.reading fed.lines some fed.taken in
+pub ended_well : (fares : Fares) (checker : Checker) (text : List ℕ) → HasFed fares checker text → checker.begun.items ≡ []
+    → checker.so_far.has_head ≡ true → IsVerdict fares text (Legal checker.so_far.replay.lines)
+ended_well fares checker text fed empty some =
+    let head = headed fares checker.so_far fed.lines some fed.taken in
     record {
       others = head.rest;
       split = ended_at_line fares checker text fed empty ∙ head.is;
@@ -242,7 +242,7 @@ empty_list [] none = refl
 empty_list (b ∷ text) none = absurd (omega arith)
 
 pub ended_unheaded : (fares : Fares) (checker : Checker) (text : List ℕ) → HasFed fares checker text
-    → checker.reading.has_head ≡ false → IsVerdict fares text (NoLine (number_after checker.reading))
+    → checker.so_far.has_head ≡ false → IsVerdict fares text (NoLine (number_after checker.so_far))
 ended_unheaded fares checker text fed none =
     ⊎_elim
     (λ (some : 0 < length checker.begun.items). ended_in_line fares checker text fed some)

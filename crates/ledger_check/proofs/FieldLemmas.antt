@@ -218,7 +218,7 @@ pub first_fields : (fares : Fares) (token : Token) (number : ℕ) (entry : Entry
 unfolding entry_fields
 first_fields fares token number entry why line is =
     let tail = mode_field fares entry.validator ++ (44 ∷ [] ++ (answer_text entry.answer ++ (44 ∷ [] ++ (decimal entry.cents ++ 44 ∷ [])))) in
-    let end = is.because ++ 10 ∷ [] in
+    let end = is.reason_fields ++ 10 ∷ [] in
     record {
       moment = is.moment;
       is = is.is;

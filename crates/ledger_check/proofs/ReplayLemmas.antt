@@ -81,7 +81,7 @@ pub wrong_less : (fares : Fares) (replay : Replay) (lines : List (List ℕ)) (li
 wrong_less fares replay lines line tap read tells less =
     wrong fares replay lines line read (λ entry is.
     let of = tap_of_next fares read.entries entry line tap tells is in
-    less read.entries read.teller (subst (λ (t : Token). All (λ (e : Entry). token_number e.token ≤ token_number t) read.entries) of.token is.rises))
+    less read.entries read.teller (subst (λ (t : Token). All (λ (e : Entry). token_number e.token ≤ token_number t) read.entries) of.token is.no_fall))
 
 -- the entry that the tap makes, and its line
 pub same_next : (fares : Fares) (teller after : Teller) (earlier : List Entry) (line wanted : List ℕ) (tap : Tap) (goes : GoesOn fares teller earlier tap.validator tap.moment wanted after)

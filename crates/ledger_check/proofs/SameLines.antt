@@ -19,7 +19,7 @@ use Rattle.fare_table.specs.Token.{bytes_of}
 use Rattle.shard_book.specs.declared.entry.Entry.{Entry}
 use Rattle.fare_table.specs.declared.token.Token.{Token}
 use Rattle.fare_texts.specs.Moments.{IsCivilText, IsMomentText, clock_text}
-use Rattle.reason_texts.specs.Ledger.{IsBecause, IsLedgerLine, IsPointing, IsRideFields, entry_fields, line_head, ride_rest}
+use Rattle.reason_texts.specs.Ledger.{IsReasonFields, IsLedgerLine, IsPointing, IsRideFields, entry_fields, line_head, ride_rest}
 use Rattle.ledger_check.specs.Ledger.{IsNextLine, IsNext}
 use Rattle.ledger_check.specs.inside.Taps.{IsOf}
 use Rattle.ledger_check.specs.declared.tap.Tap.{Tap}
@@ -58,11 +58,11 @@ ride_same start until charge a b is also =
     ∙ ap (λ (t : List ℕ). also.from ++ (44 ∷ [] ++ (t ++ rest))) (moment_same until is.to also.to is.ends also.ends)
     ∙ sym also.shown
 
-because_same : (why : Reason) (a b : List ℕ) → IsBecause why a → IsBecause why b → a ≡ b
-because_same Unknown a b is also = is ∙ sym also
-because_same (Stale latest) a b is also = pointing_same _ latest a b is also
-because_same (Transfer moment mode) a b is also = pointing_same _ moment a b is also
-because_same (Ride start until charge) a b is also = ride_same start until charge a b is also
+reason_fields_same : (why : Reason) (a b : List ℕ) → IsReasonFields why a → IsReasonFields why b → a ≡ b
+reason_fields_same Unknown a b is also = is ∙ sym also
+reason_fields_same (Stale latest) a b is also = pointing_same _ latest a b is also
+reason_fields_same (Transfer moment mode) a b is also = pointing_same _ moment a b is also
+reason_fields_same (Ride start until charge) a b is also = ride_same start until charge a b is also
 
 pub line_same : (fares : Fares) (token : Token) (number : ℕ) (entry : Entry) (why : Reason) (a b : List ℕ)
     → IsLedgerLine fares token number entry why a → IsLedgerLine fares token number entry why b → a ≡ b
@@ -70,8 +70,8 @@ line_same fares token number entry why a b is also =
     let head = line_head token number in
     let fields = entry_fields fares entry in
     is.shown
-    ∙ ap (λ (t : List ℕ). head ++ (t ++ (fields ++ (is.because ++ 10 ∷ [])))) (moment_same entry.moment is.moment also.moment is.is also.is)
-    ∙ ap (λ (t : List ℕ). head ++ (also.moment ++ (fields ++ (t ++ 10 ∷ [])))) (because_same why is.because also.because is.told also.told)
+    ∙ ap (λ (t : List ℕ). head ++ (t ++ (fields ++ (is.reason_fields ++ 10 ∷ [])))) (moment_same entry.moment is.moment also.moment is.is also.is)
+    ∙ ap (λ (t : List ℕ). head ++ (also.moment ++ (fields ++ (t ++ 10 ∷ [])))) (reason_fields_same why is.reason_fields also.reason_fields is.told also.told)
     ∙ sym also.shown
 
 abbrev entry_by : Token → ℕ → ℕ → Answer → ℕ → Entry

@@ -63,7 +63,7 @@ struck_more fares lines rest line tap fields old new good is tells same strikes 
 
 pub took_struck : (fares : Fares) (checker after : Checker) (old new : Balance) (text line whole : List ℕ) (good : List TapFields) (told : Option Verdict)
     → (is : HasStruck fares checker old text good) → IsLine line → whole ≡ checker.begun.items ++ line → after.begun.items ≡ []
-    → IsTaken fares after.reading is.fed.lines whole told → IfUntold told (AreStruck fares (is.fed.lines ++ whole ∷ []) new good)
+    → IsTaken fares after.so_far is.fed.lines whole told → IfUntold told (AreStruck fares (is.fed.lines ++ whole ∷ []) new good)
     → IfUntold told (HasStruck fares after new (text ++ line) good)
 took_struck fares checker after old new text line whole good None is ends joined empty taken struck = record {
   fed = took_whole fares checker after text line whole is.fed ends joined empty taken;

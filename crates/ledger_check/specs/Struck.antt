@@ -22,7 +22,7 @@ AreTapsOfLines fares [] taps = taps ≡ []
 AreTapsOfLines fares (head ∷ lines) taps =
     (entries : List Entry) → AreNext fares [] entries lines → map tap_of_entry entries ≡ taps
 
--- the taps of these lines were struck out, of those that were posted
+-- the taps of these lines were struck out of the good taps
 pub record AreStruck (fares : Fares) (lines : List (List ℕ)) (balance : Balance)
     (good : List TapFields) : Type 0 where
   pub taps : List TapFields

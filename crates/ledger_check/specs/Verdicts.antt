@@ -8,7 +8,7 @@ use Rattle.ledger_check.specs.Ledger.{AreNext, IsLedger}
 use Rattle.ledger_check.specs.Lines.{Lacks, lines_of}
 use Rattle.ledger_check.specs.Replays.{HasRead, IsWanted, IsWrongAfter}
 use Rattle.ledger_check.specs.declared.checker.Checker.{Checker}
-use Rattle.ledger_check.specs.declared.checker.Reading.{Reading}
+use Rattle.ledger_check.specs.declared.checker.LinesSoFar.{LinesSoFar}
 use Rattle.ledger_check.specs.declared.checker.Verdict.{Verdict}
 use Rattle.ledger_check.specs.declared.checker.Verdict.TheVariants.{Legal, Wants, NoLine}
 
@@ -66,16 +66,16 @@ VerdictsDecide =
     → IsTrue (is_legal verdict) ↔ IsLedger fares text
 
 -- these lines were read, the head line first
-abbrev pub HasTaken : Fares → Reading → List (List ℕ) → Type 0
-HasTaken fares reading [] = (reading.has_head ≡ false) × HasRead fares reading.replay []
-HasTaken fares reading (line ∷ lines) =
-    (reading.has_head ≡ true) × (line ≡ head_text) × HasRead fares reading.replay lines
+abbrev pub HasTaken : Fares → LinesSoFar → List (List ℕ) → Type 0
+HasTaken fares so_far [] = (so_far.has_head ≡ false) × HasRead fares so_far.replay []
+HasTaken fares so_far (line ∷ lines) =
+    (so_far.has_head ≡ true) × (line ≡ head_text) × HasRead fares so_far.replay lines
 
 -- the checker has read this text and found no wrong line: these whole lines, and some of the next
 -- one
 pub record HasFed (fares : Fares) (checker : Checker) (text : List ℕ) : Type 0 where
   pub lines : List (List ℕ)
-  pub taken : HasTaken fares checker.reading lines
+  pub taken : HasTaken fares checker.so_far lines
   pub split : (more : List ℕ)
       → lines_of (text ++ more) ≡ lines ++ lines_of (checker.begun.items ++ more)
   pub lacks : Lacks 10 checker.begun.items

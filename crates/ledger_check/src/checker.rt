@@ -36,7 +36,7 @@ pub enum Verdict {
 
 /// The lines read so far, the head line first.
 #[derive(Drop)]
-struct Reading {
+struct LinesSoFar {
     /// Whether the head line was read.
     has_head: bool,
     /// The lines behind it.
@@ -45,7 +45,7 @@ struct Reading {
     wanted: String,
 }
 
-impl Reading {
+impl LinesSoFar {
     /// The next line is no ledger line.
     fn no_line(&self) -> Verdict
         requires { (fares : Fares) × (lines : List (List ℕ)) × HasTaken fares self.now lines }
@@ -99,7 +99,7 @@ impl Reading {
 #[derive(Drop)]
 pub struct Checker {
     /// The whole lines.
-    reading: Reading,
+    so_far: LinesSoFar,
     /// The beginning of the line whose end has not come yet.
     begun: Vec<u8>,
 }
@@ -112,7 +112,7 @@ impl Checker {
             → IsBalance balance good [] → HasStruck fares result balance [] good }
     {
         Checker {
-            reading: Reading {
+            so_far: LinesSoFar {
                 has_head: false,
                 replay: Replay::new(),
                 wanted: String::new(alloc),
@@ -175,12 +175,12 @@ impl Checker {
             → IfUntold told (HasStruck table.now self.new balance.new (text ++ line.now) good)) }
     {
         if self.begun.is_empty() {
-            let told = self.reading.take(table, clock, line, balance)?;
+            let told = self.so_far.take(table, clock, line, balance)?;
             return Ok(told);
         }
         self.begun.extend_from_slice(line)?;
         let told = self
-            .reading
+            .so_far
             .take(table, clock, self.begun.as_slice(), balance)?;
         self.begun.clear();
         Ok(told)
@@ -198,7 +198,7 @@ impl Checker {
     {
         self.begun.extend_from_slice(rest)?;
         if self.begun.len() > MAX_LINE_BYTES {
-            return Ok(Some(self.reading.no_line()));
+            return Ok(Some(self.so_far.no_line()));
         }
         Ok(None)
     }
@@ -215,9 +215,9 @@ impl Checker {
             → IsTrue (is_legal result) → (entries : List Entry) → IsLedgerOf fares entries text
             → IsBalance balance good (map tap_of_entry entries) }
     {
-        if !self.reading.has_head || !self.begun.is_empty() {
-            return self.reading.no_line();
+        if !self.so_far.has_head || !self.begun.is_empty() {
+            return self.so_far.no_line();
         }
-        Verdict::Legal(self.reading.replay.lines)
+        Verdict::Legal(self.so_far.replay.lines)
     }
 }

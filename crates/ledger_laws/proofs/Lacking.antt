@@ -20,7 +20,7 @@ use Rattle.shard_book.specs.declared.entry.Entry.{Entry}
 use Rattle.fare_table.specs.declared.token.Token.{Token}
 use Rattle.fare_texts.specs.Moments.{IsCivilText, IsMomentText, clock_text, pad3}
 use Rattle.fare_texts.specs.StatementText.{answer_text}
-use Rattle.reason_texts.specs.Ledger.{IsBecause, IsLedgerLine, entry_fields, line_head, mode_field, name_or_empty, placed, ride_rest}
+use Rattle.reason_texts.specs.Ledger.{IsReasonFields, IsLedgerLine, entry_fields, line_head, mode_field, name_or_empty, placed, ride_rest}
 use Rattle.ledger_check.specs.Lines.{Lacks}
 use Rattle.ledger_check.proofs.LineLemmas.{has_none, lacks-append, lacks-at, lacks-tested}
 use Rattle.ledger_laws.specs.Written.{AreLetters}
@@ -173,13 +173,13 @@ ride_free (CeilingCut place cents) = placed_free place (codes "ceiling-cut") (wr
 ride_free (CeilingReached place) = placed_free place (codes "ceiling") (written (codes "ceiling") refl)
 ride_free RideLimitReached = written (codes ",,ride-limit,") refl
 
-because_lacks : (why : Reason) (text : List ℕ) → IsBecause why text → Lacks 10 text
-because_lacks Unknown text is = subst (Lacks 10) (sym is) (lacks-tested 10 (codes ",,,unknown,") refl)
-because_lacks (Stale latest) text is =
+reason_fields_lacks : (why : Reason) (text : List ℕ) → IsReasonFields why text → Lacks 10 text
+reason_fields_lacks Unknown text is = subst (Lacks 10) (sym is) (lacks-tested 10 (codes ",,,unknown,") refl)
+reason_fields_lacks (Stale latest) text is =
     subst (Lacks 10) (sym is.shown) (lacks-append 10 (codes ",,,stale,") is.moment (lacks-tested 10 (codes ",,,stale,") refl) (moment_lacks latest is.moment is.is))
-because_lacks (Transfer moment mode) text is =
+reason_fields_lacks (Transfer moment mode) text is =
     subst (Lacks 10) (sym is.shown) (lacks-append 10 (codes ",,,transfer,") is.moment (lacks-tested 10 (codes ",,,transfer,") refl) (moment_lacks moment is.moment is.is))
-because_lacks (Ride start until charge) text is =
+reason_fields_lacks (Ride start until charge) text is =
     let from = free is.from (moment_lacks start is.from is.starts) in
     let to = free is.to (moment_lacks until is.to is.ends) in
     subst (Lacks 10) (sym is.shown) (both from (both comma (both to (ride_free charge)))).lacks
@@ -198,8 +198,8 @@ five a b c d e =
 pub line_ends_once : (fares : Fares) (token : Token) (place : ℕ) (entry : Entry) (why : Reason) (line : List ℕ) → AreLetters fares.rules.modes
     → IsLedgerLine fares token place entry why line → EndsOnce line
 line_ends_once fares token place entry why line letters is = record {
-  front = line_head token place ++ (is.moment ++ (entry_fields fares entry ++ is.because));
+  front = line_head token place ++ (is.moment ++ (entry_fields fares entry ++ is.reason_fields));
   lacks = (both (head_free token place) (both (free is.moment (moment_lacks entry.moment is.moment is.is))
-      (both (fields_free fares entry letters) (free is.because (because_lacks why is.because is.told))))).lacks;
-  shown = is.shown ∙ five (line_head token place) is.moment (entry_fields fares entry) is.because (10 ∷ []);
+      (both (fields_free fares entry letters) (free is.reason_fields (reason_fields_lacks why is.reason_fields is.told))))).lacks;
+  shown = is.shown ∙ five (line_head token place) is.moment (entry_fields fares entry) is.reason_fields (10 ∷ []);
 }

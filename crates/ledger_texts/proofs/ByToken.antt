@@ -21,7 +21,7 @@ use Rattle.shard_book.proofs.TokenLemmas.{token_cmp-total, token_cmp-ties}
 use Rattle.reason_texts.specs.Ledger.{AreLinesAfter, AreTokenLines, IsLedgerLine, reason_after}
 use Rattle.ledger_texts.specs.Ledger.{AreLinesOfEach}
 use Rattle.ledger_texts.specs.inside.Lines.{AreLinesAlong, AreUpTo, IsByToken, IsLineAfter, IsUpTo}
-use Rattle.ledger_texts.specs.inside.Lines.{Rise, RiseFrom}
+use Rattle.ledger_texts.specs.inside.Lines.{NoFall, NoFallFrom}
 use Rattle.ledger_texts.proofs.Rising.{none_above, none_below, own_both, own_here, own_none}
 use Rattle.ledger_texts.proofs.Rising.{own_not, own_push, up_apart, up_itself, up_push, up_weaker}
 
@@ -132,17 +132,17 @@ module _ (fares : Fares) (whole before : List Entry) (entry : Entry) (rest : Lis
 
   -- the entry is of a later token than the one whose lines were told
   next_case : (token : Token) → AreUpTo before token → IsUpTo token entry.token
-      → RiseFrom entry.token rest → token_eq entry.token token ≡ false
+      → NoFallFrom entry.token rest → token_eq entry.token token ≡ false
       → token_eq token entry.token ≡ false
       → RestOfToken fares whole entry.token (before ++ entry ∷ []) rest more
       → RestOfToken fares whole token before (entry ∷ rest) text
   unfolding IsStrictlySortedBy
-  next_case token up to rise apart beyond g =
+  next_case token up to no_fall apart beyond g =
       let less = up_apart token entry.token to apart in
       record {
         own_lines = [];
         of_own = subst (λ (es : List Entry). AreLinesAfter fares token (own token before) es [])
-            (sym (own_not token entry rest apart ∙ none_above token entry.token rest to apart rise))
+            (sym (own_not token entry rest apart ∙ none_above token entry.token rest to apart no_fall))
             refl;
         others = entry.token ∷ g.others;
         rises = ((less, below_all token entry.token g.others less g.rises.0), g.rises);
@@ -167,10 +167,10 @@ no_more fares whole token before text none = record {
 }
 
 rest_of_token : (fares : Fares) (whole : List Entry) (token : Token) (before rest : List Entry)
-    (text : List ℕ) → whole ≡ before ++ rest → AreUpTo before token → RiseFrom token rest
+    (text : List ℕ) → whole ≡ before ++ rest → AreUpTo before token → NoFallFrom token rest
     → AreLinesAlong fares before rest text → RestOfToken fares whole token before rest text
-rest_of_token fares whole token before [] text is up rise none = no_more fares whole token before text none
-rest_of_token fares whole token before (entry ∷ rest) text is up rise (line, more, told, along, shown) =
+rest_of_token fares whole token before [] text is up no_fall none = no_more fares whole token before text none
+rest_of_token fares whole token before (entry ∷ rest) text is up no_fall (line, more, told, along, shown) =
     let longer : whole ≡ (before ++ entry ∷ []) ++ rest =
     is ∙ sym (append_assoc before (entry ∷ []) rest) in
     ⊎_elim
@@ -180,25 +180,25 @@ rest_of_token fares whole token before (entry ∷ rest) text is up rise (line, m
     (rest_of_token fares whole token (before ++ entry ∷ []) rest more longer
     (up_push before entry token up
     (subst (λ (t : Token). IsUpTo t token) (sym same) (up_itself token)))
-    (subst (λ (t : Token). RiseFrom t rest) same rise.1) along))
+    (subst (λ (t : Token). NoFallFrom t rest) same no_fall.1) along))
     (λ (apart : token_eq entry.token token ≡ false).
-    next_case fares whole before entry rest line more text is told shown token up rise.0 rise.1
+    next_case fares whole before entry rest line more text is told shown token up no_fall.0 no_fall.1
     apart (token_eq-sym token entry.token ∙ apart)
     (rest_of_token fares whole entry.token (before ++ entry ∷ []) rest more longer
-    (up_push before entry entry.token (up_weaker before token entry.token up rise.0)
-    (up_itself entry.token)) rise.1 along))
+    (up_push before entry entry.token (up_weaker before token entry.token up no_fall.0)
+    (up_itself entry.token)) no_fall.1 along))
     (cases_Bool (token_eq entry.token token))
 
 -- the lines along entries in order of token are those of each token, rising
-each_token : (fares : Fares) (entries : List Entry) (text : List ℕ) → Rise entries
+each_token : (fares : Fares) (entries : List Entry) (text : List ℕ) → NoFall entries
     → AreLinesAlong fares [] entries text
     → (order : List Token) × IsRising token_cmp (map token_of entries) order
     × AreLinesOfEach fares entries order text
 unfolding IsStrictlySortedBy
-each_token fares [] text rise none = ([], record { rises = tt; same = λ key. refl }, none)
-each_token fares (entry ∷ rest) text rise (line, more, told, along, shown) =
+each_token fares [] text no_fall none = ([], record { rises = tt; same = λ key. refl }, none)
+each_token fares (entry ∷ rest) text no_fall (line, more, told, along, shown) =
     let g = rest_of_token fares (entry ∷ rest) entry.token (entry ∷ []) rest more refl
-    (up_itself entry.token, tt) rise along in (
+    (up_itself entry.token, tt) no_fall along in (
       entry.token ∷ g.others,
       record { rises = g.rises; same = g.members },
       each_lines fares (entry ∷ rest) [] entry rest line more text refl told shown
@@ -218,12 +218,12 @@ each_same fares entries others (token ∷ order) text same (lines, rest, are, ea
   shown,
 )
 
-pub each_token : (fares : Fares) (entries list : List Entry) (text : List ℕ) → IsByToken entries list
+pub every_token : (fares : Fares) (entries list : List Entry) (text : List ℕ) → IsByToken entries list
     → AreLinesAlong fares [] list text
     → AreLinesOfEach fares entries (tokens entries) text
 unfolding tokens
-each_token fares entries list text is along =
-    let (order, risen, each) = each_token fares list text is.rise along in
+every_token fares entries list text is along =
+    let (order, risen, each) = each_token fares list text is.no_fall along in
     let same : order ≡ rising token_cmp (map token_of entries) =
     rising-only token_cmp-total token_cmp-ties (map token_of entries) order (record {
       rises = risen.rises;

@@ -1,4 +1,4 @@
--- Tokens that rise, and the entries of one token among entries in order of token.
+-- Tokens that do not fall, and the entries of one token among entries in order of token.
 use Rattle.std.proofs.Common.{◌≡◌, Bool, true, false, cond, List, [], ◌∷◌, ◌++◌, refl, sym, ap}
 use Rattle.std.proofs.Common.{subst, ◌∙◌}
 use Rattle.std.specs.List.{filter}
@@ -16,7 +16,7 @@ use Rattle.shard_book.specs.declared.entry.Entry.{Entry}
 use Rattle.fare_table.specs.declared.token.Token.{Token}
 use Rattle.shard_book.proofs.Histories.{same_token, token_eq-refl}
 use Rattle.shard_book.proofs.TokenLemmas.{token_cmp-total, token_cmp-ties}
-use Rattle.ledger_texts.specs.inside.Lines.{AreUpTo, IsUpTo, RiseFrom}
+use Rattle.ledger_texts.specs.inside.Lines.{AreUpTo, IsUpTo, NoFallFrom}
 
 -- ---- the order of tokens
 ranked : IsStrictWeakOrder (λ (a b : Token). is_lt (token_cmp a b))
@@ -101,22 +101,22 @@ none_below (entry ∷ entries) a b up to apart =
         let same : entry.token ≡ b = same_token entry.token b is in
         absurd (not_apart a b (up_both a b to (subst (λ (t : Token). IsUpTo t a) same up.0)) apart)
 
--- entries that rise from one token on have none of a token before it
+-- entries whose tokens do not fall from one on have none of a token before it
 pub none_above : (token from : Token) (entries : List Entry) → IsUpTo token from
-    → token_eq from token ≡ false → RiseFrom from entries → own token entries ≡ []
-none_above token from [] to apart rise = own_none token
-none_above token from (entry ∷ entries) to apart rise =
+    → token_eq from token ≡ false → NoFallFrom from entries → own token entries ≡ []
+none_above token from [] to apart no_fall = own_none token
+none_above token from (entry ∷ entries) to apart no_fall =
     let beyond = by (token_eq entry.token token) refl in
     own_not token entry entries beyond
-    ∙ none_above token entry.token entries (up_chain token from entry.token to rise.0) beyond
-    rise.1
+    ∙ none_above token entry.token entries (up_chain token from entry.token to no_fall.0) beyond
+    no_fall.1
   where
     by : (t : Bool) → token_eq entry.token token ≡ t → token_eq entry.token token ≡ false
     by false is = is
     by true is =
         let same : entry.token ≡ token = same_token entry.token token is in
         absurd (not_apart from token
-        (up_both from token (subst (λ (t : Token). IsUpTo from t) same rise.0) to) apart)
+        (up_both from token (subst (λ (t : Token). IsUpTo from t) same no_fall.0) to) apart)
 
 pub up_weaker : (entries : List Entry) (a b : Token) → AreUpTo entries a → IsUpTo a b
     → AreUpTo entries b

@@ -10,7 +10,7 @@ use Rattle.shard_book.specs.Entry.{is_of, own}
 use Rattle.fare_table.specs.Token.{token_cmp, token_eq}
 use Rattle.shard_book.specs.declared.entry.Entry.{Entry}
 use Rattle.fare_table.specs.declared.token.Token.{Token}
-use Rattle.ledger_texts.specs.inside.Lines.{IsByToken, Rise, RiseFrom}
+use Rattle.ledger_texts.specs.inside.Lines.{IsByToken, NoFall, NoFallFrom}
 use Rattle.ledger_texts.specs.inside.Spots.{entry_at_spot, seen}
 use Rattle.ledger_texts.specs.declared.spot.Spot.{Spot}
 use Rattle.shard_book.proofs.Histories.{same_token}
@@ -19,7 +19,7 @@ use Rattle.shard_book.specs.Book.{Book}
 abbrev pub key : List Book → Spot → Token
 key books spot = (entry_at_spot books spot).token
 
-rise_from : (books : List Book) (first : Spot) (list : List Spot) → IsSortedByKey (key books) token_cmp (first ∷ list) → RiseFrom (key books first) (seen books list)
+rise_from : (books : List Book) (first : Spot) (list : List Spot) → IsSortedByKey (key books) token_cmp (first ∷ list) → NoFallFrom (key books first) (seen books list)
 rise_from books first [] sorted = tt
 rise_from books first (next ∷ list) sorted = (
   sorted 0 first (omega arith) (omega arith),
@@ -28,9 +28,9 @@ rise_from books first (next ∷ list) sorted = (
       subst (λ n. is_lt (token_cmp (key books (get_or (first ∷ next ∷ list) n d)) (key books (get_or (next ∷ list) k d))) ≡ false) step (sorted (suc k) d (omega arith) (omega (arith, within)))),
 )
 
-rise : (books : List Book) (list : List Spot) → IsSortedByKey (key books) token_cmp list → Rise (seen books list)
-rise books [] sorted = tt
-rise books (first ∷ list) sorted = rise_from books first list sorted
+no_fall : (books : List Book) (list : List Spot) → IsSortedByKey (key books) token_cmp list → NoFall (seen books list)
+no_fall books [] sorted = tt
+no_fall books (first ∷ list) sorted = rise_from books first list sorted
 
 -- tokens tie in the order where they are the same
 tied : (a b : Token) → (not (is_lt (token_cmp a b)) && not (is_lt (token_cmp b a))) ≡ token_eq b a
@@ -94,6 +94,6 @@ pub sorted_by_token : (books : List Book) (old new : List Spot) → IsPermutatio
     → IsByToken (seen books old) (seen books new)
 sorted_by_token books old new moved sorted stable = record {
   moved = IsPermutation-map (entry_at_spot books) old new moved;
-  rise = rise books new sorted;
+  no_fall = no_fall books new sorted;
   kept = λ token. kept books token old new moved stable;
 }

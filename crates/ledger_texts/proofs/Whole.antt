@@ -11,7 +11,7 @@ use Rattle.fare_table.specs.declared.token.Token.{Token}
 use Rattle.reason_texts.specs.Ledger.{AreTokenLines, head_text}
 use Rattle.ledger_texts.specs.Ledger.{AreLinesOfEach, IsLedgerOfBooks}
 use Rattle.ledger_texts.specs.inside.Lines.{AreLinesAlong, IsByToken}
-use Rattle.ledger_texts.proofs.ByToken.{each_token}
+use Rattle.ledger_texts.proofs.ByToken.{every_token}
 
 pub ledger_of_all : (books : List Book) (first : Book) (fares : Fares) (list : List Entry)
     (head lines : List ℕ) → slice_get books 0 ≡ Some first → fares ≡ first.table
@@ -25,7 +25,7 @@ ledger_of_all books first fares list head lines there table by_token along is_he
       over = record {
         lines = lines;
         of_each = subst (λ (f : Fares). AreLinesOfEach f all (tokens all) lines) table
-            (each_token fares all list lines by_token along);
+            (every_token fares all list lines by_token along);
         whole = ap (λ h. h ++ lines) is_head;
       };
     }

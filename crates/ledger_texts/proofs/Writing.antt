@@ -11,7 +11,7 @@ use Rattle.shard_book.specs.declared.entry.Entry.{Entry}
 use Rattle.fare_table.specs.declared.token.Token.{Token}
 use Rattle.shard_book.proofs.Histories.{token_eq-refl}
 use Rattle.reason_texts.specs.Tellers.{HasTold}
-use Rattle.ledger_texts.specs.inside.Lines.{AreLinesAlong, AreUpTo, HasCome, IsLineAfter, IsUpTo, Rise, RiseFrom}
+use Rattle.ledger_texts.specs.inside.Lines.{AreLinesAlong, AreUpTo, HasCome, IsLineAfter, IsUpTo, NoFall, NoFallFrom}
 use Rattle.ledger_texts.specs.inside.Spots.{entry_at_spot, seen}
 use Rattle.ledger_texts.specs.declared.spot.Spot.{Spot}
 use Rattle.shard_book.specs.Book.{Book}
@@ -80,24 +80,24 @@ seen_left books list place other within =
     (rw (add-one) (drop-cons (seen books list) place (entry_at_spot books other) inside))
     ∙ ap (λ (entry : Entry). entry ∷ drop (place + 1) (seen books list)) (get_or-map (entry_at_spot books) list place other (entry_at_spot books other) within)
 
-pub rise_here : (books : List Book) (list : List Spot) (place : ℕ) (other : Spot) (token : Token) → place < length list → RiseFrom token (drop place (seen books list))
+pub rise_here : (books : List Book) (list : List Spot) (place : ℕ) (other : Spot) (token : Token) → place < length list → NoFallFrom token (drop place (seen books list))
     → IsUpTo token (entry_at_spot books (get_or list place other)).token
-rise_here books list place other token within rise =
-    let both : RiseFrom token (entry_at_spot books (get_or list place other) ∷ drop (place + 1) (seen books list)) = subst (λ (es : List Entry). RiseFrom token es) (seen_left books list place other within) rise in
+rise_here books list place other token within no_fall =
+    let both : NoFallFrom token (entry_at_spot books (get_or list place other) ∷ drop (place + 1) (seen books list)) = subst (λ (es : List Entry). NoFallFrom token es) (seen_left books list place other within) no_fall in
     both.0
 
-pub rise_on : (books : List Book) (list : List Spot) (place : ℕ) (other : Spot) (token : Token) → place < length list → RiseFrom token (drop place (seen books list))
-    → RiseFrom (entry_at_spot books (get_or list place other)).token (drop (place + 1) (seen books list))
-rise_on books list place other token within rise =
-    let both : RiseFrom token (entry_at_spot books (get_or list place other) ∷ drop (place + 1) (seen books list)) = subst (λ (es : List Entry). RiseFrom token es) (seen_left books list place other within) rise in
+pub rise_on : (books : List Book) (list : List Spot) (place : ℕ) (other : Spot) (token : Token) → place < length list → NoFallFrom token (drop place (seen books list))
+    → NoFallFrom (entry_at_spot books (get_or list place other)).token (drop (place + 1) (seen books list))
+rise_on books list place other token within no_fall =
+    let both : NoFallFrom token (entry_at_spot books (get_or list place other) ∷ drop (place + 1) (seen books list)) = subst (λ (es : List Entry). NoFallFrom token es) (seen_left books list place other within) no_fall in
     both.1
 
--- entries in order of token rise from the first one's token
-pub rise_first : (books : List Book) (list : List Spot) (first : Spot) → slice_get list 0 ≡ Some first → Rise (seen books list) → RiseFrom (entry_at_spot books first).token (seen books list)
-rise_first books [] first is rise = tt
-rise_first books (one ∷ list) first is rise =
+-- entries in order of token do not fall from the first one's token
+pub rise_first : (books : List Book) (list : List Spot) (first : Spot) → slice_get list 0 ≡ Some first → NoFall (seen books list) → NoFallFrom (entry_at_spot books first).token (seen books list)
+rise_first books [] first is no_fall = tt
+rise_first books (one ∷ list) first is no_fall =
     let same : one ≡ first = cc in
-    subst (λ (x : Spot). RiseFrom (entry_at_spot books x).token (seen books (one ∷ list))) same (up_itself (entry_at_spot books one).token, rise)
+    subst (λ (x : Spot). NoFallFrom (entry_at_spot books x).token (seen books (one ∷ list))) same (up_itself (entry_at_spot books one).token, no_fall)
 
 -- ---- the bytes
 pub grown : (a b : Option (List ℕ)) (text longer written line : List ℕ) → Appends a (append_known b text) written → longer ≡ text ++ line → Appends a (append_known b longer) (written ++ line)

@@ -24,7 +24,7 @@ use Rattle.fare_texts.specs.Local.{IsLocal}
 use Rattle.fare_texts.specs.Moments.{IsMomentText}
 use Rattle.fare_texts.specs.StatementText.{entry_words, statement_head, window_words}
 use Rattle.reason_texts.specs.Ledger.{reason_after}
-use Rattle.reason_texts.specs.Why.{IsWhy}
+use Rattle.reason_texts.specs.ReasonWords.{IsReasonWords}
 
 -- all elements but the last
 unfoldable pub but_last : {A : Type 0} → List A → List A
@@ -49,11 +49,11 @@ pub record IsExplainedLine (fares : Fares) (entry : Entry) (why : Reason) (line 
     : Type 0 where
   pub moment : List ℕ
   pub is : IsMomentText entry.moment moment
-  pub because : List ℕ
-  pub told : IsWhy fares why because
+  pub reason_words : List ℕ
+  pub told : IsReasonWords fares why reason_words
   pub local : List ℕ
   pub at : IsLocal fares.zone (codes ", local ") entry.moment local
-  pub shown : line ≡ moment ++ (entry_words fares entry ++ (because ++ (local ++ codes "\n")))
+  pub shown : line ≡ moment ++ (entry_words fares entry ++ (reason_words ++ (local ++ codes "\n")))
 
 -- a line for each of the token's entries that follow the earlier ones, each with the reason that it
 -- has after those before it
@@ -66,8 +66,7 @@ AreExplainedAfter fares token earlier (entry ∷ entries) text =
     × (text ≡ line ++ rest)
 
 -- the words, the window as `2024-03-08T17:00:00.000Z 2024-03-15T17:00:00.000Z paid 1 cents 300`,
--- and
--- under a zone what clocks show at its start and at its end
+-- and under a zone what clocks show at its start and at its end
 pub record IsExplainedWindow (clocks : Option PosixRule) (word : List ℕ) (window : WindowView)
     (line : List ℕ) : Type 0 where
   pub start : List ℕ

@@ -3,7 +3,8 @@
 ghost use Rattle.std.specs.Prelude.{◌≡◌, ◌≤◌, ℕ, List, [], ◌++◌, IfErr, OnOk, string_bytes};
 ghost use Rattle.std.specs.Io.KnownBytes.{Appends, Keeps, append_known};
 ghost use Rattle.fare_texts.specs.declared.print_fault.PrintFault.TheVariants.{Write as ForWrite};
-ghost use Rattle.ledger_texts.specs.inside.Lines.{AreLinesAlong, HasCome, IsUpTo, Rise, RiseFrom};
+ghost use Rattle.ledger_texts.specs.inside.Lines.{AreLinesAlong, HasCome, IsUpTo, NoFall};
+ghost use Rattle.ledger_texts.specs.inside.Lines.{NoFallFrom};
 ghost use Rattle.ledger_texts.specs.inside.Spots.{seen};
 ghost use Rattle.fare_table.specs.Fares.{Fares};
 ghost use Rattle.fare_table.specs.declared.token.Token.{Token};
@@ -68,7 +69,7 @@ fn write_pieces<W: Write>(
     out: &mut W,
 ) -> Result<(), PrintFault>
     requires clock { clock.now ≡ table.now.zone }
-    requires rise { RiseFrom first (seen books.now spots.now) }
+    requires no_fall { NoFallFrom first (seen books.now spots.now) }
     ensures lines { OnOk result ((lines : List ℕ)
         × AreLinesAlong table.now [] (seen books.now spots.now) lines
         × Appends (append_known (W.contents out.old) (string_bytes text.old))
@@ -99,7 +100,7 @@ fn write_some<W: Write>(
     out: &mut W,
 ) -> Result<(), PrintFault>
     requires clock { clock.now ≡ table.now.zone }
-    requires rise { Rise (seen books.now spots.now) }
+    requires no_fall { NoFall (seen books.now spots.now) }
     ensures lines { OnOk result ((lines : List ℕ)
         × AreLinesAlong table.now [] (seen books.now spots.now) lines
         × Appends (append_known (W.contents out.old) (string_bytes text.old))
@@ -125,7 +126,7 @@ pub(crate) fn write_lines<W: Write>(
     out: &mut W,
 ) -> Result<(), PrintFault>
     requires clock { clock.now ≡ table.now.zone }
-    requires rise { Rise (seen books.now spots.now) }
+    requires no_fall { NoFall (seen books.now spots.now) }
     ensures ok { OnOk result ((lines : List ℕ)
         × AreLinesAlong table.now [] (seen books.now spots.now) lines
         × Appends (W.contents out.old) (W.contents out.new) (string_bytes text.old ++ lines)) }

@@ -25,9 +25,9 @@ fn shown(totals: &Totals) -> [u128; 7] {
 
 /// A book without entries, the only one.
 fn empty_book<R: RandomSource>(alloc: Global, rt: &R) -> Result<ShardBook, Fail> {
-    let keys = TokenKeys::new(rt)?;
+    let seed = HashSeed::new(rt)?;
     let table = FareTable::read(alloc, SAMPLE.as_bytes())?;
-    Ok(ShardBook::open(alloc, keys, table, 0, 1))
+    Ok(ShardBook::open(alloc, seed, table, 0, 1))
 }
 
 /// Posts a tap by itself.
@@ -154,8 +154,8 @@ fn sums_of_a_shared_token(rt: HostRuntime) -> Result<(), Fail> {
 /// No contract speaks of the seed: two of them hash a token apart.
 #[test]
 fn seeds_differ(rt: HostRuntime) -> Result<(), Fail> {
-    let one = TokenKeys::new(&rt)?.hash_one(token(1));
-    let other = TokenKeys::new(&rt)?.hash_one(token(1));
+    let one = HashSeed::new(&rt)?.hash_one(token(1));
+    let other = HashSeed::new(&rt)?.hash_one(token(1));
     assert!(rt; one != other);
     Ok(())
 }

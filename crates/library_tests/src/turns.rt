@@ -4,7 +4,7 @@ ghost use Rattle.std.specs.Prelude.{◌≡◌, ◌^◌, ◌≤◌, IfOk, IfSome}
 
 use crate::sample::{BUS, SAMPLE, START, SUBWAY, tap, token};
 use fare_table::{Clock, FareTable, NoMemory};
-use shard_book::{Ends, Lines, Replies, RunEnd, ShardBook, TokenKeys};
+use shard_book::{Ends, Lines, Replies, RunEnd, ShardBook, HashSeed};
 use shared_books::{Missing, Pass, ReadFault, SharedBook};
 use std::alloc::Global;
 use std::process::Abort;
@@ -27,10 +27,10 @@ fn shared_from<R: RandomSource>(
     ensures clock { IfOk result (λ r. r.2 ≡ r.0.table.zone) }
     ensures only { IfOk result (λ r. (r.0.shard ≡ 0) × (r.0.shards ≡ 1)) }
 {
-    let keys = TokenKeys::new(rt)?;
+    let seed = HashSeed::new(rt)?;
     let table = FareTable::read(alloc, SAMPLE.as_bytes())?;
     let clock = table.clock(alloc)?;
-    let (shared, pass) = SharedBook::open(alloc, first, ShardBook::open(alloc, keys, table, 0, 1))?;
+    let (shared, pass) = SharedBook::open(alloc, first, ShardBook::open(alloc, seed, table, 0, 1))?;
     Ok((shared, pass, clock))
 }
 

@@ -18,18 +18,18 @@ verdict_text (Wants line wanted) =
 verdict_text (NoLine line) = codes "line " ++ (decimal line ++ codes " is no ledger line\n")
 
 -- the token, and the space behind it
-unfoldable pub token_part : TapFields → List ℕ
-token_part tap = encode_lower tap.token ++ codes " "
+unfoldable pub token_and_space : TapFields → List ℕ
+token_and_space tap = encode_lower tap.token ++ codes " "
 
 -- the space before the validator, the validator and the newline
-unfoldable pub validator_part : TapFields → List ℕ
-validator_part tap = codes " " ++ (decimal tap.validator ++ codes "\n")
+unfoldable pub space_and_validator : TapFields → List ℕ
+space_and_validator tap = codes " " ++ (decimal tap.validator ++ codes "\n")
 
 -- `000000000000000000000000000000a1 2024-03-08T17:00:00.000Z 1000`, with its newline
 pub record IsTapText (tap : TapFields) (text : List ℕ) : Type 0 where
   pub moment : List ℕ
   pub is : IsMomentText tap.moment moment
-  pub shown : text ≡ token_part tap ++ (moment ++ validator_part tap)
+  pub shown : text ≡ token_and_space tap ++ (moment ++ space_and_validator tap)
 
 -- these words, and then the tap
 abbrev pub IsTapLineOf : List ℕ → TapFields → List ℕ → Type 0

@@ -1,7 +1,8 @@
 //! The lines of a finding.
 
 ghost use Rattle.std.specs.Prelude.{◌≡◌, ◌++◌, ℕ, List, IfOk, OnOk, string_bytes};
-ghost use Rattle.omny_audit.specs.Text.{IsDifferenceText, IsTapText, token_part, validator_part};
+ghost use Rattle.omny_audit.specs.Text.{IsDifferenceText, IsTapText, token_and_space};
+ghost use Rattle.omny_audit.specs.Text.{space_and_validator};
 ghost use Rattle.omny_audit.specs.Text.{verdict_text};
 
 use fare_texts::{Digits, write_moment};
@@ -24,19 +25,20 @@ pub(crate) fn verdict_line(alloc: Global, verdict: &Verdict) -> Result<String, A
 }
 
 /// Appends the tap's token, and the space behind it.
-#[tactic(auto, unfolding(crate::specs::Text::token_part))]
+#[tactic(auto, unfolding(crate::specs::Text::token_and_space))]
 fn write_token(text: &mut String, tap: &TapFields) -> Result<(), AllocError>
-    ensures { OnOk result (string_bytes text.new ≡ string_bytes text.old ++ token_part tap.now) }
+    ensures { OnOk result
+        (string_bytes text.new ≡ string_bytes text.old ++ token_and_space tap.now) }
 {
     let digits = Digits(Token::of(&tap.token));
     write!(text, "{digits} ")
 }
 
 /// Appends a space, the tap's validator, and the line feed.
-#[tactic(auto, unfolding(crate::specs::Text::validator_part))]
+#[tactic(auto, unfolding(crate::specs::Text::space_and_validator))]
 fn write_validator(text: &mut String, tap: &TapFields) -> Result<(), AllocError>
     ensures { OnOk result
-        (string_bytes text.new ≡ string_bytes text.old ++ validator_part tap.now) }
+        (string_bytes text.new ≡ string_bytes text.old ++ space_and_validator tap.now) }
 {
     let validator = tap.validator;
     write!(text, " {validator}\n")

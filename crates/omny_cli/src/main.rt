@@ -3,7 +3,7 @@
 //!
 //! | module | what it does |
 //! |---|---|
-//! | `steps` | how far a run is |
+//! | `progress` | how far a run is |
 //! | `watched` | reads that are noted in its steps |
 //! | `ticker` | the line on the terminal |
 //! | `hushing` | writers that take the line away first |

@@ -17,8 +17,8 @@ use Rattle.part_reports.specs.Lines.{End, IsUploadEnd, token_line}
 use Rattle.part_reports.specs.Reports.{IsMerged, IsPartReport, Report, end_texts, joined_ends}
 use Rattle.part_reports.specs.Reports.{report_text, tokens_of_reports}
 use Rattle.part_reports.specs.TokenLines.{ShareNoToken, HaveOtherTokens, IsMergedByToken, TokenLine, lines_of_token}
-use Rattle.part_reports.specs.declared.merging.Lines.{Lines}
-use Rattle.part_reports.specs.declared.merging.Lines.TheVariants.{Entries, Tokens}
+use Rattle.part_reports.specs.declared.merging.LineKind.{LineKind}
+use Rattle.part_reports.specs.declared.merging.LineKind.TheVariants.{Entries, Tokens}
 use Rattle.part_reports.specs.declared.sums.WholeSums.{WholeSums}
 use Rattle.part_reports.specs.declared.upload_ends.UploadEnds.{UploadEnds}
 use Rattle.part_reports.specs.inside.UploadEnds.{Have}
@@ -54,7 +54,7 @@ ends_same first (a ∷ some) (b ∷ more) may may_too same =
     ap (λ x. x ++ joined_ends some) is ∙ ap (λ rest. b ++ rest) rest
 
 -- what is left of a part's report behind the head of its tokens
-abbrev part_left : Report → Lines × List ℕ
+abbrev part_left : Report → LineKind × List ℕ
 part_left part = (Tokens (length part.tokens), flat_map token_line part.tokens)
 
 fronts_same : (begun : List Begun) (parts : List Report) → All (λ one. MayBePart one.0) begun

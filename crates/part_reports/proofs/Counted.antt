@@ -3,7 +3,7 @@ use Rattle.std.proofs.Common.{◌≡◌, ℕ, ◌<◌, ◌^◌, List, ◌++◌, 
 use Rattle.std.proofs.Common.{sym, ap, subst, ◌∙◌, append_assoc}
 use Rattle.part_reports.specs.declared.fault.MergeFault.{MergeFault}
 use Rattle.part_reports.specs.Lines.{head_line}
-use Rattle.part_reports.specs.inside.Reading.{IsRead}
+use Rattle.part_reports.specs.inside.LinesRead.{IsRead}
 use Rattle.part_reports.proofs.Unique.{head_line_unique}
 
 -- a number's word, and what may stand behind it

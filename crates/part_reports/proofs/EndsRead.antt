@@ -13,7 +13,7 @@ use Rattle.part_reports.specs.declared.upload_ends.UploadEnds.{UploadEnds}
 use Rattle.part_reports.specs.Lines.{End, IsUploadEnd, end_line, end_lines}
 use Rattle.part_reports.specs.inside.UploadEnds.{end_of_upload}
 use Rattle.part_reports.specs.inside.UploadEnds.{AreEndsAdded, IsNextEnd, More}
-use Rattle.part_reports.specs.inside.Reading.{IsTold}
+use Rattle.part_reports.specs.inside.LinesRead.{IsTold}
 use Rattle.part_reports.proofs.LinesRead.{through}
 use Rattle.part_reports.proofs.ListsWritten.{lines_more, end_lines_from}
 use Rattle.part_reports.proofs.OneLine.{end_line_is_one, taken_one}

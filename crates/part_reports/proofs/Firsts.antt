@@ -11,8 +11,8 @@ use Rattle.part_reports.specs.inside.Kinds.{IsSumLine, IsTextOf}
 use Rattle.part_reports.specs.inside.Sources.{IsAtLine, IsBehindOne, IsFirstLine, IsLineOfKind}
 use Rattle.part_reports.specs.inside.Sources.{IsSource, MayEnd, MayFollowAll, MayFollowHead}
 use Rattle.part_reports.specs.inside.Sources.{IsSourceAt, Standing}
-use Rattle.part_reports.specs.declared.merging.Lines.{Lines}
-use Rattle.part_reports.specs.declared.merging.Lines.TheVariants.{Tokens, Entries}
+use Rattle.part_reports.specs.declared.merging.LineKind.{LineKind}
+use Rattle.part_reports.specs.declared.merging.LineKind.TheVariants.{Tokens, Entries}
 use Rattle.part_reports.proofs.OneLine.{IsOneLine, entry_line_is_one, taken_one, token_line_is_one}
 use Rattle.part_reports.proofs.Unique.{entry_line_unique, token_line_unique}
 
@@ -23,7 +23,7 @@ weaker None P Q f holds = tt
 weaker (Some text) P Q f holds = f text holds
 
 -- ---- single lines
-pub line_is_one : (kind : Lines) (line : TokenLine) → IsLineOfKind kind line → IsOneLine line.text
+pub line_is_one : (kind : LineKind) (line : TokenLine) → IsLineOfKind kind line → IsOneLine line.text
 line_is_one (Tokens left) line is =
     subst IsOneLine (sym is.shown) (token_line_is_one (line.token, is.sums) is.is)
 line_is_one Entries line is = entry_line_is_one line is
@@ -35,11 +35,11 @@ not_nothing (x ∷ front) byte is = cc
 pub one_is_some : (line : List ℕ) → IsOneLine line → ¬ (line ≡ [])
 one_is_some line is none = not_nothing is.front 10 (sym is.shown ∙ none)
 
-pub line_is_some : (kind : Lines) (line : TokenLine) → IsLineOfKind kind line → ¬ (line.text ≡ [])
+pub line_is_some : (kind : LineKind) (line : TokenLine) → IsLineOfKind kind line → ¬ (line.text ≡ [])
 line_is_some kind line is = one_is_some line.text (line_is_one kind line is)
 
 -- the kind of a line is not in how many are left
-pub same_line : (kind behind : Lines) (line : TokenLine) → IsBehindOne kind behind
+pub same_line : (kind behind : LineKind) (line : TokenLine) → IsBehindOne kind behind
     → IsLineOfKind kind line → IsLineOfKind behind line
 same_line (Tokens left) (Tokens behind) line one is = is
 same_line (Tokens left) Entries line one is = elim one [ ]
@@ -57,7 +57,7 @@ sum_line_unique a b x y is also same =
     let text : a.text ≡ b.text = is.shown ∙ ap token_line sum ∙ sym also.shown in
     (λ i. record { token = token i; text = text i }, rest)
 
-pub line_unique : (kind : Lines) (a b : TokenLine) (x y : List ℕ) → IsLineOfKind kind a
+pub line_unique : (kind : LineKind) (a b : TokenLine) (x y : List ℕ) → IsLineOfKind kind a
     → IsLineOfKind kind b → a.text ++ x ≡ b.text ++ y → (a ≡ b) × (x ≡ y)
 line_unique (Tokens left) a b x y is also same = sum_line_unique a b x y is also same
 line_unique Entries a b x y is also same = entry_line_unique a b x y is also same
@@ -82,7 +82,7 @@ taken_none [] is = refl
 taken_none (x ∷ xs) is = absurd (some_part (x == 10) x (take_through 10 xs) is)
 
 -- ---- the first line
-pub first_is_source : (kind : Lines) (text : List ℕ) (at : Standing) → at.line
+pub first_is_source : (kind : LineKind) (text : List ℕ) (at : Standing) → at.line
     ≡ take_through 10 text
     → at.left ≡ Some (drop_through 10 text) → IsFirstLine kind at.line at.behind at.head
     → IsSource (kind, text) at
@@ -100,13 +100,13 @@ first_is_source kind text at taken left first = by_head at.head first
     }
 
 -- no line may stand first where none does
-pub no_first_line : (kind : Lines) (token : Token)
+pub no_first_line : (kind : LineKind) (token : Token)
     → ¬ (IsLineOfKind kind (record { token = token; text = [] }))
 no_first_line kind token is = line_is_some kind (record { token = token; text = [] }) is refl
 
-behind_of : (kind : Lines) (line : TokenLine) (lines : List TokenLine) (text : List ℕ)
+behind_of : (kind : LineKind) (line : TokenLine) (lines : List TokenLine) (text : List ℕ)
     → IsTextOf (kind, text) (line ∷ lines)
-    → (behind : Lines) × IsBehindOne kind behind × IsLineOfKind kind line
+    → (behind : LineKind) × IsBehindOne kind behind × IsLineOfKind kind line
 behind_of (Tokens left) line lines text is = (
   Tokens (length lines),
   omega (arith, is.0.0),
@@ -114,12 +114,12 @@ behind_of (Tokens left) line lines text is = (
 )
 behind_of Entries line lines text is = (Entries, tt, is.0.0 0 line (omega arith))
 
-may_end_of : (kind : Lines) (text : List ℕ) → IsTextOf (kind, text) [] → MayEnd kind
+may_end_of : (kind : LineKind) (text : List ℕ) → IsTextOf (kind, text) [] → MayEnd kind
 may_end_of (Tokens left) text is = sym is.0.0
 may_end_of Entries text is = tt
 
-pub no_text : (kind : Lines) (text line : List ℕ) → line ≡ take_through 10 text
-    → ((behind : Lines) (head : Option Token) → ¬ (IsFirstLine kind line behind head))
+pub no_text : (kind : LineKind) (text line : List ℕ) → line ≡ take_through 10 text
+    → ((behind : LineKind) (head : Option Token) → ¬ (IsFirstLine kind line behind head))
     → (list : List TokenLine) → ¬ (IsTextOf (kind, text) list)
 no_text kind text line taken none [] is =
     none kind None (taken ∙ ap (take_through 10) is.1, may_end_of kind text is)
@@ -134,7 +134,7 @@ no_text kind text line taken none (first ∷ list) is =
     )
 
 -- the lines of a text at whose first line a source stands begin with that line
-pub begins_with : (kind : Lines) (text : List ℕ) (at : Standing) (token : Token)
+pub begins_with : (kind : LineKind) (text : List ℕ) (at : Standing) (token : Token)
     → (here : IsAtLine (kind, text) at token) → (list : List TokenLine) → IsTextOf (kind, text) list
     → (more : List TokenLine) × (list ≡ record { token = token; text = at.line } ∷ more)
     × (here.rest ≡ text_of more)
@@ -152,7 +152,7 @@ begins_with kind text at token here (first ∷ list) is =
     (list, ap (λ line. line ∷ list) (sym same), rest)
 
 -- the text whose first line may not stand behind the token has no lines that may
-pub no_order : (kind : Lines) (text : List ℕ) (at : Standing) (before : Option Token)
+pub no_order : (kind : LineKind) (text : List ℕ) (at : Standing) (before : Option Token)
     → IsSource (kind, text) at → ¬ (MayFollowHead kind before at.head) → (list : List TokenLine)
     → IsTextOf (kind, text) list → IfSome before (λ token. ¬ (MayFollowAll kind token list))
 no_order kind text at None source wrong list is = tt

@@ -10,7 +10,7 @@ use Rattle.part_reports.specs.declared.form as form
 use Rattle.part_reports.specs.inside.UploadEnds.{end_of_upload}
 use Rattle.part_reports.specs.Lines.{End, IsUploadEnd, end_line, end_lines}
 use Rattle.part_reports.specs.inside.Fronts.{AreSoManyPosted}
-use Rattle.part_reports.specs.inside.Reading.{IsRead}
+use Rattle.part_reports.specs.inside.LinesRead.{IsRead}
 use Rattle.part_reports.proofs.ListsWritten.{lines_from, lines_more, lines_begin, end_lines_from}
 use Rattle.part_reports.proofs.Unique.{end_line_unique}
 

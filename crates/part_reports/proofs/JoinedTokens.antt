@@ -13,7 +13,7 @@ use Rattle.std.proofs.lemmas.List.Elements.{All-cons, All-filter, All-head, All-
 use Rattle.fare_table.specs.Token.{token_cmp, token_eq}
 use Rattle.fare_table.specs.declared.token.Token.{Token}
 use Rattle.part_reports.specs.TokenLines.{ShareNoToken, DoNotFall, TokenLine, lines_of_token}
-use Rattle.part_reports.specs.declared.merging.Lines.TheVariants.{Entries}
+use Rattle.part_reports.specs.declared.merging.LineKind.TheVariants.{Entries}
 use Rattle.part_reports.specs.inside.Sources.{MayFollow}
 use Rattle.part_reports.proofs.Leasts.{same_token as tied_same, token_total}
 use Rattle.part_reports.proofs.Orders.{NotBelow, below_differs}

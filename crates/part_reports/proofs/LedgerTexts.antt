@@ -12,8 +12,8 @@ use Rattle.part_reports.specs.TokenLines.{IsMergedByToken, TokenLine, text_of}
 use Rattle.part_reports.specs.inside.Begun.{AreBegun, IsBegun, IsNoLedger}
 use Rattle.part_reports.specs.inside.Kinds.{AreTexts, IsTextOf}
 use Rattle.part_reports.specs.inside.Sources.{IsSource, Standing}
-use Rattle.part_reports.specs.declared.merging.Lines.{Lines}
-use Rattle.part_reports.specs.declared.merging.Lines.TheVariants.{Entries}
+use Rattle.part_reports.specs.declared.merging.LineKind.{LineKind}
+use Rattle.part_reports.specs.declared.merging.LineKind.TheVariants.{Entries}
 use Rattle.part_reports.proofs.Firsts.{taken_and_left}
 use Rattle.part_reports.proofs.Merges.{appends_more}
 
@@ -135,7 +135,7 @@ texts_from (file ∷ files) (left ∷ lefts) (lines ∷ parts) shown are = (
 pub merged_whole : (files : List (List ℕ)) (known : List (Option (List ℕ)))
     (ats : List Standing) (old mid new : Option (List ℕ))
     → known ≡ map (λ file. Some file) files → AreBegun known ats → Appends old mid head_text
-    → ((texts : List (Lines × List ℕ)) → AllZip IsSource texts ats
+    → ((texts : List (LineKind × List ℕ)) → AllZip IsSource texts ats
     → (lists : List (List TokenLine)) × (joined : List TokenLine) × AreTexts texts lists
     × IsMergedByToken lists joined × Appends mid new (text_of joined))
     → (text : List ℕ) × IsMergedLedger files text × Appends old new text
@@ -156,7 +156,7 @@ merged_whole files known ats old mid new same are head merged =
 
 pub merged_none : (files : List (List ℕ)) (known : List (Option (List ℕ)))
     (ats : List Standing) → known ≡ map (λ file. Some file) files → AreBegun known ats
-    → ((texts : List (Lines × List ℕ)) → AllZip IsSource texts ats
+    → ((texts : List (LineKind × List ℕ)) → AllZip IsSource texts ats
     → (lists : List (List TokenLine)) (joined : List TokenLine) → AreTexts texts lists
     → ¬ (IsMergedByToken lists joined))
     → (text : List ℕ) → ¬ (IsMergedLedger files text)

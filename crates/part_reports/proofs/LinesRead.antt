@@ -5,7 +5,7 @@ use Rattle.std.specs.Prelude.{IfSome, IfOk, IfErr}
 use Rattle.std.specs.Io.BufRead.{take_through, drop_through}
 use Rattle.part_reports.specs.declared.fault.MergeFault.{MergeFault}
 use Rattle.part_reports.specs.Faults.{IsOfTaps, IsOfTexts}
-use Rattle.part_reports.specs.inside.Reading.{IsRead, IsTold}
+use Rattle.part_reports.specs.inside.LinesRead.{IsRead, IsTold}
 use Rattle.part_reports.proofs.OneLine.{IsOneLine, taken_one}
 
 -- both choices of a text's front and back

@@ -18,9 +18,9 @@ use Rattle.part_reports.specs.inside.Least.{IsBelowOthers, IsLeast, IsTwin, Stan
 use Rattle.part_reports.specs.inside.Sources.{IsMoved, IsMovedAt, IsSource, MayFollowHead}
 use Rattle.part_reports.specs.inside.Sources.{IsStuck, IsStuckAt}
 use Rattle.part_reports.specs.inside.Sources.{Standing, standing}
-use Rattle.part_reports.specs.declared.merging.Source.{Source}
-use Rattle.part_reports.specs.declared.merging.Lines.{Lines}
-use Rattle.part_reports.specs.declared.merging.Lines.TheVariants.{Entries}
+use Rattle.part_reports.specs.declared.merging.LineSource.{LineSource}
+use Rattle.part_reports.specs.declared.merging.LineKind.{LineKind}
+use Rattle.part_reports.specs.declared.merging.LineKind.TheVariants.{Entries}
 use Rattle.part_reports.proofs.Orders.{NotBelow, below_differs, below_not_below, below_then}
 use Rattle.part_reports.proofs.Orders.{may_not_below, not_below_trans}
 use Rattle.part_reports.proofs.Parts.{IsGoing, Part, going_end, going_first, going_line, going_next}
@@ -63,7 +63,7 @@ AreWritten head lines = IfSome head
     (λ token. AllByRecursion (λ line. NotBelow line.token token) lines)
 
 -- how far the texts were merged
-pub record IsMerging (texts : List (Lines × List ℕ)) (ats : List Standing)
+pub record IsMerging (texts : List (LineKind × List ℕ)) (ats : List Standing)
     (old new : Option (List ℕ)) : Type 0 where
   pub parts : List Part
   pub of_texts : map (λ part. part.text) parts ≡ texts
@@ -78,14 +78,14 @@ pub record IsMerging (texts : List (Lines × List ℕ)) (ats : List Standing)
   pub written : Appends old new (text_of joined)
 
 -- ---- the beginning
-record IsBegun (texts : List (Lines × List ℕ)) (ats : List Standing) : Type 0 where
+record IsBegun (texts : List (LineKind × List ℕ)) (ats : List Standing) : Type 0 where
   parts : List Part
   of_texts : map (λ part. part.text) parts ≡ texts
   of_ats : map (λ part. part.at) parts ≡ ats
   going : AllByRecursion IsGoing parts
   nothing : AllByRecursion (λ part. part.done ≡ []) parts
 
-begun : (texts : List (Lines × List ℕ)) (ats : List Standing) → AllZip IsSource texts ats
+begun : (texts : List (LineKind × List ℕ)) (ats : List Standing) → AllZip IsSource texts ats
     → IsBegun texts ats
 begun [] [] are = record { parts = []; of_texts = refl; of_ats = refl; going = tt; nothing = tt }
 begun [] (at ∷ ats) are = elim are [ ]
@@ -125,7 +125,7 @@ nothing_done (part ∷ parts) none =
     ap (λ lines. lines ++ flat_map (λ (part : Part). part.done) parts) none.0
     ∙ nothing_done parts none.1
 
-pub merging_first : (texts : List (Lines × List ℕ)) (ats : List Standing)
+pub merging_first : (texts : List (LineKind × List ℕ)) (ats : List Standing)
     (old : Option (List ℕ)) → AllZip IsSource texts ats → IsMerging texts ats old old
 merging_first texts ats old are =
     let begun = begun texts ats are in
@@ -331,7 +331,7 @@ record IsPartAt (parts : List Part) (k : ℕ) (at : Standing) : Type 0 where
   there : slice_get parts k ≡ Some part
   is : part.at ≡ at
 
-part_at : (texts : List (Lines × List ℕ)) (ats : List Standing) (old new : Option (List ℕ))
+part_at : (texts : List (LineKind × List ℕ)) (ats : List Standing) (old new : Option (List ℕ))
     → (merging : IsMerging texts ats old new) → (k : ℕ) (at : Standing)
     → slice_get ats k ≡ Some at → IsPartAt merging.parts k at
 part_at texts ats old new merging k at is =
@@ -398,7 +398,7 @@ written_more None lines line below last = tt
 written_more (Some token) lines line below last =
     each_push (λ (line : TokenLine). NotBelow line.token token) lines line below last
 
-written_next : (kind : Lines) (token : Token) (head : Option Token) (lines : List TokenLine)
+written_next : (kind : LineKind) (token : Token) (head : Option Token) (lines : List TokenLine)
     → AllByRecursion (λ line. NotBelow line.token token) lines
     → MayFollowHead kind (Some token) head → AreWritten head lines
 written_next kind token None lines below may = tt
@@ -408,7 +408,7 @@ written_next kind token (Some head) lines below may =
     (λ line first. not_below_trans line.token token head first (may_not_below kind token head may))
     below
 
-not_below_head : (kind : Lines) (token : Token) (head : Option Token)
+not_below_head : (kind : LineKind) (token : Token) (head : Option Token)
     → MayFollowHead kind (Some token) head → IfSome head (λ head. NotBelow token head)
 not_below_head kind token None may = tt
 not_below_head kind token (Some head) may = may_not_below kind token head may
@@ -506,7 +506,7 @@ text_more joined line =
     ap (λ text. text_of joined ++ text) (sym (append-nil line.text))
     ∙ sym (flat_map-append (λ (line : TokenLine). line.text) joined (line ∷ []))
 
-pub merging_next : (texts : List (Lines × List ℕ)) (ats after : List Standing)
+pub merging_next : (texts : List (LineKind × List ℕ)) (ats after : List Standing)
     (old now new : Option (List ℕ)) (k : ℕ) → IsMerging texts ats old now
     → IsBelowOthers (map (λ at. at.head) ats) k → IsMovedAt k ats after now new
     → IsMerging texts after old new
@@ -579,7 +579,7 @@ no_head ats k at none is = by_head at.head refl
     by_head (Some token) same = absurd (none k token
         (map_at (λ (at : Standing). at.head) ats k at is ∙ ap (λ head. Some head) same))
 
-pub merging_end : (texts : List (Lines × List ℕ)) (ats : List Standing) (old new : Option (List ℕ))
+pub merging_end : (texts : List (LineKind × List ℕ)) (ats : List Standing) (old new : Option (List ℕ))
     → IsMerging texts ats old new → IsLeast (map (λ at. at.head) ats) None
     → (lists : List (List TokenLine)) × (joined : List TokenLine) × AreTexts texts lists
     × IsMergedByToken lists joined × Appends old new (text_of joined)
@@ -639,7 +639,7 @@ record IsListAt (lists : List (List TokenLine)) (k : ℕ) (token : Token) : Type
   back : List TokenLine
   whole : list ≡ (front ++ line ∷ []) ++ back
 
-line_at_place : (texts : List (Lines × List ℕ)) (ats : List Standing) (old new : Option (List ℕ))
+line_at_place : (texts : List (LineKind × List ℕ)) (ats : List Standing) (old new : Option (List ℕ))
     → IsMerging texts ats old new → (k : ℕ) (token : Token)
     → StandsAt (map (λ at. at.head) ats) k token → (lists : List (List TokenLine))
     → AreTexts texts lists → IsListAt lists k token
@@ -662,7 +662,7 @@ line_at_place texts ats old new merging k token stands lists are =
       whole = begun;
     }
 
-pub merging_twin : (texts : List (Lines × List ℕ)) (ats : List Standing) (old new : Option (List ℕ))
+pub merging_twin : (texts : List (LineKind × List ℕ)) (ats : List Standing) (old new : Option (List ℕ))
     → IsMerging texts ats old new → (k : ℕ) → IsTwin (map (λ at. at.head) ats) k
     → (lists : List (List TokenLine)) (joined : List TokenLine) → AreTexts texts lists
     → ¬ (IsMergedByToken lists joined)
@@ -684,7 +684,7 @@ merging_twin texts ats old new merging k twin lists joined are is =
     of_a) in
     differs (a.is ∙ sym b.is)
 
-pub merging_stuck : (texts : List (Lines × List ℕ)) (ats : List Standing)
+pub merging_stuck : (texts : List (LineKind × List ℕ)) (ats : List Standing)
     (old new : Option (List ℕ))
     → IsMerging texts ats old new → (k : ℕ) → IsBelowOthers (map (λ at. at.head) ats) k
     → IsStuckAt k ats → (lists : List (List TokenLine)) → ¬ (AreTexts texts lists)
@@ -700,14 +700,14 @@ merging_stuck texts ats old new merging k least stuck lists are =
     going_stuck part least.token going is (subst IsStuck (sym found.is) stuck.stuck) list text
 
 -- ---- the tokens at which sources stand
-pub heads_are : {R : Type 0} (remaining : R → Option (List ℕ)) (sources : List (Source R))
+pub heads_are : {R : Type 0} (remaining : R → Option (List ℕ)) (sources : List (LineSource R))
     → map (λ source. source.head) sources
     ≡ map (λ (at : Standing). at.head) (map (standing remaining) sources)
 heads_are remaining [] = refl
 heads_are remaining (source ∷ sources) =
     ap (λ heads. source.head ∷ heads) (heads_are remaining sources)
 
-pub least_of : {R : Type 0} (remaining : R → Option (List ℕ)) (sources : List (Source R))
+pub least_of : {R : Type 0} (remaining : R → Option (List ℕ)) (sources : List (LineSource R))
     (heads items : List (Option Token)) (found place : Option ℕ) → heads ≡ items
     → items ≡ map (λ source. source.head) sources → IsLeast heads found → found ≡ place
     → IsLeast (map (λ (at : Standing). at.head) (map (standing remaining) sources)) place
@@ -715,7 +715,7 @@ least_of remaining sources heads items found place same are least is =
     subst (λ heads. IsLeast heads place) (same ∙ are ∙ heads_are remaining sources)
     (subst (λ found. IsLeast heads found) is least)
 
-pub twin_of : {R : Type 0} (remaining : R → Option (List ℕ)) (sources : List (Source R))
+pub twin_of : {R : Type 0} (remaining : R → Option (List ℕ)) (sources : List (LineSource R))
     (heads items : List (Option Token)) (place : ℕ) → heads ≡ items
     → items ≡ map (λ source. source.head) sources → IsTwin heads place
     → IsTwin (map (λ (at : Standing). at.head) (map (standing remaining) sources)) place

@@ -8,8 +8,8 @@ use Rattle.std.proofs.lemmas.Bool.{true≢false}
 use Rattle.fare_table.specs.Token.{token_cmp}
 use Rattle.fare_table.specs.declared.token.Token.{Token}
 use Rattle.part_reports.specs.inside.Sources.{MayFollow}
-use Rattle.part_reports.specs.declared.merging.Lines.{Lines}
-use Rattle.part_reports.specs.declared.merging.Lines.TheVariants.{Tokens, Entries}
+use Rattle.part_reports.specs.declared.merging.LineKind.{LineKind}
+use Rattle.part_reports.specs.declared.merging.LineKind.TheVariants.{Tokens, Entries}
 use Rattle.part_reports.proofs.Leasts.{same_token, token_total}
 
 -- the second token is not below the first
@@ -55,11 +55,11 @@ below_then a b c less second = by_order (token_cmp a c) refl
         let wrong : token_cmp c b ≡ Less = token_total.trans c a b under less in
         absurd (true≢false (sym (ap is_lt wrong) ∙ second))
 
-pub may_not_below : (kind : Lines) (a b : Token) → MayFollow kind a b → NotBelow a b
+pub may_not_below : (kind : LineKind) (a b : Token) → MayFollow kind a b → NotBelow a b
 may_not_below (Tokens left) a b may = below_not_below a b may
 may_not_below Entries a b may = may
 
-pub may_follow_trans : (kind : Lines) (a b c : Token) → MayFollow kind a b → MayFollow kind b c
+pub may_follow_trans : (kind : LineKind) (a b c : Token) → MayFollow kind a b → MayFollow kind b c
     → MayFollow kind a c
 may_follow_trans (Tokens left) a b c first second = token_total.trans a b c first second
 may_follow_trans Entries a b c first second = not_below_trans a b c first second

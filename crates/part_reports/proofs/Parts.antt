@@ -12,8 +12,8 @@ use Rattle.part_reports.specs.inside.Kinds.{AreLines, IsTextOf}
 use Rattle.part_reports.specs.inside.Sources.{IsAtEnd, IsAtLine, IsBehindOne, IsLineOfKind, IsMoved}
 use Rattle.part_reports.specs.inside.Sources.{IsSource, IsSourceAt, IsStuck, MayEnd, MayFollow}
 use Rattle.part_reports.specs.inside.Sources.{MayFollowAll, MayFollowHead, Standing}
-use Rattle.part_reports.specs.declared.merging.Lines.{Lines}
-use Rattle.part_reports.specs.declared.merging.Lines.TheVariants.{Tokens, Entries}
+use Rattle.part_reports.specs.declared.merging.LineKind.{LineKind}
+use Rattle.part_reports.specs.declared.merging.LineKind.TheVariants.{Tokens, Entries}
 use Rattle.part_reports.proofs.Orders.{may_follow_trans}
 use Rattle.part_reports.proofs.Risings.{AreCounted, Rise, begins, each_behind, each_push}
 use Rattle.part_reports.proofs.Risings.{each_weaker}
@@ -23,22 +23,22 @@ use Rattle.part_reports.proofs.Risings.{rise_middle, rise_push}
 
 -- a text, where its source stands, and its lines that were written
 pub record Part : Type 0 where
-  pub text : Lines × List ℕ
+  pub text : LineKind × List ℕ
   pub at : Standing
   pub done : List TokenLine
 
 -- after so many lines of the first kind those of the second kind are left
-abbrev pub IsBehindSo : Lines → Lines → ℕ → Type 0
+abbrev pub IsBehindSo : LineKind → LineKind → ℕ → Type 0
 IsBehindSo (Tokens all) (Tokens left) count = all ≡ count + left
 IsBehindSo (Tokens all) Entries count = ⊥
 IsBehindSo Entries (Tokens left) count = ⊥
 IsBehindSo Entries Entries count = Unit {0}
 
-none_behind : (kind : Lines) → IsBehindSo kind kind 0
+none_behind : (kind : LineKind) → IsBehindSo kind kind 0
 none_behind (Tokens left) = omega arith
 none_behind Entries = tt
 
-one_behind : (all kind behind : Lines) (count : ℕ) → IsBehindSo all kind count
+one_behind : (all kind behind : LineKind) (count : ℕ) → IsBehindSo all kind count
     → IsBehindOne kind behind → IsBehindSo all behind (count + 1)
 one_behind (Tokens all) (Tokens left) (Tokens behind) count is one = omega (arith, is, one)
 one_behind (Tokens all) (Tokens left) Entries count is one = elim one [ ]
@@ -47,27 +47,27 @@ one_behind Entries (Tokens left) behind count is one = elim is [ ]
 one_behind Entries Entries (Tokens behind) count is one = elim one [ ]
 one_behind Entries Entries Entries count is one = tt
 
-all_done : (all kind : Lines) (count : ℕ) → IsBehindSo all kind count → MayEnd kind
+all_done : (all kind : LineKind) (count : ℕ) → IsBehindSo all kind count → MayEnd kind
     → AreCounted all count
 all_done (Tokens all) (Tokens left) count is may = omega (arith, is, may)
 all_done (Tokens all) Entries count is may = elim is [ ]
 all_done Entries kind count is may = tt
 
-rest_count : (all kind : Lines) (count more : ℕ) → IsBehindSo all kind count
+rest_count : (all kind : LineKind) (count more : ℕ) → IsBehindSo all kind count
     → AreCounted all (count + more) → AreCounted kind more
 rest_count (Tokens all) (Tokens left) count more is counted = omega (arith, is, counted)
 rest_count (Tokens all) Entries count more is counted = elim is [ ]
 rest_count Entries (Tokens left) count more is counted = elim is [ ]
 rest_count Entries Entries count more is counted = tt
 
-like_line : (all kind : Lines) (count : ℕ) (line : TokenLine) → IsBehindSo all kind count
+like_line : (all kind : LineKind) (count : ℕ) (line : TokenLine) → IsBehindSo all kind count
     → IsLineOfKind kind line → IsLineOfKind all line
 like_line (Tokens all) (Tokens left) count line is fits = fits
 like_line (Tokens all) Entries count line is fits = elim is [ ]
 like_line Entries (Tokens left) count line is fits = elim is [ ]
 like_line Entries Entries count line is fits = fits
 
-like_order : (all kind : Lines) (count : ℕ) (a b : Token) → IsBehindSo all kind count
+like_order : (all kind : LineKind) (count : ℕ) (a b : Token) → IsBehindSo all kind count
     → MayFollow kind a b → MayFollow all a b
 like_order (Tokens all) (Tokens left) count a b is may = may
 like_order (Tokens all) Entries count a b is may = elim is [ ]
@@ -75,7 +75,7 @@ like_order Entries (Tokens left) count a b is may = elim is [ ]
 like_order Entries Entries count a b is may = may
 
 -- the lines behind so many, as lines of what is left
-rest_lines : (all kind : Lines) (count : ℕ) (lines : List TokenLine) → IsBehindSo all kind count
+rest_lines : (all kind : LineKind) (count : ℕ) (lines : List TokenLine) → IsBehindSo all kind count
     → AreCounted kind (length lines) → AllByRecursion (IsLineOfKind all) lines → Rise all lines
     → AreLines kind lines
 rest_lines (Tokens all) (Tokens left) count lines is counted each rise =
@@ -89,7 +89,7 @@ rest_lines Entries (Tokens left) count lines is counted each rise = elim is [ ]
 rest_lines Entries Entries count lines is counted each rise =
     lines_from Entries lines counted each rise
 
-rest_may : (all kind : Lines) (count : ℕ) (before : Token) (lines : List TokenLine)
+rest_may : (all kind : LineKind) (count : ℕ) (before : Token) (lines : List TokenLine)
     → IsBehindSo all kind count → MayFollowAll all before lines → MayFollowAll kind before lines
 rest_may (Tokens all) (Tokens left) count before [] is may = tt
 rest_may (Tokens all) (Tokens left) count before (line ∷ lines) is may = may
@@ -104,7 +104,7 @@ line_at at token = record { token = token; text = at.line }
 
 -- the lines that were written are the first of the text, and the source stands at the next
 pub record IsGoing (part : Part) : Type 0 where
-  pub kind : Lines
+  pub kind : LineKind
   pub left : List ℕ
   pub source : IsSource (kind, left) part.at
   pub behind : IsBehindSo part.text.0 kind (length part.done)
@@ -114,13 +114,13 @@ pub record IsGoing (part : Part) : Type 0 where
   pub below : IfSome part.at.head
       (λ token. AllByRecursion (λ line. MayFollow part.text.0 line.token token) part.done)
 
-nothing_below : (kind : Lines) (head : Option Token)
+nothing_below : (kind : LineKind) (head : Option Token)
     → IfSome head (λ token. AllByRecursion
     (λ (line : TokenLine). MayFollow kind line.token token) [])
 nothing_below kind None = tt
 nothing_below kind (Some token) = tt
 
-pub going_first : (text : Lines × List ℕ) (at : Standing) → IsSource text at
+pub going_first : (text : LineKind × List ℕ) (at : Standing) → IsSource text at
     → IsGoing (record { text = text; at = at; done = [] })
 going_first text at source = record {
   kind = text.0;
@@ -160,7 +160,7 @@ shown_here part token going is =
     going.shown ∙ ap (λ text. text_of part.done ++ text) (here part token going is).shown
     ∙ one_text (line_at part.at token) part.done (here part token going is).rest
 
-next_below : (kind : Lines) (before : Token) (head : Option Token) (lines : List TokenLine)
+next_below : (kind : LineKind) (before : Token) (head : Option Token) (lines : List TokenLine)
     → AllByRecursion (λ line. MayFollow kind line.token before) lines
     → MayFollowHead kind (Some before) head
     → IfSome head (λ token. AllByRecursion (λ line. MayFollow kind line.token token) lines)
@@ -169,7 +169,7 @@ next_below kind before (Some token) lines below may =
     each_weaker (λ line. MayFollow kind line.token before) (λ line. MayFollow kind line.token token)
     lines (λ line first. may_follow_trans kind line.token before token first may) below
 
-itself_below : (kind : Lines) (line : TokenLine) (head : Option Token)
+itself_below : (kind : LineKind) (line : TokenLine) (head : Option Token)
     (lines : List TokenLine) → MayFollowHead kind (Some line.token) head
     → IfSome head (λ token. AllByRecursion (λ line. MayFollow kind line.token token) lines)
     → IfSome head
@@ -178,7 +178,7 @@ itself_below kind line None lines may below = tt
 itself_below kind line (Some token) lines may below =
     each_push (λ line. MayFollow kind line.token token) lines line below may
 
-head_like : (all kind : Lines) (count : ℕ) (before : Token) (head : Option Token)
+head_like : (all kind : LineKind) (count : ℕ) (before : Token) (head : Option Token)
     → IsBehindSo all kind count → MayFollowHead kind (Some before) head
     → MayFollowHead all (Some before) head
 head_like all kind count before None is may = tt

@@ -7,8 +7,8 @@ use Rattle.std.specs.List.{AllZip}
 use Rattle.std.proofs.lemmas.List.Elements.{All-nil, All-push}
 use Rattle.part_reports.specs.declared.fault.MergeFault.{MergeFault}
 use Rattle.part_reports.specs.declared.front.Front.{Front}
-use Rattle.part_reports.specs.declared.merging.Lines.{Lines}
-use Rattle.part_reports.specs.declared.merging.Lines.TheVariants.{Tokens}
+use Rattle.part_reports.specs.declared.merging.LineKind.{LineKind}
+use Rattle.part_reports.specs.declared.merging.LineKind.TheVariants.{Tokens}
 use Rattle.part_reports.specs.declared.sums.WholeSums.{WholeSums}
 use Rattle.part_reports.specs.Faults.{IsOfTexts}
 use Rattle.part_reports.specs.Texts.{AreLeft}
@@ -17,7 +17,7 @@ use Rattle.part_reports.specs.inside.Fronts.{IsFront, MayBePart, ToldFront, told
 use Rattle.part_reports.specs.inside.Kinds.{IsTextOf}
 use Rattle.part_reports.specs.inside.Parts.{AreParts, Begun, IsNoPart, IsPart, begun_text}
 use Rattle.part_reports.specs.inside.Parts.{left_text}
-use Rattle.part_reports.specs.inside.Reading.{IsRead}
+use Rattle.part_reports.specs.inside.LinesRead.{IsRead}
 use Rattle.part_reports.specs.inside.Sources.{IsSource, Standing}
 use Rattle.part_reports.specs.inside.Sums.{AreFew, AreFrontsCounted, WithFront}
 use Rattle.part_reports.proofs.TextsRead.{no_files, split}
@@ -123,7 +123,7 @@ begun_none remaining sums sources counted none files are =
       stand = subst (λ sources. AllZip IsSource [] sources) (sym none) tt;
     }
 
-zip_push : (texts : List (Lines × List ℕ)) (ats : List Standing) (text : Lines × List ℕ)
+zip_push : (texts : List (LineKind × List ℕ)) (ats : List Standing) (text : LineKind × List ℕ)
     (at : Standing) → AllZip IsSource texts ats → IsSource text at
     → AllZip IsSource (texts ++ text ∷ []) (ats ++ at ∷ [])
 zip_push [] [] text at all one = (one, tt)

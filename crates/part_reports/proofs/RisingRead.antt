@@ -15,7 +15,7 @@ use Rattle.part_reports.specs.declared.fault.MergeFault.{MergeFault}
 use Rattle.part_reports.specs.Faults.{IsOfTexts}
 use Rattle.part_reports.specs.Lines.{IsValidatorSum, validator_line}
 use Rattle.part_reports.specs.inside.Fronts.{AreRising, MayFollowValidators}
-use Rattle.part_reports.specs.inside.Reading.{IsRead}
+use Rattle.part_reports.specs.inside.LinesRead.{IsRead}
 use Rattle.part_reports.proofs.ListsWritten.{Next, lines_from, lines_begin, flat_map_from}
 use Rattle.part_reports.proofs.Rising.{rise_more, rise_none, rise_follow}
 use Rattle.part_reports.proofs.Unique.{validator_line_unique}

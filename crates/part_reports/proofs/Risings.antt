@@ -13,8 +13,8 @@ use Rattle.part_reports.specs.Ledgers.{IsLedgerEntryLine}
 use Rattle.part_reports.specs.TokenLines.{DoNotFall, TokenLine, text_of}
 use Rattle.part_reports.specs.inside.Kinds.{AreLines, IsSumLine}
 use Rattle.part_reports.specs.inside.Sources.{IsLineOfKind, MayFollow, MayFollowAll}
-use Rattle.part_reports.specs.declared.merging.Lines.{Lines}
-use Rattle.part_reports.specs.declared.merging.Lines.TheVariants.{Tokens, Entries}
+use Rattle.part_reports.specs.declared.merging.LineKind.{LineKind}
+use Rattle.part_reports.specs.declared.merging.LineKind.TheVariants.{Tokens, Entries}
 use Rattle.part_reports.proofs.Firsts.{line_is_some, line_unique}
 use Rattle.part_reports.proofs.Orders.{NotBelow, not_below_trans}
 
@@ -51,12 +51,12 @@ each_from_map f P (x ∷ xs) each = (each.0, each_from_map f P xs each.1)
 
 -- ---- lines in order
 -- each line may stand behind each line before it
-abbrev pub Rise : Lines → List TokenLine → Type 0
+abbrev pub Rise : LineKind → List TokenLine → Type 0
 Rise kind [] = Unit {0}
 Rise kind (line ∷ lines) =
     AllByRecursion (λ other. MayFollow kind line.token other.token) lines × Rise kind lines
 
-pub rise_push : (kind : Lines) (lines : List TokenLine) (last : TokenLine) → Rise kind lines
+pub rise_push : (kind : LineKind) (lines : List TokenLine) (last : TokenLine) → Rise kind lines
     → AllByRecursion (λ line. MayFollow kind line.token last.token) lines
     → Rise kind (lines ++ last ∷ [])
 rise_push kind [] last rise below = (tt, tt)
@@ -65,18 +65,18 @@ rise_push kind (line ∷ lines) last rise below = (
   rise_push kind lines last rise.1 below.1,
 )
 
-pub rise_behind : (kind : Lines) (front lines : List TokenLine) → Rise kind (front ++ lines)
+pub rise_behind : (kind : LineKind) (front lines : List TokenLine) → Rise kind (front ++ lines)
     → Rise kind lines
 rise_behind kind [] lines rise = rise
 rise_behind kind (line ∷ front) lines rise = rise_behind kind front lines rise.1
 
-may_all : (kind : Lines) (before : Token) (lines : List TokenLine)
+may_all : (kind : LineKind) (before : Token) (lines : List TokenLine)
     → AllByRecursion (λ other. MayFollow kind before other.token) lines
     → MayFollowAll kind before lines
 may_all kind before [] each = tt
 may_all kind before (line ∷ lines) each = each.0
 
-pub rise_middle : (kind : Lines) (front : List TokenLine) (line : TokenLine)
+pub rise_middle : (kind : LineKind) (front : List TokenLine) (line : TokenLine)
     (lines : List TokenLine) → Rise kind ((front ++ line ∷ []) ++ lines)
     → MayFollowAll kind line.token lines
 rise_middle kind [] line lines rise = may_all kind line.token lines rise.0
@@ -141,28 +141,28 @@ falls_to (line ∷ (next ∷ lines)) sorted =
     (from_next line next lines (sorted 0 line (omega arith) (omega arith)) rise, rise)
 
 -- there are so many lines, where that is known
-abbrev pub AreCounted : Lines → ℕ → Type 0
+abbrev pub AreCounted : LineKind → ℕ → Type 0
 AreCounted (Tokens left) count = count ≡ left
 AreCounted Entries count = Unit {0}
 
-pub lines_from : (kind : Lines) (lines : List TokenLine) → AreCounted kind (length lines)
+pub lines_from : (kind : LineKind) (lines : List TokenLine) → AreCounted kind (length lines)
     → AllByRecursion (IsLineOfKind kind) lines → Rise kind lines → AreLines kind lines
 lines_from (Tokens left) lines count each rise =
     (count, All-from_recursion IsSumLine lines each, strictly_from left lines rise)
 lines_from Entries lines count each rise =
     (All-from_recursion IsLedgerEntryLine lines each, falls_from lines rise)
 
-pub lines_count : (kind : Lines) (lines : List TokenLine) → AreLines kind lines
+pub lines_count : (kind : LineKind) (lines : List TokenLine) → AreLines kind lines
     → AreCounted kind (length lines)
 lines_count (Tokens left) lines are = are.0
 lines_count Entries lines are = tt
 
-pub lines_each : (kind : Lines) (lines : List TokenLine) → AreLines kind lines
+pub lines_each : (kind : LineKind) (lines : List TokenLine) → AreLines kind lines
     → AllByRecursion (IsLineOfKind kind) lines
 lines_each (Tokens left) lines are = recursion_from_All IsSumLine lines are.1
 lines_each Entries lines are = recursion_from_All IsLedgerEntryLine lines are.0
 
-pub lines_rise : (kind : Lines) (lines : List TokenLine) → AreLines kind lines → Rise kind lines
+pub lines_rise : (kind : LineKind) (lines : List TokenLine) → AreLines kind lines → Rise kind lines
 lines_rise (Tokens left) lines are = strictly_to left lines are.2
 lines_rise Entries lines are = falls_to lines are.1
 
@@ -172,7 +172,7 @@ no_bytes [] rest is = refl
 no_bytes (x ∷ line) rest is = cc
 
 -- the lines of a text begin with those that the text begins with
-pub begins : (kind : Lines) (done list : List TokenLine) (left : List ℕ)
+pub begins : (kind : LineKind) (done list : List TokenLine) (left : List ℕ)
     → AllByRecursion (IsLineOfKind kind) done → AllByRecursion (IsLineOfKind kind) list
     → text_of list ≡ text_of done ++ left
     → (more : List TokenLine) × (list ≡ done ++ more) × (text_of more ≡ left)

@@ -10,7 +10,7 @@ use Rattle.shard_book.specs.Sums.{Sums}
 use Rattle.part_reports.specs.Lines.{IsTokenSum, token_line}
 use Rattle.part_reports.specs.TokenLines.{TokenLine, text_of}
 use Rattle.part_reports.specs.inside.Kinds.{IsSumLine, IsTextOf}
-use Rattle.part_reports.specs.declared.merging.Lines.TheVariants.{Tokens}
+use Rattle.part_reports.specs.declared.merging.LineKind.TheVariants.{Tokens}
 use Rattle.part_reports.proofs.Unique.{token_line_unique}
 
 abbrev pub Sum : Type 0

@@ -10,7 +10,7 @@ use Rattle.part_reports.specs.Lines.{AreCounts, IsUploadEnd, IsValidatorSum, end
 use Rattle.part_reports.specs.Lines.{head_line, validator_line}
 use Rattle.part_reports.specs.inside.Fronts.{AreEnds, AreValidators, MayBePart, ToldFront, ends_text}
 use Rattle.part_reports.specs.inside.Fronts.{told_text, validators_text}
-use Rattle.part_reports.specs.inside.Reading.{IsRead, Stood}
+use Rattle.part_reports.specs.inside.LinesRead.{IsRead, Stood}
 use Rattle.part_reports.proofs.ListsWritten.{lines_unique, end_lines_from, flat_map_from}
 use Rattle.part_reports.proofs.Unique.{end_line_unique, head_line_unique, totals_line_unique}
 use Rattle.part_reports.proofs.Unique.{validator_line_unique}

@@ -5,7 +5,7 @@ pub mod Fronts
 pub mod Kinds
 pub mod Least
 pub mod Parts
-pub mod Reading
+pub mod LinesRead
 pub mod Sources
 pub mod Sums
 pub mod UploadEnds

@@ -12,11 +12,11 @@ ghost use Rattle.part_reports.specs.inside.Fronts.{AreEnds, AreSoManyPosted, Are
 ghost use Rattle.part_reports.specs.inside.Fronts.{AreValidators, IsFront, MayBePart};
 ghost use Rattle.part_reports.specs.inside.Fronts.{MayFollowValidators};
 ghost use Rattle.part_reports.specs.inside.Fronts.{ends_text, told_text, validators_text};
-ghost use Rattle.part_reports.specs.inside.Reading.{IsRead};
+ghost use Rattle.part_reports.specs.inside.LinesRead.{IsRead};
 
 use crate::fault::{MergeFault, Wrong};
 use crate::form::{End, end_of, head_of, totals_of, validator_sum_of};
-use crate::reading::Reading;
+use crate::line_reader::LineReader;
 use shard_book::{Totals, ValidatorSum};
 use std::alloc::Global;
 use std::io::BufRead;
@@ -33,69 +33,72 @@ pub(crate) struct Front {
 }
 
 /// Reads a line that is a word and a number.
-fn next_head<R: BufRead + Drop>(reading: &mut Reading<R>, word: &[u8]) -> Result<u64, MergeFault>
+fn next_head<R: BufRead + Drop>(reader: &mut LineReader<R>, word: &[u8]) -> Result<u64, MergeFault>
     requires one_line { All (λ byte. ¬ (byte ≡ 10)) word.now }
     ensures read { IsRead (λ told number. told ≡ number) (λ number. number < 2 ^ 64)
-        (head_line word.now) (R.remaining reading.old.from) (R.remaining reading.new.from) result }
+        (head_line word.now) (R.remaining reader.old.from) (R.remaining reader.new.from) result }
     ensures other { IfErr result (λ fault. ¬ (IsOfTaps fault)) }
 {
-    reading.next()?;
-    reading.told(head_of(reading.line(), word))
+    reader.next()?;
+    reader.told(head_of(reader.line(), word))
 }
 
 /// Reads the line of an upload's end.
-fn next_end<R: BufRead + Drop>(reading: &mut Reading<R>, upload: u64) -> Result<End, MergeFault>
+fn next_end<R: BufRead + Drop>(reader: &mut LineReader<R>, upload: u64) -> Result<End, MergeFault>
     ensures read { IsRead (λ end told. end_of_upload end ≡ told) IsUploadEnd (end_line upload)
-        (R.remaining reading.old.from) (R.remaining reading.new.from) result }
+        (R.remaining reader.old.from) (R.remaining reader.new.from) result }
     ensures other { IfErr result (λ fault. ¬ (IsOfTaps fault)) }
 {
-    reading.next()?;
-    reading.told(end_of(reading.line(), upload))
+    reader.next()?;
+    reader.told(end_of(reader.line(), upload))
 }
 
 /// Reads the line of totals.
-fn next_totals<R: BufRead + Drop>(reading: &mut Reading<R>) -> Result<Totals, MergeFault>
+fn next_totals<R: BufRead + Drop>(reader: &mut LineReader<R>) -> Result<Totals, MergeFault>
     ensures read { IsRead (λ totals told. sums_of totals ≡ told) AreCounts totals_line
-        (R.remaining reading.old.from) (R.remaining reading.new.from) result }
+        (R.remaining reader.old.from) (R.remaining reader.new.from) result }
     ensures other { IfErr result (λ fault. ¬ (IsOfTaps fault)) }
 {
-    reading.next()?;
-    reading.told(totals_of(reading.line()))
+    reader.next()?;
+    reader.told(totals_of(reader.line()))
 }
 
 /// Reads the line of a validator.
-fn next_validator<R: BufRead + Drop>(reading: &mut Reading<R>) -> Result<ValidatorSum, MergeFault>
+fn next_validator<R: BufRead + Drop>(reader: &mut LineReader<R>) -> Result<ValidatorSum, MergeFault>
     ensures read { IsRead (λ sum told. validator_sum sum ≡ told) IsValidatorSum validator_line
-        (R.remaining reading.old.from) (R.remaining reading.new.from) result }
+        (R.remaining reader.old.from) (R.remaining reader.new.from) result }
     ensures other { IfErr result (λ fault. ¬ (IsOfTaps fault)) }
 {
-    reading.next()?;
-    reading.told(validator_sum_of(reading.line()))
+    reader.next()?;
+    reader.told(validator_sum_of(reader.line()))
 }
 
 /// Reads the lines of so many uploads, each of which was posted.
-fn read_posted<R: BufRead + Drop>(reading: &mut Reading<R>, uploads: u64) -> Result<(), MergeFault>
+fn read_posted<R: BufRead + Drop>(
+    reader: &mut LineReader<R>,
+    uploads: u64,
+) -> Result<(), MergeFault>
     ensures read { IsRead (λ _ _. Unit {0}) (AreSoManyPosted uploads) (end_lines 0)
-        (R.remaining reading.old.from) (R.remaining reading.new.from) result }
+        (R.remaining reader.old.from) (R.remaining reader.new.from) result }
     ensures other { IfErr result (λ fault. ¬ (IsOfTaps fault)) }
 {
     for upload in 0..uploads {
-        let end = next_end(reading, upload)?;
+        let end = next_end(reader, upload)?;
         if end.fault.is_some() {
-            return Err(reading.fault(Wrong::NotPosted));
+            return Err(reader.fault(Wrong::NotPosted));
         }
     }
     Ok(())
 }
 
 /// Reads the number of a part's uploads and their lines. Each was posted.
-fn read_uploads<R: BufRead + Drop>(reading: &mut Reading<R>) -> Result<(), MergeFault>
+fn read_uploads<R: BufRead + Drop>(reader: &mut LineReader<R>) -> Result<(), MergeFault>
     ensures read { IsRead (λ _ _. Unit {0}) AreEnds ends_text
-        (R.remaining reading.old.from) (R.remaining reading.new.from) result }
+        (R.remaining reader.old.from) (R.remaining reader.new.from) result }
     ensures other { IfErr result (λ fault. ¬ (IsOfTaps fault)) }
 {
-    let uploads = next_head(reading, b"uploads ")?;
-    read_posted(reading, uploads)
+    let uploads = next_head(reader, b"uploads ")?;
+    read_posted(reader, uploads)
 }
 
 /// Whether a validator may follow the last of these.
@@ -111,19 +114,19 @@ fn may_follow(sums: &[ValidatorSum], sum: &ValidatorSum) -> bool
 /// Reads the lines of so many validators, which rise.
 fn read_rising<R: BufRead + Drop>(
     alloc: Global,
-    reading: &mut Reading<R>,
+    reader: &mut LineReader<R>,
     number: u64,
 ) -> Result<Vec<ValidatorSum>, MergeFault>
     ensures read { IsRead (λ sums told. AreSums sums.items told) (AreRising number)
         (flat_map validator_line)
-        (R.remaining reading.old.from) (R.remaining reading.new.from) result }
+        (R.remaining reader.old.from) (R.remaining reader.new.from) result }
     ensures other { IfErr result (λ fault. ¬ (IsOfTaps fault)) }
 {
     let mut sums: Vec<ValidatorSum> = Vec::new(alloc);
     for _ in 0..number {
-        let sum = next_validator(reading)?;
+        let sum = next_validator(reader)?;
         if !may_follow(&sums, &sum) {
-            return Err(reading.fault(Wrong::Order));
+            return Err(reader.fault(Wrong::Order));
         }
         sums.push(sum)?;
     }
@@ -133,29 +136,29 @@ fn read_rising<R: BufRead + Drop>(
 /// Reads the number of a part's validators and their lines. They rise.
 fn read_validators<R: BufRead + Drop>(
     alloc: Global,
-    reading: &mut Reading<R>,
+    reader: &mut LineReader<R>,
 ) -> Result<Vec<ValidatorSum>, MergeFault>
     ensures read { IsRead (λ sums told. AreSums sums.items told) AreValidators validators_text
-        (R.remaining reading.old.from) (R.remaining reading.new.from) result }
+        (R.remaining reader.old.from) (R.remaining reader.new.from) result }
     ensures other { IfErr result (λ fault. ¬ (IsOfTaps fault)) }
 {
-    let number = next_head(reading, b"validators ")?;
-    read_rising(alloc, reading, number)
+    let number = next_head(reader, b"validators ")?;
+    read_rising(alloc, reader, number)
 }
 
 /// Reads a part's report up to the lines of its tokens.
 pub(crate) fn read_front<R: BufRead + Drop>(
     alloc: Global,
-    reading: &mut Reading<R>,
+    reader: &mut LineReader<R>,
 ) -> Result<Front, MergeFault>
     ensures read { IsRead IsFront MayBePart told_text
-        (R.remaining reading.old.from) (R.remaining reading.new.from) result }
+        (R.remaining reader.old.from) (R.remaining reader.new.from) result }
     ensures other { IfErr result (λ fault. ¬ (IsOfTaps fault)) }
 {
-    read_uploads(reading)?;
-    let totals = next_totals(reading)?;
-    let validators = read_validators(alloc, reading)?;
-    let tokens = next_head(reading, b"tokens ")?;
+    read_uploads(reader)?;
+    let totals = next_totals(reader)?;
+    let validators = read_validators(alloc, reader)?;
+    let tokens = next_head(reader, b"tokens ")?;
     Ok(Front {
         totals,
         validators,

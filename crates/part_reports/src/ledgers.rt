@@ -9,8 +9,8 @@ ghost use Rattle.part_reports.specs.inside.Begun.{AreBegun, IsBegun, IsNoLedger}
 ghost use Rattle.part_reports.specs.inside.Sources.{standing};
 
 use crate::fault::{MergeFault, Wrong};
-use crate::merging::{Lines, Source, write_merged, write_text};
-use crate::reading::Reading;
+use crate::line_reader::LineReader;
+use crate::merging::{LineKind, LineSource, write_merged, write_text};
 use reason_texts::head_line;
 use std::alloc::Global;
 use std::io::{BufRead, Write};
@@ -20,19 +20,19 @@ fn begin_ledger<R: BufRead + Drop>(
     alloc: Global,
     from: R,
     text: usize,
-) -> Result<Source<R>, MergeFault>
+) -> Result<LineSource<R>, MergeFault>
     ensures begun { IfOk result (λ source. IfSome (R.remaining from)
         (λ file. IsBegun file (standing R.remaining source))) }
     ensures refused { IfErr result (λ fault. IsOfTexts fault
         → IfSome (R.remaining from) IsNoLedger) }
     ensures no_taps { IfErr result (λ fault. ¬ (IsOfTaps fault)) }
 {
-    let mut reading = Reading::new(alloc, from, text);
-    reading.next()?;
-    if reading.line() == head_line().as_bytes() {
-        Source::begin(reading, Lines::Entries)
+    let mut reader = LineReader::new(alloc, from, text);
+    reader.next()?;
+    if reader.line() == head_line().as_bytes() {
+        LineSource::begin(reader, LineKind::Entries)
     } else {
-        Err(reading.fault(Wrong::Form))
+        Err(reader.fault(Wrong::Form))
     }
 }
 
@@ -40,7 +40,7 @@ fn begin_ledger<R: BufRead + Drop>(
 fn begin_ledgers<R: BufRead + Drop>(
     alloc: Global,
     ledgers: Vec<R>,
-) -> Result<Vec<Source<R>>, MergeFault>
+) -> Result<Vec<LineSource<R>>, MergeFault>
     ensures begun { IfOk result (λ sources. AreBegun (map R.remaining ledgers.items)
         (map (standing R.remaining) sources.items)) }
     ensures refused { IfErr result (λ fault. IsOfTexts fault → (files : List (List ℕ))

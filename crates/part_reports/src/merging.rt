@@ -16,7 +16,7 @@ ghost use Rattle.part_reports.specs.inside.Sources.{IsMovedAt, IsStuckAt, standi
 
 use crate::fault::{MergeFault, Wrong};
 use crate::form::{ledger_token_of, token_sum_of};
-use crate::reading::Reading;
+use crate::line_reader::LineReader;
 use shard_book::Token;
 use std::alloc::{AllocError, Global};
 use std::cmp::Ordering;
@@ -24,7 +24,7 @@ use std::io::{BufRead, Write};
 
 /// What the lines are.
 #[derive(Clone, Copy, Debug, PartialEq, Eq)]
-pub(crate) enum Lines {
+pub(crate) enum LineKind {
     /// The tokens of a report, each once, and so many lines are left to read.
     Tokens { left: u64 },
     /// The entries of a ledger.
@@ -33,60 +33,60 @@ pub(crate) enum Lines {
 
 /// A text whose lines are in order of tokens, at one of its lines or at its end.
 #[derive(Drop)]
-pub(crate) struct Source<R: BufRead + Drop> {
+pub(crate) struct LineSource<R: BufRead + Drop> {
     /// The text.
-    reading: Reading<R>,
+    reader: LineReader<R>,
     /// What its lines are.
-    lines: Lines,
+    lines: LineKind,
     /// The token of the line that was read last; none at the end.
     head: Option<Token>,
 }
 
 /// The token of a line.
-fn token_in(lines: Lines, line: &[u8]) -> Option<Token>
+fn token_in(lines: LineKind, line: &[u8]) -> Option<Token>
     ensures { MatchOption result
         ((token : Token) → ¬ (IsLineOfKind lines (record { token = token; text = line.now })))
         (λ token. (left : List ℕ) → line.now ≡ take_through 10 left
         → IsLineOfKind lines (record { token = token; text = line.now })) }
 {
     match lines {
-        Lines::Tokens { .. } => match token_sum_of(line) {
+        LineKind::Tokens { .. } => match token_sum_of(line) {
             Some(sum) => Some(sum.token),
             None => None,
         },
-        Lines::Entries => ledger_token_of(line),
+        LineKind::Entries => ledger_token_of(line),
     }
 }
 
 /// What the lines are behind one of them; none where no line was left.
-fn behind_one(lines: Lines) -> Option<Lines>
-    ensures { MatchOption result ((behind : Lines) → ¬ (IsBehindOne lines behind))
+fn behind_one(lines: LineKind) -> Option<LineKind>
+    ensures { MatchOption result ((behind : LineKind) → ¬ (IsBehindOne lines behind))
         (λ behind. IsBehindOne lines behind) }
 {
     match lines {
-        Lines::Tokens { left } => {
+        LineKind::Tokens { left } => {
             let left = left.checked_sub(1)?;
-            Some(Lines::Tokens { left })
+            Some(LineKind::Tokens { left })
         }
-        Lines::Entries => Some(Lines::Entries),
+        LineKind::Entries => Some(LineKind::Entries),
     }
 }
 
 /// Whether the text may end here.
-fn may_end(lines: Lines) -> bool
+fn may_end(lines: LineKind) -> bool
     ensures { IsTrue result ↔ MayEnd lines }
 {
     match lines {
-        Lines::Tokens { left } => left == 0,
-        Lines::Entries => true,
+        LineKind::Tokens { left } => left == 0,
+        LineKind::Entries => true,
     }
 }
 
 /// What the first line of a text tells, which is empty where the text has ended: what the lines
 /// behind it are, and its token. Nothing where such a line may not stand there.
-fn first_of(lines: Lines, line: &[u8]) -> Option<(Lines, Option<Token>)>
+fn first_of(lines: LineKind, line: &[u8]) -> Option<(LineKind, Option<Token>)>
     ensures { MatchOption result
-        ((behind : Lines) (head : Option Token) → ¬ (IsFirstLine lines line.now behind head))
+        ((behind : LineKind) (head : Option Token) → ¬ (IsFirstLine lines line.now behind head))
         (λ told. (left : List ℕ) → line.now ≡ take_through 10 left
         → IsFirstLine lines line.now told.0 told.1) }
 {
@@ -103,17 +103,17 @@ fn first_of(lines: Lines, line: &[u8]) -> Option<(Lines, Option<Token>)>
 }
 
 /// Whether a line of the token may stand behind one of the other.
-fn may_follow(lines: Lines, before: Token, token: Token) -> bool
+fn may_follow(lines: LineKind, before: Token, token: Token) -> bool
     ensures { IsTrue result ↔ MayFollow lines before token }
 {
     match lines {
-        Lines::Tokens { .. } => before < token,
-        Lines::Entries => before <= token,
+        LineKind::Tokens { .. } => before < token,
+        LineKind::Entries => before <= token,
     }
 }
 
 /// The same of the tokens at which a source stood and stands.
-fn may_stand(lines: Lines, before: Option<Token>, head: Option<Token>) -> bool
+fn may_stand(lines: LineKind, before: Option<Token>, head: Option<Token>) -> bool
     ensures { IsTrue result ↔ MayFollowHead lines before head }
 {
     match (before, head) {
@@ -122,18 +122,18 @@ fn may_stand(lines: Lines, before: Option<Token>, head: Option<Token>) -> bool
     }
 }
 
-impl<R: BufRead + Drop> Source<R> {
+impl<R: BufRead + Drop> LineSource<R> {
     /// The text at the next line, which is the first of these lines.
-    pub(crate) fn begin(reading: Reading<R>, lines: Lines) -> Result<Source<R>, MergeFault>
-        ensures begun { IfOk result (λ source. IfSome (R.remaining reading.from)
+    pub(crate) fn begin(reader: LineReader<R>, lines: LineKind) -> Result<LineSource<R>, MergeFault>
+        ensures begun { IfOk result (λ source. IfSome (R.remaining reader.from)
             (λ left. IsSource (lines, left) (standing R.remaining source))) }
         ensures refused { IfErr result (λ fault. IsOfTexts fault
-            → IfSome (R.remaining reading.from)
+            → IfSome (R.remaining reader.from)
             (λ left. (list : List TokenLine) → ¬ (IsTextOf (lines, left) list))) }
         ensures no_taps { IfErr result (λ fault. ¬ (IsOfTaps fault)) }
     {
-        let mut source = Source {
-            reading,
+        let mut source = LineSource {
+            reader,
             lines,
             head: None,
         };
@@ -143,17 +143,15 @@ impl<R: BufRead + Drop> Source<R> {
 
     /// Reads the next line, or the end.
     fn read(&mut self) -> Result<(), MergeFault>
-        ensures read { OnOk result (IfSome (R.remaining self.old.reading.from)
+        ensures read { OnOk result (IfSome (R.remaining self.old.reader.from)
             (λ left. IsSource (self.old.lines, left) (standing R.remaining self.new))) }
         ensures refused { IfErr result (λ fault. IsOfTexts fault
-            → IfSome (R.remaining self.old.reading.from)
+            → IfSome (R.remaining self.old.reader.from)
             (λ left. (list : List TokenLine) → ¬ (IsTextOf (self.old.lines, left) list))) }
         ensures no_taps { IfErr result (λ fault. ¬ (IsOfTaps fault)) }
     {
-        self.reading.next()?;
-        let (lines, head) = self
-            .reading
-            .told(first_of(self.lines, self.reading.line()))?;
+        self.reader.next()?;
+        let (lines, head) = self.reader.told(first_of(self.lines, self.reader.line()))?;
         self.lines = lines;
         self.head = head;
         Ok(())
@@ -161,12 +159,12 @@ impl<R: BufRead + Drop> Source<R> {
 
     /// Goes on to the next line. Gives its token, which is not below this line's.
     fn advance(&mut self) -> Result<Option<Token>, MergeFault>
-        ensures read { OnOk result (IfSome (R.remaining self.old.reading.from)
+        ensures read { OnOk result (IfSome (R.remaining self.old.reader.from)
             (λ left. IsSource (self.old.lines, left) (standing R.remaining self.new))) }
         ensures follows { IfOk result (λ head. MayFollowHead self.old.lines self.old.head head) }
         ensures head { IfOk result (λ head. head ≡ self.new.head) }
         ensures refused { IfErr result (λ fault. IsOfTexts fault
-            → IfSome (R.remaining self.old.reading.from)
+            → IfSome (R.remaining self.old.reader.from)
             (λ left. (list : List TokenLine) → IsTextOf (self.old.lines, left) list
             → IfSome self.old.head (λ before. ¬ (MayFollowAll self.old.lines before list)))) }
         ensures no_taps { IfErr result (λ fault. ¬ (IsOfTaps fault)) }
@@ -176,7 +174,7 @@ impl<R: BufRead + Drop> Source<R> {
         if may_stand(lines, before, self.head) {
             Ok(self.head)
         } else {
-            Err(self.reading.fault(Wrong::Order))
+            Err(self.reader.fault(Wrong::Order))
         }
     }
 }
@@ -217,11 +215,11 @@ pub(crate) fn write_text<W: Write>(out: &mut W, text: &[u8]) -> Result<(), Merge
 }
 
 /// The fault of the text of this number.
-fn fault_in<R: BufRead + Drop>(sources: &[Source<R>], at: usize, wrong: Wrong) -> MergeFault
+fn fault_in<R: BufRead + Drop>(sources: &[LineSource<R>], at: usize, wrong: Wrong) -> MergeFault
     ensures { ¬ (IsOfTaps result) }
 {
     match sources.get(at) {
-        Some(source) => source.reading.fault(wrong),
+        Some(source) => source.reader.fault(wrong),
         None => MergeFault::Unread(at),
     }
 }
@@ -229,7 +227,7 @@ fn fault_in<R: BufRead + Drop>(sources: &[Source<R>], at: usize, wrong: Wrong) -
 /// Where the texts stand.
 fn heads_of<R: BufRead + Drop>(
     alloc: Global,
-    sources: &[Source<R>],
+    sources: &[LineSource<R>],
 ) -> Result<Vec<Option<Token>>, AllocError>
     ensures { IfOk result (λ heads. heads.items ≡ map (λ source. source.head) sources.now) }
 {
@@ -238,7 +236,7 @@ fn heads_of<R: BufRead + Drop>(
 
 /// Writes the line at which the text of this number stands, and goes on to the next.
 fn write_at<R: BufRead + Drop, W: Write>(
-    sources: &mut [Source<R>],
+    sources: &mut [LineSource<R>],
     heads: &mut [Option<Token>],
     at: usize,
     out: &mut W,
@@ -253,7 +251,7 @@ fn write_at<R: BufRead + Drop, W: Write>(
     ensures no_taps { IfErr result (λ fault. ¬ (IsOfTaps fault)) }
 {
     let source = &mut sources[at];
-    write_text(out, source.reading.line())?;
+    write_text(out, source.reader.line())?;
     heads[at] = source.advance()?;
     Ok(())
 }
@@ -261,15 +259,15 @@ fn write_at<R: BufRead + Drop, W: Write>(
 /// Writes the lines of all texts, in order of tokens.
 pub(crate) fn write_merged<R: BufRead + Drop, W: Write>(
     alloc: Global,
-    sources: &mut [Source<R>],
+    sources: &mut [LineSource<R>],
     out: &mut W,
 ) -> Result<(), MergeFault>
-    ensures merged { OnOk result ((texts : List (Lines × List ℕ))
+    ensures merged { OnOk result ((texts : List (LineKind × List ℕ))
         → AllZip IsSource texts (map (standing R.remaining) sources.old)
         → (lists : List (List TokenLine)) × (joined : List TokenLine) × AreTexts texts lists
         × IsMergedByToken lists joined
         × Appends (W.contents out.old) (W.contents out.new) (text_of joined)) }
-    ensures refused { IfErr result (λ fault. IsOfTexts fault → (texts : List (Lines × List ℕ))
+    ensures refused { IfErr result (λ fault. IsOfTexts fault → (texts : List (LineKind × List ℕ))
         → AllZip IsSource texts (map (standing R.remaining) sources.old)
         → (lists : List (List TokenLine)) (joined : List TokenLine) → AreTexts texts lists
         → ¬ (IsMergedByToken lists joined)) }

@@ -21,8 +21,8 @@ ghost use Rattle.shard_book.specs.Sums.{sums_of};
 
 use crate::fault::{MergeFault, Wrong};
 use crate::front::read_front;
-use crate::merging::{Lines, Source, write_merged, write_text};
-use crate::reading::Reading;
+use crate::line_reader::LineReader;
+use crate::merging::{LineKind, LineSource, write_merged, write_text};
 use crate::sums::{WholeSums, add_front, no_sums};
 use crate::upload_ends::UploadEnds;
 use crate::upload_ends::read::read_ends;
@@ -38,7 +38,7 @@ struct BegunReports<R: BufRead + Drop> {
     /// What stands before the tokens, added up.
     sums: WholeSums,
     /// Each report behind the head of its tokens.
-    sources: Vec<Source<R>>,
+    sources: Vec<LineSource<R>>,
 }
 
 /// Reads the report of a part up to the line of its first token, and adds what it tells.
@@ -47,20 +47,20 @@ fn read_part<R: BufRead + Drop>(
     sums: &mut WholeSums,
     from: R,
     text: usize,
-) -> Result<Source<R>, MergeFault>
+) -> Result<LineSource<R>, MergeFault>
     ensures read { IfOk result (λ source. IfSome (R.remaining from)
         (λ file. IsPart sums.old sums.new file (standing R.remaining source))) }
     ensures refused { IfErr result (λ fault. IsOfTexts fault
         → IfSome (R.remaining from) (IsNoPart sums.old)) }
     ensures other { IfErr result (λ fault. ¬ (IsOfTaps fault)) }
 {
-    let mut reading = Reading::new(alloc, from, text);
-    let front = read_front(alloc, &mut reading)?;
+    let mut reader = LineReader::new(alloc, from, text);
+    let front = read_front(alloc, &mut reader)?;
     if !add_front(sums, &front)? {
-        return Err(reading.fault(Wrong::Sums));
+        return Err(reader.fault(Wrong::Sums));
     }
     let left = front.tokens;
-    Source::begin(reading, Lines::Tokens { left })
+    LineSource::begin(reader, LineKind::Tokens { left })
 }
 
 /// Reads the reports of parts up to the lines of their first tokens. The first of the texts has

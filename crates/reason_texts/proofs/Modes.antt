@@ -15,7 +15,7 @@ use Rattle.account_rule.specs.declared.reason.Reason.{Reason}
 use Rattle.account_rule.specs.declared.reason.Reason.TheVariants.{Unknown, Stale, Transfer, Ride}
 use Rattle.account_rule.specs.declared.tap.TapIn.{TapIn}
 use Rattle.account_rule.proofs.ReasonLemmas.{giver-live, giver-ride}
-use Rattle.reason_texts.specs.Why.{HasModeOf}
+use Rattle.reason_texts.specs.ReasonWords.{HasModeOf}
 
 -- a chain with no giver is of even length
 even-none : (chain : List LiveTap) → giver_of chain ≡ None → is_even (length chain) ≡ true

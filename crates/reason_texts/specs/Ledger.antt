@@ -71,21 +71,21 @@ pub record IsPointing (words : List ℕ) (at : ℕ) (text : List ℕ) : Type 0 w
   pub shown : text ≡ words ++ moment
 
 -- the last five fields, by the reason
-abbrev pub IsBecause : Reason → List ℕ → Type 0
-IsBecause Unknown text = text ≡ codes ",,,unknown,"
-IsBecause (Stale latest) text = IsPointing (codes ",,,stale,") latest text
-IsBecause (Transfer moment mode) text = IsPointing (codes ",,,transfer,") moment text
-IsBecause (Ride start until charge) text = IsRideFields start until charge text
+abbrev pub IsReasonFields : Reason → List ℕ → Type 0
+IsReasonFields Unknown text = text ≡ codes ",,,unknown,"
+IsReasonFields (Stale latest) text = IsPointing (codes ",,,stale,") latest text
+IsReasonFields (Transfer moment mode) text = IsPointing (codes ",,,transfer,") moment text
+IsReasonFields (Ride start until charge) text = IsRideFields start until charge text
 
 -- the line of a token's entry with this number and this reason
 pub record IsLedgerLine (fares : Fares) (token : Token) (number : ℕ) (entry : Entry) (why : Reason)
     (line : List ℕ) : Type 0 where
   pub moment : List ℕ
   pub is : IsMomentText entry.moment moment
-  pub because : List ℕ
-  pub told : IsBecause why because
+  pub reason_fields : List ℕ
+  pub told : IsReasonFields why reason_fields
   pub shown : line ≡ line_head token number
-      ++ (moment ++ (entry_fields fares entry ++ (because ++ codes "\n")))
+      ++ (moment ++ (entry_fields fares entry ++ (reason_fields ++ codes "\n")))
 
 -- why the token's entry is answered as it is, after its earlier entries
 abbrev pub reason_after : Fares → Token → List Entry → Entry → Reason

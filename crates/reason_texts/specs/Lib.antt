@@ -1,3 +1,3 @@
 pub mod Ledger
 pub mod Tellers
-pub mod Why
+pub mod ReasonWords

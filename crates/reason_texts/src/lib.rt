@@ -2,13 +2,13 @@
 //! words behind an explained line.
 #![tactic(auto)]
 
-mod because;
 mod ledger;
 mod line;
+mod reason_fields;
+mod reason_words;
 mod teller;
-mod why;
 
 pub use ledger::{head_line, write_token_lines};
 pub use line::write_line;
+pub use reason_words::write_reason_words;
 pub use teller::Teller;
-pub use why::write_why;

@@ -4,7 +4,7 @@ ghost use Rattle.std.specs.Prelude.{◌≡◌, ◌<◌, ◌++◌, length, List, 
 ghost use Rattle.std.specs.Prelude.{string_bytes};
 ghost use Rattle.reason_texts.specs.Ledger.{IsLedgerLine, entry_fields, line_head, mode_field};
 
-use crate::because::write_because;
+use crate::reason_fields::write_reason_fields;
 use account_rule::Reason;
 use fare_table::FareTable;
 use fare_texts::{Digits, answer_name, write_moment};
@@ -27,7 +27,7 @@ pub fn write_line(
     write_head(text, token, number)?;
     write_moment(text, entry.moment)?;
     write_fields(text, table, entry)?;
-    write_because(text, reason)?;
+    write_reason_fields(text, reason)?;
     text.push_str("\n")?;
     Ok(())
 }

@@ -12,7 +12,7 @@ ghost use Rattle.shard_book.specs.Entry.{tap_of};
 ghost use Rattle.shard_book.specs.declared.entry.Entry.{Entry};
 ghost use Rattle.reason_texts.specs.Ledger.{IsTokenLine, reason_after};
 ghost use Rattle.reason_texts.specs.Tellers.{HasTold};
-ghost use Rattle.reason_texts.specs.Why.{HasModeOf};
+ghost use Rattle.reason_texts.specs.ReasonWords.{HasModeOf};
 
 use crate::line::write_line;
 use account_rule::{Account, Reason, TapIn, WindowView};

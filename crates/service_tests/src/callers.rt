@@ -82,7 +82,7 @@ fn two_runs_have_one_report(rt: HostRuntime) -> Result<(), Fail> {
     let uploads = two_taps(alloc)?;
     let one = posted(&rt, alloc, uploads.as_slice(), 1, 1)?;
     let other = posted(&rt, alloc, uploads.as_slice(), 5, 3)?;
-    assert!(rt; laws::ended_whole(&one) && laws::ended_whole(&other));
+    assert!(rt; laws::none_was_cut(&one) && laws::none_was_cut(&other));
     laws::same_texts(uploads.as_slice(), &one, &other);
     have_one_text(&rt, alloc, &one, &other)
 }

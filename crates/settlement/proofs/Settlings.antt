@@ -16,7 +16,7 @@ use Rattle.shard_book.specs.Visits.{AreEntriesOf}
 use Rattle.shard_book.specs.declared.entry.Entry.{Entry}
 use Rattle.fare_service.specs.Plain.{HasOneReading, AreTapsOfEach, IsPlain, IsReportOver, plain}
 use Rattle.fare_service.specs.Plain.{plain_after, answered, unanswered}
-use Rattle.fare_service.specs.Text.{report, validators_part, tokens_part}
+use Rattle.fare_service.specs.Text.{report, validators_section, tokens_section}
 use Rattle.fare_texts.specs.Counts.{totals_line}
 use Rattle.fare_service.proofs.PlainReplies.{bare, plain_bare, plain_legal}
 use Rattle.settlement.specs.Alike.{DifferInUploads, HaveSameTaps}
@@ -59,7 +59,7 @@ same_history fares uploads others history again cuts other_cuts same one other =
 
 rest_of : List Entry → List ℕ
 rest_of es = totals_line (sums es)
-    ++ (validators_part (sums_by_validator es) ++ tokens_part (sums_by_token es))
+    ++ (validators_section (sums_by_validator es) ++ tokens_section (sums_by_token es))
 
 pub same_reports : (uploads others : List (List ℕ)) (history again : List Entry)
     (text other : List ℕ) → history ≡ again

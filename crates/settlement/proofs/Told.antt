@@ -24,7 +24,7 @@ use Rattle.tap_parts.specs.Parts.{part_of_token, of_part}
 use Rattle.fare_service.specs.Headline.{Headline}
 use Rattle.fare_service.specs.Outcomes.{OutcomeView}
 use Rattle.fare_service.specs.Plain.{AreTapsOfEach, HasOneReading, IsPlain, IsStatementOver}
-use Rattle.fare_service.specs.Plain.{IsWholeGathering, WasNotCut, plain, unanswered}
+use Rattle.fare_service.specs.Plain.{IsUncutGathering, WasNotCut, plain, unanswered}
 use Rattle.fare_service.specs.Shares.{Worked}
 use Rattle.fare_service.specs.Text.{report}
 use Rattle.fare_service.specs.declared.upload_end.UploadEnd.{UploadEnd}
@@ -212,7 +212,7 @@ tells given works outcome uploads ends later some named here cuts numbers tokens
     headline whole =
     let (order, canonical) = canonical_order (uploads_joined settled.taps) in
     let history = plain given.table order in
-    let w : IsWholeGathering given.table given.shards given.uploads outcome later = record {
+    let w : IsUncutGathering given.table given.shards given.uploads outcome later = record {
       works = works;
       headline = headline;
       whole = whole;

@@ -4,7 +4,7 @@ use Rattle.std.specs.List.Sorted.{IsPermutation}
 use Rattle.tap_views.specs.Encoding.{fields_of}
 use Rattle.tap_views.specs.Layout.{Tap}
 use Rattle.fare_service.specs.Plain.{AreTapsOfEach, ArePlainEnds}
-use Rattle.fare_service.specs.Text.{uploads_part}
+use Rattle.fare_service.specs.Text.{uploads_section}
 use Rattle.fare_service.specs.declared.upload_end.UploadEnd.{UploadEnd}
 use Rattle.tap_parts.specs.Parts.{uploads_joined}
 
@@ -24,5 +24,5 @@ pub record DifferInUploads (uploads others : List (List ℕ)) (text other : List
   pub of_uploads : ArePlainEnds uploads ends
   pub of_others : ArePlainEnds others other_ends
   pub rest : List ℕ
-  pub text_is : text ≡ uploads_part ends ++ rest
-  pub other_is : other ≡ uploads_part other_ends ++ rest
+  pub text_is : text ≡ uploads_section ends ++ rest
+  pub other_is : other ≡ uploads_section other_ends ++ rest

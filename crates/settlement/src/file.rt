@@ -22,7 +22,7 @@ fn number_of(pieces: &[PartTaps]) -> usize {
 
 /// Writes the taps of all pieces into `taps`, in place of what was there. All room is asked for at
 /// once.
-fn gather(pieces: &[PartTaps], taps: &mut Vec<TapFields>) -> Result<(), AllocError>
+fn append_pieces(pieces: &[PartTaps], taps: &mut Vec<TapFields>) -> Result<(), AllocError>
     ensures { OnOk result (taps.new.items ≡ flat_map (λ piece. piece) pieces.now) }
 {
     taps.clear();
@@ -44,7 +44,7 @@ fn file_of(
     requires { AreEarly (λ tap. tap.moment) pieces }
     ensures { IfOk result (λ file. IsPartFile pieces file.items) }
 {
-    gather(pieces.as_slice(), taps)?;
+    append_pieces(pieces.as_slice(), taps)?;
     drop(pieces);
     arrange_into(alloc, taps, list)?;
     let file = part_file(alloc, list)?;

@@ -3,7 +3,7 @@ use Rattle.std.specs.Prelude.{ℕ, ◌*◌, ◌/◌, ◌-◌, ◌^◌, List, [],
 use Rattle.std.specs.Prelude.{if◌then◌else◌, slice_index, bit_and, bit_xor}
 use Rattle.std.specs.Int.{from_le_bytes, w32, w64}
 use Rattle.shard_book.specs.declared.token_hash.FoldedProduct.{FoldedProduct}
-use Rattle.shard_book.specs.declared.token_hash.TokenKeys.{TokenKeys}
+use Rattle.shard_book.specs.declared.token_hash.HashSeed.{HashSeed}
 
 -- the two halves of the 128 bits of a * b, joined by xor
 unfoldable pub folded_multiply : ℕ → ℕ → ℕ
@@ -31,5 +31,5 @@ abbrev pub hasher_state : FoldedProduct → ℕ
 hasher_state hasher = hasher.state
 
 -- the state that a seed begins with
-unfoldable pub first_of : TokenKeys → FoldedProduct
-first_of keys = record { state = keys.state; multiplier = keys.multiplier }
+unfoldable pub first_of : HashSeed → FoldedProduct
+first_of seed = record { state = seed.state; multiplier = seed.multiplier }

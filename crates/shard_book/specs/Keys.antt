@@ -1,4 +1,4 @@
--- Laws of the tokens by which sums are by_key.
+-- Laws of the tokens by which sums are listed.
 use Rattle.std.specs.Prelude.{◌≡◌, true}
 use Rattle.std.proofs.Common.{arith}
 use Rattle.fare_table.specs.declared.token.Token.{Token}

@@ -20,7 +20,7 @@ ghost use Rattle.fare_table.specs.Token.{bytes_of, token_eq};
 ghost use Rattle.fare_table.specs.declared.token.Token.{Token};
 
 use crate::sums::counts::{Counts, TokenCounts};
-use crate::token_hash::TokenKeys;
+use crate::token_hash::HashSeed;
 use account_rule::{Account, Reply, TapIn};
 use fare_table::{FareTable, NoMemory, Token};
 use indexmap::IndexMap;
@@ -45,7 +45,7 @@ pub(crate) struct KeptAccount {
 #[derive(Drop)]
 pub(crate) struct Accounts {
     /// What is kept of each token, at the place where it was opened.
-    pub(crate) map: IndexMap<Token, KeptAccount, TokenKeys>,
+    pub(crate) map: IndexMap<Token, KeptAccount, HashSeed>,
     /// Whether the counts are right: it ends where one of them would be too large.
     counting: bool,
 }
@@ -53,17 +53,17 @@ pub(crate) struct Accounts {
 impl Accounts {
     /// No accounts. It takes no memory.
     #[tactic(auto, unfolding(crate::specs::inside::Accounts::kept_at))]
-    pub(crate) fn new(alloc: Global, keys: TokenKeys) -> Self
+    pub(crate) fn new(alloc: Global, seed: HashSeed) -> Self
         ensures { (token : Token) → kept_at result token ≡ None }
     {
         Accounts {
-            map: IndexMap::with_hasher(alloc, keys),
+            map: IndexMap::with_hasher(alloc, seed),
             counting: true,
         }
     }
 
     /// The seed under which the tokens are hashed.
-    pub(crate) fn keys(&self) -> TokenKeys {
+    pub(crate) fn seed(&self) -> HashSeed {
         *self.map.hasher()
     }
 

@@ -17,7 +17,7 @@ use crate::entry::Entry;
 use crate::packed::PackedEntry;
 use crate::prefetch::NO_PLACE;
 use crate::sums::counts::TokenCounts;
-use crate::token_hash::TokenKeys;
+use crate::token_hash::HashSeed;
 use account_rule::{Account, Reply, TapIn};
 use fare_table::{FareTable, NoMemory, Token};
 use std::alloc::Global;
@@ -62,8 +62,8 @@ impl Model for ShardBook {
 impl ShardBook {
     /// A book without entries. It takes no memory.
     ///
-    /// The keys are those of the service, made once by `TokenKeys::new`.
-    pub fn open(alloc: Global, keys: TokenKeys, table: FareTable, shard: u32, shards: u32) -> Self
+    /// The seed is that of the service, made once by `HashSeed::new`.
+    pub fn open(alloc: Global, seed: HashSeed, table: FareTable, shard: u32, shards: u32) -> Self
         requires shard { shard < shards }
         requires shards { shards ≤ 64 }
         ensures book { result ≡ record {
@@ -78,7 +78,7 @@ impl ShardBook {
             table,
             shard,
             shards,
-            accounts: Accounts::new(alloc, keys),
+            accounts: Accounts::new(alloc, seed),
             history: Vec::new(alloc),
         }
     }
@@ -180,8 +180,8 @@ impl ShardBook {
     }
 
     /// The seed under which the book hashes tokens.
-    pub(crate) fn keys(&self) -> TokenKeys {
-        self.accounts.keys()
+    pub(crate) fn seed(&self) -> HashSeed {
+        self.accounts.seed()
     }
 
     /// Appends each token of the history with the counts of its entries, in no order. It answers

@@ -33,4 +33,4 @@ pub use sums::tally::Tally;
 pub use sums::token_sums::TokenSums;
 pub use sums::totals::Totals;
 pub use sums::{TokenSum, ValidatorSum, sums_by_validator, totals_of_entries};
-pub use token_hash::TokenKeys;
+pub use token_hash::HashSeed;

@@ -50,14 +50,14 @@ impl ShardBook {
         let mut ahead = run.taps();
         let mut places = [NO_PLACE; AT_ONCE];
         for tap in run.taps() {
-            let turn = posted as usize % AT_ONCE;
+            let slot = posted as usize % AT_ONCE;
             if self
-                .prefetch_in_turn(turn, &mut ahead, &mut places)
+                .prefetch_every_sixteenth(slot, &mut ahead, &mut places)
                 .is_err()
             {
                 return RunEnd::Cut { posted };
             }
-            match self.post_at(&tap, ends.at(posted), places[turn]) {
+            match self.post_at(&tap, ends.at(posted), places[slot]) {
                 Ok(reply) => out.push(reply),
                 Err(_) => return RunEnd::Cut { posted },
             }

@@ -75,15 +75,15 @@ impl ShardBook {
 
     /// Looks up the accounts of the next sixteen taps at each sixteenth tap.
     #[inline(always)]
-    pub(crate) fn prefetch_in_turn(
+    pub(crate) fn prefetch_every_sixteenth(
         &mut self,
-        turn: usize,
+        slot: usize,
         ahead: &mut RunTaps,
         places: &mut [u32; AT_ONCE],
     ) -> Result<(), NoMemory>
         ensures { self.new ≡ self.old }
     {
-        if turn == 0 {
+        if slot == 0 {
             self.prefetch(ahead, places)
         } else {
             Ok(())

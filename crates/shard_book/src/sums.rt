@@ -124,7 +124,7 @@ pub fn sums_by_validator<R: Threads + Sync>(
     let Some(first) = books.first() else {
         return Ok(Vec::new(alloc));
     };
-    let tallies = tallies_by_validator(rt, alloc, first.keys(), books)?;
+    let tallies = tallies_by_validator(rt, alloc, first.seed(), books)?;
     listed(alloc, &tallies)
 }
 

@@ -17,20 +17,20 @@ use std::random::RandomSource;
 /// says that a stranger cannot find tokens that collide; a collision costs time and changes no
 /// answer.
 #[derive(Clone, Copy)]
-pub struct TokenKeys {
+pub struct HashSeed {
     /// The state with which each hash begins.
     state: u64,
     /// By what each eight bytes are multiplied.
     multiplier: u64,
 }
 
-impl TokenKeys {
+impl HashSeed {
     /// A seed from the system's randomness. A seed that the system refuses counts as want of
     /// memory.
     pub fn new<R: RandomSource>(rt: &R) -> Result<Self, NoMemory> {
         match RandomState::new(rt) {
             Ok(random) => {
-                Ok(TokenKeys {
+                Ok(HashSeed {
                     state: random.hash_one(1u64),
                     multiplier: random.hash_one(2u64),
                 })
@@ -93,7 +93,7 @@ impl Hasher for FoldedProduct {
     }
 }
 
-impl BuildHasher for TokenKeys {
+impl BuildHasher for HashSeed {
     ghost use Rattle.shard_book.specs.Folding.{first_of};
 
     type Hasher = FoldedProduct;

@@ -21,8 +21,8 @@ use Rattle.shared_books.proofs.Numbers.{times-append, times-same, times-other, a
 abbrev S : Type 0
 S = State (Unit {0}) DrawerState
 
-acts : (h : DrawerState) → h.live ≡ true → IsSpent h → ⊥
-acts h live spent = true≢false (sym live ∙ spent.0)
+acts : (h : DrawerState) → h.unjoined ≡ true → IsSpent h → ⊥
+acts h unjoined spent = true≢false (sym unjoined ∙ spent.0)
 
 -- what a drawer drew is below the count of drawn ones, and nothing twice
 pub drawn_once : (n : ℕ) (s : S) (j : ℕ) (h : DrawerState) → IsDrawn n s → get_elem? s.views j ≡ some h → NoneTwice h.drawn × AllBelow (get_or s.words 0 0) h.drawn
@@ -32,22 +32,22 @@ drawn_once n s j h r at = (
 )
 
 -- where one hand changes, and not its numbers
-same_drawn : (n : ℕ) (s : S) (j : ℕ) (h : DrawerState) (d : ℕ) → IsDrawn n s → get_elem? s.views j ≡ some h → h.live ≡ true → d ≤ get_or s.words 0 0
+same_drawn : (n : ℕ) (s : S) (j : ℕ) (h : DrawerState) (d : ℕ) → IsDrawn n s → get_elem? s.views j ≡ some h → h.unjoined ≡ true → d ≤ get_or s.words 0 0
     → IsDrawn n record { words = s.words; homes = s.homes; views = set s.views j (hand h.claims h.numbers d h.drawn) }
-same_drawn n s j h d r at live le =
+same_drawn n s j h d r at unjoined le =
     let w = hand h.claims h.numbers d h.drawn in record {
       one_word = r.one_word;
       within = r.within;
       once = λ x lt. (let t = sum_set (λ v. times x v.drawn) s.views j h w at in let o = r.once x lt in omega arith);
       no_other = λ x ge. (let t = sum_set (λ v. times x v.drawn) s.views j h w at in let o = r.no_other x ge in omega arith);
-      each = λ i v e l. ⊎_elim (λ t. subst (λ (u : DrawerState). (u.numbers ≡ n) × (u.seen ≤ get_or s.words 0 0)) t.1 ((r.each j h at live).0, le)) (λ t. r.each i v t.1 l) (at_set s.views j i w v e);
-      claims = claims_set (λ u. u.claims) IsSpent s.views j h w at refl (acts h live) r.claims;
+      each = λ i v e l. ⊎_elim (λ t. subst (λ (u : DrawerState). (u.numbers ≡ n) × (u.seen ≤ get_or s.words 0 0)) t.1 ((r.each j h at unjoined).0, le)) (λ t. r.each i v t.1 l) (at_set s.views j i w v e);
+      claims = claims_set (λ u. u.claims) IsSpent s.views j h w at refl (acts h unjoined) r.claims;
     }
 
 -- the draw that was won
-drawn_next : (n : ℕ) (s : S) (j : ℕ) (h : DrawerState) → IsDrawn n s → get_elem? s.views j ≡ some h → h.live ≡ true → get_or s.words 0 0 < n
+drawn_next : (n : ℕ) (s : S) (j : ℕ) (h : DrawerState) → IsDrawn n s → get_elem? s.views j ≡ some h → h.unjoined ≡ true → get_or s.words 0 0 < n
     → IsDrawn n record { words = set s.words 0 (get_or s.words 0 0 + 1); homes = s.homes; views = set s.views j (hand h.claims h.numbers (get_or s.words 0 0 + 1) (h.drawn ++ get_or s.words 0 0 ∷ [])) }
-drawn_next n s j h r at live lt =
+drawn_next n s j h r at unjoined lt =
     let d : ℕ = get_or s.words 0 0 in
     let w = hand h.claims h.numbers (d + 1) (h.drawn ++ d ∷ []) in
     let word : get_or (set s.words 0 (d + 1)) 0 0 ≡ d + 1 = get_or-set_same s.words 0 (d + 1) 0 (let o = r.one_word in omega arith) in
@@ -58,9 +58,9 @@ drawn_next n s j h r at live lt =
           (λ e. let z = r.no_other x (omega arith) in let o = times-same x d e in omega arith)
           (λ ne. let z = r.once x (omega (arith, ne)) in let o = times-other x d ne in omega arith));
       no_other = λ x ge. (let c = count x in let above : d + 1 ≤ x = subst (λ (k : ℕ). k ≤ x) word ge in let z = r.no_other x (omega arith) in let o = times-other x d (λ e. omega arith) in omega arith);
-      each = λ i v e l. ⊎_elim (λ t. subst (λ (u : DrawerState). (u.numbers ≡ n) × (u.seen ≤ get_or (set s.words 0 (d + 1)) 0 0)) t.1 ((r.each j h at live).0, rw word (omega arith)))
+      each = λ i v e l. ⊎_elim (λ t. subst (λ (u : DrawerState). (u.numbers ≡ n) × (u.seen ≤ get_or (set s.words 0 (d + 1)) 0 0)) t.1 ((r.each j h at unjoined).0, rw word (omega arith)))
           (λ (t : (i ≢ j) × (get_elem? s.views i ≡ some v)). let p = r.each i v t.1 l in (p.0, rw word (omega (arith, p.1)))) (at_set s.views j i w v e);
-      claims = claims_set (λ u. u.claims) IsSpent s.views j h w at refl (acts h live) r.claims;
+      claims = claims_set (λ u. u.claims) IsSpent s.views j h w at refl (acts h unjoined) r.claims;
     }
 
 pub opens : (n : ℕ) → IsDrawn n (opening (0 ∷ []) [] (empty_hand all_claims n 0))
@@ -82,24 +82,24 @@ opens n = record {
     go (suc j) h e = absurd (some-ne-none h (sym e))
 
 -- a try to draw the number that the drawer saw last
-pub draws : (n slots id : ℕ) (me : Me (Unit {0}) DrawerState) (old : ℕ) → me.0.live ≡ true → me.0.seen ≡ old → old < me.0.numbers
+pub draws : (n slots id : ℕ) (me : Me (Unit {0}) DrawerState) (old : ℕ) → me.0.unjoined ≡ true → me.0.seen ≡ old → old < me.0.numbers
     → Allows (IsDrawn n) slots id me 0 (λ k. either (eqb k old) (old + 1) k) (HasTried (step slots 0 old (old + 1) none) me)
-draws n slots id me old live seen more s r count at fits =
+draws n slots id me old unjoined seen more s r count at fits =
     let d : ℕ = get_or s.words 0 0 in
-    let part = r.each id me.0 at live in
+    let part = r.each id me.0 at unjoined in
     dite (ℕ_discrete d old)
     (λ e. let w = hand me.0.claims me.0.numbers (d + 1) (me.0.drawn ++ d ∷ []) in (
       w,
       keeps,
       tt,
-      subst (λ k. IsDrawn n record { words = set s.words 0 k; homes = s.homes; views = set s.views id w }) (exchange_won d old e) (drawn_next n s id me.0 r at live (omega arith)),
+      subst (λ k. IsDrawn n record { words = set s.words 0 k; homes = s.homes; views = set s.views id w }) (exchange_won d old e) (drawn_next n s id me.0 r at unjoined (omega arith)),
       record { won = λ _. refl; lost = λ ne. absurd (ne e); later = omega arith; within = omega arith; carries = refl },
     ))
     (λ ne. let w = hand me.0.claims me.0.numbers d me.0.drawn in (
       w,
       keeps,
       tt,
-      subst (λ ws. IsDrawn n record { words = ws; homes = s.homes; views = set s.views id w }) (exchange_lost s.words old ne) (same_drawn n s id me.0 d r at live (omega arith)),
+      subst (λ ws. IsDrawn n record { words = ws; homes = s.homes; views = set s.views id w }) (exchange_lost s.words old ne) (same_drawn n s id me.0 d r at unjoined (omega arith)),
       record { won = λ e. absurd (ne e); lost = λ _. refl; later = part.1; within = omega (arith, r.within, part.0); carries = refl },
     ))
   where
@@ -110,23 +110,23 @@ draws n slots id me old live seen more s r count at fits =
     exchange_lost ws old ne = exchanged (get_or ws 0 0) old (old + 1) (λ k. ws ≡ set ws 0 k) (λ e. absurd (ne e)) (λ _. sym (set-get_or ws 0 0))
 
 -- a look at the count of drawn numbers
-pub looks : (n slots id : ℕ) (me : Me (Unit {0}) DrawerState) → me.0.live ≡ true
+pub looks : (n slots id : ℕ) (me : Me (Unit {0}) DrawerState) → me.0.unjoined ≡ true
     → Allows (IsDrawn n) slots id me 0 (λ k. k) (HasLooked (step slots 0 0 0 none) me)
-looks n slots id me live s r count at fits =
+looks n slots id me unjoined s r count at fits =
     let d : ℕ = get_or s.words 0 0 in
-    let part = r.each id me.0 at live in
+    let part = r.each id me.0 at unjoined in
     let once = drawn_once n s id me.0 r at in
     let w = hand me.0.claims me.0.numbers d me.0.drawn in (
       w,
       keeps,
       tt,
-      subst (λ ws. IsDrawn n record { words = ws; homes = s.homes; views = set s.views id w }) (sym (set-get_or s.words 0 0)) (same_drawn n s id me.0 d r at live (omega arith)),
+      subst (λ ws. IsDrawn n record { words = ws; homes = s.homes; views = set s.views id w }) (sym (set-get_or s.words 0 0)) (same_drawn n s id me.0 d r at unjoined (omega arith)),
       record { seen = refl; later = part.1; within = omega (arith, r.within, part.0); none_twice = once.0; below = once.1; carries = refl },
     )
 
 -- a new drawer, which drew nothing
-pub parts : (n id : ℕ) (h : DrawerState) → h.live ≡ true → Splits (IsDrawn n) id h (left_hand h) (new_hand h)
-parts n id h live s r at =
+pub parts : (n id : ℕ) (h : DrawerState) → h.unjoined ≡ true → Splits (IsDrawn n) id h (left_hand h) (new_hand h)
+parts n id h unjoined s r at =
     let l = left_hand h in
     let w = new_hand h in
     let sum : (x : ℕ) → times_drawn x (set s.views id l ++ w ∷ []) ≡ times_drawn x s.views = λ x. (
@@ -139,20 +139,20 @@ parts n id h live s r at =
       no_other = λ x ge. sum x ∙ r.no_other x ge;
       each = λ j v e live_too. ⊎_elim
           (λ t. ⊎_elim
-          (λ u. subst (λ (z : DrawerState). (z.numbers ≡ n) × (z.seen ≤ get_or s.words 0 0)) u.1 (r.each id h at live))
+          (λ u. subst (λ (z : DrawerState). (z.numbers ≡ n) × (z.seen ≤ get_or s.words 0 0)) u.1 (r.each id h at unjoined))
           (λ u. r.each j v u.1 live_too)
           (at_set s.views id j l v t))
-          (λ t. subst (λ (u : DrawerState). (u.numbers ≡ n) × (u.seen ≤ get_or s.words 0 0)) t (r.each id h at live))
+          (λ t. subst (λ (u : DrawerState). (u.numbers ≡ n) × (u.seen ≤ get_or s.words 0 0)) t (r.each id h at unjoined))
           (at_snoc (set s.views id l) w v j e);
-      claims = claims_split (λ u. u.claims) IsSpent s.views id h l w at refl refl (acts h live) r.claims;
+      claims = claims_split (λ u. u.claims) IsSpent s.views id h l w at refl refl (acts h unjoined) r.claims;
     }
 
 -- one drawer takes over what another holds
-pub meets : (n id : ℕ) (h : DrawerState) (other : ℕ) (k : DrawerState) → h.live ≡ true → k.live ≡ true → Joins (IsDrawn n) id h other k (both_hands h k) spent_hand
-meets n id h other k live lives s r at apart there =
+pub meets : (n id : ℕ) (h : DrawerState) (other : ℕ) (k : DrawerState) → h.unjoined ≡ true → k.unjoined ≡ true → Joins (IsDrawn n) id h other k (both_hands h k) spent_hand
+meets n id h other k unjoined lives s r at apart there =
     let b = both_hands h k in
     let was : get_elem? s.views other ≡ some k = sym (set_else s.views id other b apart) ∙ there in
-    let one = r.each id h at live in
+    let one = r.each id h at unjoined in
     let two = r.each other k was lives in
     let sum : (x : ℕ) → times_drawn x (set (set s.views id b) other spent_hand) ≡ times_drawn x s.views = λ x. (
     let first = sum_set (λ v. times x v.drawn) s.views id h b at in
@@ -164,13 +164,13 @@ meets n id h other k live lives s r at apart there =
       once = λ x lt. sum x ∙ r.once x lt;
       no_other = λ x ge. sum x ∙ r.no_other x ge;
       each = λ j v e l. ⊎_elim
-          (λ t. absurd (true≢false (sym l ∙ ap (λ u. u.live) (sym t.1))))
+          (λ t. absurd (true≢false (sym l ∙ ap (λ u. u.unjoined) (sym t.1))))
           (λ t. ⊎_elim
           (λ u. subst (λ (z : DrawerState). (z.numbers ≡ n) × (z.seen ≤ get_or s.words 0 0)) u.1 (one.0, least one.1 two.1))
           (λ u. r.each j v u.1 l)
           (at_set s.views id j b v t.1))
           (at_set (set s.views id b) other j spent_hand v e);
-      claims = claims_join (λ u. u.claims) IsSpent s.views id h other k b spent_hand at there refl refl (refl, refl) (acts h live) r.claims;
+      claims = claims_join (λ u. u.claims) IsSpent s.views id h other k b spent_hand at there refl refl (refl, refl) (acts h unjoined) r.claims;
     }
   where
     least : {a b c : ℕ} → a ≤ c → b ≤ c → max a b ≤ c
@@ -184,14 +184,14 @@ drew_all n s j h r at whole x lt =
     sym (sum_only (λ v. times x v.drawn) s.views j h at nothing) ∙ r.once x lt
 
 -- what the closing shows of a drawer
-pub ends : (n id : ℕ) (h : DrawerState) (ws : List ℕ) (xs : List (Unit {0})) (count : ℕ) → Final (Seen (IsDrawn n) id h) ws xs → get_elem? ws 0 ≡ some count → h.live ≡ true
+pub ends : (n id : ℕ) (h : DrawerState) (ws : List ℕ) (xs : List (Unit {0})) (count : ℕ) → Final (Seen (IsDrawn n) id h) ws xs → get_elem? ws 0 ≡ some count → h.unjoined ≡ true
     → (h.seen ≤ count) × (count ≤ n) × (h.numbers ≡ n) × AllBelow count h.drawn × NoneTwice h.drawn × (h.claims ≤ all_claims) × (all_claims ≤ h.claims → count ≤ length h.drawn)
-ends n id h ws xs count f at live =
+ends n id h ws xs count f at unjoined =
     let s = f.0 in
     let r = f.1.0 in
     let words : s.words ≡ ws = f.2 in
     let here : get_or s.words 0 0 ≡ count = ap (λ us. get_or us 0 0) words ∙ first ws count at in
-    let each = r.each id h f.1.1 live in
+    let each = r.each id h f.1.1 unjoined in
     let once = drawn_once n s id h r f.1.1 in
     let below : AllBelow count h.drawn = subst (λ k. AllBelow k h.drawn) here once.1 in (
       subst (λ k. h.seen ≤ k) here each.1,

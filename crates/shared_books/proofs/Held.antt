@@ -19,7 +19,7 @@ held_few held seen me h = let e = few me.0.seen me.0.drawn h.below h.none_twice 
 -- a number more, which is above all that it had
 pub held_won : (held seen : ℕ) (me after : Seat) → IsHeld held seen me → seen < me.0.numbers → after ≡ (hand me.0.claims me.0.numbers (seen + 1) (me.0.drawn ++ seen ∷ []), me.1) → IsHeld (held + 1) (seen + 1) after
 held_won held seen me after h more e = subst (λ (m : Seat). IsHeld (held + 1) (seen + 1) m) (sym e) record {
-  live = refl;
+  unjoined = refl;
   carries = h.carries;
   seen_is = refl;
   held_is = (let k = length-append me.0.drawn (seen ∷ []) in omega (arith, h.held_is));
@@ -34,7 +34,7 @@ held_won held seen me after h more e = subst (λ (m : Seat). IsHeld (held + 1) (
 -- nothing more, and more was seen drawn
 pub held_lost : (held seen found : ℕ) (me after : Seat) → IsHeld held seen me → seen ≤ found → found ≤ me.0.numbers → after ≡ (hand me.0.claims me.0.numbers found me.0.drawn, me.1) → IsHeld held found after
 held_lost held seen found me after h later within e = subst (λ (m : Seat). IsHeld held found m) (sym e) record {
-  live = refl;
+  unjoined = refl;
   carries = h.carries;
   seen_is = refl;
   held_is = h.held_is;
@@ -50,7 +50,7 @@ pub held_met : (held more seen other found : ℕ) (me them met after : Seat) (st
 held_met held more seen other found me them met after st h k e looked =
     let is : after.0 ≡ hand (me.0.claims + them.0.claims) me.0.numbers found (me.0.drawn ++ them.0.drawn) = looked.seen ∙ ap (λ m. hand m.0.claims m.0.numbers found m.0.drawn) e in
     record {
-      live = ap (λ v. v.live) is;
+      unjoined = ap (λ v. v.unjoined) is;
       carries = looked.carries ∙ (ap (λ m. m.1) e ∙ h.carries);
       seen_is = sym (ap (λ v. v.seen) is);
       held_is = (let l : length after.0.drawn ≡ length (me.0.drawn ++ them.0.drawn) = ap (λ v. length v.drawn) is in let a = length-append me.0.drawn them.0.drawn in omega (arith, h.held_is, k.held_is));
@@ -63,7 +63,7 @@ held_met held more seen other found me them met after st h k e looked =
 -- what it keeps after a split
 pub held_left : (held seen : ℕ) (me after : Seat) → IsHeld held seen me → after ≡ (left_hand me.0, me.1) → IsHeld held seen after
 held_left held seen me after h e = subst (λ (m : Seat). IsHeld held seen m) (sym e) record {
-  live = refl;
+  unjoined = refl;
   carries = h.carries;
   seen_is = h.seen_is;
   held_is = h.held_is;

@@ -28,7 +28,7 @@ goes_nowhere me f =
     let same : me.0.marks ≡ me.0.marks ++ [] = sym (append-nil me.0.marks) in
     record {
       between = [];
-      view_is = λ k. record { live = f.live k; opened = me.0.opened; claims = me.0.claims; turn = me.0.turn; marks = same k; met = me.0.met };
+      view_is = λ k. record { unjoined = f.unjoined k; opened = me.0.opened; claims = me.0.claims; turn = me.0.turn; marks = same k; met = me.0.met };
       carries = refl;
     }
 
@@ -44,7 +44,7 @@ goes_on a b c g h =
 
 pub still_free : (a b : Seat) → IsFree a → SeesMore a b → IsFree b
 still_free a b f g = record {
-  live = ap (λ v. v.live) g.view_is;
+  unjoined = ap (λ v. v.unjoined) g.view_is;
   turn = ap (λ v. v.turn) g.view_is ∙ f.turn;
   met = ap (λ v. v.met) g.view_is ∙ f.met;
   carries = g.carries ∙ f.carries;
@@ -140,7 +140,7 @@ full_pass home b e = record { count = ap (λ n. b.0.opened.first + n) (length-vi
 -- a new pass
 pub new_pass_is : (held : ℕ) (a : Seat) (b : Seat) → IsPass held a → b ≡ (fresh a.0, []) → IsPass 0 b
 new_pass_is held a b p e = subst (λ (me : Seat). IsPass 0 me) (sym e) record {
-  free = record { live = refl; turn = refl; met = refl; carries = refl };
+  free = record { unjoined = refl; turn = refl; met = refl; carries = refl };
   held_is = sym (ap (λ (made : List (ℕ × List Entry)). length made) (made-others a.0.opened.first (visits_of a.0.marks)));
   small = (let l = sym (length-visits (others (visits_of a.0.marks))) ∙ (ap (λ (vs : List (List Entry)). length vs) (visits-others (visits_of a.0.marks)) ∙ length-visits a.0.marks) in let s = p.small in omega arith);
 }
@@ -148,7 +148,7 @@ new_pass_is held a b p e = subst (λ (me : Seat). IsPass 0 me) (sym e) record {
 -- and the old one after it was split off
 pub left_pass_is : (held : ℕ) (a : Seat) (b : Seat) → IsPass held a → b ≡ (left_view a.0, a.1) → IsPass held b
 left_pass_is held a b p e = subst (λ (me : Seat). IsPass held me) (sym e) record {
-  free = record { live = refl; turn = p.free.turn; met = p.free.met; carries = p.free.carries };
+  free = record { unjoined = refl; turn = p.free.turn; met = p.free.met; carries = p.free.carries };
   held_is = p.held_is;
   small = p.small;
 }
@@ -174,7 +174,7 @@ brings a b number book more visit h e legal =
     let marks : b.0.marks ≡ a.0.marks ++ others h.between = ap (λ v. v.marks) h.view_is in
     record {
       visit = visit;
-      live = ap (λ v. v.live) h.view_is;
+      unjoined = ap (λ v. v.unjoined) h.view_is;
       turn = ap (λ v. v.turn) h.view_is;
       carries = h.carries;
       number_is = h.number_is ∙ (ap (λ (ms : List Mark). a.0.opened.first + length ms) (sym marks) ∙ ap (λ (o : Opening). o.first + length b.0.marks) (sym opened));
@@ -199,7 +199,7 @@ pass_visits held a b c number book visit p h e =
     let made : made_from b.0.opened.first (b.0.marks ++ mark true visit ∷ []) ≡ made_from a.0.opened.first a.0.marks ++ (b.0.opened.first + length b.0.marks, visit) ∷ [] = made-snoc b.0.opened.first b.0.marks visit ∙ ap (λ ms. ms ++ (b.0.opened.first + length b.0.marks, visit) ∷ []) same in
     let number_is : number ≡ b.0.opened.first + length b.0.marks = h.number_is ∙ (ap (λ (ms : List Mark). a.0.opened.first + length ms) (sym marks) ∙ ap (λ (o : Opening). o.first + length b.0.marks) (sym opened)) in
     subst (λ (me : Seat). IsPass (held + 1) me) (sym e) record {
-      free = record { live = refl; turn = refl; met = ap (λ v. v.met) h.view_is; carries = refl };
+      free = record { unjoined = refl; turn = refl; met = ap (λ v. v.met) h.view_is; carries = refl };
       held_is = (let l = ap (λ (ms : List (ℕ × List Entry)). length ms) made in let m = length-append (made_from a.0.opened.first a.0.marks) ((b.0.opened.first + length b.0.marks, visit) ∷ []) in let was = p.held_is in omega arith);
       small = (let l = length-append b.0.marks (mark true visit ∷ []) in let f = h.few in omega arith);
     }
@@ -229,7 +229,7 @@ pass_joins held more a b met c p q e h first =
     let now : c.0 ≡ view a.0.opened (a.0.claims + b.0.claims) a.0.turn (merged a.0.marks b.0.marks) [] = h.view_is ∙ ap (λ (me : Seat). view me.0.opened me.0.claims me.0.turn (merged me.0.marks me.0.met) []) e in
     let apart : Apart a.0.marks b.0.marks = subst (λ (me : Seat). Apart me.0.marks me.0.met) e h.apart in
     record {
-      free = record { live = ap (λ v. v.live) now; turn = ap (λ v. v.turn) now ∙ p.free.turn; met = ap (λ v. v.met) now; carries = h.carries ∙ (ap (λ me. me.1) e ∙ p.free.carries) };
+      free = record { unjoined = ap (λ v. v.unjoined) now; turn = ap (λ v. v.turn) now ∙ p.free.turn; met = ap (λ v. v.met) now; carries = h.carries ∙ (ap (λ me. me.1) e ∙ p.free.carries) };
       held_is = (
           let l = ap (λ (v : PassState). length (made_from v.opened.first v.marks)) now in
           let m = length-made-merged a.0.opened.first a.0.marks b.0.marks apart in

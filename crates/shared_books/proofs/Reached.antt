@@ -40,7 +40,7 @@ shown k m s r = record {
       })
       (word_of k m s r);
   count = r.count;
-  seen = λ seat v at live. (r.each seat v at live).seen;
+  seen = λ seat v at unjoined. (r.each seat v at unjoined).seen;
   legal = r.legal;
 }
 
@@ -48,10 +48,10 @@ pub reached : StepsAreEvents
 reached k s t = record { events = t.events; schedule = t.schedule; shown = shown k (after (start k.first) t.events) s t.shows }
 
 pub takes_are : TakesAreEvents
-takes_are k s seat v t at live n even few =
+takes_are k s seat v t at unjoined n even few =
     let m : Machine = after (start k.first) t.events in
     let sh = t.shows in
-    let f = sh.each seat v at live in
+    let f = sh.each seat v at unjoined in
     let c = caught_up k m s seat v sh f in
     let free : m.holder ≡ none = ⊎_elim (λ p. p.0) (λ (p : (j : ℕ) × (m.holder ≡ some j) × (get_or s.words 0 0 ≡ 2 * m.count + 1)). let w = p.2 in absurd (omega arith)) (word_of k m s sh) in (
       c.more,
@@ -59,16 +59,16 @@ takes_are k s seat v t at live n even few =
         events = t.events ++ taken seat ∷ [];
         schedule = schedule_snoc (start k.first) t.events (taken seat) t.schedule free;
         shows = subst (λ (x : Machine). ShowsMachine k x (taken_by s seat v c.more)) (sym (after-snoc (start k.first) t.events (taken seat)))
-            (took k m s seat v (v.marks ++ others c.more) sh at live free c.all (omega arith) (λ i. made_at-caught i v.marks c.more));
+            (took k m s seat v (v.marks ++ others c.more) sh at unjoined free c.all (omega arith) (λ i. made_at-caught i v.marks c.more));
       },
       refl,
     )
 
 pub gives_are : GivesAreEvents
-gives_are k s seat v t at live on visit book is legal =
+gives_are k s seat v t at unjoined on visit book is legal =
     let m : Machine = after (start k.first) t.events in
     let sh = t.shows in
-    let f = sh.each seat v at live in
+    let f = sh.each seat v at unjoined in
     let holds = (f.turn on).0 in
     let all : visits_of v.marks ≡ m.visits = (f.turn on).1 in
     let word : get_or s.words 0 0 ≡ 2 * m.count + 1 = (sh.held seat holds).0 in
@@ -79,7 +79,7 @@ gives_are k s seat v t at live on visit book is legal =
         schedule = schedule_snoc (start k.first) t.events (given seat visit) t.schedule holds;
         shows = subst (λ w. ShowsMachine k (after (start k.first) (t.events ++ given seat visit ∷ [])) record { words = set s.words 0 w; homes = set s.homes 0 (some (Some book)); views = set s.views seat (view v.opened v.claims false (v.marks ++ mark true visit ∷ []) v.met) }) more
             (subst (λ (x : Machine). ShowsMachine k x record { words = set s.words 0 (2 * m.count + 2); homes = set s.homes 0 (some (Some book)); views = set s.views seat (view v.opened v.claims false (v.marks ++ mark true visit ∷ []) v.met) }) (sym (after-snoc (start k.first) t.events (given seat visit)))
-            (gave k m s seat v visit book sh at live holds all (omega arith) (is ∙ ap (λ vs. book_after k (vs ++ visit ∷ [])) all) (subst (λ vs. IsLegal k.book.value.table (joined (vs ++ visit ∷ []))) all legal)));
+            (gave k m s seat v visit book sh at unjoined holds all (omega arith) (is ∙ ap (λ vs. book_after k (vs ++ visit ∷ [])) all) (subst (λ vs. IsLegal k.book.value.table (joined (vs ++ visit ∷ []))) all legal)));
       },
       refl,
     )

@@ -28,8 +28,8 @@ use Rattle.shared_books.proofs.MarkLists.{visits-caught, visits-append, visits-o
 abbrev S : Type 0
 S = State (Option Boxed) PassState
 
-acts : (v : PassState) → v.live ≡ true → IsNobody v → ⊥
-acts v live gone = true≢false (sym live ∙ gone.0)
+acts : (v : PassState) → v.unjoined ≡ true → IsNobody v → ⊥
+acts v unjoined gone = true≢false (sym unjoined ∙ gone.0)
 
 -- the schedule and the machine, one event longer
 pub schedule_snoc : (m : Machine) (es : List Event) (e : Event) → IsSchedule m es → May (after m es) e → IsSchedule m (es ++ e ∷ [])
@@ -49,23 +49,23 @@ pub word_of : (k : Opening) (m : Machine) (s : S) → ShowsMachine k m s → ((m
 word_of k m s r = ⊎_elim (λ e. inl (e, (r.free e).0)) (λ t. inr (t.0, t.1, (r.held t.0 t.1).0)) (holder_of m.holder)
 
 -- whoever has the turn has it still, where the one view that changed kept its own
-turn_set : (views : List PassState) (id : ℕ) (v w : PassState) (seat : ℕ) → get_elem? views id ≡ some v → w.live ≡ true → w.turn ≡ v.turn
-    → (u : PassState) × (get_elem? views seat ≡ some u) × (u.live ≡ true) × (u.turn ≡ true) → (u : PassState) × (get_elem? (set views id w) seat ≡ some u) × (u.live ≡ true) × (u.turn ≡ true)
-turn_set views id v w seat at live same t = dite (ℕ_discrete seat id)
+turn_set : (views : List PassState) (id : ℕ) (v w : PassState) (seat : ℕ) → get_elem? views id ≡ some v → w.unjoined ≡ true → w.turn ≡ v.turn
+    → (u : PassState) × (get_elem? views seat ≡ some u) × (u.unjoined ≡ true) × (u.turn ≡ true) → (u : PassState) × (get_elem? (set views id w) seat ≡ some u) × (u.unjoined ≡ true) × (u.turn ≡ true)
+turn_set views id v w seat at unjoined same t = dite (ℕ_discrete seat id)
     (λ e.
     let here : get_elem? views id ≡ some t.0 = subst (λ j. get_elem? views j ≡ some t.0) e t.1 in
     let one : t.0 ≡ v = some-injective t.0 v (sym here ∙ at) in
-    (w, subst (λ j. get_elem? (set views id w) j ≡ some w) (sym e) (set_here views id w (at_less views id v at)), live, same ∙ (ap (λ z. z.turn) (sym one) ∙ t.3)))
+    (w, subst (λ j. get_elem? (set views id w) j ≡ some w) (sym e) (set_here views id w (at_less views id v at)), unjoined, same ∙ (ap (λ z. z.turn) (sym one) ∙ t.3)))
     (λ ne. (t.0, set_else views id seat w ne ∙ t.1, t.2, t.3))
 
 -- where one view changes, and not the visits that it made
-seen_set : (k : Opening) (m : Machine) (s : S) (id : ℕ) (v : PassState) (marks met : List Mark) → ShowsMachine k m s → get_elem? s.views id ≡ some v → v.live ≡ true
+seen_set : (k : Opening) (m : Machine) (s : S) (id : ℕ) (v : PassState) (marks met : List Mark) → ShowsMachine k m s → get_elem? s.views id ≡ some v → v.unjoined ≡ true
     → Begins (visits_of marks) m.visits → Begins (visits_of met) m.visits → (v.turn ≡ true → visits_of marks ≡ m.visits)
     → ((i : ℕ) → made_at i marks + made_at i met ≡ made_at i v.marks + made_at i v.met)
     → ShowsMachine k m record { words = s.words; homes = s.homes; views = set s.views id (view v.opened v.claims v.turn marks met) }
-seen_set k m s id v marks met r at live seen other turn counts =
+seen_set k m s id v marks met r at unjoined seen other turn counts =
     let w = view v.opened v.claims v.turn marks met in
-    let f = r.each id v at live in
+    let f = r.each id v at unjoined in
     let same : (i : ℕ) → makers i (set s.views id w) ≡ makers i s.views = λ i. (let t = sum_set (λ u. made_at i u.marks + made_at i u.met) s.views id v w at in let c = counts i in omega arith) in
     let fits : FitsMachine k m id w = record { opened = f.opened; seen = seen; met = other; turn = λ on. ((f.turn on).0, turn on) } in record {
       one_word = r.one_word;
@@ -81,7 +81,7 @@ seen_set k m s id v marks met r at live seen other turn counts =
           (at_set s.views id j w u e);
       once = λ i lt. same i ∙ r.once i lt;
       no_other = λ i ge. same i ∙ r.no_other i ge;
-      claims = claims_set (λ u. u.claims) IsNobody s.views id v w at refl (acts v live) r.claims;
+      claims = claims_set (λ u. u.claims) IsNobody s.views id v w at refl (acts v unjoined) r.claims;
     }
 
 -- a pass that has seen what is counted
@@ -109,13 +109,13 @@ begins_itself : (vs : List (List Entry)) → Begins vs vs
 begins_itself vs = ([], sym (append-nil vs))
 
 -- a look at the turn word
-pub looks : (k : Opening) (slots id : ℕ) (me : Seat) → me.0.live ≡ true
+pub looks : (k : Opening) (slots id : ℕ) (me : Seat) → me.0.unjoined ≡ true
     → Allows (IsTurn k) slots id me 0 (λ n. n) (λ n w. HasSeen me n w)
-looks k slots id me live s r count at fits =
+looks k slots id me unjoined s r count at fits =
     let m : Machine = after (start k.first) r.events in
     let v : PassState = me.0 in
     let sh = r.shows in
-    let f = sh.each id v at live in
+    let f = sh.each id v at unjoined in
     let c = caught_up k m s id v sh f in
     let marks : List Mark = v.marks ++ others c.more in
     let w = view v.opened v.claims v.turn marks v.met in (
@@ -126,7 +126,7 @@ looks k slots id me live s r count at fits =
         events = r.events;
         schedule = r.schedule;
         shows = subst (λ ws. ShowsMachine k m record { words = ws; homes = s.homes; views = set s.views id w }) (sym (set-get_or s.words 0 0))
-            (seen_set k m s id v marks v.met sh at live (subst (λ vs. Begins (visits_of marks) vs) c.all (begins_itself (visits_of marks))) f.met (λ _. c.all) (λ i. ap (λ n. n + made_at i v.met) (made_at-caught i v.marks c.more)));
+            (seen_set k m s id v marks v.met sh at unjoined (subst (λ vs. Begins (visits_of marks) vs) c.all (begins_itself (visits_of marks))) f.met (λ _. c.all) (λ i. ap (λ n. n + made_at i v.met) (made_at-caught i v.marks c.more)));
       },
       record {
         between = c.more;
@@ -139,12 +139,12 @@ looks k slots id me live s r count at fits =
     )
 
 -- the turn is taken
-pub took : (k : Opening) (m : Machine) (s : S) (id : ℕ) (v : PassState) (marks : List Mark) → ShowsMachine k m s → get_elem? s.views id ≡ some v → v.live ≡ true → m.holder ≡ none
+pub took : (k : Opening) (m : Machine) (s : S) (id : ℕ) (v : PassState) (marks : List Mark) → ShowsMachine k m s → get_elem? s.views id ≡ some v → v.unjoined ≡ true → m.holder ≡ none
     → visits_of marks ≡ m.visits → get_or s.words 0 0 < 2 ^ 63 → ((i : ℕ) → made_at i marks ≡ made_at i v.marks)
     → ShowsMachine k (next m (taken id)) record { words = set s.words 0 (get_or s.words 0 0 + 1); homes = set s.homes 0 none; views = set s.views id (view v.opened v.claims true marks v.met) }
-took k m s id v marks r at live nobody_has all few counts =
+took k m s id v marks r at unjoined nobody_has all few counts =
     let w = view v.opened v.claims true marks v.met in
-    let f = r.each id v at live in
+    let f = r.each id v at unjoined in
     let free = r.free nobody_has in
     let word : get_or (set s.words 0 (get_or s.words 0 0 + 1)) 0 0 ≡ 2 * m.count + 1 = get_or-set_same s.words 0 _ 0 (let o = r.one_word in omega arith) ∙ ap (λ n. n + 1) free.0 in
     let same : (i : ℕ) → makers i (set s.views id w) ≡ makers i s.views = λ i. (let t = sum_set (λ u. made_at i u.marks + made_at i u.met) s.views id v w at in let c = counts i in omega arith) in
@@ -166,18 +166,18 @@ took k m s id v marks r at live nobody_has all few counts =
           (at_set s.views id j w u e);
       once = λ i lt. same i ∙ r.once i lt;
       no_other = λ i ge. same i ∙ r.no_other i ge;
-      claims = claims_set (λ u. u.claims) IsNobody s.views id v w at refl (acts v live) r.claims;
+      claims = claims_set (λ u. u.claims) IsNobody s.views id v w at refl (acts v unjoined) r.claims;
     }
 
 -- a try to take the turn, at an even turn word
-pub takes_turn : (k : Opening) (slots id : ℕ) (me : Seat) (old half : ℕ) → me.0.live ≡ true → me.0.turn ≡ false → old ≡ 2 * half → old < 2 ^ 63
+pub takes_turn : (k : Opening) (slots id : ℕ) (me : Seat) (old half : ℕ) → me.0.unjoined ≡ true → me.0.turn ≡ false → old ≡ 2 * half → old < 2 ^ 63
     → Allows (IsTurn k) slots id me 0 (λ n. either (eqb n old) (old + 1) n) (HasTriedTurn (step slots 0 old (old + 1) none) me)
-takes_turn k slots id me old half live off even few s r count at fits = dite (ℕ_discrete (get_or s.words 0 0) old)
+takes_turn k slots id me old half unjoined off even few s r count at fits = dite (ℕ_discrete (get_or s.words 0 0) old)
     (λ e.
     let m : Machine = after (start k.first) r.events in
     let v : PassState = me.0 in
     let sh = r.shows in
-    let f = sh.each id v at live in
+    let f = sh.each id v at unjoined in
     let c = caught_up k m s id v sh f in
     let marks : List Mark = v.marks ++ others c.more in
     let nobody_has : m.holder ≡ none = ⊎_elim (λ t. t.0) (λ t. let odd = t.2 in absurd (omega arith)) (word_of k m s sh) in
@@ -194,7 +194,7 @@ takes_turn k slots id me old half live off even few s r count at fits = dite (�
         schedule = schedule_snoc (start k.first) r.events (taken id) r.schedule nobody_has;
         shows = subst (λ n. ShowsMachine k (after (start k.first) (r.events ++ taken id ∷ [])) record { words = set s.words 0 n; homes = set s.homes 0 none; views = set s.views id w }) one
             (subst (λ n. ShowsMachine k n record { words = set s.words 0 (get_or s.words 0 0 + 1); homes = set s.homes 0 none; views = set s.views id w }) (sym (after-snoc (start k.first) r.events (taken id)))
-            (took k m s id v marks sh at live nobody_has c.all (omega arith) (λ i. made_at-caught i v.marks c.more)));
+            (took k m s id v marks sh at unjoined nobody_has c.all (omega arith) (λ i. made_at-caught i v.marks c.more)));
       },
       record {
         won = λ _. record { between = c.more; view_is = refl; word = sym e ∙ (free.0 ∙ ap (λ n. 2 * n) (sym c.number)); legal = c.legal; book = b; book_is = value; carries = refl };
@@ -202,7 +202,7 @@ takes_turn k slots id me old half live off even few s r count at fits = dite (�
       },
     ))
     (λ ne.
-    let seen = looks k slots id me live s r count at fits in
+    let seen = looks k slots id me unjoined s r count at fits in
     let same : get_or s.words 0 0 ≡ either (eqb (get_or s.words 0 0) old) (old + 1) (get_or s.words 0 0) = exchanged (get_or s.words 0 0) old (old + 1) (λ n. get_or s.words 0 0 ≡ n) (λ e. absurd (ne e)) (λ _. refl) in (
       seen.0,
       seen.1,
@@ -212,13 +212,13 @@ takes_turn k slots id me old half live off even few s r count at fits = dite (�
     ))
 
 -- the turn is given back with a visit
-pub gave : (k : Opening) (m : Machine) (s : S) (id : ℕ) (v : PassState) (visit : List Entry) (b : Boxed) → ShowsMachine k m s → get_elem? s.views id ≡ some v → v.live ≡ true → m.holder ≡ some id
+pub gave : (k : Opening) (m : Machine) (s : S) (id : ℕ) (v : PassState) (visit : List Entry) (b : Boxed) → ShowsMachine k m s → get_elem? s.views id ≡ some v → v.unjoined ≡ true → m.holder ≡ some id
     → visits_of v.marks ≡ m.visits → m.count < 2 ^ 62 → b.value ≡ book_after k (m.visits ++ visit ∷ []) → IsLegal k.book.value.table (joined (m.visits ++ visit ∷ []))
     → ShowsMachine k (next m (given id visit)) record { words = set s.words 0 (2 * m.count + 2); homes = set s.homes 0 (some (Some b)); views = set s.views id (view v.opened v.claims false (v.marks ++ mark true visit ∷ []) v.met) }
-gave k m s id v visit b r at live holds all few book legal =
+gave k m s id v visit b r at unjoined holds all few book legal =
     let marks : List Mark = v.marks ++ mark true visit ∷ [] in
     let w = view v.opened v.claims false marks v.met in
-    let f = r.each id v at live in
+    let f = r.each id v at unjoined in
     let word : get_or (set s.words 0 (2 * m.count + 2)) 0 0 ≡ 2 * m.count + 2 = get_or-set_same s.words 0 _ 0 (let o = r.one_word in omega arith) in
     let longer : length (m.visits ++ visit ∷ []) ≡ length m.visits + 1 = length-append m.visits (visit ∷ []) in
     let now : visits_of marks ≡ m.visits ++ visit ∷ [] = visits-append v.marks (mark true visit ∷ []) ∙ ap (λ vs. vs ++ visit ∷ []) all in
@@ -243,16 +243,16 @@ gave k m s id v visit b r at live holds all few book legal =
           (λ e. (let t = sum i in let z = r.no_other i (omega arith) in let here : made_at i marks ≡ 1 = ap (λ n. made_at n marks) e ∙ made_at-here v.marks visit in let none_yet = made_at-beyond i v.marks (omega arith) in omega arith))
           (λ ne. (let t = sum i in let o = r.once i (omega (arith, ne)) in let else_same = made_at-else i v.marks visit ne in omega arith));
       no_other = λ i ge. (let t = sum i in let z = r.no_other i (omega arith) in let else_same = made_at-else i v.marks visit (λ e. omega arith) in omega arith);
-      claims = claims_set (λ u. u.claims) IsNobody s.views id v w at refl (acts v live) r.claims;
+      claims = claims_set (λ u. u.claims) IsNobody s.views id v w at refl (acts v unjoined) r.claims;
     }
 
-pub gives_turn : (k : Opening) (slots id : ℕ) (v : PassState) (b : Boxed) (visit : List Entry) (new : ℕ) → v.live ≡ true → v.turn ≡ true → new ≡ 2 * (v.opened.first + length v.marks) + 2 → v.opened.first + length v.marks < 2 ^ 62
+pub gives_turn : (k : Opening) (slots id : ℕ) (v : PassState) (b : Boxed) (visit : List Entry) (new : ℕ) → v.unjoined ≡ true → v.turn ≡ true → new ≡ 2 * (v.opened.first + length v.marks) + 2 → v.opened.first + length v.marks < 2 ^ 62
     → b.value ≡ book_after v.opened (visits_of v.marks ++ visit ∷ []) → IsLegal v.opened.book.value.table (joined (visits_of v.marks ++ visit ∷ []))
     → Allows (IsTurn k) slots id (v, (0, Some b) ∷ []) 0 (λ _. new) (λ _ after. after ≡ given_back (v, (0, Some b) ∷ []))
-gives_turn k slots id v b visit new live on is few book legal s r count at fits =
+gives_turn k slots id v b visit new unjoined on is few book legal s r count at fits =
     let m : Machine = after (start k.first) r.events in
     let sh = r.shows in
-    let f = sh.each id v at live in
+    let f = sh.each id v at unjoined in
     let all : visits_of v.marks ≡ m.visits = (f.turn on).1 in
     let size : length v.marks ≡ length m.visits = sym (length-visits v.marks) ∙ ap (λ (vs : List (List Entry)). length vs) all in
     let number : v.opened.first + length v.marks ≡ m.count = let c = sh.count in let first : v.opened.first ≡ k.first = ap (λ o. o.first) f.opened in omega arith in
@@ -269,19 +269,19 @@ gives_turn k slots id v b visit new live on is few book legal s r count at fits 
         schedule = schedule_snoc (start k.first) r.events (given id visit) r.schedule (f.turn on).0;
         shows = subst (λ n. ShowsMachine k (after (start k.first) (r.events ++ given id visit ∷ [])) record { words = set s.words 0 n; homes = set s.homes 0 (some (Some b)); views = set s.views id w }) (let e : 2 * m.count + 2 ≡ new = omega arith in e)
             (subst (λ n. ShowsMachine k n record { words = set s.words 0 (2 * m.count + 2); homes = set s.homes 0 (some (Some b)); views = set s.views id w }) (sym (after-snoc (start k.first) r.events (given id visit)))
-            (gave k m s id v visit b sh at live (f.turn on).0 all (omega arith) book_now legal_now));
+            (gave k m s id v visit b sh at unjoined (f.turn on).0 all (omega arith) book_now legal_now));
       },
       (λ i. (view v.opened v.claims false (v.marks ++ mark true (sym gained i) ∷ []) v.met, [])),
     )
 
 -- a new pass
-pub parts : (k : Opening) (id : ℕ) (v : PassState) → v.live ≡ true → Splits (IsTurn k) id v (left_view v) (fresh v)
-parts k id v live s r at =
+pub parts : (k : Opening) (id : ℕ) (v : PassState) → v.unjoined ≡ true → Splits (IsTurn k) id v (left_view v) (fresh v)
+parts k id v unjoined s r at =
     let m : Machine = after (start k.first) r.events in
     let sh = r.shows in
     let l = left_view v in
     let w = fresh v in
-    let f = sh.each id v at live in
+    let f = sh.each id v at unjoined in
     let nothing : (i : ℕ) → made_at i w.marks ≡ 0 = λ i. made_at-others i (visits_of v.marks) in
     let sum : (i : ℕ) → makers i (set s.views id l ++ w ∷ []) ≡ makers i s.views = λ i. (
     let t = sum_set (λ u. made_at i u.marks + made_at i u.met) s.views id v l at in
@@ -313,18 +313,18 @@ parts k id v live s r at =
             (at_snoc (set s.views id l) w u j e);
         once = λ i lt. sum i ∙ sh.once i lt;
         no_other = λ i ge. sum i ∙ sh.no_other i ge;
-        claims = claims_split (λ u. u.claims) IsNobody s.views id v l w at refl refl (acts v live) sh.claims;
+        claims = claims_split (λ u. u.claims) IsNobody s.views id v l w at refl refl (acts v unjoined) sh.claims;
       };
     }
 
 -- one pass takes over what another has
-pub meets : (k : Opening) (id : ℕ) (v : PassState) (other : ℕ) (u : PassState) → v.live ≡ true → u.live ≡ true → v.met ≡ [] → u.met ≡ [] → u.turn ≡ false → Joins (IsTurn k) id v other u (both_views v u) nobody
-meets k id v other u live lives met met_too off s r at apart there =
+pub meets : (k : Opening) (id : ℕ) (v : PassState) (other : ℕ) (u : PassState) → v.unjoined ≡ true → u.unjoined ≡ true → v.met ≡ [] → u.met ≡ [] → u.turn ≡ false → Joins (IsTurn k) id v other u (both_views v u) nobody
+meets k id v other u unjoined lives met met_too off s r at apart there =
     let m : Machine = after (start k.first) r.events in
     let sh = r.shows in
     let w = both_views v u in
     let was : get_elem? s.views other ≡ some u = sym (set_else s.views id other w apart) ∙ there in
-    let f = sh.each id v at live in
+    let f = sh.each id v at unjoined in
     let g = sh.each other u was lives in
     let sum : (i : ℕ) → makers i (set (set s.views id w) other nobody) ≡ makers i s.views = λ i. (
     let first = sum_set (λ z. made_at i z.marks + made_at i z.met) s.views id v w at in
@@ -349,7 +349,7 @@ meets k id v other u live lives met met_too off s r at apart there =
             (p.0, p.1, (q.0, set_else (set s.views id w) other seat nobody not_other ∙ q.1, q.2, q.3)));
         legal = sh.legal;
         each = λ j z e l. ⊎_elim
-            (λ (t : (j ≡ other) × (nobody ≡ z)). absurd (true≢false (sym l ∙ ap (λ y. y.live) (sym t.1))))
+            (λ (t : (j ≡ other) × (nobody ≡ z)). absurd (true≢false (sym l ∙ ap (λ y. y.unjoined) (sym t.1))))
             (λ (t : (j ≢ other) × (get_elem? (set s.views id w) j ≡ some z)). ⊎_elim
             (λ (q : (j ≡ id) × (w ≡ z)). subst (λ (y : PassState). FitsMachine k m j y) q.1 (subst (λ i. FitsMachine k m i w) (sym q.0) fits))
             (λ (q : (j ≢ id) × (get_elem? s.views j ≡ some z)). sh.each j z q.1 l)
@@ -357,7 +357,7 @@ meets k id v other u live lives met met_too off s r at apart there =
             (at_set (set s.views id w) other j nobody z e);
         once = λ i lt. sum i ∙ sh.once i lt;
         no_other = λ i ge. sum i ∙ sh.no_other i ge;
-        claims = claims_join (λ z. z.claims) IsNobody s.views id v other u w nobody at there refl refl (refl, refl, refl) (acts v live) sh.claims;
+        claims = claims_join (λ z. z.claims) IsNobody s.views id v other u w nobody at there refl refl (refl, refl, refl) (acts v unjoined) sh.claims;
       };
     }
 
@@ -370,13 +370,13 @@ apart_of k m s id v r at i =
     (λ lt. (let o = r.once i (lt_of_not-le lt) in omega arith))
 
 -- the look that ends a join
-pub settles : (k : Opening) (slots id : ℕ) (me : Seat) → me.0.live ≡ true → me.0.turn ≡ false
+pub settles : (k : Opening) (slots id : ℕ) (me : Seat) → me.0.unjoined ≡ true → me.0.turn ≡ false
     → Allows (IsTurn k) slots id me 0 (λ n. n) (λ _ w. HasEndedJoin me w)
-settles k slots id me live off s r count at fits =
+settles k slots id me unjoined off s r count at fits =
     let m : Machine = after (start k.first) r.events in
     let v : PassState = me.0 in
     let sh = r.shows in
-    let f = sh.each id v at live in
+    let f = sh.each id v at unjoined in
     let apart = apart_of k m s id v sh at in
     let marks : List Mark = merged v.marks v.met in
     let seen = begins_merged v.marks v.met m.visits f.seen f.met in
@@ -388,7 +388,7 @@ settles k slots id me live off s r count at fits =
         events = r.events;
         schedule = r.schedule;
         shows = subst (λ ws. ShowsMachine k m record { words = ws; homes = s.homes; views = set s.views id w }) (sym (set-get_or s.words 0 0))
-            (seen_set k m s id v marks [] sh at live seen (m.visits, refl) (λ on. absurd (true≢false (sym on ∙ off))) (λ i. (let e = made_at-merged i v.marks v.met apart in omega arith)));
+            (seen_set k m s id v marks [] sh at unjoined seen (m.visits, refl) (λ on. absurd (true≢false (sym on ∙ off))) (λ i. (let e = made_at-merged i v.marks v.met apart in omega arith)));
       },
       record {
         view_is = refl;
@@ -485,13 +485,13 @@ made_each k m s id v r at met whole i lt =
     let one = r.once i lt in
     omega arith
 
-pub closes : (k : Opening) (id : ℕ) (v : PassState) (ws : List ℕ) (xs : List (Option Boxed)) (word : ℕ) (slot : Option Boxed) → Final (Seen (IsTurn k) id v) ws xs → get_elem? ws 0 ≡ some word → get_elem? xs 0 ≡ some slot → v.live ≡ true → v.turn ≡ false → v.met ≡ [] → Closes k v word slot
-closes k id v ws xs word slot final at home live off met =
+pub closes : (k : Opening) (id : ℕ) (v : PassState) (ws : List ℕ) (xs : List (Option Boxed)) (word : ℕ) (slot : Option Boxed) → Final (Seen (IsTurn k) id v) ws xs → get_elem? ws 0 ≡ some word → get_elem? xs 0 ≡ some slot → v.unjoined ≡ true → v.turn ≡ false → v.met ≡ [] → Closes k v word slot
+closes k id v ws xs word slot final at home unjoined off met =
     let s = final.0 in
     let r = final.1.0 in
     let m : Machine = after (start k.first) r.events in
     let sh = r.shows in
-    let f = sh.each id v final.1.1 live in
+    let f = sh.each id v final.1.1 unjoined in
     let here : get_or s.words 0 0 ≡ word = ap (λ us. get_or us 0 0) final.2 ∙ first_word ws word at in
     let size = length-visits v.marks in
     let shorter = begins_shorter (visits_of v.marks) m.visits f.seen in

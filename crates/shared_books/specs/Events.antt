@@ -37,7 +37,7 @@ pub record IsShown (k : Opening) (m : Machine) (s : State (Option Boxed) PassSta
   pub even : (n : ℕ) → slice_index s.words 0 ≡ 2 * n → ShowsFree k m s n
   pub odd : (n : ℕ) → slice_index s.words 0 ≡ 2 * n + 1 → ShowsHeld m s n
   pub count : m.count ≡ k.first + length m.visits
-  pub seen : (seat : ℕ) (v : PassState) → get_elem? s.views seat ≡ some v → v.live ≡ true
+  pub seen : (seat : ℕ) (v : PassState) → get_elem? s.views seat ≡ some v → v.unjoined ≡ true
       → Begins (visits_of v.marks) m.visits
   pub legal : IsLegal k.book.value.table (joined m.visits)
 
@@ -76,7 +76,7 @@ given_back_by s seat v visit book = record {
 abbrev pub TakesAreEvents : Type 0
 TakesAreEvents =
     (k : Opening) (s : State (Option Boxed) PassState) (seat : ℕ) (v : PassState) (t : IsTurn k s)
-    → get_elem? s.views seat ≡ some v → v.live ≡ true
+    → get_elem? s.views seat ≡ some v → v.unjoined ≡ true
     → (n : ℕ) → slice_index s.words 0 ≡ 2 * n → n < 2 ^ 62
     → (between : List (List Entry)) × (u : IsTurn k (taken_by s seat v between))
     × (u.events ≡ t.events ++ taken seat ∷ [])
@@ -86,7 +86,7 @@ TakesAreEvents =
 abbrev pub GivesAreEvents : Type 0
 GivesAreEvents =
     (k : Opening) (s : State (Option Boxed) PassState) (seat : ℕ) (v : PassState) (t : IsTurn k s)
-    → get_elem? s.views seat ≡ some v → v.live ≡ true → v.turn ≡ true
+    → get_elem? s.views seat ≡ some v → v.unjoined ≡ true → v.turn ≡ true
     → (visit : List Entry) (book : Boxed)
     → book.value ≡ book_after k (visits_of v.marks ++ visit ∷ [])
     → IsLegal k.book.value.table (joined (visits_of v.marks ++ visit ∷ []))

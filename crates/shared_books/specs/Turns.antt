@@ -50,11 +50,11 @@ HasBook k visits s =
 -- the seat's view is of a pass that was not joined into another, and has the turn
 abbrev pub HoldsTurn : State (Option Boxed) PassState → ℕ → Type 0
 HoldsTurn s seat =
-    (v : PassState) × (get_elem? s.views seat ≡ some v) × (v.live ≡ true) × (v.turn ≡ true)
+    (v : PassState) × (get_elem? s.views seat ≡ some v) × (v.unjoined ≡ true) × (v.turn ≡ true)
 
 -- a pass that was joined into another has nothing
 abbrev pub IsNobody : PassState → Type 0
-IsNobody v = (v.live ≡ false) × (v.marks ≡ []) × (v.met ≡ [])
+IsNobody v = (v.unjoined ≡ false) × (v.marks ≡ []) × (v.met ≡ [])
 
 -- turn word, slot and views show this state of the machine, and no claim is there twice
 pub record ShowsMachine (k : Opening) (m : Machine) (s : State (Option Boxed) PassState)
@@ -67,7 +67,7 @@ pub record ShowsMachine (k : Opening) (m : Machine) (s : State (Option Boxed) Pa
   pub held : (seat : ℕ) → m.holder ≡ some seat → (slice_index s.words 0 ≡ 2 * m.count + 1)
       × (get_elem? s.homes 0 ≡ some none) × HoldsTurn s seat
   pub legal : IsLegal k.book.value.table (joined m.visits)
-  pub each : (seat : ℕ) (v : PassState) → get_elem? s.views seat ≡ some v → v.live ≡ true
+  pub each : (seat : ℕ) (v : PassState) → get_elem? s.views seat ≡ some v → v.unjoined ≡ true
       → FitsMachine k m seat v
   pub once : (i : ℕ) → i < length m.visits → makers i s.views ≡ 1
   pub no_other : (i : ℕ) → length m.visits ≤ i → makers i s.views ≡ 0

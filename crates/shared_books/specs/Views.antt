@@ -4,7 +4,7 @@ use Rattle.shared_books.specs.declared.turns.rule.Opening.{Opening}
 use Rattle.shared_books.specs.declared.turns.rule.Mark.{Mark}
 use Rattle.shared_books.specs.declared.turns.rule.PassState.{PassState}
 
--- what a pass knows while it lives
+-- what a pass knows until it is joined into another
 abbrev pub view : Opening → ℕ → Bool → List Mark → List Mark → PassState
 view o claims turn marks met =
-    record { live = true; opened = o; claims = claims; turn = turn; marks = marks; met = met }
+    record { unjoined = true; opened = o; claims = claims; turn = turn; marks = marks; met = met }

@@ -206,7 +206,7 @@ class_to (member name value more) p found x (inr (suc n, new)) =
     class_to more (suc p) (ignored_of (Class p) found (as_table value)) x
     (inr (n, subst (λ (q : ℕ). IsNew (Class q) (class_keys n more) x) at new))
 
--- ---- the entries of `validators` from a place on
+-- ---- the elements of `validators` from a place on
 abbrev range_keys : ℕ → Items → Members
 range_keys n entries = members_of (get_item n entries)
 

@@ -38,13 +38,13 @@ ignored_of_classes place found no_members = found
 ignored_of_classes place found (member name value more) =
     ignored_of_classes (suc place) (ignored_of (Class place) found (as_table value)) more
 
--- the keys found, and those of the entries of `validators` from this place on
+-- the keys found, and those of the elements of `validators` from this place on
 abbrev pub ignored_of_ranges : ℕ → List (Holder × List ℕ) → Items → List (Holder × List ℕ)
 ignored_of_ranges place found no_items = found
 ignored_of_ranges place found (item value more) =
     ignored_of_ranges (suc place) (ignored_of (Range place) found (as_table value)) more
 
--- the keys of a text that have no meaning: at the top, in its classes, and in the entries of its
+-- the keys of a text that have no meaning: at the top, in its classes, and in the elements of its
 -- `validators`
 abbrev pub ignored_in : Members → List (Holder × List ℕ)
 ignored_in tree =

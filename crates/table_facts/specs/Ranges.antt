@@ -19,24 +19,25 @@ small number =
 
 -- the validator's number at a key
 abbrev pub validator_at : List ℕ → Members → Option ℕ
-validator_at key entry = option_and_then small (option_and_then as_integer (get_member key entry))
+validator_at key element =
+    option_and_then small (option_and_then as_integer (get_member key element))
 
 -- the validator lies from the one number to the other
 abbrev pub is_from_to : ℕ → ℕ → ℕ → Bool
 is_from_to first last validator = nat_le first validator && nat_le validator last
 
--- the value is an entry of `validators`, and no validator that was seen is one of its
+-- the value is an element of `validators`, and no validator that was seen is one of its
 abbrev pub is_unused : List ℕ → Data → Bool
 is_unused seen value =
-    passes (λ entry. passes (λ first. passes (λ last. not (list_any (is_from_to first last) seen))
-    (validator_at (codes "last") entry)) (validator_at (codes "first") entry)) (as_table value)
+    passes (λ element. passes (λ first. passes (λ last. not (list_any (is_from_to first last) seen))
+    (validator_at (codes "last") element)) (validator_at (codes "first") element)) (as_table value)
 
--- the places found, and those of the entries from this place on that no validator seen is in
+-- the places found, and those of the elements from this place on that no validator seen is in
 abbrev pub unused_from : List ℕ → ℕ → List ℕ → Items → List ℕ
 unused_from seen place found no_items = found
 unused_from seen place found (item value more) =
     unused_from seen (suc place) (if is_unused seen value then found ++ place ∷ [] else found) more
 
--- the places of the text's entries of `validators` that no validator seen is in
+-- the places of the text's elements of `validators` that no validator seen is in
 abbrev pub unused_in : List ℕ → Members → List ℕ
 unused_in seen tree = unused_from seen 0 [] (items_of (get_member (codes "validators") tree))

@@ -10,7 +10,7 @@ pub enum Holder {
     Top,
     /// In the class at this place in the order of the names.
     Class(usize),
-    /// In the entry of `validators` at this place.
+    /// In the element of `validators` at this place.
     Range(usize),
 }
 

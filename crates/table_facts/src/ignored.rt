@@ -7,7 +7,7 @@ ghost use Rattle.fare_table.specs.Faults.{items_of, members_of};
 ghost use Rattle.table_facts.specs.Ignored as spec;
 
 use crate::holder::{Holder, has_meaning};
-use crate::toml_values::{entries_at, keys_at};
+use crate::toml_values::{elements_at, keys_at};
 use fare_table::NoMemory;
 use std::alloc::Global;
 use toml::{Table, Value};
@@ -65,7 +65,7 @@ fn add_ignored_in_classes<'a>(
     Ok(())
 }
 
-/// Appends the keys of the text's entries of `validators` that have no meaning there.
+/// Appends the keys of the text's elements of `validators` that have no meaning there.
 fn add_ignored_in_ranges<'a>(
     found: &mut Vec<(Holder, &'a str)>,
     table: &'a Table,
@@ -74,17 +74,17 @@ fn add_ignored_in_ranges<'a>(
         ≡ spec.ignored_of_ranges 0 (map (λ k. (k.0, k.1.now)) found.old.items)
         (items_of (get_member (codes "validators") (table_view table.now)))) }
 {
-    let Some(entries) = entries_at(table, "validators") else {
+    let Some(elements) = elements_at(table, "validators") else {
         return Ok(());
     };
-    for (place, value) in entries.iter().enumerate() {
+    for (place, value) in elements.iter().enumerate() {
         add_ignored_of(found, Holder::Range(place), value)?;
     }
     Ok(())
 }
 
 /// The keys of a text that its rules ignore, with where each stands: those at the top, then
-/// those of the classes in the order of their names, then those of the entries of `validators`.
+/// those of the classes in the order of their names, then those of the elements of `validators`.
 pub fn ignored_keys(alloc: Global, table: &Table) -> Result<Vec<(Holder, &str)>, NoMemory>
     ensures { IfOk result (λ v. map (λ k. (k.0, k.1.now)) v.items
         ≡ spec.ignored_in (table_view table.now)) }

@@ -5,35 +5,35 @@ ghost use Rattle.toml.specs.View.{array_view, table_view, view};
 ghost use Rattle.table_facts.specs.Ranges as spec;
 
 use crate::seen::Seen;
-use crate::toml_values::{entries_at, validator_at};
+use crate::toml_values::{elements_at, validator_at};
 use fare_table::NoMemory;
 use std::alloc::Global;
 use toml::value::Array;
 use toml::{Table, Value};
 
-/// Whether the value is an entry of `validators` that no validator seen is in.
+/// Whether the value is an element of `validators` that no validator seen is in.
 fn is_unused(seen: &Seen, value: &Value) -> bool
     ensures { result ≡ spec.is_unused seen.now (view value.now) }
 {
-    let Some(entry) = value.as_table() else {
+    let Some(element) = value.as_table() else {
         return false;
     };
-    let Some(first) = validator_at(entry, "first") else {
+    let Some(first) = validator_at(element, "first") else {
         return false;
     };
-    let Some(last) = validator_at(entry, "last") else {
+    let Some(last) = validator_at(element, "last") else {
         return false;
     };
     !seen.has_between(first, last)
 }
 
-/// The places of the entries that no validator seen is in.
-fn unused_of(alloc: Global, seen: &Seen, entries: &Array) -> Result<Vec<usize>, NoMemory>
+/// The places of the elements that no validator seen is in.
+fn unused_of(alloc: Global, seen: &Seen, elements: &Array) -> Result<Vec<usize>, NoMemory>
     ensures { IfOk result (λ v. v.items
-        ≡ spec.unused_from seen.now 0 [] (array_view entries.now)) }
+        ≡ spec.unused_from seen.now 0 [] (array_view elements.now)) }
 {
     let mut found = Vec::new(alloc);
-    for (place, value) in entries.iter().enumerate() {
+    for (place, value) in elements.iter().enumerate() {
         if is_unused(seen, value) {
             found.push(place)?;
         }
@@ -41,12 +41,12 @@ fn unused_of(alloc: Global, seen: &Seen, entries: &Array) -> Result<Vec<usize>, 
     Ok(found)
 }
 
-/// The places of the text's entries of `validators` that no validator seen is in.
+/// The places of the text's elements of `validators` that no validator seen is in.
 pub fn unused_ranges(alloc: Global, seen: &Seen, table: &Table) -> Result<Vec<usize>, NoMemory>
     ensures { IfOk result (λ v. v.items ≡ spec.unused_in seen.now (table_view table.now)) }
 {
-    match entries_at(table, "validators") {
-        Some(entries) => unused_of(alloc, seen, entries),
+    match elements_at(table, "validators") {
+        Some(elements) => unused_of(alloc, seen, elements),
         None => Ok(Vec::new(alloc)),
     }
 }

@@ -25,7 +25,7 @@ pub(crate) fn keys_at<'a>(table: &'a Table, key: &str) -> Option<&'a Table>
 }
 
 /// The array at a key.
-pub(crate) fn entries_at<'a>(table: &'a Table, key: &str) -> Option<&'a Array>
+pub(crate) fn elements_at<'a>(table: &'a Table, key: &str) -> Option<&'a Array>
     ensures { option_map (λ a. array_view a.now) result
         ≡ option_and_then as_array (get_member key.now (table_view table.now)) }
 {
@@ -40,10 +40,10 @@ fn is_small(number: i64) -> bool
 }
 
 /// The number of a validator at a key.
-pub(crate) fn validator_at(entry: &Table, key: &str) -> Option<u32>
-    ensures { result ≡ spec.validator_at key.now (table_view entry.now) }
+pub(crate) fn validator_at(element: &Table, key: &str) -> Option<u32>
+    ensures { result ≡ spec.validator_at key.now (table_view element.now) }
 {
-    let number = at(entry, key)?.as_integer()?;
+    let number = at(element, key)?.as_integer()?;
     if is_small(number) {
         Some(number as u32)
     } else {

@@ -1,10 +1,10 @@
 -- Listing: what private functions alone cite.
 use Rattle.std.specs.Prelude.{◌≡◌, ◌+◌, ℕ, ◌&&◌, if◌then◌else◌, List, Option, Some}
 use Rattle.std.specs.Str.{bytes_eq}
-use Rattle.fare_program.specs.declared.listing.Word.{Word}
-use Rattle.fare_program.specs.declared.listing.Word.TheVariants.{Live, Stale, Unknown}
+use Rattle.fare_program.specs.declared.listing.Liveness.{Liveness}
+use Rattle.fare_program.specs.declared.listing.Liveness.TheVariants.{Live, Stale, Unknown}
 use Rattle.fare_program.specs.declared.listing.ListCounts.{ListCounts}
-use Rattle.fare_program.specs.Listing.{Listed, is_word, listed_moment}
+use Rattle.fare_program.specs.Listing.{Listed, is_same_liveness, listed_moment}
 use Rattle.std.specs.Prelude.{Bool, true, nat_lt, None}
 use Rattle.std.specs.Map.{lookup}
 use Rattle.fare_program.specs.Listing.{are_before, known_of, counts_of}
@@ -30,24 +30,27 @@ pub record StandsFor (kept : KeptListing) (taps : List Listed) : Type 0 where
       → is_after_last (last_of kept.last token) moment ≡ are_before moment (known_of token taps)
   pub counts : kept.counts ≡ counts_of taps
 
--- the three words make up the taps
+-- the three livenesses make up the taps
 abbrev pub AddsUp : ListCounts → Type 0
 AddsUp counts = counts.taps ≡ counts.live + counts.stale + counts.unknown
 
--- what is kept after a tap of this token at this moment with this word: a live tap is the last one
-abbrev pub last_after : Word → List ℕ → ℕ → List (List ℕ × ℕ) → List ℕ → Option ℕ
-last_after word token moment last other =
-    if is_word Live word && bytes_eq token other then Some moment else last_of last other
+-- what is kept after a tap of this token at this moment with this liveness: a live tap is the last
+-- one
+abbrev pub last_after : Liveness → List ℕ → ℕ → List (List ℕ × ℕ) → List ℕ → Option ℕ
+last_after liveness token moment last other =
+    if is_same_liveness Live liveness && bytes_eq token other then Some moment
+    else last_of last other
 
--- the counts with one tap more, of which the listing says this word
-abbrev pub word_counted : Word → ListCounts → ListCounts
-word_counted Live counts = record counts { taps = counts.taps + 1; live = counts.live + 1 }
-word_counted Stale counts = record counts { taps = counts.taps + 1; stale = counts.stale + 1 }
-word_counted Unknown counts = record counts { taps = counts.taps + 1; unknown = counts.unknown + 1 }
+-- the counts with one tap more, of which the listing says this liveness
+abbrev pub liveness_counted : Liveness → ListCounts → ListCounts
+liveness_counted Live counts = record counts { taps = counts.taps + 1; live = counts.live + 1 }
+liveness_counted Stale counts = record counts { taps = counts.taps + 1; stale = counts.stale + 1 }
+liveness_counted Unknown counts =
+    record counts { taps = counts.taps + 1; unknown = counts.unknown + 1 }
 
--- the word of a tap by what is kept
-abbrev pub word_by : List (List ℕ × ℕ) → Listed → Word
-word_by last tap =
+-- the liveness of a tap by what is kept
+abbrev pub liveness_by : List (List ℕ × ℕ) → Listed → Liveness
+liveness_by last tap =
     if tap.known then (if is_after_last (last_of last tap.tap.token) (listed_moment tap) then Live
     else Stale)
     else Unknown

@@ -7,7 +7,8 @@ use Rattle.fare_service.specs.Outcomes.{OutcomeView}
 use Rattle.fare_service.specs.declared.upload_end.UploadEnd.{UploadEnd}
 use Rattle.fare_program.specs.Options.{Asked}
 use Rattle.fare_program.specs.Posted.{are_posted}
-use Rattle.fare_program.specs.Program.{IsRun, ShowsPlain}
+use Rattle.fare_program.specs.Program.{ShowsPlain}
+use Rattle.fare_service.specs.Headline.{HasRun}
 use Rattle.fare_program.specs.inside.Program.{Shows}
 use Rattle.fare_program.specs.inside.Settling.{IsOutcomeOf}
 use Rattle.fare_program.specs.declared.posting.Posted.{Posted}
@@ -20,7 +21,7 @@ ends_of posted = option_map_or (λ given. given.items) posted.given posted.outco
 -- outcome is shown over their plain history.
 pub record IsLive (fares : Fares) (shards workers : ℕ) (files : List (List ℕ))
     (ends : List UploadEnd) (outcome : OutcomeView) : Type 0 where
-  pub run : IsRun fares shards workers files outcome
+  pub run : HasRun fares shards files workers outcome
   pub ended : ends ≡ outcome.ends
   pub plain : (explain : Bool) (token : Option Token) (text : List ℕ)
       → are_posted outcome.ends ≡ true → Shows explain token outcome text

@@ -15,7 +15,7 @@ ghost use Rattle.shard_book.specs.Visits.{AreEntriesOf};
 ghost use Rattle.fare_service.specs.Headline.{Headline};
 ghost use Rattle.fare_service.specs.Plain.{ArePlainEnds, AreTapsOf, HasOneReading, IsNamed};
 ghost use Rattle.fare_service.specs.Plain.{IsPlain, IsReportOver, IsStatementOver};
-ghost use Rattle.fare_service.specs.Plain.{IsWholeGathering, WasNotCut};
+ghost use Rattle.fare_service.specs.Plain.{IsUncutGathering, WasNotCut};
 ghost use Rattle.fare_service.specs.Printed.{IsStatementOf, report_of};
 ghost use Rattle.fare_service.specs.Shares.{Worked};
 
@@ -80,13 +80,13 @@ pub fn plain_history(uploads: &[Vec<u8>])
 /// for every schedule, number of workers and number of shards.
 pub fn statements(uploads: &[Vec<u8>], outcome: &Outcome)
     ensures entries { (fares : Fares) (shards : ℕ) (history : List Entry)
-        → IsWholeGathering fares shards
+        → IsUncutGathering fares shards
         (map (λ upload. upload.items) uploads.now) outcome.now history
         → (token : Token) (book : Book)
         → slice_get outcome.now.books (shard_of_token (bytes_of token) (length outcome.now.books))
         ≡ Some book → own token book.entries ≡ own token history }
     ensures texts { (fares : Fares) (shards : ℕ) (history : List Entry)
-        → IsWholeGathering fares shards
+        → IsUncutGathering fares shards
         (map (λ upload. upload.items) uploads.now) outcome.now history
         → (token : Token) (text : List ℕ) → IsStatementOf outcome.now token text
         ↔ IsStatementOver fares history token text }
@@ -110,7 +110,7 @@ pub fn ends(outcome: &Outcome)
 /// every schedule, number of workers and number of shards.
 pub fn report(uploads: &[Vec<u8>], outcome: &Outcome)
     ensures { (fares : Fares) (shards : ℕ) (history : List Entry)
-        → IsWholeGathering fares shards
+        → IsUncutGathering fares shards
         (map (λ upload. upload.items) uploads.now) outcome.now history
         → IsReportOver (map (λ upload. upload.items) uploads.now) history (report_of outcome.now) }
 {
@@ -125,12 +125,12 @@ pub fn report(uploads: &[Vec<u8>], outcome: &Outcome)
 /// whatever their schedules, workers and shards were.
 pub fn same_texts(uploads: &[Vec<u8>], one: &Outcome, other: &Outcome)
     ensures report { (fares : Fares) (shards others : ℕ) (history again : List Entry)
-        → IsWholeGathering fares shards (map (λ upload. upload.items) uploads.now) one.now history
-        → IsWholeGathering fares others (map (λ upload. upload.items) uploads.now) other.now again
+        → IsUncutGathering fares shards (map (λ upload. upload.items) uploads.now) one.now history
+        → IsUncutGathering fares others (map (λ upload. upload.items) uploads.now) other.now again
         → report_of one.now ≡ report_of other.now }
     ensures statements { (fares : Fares) (shards others : ℕ) (history again : List Entry)
-        → IsWholeGathering fares shards (map (λ upload. upload.items) uploads.now) one.now history
-        → IsWholeGathering fares others (map (λ upload. upload.items) uploads.now) other.now again
+        → IsUncutGathering fares shards (map (λ upload. upload.items) uploads.now) one.now history
+        → IsUncutGathering fares others (map (λ upload. upload.items) uploads.now) other.now again
         → (token : Token) (text : List ℕ) → IsStatementOf one.now token text
         ↔ IsStatementOf other.now token text }
 {
@@ -143,7 +143,7 @@ pub fn same_texts(uploads: &[Vec<u8>], one: &Outcome, other: &Outcome)
 }
 
 /// Whether the upload ended by itself: posted, or refused by a layout fault.
-fn was_whole(end: UploadEnd) -> bool
+fn was_not_cut(end: UploadEnd) -> bool
     ensures { Decides result (WasNotCut end) }
 {
     match end {
@@ -155,11 +155,11 @@ fn was_whole(end: UploadEnd) -> bool
 }
 
 /// Whether no upload was cut or left undrawn.
-pub fn ended_whole(outcome: &Outcome) -> bool
+pub fn none_was_cut(outcome: &Outcome) -> bool
     ensures { Decides result (All WasNotCut outcome.now.ends) }
 {
     for upload in 0..outcome.uploads() {
-        if !was_whole(outcome.upload(upload)) {
+        if !was_not_cut(outcome.upload(upload)) {
             return false;
         }
     }

@@ -28,7 +28,7 @@ use shared_books::{Draw, Drawer, Missing, Pass, SharedBook};
 use std::alloc::Global;
 
 /// Writes down how the uploads ended.
-fn mark_ends(ends: &mut Vec<UploadEnd>, done: &[Done])
+fn set_ends(ends: &mut Vec<UploadEnd>, done: &[Done])
     requires { All (λ d. d.upload < length ends.old.items) done.now }
     ensures ends { ends.new.items ≡ told ends.old.items done.now }
     ensures number { length ends.new.items ≡ length ends.old.items }
@@ -47,7 +47,7 @@ fn ends_of(alloc: Global, uploads: usize, shares: &[Share]) -> Result<Vec<Upload
 {
     let mut ends = vec![in alloc; UploadEnd::Undrawn; uploads]?;
     for share in shares {
-        mark_ends(&mut ends, share.done.as_slice());
+        set_ends(&mut ends, share.done.as_slice());
     }
     Ok(ends)
 }

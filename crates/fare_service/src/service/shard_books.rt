@@ -7,14 +7,14 @@ ghost use Rattle.fare_service.specs.inside.ServiceView.{AreOpened};
 
 use crate::service::Service;
 use fare_table::{FareTable, NoMemory};
-use shard_book::{ShardBook, TokenKeys};
+use shard_book::{HashSeed, ShardBook};
 use shared_books::{Pass, SharedBook};
 use std::alloc::Global;
 
 /// A shared book for each shard, without entries, and the first pass to each.
 pub(crate) fn open_books(
     alloc: Global,
-    keys: TokenKeys,
+    seed: HashSeed,
     table: &FareTable,
     shards: u32,
 ) -> Result<(Vec<SharedBook>, Vec<Pass>), NoMemory>
@@ -27,7 +27,7 @@ pub(crate) fn open_books(
     let mut passes = Vec::with_capacity(alloc, shards as usize)?;
     for shard in 0..shards {
         let own = table.try_clone(alloc)?;
-        let book = ShardBook::open(alloc, keys, own, shard, shards);
+        let book = ShardBook::open(alloc, seed, own, shard, shards);
         let (shared, pass) = SharedBook::open(alloc, 0, book)?;
         books.push_reserved(shared);
         passes.push_reserved(pass);

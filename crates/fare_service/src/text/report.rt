@@ -7,7 +7,8 @@ ghost use Rattle.shard_book.specs.Shown.{validator_sum};
 ghost use Rattle.shard_book.specs.Sums.{sums_of};
 ghost use Rattle.std.specs.List.{flat_map};
 ghost use Rattle.fare_texts.specs.Counts.{counts, totals_line};
-ghost use Rattle.fare_service.specs.Text.{report, uploads_part, validators_part, uploads_head};
+ghost use Rattle.fare_service.specs.Text.{report, uploads_section, validators_section};
+ghost use Rattle.fare_service.specs.Text.{uploads_head};
 ghost use Rattle.fare_service.specs.Text.{upload_line, upload_lines, validators_head};
 ghost use Rattle.fare_service.specs.Text.{validator_line, tokens_head, token_line};
 
@@ -39,7 +40,8 @@ pub(crate) fn report_front(
 /// The end of each upload.
 #[tactic(auto, using(crate::proofs::Parts::in_parts))]
 fn write_uploads(text: &mut String, ends: &[UploadEnd]) -> Result<(), AllocError>
-    ensures { OnOk result (string_bytes text.new ≡ string_bytes text.old ++ uploads_part ends.now) }
+    ensures { OnOk result
+        (string_bytes text.new ≡ string_bytes text.old ++ uploads_section ends.now) }
 {
     write_uploads_head(text, ends.len())?;
     write_upload_lines(text, ends)
@@ -78,7 +80,7 @@ fn write_upload(text: &mut String, upload: usize, end: &UploadEnd) -> Result<(),
 #[tactic(auto, using(crate::proofs::Parts::in_parts))]
 fn write_validators(text: &mut String, sums: &[ValidatorSum]) -> Result<(), AllocError>
     ensures { OnOk result (string_bytes text.new ≡ string_bytes text.old
-        ++ validators_part (map validator_sum sums.now)) }
+        ++ validators_section (map validator_sum sums.now)) }
 {
     write_validators_head(text, sums.len())?;
     write_validator_lines(text, sums)

@@ -4,7 +4,7 @@ use Rattle.std.specs.Prelude.{None, length, map, nat_le, nat_lt, if◌then◌els
 use Rattle.std.specs.List.{AllWithin}
 use Rattle.std.specs.Option.{option_or}
 use Rattle.fare_table.specs.declared.validators.Span.{Span}
-use Rattle.fare_table.specs.Validators.{is_chain}
+use Rattle.fare_table.specs.Validators.{stand_apart}
 
 -- the last range that begins at the number or before it, of ranges that rise
 abbrev pub last_begun : ℕ → List (ℕ × Span) → Option (ℕ × Span)
@@ -20,7 +20,7 @@ is_rising (first ∷ next ∷ more) = nat_lt first next && is_rising (next ∷ m
 
 -- ranges that rise and stand apart, and their first numbers
 pub record AreSearchable (ranges : List (ℕ × Span)) (firsts : List ℕ) : Type 0 where
-  pub apart : is_chain ranges ≡ true
+  pub apart : stand_apart ranges ≡ true
   pub same : firsts ≡ map (λ range. range.0) ranges
 
 -- each number before the index is not above `number`, and each from `size` places after the index

@@ -53,13 +53,13 @@ fn class_in(value: &Value) -> Result<Terms, TableFault>
 
 /// The terms of a class: its fare, its rides and its ceiling.
 #[tactic(auto, unfolding(crate::specs::Classes::class_of))]
-fn class_of(entry: &Table) -> Result<Terms, TableFault>
-    ensures terms { result ≡ spec.class_of (table_view entry.now) }
+fn class_of(element: &Table) -> Result<Terms, TableFault>
+    ensures terms { result ≡ spec.class_of (table_view element.now) }
     ensures limits { IfOk result HasLimits }
 {
-    let fare = number_at(entry, "fare", Key::Fare, 1, 100_000)?;
-    let rides = number_at(entry, "rides", Key::Rides, 1, 1_000)?;
-    let ceiling = ceiling_of(rides * fare, optional(entry, "ceiling"))?;
+    let fare = number_at(element, "fare", Key::Fare, 1, 100_000)?;
+    let rides = number_at(element, "rides", Key::Rides, 1, 1_000)?;
+    let ceiling = ceiling_of(rides * fare, optional(element, "ceiling"))?;
     Ok(Terms {
         fare,
         rides,

@@ -4,7 +4,7 @@ ghost use Rattle.std.specs.Prelude.{string_bytes};
 ghost use Rattle.std.specs.List.{list_any};
 ghost use Rattle.toml.specs.View.{view, array_view, table_view};
 ghost use Rattle.fare_table.specs.inside.OrFault.{Answers};
-ghost use Rattle.fare_table.specs.Validators.{is_chain, are_modes_below, share_number};
+ghost use Rattle.fare_table.specs.Validators.{stand_apart, are_modes_below, share_number};
 ghost use Rattle.fare_table.specs.Validators as spec;
 ghost use Rattle.fare_table.specs.inside.Validators.{last_begun};
 
@@ -39,7 +39,7 @@ pub(crate) fn ranges_of(
     Ok(Ranges::new(alloc, ranges)?)
 }
 
-/// The ranges of these entries by their first numbers.
+/// The ranges of these elements by their first numbers.
 fn ranges_from(
     alloc: Global,
     modes: &[String],
@@ -48,7 +48,7 @@ fn ranges_from(
     requires { length modes.now ≤ 32 }
     ensures answer { Answers (λ m. m.entries) result
         (spec.ranges_from (map string_bytes modes.now) [] (array_view array.now)) }
-    ensures apart { IfOk result (λ m. is_chain m.entries ≡ true) }
+    ensures apart { IfOk result (λ m. stand_apart m.entries ≡ true) }
     ensures known { IfOk result (λ m. are_modes_below (length modes.now) m.entries ≡ true) }
 {
     let mut ranges = BTreeMap::new(alloc);
@@ -65,7 +65,7 @@ fn ranges_from(
 /// Whether an earlier range shares a number with this one. The last range that begins no later than
 /// this one ends is the only one that can share a number.
 fn shares_number(ranges: &BTreeMap<u32, Span>, first: u32, span: Span) -> bool
-    requires apart { is_chain ranges.now.entries ≡ true }
+    requires apart { stand_apart ranges.now.entries ≡ true }
     requires order { first ≤ span.last }
     ensures { result ≡ list_any (share_number (first, span)) ranges.now.entries }
 {
@@ -77,7 +77,7 @@ fn shares_number(ranges: &BTreeMap<u32, Span>, first: u32, span: Span) -> bool
 
 /// The last number of the last range that begins at the number or before it.
 fn last_upto(ranges: &BTreeMap<u32, Span>, number: u32) -> Option<u32>
-    requires { is_chain ranges.now.entries ≡ true }
+    requires { stand_apart ranges.now.entries ≡ true }
     ensures { result ≡ option_map (λ range. range.1.last) (last_begun number ranges.now.entries) }
 {
     match ranges.range(..=number).next_back() {
@@ -96,16 +96,16 @@ fn range_in(modes: &[String], value: &Value) -> Result<(u32, Span), TableFault>
     range_of(modes, of_kind(value.as_table(), Key::Validators)?)
 }
 
-/// The range of an entry: its first number, its last one and its mode.
+/// The range of an element: its first number, its last one and its mode.
 #[tactic(auto, unfolding(crate::specs::Validators::range_of))]
-fn range_of(modes: &[String], entry: &Table) -> Result<(u32, Span), TableFault>
+fn range_of(modes: &[String], element: &Table) -> Result<(u32, Span), TableFault>
     requires { length modes.now ≤ 32 }
-    ensures range { result ≡ spec.range_of (map string_bytes modes.now) (table_view entry.now) }
+    ensures range { result ≡ spec.range_of (map string_bytes modes.now) (table_view element.now) }
     ensures order { IfOk result (λ range. range.0 ≤ range.1.last) }
     ensures known { IfOk result (λ range. range.1.mode < length modes.now) }
 {
-    let first = number_at(entry, "first", Key::First, 0, u32::MAX)?;
-    let last = number_at(entry, "last", Key::Last, first, u32::MAX)?;
-    let mode = mode_named(modes, text_at(entry, "mode", Key::ModeName)?)?;
+    let first = number_at(element, "first", Key::First, 0, u32::MAX)?;
+    let last = number_at(element, "last", Key::Last, first, u32::MAX)?;
+    let mode = mode_named(modes, text_at(element, "mode", Key::ModeName)?)?;
     Ok((first, Span { last, mode }))
 }

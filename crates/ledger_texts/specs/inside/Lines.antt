@@ -21,19 +21,19 @@ AreUpTo [] token = Unit {0}
 AreUpTo (entry ∷ entries) token = IsUpTo entry.token token × AreUpTo entries token
 
 -- the entries' tokens never fall, from this one on
-abbrev pub RiseFrom : Token → List Entry → Type 0
-RiseFrom token [] = Unit {0}
-RiseFrom token (entry ∷ entries) = IsUpTo token entry.token × RiseFrom entry.token entries
+abbrev pub NoFallFrom : Token → List Entry → Type 0
+NoFallFrom token [] = Unit {0}
+NoFallFrom token (entry ∷ entries) = IsUpTo token entry.token × NoFallFrom entry.token entries
 
 -- the entries' tokens never fall
-abbrev pub Rise : List Entry → Type 0
-Rise [] = Unit {0}
-Rise (entry ∷ entries) = RiseFrom entry.token entries
+abbrev pub NoFall : List Entry → Type 0
+NoFall [] = Unit {0}
+NoFall (entry ∷ entries) = NoFallFrom entry.token entries
 
 -- the list has these entries in order of token, and those of each token as they stood
 pub record IsByToken (entries list : List Entry) : Type 0 where
   pub moved : IsPermutation entries list
-  pub rise : Rise list
+  pub no_fall : NoFall list
   pub kept : (token : Token) → own token list ≡ own token entries
 
 -- the line of an entry that stands after these: the one that it has among the entries of its token

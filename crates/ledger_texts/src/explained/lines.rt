@@ -1,13 +1,13 @@
 //! The lines of a token's entries, each with its reason.
 
 ghost use Rattle.std.specs.Prelude.{◌≡◌, ◌++◌, List, [], ℕ, OnOk, string_bytes};
-ghost use Rattle.reason_texts.specs.Why.{HasModeOf};
+ghost use Rattle.reason_texts.specs.ReasonWords.{HasModeOf};
 ghost use Rattle.ledger_texts.specs.Explained.{AreExplainedAfter, IsExplainedLine};
 
 use account_rule::Reason;
 use fare_table::{Clock, FareTable, NoMemory};
 use fare_texts::{write_entry_words, write_local, write_moment};
-use reason_texts::{Teller, write_why};
+use reason_texts::{Teller, write_reason_words};
 use shard_book::{Entry, Token};
 use std::alloc::AllocError;
 
@@ -26,7 +26,7 @@ fn write_line(
 {
     write_moment(text, entry.moment)?;
     write_entry_words(text, table, entry)?;
-    write_why(text, table, reason)?;
+    write_reason_words(text, table, reason)?;
     write_local(text, clock, ", local ", entry.moment)?;
     text.push_str("\n")?;
     Ok(())

@@ -5,7 +5,7 @@ use Rattle.reason_texts.specs.Ledger.{head_text}
 use Rattle.part_reports.specs.Ledgers.{IsPartLedger}
 use Rattle.part_reports.specs.TokenLines.{TokenLine}
 use Rattle.part_reports.specs.inside.Sources.{IsSource, Standing}
-use Rattle.part_reports.specs.declared.merging.Lines.TheVariants.{Entries}
+use Rattle.part_reports.specs.declared.merging.LineKind.TheVariants.{Entries}
 
 -- the source stands behind the text's head line
 pub record IsBegun (file : List ℕ) (at : Standing) : Type 0 where

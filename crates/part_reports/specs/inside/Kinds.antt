@@ -7,8 +7,8 @@ use Rattle.shard_book.specs.Sums.{Sums}
 use Rattle.part_reports.specs.Lines.{IsTokenSum, token_line}
 use Rattle.part_reports.specs.Ledgers.{IsLedgerEntryLine}
 use Rattle.part_reports.specs.TokenLines.{TokenLine, DoNotFall, text_of}
-use Rattle.part_reports.specs.declared.merging.Lines.{Lines}
-use Rattle.part_reports.specs.declared.merging.Lines.TheVariants.{Tokens, Entries}
+use Rattle.part_reports.specs.declared.merging.LineKind.{LineKind}
+use Rattle.part_reports.specs.declared.merging.LineKind.TheVariants.{Tokens, Entries}
 
 -- a report's line of a token
 pub record IsSumLine (line : TokenLine) : Type 0 where
@@ -18,16 +18,16 @@ pub record IsSumLine (line : TokenLine) : Type 0 where
 
 -- the lines are of this kind: so many of a report's tokens, which rise, or a ledger's, which do not
 -- fall
-abbrev pub AreLines : Lines → List TokenLine → Type 0
+abbrev pub AreLines : LineKind → List TokenLine → Type 0
 AreLines (Tokens left) lines =
     (length lines ≡ left) × All IsSumLine lines
     × IsStrictlySortedBy token_cmp (map (λ line. line.token) lines)
 AreLines Entries lines = All IsLedgerEntryLine lines × DoNotFall lines
 
 -- the text is lines of this kind, and nothing else
-abbrev pub IsTextOf : Lines × List ℕ → List TokenLine → Type 0
+abbrev pub IsTextOf : LineKind × List ℕ → List TokenLine → Type 0
 IsTextOf text lines = AreLines text.0 lines × (text.1 ≡ text_of lines)
 
 -- each text is lines of its kind
-abbrev pub AreTexts : List (Lines × List ℕ) → List (List TokenLine) → Type 0
+abbrev pub AreTexts : List (LineKind × List ℕ) → List (List TokenLine) → Type 0
 AreTexts texts lists = AllZip IsTextOf texts lists

@@ -1,8 +1,8 @@
 -- The reports of parts, each read up to the line of its first token.
 use Rattle.std.specs.Prelude.{◌≡◌, ℕ, List, [], ◌∷◌, ◌++◌, All, map}
 use Rattle.std.specs.List.{AllZip}
-use Rattle.part_reports.specs.declared.merging.Lines.{Lines}
-use Rattle.part_reports.specs.declared.merging.Lines.TheVariants.{Tokens}
+use Rattle.part_reports.specs.declared.merging.LineKind.{LineKind}
+use Rattle.part_reports.specs.declared.merging.LineKind.TheVariants.{Tokens}
 use Rattle.part_reports.specs.declared.sums.WholeSums.{WholeSums}
 use Rattle.part_reports.specs.TokenLines.{TokenLine}
 use Rattle.part_reports.specs.inside.Fronts.{MayBePart, ToldFront, told_text}
@@ -19,7 +19,7 @@ abbrev pub begun_text : Begun → List ℕ
 begun_text begun = told_text begun.0 ++ begun.1
 
 -- the text of its tokens
-abbrev pub left_text : Begun → Lines × List ℕ
+abbrev pub left_text : Begun → LineKind × List ℕ
 left_text begun = (Tokens begun.0.tokens, begun.1)
 
 -- the report was read up to its tokens, and what it tells was added

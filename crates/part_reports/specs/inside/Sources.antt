@@ -9,45 +9,45 @@ use Rattle.fare_table.specs.declared.token.Token.{Token}
 use Rattle.part_reports.specs.Ledgers.{IsLedgerEntryLine}
 use Rattle.part_reports.specs.TokenLines.{TokenLine}
 use Rattle.part_reports.specs.inside.Kinds.{IsSumLine, IsTextOf}
-use Rattle.part_reports.specs.declared.merging.Lines.{Lines}
-use Rattle.part_reports.specs.declared.merging.Lines.TheVariants.{Tokens, Entries}
-use Rattle.part_reports.specs.declared.merging.Source.{Source}
+use Rattle.part_reports.specs.declared.merging.LineKind.{LineKind}
+use Rattle.part_reports.specs.declared.merging.LineKind.TheVariants.{Tokens, Entries}
+use Rattle.part_reports.specs.declared.merging.LineSource.{LineSource}
 
 -- where a source stands: what is left of its text behind the line that was read last, that line, of
 -- which kind the lines behind it are, and its token; no token at the end
 pub record Standing : Type 0 where
   pub left : Option (List ℕ)
   pub line : List ℕ
-  pub behind : Lines
+  pub behind : LineKind
   pub head : Option Token
 
 -- the same of a source, at what its reader says is left
-abbrev pub standing : {R : Type 0} → (R → Option (List ℕ)) → Source R → Standing
+abbrev pub standing : {R : Type 0} → (R → Option (List ℕ)) → LineSource R → Standing
 standing remaining source = record {
-  left = remaining source.reading.from;
-  line = source.reading.line.items;
+  left = remaining source.reader.from;
+  line = source.reader.line.items;
   behind = source.lines;
   head = source.head;
 }
 
 -- it is a line of this kind: a report's of a token, or a ledger's
-abbrev pub IsLineOfKind : Lines → TokenLine → Type 0
+abbrev pub IsLineOfKind : LineKind → TokenLine → Type 0
 IsLineOfKind (Tokens left) line = IsSumLine line
 IsLineOfKind Entries line = IsLedgerEntryLine line
 
 -- a line of this token may stand behind one of the other: a report's tokens rise, and a ledger's do
 -- not fall
-abbrev pub MayFollow : Lines → Token → Token → Type 0
+abbrev pub MayFollow : LineKind → Token → Token → Type 0
 MayFollow (Tokens left) before token = token_cmp before token ≡ Less
 MayFollow Entries before token = is_lt (token_cmp token before) ≡ false
 
 -- no line is left to read, or it is not known how many are
-abbrev pub MayEnd : Lines → Type 0
+abbrev pub MayEnd : LineKind → Type 0
 MayEnd (Tokens left) = left ≡ 0
 MayEnd Entries = Unit {0}
 
 -- the second is the kind of the lines behind the first of the first kind
-abbrev pub IsBehindOne : Lines → Lines → Type 0
+abbrev pub IsBehindOne : LineKind → LineKind → Type 0
 IsBehindOne (Tokens left) (Tokens behind) = left ≡ behind + 1
 IsBehindOne (Tokens left) Entries = ⊥
 IsBehindOne Entries (Tokens behind) = ⊥
@@ -55,13 +55,13 @@ IsBehindOne Entries Entries = Unit {0}
 
 -- the line may stand first in a text of this kind, or be empty where the text is: of which kind the
 -- lines behind it are, and its token
-abbrev pub IsFirstLine : Lines → List ℕ → Lines → Option Token → Type 0
+abbrev pub IsFirstLine : LineKind → List ℕ → LineKind → Option Token → Type 0
 IsFirstLine kind line behind None = (line ≡ []) × MayEnd kind
 IsFirstLine kind line behind (Some token) =
     IsLineOfKind kind (record { token = token; text = line }) × IsBehindOne kind behind
 
 -- the text's first line is the one that was read, with this token, and the rest is left
-pub record IsAtLine (text : Lines × List ℕ) (at : Standing) (token : Token) : Type 0 where
+pub record IsAtLine (text : LineKind × List ℕ) (at : Standing) (token : Token) : Type 0 where
   pub rest : List ℕ
   pub left : at.left ≡ Some rest
   pub shown : text.1 ≡ at.line ++ rest
@@ -69,26 +69,26 @@ pub record IsAtLine (text : Lines × List ℕ) (at : Standing) (token : Token) :
   pub behind : IsBehindOne text.0 at.behind
 
 -- the text is empty, and may be
-pub record IsAtEnd (text : Lines × List ℕ) : Type 0 where
+pub record IsAtEnd (text : LineKind × List ℕ) : Type 0 where
   pub shown : text.1 ≡ []
   pub may : MayEnd text.0
 
 -- the source stands at the text's first line, or the text has none
-abbrev pub IsSourceAt : Lines × List ℕ → Standing → Option Token → Type 0
+abbrev pub IsSourceAt : LineKind × List ℕ → Standing → Option Token → Type 0
 IsSourceAt text at None = IsAtEnd text
 IsSourceAt text at (Some token) = IsAtLine text at token
 
 -- the source stands at the first line of the text, if the text has one
-abbrev pub IsSource : Lines × List ℕ → Standing → Type 0
+abbrev pub IsSource : LineKind × List ℕ → Standing → Type 0
 IsSource text at = IsSourceAt text at at.head
 
 -- the first of the lines, if there is one, may stand behind a line of this token
-abbrev pub MayFollowAll : Lines → Token → List TokenLine → Type 0
+abbrev pub MayFollowAll : LineKind → Token → List TokenLine → Type 0
 MayFollowAll kind before [] = Unit {0}
 MayFollowAll kind before (line ∷ lines) = MayFollow kind before line.token
 
 -- the same of the token at which a source stands
-abbrev pub MayFollowHead : Lines → Option Token → Option Token → Type 0
+abbrev pub MayFollowHead : LineKind → Option Token → Option Token → Type 0
 MayFollowHead kind (Some before) (Some token) = MayFollow kind before token
 MayFollowHead kind (Some before) None = Unit {0}
 MayFollowHead kind None token = Unit {0}

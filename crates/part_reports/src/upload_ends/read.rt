@@ -9,14 +9,14 @@ ghost use Rattle.part_reports.specs.inside.UploadEnds.{Have, AreEndsAdded, IsNex
 
 use crate::fault::MergeFault;
 use crate::form::{End, end_of};
-use crate::reading::Reading;
+use crate::line_reader::LineReader;
 use crate::upload_ends::UploadEnds;
 use std::alloc::Global;
 use std::io::BufRead;
 
 /// Reads the end of the upload of this number; none where the text is over.
 fn next_end<R: BufRead + Drop>(
-    lines: &mut Reading<R>,
+    lines: &mut LineReader<R>,
     upload: u64,
 ) -> Result<Option<End>, MergeFault>
     ensures next { IsNextEnd upload (R.remaining lines.old.from) (R.remaining lines.new.from)
@@ -35,7 +35,7 @@ fn next_end<R: BufRead + Drop>(
 /// Adds the ends of the next uploads, which the lines of the text tell.
 fn read_more<R: BufRead + Drop>(
     ends: &mut UploadEnds,
-    lines: &mut Reading<R>,
+    lines: &mut LineReader<R>,
 ) -> Result<(), MergeFault>
     ensures added { AreEndsAdded ends.old ends.new (R.remaining lines.old.from) result }
     ensures other { IfErr result (λ fault. ¬ (IsOfTaps fault)) }
@@ -66,7 +66,7 @@ pub(crate) fn read_ends<R: BufRead + Drop>(
     let mut ends = UploadEnds::new(alloc);
     let mut number: usize = 0;
     for from in texts {
-        let mut lines = Reading::new(alloc, from, number);
+        let mut lines = LineReader::new(alloc, from, number);
         read_more(&mut ends, &mut lines)?;
         number = number.saturating_add(1);
     }

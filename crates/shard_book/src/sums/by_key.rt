@@ -14,7 +14,7 @@ use crate::book::ShardBook;
 use crate::entry::Entry;
 use crate::sums::tally::Tally;
 use crate::sums::totals::Totals;
-use crate::token_hash::TokenKeys;
+use crate::token_hash::HashSeed;
 use fare_table::NoMemory;
 use std::alloc::Global;
 use std::collections::HashMap;
@@ -45,7 +45,7 @@ pub(crate) trait SumKey: Copy + Ord + Hash + Drop {
 
 /// Adds one entry to the tally of its key.
 fn add_entry<K: SumKey>(
-    tallies: &mut HashMap<K, Tally, TokenKeys>,
+    tallies: &mut HashMap<K, Tally, HashSeed>,
     entry: &Entry,
 ) -> Result<(), NoMemory>
     requires { HasRoom K.eq K.key_of tallies.old.entries 1 }
@@ -60,7 +60,7 @@ fn add_entry<K: SumKey>(
 
 /// Adds the entries of a book to the tallies of their keys.
 fn add_entries<K: SumKey>(
-    tallies: &mut HashMap<K, Tally, TokenKeys>,
+    tallies: &mut HashMap<K, Tally, HashSeed>,
     book: &ShardBook,
 ) -> Result<(), NoMemory>
     requires { HasRoom K.eq K.key_of tallies.old.entries (length book.now.entries) }
@@ -79,7 +79,7 @@ fn add_entries<K: SumKey>(
 /// The keys, rising.
 fn rising_keys<K: SumKey>(
     alloc: Global,
-    tallies: &HashMap<K, Tally, TokenKeys>,
+    tallies: &HashMap<K, Tally, HashSeed>,
 ) -> Result<Vec<K>, NoMemory>
     ensures { IfOk result (λ keys. (entries : List Entry)
         → AreByKey K.eq K.key_of entries tallies.now.entries
@@ -91,7 +91,7 @@ fn rising_keys<K: SumKey>(
 }
 
 /// The totals that are kept for the key, of nothing where there are none.
-fn kept_totals<K: SumKey>(tallies: &HashMap<K, Tally, TokenKeys>, key: K) -> Totals
+fn kept_totals<K: SumKey>(tallies: &HashMap<K, Tally, HashSeed>, key: K) -> Totals
     requires { HasRoom K.eq K.key_of tallies.now.entries 0 }
     ensures { sums_of result ≡ kept_sums (get K.eq tallies.now key) }
 {
@@ -104,7 +104,7 @@ fn kept_totals<K: SumKey>(tallies: &HashMap<K, Tally, TokenKeys>, key: K) -> Tot
 /// Each key with its totals, by rising keys.
 pub(crate) fn listed<K: SumKey>(
     alloc: Global,
-    tallies: &HashMap<K, Tally, TokenKeys>,
+    tallies: &HashMap<K, Tally, HashSeed>,
 ) -> Result<Vec<K::Sum>, NoMemory>
     requires { HasRoom K.eq K.key_of tallies.now.entries 0 }
     ensures { IfOk result (λ list. (entries : List Entry)
@@ -122,15 +122,15 @@ pub(crate) fn listed<K: SumKey>(
 /// The tallies of all entries of the books by their keys.
 pub(crate) fn tallies_of<K: SumKey>(
     alloc: Global,
-    keys: TokenKeys,
+    seed: HashSeed,
     books: &[ShardBook],
-) -> Result<HashMap<K, Tally, TokenKeys>, NoMemory>
+) -> Result<HashMap<K, Tally, HashSeed>, NoMemory>
     requires { length books.now ≤ 64 }
     ensures by_key { IfOk result
         (λ tallies. AreByKey K.eq K.key_of (all_entries books.now) tallies.entries) }
     ensures few { OnOk result (length (all_entries books.now) ≤ length books.now * 2 ^ 64) }
 {
-    let mut tallies = HashMap::with_hasher(alloc, keys);
+    let mut tallies = HashMap::with_hasher(alloc, seed);
     for book in books {
         // proof: book.len() < 2^64, so the tallies have room
         let _ = book.len();
@@ -151,6 +151,6 @@ pub(crate) fn sums_of_books<K: SumKey>(
     let Some(first) = books.first() else {
         return Ok(Vec::new(alloc));
     };
-    let tallies = tallies_of::<K>(alloc, first.keys(), books)?;
+    let tallies = tallies_of::<K>(alloc, first.seed(), books)?;
     listed(alloc, &tallies)
 }

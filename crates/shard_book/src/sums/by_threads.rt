@@ -13,7 +13,7 @@ ghost use Rattle.shard_book.specs.Tally.{sums_of_tally};
 use crate::book::ShardBook;
 use crate::sums::by_key::{SumKey, tallies_of};
 use crate::sums::tally::Tally;
-use crate::token_hash::TokenKeys;
+use crate::token_hash::HashSeed;
 use fare_table::NoMemory;
 use std::alloc::Global;
 use std::collections::HashMap;
@@ -27,7 +27,7 @@ const WORTH_THREADS: u64 = 65_536;
 
 /// Adds one tally to that of its key.
 fn add_tally<K: SumKey>(
-    tallies: &mut HashMap<K, Tally, TokenKeys>,
+    tallies: &mut HashMap<K, Tally, HashSeed>,
     key: K,
     tally: &Tally,
 ) -> Result<(), NoMemory>
@@ -46,8 +46,8 @@ fn add_tally<K: SumKey>(
 
 /// Adds the tallies of more entries.
 fn add_tallies<K: SumKey>(
-    tallies: &mut HashMap<K, Tally, TokenKeys>,
-    more: &HashMap<K, Tally, TokenKeys>,
+    tallies: &mut HashMap<K, Tally, HashSeed>,
+    more: &HashMap<K, Tally, HashSeed>,
 ) -> Result<(), NoMemory>
     requires { HaveRoom K.eq K.key_of tallies.old.entries more.now.entries }
     ensures { OnOk result ((before after : List Entry)
@@ -66,9 +66,9 @@ fn add_tallies<K: SumKey>(
 fn tallies_by_four<R: Threads + Sync>(
     rt: &R,
     alloc: Global,
-    keys: TokenKeys,
+    seed: HashSeed,
     books: &[ShardBook],
-) -> Result<HashMap<u32, Tally, TokenKeys>, NoMemory>
+) -> Result<HashMap<u32, Tally, HashSeed>, NoMemory>
     requires { length books.now ≤ 64 }
     ensures by_key { IfOk result
         (λ tallies. AreByKey ◌==◌ validator_of (all_entries books.now) tallies.entries) }
@@ -80,11 +80,11 @@ fn tallies_by_four<R: Threads + Sync>(
         alloc,
         books,
         size,
-        &|_start, chunk: &[ShardBook]| { tallies_of::<u32>(alloc, keys, chunk) },
+        &|_start, chunk: &[ShardBook]| { tallies_of::<u32>(alloc, seed, chunk) },
     )?;
     let mut parts = parts.into_iter();
     let Some(first) = parts.next() else {
-        return Ok(HashMap::with_hasher(alloc, keys));
+        return Ok(HashMap::with_hasher(alloc, seed));
     };
     let mut tallies = first?;
     for more in parts {
@@ -107,17 +107,17 @@ fn are_worth_threads(books: &[ShardBook]) -> bool {
 pub(crate) fn tallies_by_validator<R: Threads + Sync>(
     rt: &R,
     alloc: Global,
-    keys: TokenKeys,
+    seed: HashSeed,
     books: &[ShardBook],
-) -> Result<HashMap<u32, Tally, TokenKeys>, NoMemory>
+) -> Result<HashMap<u32, Tally, HashSeed>, NoMemory>
     requires { length books.now ≤ 64 }
     ensures by_key { IfOk result
         (λ tallies. AreByKey ◌==◌ validator_of (all_entries books.now) tallies.entries) }
     ensures few { OnOk result (length (all_entries books.now) ≤ length books.now * 2 ^ 64) }
 {
     if are_worth_threads(books) {
-        tallies_by_four(rt, alloc, keys, books)
+        tallies_by_four(rt, alloc, seed, books)
     } else {
-        tallies_of::<u32>(alloc, keys, books)
+        tallies_of::<u32>(alloc, seed, books)
     }
 }

@@ -13,7 +13,7 @@ times_drawn x hands = sum_by (λ h. times x h.drawn) hands
 
 -- a drawer that was joined into another holds nothing
 abbrev pub IsSpent : DrawerState → Type 0
-IsSpent h = (h.live ≡ false) × (h.drawn ≡ [])
+IsSpent h = (h.unjoined ≡ false) × (h.drawn ≡ [])
 
 -- between any two steps: each number below the count of drawn ones was drawn by one drawer and
 -- once, no other number was, no drawer has seen more than that count, and no claim is there twice
@@ -22,6 +22,6 @@ pub record IsDrawn (numbers : ℕ) (s : State (Unit {0}) DrawerState) : Type 0 w
   pub within : slice_index s.words 0 ≤ numbers
   pub once : (x : ℕ) → x < slice_index s.words 0 → times_drawn x s.views ≡ 1
   pub no_other : (x : ℕ) → slice_index s.words 0 ≤ x → times_drawn x s.views ≡ 0
-  pub each : (j : ℕ) (h : DrawerState) → get_elem? s.views j ≡ some h → h.live ≡ true
+  pub each : (j : ℕ) (h : DrawerState) → get_elem? s.views j ≡ some h → h.unjoined ≡ true
       → (h.numbers ≡ numbers) × (h.seen ≤ slice_index s.words 0)
   pub claims : AreClaims (λ h. h.claims) IsSpent s.views

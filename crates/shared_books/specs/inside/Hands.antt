@@ -6,9 +6,9 @@ use Rattle.shared_books.specs.declared.drawing.rule.DrawerState.{DrawerState}
 use Rattle.shared_books.specs.Claims.{claims_given, claims_left}
 use Rattle.shared_books.specs.Drawing.{NoneTwice, AllBelow}
 
--- what a drawer knows while it lives
+-- what a drawer knows until it is joined into another
 abbrev pub hand : ℕ → ℕ → ℕ → List ℕ → DrawerState
-hand c n d xs = record { live = true; claims = c; numbers = n; seen = d; drawn = xs }
+hand c n d xs = record { unjoined = true; claims = c; numbers = n; seen = d; drawn = xs }
 
 -- what it knows before it has drawn
 abbrev pub empty_hand : ℕ → ℕ → ℕ → DrawerState
@@ -24,7 +24,7 @@ new_hand h = empty_hand (claims_given h.claims) h.numbers h.seen
 
 -- what is left of a drawer that was joined into another
 abbrev pub spent_hand : DrawerState
-spent_hand = record { live = false; claims = 0; numbers = 0; seen = 0; drawn = [] }
+spent_hand = record { unjoined = false; claims = 0; numbers = 0; seen = 0; drawn = [] }
 
 -- what two drawers know together
 abbrev pub both_hands : DrawerState → DrawerState → DrawerState
@@ -53,7 +53,7 @@ pub record HasLooked (s : Step (Unit {0})) (before : Me (Unit {0}) DrawerState) 
 
 -- what a drawer keeps of its number of numbers, the count that it saw, and its seat
 pub record IsHeld (held seen : ℕ) (me : Me (Unit {0}) DrawerState) : Type 0 where
-  pub live : me.0.live ≡ true
+  pub unjoined : me.0.unjoined ≡ true
   pub carries : me.1 ≡ []
   pub seen_is : seen ≡ me.0.seen
   pub held_is : held ≡ length me.0.drawn

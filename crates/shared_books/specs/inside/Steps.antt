@@ -21,7 +21,7 @@ Seat = Me (Option Boxed) PassState
 abbrev pub nobody : PassState
 nobody =
     record {
-      live = false;
+      unjoined = false;
       opened = record {
         first = 0;
         book = record { marker = record {}; value = no_book };

@@ -11,7 +11,7 @@ use Rattle.shared_books.specs.inside.Steps.{Seat}
 
 -- a seat of a pass that does not have the turn
 pub record IsFree (me : Seat) : Type 0 where
-  pub live : me.0.live ≡ true
+  pub unjoined : me.0.unjoined ≡ true
   pub turn : me.0.turn ≡ false
   pub met : me.0.met ≡ []
   pub carries : me.1 ≡ []
@@ -45,7 +45,7 @@ pub record FindsFull (before after : Seat) : Type 0 where
 -- the book has gained a visit, and the history with it is legal
 pub record BringsVisit (me : Seat) (number : ℕ) (book : Book) : Type 0 where
   pub visit : List Entry
-  pub live : me.0.live ≡ true
+  pub unjoined : me.0.unjoined ≡ true
   pub turn : me.0.turn ≡ true
   pub carries : me.1 ≡ (0, None) ∷ []
   pub number_is : number ≡ me.0.opened.first + length me.0.marks

@@ -5,7 +5,7 @@ use std::collections::LinkedList;
 /// What a drawer knows. No value of it is made.
 pub struct DrawerState {
     /// Whether the drawer was not joined into another.
-    pub live: bool,
+    pub unjoined: bool,
     /// The claims that the drawer has.
     pub claims: u64,
     /// How many numbers there are.

@@ -27,7 +27,7 @@ pub struct Mark {
 /// What a pass knows. No value of it is made.
 pub struct PassState {
     /// Whether the pass was not joined into another.
-    pub live: bool,
+    pub unjoined: bool,
     /// What the book was opened with.
     pub opened: Opening,
     /// The claims that the pass has.

@@ -1,12 +1,12 @@
 use Rattle.std.proofs.Common.{◌≡◌, ◌∙◌, ℕ, List, Bor, true, false, not, Option, Some, None, ap, refl, sym}
 use Rattle.std.specs.Prelude.{is_ok, is_some, option_map}
 use Rattle.hex.specs.Hex.{decode_sized}
-use Rattle.fare_program.specs.Fault.{token_fault_of}
+use Rattle.fare_program.specs.Fault.{token_mistake_of}
 use Rattle.fare_program.proofs.program.asked_token.Goals as goal
 
 -- digits that are a token, and a table
 right : (token table : Option (Bor (List ℕ))) (digits : Bor (List ℕ)) → token ≡ Some digits → is_ok (decode_sized digits.now 16) ≡ true
-    → is_some table ≡ true → token_fault_of (option_map (λ t. t.now) token) (option_map (λ f. f.now) table) ≡ None
+    → is_some table ≡ true → token_mistake_of (option_map (λ t. t.now) token) (option_map (λ f. f.now) table) ≡ None
 right token None digits is decoded some = cc
 right token (Some f) digits is decoded some = rw (is, decoded) refl
 

@@ -3,13 +3,12 @@ use Rattle.fare_table.specs.Fares.{Fares}
 use Rattle.fare_service.specs.ServiceView.{ServiceView, shards_of}
 use Rattle.fare_service.specs.Headline.{HasRun}
 use Rattle.fare_service.specs.Outcomes.{OutcomeView}
-use Rattle.fare_program.specs.Program.{IsRun}
 use Rattle.std.specs.Prelude.{◌≡◌}
 use Rattle.fare_program.proofs.run.outcome_of.Goals as goal
 
 -- the service is the one that was opened
 run_of : (service : ServiceView) (fares : Fares) (shards workers : ℕ) (files : List (List ℕ)) (outcome : OutcomeView) → service.table ≡ fares → shards_of service ≡ shards → service.uploads ≡ files
-    → HasRun service.table (shards_of service) service.uploads workers outcome → IsRun fares shards workers files outcome
+    → HasRun service.table (shards_of service) service.uploads workers outcome → HasRun fares shards files workers outcome
 run_of service fares shards workers files outcome table number uploads run =
     let T : Fares → Type 0 = λ t. HasRun t (shards_of service) service.uploads workers outcome in
     let N : ℕ → Type 0 = λ n. HasRun fares n service.uploads workers outcome in

@@ -4,7 +4,7 @@ use Rattle.fare_table.specs.Fares.{Fares}
 use Rattle.shard_book.specs.declared.entry.Entry.{Entry}
 use Rattle.fare_table.specs.declared.token.Token.{Token}
 use Rattle.fare_service.specs.Outcomes.{OutcomeView}
-use Rattle.fare_service.specs.Plain.{IsReportOver, IsStatementOver, IsWholeGathering, WasNotCut}
+use Rattle.fare_service.specs.Plain.{IsReportOver, IsStatementOver, IsUncutGathering, WasNotCut}
 use Rattle.fare_service.specs.Printed.{IsStatementOf, report_of}
 use Rattle.fare_service.specs.declared.upload_end.UploadEnd.{UploadEnd}
 use Rattle.fare_service.specs.declared.upload_end.UploadEnd.TheVariants.{Posted, Refused, Cut, Undrawn}
@@ -48,7 +48,7 @@ pub returns : goal.returns
 returns c = λ fares shards workers explain token text run posted shows history is apart.
     let files = map (λ (f : Vec ℕ Global). f.items) c.args.files.now in
     let outcome = c.args.outcome.now in
-    let whole : IsWholeGathering fares shards files outcome history = record {
+    let whole : IsUncutGathering fares shards files outcome history = record {
       works = run.0;
       headline = run.2;
       whole = all_whole outcome.ends posted;

@@ -1,4 +1,4 @@
-use Rattle.fare_table.proofs.EntryLemmas.{mode-given, mode-none, one-entry}
+use Rattle.fare_table.proofs.ElementLemmas.{mode-given, mode-none, one-entry}
 use Rattle.fare_table.proofs.laws.modes_are_of_ranges.Goals as goal
 
 pub returns-clause-some : goal.returns-clause-some

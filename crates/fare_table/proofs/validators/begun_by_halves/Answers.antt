@@ -1,5 +1,5 @@
 use Rattle.std.proofs.Common.{◌-◌, ◌≤◌, arith, get_or, length}
-use Rattle.fare_table.proofs.ChainLemmas.{rising-reaches, split-half}
+use Rattle.fare_table.proofs.ApartLemmas.{rising-reaches, split-half}
 use Rattle.fare_table.proofs.validators.begun_by_halves.Goals as goal
 
 pub taken_if_begun-base-requires : goal.taken_if_begun-base-requires

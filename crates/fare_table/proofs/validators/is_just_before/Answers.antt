@@ -1,6 +1,6 @@
 use Rattle.std.proofs.Common.{◌≡◌, ◌-◌, suc, arith}
 use Rattle.std.proofs.lemmas.Bool.{leb-true}
-use Rattle.fare_table.proofs.ChainLemmas.{none_before, none_between}
+use Rattle.fare_table.proofs.ApartLemmas.{none_before, none_between}
 use Rattle.fare_table.proofs.validators.is_just_before.Goals as goal
 
 pub returns-then-place-eq0 : goal.returns-then-place-eq0

@@ -2,13 +2,13 @@ use Rattle.std.proofs.Common.{◌≡◌, ◌∙◌, ◌≤◌, ℕ, add-zero, le
 use Rattle.std.proofs.lemmas.List.{length-map}
 use Rattle.std.specs.List.{AllWithin}
 use Rattle.std.specs.Prelude.{nat_le}
-use Rattle.fare_table.proofs.ChainLemmas.{chain-rises, last_begun-split, within-firsts}
+use Rattle.fare_table.proofs.ApartLemmas.{stands-rises, last_begun-split, within-firsts}
 use Rattle.fare_table.specs.inside.Validators.{IsSplitAt}
 use Rattle.fare_table.specs.declared.validators.Span.{Span}
 use Rattle.fare_table.proofs.validators.last_begun.Goals as goal
 
 pub begun_by_halves-requires : goal.begun_by_halves-requires
-begun_by_halves-requires c = rw c.requires.same (chain-rises c.args.ranges.now c.requires.apart)
+begun_by_halves-requires c = rw c.requires.same (stands-rises c.args.ranges.now c.requires.apart)
 
 pub returns : goal.returns
 returns c =

@@ -1,5 +1,5 @@
 use Rattle.std.proofs.Common.{◌∙◌, ◌+◌, ◌≤◌, Some, ap, get_or, sym}
-use Rattle.fare_table.proofs.ChainLemmas.{only_one}
+use Rattle.fare_table.proofs.ApartLemmas.{only_one}
 use Rattle.fare_table.proofs.validators.range_near.Goals as goal
 
 pub returns-then-number-range : goal.returns-then-number-range

@@ -6,7 +6,7 @@ use Rattle.shard_book.specs.Entry.{own}
 use Rattle.shard_book.specs.declared.entry.Entry.{Entry}
 use Rattle.fare_table.specs.declared.token.Token.{Token}
 use Rattle.reason_texts.specs.Ledger.{IsTokenLine}
-use Rattle.ledger_texts.specs.inside.Lines.{AreLinesAlong, HasCome, IsLineAfter, IsUpTo, RiseFrom}
+use Rattle.ledger_texts.specs.inside.Lines.{AreLinesAlong, HasCome, IsLineAfter, IsUpTo, NoFallFrom}
 use Rattle.ledger_texts.specs.inside.Spots.{seen}
 use Rattle.ledger_texts.proofs.Writing.{along_push, come_first, come_next, grown, rise_here}
 use Rattle.ledger_texts.proofs.Writing.{rise_on, seen_taken}
@@ -15,7 +15,7 @@ use Rattle.ledger_texts.proofs.lines.write_pieces.Goals as goal
 pub loop-spot-init : goal.loop-spot-init
 loop-spot-init g c = record {
   come = come_first c.args.table.now _ (c.of-teller.ensures.told c.args.table.now);
-  rise = subst (λ (t : Token). RiseFrom t (seen c.args.books.now c.args.spots.now)) (sym c.of-teller.ensures.token) c.requires.rise;
+  no_fall = subst (λ (t : Token). NoFallFrom t (seen c.args.books.now c.args.spots.now)) (sym c.of-teller.ensures.token) c.requires.no_fall;
   few = omega (arith, c.of-teller.ensures.none);
   written = [];
   along = refl;
@@ -31,7 +31,7 @@ write_next-requires-clause-told g c =
     let gone_on = c.go_on_to.ensures.come c.args.table.now done c.loop-spot.invariant.come
     (subst (λ (e : Entry). IsUpTo c.loop-spot.teller.token e.token) (sym c.entry-entry.ensures)
     (rise_here c.args.books.now list i _ c.loop-spot.teller.token c.loop-spot-test.true
-    c.loop-spot.invariant.rise)) in
+    c.loop-spot.invariant.no_fall)) in
     (own c.go_on_to.new.teller.token done, gone_on.told)
 
 pub loop-spot-preserved : goal.loop-spot-preserved
@@ -46,7 +46,7 @@ loop-spot-preserved g c =
     let taken = seen_taken books list i _ c.loop-spot-test.true in
     let gone_on = c.go_on_to.ensures.come fares done inv.come
     (subst (λ (e : Entry). IsUpTo c.loop-spot.teller.token e.token) (sym is)
-    (rise_here books list i _ c.loop-spot.teller.token c.loop-spot-test.true inv.rise)) in
+    (rise_here books list i _ c.loop-spot.teller.token c.loop-spot-test.true inv.no_fall)) in
     let own_done = own c.go_on_to.new.teller.token done in
     let line = c.in-Ok.ensures.line own_done gone_on.told in
     let after = subst (λ (t : Token). IsTokenLine fares t (own t done) c.entry-entry.result line.0)
@@ -57,9 +57,9 @@ loop-spot-preserved g c =
     record {
       come = subst (λ (es : List Entry). HasCome fares c.write_next.new.self es) (sym taken)
           (subst (λ (e : Entry). HasCome fares c.write_next.new.self (done ++ e ∷ [])) is next);
-      rise = subst (λ (t : Token). RiseFrom t (drop (i + 1) (seen books list)))
+      no_fall = subst (λ (t : Token). NoFallFrom t (drop (i + 1) (seen books list)))
           (sym (c.in-Ok.ensures.token ∙ c.go_on_to.ensures.token ∙ ap (λ (e : Entry). e.token) is))
-          (rise_on books list i _ c.loop-spot.teller.token c.loop-spot-test.true inv.rise);
+          (rise_on books list i _ c.loop-spot.teller.token c.loop-spot-test.true inv.no_fall);
       few = omega (arith, c.in-Ok.ensures.number, c.go_on_to.ensures.few, inv.few);
       written = inv.written ++ line.0;
       along = subst (λ (es : List Entry). AreLinesAlong fares [] es (inv.written ++ line.0)) (sym taken)

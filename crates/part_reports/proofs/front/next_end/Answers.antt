@@ -10,7 +10,7 @@ returns-clause-read g c =
     let small : c.args.upload < 2 ^ 64 = omega arith in
     read_line end_of_upload IsUploadEnd (end_line c.args.upload)
     (λ end is. end_line_is_one c.args.upload end small is)
-    (g.R.Read.remaining c.args.reading.now.from) (g.R.Read.remaining c.next.new.self.from)
+    (g.R.Read.remaining c.args.reader.now.from) (g.R.Read.remaining c.next.new.self.from)
     c.next.new.self.line.items c.line.result.now c.end_of.result c.told.result
     c.in_ok-next.ensures.line c.line.ensures c.end_of.ensures c.told.ensures.value
     c.told.ensures.none

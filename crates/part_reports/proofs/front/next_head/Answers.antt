@@ -9,7 +9,7 @@ returns-clause-read g c =
     let word = c.args.word.now in
     read_line (λ (told : ℕ). told) (λ (number : ℕ). number < 2 ^ 64) (head_line word)
     (λ number small. head_is_one word number c.requires.one_line small)
-    (g.R.Read.remaining c.args.reading.now.from) (g.R.Read.remaining c.next.new.self.from)
+    (g.R.Read.remaining c.args.reader.now.from) (g.R.Read.remaining c.next.new.self.from)
     c.next.new.self.line.items c.line.result.now c.head_of.result c.told.result
     c.in_ok-next.ensures.line c.line.ensures c.head_of.ensures c.told.ensures.value
     c.told.ensures.none

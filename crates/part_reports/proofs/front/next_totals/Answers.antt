@@ -8,7 +8,7 @@ use Rattle.part_reports.proofs.front.next_totals.Goals as goal
 pub returns-clause-read : goal.returns-clause-read
 returns-clause-read g c =
     read_line sums_of AreCounts totals_line totals_line_is_one
-    (g.R.Read.remaining c.args.reading.now.from) (g.R.Read.remaining c.next.new.self.from)
+    (g.R.Read.remaining c.args.reader.now.from) (g.R.Read.remaining c.next.new.self.from)
     c.next.new.self.line.items c.line.result.now c.totals_of.result c.told.result
     c.in_ok-next.ensures.line c.line.ensures c.totals_of.ensures c.told.ensures.value
     c.told.ensures.none

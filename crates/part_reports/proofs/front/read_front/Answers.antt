@@ -17,17 +17,17 @@ AreThese sums told = AreSums sums.items told
 
 pub returns-in_err-read_uploads-clause-read : goal.returns-in_err-read_uploads-clause-read
 returns-in_err-read_uploads-clause-read g c =
-    let old = g.R.Read.remaining c.args.reading.now.from in
-    let now = g.R.Read.remaining c.read_uploads.new.reading.from in
+    let old = g.R.Read.remaining c.args.reader.now.from in
+    let now = g.R.Read.remaining c.read_uploads.new.reader.from in
     let p = err_from_is_err_and c.from_residual.result c.from_residual.ensures.1 in
     rw (p.1, p.2) (no_ends IsFront old now now c.in_err-read_uploads.field-0.0
     c.in_err-read_uploads.ensures.read)
 
 pub returns-in_err-totals-clause-read : goal.returns-in_err-totals-clause-read
 returns-in_err-totals-clause-read g c =
-    let old = g.R.Read.remaining c.args.reading.now.from in
-    let now = g.R.Read.remaining c.read_uploads.new.reading.from in
-    let second = g.R.Read.remaining c.next_totals.new.reading.from in
+    let old = g.R.Read.remaining c.args.reader.now.from in
+    let now = g.R.Read.remaining c.read_uploads.new.reader.from in
+    let second = g.R.Read.remaining c.next_totals.new.reader.from in
     let p = err_from_is_err_and c.from_residual-in_err-totals.result
     c.from_residual-in_err-totals.ensures.1 in
     rw (p.1, p.2) (no_totals IsFront AreTotals old now second second c.in_err-totals.field-0.0
@@ -35,10 +35,10 @@ returns-in_err-totals-clause-read g c =
 
 pub returns-in_err-validators-clause-read : goal.returns-in_err-validators-clause-read
 returns-in_err-validators-clause-read g c =
-    let old = g.R.Read.remaining c.args.reading.now.from in
-    let now = g.R.Read.remaining c.read_uploads.new.reading.from in
-    let second = g.R.Read.remaining c.next_totals.new.reading.from in
-    let third = g.R.Read.remaining c.read_validators.new.reading.from in
+    let old = g.R.Read.remaining c.args.reader.now.from in
+    let now = g.R.Read.remaining c.read_uploads.new.reader.from in
+    let second = g.R.Read.remaining c.next_totals.new.reader.from in
+    let third = g.R.Read.remaining c.read_validators.new.reader.from in
     let p = err_from_is_err_and c.from_residual-in_err-validators.result
     c.from_residual-in_err-validators.ensures.1 in
     rw (p.1, p.2) (no_validators IsFront AreTotals AreThese c.in_ok-totals.totals old now second
@@ -47,11 +47,11 @@ returns-in_err-validators-clause-read g c =
 
 pub returns-in_err-tokens-clause-read : goal.returns-in_err-tokens-clause-read
 returns-in_err-tokens-clause-read g c =
-    let old = g.R.Read.remaining c.args.reading.now.from in
-    let now = g.R.Read.remaining c.read_uploads.new.reading.from in
-    let second = g.R.Read.remaining c.next_totals.new.reading.from in
-    let third = g.R.Read.remaining c.read_validators.new.reading.from in
-    let last = g.R.Read.remaining c.next_head.new.reading.from in
+    let old = g.R.Read.remaining c.args.reader.now.from in
+    let now = g.R.Read.remaining c.read_uploads.new.reader.from in
+    let second = g.R.Read.remaining c.next_totals.new.reader.from in
+    let third = g.R.Read.remaining c.read_validators.new.reader.from in
+    let last = g.R.Read.remaining c.next_head.new.reader.from in
     let p = err_from_is_err_and c.from_residual-in_err-tokens.result
     c.from_residual-in_err-tokens.ensures.1 in
     rw (p.1, p.2) (no_tokens IsFront AreTotals AreThese c.in_ok-totals.totals
@@ -61,11 +61,11 @@ returns-in_err-tokens-clause-read g c =
 
 pub returns-clause-read : goal.returns-clause-read
 returns-clause-read g c =
-    let old = g.R.Read.remaining c.args.reading.now.from in
-    let now = g.R.Read.remaining c.read_uploads.new.reading.from in
-    let second = g.R.Read.remaining c.next_totals.new.reading.from in
-    let third = g.R.Read.remaining c.read_validators.new.reading.from in
-    let last = g.R.Read.remaining c.next_head.new.reading.from in
+    let old = g.R.Read.remaining c.args.reader.now.from in
+    let now = g.R.Read.remaining c.read_uploads.new.reader.from in
+    let second = g.R.Read.remaining c.next_totals.new.reader.from in
+    let third = g.R.Read.remaining c.read_validators.new.reader.from in
+    let last = g.R.Read.remaining c.next_head.new.reader.from in
     whole_front IsFront AreTotals AreThese c.in_ok-totals.totals c.in_ok-validators.validators
     c.in_ok-tokens.tokens
     (record {

@@ -5,9 +5,9 @@ use Rattle.part_reports.proofs.front.read_posted.Goals as goal
 
 pub returns-in_err-end-clause-read : goal.returns-in_err-end-clause-read
 returns-in_err-end-clause-read g c =
-    let old = g.R.Read.remaining c.args.reading.now.from in
-    let now = g.R.Read.remaining c.loop-upload.reading.from in
-    let new = g.R.Read.remaining c.next_end.new.reading.from in
+    let old = g.R.Read.remaining c.args.reader.now.from in
+    let now = g.R.Read.remaining c.loop-upload.reader.from in
+    let new = g.R.Read.remaining c.next_end.new.reader.from in
     let p = err_from_is_err_and c.from_residual.result c.from_residual.ensures.1 in
     rw (p.1, p.2) (posted_no_end c.args.uploads c.loop-upload.upload old now new
     c.in_err-end.field-0.0 c.loop-upload-test.true c.loop-upload.invariant
@@ -15,17 +15,17 @@ returns-in_err-end-clause-read g c =
 
 pub returns-then-is_some-clause-read : goal.returns-then-is_some-clause-read
 returns-then-is_some-clause-read g c =
-    let old = g.R.Read.remaining c.args.reading.now.from in
-    let now = g.R.Read.remaining c.loop-upload.reading.from in
-    let new = g.R.Read.remaining c.next_end.new.reading.from in
+    let old = g.R.Read.remaining c.args.reader.now.from in
+    let now = g.R.Read.remaining c.loop-upload.reader.from in
+    let new = g.R.Read.remaining c.next_end.new.reader.from in
     posted_not c.args.uploads c.loop-upload.upload old now new c.in_ok-end.end c.fault.result
     c.loop-upload-test.true c.loop-upload.invariant c.in_ok-end.ensures.read
     (sym c.is_some.ensures ∙ c.if-is_some.true)
 
 pub loop-upload-preserved : goal.loop-upload-preserved
 loop-upload-preserved g c =
-    let old = g.R.Read.remaining c.args.reading.now.from in
-    let now = g.R.Read.remaining c.loop-upload.reading.from in
-    let new = g.R.Read.remaining c.next_end.new.reading.from in
+    let old = g.R.Read.remaining c.args.reader.now.from in
+    let now = g.R.Read.remaining c.loop-upload.reader.from in
+    let new = g.R.Read.remaining c.next_end.new.reader.from in
     posted_more c.loop-upload.upload old now new c.in_ok-end.end c.loop-upload.invariant
     c.in_ok-end.ensures.read (sym c.is_some.ensures ∙ c.if-is_some.false)

@@ -14,23 +14,23 @@ abbrev Is : Vec ValidatorSum Global → List (ℕ × Sums) → Type 0
 Is sums told = AreSums sums.items told
 
 pub loop-init : goal.loop-init
-loop-init g c = rising_first c.new-sums.result.items (g.R.Read.remaining c.args.reading.now.from)
+loop-init g c = rising_first c.new-sums.result.items (g.R.Read.remaining c.args.reader.now.from)
     c.new-sums.ensures.items
 
 pub returns-in_err-sum-clause-read : goal.returns-in_err-sum-clause-read
 returns-in_err-sum-clause-read g c =
-    let old = g.R.Read.remaining c.args.reading.now.from in
-    let now = g.R.Read.remaining c.loop.reading.from in
-    let new = g.R.Read.remaining c.next_validator.new.reading.from in
+    let old = g.R.Read.remaining c.args.reader.now.from in
+    let now = g.R.Read.remaining c.loop.reader.from in
+    let new = g.R.Read.remaining c.next_validator.new.reader.from in
     let p = err_from_is_err_and c.from_residual.result c.from_residual.ensures.1 in
     rw (p.1, p.2) (rising_no_line Is c.args.number c.loop.counter c.loop.sums.items old now new
     c.in_err-sum.field-0.0 c.loop-test.true c.loop.invariant c.in_err-sum.ensures.read)
 
 pub returns-then-not-may_follow-clause-read : goal.returns-then-not-may_follow-clause-read
 returns-then-not-may_follow-clause-read g c =
-    let old = g.R.Read.remaining c.args.reading.now.from in
-    let now = g.R.Read.remaining c.loop.reading.from in
-    let new = g.R.Read.remaining c.next_validator.new.reading.from in
+    let old = g.R.Read.remaining c.args.reader.now.from in
+    let now = g.R.Read.remaining c.loop.reader.from in
+    let new = g.R.Read.remaining c.next_validator.new.reader.from in
     let at = c.deref.ensures.value in
     let no = c.if-not-may_follow.true in
     rising_not Is c.args.number c.loop.counter c.loop.sums.items c.in_ok-sum.sum old now new
@@ -42,9 +42,9 @@ returns-then-not-may_follow-clause-read g c =
 
 pub loop-preserved : goal.loop-preserved
 loop-preserved g c =
-    let old = g.R.Read.remaining c.args.reading.now.from in
-    let now = g.R.Read.remaining c.loop.reading.from in
-    let new = g.R.Read.remaining c.next_validator.new.reading.from in
+    let old = g.R.Read.remaining c.args.reader.now.from in
+    let now = g.R.Read.remaining c.loop.reader.from in
+    let new = g.R.Read.remaining c.next_validator.new.reader.from in
     rising_more c.loop.counter c.loop.sums.items c.push.new.self.items c.in_ok-sum.sum old now new
     c.in_ok-push.ensures.items c.loop.invariant c.in_ok-sum.ensures.read
     (subst (λ sums. MayFollowValidators (map validator_sum sums) c.in_ok-sum.sum.validator)
@@ -52,7 +52,7 @@ loop-preserved g c =
 
 pub returns-clause-read : goal.returns-clause-read
 returns-clause-read g c =
-    let old = g.R.Read.remaining c.args.reading.now.from in
-    let now = g.R.Read.remaining c.loop.reading.from in
+    let old = g.R.Read.remaining c.args.reader.now.from in
+    let now = g.R.Read.remaining c.loop.reader.from in
     rising_done Is c.args.number c.loop.counter c.loop.sums.items old now c.loop.sums (omega arith)
     refl c.loop.invariant

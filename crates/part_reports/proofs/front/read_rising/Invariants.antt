@@ -2,5 +2,5 @@ use Rattle.part_reports.proofs.RisingRead.{RisingSome}
 use Rattle.part_reports.proofs.front.read_rising.Given as goal
 
 abbrev pub invariant-loop : goal.invariant-loop
-invariant-loop g l = RisingSome l.counter l.sums.items (g.R.Read.remaining l.fn.reading.from)
-    (g.R.Read.remaining l.reading.from)
+invariant-loop g l = RisingSome l.counter l.sums.items (g.R.Read.remaining l.fn.reader.from)
+    (g.R.Read.remaining l.reader.from)

@@ -15,8 +15,8 @@ counting = record {
 
 pub returns-in_err-uploads-clause-read : goal.returns-in_err-uploads-clause-read
 returns-in_err-uploads-clause-read g c =
-    let old = g.R.Read.remaining c.args.reading.now.from in
-    let now = g.R.Read.remaining c.next_head.new.reading.from in
+    let old = g.R.Read.remaining c.args.reader.now.from in
+    let now = g.R.Read.remaining c.next_head.new.reader.from in
     let p = err_from_is_err_and c.from_residual.result c.from_residual.ensures.1 in
     rw (p.1, p.2) (counted_no_head {T = Unit {0}} (λ _ _. Unit {0}) AreSoManyPosted AreEnds
     (λ (ends : List End). length ends) (codes "uploads ") (end_lines 0) counting old now now
@@ -24,9 +24,9 @@ returns-in_err-uploads-clause-read g c =
 
 pub returns-clause-read : goal.returns-clause-read
 returns-clause-read g c =
-    let old = g.R.Read.remaining c.args.reading.now.from in
-    let now = g.R.Read.remaining c.next_head.new.reading.from in
-    let after = g.R.Read.remaining c.read_posted.new.reading.from in
+    let old = g.R.Read.remaining c.args.reader.now.from in
+    let now = g.R.Read.remaining c.next_head.new.reader.from in
+    let after = g.R.Read.remaining c.read_posted.new.reader.from in
     counted {T = Unit {0}} (λ _ _. Unit {0}) AreSoManyPosted AreEnds (λ (ends : List End). length ends)
     (codes "uploads ") (end_lines 0) counting old now after c.in_ok-uploads.uploads
     c.read_posted.result c.in_ok-uploads.ensures.read c.read_posted.ensures.read

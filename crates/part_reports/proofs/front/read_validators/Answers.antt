@@ -17,8 +17,8 @@ counting = record {
 
 pub returns-in_err-number-clause-read : goal.returns-in_err-number-clause-read
 returns-in_err-number-clause-read g c =
-    let old = g.R.Read.remaining c.args.reading.now.from in
-    let now = g.R.Read.remaining c.next_head.new.reading.from in
+    let old = g.R.Read.remaining c.args.reader.now.from in
+    let now = g.R.Read.remaining c.next_head.new.reader.from in
     let p = err_from_is_err_and c.from_residual.result c.from_residual.ensures.1 in
     rw (p.1, p.2) (counted_no_head (λ sums told. AreSums sums.items told) AreRising AreValidators
     (λ (sums : List (ℕ × Sums)). length sums) (codes "validators ") (flat_map validator_line)
@@ -26,9 +26,9 @@ returns-in_err-number-clause-read g c =
 
 pub returns-clause-read : goal.returns-clause-read
 returns-clause-read g c =
-    let old = g.R.Read.remaining c.args.reading.now.from in
-    let now = g.R.Read.remaining c.next_head.new.reading.from in
-    let after = g.R.Read.remaining c.read_rising.new.reading.from in
+    let old = g.R.Read.remaining c.args.reader.now.from in
+    let now = g.R.Read.remaining c.next_head.new.reader.from in
+    let after = g.R.Read.remaining c.read_rising.new.reader.from in
     counted (λ sums told. AreSums sums.items told) AreRising AreValidators
     (λ (sums : List (ℕ × Sums)). length sums) (codes "validators ") (flat_map validator_line)
     counting old now after c.in_ok-number.number c.read_rising.result

@@ -16,8 +16,8 @@ returns-then-eq-clause-begun g c =
     sym c.line.ensures ∙ line ∙ c.as_bytes.ensures.value ∙ c.head_line.ensures in
     IfOk-weaker c.begin.result _ _ (λ source begun.
     subst (λ known. IfSome known (λ file. IsBegun file (standing remaining source)))
-    (ap remaining c.new-reading.ensures.from)
-    (weaker (remaining c.new-reading.result.from) _ _ (λ file read.
+    (ap remaining c.new-reader.ensures.from)
+    (weaker (remaining c.new-reader.result.from) _ _ (λ file read.
     behind_head file c.next.new.self.line.items (remaining c.next.new.self.from)
     (standing remaining source) read.0 read.1 head begun) c.in_ok-next.ensures.line))
     c.begin.ensures.begun
@@ -26,8 +26,8 @@ pub returns-then-eq-clause-refused : goal.returns-then-eq-clause-refused
 returns-then-eq-clause-refused g c =
     let remaining = g.R.Read.remaining in
     IfErr-weaker c.begin.result _ _ (λ fault refused of_texts.
-    subst (λ known. IfSome known IsNoLedger) (ap remaining c.new-reading.ensures.from)
-    (weaker (remaining c.new-reading.result.from) _ _ (λ file read.
+    subst (λ known. IfSome known IsNoLedger) (ap remaining c.new-reader.ensures.from)
+    (weaker (remaining c.new-reader.result.from) _ _ (λ file read.
     no_lines file (remaining c.next.new.self.from) read.1 (refused of_texts))
     c.in_ok-next.ensures.line)) c.begin.ensures.refused
 
@@ -35,8 +35,8 @@ pub returns-else-eq-clause-refused : goal.returns-else-eq-clause-refused
 returns-else-eq-clause-refused g c =
     let remaining = g.R.Read.remaining in
     let other : ¬ (c.line.result.now ≡ c.as_bytes.result.now) = search rules in
-    λ of_texts. subst (λ known. IfSome known IsNoLedger) (ap remaining c.new-reading.ensures.from)
-    (weaker (remaining c.new-reading.result.from) _ _ (λ file read.
+    λ of_texts. subst (λ known. IfSome known IsNoLedger) (ap remaining c.new-reader.ensures.from)
+    (weaker (remaining c.new-reader.result.from) _ _ (λ file read.
     no_head file c.next.new.self.line.items read.0 (λ e.
     other (c.line.ensures ∙ e ∙ sym c.head_line.ensures ∙ sym c.as_bytes.ensures.value)))
     c.in_ok-next.ensures.line)

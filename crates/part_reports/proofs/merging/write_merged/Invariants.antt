@@ -1,13 +1,13 @@
 use Rattle.std.proofs.Common.{◌≡◌, ℕ, List, map}
 use Rattle.std.specs.List.{AllZip}
 use Rattle.part_reports.specs.inside.Sources.{IsSource, standing}
-use Rattle.part_reports.specs.declared.merging.Lines.{Lines}
+use Rattle.part_reports.specs.declared.merging.LineKind.{LineKind}
 use Rattle.part_reports.proofs.Merges.{IsMerging}
 use Rattle.part_reports.proofs.merging.write_merged.Given as goal
 
 abbrev pub invariant-loop : goal.invariant-loop
 invariant-loop g l = record {
-  merging : (texts : List (Lines × List ℕ))
+  merging : (texts : List (LineKind × List ℕ))
       → AllZip IsSource texts (map (standing g.R.Read.remaining) l.fn.sources)
       → IsMerging texts (map (standing g.R.Read.remaining) l.sources)
       (g.W.Write.contents l.fn.out) (g.W.Write.contents l.out);

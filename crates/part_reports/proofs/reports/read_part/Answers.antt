@@ -1,7 +1,7 @@
 use Rattle.std.proofs.Common.{Err, Ok, subst}
 use Rattle.std.proofs.lemmas.Result.{IfErr-weaker, IfOk-weaker, err_from_is_err_and}
 use Rattle.part_reports.specs.inside.Fronts.{IsFront, MayBePart, told_text}
-use Rattle.part_reports.specs.inside.Reading.{IsRead}
+use Rattle.part_reports.specs.inside.LinesRead.{IsRead}
 use Rattle.part_reports.specs.inside.Sources.{standing}
 use Rattle.part_reports.specs.inside.Sums.{WithFront}
 use Rattle.part_reports.proofs.PartsBegun.{is_part, no_front, no_lines, no_sums}
@@ -9,41 +9,41 @@ use Rattle.part_reports.proofs.reports.read_part.Goals as goal
 
 pub returns-in_err-front-clause-refused : goal.returns-in_err-front-clause-refused
 returns-in_err-front-clause-refused g c =
-    let now = g.R.Read.remaining c.read_front.new.reading.from in
+    let now = g.R.Read.remaining c.read_front.new.reader.from in
     let p = err_from_is_err_and c.from_residual.result c.from_residual.ensures.1 in
     rw (p.1, p.2) (λ of_texts. no_front c.args.sums.now (g.R.Read.remaining c.args.from) now
     c.in_err-front.field-0.0
     (subst (λ from. IsRead IsFront MayBePart told_text (g.R.Read.remaining from) now
-    (Err c.in_err-front.field-0.0)) c.new-reading.ensures.from c.in_err-front.ensures.read)
+    (Err c.in_err-front.field-0.0)) c.new-reader.ensures.from c.in_err-front.ensures.read)
     of_texts)
 
 pub returns-then-not-branch-clause-refused : goal.returns-then-not-branch-clause-refused
 returns-then-not-branch-clause-refused g c = λ of_texts.
-    let now = g.R.Read.remaining c.read_front.new.reading.from in
+    let now = g.R.Read.remaining c.read_front.new.reader.from in
     let front = c.in_ok-front.front in
     no_sums c.args.sums.now c.add_front.new.sums (g.R.Read.remaining c.args.from) now front
     (subst (λ from. IsRead IsFront MayBePart told_text (g.R.Read.remaining from) now (Ok front))
-    c.new-reading.ensures.from c.in_ok-front.ensures.read)
+    c.new-reader.ensures.from c.in_ok-front.ensures.read)
     (subst (λ well. WithFront c.args.sums.now c.add_front.new.sums front well) c.if-not-branch.true
     c.in_ok-add_front.ensures)
 
 pub returns-clause-read : goal.returns-clause-read
 returns-clause-read g c =
-    let now = g.R.Read.remaining c.read_front.new.reading.from in
+    let now = g.R.Read.remaining c.read_front.new.reader.from in
     let front = c.in_ok-front.front in
     IfOk-weaker c.begin.result _ _ (λ source stands. is_part c.args.sums.now c.add_front.new.sums
     (g.R.Read.remaining c.args.from) now front (standing g.R.Read.remaining source)
     (subst (λ from. IsRead IsFront MayBePart told_text (g.R.Read.remaining from) now (Ok front))
-    c.new-reading.ensures.from c.in_ok-front.ensures.read)
+    c.new-reader.ensures.from c.in_ok-front.ensures.read)
     (subst (λ well. WithFront c.args.sums.now c.add_front.new.sums front well) c.if-not-branch.false
     c.in_ok-add_front.ensures) stands) c.begin.ensures.begun
 
 pub returns-clause-refused : goal.returns-clause-refused
 returns-clause-refused g c =
-    let now = g.R.Read.remaining c.read_front.new.reading.from in
+    let now = g.R.Read.remaining c.read_front.new.reader.from in
     let front = c.in_ok-front.front in
     IfErr-weaker c.begin.result _ _ (λ fault none_there of_texts. no_lines c.args.sums.now
     (g.R.Read.remaining c.args.from) now front fault
     (subst (λ from. IsRead IsFront MayBePart told_text (g.R.Read.remaining from) now (Ok front))
-    c.new-reading.ensures.from c.in_ok-front.ensures.read)
+    c.new-reader.ensures.from c.in_ok-front.ensures.read)
     (none_there of_texts)) c.begin.ensures.refused

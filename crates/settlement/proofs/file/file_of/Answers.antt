@@ -11,7 +11,7 @@ pub part_file-requires : goal.part_file-requires
 part_file-requires c =
     let list = c.arrange_into.new.list.items in
     let is = subst (λ ts. IsCanonical ts list)
-    (c.deref.ensures.value ∙ (c.in_ok-gather.ensures ∙ c.as_slice.ensures))
+    (c.deref.ensures.value ∙ (c.in_ok-append_pieces.ensures ∙ c.as_slice.ensures))
     c.in_ok-arrange_into.ensures in
     subst (λ ts. AreEarly (λ (tap : TapFields). tap.moment) ts) (sym c.deref-2.ensures.value)
     (All-permutation (λ (tap : TapFields). tap.moment < moment_limit) c.args.pieces list is.moved
@@ -23,7 +23,7 @@ returns c =
     record {
       list = list;
       canonical = subst (λ ts. IsCanonical ts list)
-          (c.deref.ensures.value ∙ (c.in_ok-gather.ensures ∙ c.as_slice.ensures))
+          (c.deref.ensures.value ∙ (c.in_ok-append_pieces.ensures ∙ c.as_slice.ensures))
           c.in_ok-arrange_into.ensures;
       reads = subst (λ ts. IsFileOf c.in_ok-file.file.items ts) c.deref-2.ensures.value
           c.in_ok-file.ensures;

@@ -14,8 +14,8 @@ pub returns-clause-legal : goal.returns-clause-legal
 returns-clause-legal c = λ fares history is. legal_history fares (map bytes_in c.args.uploads.now)
     history is
 
-pub returns-clause-rises : goal.returns-clause-rises
-returns-clause-rises c = λ fares history is.
+pub returns-clause-in_time_order : goal.returns-clause-in_time_order
+returns-clause-in_time_order c = λ fares history is.
     let (later, plain) = c.plain_history.ensures.some fares in
     time_order fares (map bytes_in c.args.uploads.now) c.one_reading_each.ensures later plain
     (c.plain_history.ensures.fields fares later plain) history is

@@ -9,9 +9,9 @@ empty_view : (b : Bool) (entries : List (String Global × Value)) → IsTrue b �
     → b ≡ is_empty (members_view entries)
 empty_view true [] both = refl
 empty_view false [] both = both.1 refl
-empty_view true (entry ∷ more) both = let none : length (entry ∷ more) ≡ 0 = both.0 refl in
+empty_view true (element ∷ more) both = let none : length (element ∷ more) ≡ 0 = both.0 refl in
     absurd (omega arith)
-empty_view false (entry ∷ more) both = refl
+empty_view false (element ∷ more) both = refl
 
 pub returns : goal.returns
 returns c = empty_view c.is_empty.result c.args.classes.now.entries c.is_empty.ensures

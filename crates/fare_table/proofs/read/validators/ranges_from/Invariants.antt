@@ -1,6 +1,6 @@
 use Rattle.std.proofs.Common.{◌≡◌, [], true, drop, length, map, string_bytes}
 use Rattle.toml.specs.View.{items_view}
-use Rattle.fare_table.specs.Validators.{is_chain, are_modes_below, ranges_from}
+use Rattle.fare_table.specs.Validators.{stand_apart, are_modes_below, ranges_from}
 use Rattle.fare_table.proofs.read.validators.ranges_from.Given as goal
 
 abbrev pub invariant-loop-value : goal.invariant-loop-value
@@ -9,6 +9,6 @@ invariant-loop-value l = record {
   same : ranges_from (map string_bytes l.modes) [] (items_view l.array.items)
       ≡ ranges_from (map string_bytes l.modes) l.ranges.entries
       (items_view (drop l.value-index l.array.items));
-  apart : is_chain l.ranges.entries ≡ true;
+  apart : stand_apart l.ranges.entries ≡ true;
   known : are_modes_below (length l.modes) l.ranges.entries ≡ true;
 }

@@ -3,7 +3,7 @@ use Rattle.std.proofs.Common.{length, leb-true}
 use Rattle.std.proofs.lemmas.List.{length-map}
 use Rattle.std.specs.Arc.{arc_value}
 use Rattle.std.specs.Prelude.{nat_lt}
-use Rattle.fare_table.proofs.ChainLemmas.{find-all}
+use Rattle.fare_table.proofs.ApartLemmas.{find-all}
 use Rattle.fare_table.specs.Fares.{has_number}
 use Rattle.fare_table.specs.declared.validators.Span.{Span}
 use Rattle.fare_table.proofs.table.FareTable.mode_of.Goals as goal

@@ -17,4 +17,4 @@ pub push-requires : goal.push-requires
 push-requires c = posting-room c.loop-tap.invariant c.in-Some.ensures.steps c.requires.room
 
 pub loop-tap-preserved : goal.loop-tap-preserved
-loop-tap-preserved c = posting-push c.loop-tap.invariant c.in-Some.ensures.steps (rw c.prefetch_in_turn.ensures at c.in-Ok.ensures.ok) c.in-Ok.ensures.legal c.push.ensures.items c.push.ensures.spare
+loop-tap-preserved c = posting-push c.loop-tap.invariant c.in-Some.ensures.steps (rw c.prefetch_every_sixteenth.ensures at c.in-Ok.ensures.ok) c.in-Ok.ensures.legal c.push.ensures.items c.push.ensures.spare

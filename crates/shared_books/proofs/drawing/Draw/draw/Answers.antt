@@ -12,7 +12,7 @@ compare_exchange-found-requires c =
     let word : 0 < c.self.inside.table.shared.table_id.words = omega (arith, c.self.invariant.1) in
     let numbers : c.loop-drawer.drawer-inside.seat.me.0.numbers ≡ c.args.self.now.numbers = i.numbers ∙ ap (λ d. d.numbers) c.requires.own in
     let same : c.self.inside.numbers ≡ c.args.self.now.numbers = ap (λ (d : Drawing). d.numbers) c.self.view_is in
-    (home, word, draws _ _ _ _ _ i.held.live (sym i.held.seen_is) (omega (arith, c.loop-drawer-test.true)))
+    (home, word, draws _ _ _ _ _ i.held.unjoined (sym i.held.seen_is) (omega (arith, c.loop-drawer-test.true)))
 
 pub overflow_add-held : goal.overflow_add-held
 overflow_add-held c =

@@ -12,14 +12,14 @@ join_seat-requires c =
     let word : 0 < c.self.inside.table.shared.table_id.words = omega (arith, c.self.invariant.1) in
     let p = c.pass.invariant.free in
     let q = c.other.invariant.free in
-    (home, other, q.carries, word, meets _ _ _ _ _ p.live q.live p.met q.met q.turn)
+    (home, other, q.carries, word, meets _ _ _ _ _ p.unjoined q.unjoined p.met q.met q.turn)
 
 pub load-requires : goal.load-requires
 load-requires c =
     let home : c.pass.inside.seat.table_id ≡ c.self.inside.table.shared.table_id = ap (λ d. d.book.home) c.pass.view_is ∙ (ap (λ d. d.home) c.requires.own ∙ sym (ap (λ d. d.home) c.self.view_is)) in
     let word : 0 < c.self.inside.table.shared.table_id.words = omega (arith, c.self.invariant.1) in
     let met = c.join_seat.ensures.2 in
-    (c.join_seat.ensures.0 ∙ home, word, settles _ _ _ _ (ap (λ me. me.0.live) met) (ap (λ me. me.0.turn) met ∙ c.pass.invariant.free.turn))
+    (c.join_seat.ensures.0 ∙ home, word, settles _ _ _ _ (ap (λ me. me.0.unjoined) met) (ap (λ me. me.0.turn) met ∙ c.pass.invariant.free.turn))
 
 pub overflow_add-held : goal.overflow_add-held
 overflow_add-held c =

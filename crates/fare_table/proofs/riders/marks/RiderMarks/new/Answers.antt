@@ -16,7 +16,7 @@ slot-slot-requires c =
     (c.into_iter-token-iterator.ensures.into_iter_gives ∙ c.keys-token-items.ensures.rest)
     c.loop-token.yielded_by c.in-Some.token c.in-Some.is c.next.ensures.steps in
     let some = c.loop-token.invariant.some
-    (omega (arith, turn.0, length-map entries (λ entry. entry.0))) in
+    (omega (arith, turn.0, length-map entries (λ element. element.0))) in
     omega (arith, some)
 
 pub loop-token-preserved : goal.loop-token-preserved

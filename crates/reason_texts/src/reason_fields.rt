@@ -2,15 +2,16 @@
 //! moment that it points at.
 
 ghost use Rattle.std.specs.Prelude.{◌≡◌, ◌+◌, ◌++◌, List, ℕ, OnOk, string_bytes};
-ghost use Rattle.reason_texts.specs.Ledger.{IsBecause, IsPointing, IsRideFields, placed, ride_rest};
+ghost use Rattle.reason_texts.specs.Ledger.{IsReasonFields, IsPointing, IsRideFields, placed};
+ghost use Rattle.reason_texts.specs.Ledger.{ride_rest};
 
 use account_rule::{Charge, Reason};
 use fare_texts::write_moment;
 use std::alloc::AllocError;
 
 /// Appends the fields, as `,,,stale,2024-03-08T18:00:00.000Z`.
-pub(crate) fn write_because(text: &mut String, reason: &Reason) -> Result<(), AllocError>
-    ensures { OnOk result ((written : List ℕ) × IsBecause reason.now written
+pub(crate) fn write_reason_fields(text: &mut String, reason: &Reason) -> Result<(), AllocError>
+    ensures { OnOk result ((written : List ℕ) × IsReasonFields reason.now written
         × (string_bytes text.new ≡ string_bytes text.old ++ written)) }
 {
     match *reason {

@@ -3,7 +3,7 @@ use Rattle.std.proofs.lemmas.List.Elements.{All-more}
 use Rattle.std.proofs.lemmas.Option.{slice_get_within, get_or_from_slice_get}
 use Rattle.fare_service.specs.declared.upload_end.UploadEnd.{UploadEnd}
 use Rattle.fare_service.specs.Plain.{WasNotCut}
-use Rattle.fare_service.proofs.laws.schedules.ended_whole.Goals as goal
+use Rattle.fare_service.proofs.laws.schedules.none_was_cut.Goals as goal
 
 pub loop-upload-preserved : goal.loop-upload-preserved
 loop-upload-preserved c =
@@ -12,7 +12,7 @@ loop-upload-preserved c =
     let place = c.loop-upload.upload in
     let W : UploadEnd → Type 0 = λ e. WasNotCut e in
     All-more WasNotCut ends place end (slice_get_within ends place end c.upload.ensures) c.loop-upload.invariant
-    (subst W (sym (get_or_from_slice_get ends place end end c.upload.ensures)) (c.was_whole.ensures.0 c.if-not-was_whole.false))
+    (subst W (sym (get_or_from_slice_get ends place end end c.upload.ensures)) (c.was_not_cut.ensures.0 c.if-not-was_not_cut.false))
 
 pub returns : goal.returns
 returns c =

@@ -3,7 +3,7 @@ use Rattle.std.proofs.lemmas.Option.{MatchOption-at_none, MatchOption-at_some}
 use Rattle.std.proofs.lemmas.Result.{err_from_is_err_and}
 use Rattle.part_reports.specs.inside.Sources.{IsFirstLine}
 use Rattle.part_reports.proofs.Firsts.{first_is_source, no_text, weaker}
-use Rattle.part_reports.proofs.merging.Source.read.Goals as goal
+use Rattle.part_reports.proofs.merging.LineSource.read.Goals as goal
 
 pub returns-in_err-lines-clause-refused : goal.returns-in_err-lines-clause-refused
 returns-in_err-lines-clause-refused g c =
@@ -12,7 +12,7 @@ returns-in_err-lines-clause-refused g c =
     let p = err_from_is_err_and c.from_residual-in_err-lines.result
     c.from_residual-in_err-lines.ensures.1 in
     rw (p.1) (λ of_texts.
-    weaker (g.R.Read.remaining c.args.self.now.reading.from) _ _
+    weaker (g.R.Read.remaining c.args.self.now.reader.from) _ _
     (λ text read list is.
     no_text lines text c.next.new.self.line.items read.0
     (λ behind head first. none behind head
@@ -23,7 +23,7 @@ pub returns-clause-read : goal.returns-clause-read
 returns-clause-read g c =
     let lines = c.args.self.now.lines in
     let first = MatchOption-at_some _ _ _ c.in_ok-lines.ensures.value c.first_of.ensures in
-    weaker (g.R.Read.remaining c.args.self.now.reading.from) _ _
+    weaker (g.R.Read.remaining c.args.self.now.reader.from) _ _
     (λ text read.
     first_is_source lines text (record {
       left = g.R.Read.remaining c.next.new.self.from;

@@ -1,6 +1,6 @@
 use Rattle.std.proofs.Common.{◌≡◌, length, drop}
 use Rattle.fare_service.specs.inside.Joining.{told}
-use Rattle.fare_service.proofs.service.gathering.mark_ends.Given as goal
+use Rattle.fare_service.proofs.service.gathering.set_ends.Given as goal
 
 abbrev pub invariant-loop-one : goal.invariant-loop-one
 invariant-loop-one l = record {

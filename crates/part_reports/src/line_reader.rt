@@ -10,7 +10,7 @@ use std::io::{BufRead, ErrorKind};
 
 /// A text that is read line by line.
 #[derive(Drop)]
-pub(crate) struct Reading<R: BufRead + Drop> {
+pub(crate) struct LineReader<R: BufRead + Drop> {
     /// What is left to read.
     from: R,
     /// The number of the text.
@@ -21,13 +21,13 @@ pub(crate) struct Reading<R: BufRead + Drop> {
     line: Vec<u8>,
 }
 
-impl<R: BufRead + Drop> Reading<R> {
+impl<R: BufRead + Drop> LineReader<R> {
     /// The text of this number, of which nothing was read.
-    pub(crate) fn new(alloc: Global, from: R, text: usize) -> Reading<R>
+    pub(crate) fn new(alloc: Global, from: R, text: usize) -> LineReader<R>
         ensures from { result.from ≡ from }
         ensures text { result.text ≡ text }
     {
-        Reading {
+        LineReader {
             from,
             text,
             lines: 0,

@@ -65,9 +65,9 @@ pub record IsRideText (start until : ℕ) (charge : Charge) (text : List ℕ) : 
   pub shown : text ≡ charge_start charge ++ (window ++ charge_end charge)
 
 -- the text says the reason, by the names of the table
-abbrev pub IsWhy : Fares → Reason → List ℕ → Type 0
-IsWhy fares Unknown text = text ≡ codes " because the table has no such validator"
-IsWhy fares (Stale latest) text = IsStaleText latest text
-IsWhy fares (Transfer moment mode) text =
+abbrev pub IsReasonWords : Fares → Reason → List ℕ → Type 0
+IsReasonWords fares Unknown text = text ≡ codes " because the table has no such validator"
+IsReasonWords fares (Stale latest) text = IsStaleText latest text
+IsReasonWords fares (Transfer moment mode) text =
     IsTransferText (slice_index_or fares.rules.modes mode.place []) moment text
-IsWhy fares (Ride start until charge) text = IsRideText start until charge text
+IsReasonWords fares (Ride start until charge) text = IsRideText start until charge text

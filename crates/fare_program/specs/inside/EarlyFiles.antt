@@ -1,4 +1,4 @@
--- Ahead: what private functions alone cite.
+-- EarlyFiles: what private functions alone cite.
 use Rattle.std.specs.Prelude.{◌≡◌, ◌≢◌, ℕ, List, [], ◌∷◌, ◌++◌, string_bytes}
 use Rattle.fare_program.specs.declared.early_files.Early.{Early}
 

@@ -1,4 +1,4 @@
--- The mode of a validator is the one that the text's entry which has it names.
+-- The mode of a validator is the one that the text's element which has it names.
 use Rattle.std.proofs.Common.{◌≡◌, ◌⊎◌, ◌↔◌, ℕ, ◌<◌, ◌≤◌, ◌||◌, Bool, true, false, List, [], ◌∷◌}
 use Rattle.std.proofs.Common.{Option, Some, None, Ok, Err, cond, option_map, refl, sym, ap, ◌∙◌}
 use Rattle.std.proofs.Common.{arith, inl, inr, ⊎_elim, zero, suc, codes, le-leb}
@@ -9,8 +9,8 @@ use Rattle.std.specs.Ordering.{nat_cmp}
 use Rattle.std.specs.Prelude.{pos, nat_le, if◌then◌else◌}
 use Rattle.toml.specs.Data.{Data, Items, no_items, item, Members, string, integer, array, table}
 use Rattle.toml.specs.Data.{as_table, get_member, get_item}
-use Rattle.fare_table.proofs.OverlapLemmas.{chain-insert, comes_after, comes_before, ends_after}
-use Rattle.fare_table.proofs.OverlapLemmas.{free_apart, rest_chain}
+use Rattle.fare_table.proofs.OverlapLemmas.{stands-insert, comes_after, comes_before, ends_after}
+use Rattle.fare_table.proofs.OverlapLemmas.{free_apart, rest_stands}
 use Rattle.fare_table.proofs.PartLemmas.{bind_ok, parts}
 use Rattle.fare_table.proofs.ReadLemmas.{array-read, is_table, number-read, text-read}
 use Rattle.fare_table.specs.TextRanges.{RangeGives, RangeHas, HasRange, HasValidator, NamesMode}
@@ -19,14 +19,14 @@ use Rattle.fare_table.specs.Members.{are_tables, array_at, number_at, of_kind, t
 use Rattle.fare_table.specs.Modes.{mode_named}
 use Rattle.fare_table.specs.OrFault.{OrFault, ◌>>=◌}
 use Rattle.fare_table.specs.Rules.{TableRules, rules_of_tree}
-use Rattle.fare_table.specs.Validators.{is_chain, range_in, range_of, ranges_from, ranges_of}
+use Rattle.fare_table.specs.Validators.{stand_apart, range_in, range_of, ranges_from, ranges_of}
 use Rattle.fare_table.specs.Validators.{share_number, with_range}
 use Rattle.fare_table.specs.declared.fault.Key.TheVariants as the_key
 use Rattle.fare_table.specs.declared.fault.TableFault.{TableFault}
 use Rattle.fare_table.specs.declared.fault.TableFault.TheVariants.{Kind, Overlap}
 use Rattle.fare_table.specs.declared.validators.Span.{Span}
 
--- ---- ranges in a chain, and one more
+-- ---- ranges that stand apart, and one more
 -- of two choices that exclude each other the order is free
 swap : {A : Type 0} (a b : Bool) (x y z : A) → (a ≡ true → b ≡ false)
     → cond a x (cond b y z) ≡ cond b y (cond a x z)
@@ -65,15 +65,15 @@ found_step n range other more order further free ih = elim (free_apart range oth
 -- one more range that shares no number with the others has its numbers, and each other keeps its
 -- own
 found_with : (n : ℕ) (range : ℕ × Span) (ranges : List (ℕ × Span)) → range.0 ≤ range.1.last
-    → is_chain ranges ≡ true → list_any (share_number range) ranges ≡ false
+    → stand_apart ranges ≡ true → list_any (share_number range) ranges ≡ false
     → find (has_number n) (with_one range ranges)
     ≡ cond (has_number n range) (Some range) (find (has_number n) ranges)
 unfolding with_one
-found_with n range [] order chain free = refl
-found_with n range (other ∷ more) order chain free =
+found_with n range [] order stands free = refl
+found_with n range (other ∷ more) order stands free =
     let apart = or_parts (share_number range other) (list_any (share_number range) more) free in
-    found_step n range other more order (ends_after other more chain) apart.0
-    (found_with n range more order (rest_chain other more chain) apart.1)
+    found_step n range other more order (ends_after other more stands) apart.0
+    (found_with n range more order (rest_stands other more stands) apart.1)
 
 -- ranges that both have a number share it
 both_have : (n : ℕ) (range other : ℕ × Span) → has_number n range ≡ true → has_number n other ≡ true
@@ -110,7 +110,7 @@ shares n range found (other ∷ more) has at =
     shared_if n range other more (has_number n other) found has refl at
     (shares n range found more has)
 
--- ---- what the entries read as
+-- ---- what the elements read as
 pub record AddsRange (earlier : List (ℕ × Span)) (range : ℕ
     × Span) (ranges : List (ℕ × Span)) : Type 0 where
   pub free : list_any (share_number range) earlier ≡ false
@@ -128,14 +128,14 @@ pub adds_range : (earlier ranges : List (ℕ × Span)) (range : ℕ × Span)
 adds_range earlier ranges range is =
     added_if (list_any (share_number range) earlier) earlier ranges range refl is
 
--- what an entry says that reads as a range
+-- what an element says that reads as a range
 pub record Reads (modes : List (List ℕ)) (value : Data) (range : ℕ × Span) : Type 0 where
-  pub entry : Members
-  pub is_table : value ≡ table entry
-  pub first : get_member (codes "first") entry ≡ Some (integer (pos range.0))
-  pub last : get_member (codes "last") entry ≡ Some (integer (pos range.1.last))
+  pub element : Members
+  pub is_table : value ≡ table element
+  pub first : get_member (codes "first") element ≡ Some (integer (pos range.0))
+  pub last : get_member (codes "last") element ≡ Some (integer (pos range.1.last))
   pub order : range.0 ≤ range.1.last
-  pub names : NamesMode modes entry range.1.mode
+  pub names : NamesMode modes element range.1.mode
 
 abbrev pub span_of : ℕ → ℕ → Span
 span_of last mode = record { last = last; mode = mode }
@@ -147,12 +147,12 @@ abbrev by_name : List (List ℕ) → ℕ → ℕ → List ℕ → OrFault (ℕ �
 by_name modes first last name = mode_named modes name >>= by_mode first last
 
 abbrev by_last : List (List ℕ) → Members → ℕ → ℕ → OrFault (ℕ × Span)
-by_last modes entry first last =
-    text_at (codes "mode") the_key.ModeName entry >>= by_name modes first last
+by_last modes element first last =
+    text_at (codes "mode") the_key.ModeName element >>= by_name modes first last
 
 abbrev by_first : List (List ℕ) → Members → ℕ → OrFault (ℕ × Span)
-by_first modes entry first =
-    number_at (codes "last") the_key.Last first 4_294_967_295 entry >>= by_last modes entry first
+by_first modes element first =
+    number_at (codes "last") the_key.Last first 4_294_967_295 element >>= by_last modes element first
 
 one_range : (first last mode : ℕ) (range : ℕ × Span) → by_mode first last mode ≡ Ok range
     → (first ≡ range.0) × (last ≡ range.1.last) × (mode ≡ range.1.mode)
@@ -171,29 +171,29 @@ one_range first last mode range is =
     mode_of d (Ok r) = r.1.mode
     mode_of d (Err e) = d
 
-reads_table : (modes : List (List ℕ)) (value : Data) (entry : Members) (range : ℕ × Span)
-    → value ≡ table entry → range_of modes entry ≡ Ok range → Reads modes value range
+reads_table : (modes : List (List ℕ)) (value : Data) (element : Members) (range : ℕ × Span)
+    → value ≡ table element → range_of modes element ≡ Ok range → Reads modes value range
 unfolding range_of
-reads_table modes value entry range whole is =
-    let first = bind_ok (number_at (codes "first") the_key.First 0 4_294_967_295 entry)
-    (by_first modes entry) range is in
-    let last = bind_ok (number_at (codes "last") the_key.Last first.0 4_294_967_295 entry)
-    (by_last modes entry first.0) range first.2 in
-    let name = bind_ok (text_at (codes "mode") the_key.ModeName entry)
+reads_table modes value element range whole is =
+    let first = bind_ok (number_at (codes "first") the_key.First 0 4_294_967_295 element)
+    (by_first modes element) range is in
+    let last = bind_ok (number_at (codes "last") the_key.Last first.0 4_294_967_295 element)
+    (by_last modes element first.0) range first.2 in
+    let name = bind_ok (text_at (codes "mode") the_key.ModeName element)
     (by_name modes first.0 last.0) range last.2 in
     let mode = bind_ok (mode_named modes name.0) (by_mode first.0 last.0) range name.2 in
     let same = one_range first.0 last.0 mode.0 range mode.2 in
-    let from = number-read (codes "first") the_key.First 0 4_294_967_295 entry first.0 first.1 in
-    let upto = number-read (codes "last") the_key.Last first.0 4_294_967_295 entry last.0 last.1 in
+    let from = number-read (codes "first") the_key.First 0 4_294_967_295 element first.0 first.1 in
+    let upto = number-read (codes "last") the_key.Last first.0 4_294_967_295 element last.0 last.1 in
     record {
-      entry = entry;
+      element = element;
       is_table = whole;
       first = from.is ∙ ap (λ n. Some (integer (pos n))) same.0;
       last = upto.is ∙ ap (λ n. Some (integer (pos n))) same.1;
       order = omega (arith, upto.above, same.0, same.1);
       names = record {
         name = name.0;
-        written = text-read (codes "mode") the_key.ModeName entry name.0 name.1;
+        written = text-read (codes "mode") the_key.ModeName element name.0 name.1;
         named = mode.1 ∙ ap (λ m. Ok m) same.2;
       };
     }
@@ -201,11 +201,11 @@ reads_table modes value entry range whole is =
 pub reads : (modes : List (List ℕ)) (value : Data) (range : ℕ × Span)
     → range_in modes value ≡ Ok range → Reads modes value range
 reads modes value range is =
-    let entry = bind_ok (of_kind the_key.Validators (as_table value)) (range_of modes) range is in
-    reads_table modes value entry.0 range (is_table value the_key.Validators entry.0 entry.1)
-    entry.2
+    let element = bind_ok (of_kind the_key.Validators (as_table value)) (range_of modes) range is in
+    reads_table modes value element.0 range (is_table value the_key.Validators element.0 element.1)
+    element.2
 
--- ---- the ranges behind some entries
+-- ---- the ranges behind some elements
 -- the item at the place reads as the range
 abbrev pub IsRangeAt : List (List ℕ) → Items → ℕ → ℕ × Span → Type 0
 IsRangeAt modes items place range =
@@ -218,7 +218,7 @@ pub record Steps (modes : List (List ℕ)) (earlier : List (ℕ × Span)) (value
   pub next : List (ℕ × Span)
   pub free : list_any (share_number range) earlier ≡ false
   pub order : range.0 ≤ range.1.last
-  pub chain : is_chain next ≡ true
+  pub stands : stand_apart next ≡ true
   pub found : (n : ℕ) → find (has_number n) next
       ≡ cond (has_number n range) (Some range) (find (has_number n) earlier)
   pub rest : ranges_from modes next more ≡ Ok ranges
@@ -229,10 +229,10 @@ after_range modes earlier more range =
 
 pub step : (modes : List (List ℕ)) (earlier : List (ℕ × Span)) (value : Data) (more : Items)
     (ranges : List (ℕ × Span))
-    → ranges_from modes earlier (item value more) ≡ Ok ranges → is_chain earlier ≡ true
+    → ranges_from modes earlier (item value more) ≡ Ok ranges → stand_apart earlier ≡ true
     → Steps modes earlier value more ranges
 unfolding with_one
-step modes earlier value more ranges is chain =
+step modes earlier value more ranges is stands =
     let one = bind_ok (range_in modes value) (after_range modes earlier more) ranges is in
     let two = bind_ok (with_range earlier one.0) (λ next. ranges_from modes next more) ranges
     one.2 in
@@ -244,9 +244,9 @@ step modes earlier value more ranges is chain =
       next = two.0;
       free = added.free;
       order = order;
-      chain = rw added.one (chain-insert one.0 earlier order chain added.free);
+      stands = rw added.one (stands-insert one.0 earlier order stands added.free);
       found = λ n. ap (find (has_number n)) added.one
-          ∙ found_with n one.0 earlier order chain added.free;
+          ∙ found_with n one.0 earlier order stands added.free;
       rest = two.2;
     }
 
@@ -262,37 +262,37 @@ has_if false n range found next is = (found, is)
 -- an earlier range that has a number is kept
 still : (modes : List (List ℕ)) (n : ℕ) (earlier : List (ℕ × Span)) (items : Items)
     (ranges : List (ℕ × Span)) (found : ℕ × Span) → ranges_from modes earlier items ≡ Ok ranges
-    → is_chain earlier ≡ true
+    → stand_apart earlier ≡ true
     → find (has_number n) earlier ≡ Some found → find (has_number n) ranges ≡ Some found
-still modes n earlier no_items ranges found is chain at = let same : earlier ≡ ranges = cc in
+still modes n earlier no_items ranges found is stands at = let same : earlier ≡ ranges = cc in
     rw (← same) at
-still modes n earlier (item value more) ranges found is chain at =
-    let s = step modes earlier value more ranges is chain in
+still modes n earlier (item value more) ranges found is stands at =
+    let s = step modes earlier value more ranges is stands in
     elim (cases_Bool (has_number n s.range)) [
       | inl both ↦ absurd (false≢true (sym s.free ∙ shares n s.range found earlier both at))
-      | inr none ↦ still modes n s.next more ranges found s.rest s.chain (s.found n
+      | inr none ↦ still modes n s.next more ranges found s.rest s.stands (s.found n
           ∙ ap (λ b. cond b (Some s.range) (find (has_number n) earlier)) none ∙ at)
     ]
 
--- what an entry reads as, and that it is found by its numbers
+-- what an element reads as, and that it is found by its numbers
 there : (modes : List (List ℕ)) (n : ℕ) (earlier : List (ℕ × Span)) (items : Items)
     (ranges : List (ℕ × Span)) (place : ℕ) (value : Data)
-    → ranges_from modes earlier items ≡ Ok ranges → is_chain earlier ≡ true
+    → ranges_from modes earlier items ≡ Ok ranges → stand_apart earlier ≡ true
     → get_item place items ≡ Some value
     → (range : ℕ × Span) × (range_in modes value ≡ Ok range)
     × (has_number n range ≡ true → find (has_number n) ranges ≡ Some range)
-there modes n earlier no_items ranges place value is chain at = absurd (cc)
-there modes n earlier (item first more) ranges zero value is chain at =
-    let s = step modes earlier first more ranges is chain in
+there modes n earlier no_items ranges place value is stands at = absurd (cc)
+there modes n earlier (item first more) ranges zero value is stands at =
+    let s = step modes earlier first more ranges is stands in
     let same : first ≡ value = cc in (
       s.range,
       ap (range_in modes) (sym same) ∙ s.read,
-      λ has. still modes n s.next more ranges s.range s.rest s.chain (s.found n
+      λ has. still modes n s.next more ranges s.range s.rest s.stands (s.found n
           ∙ ap (λ b. cond b (Some s.range) (find (has_number n) earlier)) has),
     )
-there modes n earlier (item first more) ranges (suc place) value is chain at =
-    let s = step modes earlier first more ranges is chain in
-    there modes n s.next more ranges place value s.rest s.chain at
+there modes n earlier (item first more) ranges (suc place) value is stands at =
+    let s = step modes earlier first more ranges is stands in
+    there modes n s.next more ranges place value s.rest s.stands at
 
 came_if : (modes : List (List ℕ)) (n : ℕ) (earlier : List (ℕ × Span)) (value : Data) (more : Items)
     (range found : ℕ × Span) (b : Bool) → range_in modes value ≡ Ok range
@@ -303,38 +303,38 @@ came_if modes n earlier value more range found true read at = let same : range �
     inr (zero, (value, refl, read ∙ ap (λ r. Ok r) same))
 came_if modes n earlier value more range found false read at = inl at
 
--- a range that is found is an earlier one or an entry's
+-- a range that is found is an earlier one or an element's
 came : (modes : List (List ℕ)) (n : ℕ) (earlier : List (ℕ × Span)) (items : Items) (ranges : List (ℕ
     × Span)) (found : ℕ × Span) → ranges_from modes earlier items ≡ Ok ranges
-    → is_chain earlier ≡ true
+    → stand_apart earlier ≡ true
     → find (has_number n) ranges ≡ Some found → (find (has_number n) earlier ≡ Some found)
     ⊎ ((place : ℕ) × IsRangeAt modes items place found)
-came modes n earlier no_items ranges found is chain at = let same : earlier ≡ ranges = cc in
+came modes n earlier no_items ranges found is stands at = let same : earlier ≡ ranges = cc in
     inl (rw same at)
-came modes n earlier (item value more) ranges found is chain at =
-    let s = step modes earlier value more ranges is chain in
+came modes n earlier (item value more) ranges found is stands at =
+    let s = step modes earlier value more ranges is stands in
     ⊎_elim
     (λ before. came_if modes n earlier value more s.range found (has_number n s.range) s.read
     (sym (s.found n) ∙ before))
     (λ later. inr (suc later.0, later.1))
-    (came modes n s.next more ranges found s.rest s.chain at)
+    (came modes n s.next more ranges found s.rest s.stands at)
 
--- no entry has a number that an earlier range has
+-- no element has a number that an earlier range has
 again : (modes : List (List ℕ)) (n : ℕ) (earlier : List (ℕ × Span)) (items : Items)
     (ranges : List (ℕ × Span)) (place : ℕ) (value : Data) (range : ℕ × Span)
-    → ranges_from modes earlier items ≡ Ok ranges → is_chain earlier ≡ true
+    → ranges_from modes earlier items ≡ Ok ranges → stand_apart earlier ≡ true
     → HasOne n earlier → get_item place items ≡ Some value → range_in modes value ≡ Ok range
     → has_number n range ≡ true → ⊥
-again modes n earlier no_items ranges place value range is chain old at read has = absurd (cc)
-again modes n earlier (item first more) ranges zero value range is chain old at read has =
-    let s = step modes earlier first more ranges is chain in
+again modes n earlier no_items ranges place value range is stands old at read has = absurd (cc)
+again modes n earlier (item first more) ranges zero value range is stands old at read has =
+    let s = step modes earlier first more ranges is stands in
     let same : first ≡ value = cc in
     let both : Ok s.range ≡ Ok range = sym s.read ∙ ap (range_in modes) same ∙ read in
     let one : s.range ≡ range = cc in
     false≢true (sym s.free ∙ shares n s.range old.0 earlier (rw one has) old.1)
-again modes n earlier (item first more) ranges (suc place) value range is chain old at read has =
-    let s = step modes earlier first more ranges is chain in
-    again modes n s.next more ranges place value range s.rest s.chain
+again modes n earlier (item first more) ranges (suc place) value range is stands old at read has =
+    let s = step modes earlier first more ranges is stands in
+    again modes n s.next more ranges place value range s.rest s.stands
     (has_if (has_number n s.range) n s.range old.0 s.next (s.found n
     ∙ ap (λ o. cond (has_number n s.range) (Some s.range) o) old.1)) at read has
 
@@ -352,34 +352,34 @@ first_has modes n earlier first value one range next is found at read has =
           ∙ has),
     )
 
--- an entry that has a number is the only one
+-- an element that has a number is the only one
 only : (modes : List (List ℕ)) (n : ℕ) (earlier : List (ℕ × Span)) (items : Items) (ranges : List (ℕ
     × Span)) (place place' : ℕ) (value value' : Data) (range range' : ℕ × Span)
-    → ranges_from modes earlier items ≡ Ok ranges → is_chain earlier ≡ true
+    → ranges_from modes earlier items ≡ Ok ranges → stand_apart earlier ≡ true
     → get_item place items ≡ Some value → range_in modes value ≡ Ok range
     → has_number n range ≡ true
     → get_item place' items ≡ Some value' → range_in modes value' ≡ Ok range'
     → has_number n range' ≡ true → place ≡ place'
-only modes n earlier no_items ranges place place' value value' range range' is chain at read has at'
+only modes n earlier no_items ranges place place' value value' range range' is stands at read has at'
     read' has' = absurd (cc)
-only modes n earlier (item first more) ranges zero zero value value' range range' is chain at read
+only modes n earlier (item first more) ranges zero zero value value' range range' is stands at read
     has at' read' has' = refl
-only modes n earlier (item first more) ranges zero (suc place') value value' range range' is chain
+only modes n earlier (item first more) ranges zero (suc place') value value' range range' is stands
     at read has at' read' has' =
-    let s = step modes earlier first more ranges is chain in
-    absurd (again modes n s.next more ranges place' value' range' s.rest s.chain
+    let s = step modes earlier first more ranges is stands in
+    absurd (again modes n s.next more ranges place' value' range' s.rest s.stands
     (first_has modes n earlier first value s.range range s.next s.read (s.found n) at read has)
     at' read' has')
-only modes n earlier (item first more) ranges (suc place) zero value value' range range' is chain at
+only modes n earlier (item first more) ranges (suc place) zero value value' range range' is stands at
     read has at' read' has' =
-    let s = step modes earlier first more ranges is chain in
-    absurd (again modes n s.next more ranges place value range s.rest s.chain
+    let s = step modes earlier first more ranges is stands in
+    absurd (again modes n s.next more ranges place value range s.rest s.stands
     (first_has modes n earlier first value' s.range range' s.next s.read (s.found n) at' read'
     has') at read has)
 only modes n earlier (item first more) ranges (suc place) (suc place') value value' range range' is
-    chain at read has at' read' has' =
-    let s = step modes earlier first more ranges is chain in
-    ap suc (only modes n s.next more ranges place place' value value' range range' s.rest s.chain at
+    stands at read has at' read' has' =
+    let s = step modes earlier first more ranges is stands in
+    ap suc (only modes n s.next more ranges place place' value value' range range' s.rest s.stands at
     read has at' read' has')
 
 -- ---- the laws
@@ -421,13 +421,13 @@ found_says : {A : Type 0} (p : A → Bool) (xs : List A) (y : A) → find p xs �
 found_says p [] y at = absurd (cc)
 found_says p (x ∷ xs) y at = found_says_if p (p x) x y (find p xs) refl (found_says p xs y) at
 
--- a validator that an entry has is one of the range that it reads as
-agrees : (modes : List (List ℕ)) (entry : Members) (range : ℕ × Span) (validator : ℕ)
-    → Reads modes (table entry) range → HasValidator entry validator
+-- a validator that an element has is one of the range that it reads as
+agrees : (modes : List (List ℕ)) (element : Members) (range : ℕ × Span) (validator : ℕ)
+    → Reads modes (table element) range → HasValidator element validator
     → has_number validator range ≡ true
-agrees modes entry range validator r has =
-    let whole : table entry ≡ table r.entry = r.is_table in
-    let same : entry ≡ r.entry = cc in
+agrees modes element range validator r has =
+    let whole : table element ≡ table r.element = r.is_table in
+    let same : element ≡ r.element = cc in
     let at_first : Some (integer (pos has.first)) ≡ Some (integer (pos range.0)) =
     sym has.is_first ∙ ap (get_member (codes "first")) same ∙ r.first in
     let at_last : Some (integer (pos has.last)) ≡ Some (integer (pos range.1.last)) =
@@ -441,7 +441,7 @@ agrees modes entry range validator r has =
 -- and the other way round
 has_it : (modes : List (List ℕ)) (value : Data) (range : ℕ
     × Span) (validator : ℕ) (r : Reads modes value range) → has_number validator range ≡ true
-    → HasValidator r.entry validator
+    → HasValidator r.element validator
 has_it modes value range validator r has =
     let both = and_parts (nat_le range.0 validator) (nat_le validator range.1.last) has in
     record {
@@ -466,17 +466,17 @@ gives : (modes : List (List ℕ)) (tree : Members) (ranges : List (ℕ × Span))
     → RangeGives modes tree validator mode
 gives modes tree ranges validator mode text at = ⊎_elim
     (λ none. absurd (cc (none)))
-    (λ entry.
-    let r = reads modes entry.1.0 at.0 entry.1.2 in
+    (λ element.
+    let r = reads modes element.1.0 at.0 element.1.2 in
     record {
-      place = entry.0;
-      entry = r.entry;
+      place = element.0;
+      element = r.element;
       listed = record {
         items = text.items;
         listed = text.listed;
-        stands = entry.1.1 ∙ ap (λ (v : Data). Some v) r.is_table;
+        stands = element.1.1 ∙ ap (λ (v : Data). Some v) r.is_table;
       };
-      has = has_it modes entry.1.0 at.0 validator r
+      has = has_it modes element.1.0 at.0 validator r
           (found_says (has_number validator) ranges at.0 at.1);
       names = record {
         name = r.names.name;
@@ -486,37 +486,37 @@ gives modes tree ranges validator mode text at = ⊎_elim
     })
     (came modes validator [] text.items ranges at.0 text.read refl at.1)
 
--- an entry that has the validator reads as the range that is found
+-- an element that has the validator reads as the range that is found
 pub record IsFound (modes : List (List ℕ)) (ranges : List (ℕ × Span)) (validator : ℕ)
-    (items : Items) (place : ℕ) (entry : Members) : Type 0 where
+    (items : Items) (place : ℕ) (element : Members) : Type 0 where
   pub range : ℕ × Span
-  pub stands : get_item place items ≡ Some (table entry)
-  pub read : range_in modes (table entry) ≡ Ok range
+  pub stands : get_item place items ≡ Some (table element)
+  pub read : range_in modes (table element) ≡ Ok range
   pub has : has_number validator range ≡ true
   pub found : find (has_number validator) ranges ≡ Some range
 
 is_found : (modes : List (List ℕ)) (tree : Members) (ranges : List (ℕ × Span)) (validator place : ℕ)
-    (entry : Members) (text : AreRead modes tree ranges) → HasRange tree place entry
-    → HasValidator entry validator
-    → IsFound modes ranges validator text.items place entry
-is_found modes tree ranges validator place entry text listed has =
+    (element : Members) (text : AreRead modes tree ranges) → HasRange tree place element
+    → HasValidator element validator
+    → IsFound modes ranges validator text.items place element
+is_found modes tree ranges validator place element text listed has =
     let both : Some (array listed.items) ≡ Some (array text.items) =
     sym listed.listed ∙ text.listed in
     let same : listed.items ≡ text.items = cc in
-    let stands : get_item place text.items ≡ Some (table entry) =
+    let stands : get_item place text.items ≡ Some (table element) =
     ap (get_item place) (sym same) ∙ listed.stands in
-    let at = there modes validator [] text.items ranges place (table entry) text.read refl stands in
-    let here = agrees modes entry at.0 validator (reads modes (table entry) at.0 at.1) has in
+    let at = there modes validator [] text.items ranges place (table element) text.read refl stands in
+    let here = agrees modes element at.0 validator (reads modes (table element) at.0 at.1) has in
     record { range = at.0; stands = stands; read = at.1; has = here; found = at.2 here }
 
 is_given : (modes : List (List ℕ)) (tree : Members) (ranges : List (ℕ × Span)) (validator mode : ℕ)
     → AreRead modes tree ranges → RangeGives modes tree validator mode
     → option_map (λ (range : ℕ × Span). range.1.mode) (range_at ranges validator) ≡ Some mode
 is_given modes tree ranges validator mode text g =
-    let f = is_found modes tree ranges validator g.place g.entry text g.listed g.has in
-    let r = reads modes (table g.entry) f.range f.read in
-    let whole : table g.entry ≡ table r.entry = r.is_table in
-    let same : g.entry ≡ r.entry = cc in
+    let f = is_found modes tree ranges validator g.place g.element text g.listed g.has in
+    let r = reads modes (table g.element) f.range f.read in
+    let whole : table g.element ≡ table r.element = r.is_table in
+    let same : g.element ≡ r.element = cc in
     let texts : Some (string g.names.name) ≡ Some (string r.names.name) =
     sym g.names.written ∙ ap (get_member (codes "mode")) same ∙ r.names.written in
     let name : g.names.name ≡ r.names.name = cc in
@@ -552,13 +552,13 @@ mode-none tree fares validator is =
     let text = ranges_read fares.rules.modes tree fares.rules.ranges
     (parts tree fares.rules is).ranges in (
       λ none place e.
-          let f = is_found fares.rules.modes tree fares.rules.ranges validator place e.entry text
+          let f = is_found fares.rules.modes tree fares.rules.ranges validator place e.element text
           e.listed e.has in
           maps_none (range_at fares.rules.ranges validator) f.range f.found none,
       λ none. none_or_gives (mode_at fares validator) (λ mode at.
           let g = gives fares.rules.modes tree fares.rules.ranges validator mode text
           (maps (range_at fares.rules.ranges validator) mode at) in
-          none g.place (record { entry = g.entry; listed = g.listed; has = g.has })),
+          none g.place (record { element = g.element; listed = g.listed; has = g.has })),
     )
 
 pub one-entry : (tree : Members) (rules : TableRules) (validator place place' : ℕ)
@@ -566,10 +566,10 @@ pub one-entry : (tree : Members) (rules : TableRules) (validator place place' : 
     → RangeHas tree validator place → RangeHas tree validator place' → place ≡ place'
 one-entry tree rules validator place place' is one other =
     let text = ranges_read rules.modes tree rules.ranges (parts tree rules is).ranges in
-    let f = is_found rules.modes tree rules.ranges validator place one.entry text one.listed
+    let f = is_found rules.modes tree rules.ranges validator place one.element text one.listed
     one.has in
-    let g = is_found rules.modes tree rules.ranges validator place' other.entry text other.listed
+    let g = is_found rules.modes tree rules.ranges validator place' other.element text other.listed
     other.has in
-    only rules.modes validator [] text.items rules.ranges place place' (table one.entry)
-    (table other.entry) f.range g.range text.read refl f.stands f.read f.has g.stands g.read
+    only rules.modes validator [] text.items rules.ranges place place' (table one.element)
+    (table other.element) f.range g.range text.read refl f.stands f.read f.has g.stands g.read
     g.has

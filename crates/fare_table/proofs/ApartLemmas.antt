@@ -13,7 +13,7 @@ use Rattle.std.specs.List.Sorted.{IsNonDecreasingBy, IsPartitionedBy}
 use Rattle.std.specs.Option.{option_or}
 use Rattle.std.specs.Prelude.{nat_le, nat_lt, if◌then◌else◌}
 use Rattle.fare_table.specs.Fares.{has_number}
-use Rattle.fare_table.specs.Validators.{is_chain}
+use Rattle.fare_table.specs.Validators.{stand_apart}
 use Rattle.fare_table.specs.inside.Validators.{is_rising, last_begun, IsSplitAt}
 use Rattle.fare_table.specs.declared.validators.Span.{Span}
 
@@ -27,17 +27,17 @@ pub or_twice : {A : Type 0} (o : Option A) (a b : A)
 or_twice None a b = refl
 or_twice (Some x) a b = refl
 
--- what two neighbours of a chain say
+-- what two neighbours that stand apart say
 pub record AreApart (range next : ℕ × Span) (more : List (ℕ × Span)) : Type 0 where
   pub begins : range.0 ≤ range.1.last
   pub ends : range.1.last < next.0
-  pub rest : is_chain (next ∷ more) ≡ true
+  pub rest : stand_apart (next ∷ more) ≡ true
 
-pub apart : (range next : ℕ × Span) (more : List (ℕ × Span)) → is_chain (range ∷ next ∷ more) ≡ true
+pub apart : (range next : ℕ × Span) (more : List (ℕ × Span)) → stand_apart (range ∷ next ∷ more) ≡ true
     → AreApart range next more
-apart range next more chain =
+apart range next more stands =
     let both = and_parts (nat_le range.0 range.1.last && nat_lt range.1.last next.0)
-    (is_chain (next ∷ more)) chain in
+    (stand_apart (next ∷ more)) stands in
     let first = and_parts (nat_le range.0 range.1.last) (nat_lt range.1.last next.0) both.0 in
     record {
       begins = leb-true _ _ first.0;
@@ -59,32 +59,32 @@ found_step n range next more two ih (inl a) (inl b) =
     rw (a.0, past, ih, b.0, or_twice (last_begun n more) next range)
 
 -- the range that has a number is the last one that begins at it or before it, where that reaches it
-pub found : (n : ℕ) (ranges : List (ℕ × Span)) → is_chain ranges ≡ true
+pub found : (n : ℕ) (ranges : List (ℕ × Span)) → stand_apart ranges ≡ true
     → find (has_number n) ranges ≡ reaching n (last_begun n ranges)
-found n [] chain = refl
-found n (range ∷ []) chain = elim (leb_tells range.0 n) [ inl a ↦ rw a.0 | inr a ↦ rw a.0 ]
-found n (range ∷ next ∷ more) chain =
-    let two = apart range next more chain in
+found n [] stands = refl
+found n (range ∷ []) stands = elim (leb_tells range.0 n) [ inl a ↦ rw a.0 | inr a ↦ rw a.0 ]
+found n (range ∷ next ∷ more) stands =
+    let two = apart range next more stands in
     found_step n range next more two (found n (next ∷ more) two.rest) (leb_tells range.0 n)
     (leb_tells next.0 n)
 
--- the first range of a chain begins no later than it ends
-begins_first : (range : ℕ × Span) (more : List (ℕ × Span)) → is_chain (range ∷ more) ≡ true
+-- the first of ranges that stand apart begins no later than it ends
+begins_first : (range : ℕ × Span) (more : List (ℕ × Span)) → stand_apart (range ∷ more) ≡ true
     → range.0 ≤ range.1.last
-begins_first range [] chain = leb-true _ _ chain
-begins_first range (next ∷ more) chain = (apart range next more chain).begins
+begins_first range [] stands = leb-true _ _ stands
+begins_first range (next ∷ more) stands = (apart range next more stands).begins
 
--- the ranges of a chain end before those behind them begin, and so before those end
+-- ranges that stand apart end before those behind them begin, and so before those end
 ends_before : (range : ℕ × Span) (more : List (ℕ × Span)) (i : ℕ) (d : ℕ × Span)
-    → is_chain (range ∷ more) ≡ true → i < length more
+    → stand_apart (range ∷ more) ≡ true → i < length more
     → (range.1.last < (get_or more i d).0) × (range.1.last < (get_or more i d).1.last)
-ends_before range [] i d chain inside = absurd (omega arith)
-ends_before range (next ∷ more) zero d chain inside =
-    let two = apart range next more chain in
+ends_before range [] i d stands inside = absurd (omega arith)
+ends_before range (next ∷ more) zero d stands inside =
+    let two = apart range next more stands in
     let begins = begins_first next more two.rest in
     (two.ends, omega (arith, two.ends, begins))
-ends_before range (next ∷ more) (suc i) d chain inside =
-    let two = apart range next more chain in
+ends_before range (next ∷ more) (suc i) d stands inside =
+    let two = apart range next more stands in
     let begins = begins_first next more two.rest in
     let behind = ends_before next more i d two.rest (omega arith) in
     (omega (arith, two.ends, begins, behind.0), omega (arith, two.ends, begins, behind.1))
@@ -96,49 +96,49 @@ passed n range more ends =
     let past : nat_le n range.1.last ≡ false = grind (arith, nat_tests, ends) in
     rw (past, and-false (nat_le range.0 n))
 
--- a range of a chain that has a number is the one that is found
-pub only_one : (n : ℕ) (ranges : List (ℕ × Span)) (i : ℕ) (d : ℕ × Span) → is_chain ranges ≡ true
+-- of ranges that stand apart, one that has a number is the one that is found
+pub only_one : (n : ℕ) (ranges : List (ℕ × Span)) (i : ℕ) (d : ℕ × Span) → stand_apart ranges ≡ true
     → i < length ranges
     → (get_or ranges i d).0 ≤ n → n ≤ (get_or ranges i d).1.last
     → find (has_number n) ranges ≡ Some (get_or ranges i d)
-only_one n [] i d chain inside begins ends = absurd (omega arith)
-only_one n (range ∷ more) zero d chain inside begins ends =
+only_one n [] i d stands inside begins ends = absurd (omega arith)
+only_one n (range ∷ more) zero d stands inside begins ends =
     let first : nat_le range.0 n ≡ true = grind (arith, nat_tests, begins) in
     let last : nat_le n range.1.last ≡ true = grind (arith, nat_tests, ends) in
     rw (first, last)
-only_one n (range ∷ []) (suc i) d chain inside begins ends = absurd (omega arith)
-only_one n (range ∷ next ∷ more) (suc i) d chain inside begins ends =
-    let two = apart range next more chain in
-    let before = ends_before range (next ∷ more) i d chain (omega arith) in
+only_one n (range ∷ []) (suc i) d stands inside begins ends = absurd (omega arith)
+only_one n (range ∷ next ∷ more) (suc i) d stands inside begins ends =
+    let two = apart range next more stands in
+    let before = ends_before range (next ∷ more) i d stands (omega arith) in
     rw (passed n range (next ∷ more) (omega (arith, before.0, begins)))
     (only_one n (next ∷ more) i d two.rest (omega arith) begins ends)
 
--- no range of a chain has a number before the first one
-pub none_before : (n : ℕ) (ranges : List (ℕ × Span)) (d : ℕ × Span) → is_chain ranges ≡ true
+-- of ranges that stand apart none has a number before the first one
+pub none_before : (n : ℕ) (ranges : List (ℕ × Span)) (d : ℕ × Span) → stand_apart ranges ≡ true
     → n < (get_or ranges 0 d).0
     → find (has_number n) ranges ≡ None
-none_before n [] d chain begins = refl
-none_before n (range ∷ []) d chain begins =
+none_before n [] d stands begins = refl
+none_before n (range ∷ []) d stands begins =
     let later : nat_le range.0 n ≡ false = grind (arith, nat_tests, begins) in
     rw later
-none_before n (range ∷ next ∷ more) d chain begins =
-    let two = apart range next more chain in
+none_before n (range ∷ next ∷ more) d stands begins =
+    let two = apart range next more stands in
     let later : nat_le range.0 n ≡ false = grind (arith, nat_tests, begins) in
     rw later (none_before n (next ∷ more) d two.rest (omega (arith, two.begins, two.ends, begins)))
 
 -- nor has one a number between two neighbours
 pub none_between : (n : ℕ) (ranges : List (ℕ × Span)) (i : ℕ) (d : ℕ × Span)
-    → is_chain ranges ≡ true → suc i < length ranges
+    → stand_apart ranges ≡ true → suc i < length ranges
     → (get_or ranges i d).1.last < n → n < (get_or ranges (suc i) d).0
     → find (has_number n) ranges ≡ None
-none_between n [] i d chain inside ends begins = refl
-none_between n (range ∷ []) i d chain inside ends begins = absurd (omega arith)
-none_between n (range ∷ next ∷ more) zero d chain inside ends begins =
-    let two = apart range next more chain in
+none_between n [] i d stands inside ends begins = refl
+none_between n (range ∷ []) i d stands inside ends begins = absurd (omega arith)
+none_between n (range ∷ next ∷ more) zero d stands inside ends begins =
+    let two = apart range next more stands in
     rw (passed n range (next ∷ more) ends) (none_before n (next ∷ more) d two.rest begins)
-none_between n (range ∷ next ∷ more) (suc i) d chain inside ends begins =
-    let two = apart range next more chain in
-    let before = ends_before range (next ∷ more) i d chain (omega arith) in
+none_between n (range ∷ next ∷ more) (suc i) d stands inside ends begins =
+    let two = apart range next more stands in
+    let before = ends_before range (next ∷ more) i d stands (omega arith) in
     rw (passed n range (next ∷ more) (omega (arith, before.1, ends)))
     (none_between n (next ∷ more) i d two.rest (omega arith) ends begins)
 
@@ -168,15 +168,15 @@ last_begun-split n (r ∷ rest) (suc i) front back =
     (λ k d low high. back (suc k) d (omega arith) (omega arith)) in
     rw (last_of_cons r (take i rest), ih, before)
 
--- the first numbers of a chain rise
-pub chain-rises : (ranges : List (ℕ × Span)) → is_chain ranges ≡ true
+-- the first numbers of ranges that stand apart rise
+pub stands-rises : (ranges : List (ℕ × Span)) → stand_apart ranges ≡ true
     → is_rising (map (λ range. range.0) ranges) ≡ true
-chain-rises [] chain = refl
-chain-rises (r ∷ []) chain = refl
-chain-rises (r ∷ s ∷ more) chain =
-    let two = apart r s more chain in
+stands-rises [] stands = refl
+stands-rises (r ∷ []) stands = refl
+stands-rises (r ∷ s ∷ more) stands =
+    let two = apart r s more stands in
     let below : nat_lt r.0 s.0 ≡ true = grind (arith, nat_tests, two.begins, two.ends) in
-    rw (below, chain-rises (s ∷ more) two.rest)
+    rw (below, stands-rises (s ∷ more) two.rest)
 
 rising_adjacent : (firsts : List ℕ) → is_rising firsts ≡ true → (k d : ℕ) → suc k < length firsts
     → get_or firsts k d < get_or firsts (suc k) d

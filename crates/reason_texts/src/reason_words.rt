@@ -1,9 +1,11 @@
 //! The words that end an explained line.
 
 ghost use Rattle.std.specs.Prelude.{◌≡◌, ◌<◌, ◌+◌, ◌++◌, length, List, ℕ, OnOk, string_bytes};
-ghost use Rattle.reason_texts.specs.Why.{IsRideText, IsTransferText, IsWhy, IsWindowText};
-ghost use Rattle.reason_texts.specs.Why.{charge_end, charge_start, giver_start, place_start};
-ghost use Rattle.reason_texts.specs.Why.{HasModeOf};
+ghost use Rattle.reason_texts.specs.ReasonWords.{IsRideText, IsTransferText, IsReasonWords};
+ghost use Rattle.reason_texts.specs.ReasonWords.{IsWindowText};
+ghost use Rattle.reason_texts.specs.ReasonWords.{charge_end, charge_start, giver_start};
+ghost use Rattle.reason_texts.specs.ReasonWords.{place_start};
+ghost use Rattle.reason_texts.specs.ReasonWords.{HasModeOf};
 
 use account_rule::{Charge, Reason};
 use fare_table::FareTable;
@@ -12,9 +14,13 @@ use std::alloc::AllocError;
 
 /// Appends why a tap is answered as it is, as ` because the subway ride of 2024-03-08T17:00:00.000Z
 /// gives it`.
-pub fn write_why(text: &mut String, table: &FareTable, reason: &Reason) -> Result<(), AllocError>
+pub fn write_reason_words(
+    text: &mut String,
+    table: &FareTable,
+    reason: &Reason,
+) -> Result<(), AllocError>
     requires { HasModeOf table.now reason.now }
-    ensures { OnOk result ((written : List ℕ) × IsWhy table.now reason.now written
+    ensures { OnOk result ((written : List ℕ) × IsReasonWords table.now reason.now written
         × (string_bytes text.new ≡ string_bytes text.old ++ written)) }
 {
     match *reason {
@@ -45,7 +51,7 @@ fn write_transfer(text: &mut String, mode: &str, moment: u64) -> Result<(), Allo
 }
 
 /// Appends ` because the subway ride of `.
-#[tactic(auto, unfolding(crate::specs::Why::giver_start))]
+#[tactic(auto, unfolding(crate::specs::ReasonWords::giver_start))]
 fn write_giver(text: &mut String, mode: &str) -> Result<(), AllocError>
     ensures { OnOk result (string_bytes text.new ≡ string_bytes text.old ++ giver_start mode.now) }
 {
@@ -64,7 +70,7 @@ fn write_ride(text: &mut String, start: u64, until: u64, charge: Charge) -> Resu
 }
 
 /// Appends the words of a charge before its window.
-#[tactic(auto, unfolding(crate::specs::Why::charge_start))]
+#[tactic(auto, unfolding(crate::specs::ReasonWords::charge_start))]
 fn write_start(text: &mut String, charge: Charge) -> Result<(), AllocError>
     ensures { OnOk result (string_bytes text.new ≡ string_bytes text.old ++ charge_start charge) }
 {
@@ -77,7 +83,7 @@ fn write_start(text: &mut String, charge: Charge) -> Result<(), AllocError>
 }
 
 /// Appends ` because it is ride 3 of the window`, for the place 2.
-#[tactic(auto, unfolding(crate::specs::Why::place_start))]
+#[tactic(auto, unfolding(crate::specs::ReasonWords::place_start))]
 fn write_place(text: &mut String, place: u32) -> Result<(), AllocError>
     ensures { OnOk result (string_bytes text.new ≡ string_bytes text.old ++ place_start place) }
 {
