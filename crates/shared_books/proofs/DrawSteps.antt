@@ -12,8 +12,8 @@ use Rattle.atomic_table.proofs.Lists.{at_set, at_snoc, set_again, set_else, exch
 use Rattle.shared_books.specs.declared.drawing.rule.DrawerState.{DrawerState}
 use Rattle.shared_books.specs.Claims.{all_claims}
 use Rattle.shared_books.specs.Drawing.{times, NoneTwice, AllBelow, HasAll}
-use Rattle.shared_books.specs.inside.Drawing.{IsSpent, times_drawn, IsDrawn}
-use Rattle.shared_books.specs.inside.Hands.{hand, empty_hand, left_hand, new_hand, spent_hand, both_hands, HasTried, HasLooked}
+use Rattle.shared_books.specs.inside.Drawing.{IsSpentDrawer, times_drawn, IsDrawn}
+use Rattle.shared_books.specs.inside.DrawerStates.{drawer_state, empty_drawer_state, left_drawer_state, new_drawer_state, spent_drawer_state, both_drawer_states, HasTried, HasLooked}
 use Rattle.shared_books.proofs.Changed.{sum_set, sum_part, sum_only}
 use Rattle.shared_books.proofs.ClaimSteps.{claims_set, claims_split, claims_join, claims_most, others_spent}
 use Rattle.shared_books.proofs.Numbers.{times-append, times-same, times-other, as_many}
@@ -21,7 +21,7 @@ use Rattle.shared_books.proofs.Numbers.{times-append, times-same, times-other, a
 abbrev S : Type 0
 S = State (Unit {0}) DrawerState
 
-acts : (h : DrawerState) → h.unjoined ≡ true → IsSpent h → ⊥
+acts : (h : DrawerState) → h.unjoined ≡ true → IsSpentDrawer h → ⊥
 acts h unjoined spent = true≢false (sym unjoined ∙ spent.0)
 
 -- what a drawer drew is below the count of drawn ones, and nothing twice
@@ -31,25 +31,25 @@ drawn_once n s j h r at = (
   (λ x le. let part = sum_part (λ v. times x v.drawn) s.views j h at in let z = r.no_other x le in omega arith),
 )
 
--- where one hand changes, and not its numbers
+-- where one drawer's state changes, and not its numbers
 same_drawn : (n : ℕ) (s : S) (j : ℕ) (h : DrawerState) (d : ℕ) → IsDrawn n s → get_elem? s.views j ≡ some h → h.unjoined ≡ true → d ≤ get_or s.words 0 0
-    → IsDrawn n record { words = s.words; homes = s.homes; views = set s.views j (hand h.claims h.numbers d h.drawn) }
+    → IsDrawn n record { words = s.words; homes = s.homes; views = set s.views j (drawer_state h.claims h.numbers d h.drawn) }
 same_drawn n s j h d r at unjoined le =
-    let w = hand h.claims h.numbers d h.drawn in record {
+    let w = drawer_state h.claims h.numbers d h.drawn in record {
       one_word = r.one_word;
       within = r.within;
       once = λ x lt. (let t = sum_set (λ v. times x v.drawn) s.views j h w at in let o = r.once x lt in omega arith);
       no_other = λ x ge. (let t = sum_set (λ v. times x v.drawn) s.views j h w at in let o = r.no_other x ge in omega arith);
       each = λ i v e l. ⊎_elim (λ t. subst (λ (u : DrawerState). (u.numbers ≡ n) × (u.seen ≤ get_or s.words 0 0)) t.1 ((r.each j h at unjoined).0, le)) (λ t. r.each i v t.1 l) (at_set s.views j i w v e);
-      claims = claims_set (λ u. u.claims) IsSpent s.views j h w at refl (acts h unjoined) r.claims;
+      claims = claims_set (λ u. u.claims) IsSpentDrawer s.views j h w at refl (acts h unjoined) r.claims;
     }
 
 -- the draw that was won
 drawn_next : (n : ℕ) (s : S) (j : ℕ) (h : DrawerState) → IsDrawn n s → get_elem? s.views j ≡ some h → h.unjoined ≡ true → get_or s.words 0 0 < n
-    → IsDrawn n record { words = set s.words 0 (get_or s.words 0 0 + 1); homes = s.homes; views = set s.views j (hand h.claims h.numbers (get_or s.words 0 0 + 1) (h.drawn ++ get_or s.words 0 0 ∷ [])) }
+    → IsDrawn n record { words = set s.words 0 (get_or s.words 0 0 + 1); homes = s.homes; views = set s.views j (drawer_state h.claims h.numbers (get_or s.words 0 0 + 1) (h.drawn ++ get_or s.words 0 0 ∷ [])) }
 drawn_next n s j h r at unjoined lt =
     let d : ℕ = get_or s.words 0 0 in
-    let w = hand h.claims h.numbers (d + 1) (h.drawn ++ d ∷ []) in
+    let w = drawer_state h.claims h.numbers (d + 1) (h.drawn ++ d ∷ []) in
     let word : get_or (set s.words 0 (d + 1)) 0 0 ≡ d + 1 = get_or-set_same s.words 0 (d + 1) 0 (let o = r.one_word in omega arith) in
     let count : (x : ℕ) → times_drawn x (set s.views j w) + times x h.drawn ≡ times_drawn x s.views + (times x h.drawn + times x (d ∷ [])) = λ x. sum_set (λ v. times x v.drawn) s.views j h w at ∙ ap (λ k. times_drawn x s.views + k) (times-append x h.drawn (d ∷ [])) in record {
       one_word = length-set s.words 0 (d + 1) ∙ r.one_word;
@@ -60,10 +60,10 @@ drawn_next n s j h r at unjoined lt =
       no_other = λ x ge. (let c = count x in let above : d + 1 ≤ x = subst (λ (k : ℕ). k ≤ x) word ge in let z = r.no_other x (omega arith) in let o = times-other x d (λ e. omega arith) in omega arith);
       each = λ i v e l. ⊎_elim (λ t. subst (λ (u : DrawerState). (u.numbers ≡ n) × (u.seen ≤ get_or (set s.words 0 (d + 1)) 0 0)) t.1 ((r.each j h at unjoined).0, rw word (omega arith)))
           (λ (t : (i ≢ j) × (get_elem? s.views i ≡ some v)). let p = r.each i v t.1 l in (p.0, rw word (omega (arith, p.1)))) (at_set s.views j i w v e);
-      claims = claims_set (λ u. u.claims) IsSpent s.views j h w at refl (acts h unjoined) r.claims;
+      claims = claims_set (λ u. u.claims) IsSpentDrawer s.views j h w at refl (acts h unjoined) r.claims;
     }
 
-pub opens : (n : ℕ) → IsDrawn n (opening (0 ∷ []) [] (empty_hand all_claims n 0))
+pub opens : (n : ℕ) → IsDrawn n (opening (0 ∷ []) [] (empty_drawer_state all_claims n 0))
 opens n = record {
   one_word = refl;
   within = omega arith;
@@ -73,11 +73,11 @@ opens n = record {
   claims = inr (refl, λ j h e gone. absurd (some_claim j h e gone));
 }
   where
-    some_claim : (j : ℕ) (h : DrawerState) → get_elem? (empty_hand all_claims n 0 ∷ []) j ≡ some h → h.claims ≡ 0 → ⊥
+    some_claim : (j : ℕ) (h : DrawerState) → get_elem? (empty_drawer_state all_claims n 0 ∷ []) j ≡ some h → h.claims ≡ 0 → ⊥
     some_claim zero h e gone = let same = ap (λ (u : DrawerState). u.claims) (some-injective _ h e) in omega arith
     some_claim (suc j) h e gone = some-ne-none h (sym e)
 
-    go : (j : ℕ) (h : DrawerState) → get_elem? (empty_hand all_claims n 0 ∷ []) j ≡ some h → (h.numbers ≡ n) × (h.seen ≤ 0)
+    go : (j : ℕ) (h : DrawerState) → get_elem? (empty_drawer_state all_claims n 0 ∷ []) j ≡ some h → (h.numbers ≡ n) × (h.seen ≤ 0)
     go zero h e = subst (λ (u : DrawerState). (u.numbers ≡ n) × (u.seen ≤ 0)) (some-injective _ h e) (refl, omega arith)
     go (suc j) h e = absurd (some-ne-none h (sym e))
 
@@ -88,14 +88,14 @@ draws n slots id me old unjoined seen more s r count at fits =
     let d : ℕ = get_or s.words 0 0 in
     let part = r.each id me.0 at unjoined in
     dite (ℕ_discrete d old)
-    (λ e. let w = hand me.0.claims me.0.numbers (d + 1) (me.0.drawn ++ d ∷ []) in (
+    (λ e. let w = drawer_state me.0.claims me.0.numbers (d + 1) (me.0.drawn ++ d ∷ []) in (
       w,
       keeps,
       tt,
       subst (λ k. IsDrawn n record { words = set s.words 0 k; homes = s.homes; views = set s.views id w }) (exchange_won d old e) (drawn_next n s id me.0 r at unjoined (omega arith)),
       record { won = λ _. refl; lost = λ ne. absurd (ne e); later = omega arith; within = omega arith; carries = refl },
     ))
-    (λ ne. let w = hand me.0.claims me.0.numbers d me.0.drawn in (
+    (λ ne. let w = drawer_state me.0.claims me.0.numbers d me.0.drawn in (
       w,
       keeps,
       tt,
@@ -116,7 +116,7 @@ looks n slots id me unjoined s r count at fits =
     let d : ℕ = get_or s.words 0 0 in
     let part = r.each id me.0 at unjoined in
     let once = drawn_once n s id me.0 r at in
-    let w = hand me.0.claims me.0.numbers d me.0.drawn in (
+    let w = drawer_state me.0.claims me.0.numbers d me.0.drawn in (
       w,
       keeps,
       tt,
@@ -125,10 +125,10 @@ looks n slots id me unjoined s r count at fits =
     )
 
 -- a new drawer, which drew nothing
-pub parts : (n id : ℕ) (h : DrawerState) → h.unjoined ≡ true → Splits (IsDrawn n) id h (left_hand h) (new_hand h)
+pub parts : (n id : ℕ) (h : DrawerState) → h.unjoined ≡ true → Splits (IsDrawn n) id h (left_drawer_state h) (new_drawer_state h)
 parts n id h unjoined s r at =
-    let l = left_hand h in
-    let w = new_hand h in
+    let l = left_drawer_state h in
+    let w = new_drawer_state h in
     let sum : (x : ℕ) → times_drawn x (set s.views id l ++ w ∷ []) ≡ times_drawn x s.views = λ x. (
     let t = sum_set (λ v. times x v.drawn) s.views id h l at in
     let e = sum_by-append (λ v. times x v.drawn) (set s.views id l) (w ∷ []) in
@@ -144,19 +144,19 @@ parts n id h unjoined s r at =
           (at_set s.views id j l v t))
           (λ t. subst (λ (u : DrawerState). (u.numbers ≡ n) × (u.seen ≤ get_or s.words 0 0)) t (r.each id h at unjoined))
           (at_snoc (set s.views id l) w v j e);
-      claims = claims_split (λ u. u.claims) IsSpent s.views id h l w at refl refl (acts h unjoined) r.claims;
+      claims = claims_split (λ u. u.claims) IsSpentDrawer s.views id h l w at refl refl (acts h unjoined) r.claims;
     }
 
 -- one drawer takes over what another holds
-pub meets : (n id : ℕ) (h : DrawerState) (other : ℕ) (k : DrawerState) → h.unjoined ≡ true → k.unjoined ≡ true → Joins (IsDrawn n) id h other k (both_hands h k) spent_hand
+pub meets : (n id : ℕ) (h : DrawerState) (other : ℕ) (k : DrawerState) → h.unjoined ≡ true → k.unjoined ≡ true → Joins (IsDrawn n) id h other k (both_drawer_states h k) spent_drawer_state
 meets n id h other k unjoined lives s r at apart there =
-    let b = both_hands h k in
+    let b = both_drawer_states h k in
     let was : get_elem? s.views other ≡ some k = sym (set_else s.views id other b apart) ∙ there in
     let one = r.each id h at unjoined in
     let two = r.each other k was lives in
-    let sum : (x : ℕ) → times_drawn x (set (set s.views id b) other spent_hand) ≡ times_drawn x s.views = λ x. (
+    let sum : (x : ℕ) → times_drawn x (set (set s.views id b) other spent_drawer_state) ≡ times_drawn x s.views = λ x. (
     let first = sum_set (λ v. times x v.drawn) s.views id h b at in
-    let second = sum_set (λ v. times x v.drawn) (set s.views id b) other k spent_hand there in
+    let second = sum_set (λ v. times x v.drawn) (set s.views id b) other k spent_drawer_state there in
     let added = times-append x h.drawn k.drawn in
     omega arith) in record {
       one_word = r.one_word;
@@ -169,8 +169,8 @@ meets n id h other k unjoined lives s r at apart there =
           (λ u. subst (λ (z : DrawerState). (z.numbers ≡ n) × (z.seen ≤ get_or s.words 0 0)) u.1 (one.0, least one.1 two.1))
           (λ u. r.each j v u.1 l)
           (at_set s.views id j b v t.1))
-          (at_set (set s.views id b) other j spent_hand v e);
-      claims = claims_join (λ u. u.claims) IsSpent s.views id h other k b spent_hand at there refl refl (refl, refl) (acts h unjoined) r.claims;
+          (at_set (set s.views id b) other j spent_drawer_state v e);
+      claims = claims_join (λ u. u.claims) IsSpentDrawer s.views id h other k b spent_drawer_state at there refl refl (refl, refl) (acts h unjoined) r.claims;
     }
   where
     least : {a b c : ℕ} → a ≤ c → b ≤ c → max a b ≤ c
@@ -180,7 +180,7 @@ meets n id h other k unjoined lives s r at apart there =
 drew_all : (n : ℕ) (s : S) (j : ℕ) (h : DrawerState) → IsDrawn n s → get_elem? s.views j ≡ some h → all_claims ≤ h.claims → HasAll (get_or s.words 0 0) h.drawn
 drew_all n s j h r at whole x lt =
     let nothing : (i : ℕ) (k : DrawerState) → i ≢ j → get_elem? s.views i ≡ some k → times x k.drawn ≡ 0 =
-    λ i k ne there. ap (λ xs. times x xs) (others_spent (λ u. u.claims) IsSpent s.views j h at whole r.claims i k ne there).1 in
+    λ i k ne there. ap (λ xs. times x xs) (others_spent (λ u. u.claims) IsSpentDrawer s.views j h at whole r.claims i k ne there).1 in
     sym (sum_only (λ v. times x v.drawn) s.views j h at nothing) ∙ r.once x lt
 
 -- what the closing shows of a drawer
@@ -199,7 +199,7 @@ ends n id h ws xs count f at unjoined =
       each.0,
       below,
       once.0,
-      claims_most (λ u. u.claims) IsSpent s.views id h f.1.1 r.claims,
+      claims_most (λ u. u.claims) IsSpentDrawer s.views id h f.1.1 r.claims,
       λ whole. as_many count h.drawn below (subst (λ k. HasAll k h.drawn) here (drew_all n s id h r f.1.1 whole)),
     )
   where

@@ -5,7 +5,7 @@ use Rattle.shard_book.specs.declared.entry.Entry.{Entry}
 use Rattle.shared_books.specs.declared.turns.rule.Opening.{Opening}
 use Rattle.shared_books.specs.Marks.{mark, others, visits_of, joined}
 use Rattle.shared_books.specs.Turns.{Boxed, IsTurn}
-use Rattle.shared_books.specs.Views.{view}
+use Rattle.shared_books.specs.PassStates.{pass_state}
 use Rattle.shared_books.specs.inside.Steps.{Seat, HasTakenBook, given_back}
 use Rattle.shared_books.specs.inside.Views.{IsFree, SeesMore, HasBookOut, BringsVisit}
 use Rattle.shared_books.proofs.MarkLists.{drop_all}
@@ -32,7 +32,7 @@ taken_out st a b c found out free first few t comes e =
     subst P (sym is) (
       record {
         between = t.between;
-        view_is = ap (λ me. me.0) e ∙ (t.view_is ∙ ap (λ met. view a.0.opened a.0.claims true (a.0.marks ++ others t.between) met) free.met);
+        view_is = ap (λ me. me.0) e ∙ (t.view_is ∙ ap (λ met. pass_state a.0.opened a.0.claims true (a.0.marks ++ others t.between) met) free.met);
         number_is = number;
         few = omega arith;
         legal = t.legal;
@@ -58,8 +58,8 @@ store_allowed k slots id me now number book b e =
     (gives_turn k slots id me.0 book b.visit (2 * number + 2) b.unjoined b.turn (ap (λ n. 2 * n + 2) b.number_is) (subst (λ n. n < 2 ^ 62) b.number_is b.few) b.book_is b.legal)
 
 pub given_is : (me now after : Seat) (book : Boxed) (visit : List Entry) → now ≡ (me.0, (0, Some book) ∷ rest me.1) → me.1 ≡ (0, None) ∷ [] → after ≡ given_back now → book.value.entries ≡ joined (visits_of me.0.marks) ++ visit
-    → after ≡ (view me.0.opened me.0.claims false (me.0.marks ++ mark true visit ∷ []) me.0.met, [])
+    → after ≡ (pass_state me.0.opened me.0.claims false (me.0.marks ++ mark true visit ∷ []) me.0.met, [])
 given_is me now after book visit e carries given entries =
     let is : now ≡ (me.0, (0, Some book) ∷ []) = e ∙ ap (λ (xs : Slots). (me.0, (0, Some book) ∷ xs)) (ap rest carries) in
     let gained : drop (length (joined (visits_of me.0.marks))) book.value.entries ≡ visit = ap (λ es. drop (length (joined (visits_of me.0.marks))) es) entries ∙ drop_all (joined (visits_of me.0.marks)) visit in
-    given ∙ (ap given_back is ∙ (λ i. (view me.0.opened me.0.claims false (me.0.marks ++ mark true (gained i) ∷ []) me.0.met, [])))
+    given ∙ (ap given_back is ∙ (λ i. (pass_state me.0.opened me.0.claims false (me.0.marks ++ mark true (gained i) ∷ []) me.0.met, [])))

@@ -5,8 +5,8 @@ use native.Mathlib.Decide.{ℕ_discrete}
 use Rattle.atomic_table.specs.Table.{Me, Step}
 use Rattle.shared_books.specs.declared.drawing.rule.DrawerState.{DrawerState}
 use Rattle.shared_books.specs.Drawing.{NoneTwice, AllBelow}
-use Rattle.shared_books.specs.inside.Hands.{hand, left_hand, both_hands, HasLooked}
-use Rattle.shared_books.specs.inside.Hands.{IsHeld}
+use Rattle.shared_books.specs.inside.DrawerStates.{drawer_state, left_drawer_state, both_drawer_states, HasLooked}
+use Rattle.shared_books.specs.inside.DrawerStates.{IsHeld}
 use Rattle.shared_books.proofs.Numbers.{times-append, times-same, times-other, few}
 
 abbrev Seat : Type 0
@@ -17,7 +17,7 @@ pub held_few : (held seen : ℕ) (me : Seat) → IsHeld held seen me → (held �
 held_few held seen me h = let e = few me.0.seen me.0.drawn h.below h.none_twice in (omega (arith, h.held_is, h.seen_is), omega (arith, h.seen_is, h.within), h.small)
 
 -- a number more, which is above all that it had
-pub held_won : (held seen : ℕ) (me after : Seat) → IsHeld held seen me → seen < me.0.numbers → after ≡ (hand me.0.claims me.0.numbers (seen + 1) (me.0.drawn ++ seen ∷ []), me.1) → IsHeld (held + 1) (seen + 1) after
+pub held_won : (held seen : ℕ) (me after : Seat) → IsHeld held seen me → seen < me.0.numbers → after ≡ (drawer_state me.0.claims me.0.numbers (seen + 1) (me.0.drawn ++ seen ∷ []), me.1) → IsHeld (held + 1) (seen + 1) after
 held_won held seen me after h more e = subst (λ (m : Seat). IsHeld (held + 1) (seen + 1) m) (sym e) record {
   unjoined = refl;
   carries = h.carries;
@@ -32,7 +32,7 @@ held_won held seen me after h more e = subst (λ (m : Seat). IsHeld (held + 1) (
 }
 
 -- nothing more, and more was seen drawn
-pub held_lost : (held seen found : ℕ) (me after : Seat) → IsHeld held seen me → seen ≤ found → found ≤ me.0.numbers → after ≡ (hand me.0.claims me.0.numbers found me.0.drawn, me.1) → IsHeld held found after
+pub held_lost : (held seen found : ℕ) (me after : Seat) → IsHeld held seen me → seen ≤ found → found ≤ me.0.numbers → after ≡ (drawer_state me.0.claims me.0.numbers found me.0.drawn, me.1) → IsHeld held found after
 held_lost held seen found me after h later within e = subst (λ (m : Seat). IsHeld held found m) (sym e) record {
   unjoined = refl;
   carries = h.carries;
@@ -45,10 +45,10 @@ held_lost held seen found me after h later within e = subst (λ (m : Seat). IsHe
 }
 
 -- the numbers of both, once a look has shown that none is twice
-pub held_met : (held more seen other found : ℕ) (me them met after : Seat) (st : Step (Unit {0})) → IsHeld held seen me → IsHeld more other them → met ≡ (both_hands me.0 them.0, me.1) → HasLooked st met found after
+pub held_met : (held more seen other found : ℕ) (me them met after : Seat) (st : Step (Unit {0})) → IsHeld held seen me → IsHeld more other them → met ≡ (both_drawer_states me.0 them.0, me.1) → HasLooked st met found after
     → IsHeld (held + more) found after
 held_met held more seen other found me them met after st h k e looked =
-    let is : after.0 ≡ hand (me.0.claims + them.0.claims) me.0.numbers found (me.0.drawn ++ them.0.drawn) = looked.seen ∙ ap (λ m. hand m.0.claims m.0.numbers found m.0.drawn) e in
+    let is : after.0 ≡ drawer_state (me.0.claims + them.0.claims) me.0.numbers found (me.0.drawn ++ them.0.drawn) = looked.seen ∙ ap (λ m. drawer_state m.0.claims m.0.numbers found m.0.drawn) e in
     record {
       unjoined = ap (λ v. v.unjoined) is;
       carries = looked.carries ∙ (ap (λ m. m.1) e ∙ h.carries);
@@ -61,7 +61,7 @@ held_met held more seen other found me them met after st h k e looked =
     }
 
 -- what it keeps after a split
-pub held_left : (held seen : ℕ) (me after : Seat) → IsHeld held seen me → after ≡ (left_hand me.0, me.1) → IsHeld held seen after
+pub held_left : (held seen : ℕ) (me after : Seat) → IsHeld held seen me → after ≡ (left_drawer_state me.0, me.1) → IsHeld held seen after
 held_left held seen me after h e = subst (λ (m : Seat). IsHeld held seen m) (sym e) record {
   unjoined = refl;
   carries = h.carries;

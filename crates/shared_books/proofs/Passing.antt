@@ -12,8 +12,8 @@ use Rattle.shared_books.specs.Marks.{mark, others, visits_of, joined, made_from,
 use Rattle.shared_books.specs.Passes.{PassView, seen_by, book_of, IsLater, Visits, IsFull, IsJoined, HasMadeAll}
 use Rattle.shared_books.specs.inside.Passes.{opened_of}
 use Rattle.shared_books.specs.Turns.{Boxed, book_after}
-use Rattle.shared_books.specs.Views.{view}
-use Rattle.shared_books.specs.inside.Steps.{Seat, fresh, left_view, both_views, HasSeen, HasEndedJoin}
+use Rattle.shared_books.specs.PassStates.{pass_state}
+use Rattle.shared_books.specs.inside.Steps.{Seat, new_pass_state, left_pass_state, both_pass_states, HasSeen, HasEndedJoin}
 use Rattle.shared_books.specs.inside.Views.{IsFree, SeesMore, HasBookOut, FindsFull, BringsVisit, IsPass}
 use Rattle.shared_books.proofs.MarkLists.{visits-caught, visits-append, visits-others, length-visits, others-append, joined-snoc, made-others, made-caught, made-snoc, made_few, made_all, length-made-merged}
 use Rattle.shared_books.proofs.TurnSteps.{Closes}
@@ -38,7 +38,7 @@ goes_on a b c g h =
     ap (λ v. v.marks ++ others h.between) g.view_is ∙ (append_assoc a.0.marks (others g.between) (others h.between) ∙ ap (λ ms. a.0.marks ++ ms) (sym (others-append g.between h.between))) in
     record {
       between = g.between ++ h.between;
-      view_is = h.view_is ∙ (ap (λ ms. view b.0.opened b.0.claims b.0.turn ms b.0.met) marks ∙ ap (λ v. view v.opened v.claims v.turn (a.0.marks ++ others (g.between ++ h.between)) v.met) g.view_is);
+      view_is = h.view_is ∙ (ap (λ ms. pass_state b.0.opened b.0.claims b.0.turn ms b.0.met) marks ∙ ap (λ v. pass_state v.opened v.claims v.turn (a.0.marks ++ others (g.between ++ h.between)) v.met) g.view_is);
       carries = h.carries ∙ g.carries;
     }
 
@@ -60,7 +60,7 @@ out_later a b c number book g h =
     let opened : b.0.opened ≡ a.0.opened = ap (λ v. v.opened) g.view_is in
     record {
       between = g.between ++ h.between;
-      view_is = h.view_is ∙ (ap (λ ms. view b.0.opened b.0.claims true ms []) marks ∙ ap (λ v. view v.opened v.claims true (a.0.marks ++ others (g.between ++ h.between)) []) g.view_is);
+      view_is = h.view_is ∙ (ap (λ ms. pass_state b.0.opened b.0.claims true ms []) marks ∙ ap (λ v. pass_state v.opened v.claims true (a.0.marks ++ others (g.between ++ h.between)) []) g.view_is);
       number_is = h.number_is ∙ (ap (λ (ms : List Mark). b.0.opened.first + length ms) marks ∙ ap (λ (o : Opening). o.first + length (a.0.marks ++ others (g.between ++ h.between))) opened);
       few = h.few;
       legal = subst (λ (o : Opening). IsLegal o.book.value.table (joined (visits_of (a.0.marks ++ others (g.between ++ h.between))))) opened (subst (λ ms. IsLegal b.0.opened.book.value.table (joined (visits_of ms))) marks h.legal);
@@ -138,7 +138,7 @@ pub full_pass : (home : TableId) (b : Seat) → b.0.opened.first + length b.0.ma
 full_pass home b e = record { count = ap (λ n. b.0.opened.first + n) (length-visits b.0.marks) ∙ e }
 
 -- a new pass
-pub new_pass_is : (held : ℕ) (a : Seat) (b : Seat) → IsPass held a → b ≡ (fresh a.0, []) → IsPass 0 b
+pub new_pass_is : (held : ℕ) (a : Seat) (b : Seat) → IsPass held a → b ≡ (new_pass_state a.0, []) → IsPass 0 b
 new_pass_is held a b p e = subst (λ (me : Seat). IsPass 0 me) (sym e) record {
   free = record { unjoined = refl; turn = refl; met = refl; carries = refl };
   held_is = sym (ap (λ (made : List (ℕ × List Entry)). length made) (made-others a.0.opened.first (visits_of a.0.marks)));
@@ -146,7 +146,7 @@ new_pass_is held a b p e = subst (λ (me : Seat). IsPass 0 me) (sym e) record {
 }
 
 -- and the old one after it was split off
-pub left_pass_is : (held : ℕ) (a : Seat) (b : Seat) → IsPass held a → b ≡ (left_view a.0, a.1) → IsPass held b
+pub left_pass_is : (held : ℕ) (a : Seat) (b : Seat) → IsPass held a → b ≡ (left_pass_state a.0, a.1) → IsPass held b
 left_pass_is held a b p e = subst (λ (me : Seat). IsPass held me) (sym e) record {
   free = record { unjoined = refl; turn = p.free.turn; met = p.free.met; carries = p.free.carries };
   held_is = p.held_is;
@@ -189,7 +189,7 @@ nothing_more book = λ i. record { table = book.table; shard = book.shard; shard
 
 -- the seat after the turn was given back
 abbrev pub gave_back : Seat → List Entry → Seat
-gave_back b visit = (view b.0.opened b.0.claims false (b.0.marks ++ mark true visit ∷ []) b.0.met, [])
+gave_back b visit = (pass_state b.0.opened b.0.claims false (b.0.marks ++ mark true visit ∷ []) b.0.met, [])
 
 pub pass_visits : (held : ℕ) (a b c : Seat) (number : ℕ) (book : Book) (visit : List Entry) → IsPass held a → HasBookOut a b number book → c ≡ gave_back b visit → IsPass (held + 1) c
 pass_visits held a b c number book visit p h e =
@@ -224,9 +224,9 @@ visits_made home a b c number book visit h e legal =
     }
 
 -- two passes meet
-pub pass_joins : (held more : ℕ) (a b met c : Seat) → IsPass held a → IsPass more b → met ≡ (both_views a.0 b.0, a.1) → HasEndedJoin met c → a.0.opened.first ≡ b.0.opened.first → IsPass (held + more) c
+pub pass_joins : (held more : ℕ) (a b met c : Seat) → IsPass held a → IsPass more b → met ≡ (both_pass_states a.0 b.0, a.1) → HasEndedJoin met c → a.0.opened.first ≡ b.0.opened.first → IsPass (held + more) c
 pass_joins held more a b met c p q e h first =
-    let now : c.0 ≡ view a.0.opened (a.0.claims + b.0.claims) a.0.turn (merged a.0.marks b.0.marks) [] = h.view_is ∙ ap (λ (me : Seat). view me.0.opened me.0.claims me.0.turn (merged me.0.marks me.0.met) []) e in
+    let now : c.0 ≡ pass_state a.0.opened (a.0.claims + b.0.claims) a.0.turn (merged a.0.marks b.0.marks) [] = h.view_is ∙ ap (λ (me : Seat). pass_state me.0.opened me.0.claims me.0.turn (merged me.0.marks me.0.met) []) e in
     let apart : Apart a.0.marks b.0.marks = subst (λ (me : Seat). Apart me.0.marks me.0.met) e h.apart in
     record {
       free = record { unjoined = ap (λ v. v.unjoined) now; turn = ap (λ v. v.turn) now ∙ p.free.turn; met = ap (λ v. v.met) now; carries = h.carries ∙ (ap (λ me. me.1) e ∙ p.free.carries) };
@@ -241,9 +241,9 @@ pass_joins held more a b met c p q e h first =
           let f = h.small in omega arith);
     }
 
-pub joined_of : (home : TableId) (a b met c : Seat) → met ≡ (both_views a.0 b.0, a.1) → HasEndedJoin met c → a.0.opened.first ≡ b.0.opened.first → IsJoined (knows home a) (knows home b) (knows home c)
+pub joined_of : (home : TableId) (a b met c : Seat) → met ≡ (both_pass_states a.0 b.0, a.1) → HasEndedJoin met c → a.0.opened.first ≡ b.0.opened.first → IsJoined (knows home a) (knows home b) (knows home c)
 joined_of home a b met c e h first =
-    let now : c.0 ≡ view a.0.opened (a.0.claims + b.0.claims) a.0.turn (merged a.0.marks b.0.marks) [] = h.view_is ∙ ap (λ (me : Seat). view me.0.opened me.0.claims me.0.turn (merged me.0.marks me.0.met) []) e in
+    let now : c.0 ≡ pass_state a.0.opened (a.0.claims + b.0.claims) a.0.turn (merged a.0.marks b.0.marks) [] = h.view_is ∙ ap (λ (me : Seat). pass_state me.0.opened me.0.claims me.0.turn (merged me.0.marks me.0.met) []) e in
     let apart : Apart a.0.marks b.0.marks = subst (λ (me : Seat). Apart me.0.marks me.0.met) e h.apart in
     record {
       book = ap (λ v. opened_of home v.opened) now;

@@ -8,7 +8,7 @@ use Rattle.shared_books.specs.Machine.{Machine, taken, given, start, after}
 use Rattle.shared_books.specs.Marks.{mark, others, visits_of, joined}
 use Rattle.shard_book.specs.History.{IsLegal}
 use Rattle.shared_books.specs.Turns.{Boxed, book_after, HoldsTurn, ShowsMachine}
-use Rattle.shared_books.specs.Views.{view}
+use Rattle.shared_books.specs.PassStates.{pass_state}
 use Rattle.shared_books.specs.Events.{IsShown, StepsAreEvents, TakesAreEvents, GivesAreEvents, taken_by}
 use Rattle.shared_books.proofs.MarkLists.{made_at-caught}
 use Rattle.shared_books.proofs.TurnSteps.{schedule_snoc, after-snoc, word_of, caught_up, took, gave}
@@ -77,8 +77,8 @@ gives_are k s seat v t at unjoined on visit book is legal =
       record {
         events = t.events ++ given seat visit ∷ [];
         schedule = schedule_snoc (start k.first) t.events (given seat visit) t.schedule holds;
-        shows = subst (λ w. ShowsMachine k (after (start k.first) (t.events ++ given seat visit ∷ [])) record { words = set s.words 0 w; homes = set s.homes 0 (some (Some book)); views = set s.views seat (view v.opened v.claims false (v.marks ++ mark true visit ∷ []) v.met) }) more
-            (subst (λ (x : Machine). ShowsMachine k x record { words = set s.words 0 (2 * m.count + 2); homes = set s.homes 0 (some (Some book)); views = set s.views seat (view v.opened v.claims false (v.marks ++ mark true visit ∷ []) v.met) }) (sym (after-snoc (start k.first) t.events (given seat visit)))
+        shows = subst (λ w. ShowsMachine k (after (start k.first) (t.events ++ given seat visit ∷ [])) record { words = set s.words 0 w; homes = set s.homes 0 (some (Some book)); views = set s.views seat (pass_state v.opened v.claims false (v.marks ++ mark true visit ∷ []) v.met) }) more
+            (subst (λ (x : Machine). ShowsMachine k x record { words = set s.words 0 (2 * m.count + 2); homes = set s.homes 0 (some (Some book)); views = set s.views seat (pass_state v.opened v.claims false (v.marks ++ mark true visit ∷ []) v.met) }) (sym (after-snoc (start k.first) t.events (given seat visit)))
             (gave k m s seat v visit book sh at unjoined holds all (omega arith) (is ∙ ap (λ vs. book_after k (vs ++ visit ∷ [])) all) (subst (λ vs. IsLegal k.book.value.table (joined (vs ++ visit ∷ []))) all legal)));
       },
       refl,

@@ -18,9 +18,9 @@ use Rattle.shared_books.specs.declared.turns.rule.PassState.{PassState}
 use Rattle.shared_books.specs.Claims.{all_claims}
 use Rattle.shared_books.specs.Machine.{Machine, Event, taken, given, start, May, next, after, IsSchedule}
 use Rattle.shared_books.specs.Marks.{mark, others, visits_of, joined, made_at, made_from, Apart, Begins, merged}
-use Rattle.shared_books.specs.Turns.{Boxed, book_after, makers, FitsMachine, IsNobody, ShowsMachine, IsTurn}
-use Rattle.shared_books.specs.Views.{view}
-use Rattle.shared_books.specs.inside.Steps.{Seat, nobody, fresh, left_view, both_views, HasSeen, HasTriedTurn, given_back, HasEndedJoin}
+use Rattle.shared_books.specs.Turns.{Boxed, book_after, makers, FitsMachine, IsSpentPass, ShowsMachine, IsTurn}
+use Rattle.shared_books.specs.PassStates.{pass_state}
+use Rattle.shared_books.specs.inside.Steps.{Seat, spent_pass_state, new_pass_state, left_pass_state, both_pass_states, HasSeen, HasTriedTurn, given_back, HasEndedJoin}
 use Rattle.shared_books.proofs.Changed.{sum_set, sum_part, sum_only, at_less}
 use Rattle.shared_books.proofs.ClaimSteps.{claims_set, claims_split, claims_join, claims_most, others_spent}
 use Rattle.shared_books.proofs.MarkLists.{visits-caught, visits-append, visits-others, length-visits, joined-snoc, drop_all, made_at-others, made_at-caught, made_at-here, made_at-else, made_at-beyond, made_at-merged, made_many, begins_merged, begins_either, begins_whole, begins_shorter}
@@ -28,7 +28,7 @@ use Rattle.shared_books.proofs.MarkLists.{visits-caught, visits-append, visits-o
 abbrev S : Type 0
 S = State (Option Boxed) PassState
 
-acts : (v : PassState) → v.unjoined ≡ true → IsNobody v → ⊥
+acts : (v : PassState) → v.unjoined ≡ true → IsSpentPass v → ⊥
 acts v unjoined gone = true≢false (sym unjoined ∙ gone.0)
 
 -- the schedule and the machine, one event longer
@@ -62,9 +62,9 @@ turn_set views id v w seat at unjoined same t = dite (ℕ_discrete seat id)
 seen_set : (k : Opening) (m : Machine) (s : S) (id : ℕ) (v : PassState) (marks met : List Mark) → ShowsMachine k m s → get_elem? s.views id ≡ some v → v.unjoined ≡ true
     → Begins (visits_of marks) m.visits → Begins (visits_of met) m.visits → (v.turn ≡ true → visits_of marks ≡ m.visits)
     → ((i : ℕ) → made_at i marks + made_at i met ≡ made_at i v.marks + made_at i v.met)
-    → ShowsMachine k m record { words = s.words; homes = s.homes; views = set s.views id (view v.opened v.claims v.turn marks met) }
+    → ShowsMachine k m record { words = s.words; homes = s.homes; views = set s.views id (pass_state v.opened v.claims v.turn marks met) }
 seen_set k m s id v marks met r at unjoined seen other turn counts =
-    let w = view v.opened v.claims v.turn marks met in
+    let w = pass_state v.opened v.claims v.turn marks met in
     let f = r.each id v at unjoined in
     let same : (i : ℕ) → makers i (set s.views id w) ≡ makers i s.views = λ i. (let t = sum_set (λ u. made_at i u.marks + made_at i u.met) s.views id v w at in let c = counts i in omega arith) in
     let fits : FitsMachine k m id w = record { opened = f.opened; seen = seen; met = other; turn = λ on. ((f.turn on).0, turn on) } in record {
@@ -81,7 +81,7 @@ seen_set k m s id v marks met r at unjoined seen other turn counts =
           (at_set s.views id j w u e);
       once = λ i lt. same i ∙ r.once i lt;
       no_other = λ i ge. same i ∙ r.no_other i ge;
-      claims = claims_set (λ u. u.claims) IsNobody s.views id v w at refl (acts v unjoined) r.claims;
+      claims = claims_set (λ u. u.claims) IsSpentPass s.views id v w at refl (acts v unjoined) r.claims;
     }
 
 -- a pass that has seen what is counted
@@ -118,7 +118,7 @@ looks k slots id me unjoined s r count at fits =
     let f = sh.each id v at unjoined in
     let c = caught_up k m s id v sh f in
     let marks : List Mark = v.marks ++ others c.more in
-    let w = view v.opened v.claims v.turn marks v.met in (
+    let w = pass_state v.opened v.claims v.turn marks v.met in (
       w,
       keeps,
       tt,
@@ -141,9 +141,9 @@ looks k slots id me unjoined s r count at fits =
 -- the turn is taken
 pub took : (k : Opening) (m : Machine) (s : S) (id : ℕ) (v : PassState) (marks : List Mark) → ShowsMachine k m s → get_elem? s.views id ≡ some v → v.unjoined ≡ true → m.holder ≡ none
     → visits_of marks ≡ m.visits → get_or s.words 0 0 < 2 ^ 63 → ((i : ℕ) → made_at i marks ≡ made_at i v.marks)
-    → ShowsMachine k (next m (taken id)) record { words = set s.words 0 (get_or s.words 0 0 + 1); homes = set s.homes 0 none; views = set s.views id (view v.opened v.claims true marks v.met) }
+    → ShowsMachine k (next m (taken id)) record { words = set s.words 0 (get_or s.words 0 0 + 1); homes = set s.homes 0 none; views = set s.views id (pass_state v.opened v.claims true marks v.met) }
 took k m s id v marks r at unjoined nobody_has all few counts =
-    let w = view v.opened v.claims true marks v.met in
+    let w = pass_state v.opened v.claims true marks v.met in
     let f = r.each id v at unjoined in
     let free = r.free nobody_has in
     let word : get_or (set s.words 0 (get_or s.words 0 0 + 1)) 0 0 ≡ 2 * m.count + 1 = get_or-set_same s.words 0 _ 0 (let o = r.one_word in omega arith) ∙ ap (λ n. n + 1) free.0 in
@@ -166,7 +166,7 @@ took k m s id v marks r at unjoined nobody_has all few counts =
           (at_set s.views id j w u e);
       once = λ i lt. same i ∙ r.once i lt;
       no_other = λ i ge. same i ∙ r.no_other i ge;
-      claims = claims_set (λ u. u.claims) IsNobody s.views id v w at refl (acts v unjoined) r.claims;
+      claims = claims_set (λ u. u.claims) IsSpentPass s.views id v w at refl (acts v unjoined) r.claims;
     }
 
 -- a try to take the turn, at an even turn word
@@ -182,7 +182,7 @@ takes_turn k slots id me old half unjoined off even few s r count at fits = dite
     let marks : List Mark = v.marks ++ others c.more in
     let nobody_has : m.holder ≡ none = ⊎_elim (λ t. t.0) (λ t. let odd = t.2 in absurd (omega arith)) (word_of k m s sh) in
     let free = sh.free nobody_has in
-    let w = view v.opened v.claims true marks v.met in
+    let w = pass_state v.opened v.claims true marks v.met in
     let b = free.1.0 in
     let value : b.value ≡ book_after v.opened (visits_of marks) = free.1.2 ∙ (ap (λ vs. book_after k vs) (sym c.all) ∙ ap (λ o. book_after o (visits_of marks)) (sym f.opened)) in
     let one : get_or s.words 0 0 + 1 ≡ either (eqb (get_or s.words 0 0) old) (old + 1) (get_or s.words 0 0) = exchanged (get_or s.words 0 0) old (old + 1) (λ n. get_or s.words 0 0 + 1 ≡ n) (λ _. ap (λ n. n + 1) e) (λ ne. absurd (ne e)) in (
@@ -214,10 +214,10 @@ takes_turn k slots id me old half unjoined off even few s r count at fits = dite
 -- the turn is given back with a visit
 pub gave : (k : Opening) (m : Machine) (s : S) (id : ℕ) (v : PassState) (visit : List Entry) (b : Boxed) → ShowsMachine k m s → get_elem? s.views id ≡ some v → v.unjoined ≡ true → m.holder ≡ some id
     → visits_of v.marks ≡ m.visits → m.count < 2 ^ 62 → b.value ≡ book_after k (m.visits ++ visit ∷ []) → IsLegal k.book.value.table (joined (m.visits ++ visit ∷ []))
-    → ShowsMachine k (next m (given id visit)) record { words = set s.words 0 (2 * m.count + 2); homes = set s.homes 0 (some (Some b)); views = set s.views id (view v.opened v.claims false (v.marks ++ mark true visit ∷ []) v.met) }
+    → ShowsMachine k (next m (given id visit)) record { words = set s.words 0 (2 * m.count + 2); homes = set s.homes 0 (some (Some b)); views = set s.views id (pass_state v.opened v.claims false (v.marks ++ mark true visit ∷ []) v.met) }
 gave k m s id v visit b r at unjoined holds all few book legal =
     let marks : List Mark = v.marks ++ mark true visit ∷ [] in
-    let w = view v.opened v.claims false marks v.met in
+    let w = pass_state v.opened v.claims false marks v.met in
     let f = r.each id v at unjoined in
     let word : get_or (set s.words 0 (2 * m.count + 2)) 0 0 ≡ 2 * m.count + 2 = get_or-set_same s.words 0 _ 0 (let o = r.one_word in omega arith) in
     let longer : length (m.visits ++ visit ∷ []) ≡ length m.visits + 1 = length-append m.visits (visit ∷ []) in
@@ -243,7 +243,7 @@ gave k m s id v visit b r at unjoined holds all few book legal =
           (λ e. (let t = sum i in let z = r.no_other i (omega arith) in let here : made_at i marks ≡ 1 = ap (λ n. made_at n marks) e ∙ made_at-here v.marks visit in let none_yet = made_at-beyond i v.marks (omega arith) in omega arith))
           (λ ne. (let t = sum i in let o = r.once i (omega (arith, ne)) in let else_same = made_at-else i v.marks visit ne in omega arith));
       no_other = λ i ge. (let t = sum i in let z = r.no_other i (omega arith) in let else_same = made_at-else i v.marks visit (λ e. omega arith) in omega arith);
-      claims = claims_set (λ u. u.claims) IsNobody s.views id v w at refl (acts v unjoined) r.claims;
+      claims = claims_set (λ u. u.claims) IsSpentPass s.views id v w at refl (acts v unjoined) r.claims;
     }
 
 pub gives_turn : (k : Opening) (slots id : ℕ) (v : PassState) (b : Boxed) (visit : List Entry) (new : ℕ) → v.unjoined ≡ true → v.turn ≡ true → new ≡ 2 * (v.opened.first + length v.marks) + 2 → v.opened.first + length v.marks < 2 ^ 62
@@ -256,7 +256,7 @@ gives_turn k slots id v b visit new unjoined on is few book legal s r count at f
     let all : visits_of v.marks ≡ m.visits = (f.turn on).1 in
     let size : length v.marks ≡ length m.visits = sym (length-visits v.marks) ∙ ap (λ (vs : List (List Entry)). length vs) all in
     let number : v.opened.first + length v.marks ≡ m.count = let c = sh.count in let first : v.opened.first ≡ k.first = ap (λ o. o.first) f.opened in omega arith in
-    let w = view v.opened v.claims false (v.marks ++ mark true visit ∷ []) v.met in
+    let w = pass_state v.opened v.claims false (v.marks ++ mark true visit ∷ []) v.met in
     let entries : b.value.entries ≡ joined (visits_of v.marks) ++ visit = ap (λ x. x.entries) book ∙ joined-snoc (visits_of v.marks) visit in
     let gained : drop (length (joined (visits_of v.marks))) b.value.entries ≡ visit = ap (λ es. drop (length (joined (visits_of v.marks))) es) entries ∙ drop_all (joined (visits_of v.marks)) visit in
     let book_now : b.value ≡ book_after k (m.visits ++ visit ∷ []) = book ∙ (ap (λ vs. book_after v.opened (vs ++ visit ∷ [])) all ∙ ap (λ o. book_after o (m.visits ++ visit ∷ [])) f.opened) in
@@ -271,16 +271,16 @@ gives_turn k slots id v b visit new unjoined on is few book legal s r count at f
             (subst (λ n. ShowsMachine k n record { words = set s.words 0 (2 * m.count + 2); homes = set s.homes 0 (some (Some b)); views = set s.views id w }) (sym (after-snoc (start k.first) r.events (given id visit)))
             (gave k m s id v visit b sh at unjoined (f.turn on).0 all (omega arith) book_now legal_now));
       },
-      (λ i. (view v.opened v.claims false (v.marks ++ mark true (sym gained i) ∷ []) v.met, [])),
+      (λ i. (pass_state v.opened v.claims false (v.marks ++ mark true (sym gained i) ∷ []) v.met, [])),
     )
 
 -- a new pass
-pub parts : (k : Opening) (id : ℕ) (v : PassState) → v.unjoined ≡ true → Splits (IsTurn k) id v (left_view v) (fresh v)
+pub parts : (k : Opening) (id : ℕ) (v : PassState) → v.unjoined ≡ true → Splits (IsTurn k) id v (left_pass_state v) (new_pass_state v)
 parts k id v unjoined s r at =
     let m : Machine = after (start k.first) r.events in
     let sh = r.shows in
-    let l = left_view v in
-    let w = fresh v in
+    let l = left_pass_state v in
+    let w = new_pass_state v in
     let f = sh.each id v at unjoined in
     let nothing : (i : ℕ) → made_at i w.marks ≡ 0 = λ i. made_at-others i (visits_of v.marks) in
     let sum : (i : ℕ) → makers i (set s.views id l ++ w ∷ []) ≡ makers i s.views = λ i. (
@@ -313,22 +313,22 @@ parts k id v unjoined s r at =
             (at_snoc (set s.views id l) w u j e);
         once = λ i lt. sum i ∙ sh.once i lt;
         no_other = λ i ge. sum i ∙ sh.no_other i ge;
-        claims = claims_split (λ u. u.claims) IsNobody s.views id v l w at refl refl (acts v unjoined) sh.claims;
+        claims = claims_split (λ u. u.claims) IsSpentPass s.views id v l w at refl refl (acts v unjoined) sh.claims;
       };
     }
 
 -- one pass takes over what another has
-pub meets : (k : Opening) (id : ℕ) (v : PassState) (other : ℕ) (u : PassState) → v.unjoined ≡ true → u.unjoined ≡ true → v.met ≡ [] → u.met ≡ [] → u.turn ≡ false → Joins (IsTurn k) id v other u (both_views v u) nobody
+pub meets : (k : Opening) (id : ℕ) (v : PassState) (other : ℕ) (u : PassState) → v.unjoined ≡ true → u.unjoined ≡ true → v.met ≡ [] → u.met ≡ [] → u.turn ≡ false → Joins (IsTurn k) id v other u (both_pass_states v u) spent_pass_state
 meets k id v other u unjoined lives met met_too off s r at apart there =
     let m : Machine = after (start k.first) r.events in
     let sh = r.shows in
-    let w = both_views v u in
+    let w = both_pass_states v u in
     let was : get_elem? s.views other ≡ some u = sym (set_else s.views id other w apart) ∙ there in
     let f = sh.each id v at unjoined in
     let g = sh.each other u was lives in
-    let sum : (i : ℕ) → makers i (set (set s.views id w) other nobody) ≡ makers i s.views = λ i. (
+    let sum : (i : ℕ) → makers i (set (set s.views id w) other spent_pass_state) ≡ makers i s.views = λ i. (
     let first = sum_set (λ z. made_at i z.marks + made_at i z.met) s.views id v w at in
-    let second = sum_set (λ z. made_at i z.marks + made_at i z.met) (set s.views id w) other u nobody there in
+    let second = sum_set (λ z. made_at i z.marks + made_at i z.met) (set s.views id w) other u spent_pass_state there in
     let mine = ap (λ ms. made_at i ms) met in
     let theirs = ap (λ ms. made_at i ms) met_too in
     omega arith) in
@@ -346,18 +346,18 @@ meets k id v other u unjoined lives met met_too off s r at apart there =
             let p = sh.held seat e in
             let q = turn_set s.views id v w seat at refl refl p.2 in
             let not_other : seat ≢ other = λ same. true≢false (sym (sym (ap (λ z. z.turn) (some-injective q.0 u (sym q.1 ∙ (ap (λ j. get_elem? (set s.views id w) j) same ∙ there)))) ∙ q.3) ∙ off) in
-            (p.0, p.1, (q.0, set_else (set s.views id w) other seat nobody not_other ∙ q.1, q.2, q.3)));
+            (p.0, p.1, (q.0, set_else (set s.views id w) other seat spent_pass_state not_other ∙ q.1, q.2, q.3)));
         legal = sh.legal;
         each = λ j z e l. ⊎_elim
-            (λ (t : (j ≡ other) × (nobody ≡ z)). absurd (true≢false (sym l ∙ ap (λ y. y.unjoined) (sym t.1))))
+            (λ (t : (j ≡ other) × (spent_pass_state ≡ z)). absurd (true≢false (sym l ∙ ap (λ y. y.unjoined) (sym t.1))))
             (λ (t : (j ≢ other) × (get_elem? (set s.views id w) j ≡ some z)). ⊎_elim
             (λ (q : (j ≡ id) × (w ≡ z)). subst (λ (y : PassState). FitsMachine k m j y) q.1 (subst (λ i. FitsMachine k m i w) (sym q.0) fits))
             (λ (q : (j ≢ id) × (get_elem? s.views j ≡ some z)). sh.each j z q.1 l)
             (at_set s.views id j w z t.1))
-            (at_set (set s.views id w) other j nobody z e);
+            (at_set (set s.views id w) other j spent_pass_state z e);
         once = λ i lt. sum i ∙ sh.once i lt;
         no_other = λ i ge. sum i ∙ sh.no_other i ge;
-        claims = claims_join (λ z. z.claims) IsNobody s.views id v other u w nobody at there refl refl (refl, refl, refl) (acts v unjoined) sh.claims;
+        claims = claims_join (λ z. z.claims) IsSpentPass s.views id v other u w spent_pass_state at there refl refl (refl, refl, refl) (acts v unjoined) sh.claims;
       };
     }
 
@@ -380,7 +380,7 @@ settles k slots id me unjoined off s r count at fits =
     let apart = apart_of k m s id v sh at in
     let marks : List Mark = merged v.marks v.met in
     let seen = begins_merged v.marks v.met m.visits f.seen f.met in
-    let w = view v.opened v.claims v.turn marks [] in (
+    let w = pass_state v.opened v.claims v.turn marks [] in (
       w,
       keeps,
       tt,
@@ -413,7 +413,7 @@ settles k slots id me unjoined off s r count at fits =
     few_held n c e le = omega arith
 
 -- the table at the start
-pub opens : (first : ℕ) (o : Opening) (b : Book) (x : Boxed) → x.value ≡ b → o.first ≡ first → o.book.value ≡ b → b.entries ≡ [] → IsLegal b.table b.entries → first ≤ 2 ^ 62 → IsTurn o (opening (2 * first ∷ []) (Some x ∷ []) (view o all_claims false [] []))
+pub opens : (first : ℕ) (o : Opening) (b : Book) (x : Boxed) → x.value ≡ b → o.first ≡ first → o.book.value ≡ b → b.entries ≡ [] → IsLegal b.table b.entries → first ≤ 2 ^ 62 → IsTurn o (opening (2 * first ∷ []) (Some x ∷ []) (pass_state o all_claims false [] []))
 opens first o b x holds is book empty legal small =
     let whole : b ≡ book_after o [] = (λ i. record { table = b.table; shard = b.shard; shards = b.shards; entries = empty i }) ∙ ap (λ x. record { table = x.table; shard = x.shard; shards = x.shards; entries = [] }) (sym book) in
     record {
@@ -434,11 +434,11 @@ opens first o b x holds is book empty legal small =
       };
     }
   where
-    some_claim : (o : Opening) (j : ℕ) (u : PassState) → get_elem? (view o all_claims false [] [] ∷ []) j ≡ some u → u.claims ≡ 0 → ⊥
+    some_claim : (o : Opening) (j : ℕ) (u : PassState) → get_elem? (pass_state o all_claims false [] [] ∷ []) j ≡ some u → u.claims ≡ 0 → ⊥
     some_claim o zero u e gone = let same = ap (λ (z : PassState). z.claims) (some-injective _ u e) in omega arith
     some_claim o (suc j) u e gone = some-ne-none u (sym e)
 
-    first_view : (o : Opening) (j : ℕ) (u : PassState) → get_elem? (view o all_claims false [] [] ∷ []) j ≡ some u → FitsMachine o (start o.first) j u
+    first_view : (o : Opening) (j : ℕ) (u : PassState) → get_elem? (pass_state o all_claims false [] [] ∷ []) j ≡ some u → FitsMachine o (start o.first) j u
     first_view o zero u e = subst (λ (z : PassState). FitsMachine o (start o.first) 0 z) (some-injective _ u e) record { opened = refl; seen = ([], refl); met = ([], refl); turn = λ on. absurd (true≢false (sym on)) }
     first_view o (suc j) u e = absurd (some-ne-none u (sym e))
 
@@ -469,14 +469,14 @@ nobody_else k m s id v r at off whole seat holds =
     let here : get_elem? s.views id ≡ some t.0 = subst (λ j. get_elem? s.views j ≡ some t.0) e t.1 in
     let one : t.0 ≡ v = some-injective t.0 v (sym here ∙ at) in
     true≢false (sym t.3 ∙ (ap (λ z. z.turn) one ∙ off)))
-    (λ ne. true≢false (sym t.2 ∙ (others_spent (λ u. u.claims) IsNobody s.views id v at whole r.claims seat t.0 ne t.1).0))
+    (λ ne. true≢false (sym t.2 ∙ (others_spent (λ u. u.claims) IsSpentPass s.views id v at whole r.claims seat t.0 ne t.1).0))
 
 -- and has made all visits
 made_each : (k : Opening) (m : Machine) (s : S) (id : ℕ) (v : PassState) → ShowsMachine k m s → get_elem? s.views id ≡ some v → v.met ≡ [] → all_claims ≤ v.claims → (i : ℕ) → i < length m.visits → made_at i v.marks ≡ 1
 made_each k m s id v r at met whole i lt =
     let nothing : (j : ℕ) (u : PassState) → j ≢ id → get_elem? s.views j ≡ some u → made_at i u.marks + made_at i u.met ≡ 0 =
     λ j u ne there. (
-    let gone = others_spent (λ z. z.claims) IsNobody s.views id v at whole r.claims j u ne there in
+    let gone = others_spent (λ z. z.claims) IsSpentPass s.views id v at whole r.claims j u ne there in
     let marks : made_at i u.marks ≡ 0 = ap (λ (ms : List Mark). made_at i ms) gone.1 in
     let others_met : made_at i u.met ≡ 0 = ap (λ (ms : List Mark). made_at i ms) gone.2 in
     omega arith) in
@@ -496,7 +496,7 @@ closes k id v ws xs word slot final at home unjoined off met =
     let size = length-visits v.marks in
     let shorter = begins_shorter (visits_of v.marks) m.visits f.seen in
     let c = sh.count in
-    let most = claims_most (λ u. u.claims) IsNobody s.views id v final.1.1 sh.claims in
+    let most = claims_most (λ u. u.claims) IsSpentPass s.views id v final.1.1 sh.claims in
     ⊎_elim
     (λ (t : (m.holder ≡ none) × (get_or s.words 0 0 ≡ 2 * m.count)).
     let half = half_even word m.count (sym here ∙ t.1) in

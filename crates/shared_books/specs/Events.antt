@@ -11,7 +11,7 @@ use Rattle.shared_books.specs.declared.turns.rule.PassState.{PassState}
 use Rattle.shared_books.specs.Machine.{Machine, Event, taken, given, start, after, IsSchedule}
 use Rattle.shared_books.specs.Marks.{mark, others, visits_of, joined, Begins}
 use Rattle.shared_books.specs.Turns.{Boxed, book_after, HasBook, HoldsTurn, IsTurn}
-use Rattle.shared_books.specs.Views.{view}
+use Rattle.shared_books.specs.PassStates.{pass_state}
 
 -- the turn word is even: so many visits are counted, nobody has the turn, and the book of all
 -- visits is in the slot
@@ -58,7 +58,8 @@ abbrev pub taken_by : State (Option Boxed) PassState → ℕ → PassState → L
 taken_by s seat v between = record {
   words = slice_set s.words 0 (slice_index s.words 0 + 1);
   homes = slice_set s.homes 0 none;
-  views = slice_set s.views seat (view v.opened v.claims true (v.marks ++ others between) v.met);
+  views = slice_set s.views seat
+      (pass_state v.opened v.claims true (v.marks ++ others between) v.met);
 }
 
 -- the state after a seat gave the turn back with a visit: the turn word is one more, and the book
@@ -69,7 +70,7 @@ given_back_by s seat v visit book = record {
   words = slice_set s.words 0 (slice_index s.words 0 + 1);
   homes = slice_set s.homes 0 (some (Some book));
   views = slice_set s.views seat
-      (view v.opened v.claims false (v.marks ++ mark true visit ∷ []) v.met);
+      (pass_state v.opened v.claims false (v.marks ++ mark true visit ∷ []) v.met);
 }
 
 -- a take at an even turn word is the event of its seat

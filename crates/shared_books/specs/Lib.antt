@@ -1,4 +1,4 @@
-pub mod Answers
+pub mod Results
 pub mod Claims
 pub mod Drawing
 pub mod Events
@@ -6,5 +6,5 @@ pub mod Machine
 pub mod Marks
 pub mod Passes
 pub mod Turns
-pub mod Views
+pub mod PassStates
 pub mod inside

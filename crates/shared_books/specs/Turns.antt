@@ -53,8 +53,8 @@ HoldsTurn s seat =
     (v : PassState) × (get_elem? s.views seat ≡ some v) × (v.unjoined ≡ true) × (v.turn ≡ true)
 
 -- a pass that was joined into another has nothing
-abbrev pub IsNobody : PassState → Type 0
-IsNobody v = (v.unjoined ≡ false) × (v.marks ≡ []) × (v.met ≡ [])
+abbrev pub IsSpentPass : PassState → Type 0
+IsSpentPass v = (v.unjoined ≡ false) × (v.marks ≡ []) × (v.met ≡ [])
 
 -- turn word, slot and views show this state of the machine, and no claim is there twice
 pub record ShowsMachine (k : Opening) (m : Machine) (s : State (Option Boxed) PassState)
@@ -71,7 +71,7 @@ pub record ShowsMachine (k : Opening) (m : Machine) (s : State (Option Boxed) Pa
       → FitsMachine k m seat v
   pub once : (i : ℕ) → i < length m.visits → makers i s.views ≡ 1
   pub no_other : (i : ℕ) → length m.visits ≤ i → makers i s.views ≡ 0
-  pub claims : AreClaims (λ v. v.claims) IsNobody s.views
+  pub claims : AreClaims (λ v. v.claims) IsSpentPass s.views
 
 -- what is shown is a state that some schedule of takes and gives reaches
 pub record IsTurn (k : Opening) (s : State (Option Boxed) PassState) : Type 0 where

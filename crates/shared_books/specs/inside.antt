@@ -1,7 +1,7 @@
 -- What only private functions cite. Who reads the contracts of public calls need not read it.
 pub mod Drawing
-pub mod Hands
-pub mod Nobody
+pub mod DrawerStates
+pub mod NoBook
 pub mod Passes
 pub mod Steps
 pub mod Views

@@ -47,7 +47,7 @@ impl Model for Drawer {
 
     ghost Value = { DrawerView };
 
-    ghost use Rattle.shared_books.specs.inside.Hands.{IsHeld};
+    ghost use Rattle.shared_books.specs.inside.DrawerStates.{IsHeld};
 
     ghost view = { λ d. record {
       drawn_from = record { home = d.seat.table_id; numbers = d.seat.me.0.numbers };

@@ -7,5 +7,5 @@ pub mod laws;
 mod turns;
 
 pub use drawing::{Draw, DrawMissing, Drawer};
-pub use turns::answers::{Full, Missing, ReadFault, Readout, Visit};
+pub use turns::results::{Full, Missing, ReadFault, Readout, Visit};
 pub use turns::{Pass, SharedBook};

@@ -7,9 +7,9 @@ use std::alloc::Global;
 use std::marker::Model;
 use std::sync::atomic::{AtomicBool, AtomicU64};
 
-pub(crate) mod answers;
 mod closing;
 mod passes;
+pub(crate) mod results;
 pub(crate) mod rule;
 mod turn_word;
 mod visits;

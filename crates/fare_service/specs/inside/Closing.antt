@@ -5,7 +5,7 @@ use Rattle.std.specs.List.{flat_map}
 use Rattle.shard_book.specs.Book.{Book}
 use Rattle.shard_book.specs.History.{IsLegal}
 use Rattle.shared_books.specs.Passes.{SharedBookView, PassView, HasMadeAll, book_of}
-use Rattle.shared_books.specs.declared.turns.answers.Missing.{Missing as LackingVisits}
+use Rattle.shared_books.specs.declared.turns.results.Missing.{Missing as LackingVisits}
 use Rattle.fare_service.specs.declared.faults.GatherFault.{GatherFault}
 use Rattle.fare_service.specs.declared.faults.GatherFault.TheVariants.{NoMemory, Missing, Drawn}
 use Rattle.shared_books.specs.Drawing.{AllBelow, NoneTwice, times}

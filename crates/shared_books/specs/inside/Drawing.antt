@@ -9,11 +9,11 @@ use Rattle.shared_books.specs.Drawing.{times}
 
 -- how often a number was drawn, by all drawers together
 abbrev pub times_drawn : ℕ → List DrawerState → ℕ
-times_drawn x hands = sum_by (λ h. times x h.drawn) hands
+times_drawn x states = sum_by (λ h. times x h.drawn) states
 
 -- a drawer that was joined into another holds nothing
-abbrev pub IsSpent : DrawerState → Type 0
-IsSpent h = (h.unjoined ≡ false) × (h.drawn ≡ [])
+abbrev pub IsSpentDrawer : DrawerState → Type 0
+IsSpentDrawer h = (h.unjoined ≡ false) × (h.drawn ≡ [])
 
 -- between any two steps: each number below the count of drawn ones was drawn by one drawer and
 -- once, no other number was, no drawer has seen more than that count, and no claim is there twice
@@ -24,4 +24,4 @@ pub record IsDrawn (numbers : ℕ) (s : State (Unit {0}) DrawerState) : Type 0 w
   pub no_other : (x : ℕ) → slice_index s.words 0 ≤ x → times_drawn x s.views ≡ 0
   pub each : (j : ℕ) (h : DrawerState) → get_elem? s.views j ≡ some h → h.unjoined ≡ true
       → (h.numbers ≡ numbers) × (h.seen ≤ slice_index s.words 0)
-  pub claims : AreClaims (λ h. h.claims) IsSpent s.views
+  pub claims : AreClaims (λ h. h.claims) IsSpentDrawer s.views

@@ -10,16 +10,16 @@ use Rattle.shared_books.specs.declared.turns.rule.PassState.{PassState}
 use Rattle.shared_books.specs.Marks.{mark, others, visits_of, joined, merged, Apart, Begins}
 use Rattle.shared_books.specs.Claims.{claims_given, claims_left}
 use Rattle.shared_books.specs.Turns.{Boxed, book_after}
-use Rattle.shared_books.specs.Views.{view}
-use Rattle.shared_books.specs.inside.Nobody.{no_book}
+use Rattle.shared_books.specs.PassStates.{pass_state}
+use Rattle.shared_books.specs.inside.NoBook.{no_book}
 
 -- a seat at the table of turns
 abbrev pub Seat : Type 0
 Seat = Me (Option Boxed) PassState
 
 -- what is left of a pass that was joined into another
-abbrev pub nobody : PassState
-nobody =
+abbrev pub spent_pass_state : PassState
+spent_pass_state =
     record {
       unjoined = false;
       opened = record {
@@ -33,16 +33,16 @@ nobody =
     }
 
 -- a new pass has seen as much and half of the claims, and made nothing
-abbrev pub fresh : PassState → PassState
-fresh v = view v.opened (claims_given v.claims) false (others (visits_of v.marks)) []
+abbrev pub new_pass_state : PassState → PassState
+new_pass_state v = pass_state v.opened (claims_given v.claims) false (others (visits_of v.marks)) []
 
 -- the old pass keeps the other claims, and what it has seen and made
-abbrev pub left_view : PassState → PassState
-left_view v = view v.opened (claims_left v.claims) v.turn v.marks v.met
+abbrev pub left_pass_state : PassState → PassState
+left_pass_state v = pass_state v.opened (claims_left v.claims) v.turn v.marks v.met
 
 -- the marks of another pass, before a look shows how they lie beside the own ones
-abbrev pub both_views : PassState → PassState → PassState
-both_views v w = view v.opened (v.claims + w.claims) v.turn v.marks w.marks
+abbrev pub both_pass_states : PassState → PassState → PassState
+both_pass_states v w = pass_state v.opened (v.claims + w.claims) v.turn v.marks w.marks
 
 -- the turn word found is twice the count of visits seen, and one more where a pass holds the turn
 abbrev pub IsTurnWord : ℕ → Opening → List Mark → Type 0
@@ -52,7 +52,7 @@ IsTurnWord found o marks =
 -- a look at the turn word: the pass has seen all visits that are counted
 pub record HasSeen (before : Seat) (found : ℕ) (after : Seat) : Type 0 where
   pub between : List (List Entry)
-  pub view_is : after.0 ≡ view before.0.opened before.0.claims before.0.turn
+  pub view_is : after.0 ≡ pass_state before.0.opened before.0.claims before.0.turn
       (before.0.marks ++ others between) before.0.met
   pub word : IsTurnWord found before.0.opened (before.0.marks ++ others between)
   pub most : found ≤ 2 ^ 63
@@ -64,7 +64,7 @@ pub record HasSeen (before : Seat) (found : ℕ) (after : Seat) : Type 0 where
 -- is out with it
 pub record HasTakenBook (s : Step (Option Boxed)) (before after : Seat) : Type 0 where
   pub between : List (List Entry)
-  pub view_is : after.0 ≡ view before.0.opened before.0.claims true
+  pub view_is : after.0 ≡ pass_state before.0.opened before.0.claims true
       (before.0.marks ++ others between) before.0.met
   pub word : s.first ≡ 2 * (before.0.opened.first + length (before.0.marks ++ others between))
   pub legal : IsLegal before.0.opened.book.value.table
@@ -85,14 +85,14 @@ abbrev pub given_back : Seat → Seat
 given_back (v, []) = (v, [])
 given_back (v, (slot, None) ∷ out) = (v, out)
 given_back (v, (slot, Some b) ∷ out) = (
-  view v.opened v.claims false (v.marks
+  pass_state v.opened v.claims false (v.marks
       ++ mark true (drop (length (joined (visits_of v.marks))) b.value.entries) ∷ []) v.met,
   out,
 )
 
 -- the look that ends a join: the marks of both passes lie beside one another
 pub record HasEndedJoin (before after : Seat) : Type 0 where
-  pub view_is : after.0 ≡ view before.0.opened before.0.claims before.0.turn
+  pub view_is : after.0 ≡ pass_state before.0.opened before.0.claims before.0.turn
       (merged before.0.marks before.0.met) []
   pub apart : Apart before.0.marks before.0.met
   pub begins : Begins (visits_of before.0.marks) (visits_of before.0.met)

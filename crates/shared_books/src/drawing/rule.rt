@@ -16,24 +16,24 @@ pub struct DrawerState {
     pub drawn: LinkedList<u64>,
 }
 
-/// The rule over the number of drawn numbers and all drawers' hands.
+/// The rule over the number of drawn numbers and all drawers' states.
 pub struct DrawRule;
 
 impl TableRule<(), DrawerState, u32> for DrawRule {
     ghost use Rattle.shared_books.specs.Claims.{all_claims};
     ghost use Rattle.shared_books.specs.inside.Drawing.{IsDrawn};
-    ghost use Rattle.shared_books.specs.inside.Hands.{empty_hand};
+    ghost use Rattle.shared_books.specs.inside.DrawerStates.{empty_drawer_state};
 
     ghost holds = { IsDrawn };
 
-    ghost first = { λ numbers. empty_hand all_claims numbers 0 };
+    ghost first = { λ numbers. empty_drawer_state all_claims numbers 0 };
 }
 
 /// A try to draw.
 pub struct Draws;
 
 impl Play<(), DrawerState> for Draws {
-    ghost use Rattle.shared_books.specs.inside.Hands.{HasTried};
+    ghost use Rattle.shared_books.specs.inside.DrawerStates.{HasTried};
 
     ghost then = { HasTried };
 }
@@ -42,7 +42,7 @@ impl Play<(), DrawerState> for Draws {
 pub struct Looks;
 
 impl Play<(), DrawerState> for Looks {
-    ghost use Rattle.shared_books.specs.inside.Hands.{HasLooked};
+    ghost use Rattle.shared_books.specs.inside.DrawerStates.{HasLooked};
 
     ghost then = { HasLooked };
 }
@@ -51,20 +51,21 @@ impl Play<(), DrawerState> for Looks {
 pub struct ClaimSplit;
 
 impl Split<DrawerState> for ClaimSplit {
-    ghost use Rattle.shared_books.specs.inside.Hands.{left_hand, new_hand};
+    ghost use Rattle.shared_books.specs.inside.DrawerStates.{left_drawer_state, new_drawer_state};
 
-    ghost left = { left_hand };
+    ghost left = { left_drawer_state };
 
-    ghost right = { new_hand };
+    ghost right = { new_drawer_state };
 }
 
 /// One drawer has what both drew.
 pub struct Meets;
 
 impl Join<DrawerState> for Meets {
-    ghost use Rattle.shared_books.specs.inside.Hands.{both_hands, spent_hand};
+    ghost use Rattle.shared_books.specs.inside.DrawerStates.{both_drawer_states};
+    ghost use Rattle.shared_books.specs.inside.DrawerStates.{spent_drawer_state};
 
-    ghost both = { both_hands };
+    ghost both = { both_drawer_states };
 
-    ghost spent = { spent_hand };
+    ghost spent = { spent_drawer_state };
 }

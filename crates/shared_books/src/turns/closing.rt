@@ -5,7 +5,7 @@ ghost use Rattle.std.specs.Mem.Slots.{slots_items, slots_len, IsFull};
 ghost use mathlib.Core.Option.{some};
 ghost use lib.ListN.{get_elem?};
 
-use super::answers::Missing;
+use super::results::Missing;
 use super::rule::Slot;
 use super::{Pass, SharedBook};
 use atomic_table::Closed;

@@ -48,11 +48,11 @@ impl TableRule<Slot, PassState, Opening> for TurnRule {
     ghost use Rattle.std.specs.Prelude.{false, []};
     ghost use Rattle.shared_books.specs.Claims.{all_claims};
     ghost use Rattle.shared_books.specs.Turns.{IsTurn};
-    ghost use Rattle.shared_books.specs.Views.{view};
+    ghost use Rattle.shared_books.specs.PassStates.{pass_state};
 
     ghost holds = { IsTurn };
 
-    ghost first = { λ k. view k all_claims false [] [] };
+    ghost first = { λ k. pass_state k all_claims false [] [] };
 }
 
 /// A look at the turn word.
@@ -87,22 +87,22 @@ impl Play<Slot, PassState> for Gives {
 pub struct ClaimSplit;
 
 impl Split<PassState> for ClaimSplit {
-    ghost use Rattle.shared_books.specs.inside.Steps.{fresh, left_view};
+    ghost use Rattle.shared_books.specs.inside.Steps.{new_pass_state, left_pass_state};
 
-    ghost left = { left_view };
+    ghost left = { left_pass_state };
 
-    ghost right = { fresh };
+    ghost right = { new_pass_state };
 }
 
 /// One pass has what two had.
 pub struct Meets;
 
 impl Join<PassState> for Meets {
-    ghost use Rattle.shared_books.specs.inside.Steps.{both_views, nobody};
+    ghost use Rattle.shared_books.specs.inside.Steps.{both_pass_states, spent_pass_state};
 
-    ghost both = { both_views };
+    ghost both = { both_pass_states };
 
-    ghost spent = { nobody };
+    ghost spent = { spent_pass_state };
 }
 
 /// The look that ends a join.

@@ -14,7 +14,7 @@ impl SharedBook {
     ghost use Rattle.std.specs.Prelude.{true, false, List, IfSome, IfNone};
     ghost use Rattle.shard_book.specs.declared.entry.Entry.{Entry};
     ghost use Rattle.shared_books.specs.Marks.{mark, joined, visits_of};
-    ghost use Rattle.shared_books.specs.Views.{view};
+    ghost use Rattle.shared_books.specs.PassStates.{pass_state};
     ghost use Rattle.shared_books.specs.inside.Steps.{HasSeen};
     ghost use Rattle.shared_books.specs.inside.Views.{IsFree, SeesMore, HasBookOut, BringsVisit};
 
@@ -73,7 +73,7 @@ impl SharedBook {
         ensures given { (visit : List Entry)
             → book.value.entries ≡ joined (visits_of seat.old.me.0.marks) ++ visit
             → seat.new.me ≡ (
-              view seat.old.me.0.opened seat.old.me.0.claims false
+              pass_state seat.old.me.0.opened seat.old.me.0.claims false
                   (seat.old.me.0.marks ++ mark true visit ∷ []) seat.old.me.0.met,
               [],
             ) }

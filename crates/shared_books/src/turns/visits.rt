@@ -1,6 +1,6 @@
 //! What passes do with a shared book: they visit it, read it, and look how many visits it has.
 
-use super::answers::{Full, ReadFault, Readout, Visit};
+use super::results::{Full, ReadFault, Readout, Visit};
 use super::rule::{Opening, PassState, Slot, TurnRule};
 use super::{Pass, SharedBook};
 use atomic_table::Table;
@@ -19,7 +19,7 @@ impl SharedBook {
     ghost use Rattle.shard_book.specs.Statement.{IsStatement};
     ghost use Rattle.shared_books.specs.Marks.{joined};
     ghost use Rattle.shared_books.specs.Passes.{new_pass, seen_by, IsLater, Visits, IsFull};
-    ghost use Rattle.shared_books.specs.Answers.{MakesVisit, IsOpenedAs, IsReadFault};
+    ghost use Rattle.shared_books.specs.Results.{MakesVisit, IsOpenedAs, IsReadFault};
 
     /// Shares a book that has no entries, and gives the first pass to it, which has all claims.
     /// Visits are numbered from `first`. On want of memory the book is dropped.

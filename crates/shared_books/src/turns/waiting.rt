@@ -2,7 +2,7 @@
 //! sleeps.
 
 use super::SharedBook;
-use super::answers::Full;
+use super::results::Full;
 use super::rule::{PassState, Slot};
 use super::turn_word::FULL;
 use atomic_table::Seat;

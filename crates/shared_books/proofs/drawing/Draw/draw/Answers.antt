@@ -1,6 +1,6 @@
 use Rattle.std.proofs.Common.{◌≡◌, ◌<◌, ◌≤◌, ◌+◌, ◌++◌, ◌∷◌, [], ap, sym, ◌∙◌, arith}
 use Rattle.shared_books.specs.Drawing.{Drawing}
-use Rattle.shared_books.specs.inside.Hands.{hand}
+use Rattle.shared_books.specs.inside.DrawerStates.{drawer_state}
 use Rattle.shared_books.proofs.Held.{held_few, held_won, held_lost}
 use Rattle.shared_books.proofs.DrawSteps.{draws}
 use Rattle.shared_books.proofs.drawing.Draw.draw.Goals as goal
@@ -29,8 +29,8 @@ invariant_of-drawer-then-found-number c =
     let numbers : c.loop-drawer.drawer-inside.seat.me.0.numbers ≡ c.args.self.now.numbers = i.numbers ∙ ap (λ d. d.numbers) c.requires.own in
     let same : c.self.inside.numbers ≡ c.args.self.now.numbers = ap (λ (d : Drawing). d.numbers) c.self.view_is in
     let me = c.loop-drawer.drawer-inside.seat.me in
-    let won : c.compare_exchange-found.new.seat.me.0 ≡ hand me.0.claims me.0.numbers (c.loop-drawer.drawer-inside.seen + 1) (me.0.drawn ++ c.loop-drawer.drawer-inside.seen ∷ []) =
-    tried.won c.if-found-number.true ∙ ap (λ n. hand me.0.claims me.0.numbers (n + 1) (me.0.drawn ++ n ∷ [])) c.if-found-number.true in
+    let won : c.compare_exchange-found.new.seat.me.0 ≡ drawer_state me.0.claims me.0.numbers (c.loop-drawer.drawer-inside.seen + 1) (me.0.drawn ++ c.loop-drawer.drawer-inside.seen ∷ []) =
+    tried.won c.if-found-number.true ∙ ap (λ n. drawer_state me.0.claims me.0.numbers (n + 1) (me.0.drawn ++ n ∷ [])) c.if-found-number.true in
     held_won _ _ me _ i.held (omega (arith, c.loop-drawer-test.true)) (λ k. (won k, tried.carries k))
 
 pub loop-drawer-preserved : goal.loop-drawer-preserved

@@ -1,5 +1,5 @@
 use Rattle.std.proofs.Common.{◌≡◌, ◌-◌, ◌≤◌}
-use Rattle.shared_books.specs.inside.Hands.{IsHeld}
+use Rattle.shared_books.specs.inside.DrawerStates.{IsHeld}
 use Rattle.shared_books.proofs.drawing.Draw.draw.Given as goal
 
 abbrev pub invariant-loop-drawer : goal.invariant-loop-drawer

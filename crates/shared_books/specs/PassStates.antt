@@ -1,10 +1,10 @@
--- The view of a pass that was not joined into another.
+-- The state of a pass that was not joined into another.
 use Rattle.std.specs.Prelude.{ℕ, Bool, true, List}
 use Rattle.shared_books.specs.declared.turns.rule.Opening.{Opening}
 use Rattle.shared_books.specs.declared.turns.rule.Mark.{Mark}
 use Rattle.shared_books.specs.declared.turns.rule.PassState.{PassState}
 
 -- what a pass knows until it is joined into another
-abbrev pub view : Opening → ℕ → Bool → List Mark → List Mark → PassState
-view o claims turn marks met =
+abbrev pub pass_state : Opening → ℕ → Bool → List Mark → List Mark → PassState
+pass_state o claims turn marks met =
     record { unjoined = true; opened = o; claims = claims; turn = turn; marks = marks; met = met }

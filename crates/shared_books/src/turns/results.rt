@@ -1,4 +1,4 @@
-//! What the calls of a shared book answer.
+//! What the calls of a shared book return.
 use fare_table::NoMemory;
 use shard_book::{RunEnd, Statement};
 use thiserror::Error;
@@ -50,7 +50,7 @@ pub struct Missing {
 
 impl From<Full> for ReadFault {
     ghost use Rattle.std.specs.Prelude.{◌≡◌};
-    ghost use Rattle.shared_books.specs.declared.turns.answers.ReadFault.TheVariants.{Full as full};
+    ghost use Rattle.shared_books.specs.declared.turns.results.ReadFault.TheVariants.{Full as full};
 
     ghost from_gives = { λ _ fault. fault ≡ full };
 
@@ -61,7 +61,7 @@ impl From<Full> for ReadFault {
 
 impl From<NoMemory> for ReadFault {
     ghost use Rattle.std.specs.Prelude.{◌≡◌};
-    ghost use Rattle.shared_books.specs.declared.turns.answers.ReadFault.TheVariants.{NoMemory};
+    ghost use Rattle.shared_books.specs.declared.turns.results.ReadFault.TheVariants.{NoMemory};
 
     ghost from_gives = { λ _ fault. fault ≡ NoMemory };
 

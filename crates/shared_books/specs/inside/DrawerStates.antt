@@ -1,4 +1,4 @@
--- What the steps of drawing do to the hands of the drawers.
+-- What the steps of drawing do to the states of the drawers.
 use Rattle.std.specs.Prelude.{◌≡◌, ◌≢◌, ℕ, ◌+◌, ◌^◌, ◌≤◌, ◌<◌, true, false, List, [], ◌∷◌, ◌++◌}
 use Rattle.std.specs.Prelude.{length, max}
 use Rattle.atomic_table.specs.Table.{Step, Me}
@@ -7,36 +7,38 @@ use Rattle.shared_books.specs.Claims.{claims_given, claims_left}
 use Rattle.shared_books.specs.Drawing.{NoneTwice, AllBelow}
 
 -- what a drawer knows until it is joined into another
-abbrev pub hand : ℕ → ℕ → ℕ → List ℕ → DrawerState
-hand c n d xs = record { unjoined = true; claims = c; numbers = n; seen = d; drawn = xs }
+abbrev pub drawer_state : ℕ → ℕ → ℕ → List ℕ → DrawerState
+drawer_state c n d xs = record { unjoined = true; claims = c; numbers = n; seen = d; drawn = xs }
 
 -- what it knows before it has drawn
-abbrev pub empty_hand : ℕ → ℕ → ℕ → DrawerState
-empty_hand c n d = hand c n d []
+abbrev pub empty_drawer_state : ℕ → ℕ → ℕ → DrawerState
+empty_drawer_state c n d = drawer_state c n d []
 
 -- the two drawers after a split: the old one keeps what it drew
-abbrev pub left_hand : DrawerState → DrawerState
-left_hand h = hand (claims_left h.claims) h.numbers h.seen h.drawn
+abbrev pub left_drawer_state : DrawerState → DrawerState
+left_drawer_state h = drawer_state (claims_left h.claims) h.numbers h.seen h.drawn
 
 -- what a drawer that was split off knows
-abbrev pub new_hand : DrawerState → DrawerState
-new_hand h = empty_hand (claims_given h.claims) h.numbers h.seen
+abbrev pub new_drawer_state : DrawerState → DrawerState
+new_drawer_state h = empty_drawer_state (claims_given h.claims) h.numbers h.seen
 
 -- what is left of a drawer that was joined into another
-abbrev pub spent_hand : DrawerState
-spent_hand = record { unjoined = false; claims = 0; numbers = 0; seen = 0; drawn = [] }
+abbrev pub spent_drawer_state : DrawerState
+spent_drawer_state = record { unjoined = false; claims = 0; numbers = 0; seen = 0; drawn = [] }
 
 -- what two drawers know together
-abbrev pub both_hands : DrawerState → DrawerState → DrawerState
-both_hands h k =
-    hand (h.claims + k.claims) h.numbers (max h.seen k.seen) (h.drawn ++ k.drawn)
+abbrev pub both_drawer_states : DrawerState → DrawerState → DrawerState
+both_drawer_states h k =
+    drawer_state (h.claims + k.claims) h.numbers (max h.seen k.seen) (h.drawn ++ k.drawn)
 
 -- a try from s.first to the next number: it drew that number, or it has seen that more were drawn
 pub record HasTried (s : Step (Unit {0})) (before : Me (Unit {0}) DrawerState) (found : ℕ)
     (after : Me (Unit {0}) DrawerState) : Type 0 where
   pub won : found ≡ s.first
-      → after.0 ≡ hand before.0.claims before.0.numbers (found + 1) (before.0.drawn ++ found ∷ [])
-  pub lost : found ≢ s.first → after.0 ≡ hand before.0.claims before.0.numbers found before.0.drawn
+      → after.0 ≡ drawer_state before.0.claims before.0.numbers (found + 1)
+      (before.0.drawn ++ found ∷ [])
+  pub lost : found ≢ s.first
+      → after.0 ≡ drawer_state before.0.claims before.0.numbers found before.0.drawn
   pub later : before.0.seen ≤ found
   pub within : found ≤ before.0.numbers
   pub carries : after.1 ≡ before.1
@@ -44,7 +46,7 @@ pub record HasTried (s : Step (Unit {0})) (before : Me (Unit {0}) DrawerState) (
 -- a look at the count of drawn numbers: what the drawer drew is below it, and nothing twice
 pub record HasLooked (s : Step (Unit {0})) (before : Me (Unit {0}) DrawerState) (found : ℕ)
     (after : Me (Unit {0}) DrawerState) : Type 0 where
-  pub seen : after.0 ≡ hand before.0.claims before.0.numbers found before.0.drawn
+  pub seen : after.0 ≡ drawer_state before.0.claims before.0.numbers found before.0.drawn
   pub later : before.0.seen ≤ found
   pub within : found ≤ before.0.numbers
   pub none_twice : NoneTwice before.0.drawn

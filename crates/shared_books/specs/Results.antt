@@ -1,4 +1,4 @@
--- What the calls of a shared book tell.
+-- What the calls of a shared book return.
 use Rattle.std.specs.Prelude.{◌≡◌, ℕ, ◌+◌, List, [], ◌++◌, length, map}
 use Rattle.tap_views.specs.Shards.{ShardRun, run_taps}
 use Rattle.shard_book.specs.declared.entry.Entry.{Entry}
@@ -6,9 +6,9 @@ use Rattle.shard_book.specs.Entry.{reply_of}
 use Rattle.shard_book.specs.Book.{Book}
 use Rattle.shard_book.specs.Replies.{RepliesView}
 use Rattle.shard_book.specs.Visits.{IsVisit}
-use Rattle.shared_books.specs.declared.turns.answers.Visit.{Visit}
-use Rattle.shared_books.specs.declared.turns.answers.ReadFault.{ReadFault}
-use Rattle.shared_books.specs.declared.turns.answers.ReadFault.TheVariants.{Full, NoMemory}
+use Rattle.shared_books.specs.declared.turns.results.Visit.{Visit}
+use Rattle.shared_books.specs.declared.turns.results.ReadFault.{ReadFault}
+use Rattle.shared_books.specs.declared.turns.results.ReadFault.TheVariants.{Full, NoMemory}
 use Rattle.shared_books.specs.Passes.{SharedBookView, PassView, IsLater, Visits, IsFull}
 
 -- the shared book has the number, and the table, shard and shards of the book that was handed in
