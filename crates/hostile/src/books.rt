@@ -3,7 +3,7 @@
 ghost use Rattle.std.specs.Prelude.{◌≡◌, IfOk};
 
 use crate::sample::{UNTIL, table, tap};
-use crate::stop::{Case, Stop, again, ended, promise};
+use crate::stop::{Case, Stop, again, ended, promise, twice};
 use account_rule::Answer;
 use fare_table::Clock;
 use sample_table::{BUS, START, SUBWAY, bytes_of};
@@ -192,10 +192,7 @@ pub(crate) fn window_ends(alloc: Global) -> Case {
         promise(ends.fill(&clock, &run).is_ok(), "ends are refused again")?;
         return ended(true);
     }
-    match has_ends(alloc, &clock, &run) {
-        Err(Stop::Refused) => again(has_ends(alloc, &clock, &run)),
-        first => first,
-    }
+    twice!(has_ends(alloc, &clock, &run))
 }
 
 /// A book of the forty rides.
@@ -228,13 +225,10 @@ fn lists_tokens(alloc: Global, book: &ShardBook) -> Case {
 /// the book stayed the same.
 pub(crate) fn tokens<R: RandomSource>(rt: &R, alloc: Global) -> Case {
     let book = full_book(rt, alloc)?;
-    match lists_tokens(alloc, &book) {
-        Err(Stop::Refused) => {
-            has_rides(&book, 40)?;
-            again(lists_tokens(alloc, &book))
-        }
-        first => first,
-    }
+    twice!({
+        has_rides(&book, 40)?;
+        lists_tokens(alloc, &book)
+    })
 }
 
 /// The sums by validator and by token.
@@ -263,13 +257,10 @@ fn adds_up(alloc: Global, book: &ShardBook) -> Case {
 /// after a refusal.
 pub(crate) fn sums<R: RandomSource>(rt: &R, alloc: Global) -> Case {
     let book = full_book(rt, alloc)?;
-    match adds_up(alloc, &book) {
-        Err(Stop::Refused) => {
-            has_rides(&book, 40)?;
-            again(adds_up(alloc, &book))
-        }
-        first => first,
-    }
+    twice!({
+        has_rides(&book, 40)?;
+        adds_up(alloc, &book)
+    })
 }
 
 /// The statement of one token, with its window.
@@ -290,11 +281,8 @@ fn states(alloc: Global, book: &ShardBook) -> Case {
 /// `statement`. Would catch one that always gives up, or does so for good after a refusal.
 pub(crate) fn statement<R: RandomSource>(rt: &R, alloc: Global) -> Case {
     let book = full_book(rt, alloc)?;
-    match states(alloc, &book) {
-        Err(Stop::Refused) => {
-            has_rides(&book, 40)?;
-            again(states(alloc, &book))
-        }
-        first => first,
-    }
+    twice!({
+        has_rides(&book, 40)?;
+        states(alloc, &book)
+    })
 }

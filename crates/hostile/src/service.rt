@@ -1,7 +1,7 @@
 //! Cases of the service: opening, a run, and the texts of what it gathered.
 
 use crate::sample::{STATEMENT, table, uploads};
-use crate::stop::{Case, Stop, again, promise};
+use crate::stop::{Case, Stop, again, promise, twice};
 use fare_service::{Gate, OpenGate, Outcome, PrintFault, Service, UploadEnd};
 use sample_table::{REPORT, bytes_of};
 use shard_book::Token;
@@ -61,10 +61,7 @@ fn opens<R: RandomSource>(rt: &R, alloc: Global, uploads: &[Vec<u8>]) -> Case {
 /// refusal.
 pub(crate) fn opening<R: RandomSource>(rt: &R, alloc: Global) -> Case {
     let uploads = uploads(alloc)?;
-    match opens(rt, alloc, uploads.as_slice()) {
-        Err(Stop::Refused) => again(opens(rt, alloc, uploads.as_slice())),
-        first => first,
-    }
+    twice!(opens(rt, alloc, uploads.as_slice()))
 }
 
 /// How many taps of the uploads were posted, and whether each upload was posted whole.
