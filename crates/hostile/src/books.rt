@@ -2,11 +2,11 @@
 
 ghost use Rattle.std.specs.Prelude.{◌≡◌, IfOk};
 
-use crate::sample::{UNTIL, table, tap};
+use crate::sample::{UNTIL, table};
 use crate::stop::{Case, Stop, again, ended, promise, twice};
 use account_rule::Answer;
 use fare_table::Clock;
-use sample_table::{BUS, START, SUBWAY, bytes_of};
+use sample_table::{BUS, START, SUBWAY, bytes_of, tap_after};
 use shard_book::{Ends, Entry, Replies, RunEnd, ShardBook, Token, TokenKeys, TokenSums};
 use std::alloc::Global;
 use std::random::RandomSource;
@@ -25,7 +25,7 @@ fn book<R: RandomSource>(rt: &R, alloc: Global) -> Result<ShardBook, Stop>
 fn forty_taps(alloc: Global) -> Result<Vec<TapFields>, Stop> {
     let mut taps = Vec::new(alloc);
     for last in 0..40u8 {
-        taps.push(tap(last, SUBWAY, 0))?;
+        taps.push(tap_after(last, SUBWAY, 0))?;
     }
     Ok(taps)
 }
@@ -183,7 +183,10 @@ fn has_ends(alloc: Global, clock: &Clock, run: &Run) -> Case {
 /// `Ends::of` and `fill`. Would catch a list of ends that cannot be filled again after it was
 /// refused.
 pub(crate) fn window_ends(alloc: Global) -> Case {
-    let bytes = encode(alloc, &[tap(0xa1, SUBWAY, 0), tap(0xa1, BUS, 7_200_000)])?;
+    let bytes = encode(
+        alloc,
+        &[tap_after(0xa1, SUBWAY, 0), tap_after(0xa1, BUS, 7_200_000)],
+    )?;
     let (batch, _) = Batch::first(&bytes)?;
     let run = batch.run_of(0, 1);
     let clock = table(alloc)?.clock(alloc)?;

@@ -1,9 +1,9 @@
 //! Cases of encoding, and of fare tables and their clocks.
 
-use crate::sample::{UNTIL, table, tap};
+use crate::sample::{UNTIL, table};
 use crate::stop::{Case, promise, twice};
 use fare_table::FareTable;
-use sample_table::{BUS, START, SUBWAY, bytes_of};
+use sample_table::{BUS, START, SUBWAY, bytes_of, tap_after};
 use std::alloc::Global;
 use tap_views::{Batch, Tap2Fields, TapFields, encode, encode_tap2};
 
@@ -42,7 +42,7 @@ fn encoded(alloc: Global, taps: &[TapFields; 2]) -> Case {
 /// `encode` and `encode_tap2`. Would catch one that gives up where memory is there, or that keeps a
 /// mark of a refusal and gives up from then on.
 pub(crate) fn encodes(alloc: Global) -> Case {
-    let taps = [tap(0xa1, SUBWAY, 0), tap(0xa1, BUS, 7_200_000)];
+    let taps = [tap_after(0xa1, SUBWAY, 0), tap_after(0xa1, BUS, 7_200_000)];
     twice!(encoded(alloc, &taps))
 }
 

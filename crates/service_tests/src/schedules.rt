@@ -1,6 +1,6 @@
 //! The same answers for every number of workers and of shards.
 
-use crate::sample::{REPORT, SUBWAY, run, tap, two_uploads};
+use crate::sample::{REPORT, SUBWAY, run, tap_after, two_uploads};
 use fare_service::{OpenGate, Outcome, UploadEnd};
 use std::alloc::Global;
 use std::marker::Sync;
@@ -52,7 +52,7 @@ fn the_report_is_the_same_for_every_number_of_workers(rt: HostRuntime) -> Result
 fn ten_rides(alloc: Global, token: u8) -> Result<Vec<u8>, Fail> {
     let mut file = Vec::new(alloc);
     for ride in 0..10u64 {
-        file.extend_from_slice(&encode(alloc, &[tap(token, SUBWAY, 10_800_000 * ride)])?)?;
+        file.extend_from_slice(&encode(alloc, &[tap_after(token, SUBWAY, 10_800_000 * ride)])?)?;
     }
     Ok(file)
 }
