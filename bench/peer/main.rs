@@ -20,6 +20,9 @@ use layout::Token;
 use service::{End, Service};
 use table::Table;
 
+/// What seeds the hash of the table's riders: std's own.
+type Seed = std::hash::RandomState;
+
 struct Words {
     table: String,
     workers: u32,
@@ -55,7 +58,7 @@ fn words() -> Option<Words> {
 fn run(words: &Words) -> Result<bool, String> {
     let cannot_read = |name: &String| format!("cannot read {name}");
     let text = fs::read_to_string(&words.table).map_err(|_| cannot_read(&words.table))?;
-    let table = Table::read(&text).map_err(|fault| format!("table: {fault}"))?;
+    let table = Table::read(Seed::new(), &text).map_err(|fault| format!("table: {fault}"))?;
     let mut uploads = Vec::with_capacity(words.files.len());
     for name in &words.files {
         uploads.push(fs::read(name).map_err(|_| cannot_read(name))?);

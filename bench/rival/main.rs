@@ -17,6 +17,7 @@ mod settle;
 mod shards;
 mod statement;
 mod stream;
+#[path = "../peer/table.rs"]
 mod table;
 mod tallies;
 mod tap;
