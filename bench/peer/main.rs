@@ -6,6 +6,7 @@
 
 mod account;
 mod book;
+mod civil;
 mod layout;
 mod service;
 mod table;

@@ -7,6 +7,8 @@
 
 mod account;
 mod accounts;
+#[path = "../peer/civil.rs"]
+mod civil;
 mod hash;
 mod listing;
 mod live;
