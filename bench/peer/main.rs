@@ -7,6 +7,7 @@
 mod account;
 mod book;
 mod civil;
+mod end;
 mod layout;
 mod service;
 mod table;
@@ -17,8 +18,9 @@ use std::io::Write;
 use std::process::ExitCode;
 use std::{env, fs, io};
 
+use end::End;
 use layout::Token;
-use service::{End, Service};
+use service::Service;
 use table::Table;
 
 /// What seeds the hash of the table's riders: std's own.

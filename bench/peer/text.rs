@@ -3,8 +3,8 @@
 use crate::account::Answer;
 use crate::book::{Book, Summary, Sums};
 use crate::civil::civil;
+use crate::end::End;
 use crate::layout::Token;
-use crate::service::End;
 use crate::table::Table;
 
 /// The whole report.
@@ -24,7 +24,7 @@ pub fn report(ends: &[End], summary: &Summary) -> Vec<u8> {
                 out.word(" refused ")
                     .number(*taps)
                     .word(" at ")
-                    .number(*offset as u64);
+                    .number(*offset);
                 out.word(" L").number(*fault as u64)
             }
         };

@@ -9,6 +9,8 @@ mod account;
 mod accounts;
 #[path = "../peer/civil.rs"]
 mod civil;
+#[path = "../peer/end.rs"]
+mod end;
 mod hash;
 mod listing;
 mod live;
@@ -30,8 +32,9 @@ mod toml;
 use std::io::Write;
 use std::{env, fs, io};
 
+use end::End;
 use hash::Seed;
-use reading::{End, LoadFault};
+use reading::LoadFault;
 use table::Table;
 use tap::Token;
 
