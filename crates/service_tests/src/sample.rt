@@ -1,6 +1,6 @@
 //! The sample table and uploads, and runs over them.
 
-ghost use Rattle.std.specs.Prelude.{IfOk};
+ghost use Rattle.std.specs.Prelude.{◌≡◌, IfOk, map};
 ghost use Rattle.fare_service.specs.Shares.{IsShareOf};
 
 use fare_service::{Gate, Outcome, Service, Share, UploadEnd};
@@ -9,6 +9,7 @@ pub use sample_table::{BUS, REPORT, SAMPLE, START, STATEMENT, SUBWAY, bytes_of, 
 use sample_table::{rides, strays};
 use std::alloc::Global;
 use std::marker::Sync;
+use std::process::Abort;
 use std::random::RandomSource;
 use std::sync::Wait;
 use std::test::Fail;
@@ -45,7 +46,8 @@ pub(crate) fn opened<'a, R: RandomSource>(
     uploads: &'a [Vec<u8>],
     shards: u32,
 ) -> Result<(Service<'a>, Share), Fail>
-    ensures { IfOk result (λ r. IsShareOf r.0 r.1) }
+    ensures uploads { IfOk result (λ r. r.0.uploads ≡ map (λ upload. upload.items) uploads.now) }
+    ensures share { IfOk result (λ r. IsShareOf r.0 r.1) }
 {
     let table = FareTable::read(alloc, SAMPLE.as_bytes())?;
     Ok(Service::open(rt, alloc, table, shards, uploads)?)
@@ -70,5 +72,27 @@ pub(crate) fn end_of(outcome: &Outcome, upload: u32) -> Option<UploadEnd> {
         Some(outcome.upload(upload))
     } else {
         None
+    }
+}
+
+/// The text of the outcome's report.
+pub(crate) fn report_text<R: Threads + Sync>(
+    rt: &R,
+    alloc: Global,
+    outcome: &Outcome,
+) -> Result<Vec<u8>, Fail> {
+    let mut text = Vec::new(alloc);
+    outcome.write_report(rt, alloc, &mut text)?;
+    Ok(text)
+}
+
+/// Each upload was posted whole, so many taps of it.
+pub(crate) fn are_posted<R: Abort>(rt: &R, outcome: &Outcome, taps: u64) {
+    for upload in 0..outcome.uploads() {
+        assert_eq!(rt;
+            outcome.upload(upload),
+            UploadEnd::Posted { taps },
+            "upload {upload}"
+        );
     }
 }
