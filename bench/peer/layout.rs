@@ -1,6 +1,7 @@
 //! Tap batches in bytes: both layouts, and the first fault of a batch.
 
 use crate::account::Answer;
+use crate::end::Fault;
 
 /// The name of a card or device: its sixteen bytes as two big-endian halves,
 /// so that order and equality are those of the bytes.
@@ -43,17 +44,6 @@ pub struct Tap {
     pub token: Token,
     pub moment: u64,
     pub validator: u32,
-}
-
-/// The first check of a batch that fails: `L1` to `L6`.
-#[derive(Clone, Copy, PartialEq, Eq, Debug)]
-pub enum Fault {
-    Short = 1,
-    Magic,
-    Flags,
-    TooMany,
-    Length,
-    Moment,
 }
 
 const MOMENT_LIMIT: u64 = 4_102_444_800_000;

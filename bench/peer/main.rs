@@ -6,6 +6,8 @@
 
 mod account;
 mod book;
+mod civil;
+mod end;
 mod layout;
 mod service;
 mod table;
@@ -16,9 +18,13 @@ use std::io::Write;
 use std::process::ExitCode;
 use std::{env, fs, io};
 
+use end::End;
 use layout::Token;
-use service::{End, Service};
+use service::Service;
 use table::Table;
+
+/// What seeds the hash of the table's riders: std's own.
+type Seed = std::hash::RandomState;
 
 struct Words {
     table: String,
@@ -55,7 +61,7 @@ fn words() -> Option<Words> {
 fn run(words: &Words) -> Result<bool, String> {
     let cannot_read = |name: &String| format!("cannot read {name}");
     let text = fs::read_to_string(&words.table).map_err(|_| cannot_read(&words.table))?;
-    let table = Table::read(&text).map_err(|fault| format!("table: {fault}"))?;
+    let table = Table::read(Seed::new(), &text).map_err(|fault| format!("table: {fault}"))?;
     let mut uploads = Vec::with_capacity(words.files.len());
     for name in &words.files {
         uploads.push(fs::read(name).map_err(|_| cannot_read(name))?);

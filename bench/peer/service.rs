@@ -5,21 +5,9 @@ use std::sync::atomic::{AtomicUsize, Ordering};
 use std::thread;
 
 use crate::book::{Book, Priced};
-use crate::layout::{Batch, Fault, Tap, Token};
+use crate::end::End;
+use crate::layout::{Batch, Tap, Token};
 use crate::table::Table;
-
-/// How an upload ended.
-#[derive(Clone, Copy)]
-pub enum End {
-    Posted {
-        taps: u64,
-    },
-    Refused {
-        taps: u64,
-        offset: usize,
-        fault: Fault,
-    },
-}
 
 /// A book in cache lines of its own, so that posting to it does not slow down its neighbours.
 #[repr(align(128))]
@@ -87,7 +75,7 @@ impl<'a> Service<'a> {
                 Err(fault) => {
                     return End::Refused {
                         taps,
-                        offset,
+                        offset: offset as u64,
                         fault,
                     };
                 }

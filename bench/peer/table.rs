@@ -1,38 +1,55 @@
-//! The fare table. No zone: windows are of seven days.
+//! The fare table of the peer and of the rival. It has no zone: windows are of seven days.
+//!
+//! Each program has at its top the `Token` and the `Seed` by which its riders are hashed.
 
 use std::collections::HashMap;
 
-use crate::layout::Token;
 use crate::toml::{self, Section};
+use crate::{Seed, Token};
 
+/// The terms of a class.
 pub struct Terms {
+    /// Cents of a ride.
     pub fare: u32,
+    /// How many rides of a window are paid at most.
     pub rides: u32,
+    /// Cents of a window at most.
     pub ceiling: u32,
 }
 
+/// Validators in a row that are of one mode.
 struct Range {
+    /// The lowest validator.
     first: u32,
+    /// The highest validator, which is of the range too.
     last: u32,
+    /// The place of their mode.
     mode: u8,
 }
 
+/// A fare table that was read.
 pub struct Table {
+    /// The names of the modes.
     modes: Vec<String>,
     /// Bit `to` of word `from` is set where the pair is permitted.
     permitted: [u32; 32],
+    /// The classes in the order of the text.
     classes: Vec<Terms>,
+    /// The place of the class of who is no rider.
     default: u16,
     /// Rising.
     ranges: Vec<Range>,
-    riders: HashMap<Token, u16>,
+    /// The place of each rider's class.
+    riders: HashMap<Token, u16, Seed>,
 }
 
 impl Table {
-    pub fn read(text: &str) -> Result<Table, String> {
-        meaning(&toml::document(text)?)
+    /// Reads the text of a table.
+    pub fn read(seed: Seed, text: &str) -> Result<Table, String> {
+        meaning(seed, &toml::document(text)?)
     }
 
+    /// The place of the validator's mode.
     pub fn mode_of(&self, validator: u32) -> Option<u8> {
         let after = self
             .ranges
@@ -41,10 +58,12 @@ impl Table {
         (validator <= range.last).then_some(range.mode)
     }
 
+    /// The name of the mode at a place.
     pub fn mode_name(&self, mode: u8) -> &str {
         &self.modes[mode as usize]
     }
 
+    /// Whether rides by these two modes, one after the other, may be a transfer.
     pub fn permits(&self, from: u8, to: u8) -> bool {
         self.permitted[from as usize & 31] >> (to & 31) & 1 == 1
     }
@@ -63,6 +82,7 @@ impl Table {
         }
     }
 
+    /// The terms of the class at a place.
     pub fn class(&self, place: u16) -> &Terms {
         &self.classes[place as usize]
     }
@@ -80,7 +100,8 @@ pub fn token_of(digits: &str) -> Option<Token> {
     })
 }
 
-fn meaning(sections: &[Section]) -> Result<Table, String> {
+/// The table that the sections of a text mean.
+fn meaning(seed: Seed, sections: &[Section]) -> Result<Table, String> {
     let top = &sections[0];
     let mut modes = Vec::new();
     for name in top.find("modes")?.array()? {
@@ -126,7 +147,7 @@ fn meaning(sections: &[Section]) -> Result<Table, String> {
         return Err("ranges overlap".into());
     }
     let class = |name: &str| names.get(name).copied().ok_or("no such class");
-    let mut riders = HashMap::new();
+    let mut riders = HashMap::with_hasher(seed);
     for section in sections.iter().filter(|section| section.name == ["riders"]) {
         riders.reserve(section.pairs.len());
         for (key, value) in &section.pairs {
@@ -147,6 +168,7 @@ fn meaning(sections: &[Section]) -> Result<Table, String> {
     })
 }
 
+/// The terms that the section of a class means.
 fn terms(section: &Section) -> Result<Terms, String> {
     let fare = section.number("fare", 1, 100_000)?;
     let rides = section.number("rides", 1, 1000)?;

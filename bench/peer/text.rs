@@ -2,8 +2,9 @@
 
 use crate::account::Answer;
 use crate::book::{Book, Summary, Sums};
+use crate::civil::civil;
+use crate::end::End;
 use crate::layout::Token;
-use crate::service::End;
 use crate::table::Table;
 
 /// The whole report.
@@ -23,7 +24,7 @@ pub fn report(ends: &[End], summary: &Summary) -> Vec<u8> {
                 out.word(" refused ")
                     .number(*taps)
                     .word(" at ")
-                    .number(*offset as u64);
+                    .number(*offset);
                 out.word(" L").number(*fault as u64)
             }
         };
@@ -161,22 +162,4 @@ impl Text {
         let text = format!("{number:0width$}");
         self.word(&text)
     }
-}
-
-/// Year, month and day of a count of days since 1970, with years that begin in March.
-fn civil(days: u64) -> (u64, u64, u64) {
-    let since = days + 719_468;
-    let era = since / 146_097;
-    let day_of_era = since % 146_097;
-    let year_of_era =
-        (day_of_era - day_of_era / 1460 + day_of_era / 36_524 - day_of_era / 146_096) / 365;
-    let day_of_year = day_of_era - (365 * year_of_era + year_of_era / 4 - year_of_era / 100);
-    let shifted = (5 * day_of_year + 2) / 153;
-    let day = day_of_year - (153 * shifted + 2) / 5 + 1;
-    let month = if shifted < 10 {
-        shifted + 3
-    } else {
-        shifted - 9
-    };
-    (era * 400 + year_of_era + u64::from(month <= 2), month, day)
 }

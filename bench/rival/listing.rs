@@ -3,8 +3,9 @@
 use std::collections::HashMap;
 use std::io::Write;
 
+use crate::end::End;
 use crate::hash::Seed;
-use crate::reading::{End, LoadFault, Sink, read_all};
+use crate::reading::{LoadFault, Sink, read_all};
 use crate::table::Table;
 use crate::tap::{Tap, Token};
 use crate::text::Text;

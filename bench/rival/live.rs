@@ -1,7 +1,7 @@
 //! What both live ways leave: the books of the shards.
 
 use crate::accounts::Accounts;
-use crate::reading::End;
+use crate::end::End;
 use crate::tallies::Tallies;
 use crate::tap::{Reply, Token};
 

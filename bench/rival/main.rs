@@ -7,6 +7,10 @@
 
 mod account;
 mod accounts;
+#[path = "../peer/civil.rs"]
+mod civil;
+#[path = "../peer/end.rs"]
+mod end;
 mod hash;
 mod listing;
 mod live;
@@ -17,6 +21,7 @@ mod settle;
 mod shards;
 mod statement;
 mod stream;
+#[path = "../peer/table.rs"]
 mod table;
 mod tallies;
 mod tap;
@@ -27,8 +32,9 @@ mod toml;
 use std::io::Write;
 use std::{env, fs, io};
 
+use end::End;
 use hash::Seed;
-use reading::{End, LoadFault};
+use reading::LoadFault;
 use table::Table;
 use tap::Token;
 

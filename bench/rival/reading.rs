@@ -7,6 +7,7 @@ use std::sync::Mutex;
 use std::sync::atomic::{AtomicUsize, Ordering};
 use std::thread;
 
+use crate::end::{End, Fault};
 use crate::tap::{Tap, Token};
 
 /// The most bytes of a file.
@@ -15,30 +16,6 @@ const MOMENT_LIMIT: u64 = 4_102_444_800_000;
 const BUFFER: usize = 256 << 10;
 /// The most uploads that a thread draws at once.
 const GROUP: usize = 256;
-
-/// The first check of a batch that fails: `L1` to `L6`.
-#[derive(Clone, Copy, PartialEq, Eq, Debug)]
-pub enum Fault {
-    Short = 1,
-    Magic,
-    Flags,
-    TooMany,
-    Length,
-    Moment,
-}
-
-/// How an upload ended.
-#[derive(Clone, Copy)]
-pub enum End {
-    Posted {
-        taps: u64,
-    },
-    Refused {
-        taps: u64,
-        offset: u64,
-        fault: Fault,
-    },
-}
 
 /// Why a file was not loaded.
 pub enum LoadFault {

@@ -4,7 +4,6 @@
 
 use std::sync::Mutex;
 use std::sync::atomic::{AtomicUsize, Ordering};
-use std::thread;
 
 use crate::accounts::{Accounts, Sharding};
 use crate::hash::Seed;
@@ -12,7 +11,7 @@ use crate::live::{Book, History, Line, Posted};
 use crate::memory::Arena;
 use crate::reading::{LoadFault, Sink, read_all};
 use crate::table::Table;
-use crate::tallies::Tallies;
+use crate::tallies::{Tallies, by_workers};
 use crate::tap::{Answer, Reply, Tap, Token};
 
 /// Entries of a chunk.
@@ -195,16 +194,7 @@ fn post(table: &Table, seed: Seed, runs: Vec<Runs>, workers: usize) -> (Vec<Book
         }
         tallies
     };
-    let tallies = thread::scope(|scope| {
-        let others: Vec<_> = (1..workers.min(books.len()))
-            .map(|_| scope.spawn(work))
-            .collect();
-        let mut tallies = work();
-        for other in others {
-            tallies.join(table, &other.join().unwrap());
-        }
-        tallies
-    });
+    let tallies = by_workers(table, workers.min(books.len()), work);
     let books = books
         .into_iter()
         .map(|book| {

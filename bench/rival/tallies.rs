@@ -1,5 +1,7 @@
 //! The validators that a thread met, with their modes and sums: one look-up a tap gives both.
 
+use std::thread;
+
 use crate::account::NO_MODE;
 use crate::hash::Seed;
 use crate::memory::prefetch;
@@ -137,4 +139,16 @@ impl Tallies {
         }
         self.slots[at] = (validator as u64) << 32 | (place as u64 + 1);
     }
+}
+
+/// What so many workers count together, of whom the caller's thread is one.
+pub fn by_workers(table: &Table, workers: usize, work: impl Fn() -> Tallies + Sync) -> Tallies {
+    thread::scope(|scope| {
+        let others: Vec<_> = (1..workers).map(|_| scope.spawn(&work)).collect();
+        let mut tallies = work();
+        for other in others {
+            tallies.join(table, &other.join().unwrap());
+        }
+        tallies
+    })
 }

@@ -2,12 +2,12 @@
 
 ghost use Rattle.std.specs.Prelude.{◌≡◌, IfOk};
 
-use crate::sample::{UNTIL, table, tap};
-use crate::stop::{Case, Stop, again, ended, promise};
+use crate::sample::{UNTIL, table};
+use crate::stop::{Case, Stop, again, ended, promise, twice};
 use account_rule::Answer;
 use fare_table::Clock;
-use sample_table::{BUS, START, SUBWAY, bytes_of};
-use shard_book::{Ends, Entry, Replies, RunEnd, ShardBook, Token, HashSeed, TokenSums};
+use sample_table::{BUS, START, SUBWAY, bytes_of, tap_after};
+use shard_book::{Ends, Entry, HashSeed, Replies, RunEnd, ShardBook, Token, TokenSums};
 use std::alloc::Global;
 use std::random::RandomSource;
 use tap_views::{Batch, Run, TapFields, encode};
@@ -25,7 +25,7 @@ fn book<R: RandomSource>(rt: &R, alloc: Global) -> Result<ShardBook, Stop>
 fn forty_taps(alloc: Global) -> Result<Vec<TapFields>, Stop> {
     let mut taps = Vec::new(alloc);
     for last in 0..40u8 {
-        taps.push(tap(last, SUBWAY, 0))?;
+        taps.push(tap_after(last, SUBWAY, 0))?;
     }
     Ok(taps)
 }
@@ -183,7 +183,10 @@ fn has_ends(alloc: Global, clock: &Clock, run: &Run) -> Case {
 /// `Ends::of` and `fill`. Would catch a list of ends that cannot be filled again after it was
 /// refused.
 pub(crate) fn window_ends(alloc: Global) -> Case {
-    let bytes = encode(alloc, &[tap(0xa1, SUBWAY, 0), tap(0xa1, BUS, 7_200_000)])?;
+    let bytes = encode(
+        alloc,
+        &[tap_after(0xa1, SUBWAY, 0), tap_after(0xa1, BUS, 7_200_000)],
+    )?;
     let (batch, _) = Batch::first(&bytes)?;
     let run = batch.run_of(0, 1);
     let clock = table(alloc)?.clock(alloc)?;
@@ -192,10 +195,7 @@ pub(crate) fn window_ends(alloc: Global) -> Case {
         promise(ends.fill(&clock, &run).is_ok(), "ends are refused again")?;
         return ended(true);
     }
-    match has_ends(alloc, &clock, &run) {
-        Err(Stop::Refused) => again(has_ends(alloc, &clock, &run)),
-        first => first,
-    }
+    twice!(has_ends(alloc, &clock, &run))
 }
 
 /// A book of the forty rides.
@@ -228,13 +228,10 @@ fn lists_tokens(alloc: Global, book: &ShardBook) -> Case {
 /// the book stayed the same.
 pub(crate) fn tokens<R: RandomSource>(rt: &R, alloc: Global) -> Case {
     let book = full_book(rt, alloc)?;
-    match lists_tokens(alloc, &book) {
-        Err(Stop::Refused) => {
-            has_rides(&book, 40)?;
-            again(lists_tokens(alloc, &book))
-        }
-        first => first,
-    }
+    twice!({
+        has_rides(&book, 40)?;
+        lists_tokens(alloc, &book)
+    })
 }
 
 /// The sums by validator and by token.
@@ -263,13 +260,10 @@ fn adds_up(alloc: Global, book: &ShardBook) -> Case {
 /// after a refusal.
 pub(crate) fn sums<R: RandomSource>(rt: &R, alloc: Global) -> Case {
     let book = full_book(rt, alloc)?;
-    match adds_up(alloc, &book) {
-        Err(Stop::Refused) => {
-            has_rides(&book, 40)?;
-            again(adds_up(alloc, &book))
-        }
-        first => first,
-    }
+    twice!({
+        has_rides(&book, 40)?;
+        adds_up(alloc, &book)
+    })
 }
 
 /// The statement of one token, with its window.
@@ -290,11 +284,8 @@ fn states(alloc: Global, book: &ShardBook) -> Case {
 /// `statement`. Would catch one that always gives up, or does so for good after a refusal.
 pub(crate) fn statement<R: RandomSource>(rt: &R, alloc: Global) -> Case {
     let book = full_book(rt, alloc)?;
-    match states(alloc, &book) {
-        Err(Stop::Refused) => {
-            has_rides(&book, 40)?;
-            again(states(alloc, &book))
-        }
-        first => first,
-    }
+    twice!({
+        has_rides(&book, 40)?;
+        states(alloc, &book)
+    })
 }

@@ -1,9 +1,9 @@
 //! Cases of the service: opening, a run, and the texts of what it gathered.
 
-use crate::sample::{STATEMENT, table, uploads};
-use crate::stop::{Case, Stop, again, promise};
+use crate::sample::{table, uploads};
+use crate::stop::{Case, Stop, again, promise, twice};
 use fare_service::{Gate, OpenGate, Outcome, PrintFault, Service, UploadEnd};
-use sample_table::{REPORT, bytes_of};
+use sample_table::{NEW_YORK_STATEMENT, REPORT, bytes_of};
 use shard_book::Token;
 use std::alloc::Global;
 use std::marker::Sync;
@@ -61,10 +61,7 @@ fn opens<R: RandomSource>(rt: &R, alloc: Global, uploads: &[Vec<u8>]) -> Case {
 /// refusal.
 pub(crate) fn opening<R: RandomSource>(rt: &R, alloc: Global) -> Case {
     let uploads = uploads(alloc)?;
-    match opens(rt, alloc, uploads.as_slice()) {
-        Err(Stop::Refused) => again(opens(rt, alloc, uploads.as_slice())),
-        first => first,
-    }
+    twice!(opens(rt, alloc, uploads.as_slice()))
 }
 
 /// How many taps of the uploads were posted, and whether each upload was posted whole.
@@ -177,10 +174,10 @@ pub(crate) fn prints_statement<R: Threads + Wait + RandomSource + Sync>(
     let token = Token::of(&bytes_of(0xa1));
     let mut written = Vec::with_capacity(alloc, 2000)?;
     let answer = outcome.write_statement(alloc, &token, &mut written);
-    match is_written(answer, &written, STATEMENT) {
+    match is_written(answer, &written, NEW_YORK_STATEMENT) {
         Err(Stop::Refused) => {
             let answer = outcome.write_statement(alloc, &token, &mut written);
-            again(is_written(answer, &written, STATEMENT))
+            again(is_written(answer, &written, NEW_YORK_STATEMENT))
         }
         first => first,
     }

@@ -43,6 +43,19 @@ pub(crate) fn again(second: Case) -> Case {
     }
 }
 
+/// Asks, and asks again where memory was refused. It is a macro, since the borrow checker does not
+/// cover a closure whose result has a `&'static str`.
+macro_rules! twice {
+    ($ask:expr) => {
+        match $ask {
+            Err($crate::stop::Stop::Refused) => $crate::stop::again($ask),
+            first => first,
+        }
+    };
+}
+
+pub(crate) use twice;
+
 impl From<NoMemory> for Stop {
     fn from(_: NoMemory) -> Self {
         Stop::Refused

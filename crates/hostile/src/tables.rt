@@ -1,9 +1,9 @@
 //! Cases of encoding, and of fare tables and their clocks.
 
-use crate::sample::{UNTIL, table, tap};
-use crate::stop::{Case, Stop, again, promise};
+use crate::sample::{UNTIL, table};
+use crate::stop::{Case, promise, twice};
 use fare_table::FareTable;
-use sample_table::{BUS, START, SUBWAY, bytes_of};
+use sample_table::{BUS, START, SUBWAY, bytes_of, tap_after};
 use std::alloc::Global;
 use tap_views::{Batch, Tap2Fields, TapFields, encode, encode_tap2};
 
@@ -42,11 +42,8 @@ fn encoded(alloc: Global, taps: &[TapFields; 2]) -> Case {
 /// `encode` and `encode_tap2`. Would catch one that gives up where memory is there, or that keeps a
 /// mark of a refusal and gives up from then on.
 pub(crate) fn encodes(alloc: Global) -> Case {
-    let taps = [tap(0xa1, SUBWAY, 0), tap(0xa1, BUS, 7_200_000)];
-    match encoded(alloc, &taps) {
-        Err(Stop::Refused) => again(encoded(alloc, &taps)),
-        first => first,
-    }
+    let taps = [tap_after(0xa1, SUBWAY, 0), tap_after(0xa1, BUS, 7_200_000)];
+    twice!(encoded(alloc, &taps))
 }
 
 /// The table is the sample table.
@@ -85,10 +82,7 @@ fn was_read(alloc: Global) -> Case {
 /// `FareTable::read`. Would catch one that gives up where memory is there. A refusal inside `toml`
 /// must not be told as a fault of the text, which a contract says too.
 pub(crate) fn read(alloc: Global) -> Case {
-    match was_read(alloc) {
-        Err(Stop::Refused) => again(was_read(alloc)),
-        first => first,
-    }
+    twice!(was_read(alloc))
 }
 
 /// A clone is equal, and the table still answers when the clone is gone.
@@ -102,13 +96,10 @@ fn cloned(alloc: Global, table: &FareTable) -> Case {
 /// `try_clone`, which takes no memory of its own. Would catch one that always gives up.
 pub(crate) fn clone(alloc: Global) -> Case {
     let table = table(alloc)?;
-    match cloned(alloc, &table) {
-        Err(Stop::Refused) => {
-            is_sample(&table)?;
-            again(cloned(alloc, &table))
-        }
-        first => first,
-    }
+    twice!({
+        is_sample(&table)?;
+        cloned(alloc, &table)
+    })
 }
 
 /// A clock of the sample table tells where windows end: in March, before its first second, and when
@@ -130,11 +121,8 @@ fn tells_ends(alloc: Global, table: &FareTable) -> Case {
 /// contract leaves to `jiff` what a text means.
 pub(crate) fn clock(alloc: Global) -> Case {
     let table = table(alloc)?;
-    match tells_ends(alloc, &table) {
-        Err(Stop::Refused) => {
-            is_sample(&table)?;
-            again(tells_ends(alloc, &table))
-        }
-        first => first,
-    }
+    twice!({
+        is_sample(&table)?;
+        tells_ends(alloc, &table)
+    })
 }

@@ -1,6 +1,6 @@
 //! Books by themselves: calls that no program makes, and what no clause says.
 
-use crate::sample::{BUS, SAMPLE, START, SUBWAY, tap, token};
+use crate::sample::{BUS, SAMPLE, START, SUBWAY, rides, tap, token};
 use account_rule::{Answer, Reply};
 use fare_table::FareTable;
 use shard_book::*;
@@ -127,13 +127,7 @@ fn sums_of_one_book(rt: HostRuntime) -> Result<(), Fail> {
 
 /// Two books that both have taps of one token.
 fn sharing_books<R: RandomSource>(alloc: Global, rt: &R) -> Result<[ShardBook; 2], Fail> {
-    let taps = [
-        tap(0xa1, SUBWAY, START),
-        tap(0xa1, BUS, START + 1_200_000),
-        tap(0xa1, BUS, START + 2_400_000),
-        tap(0xa1, SUBWAY, START + 3_600_000),
-    ];
-    let one = book_of(alloc, rt, &taps)?;
+    let one = book_of(alloc, rt, &rides())?;
     let other = book_of(alloc, rt, &[tap(0xa1, 9, START)])?;
     Ok([one, other])
 }

@@ -1,7 +1,7 @@
 //! The sample table, and taps under it.
 
 use sample_table::bytes_of;
-pub(crate) use sample_table::{BUS, SAMPLE, START, SUBWAY, tap};
+pub(crate) use sample_table::{BUS, SAMPLE, START, SUBWAY, rides, tap};
 use shard_book::Token;
 
 /// The token whose last byte is the given one and whose other bytes are 0.

@@ -1,11 +1,14 @@
 //! The sample fare table of the tests, its variants, and taps of its day.
 //!
 //! The tests of all libraries read this one text, so that a row of one test can be followed in
-//! another. They write to one writer that fails.
+//! another. The example's uploads are here too, with what is written of them. Tests write to one
+//! writer that fails.
 #![tactic(auto)]
 
+mod example;
 mod narrow;
 
+pub use example::{NEW_YORK_STATEMENT, REPORT, STATEMENT, rides, strays};
 pub use narrow::Narrow;
 use tap_views::TapFields;
 
@@ -60,21 +63,6 @@ pub const BUS: u32 = 2000;
 /// When the taps' day begins: 2024-03-08T17:00:00.000Z, in milliseconds since 1970-01-01T00:00Z.
 pub const START: u64 = 1_709_917_200_000;
 
-/// The report of two uploads: subway, bus, bus, subway of one token within an hour; of another
-/// token a tap that no validator of the table made, and then an earlier one.
-pub const REPORT: &str = "uploads 2
-upload 0 posted 4
-upload 1 posted 2
-totals taps 6 paid 3 transfers 2 capped 0 stale 0 unknown 1 cents 900
-validators 3
-validator 9 taps 1 paid 0 transfers 0 capped 0 stale 0 unknown 1 cents 0
-validator 1000 taps 3 paid 2 transfers 1 capped 0 stale 0 unknown 0 cents 600
-validator 2000 taps 2 paid 1 transfers 1 capped 0 stale 0 unknown 0 cents 300
-tokens 2
-token 000000000000000000000000000000a1 taps 4 paid 2 transfers 2 capped 0 stale 0 unknown 0 cents 600
-token 000000000000000000000000000000b2 taps 2 paid 1 transfers 0 capped 0 stale 0 unknown 1 cents 300
-";
-
 /// The token whose last byte is the given one and whose other bytes are 0.
 pub fn bytes_of(last: u8) -> [u8; 16] {
     let mut token = [0; 16];
@@ -89,4 +77,9 @@ pub fn tap(last: u8, validator: u32, moment: u64) -> TapFields {
         validator,
         moment,
     }
+}
+
+/// The tap of this token at a validator, so many milliseconds after the start.
+pub fn tap_after(last: u8, validator: u32, after: u64) -> TapFields {
+    tap(last, validator, START.saturating_add(after))
 }

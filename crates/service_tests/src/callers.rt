@@ -6,9 +6,8 @@ ghost use Rattle.fare_service.specs.Plain.{AreApart, IsPlain, IsReportOver, WasN
 ghost use Rattle.fare_service.specs.Printed.{report_of};
 ghost use Rattle.fare_service.specs.Shares.{IsShareOf};
 
-use crate::sample::{SAMPLE, two_taps};
+use crate::sample::{opened, report_text, two_taps};
 use fare_service::{Gate, OpenGate, Outcome, RunFault, Service, Share, laws};
-use fare_table::FareTable;
 use std::alloc::Global;
 use std::marker::Sync;
 use std::process::Abort;
@@ -41,16 +40,6 @@ fn run<R: Threads + Wait + Sync, G: Gate + Sync>(
     Ok(outcome)
 }
 
-fn report_text<R: Threads + Sync>(
-    rt: &R,
-    alloc: Global,
-    outcome: &Outcome,
-) -> Result<Vec<u8>, Fail> {
-    let mut text = Vec::new(alloc);
-    outcome.write_report(rt, alloc, &mut text)?;
-    Ok(text)
-}
-
 /// The outcome of a service of so many shards.
 fn posted<R: Threads + Wait + RandomSource + Sync>(
     rt: &R,
@@ -59,8 +48,7 @@ fn posted<R: Threads + Wait + RandomSource + Sync>(
     shards: u32,
     workers: u32,
 ) -> Result<Outcome, Fail> {
-    let table = FareTable::read(alloc, SAMPLE.as_bytes())?;
-    let (service, share) = Service::open(rt, alloc, table, shards, uploads)?;
+    let (service, share) = opened(rt, alloc, uploads, shards)?;
     Ok(run(service, uploads, rt, alloc, share, workers, &OpenGate)?)
 }
 

@@ -1,6 +1,6 @@
 //! Damaged uploads through the whole service.
 
-use crate::sample::{BUS, SUBWAY, end_of, run, tap};
+use crate::sample::{BUS, SUBWAY, end_of, run, tap_after};
 use fare_service::{OpenGate, UploadEnd};
 use std::alloc::Global;
 use std::test::Fail;
@@ -8,7 +8,10 @@ use tap_views::{LayoutFault, encode};
 
 /// Two taps, 64 bytes.
 fn two_taps(alloc: Global) -> Result<Vec<u8>, Fail> {
-    Ok(encode(alloc, &[tap(0xa1, SUBWAY, 0), tap(0xa1, BUS, 7_200_000)])?)
+    Ok(encode(
+        alloc,
+        &[tap_after(0xa1, SUBWAY, 0), tap_after(0xa1, BUS, 7_200_000)],
+    )?)
 }
 
 /// How a file ends whose first batch has two taps and whose second has one, of which so many bytes
@@ -44,7 +47,7 @@ fn end_of_a_cut_file(bytes: usize) -> UploadEnd {
 fn a_file_cut_at_every_length(rt: HostRuntime) -> Result<(), Fail> {
     let alloc = rt.alloc();
     let mut file = two_taps(alloc)?;
-    file.extend_from_slice(&encode(alloc, &[tap(0xa1, SUBWAY, 0)])?)?;
+    file.extend_from_slice(&encode(alloc, &[tap_after(0xa1, SUBWAY, 0)])?)?;
     assert_eq!(rt; file.len(), 100);
     let mut cut = Vec::new(alloc);
     for bytes in 0..file.len() {

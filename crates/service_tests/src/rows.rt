@@ -3,7 +3,9 @@
 ghost use Rattle.std.specs.Prelude.{All, IfOk};
 ghost use Rattle.fare_service.specs.Shares.{IsShareOf};
 
-use crate::sample::{REPORT, SAMPLE, end_of, opened, run, two_taps, two_uploads, uploads_of};
+use crate::sample::{
+    REPORT, SAMPLE, end_of, opened, report_text, run, two_taps, two_uploads, uploads_of,
+};
 use fare_service::{
     Gate, GatherFault, OpenFault, OpenGate, Outcome, RunFault, Service, Share, UploadEnd,
 };
@@ -40,8 +42,7 @@ fn is_reported<R: Abort + Threads + Sync>(
     outcome: &Outcome,
     report: &str,
 ) -> Result<(), Fail> {
-    let mut text = Vec::new(alloc);
-    outcome.write_report(rt, alloc, &mut text)?;
+    let text = report_text(rt, alloc, outcome)?;
     assert_eq!(rt; text.as_slice(), report.as_bytes());
     Ok(())
 }

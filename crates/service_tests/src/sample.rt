@@ -1,23 +1,20 @@
 //! The sample table and uploads, and runs over them.
 
-ghost use Rattle.std.specs.Prelude.{IfOk};
+ghost use Rattle.std.specs.Prelude.{◌≡◌, IfOk, map};
 ghost use Rattle.fare_service.specs.Shares.{IsShareOf};
 
 use fare_service::{Gate, Outcome, Service, Share, UploadEnd};
 use fare_table::FareTable;
-pub use sample_table::{BUS, REPORT, SAMPLE, START, SUBWAY, bytes_of};
+pub use sample_table::{BUS, REPORT, SAMPLE, START, STATEMENT, SUBWAY, bytes_of, tap_after};
+use sample_table::{rides, strays};
 use std::alloc::Global;
 use std::marker::Sync;
+use std::process::Abort;
 use std::random::RandomSource;
 use std::sync::Wait;
 use std::test::Fail;
 use std::thread::Threads;
 use tap_views::{TapFields, encode};
-
-/// A tap so many milliseconds after the start.
-pub(crate) fn tap(last: u8, validator: u32, after: u64) -> TapFields {
-    sample_table::tap(last, validator, START.saturating_add(after))
-}
 
 /// Two uploads of one batch each.
 pub(crate) fn uploads_of(
@@ -31,22 +28,14 @@ pub(crate) fn uploads_of(
     Ok(uploads)
 }
 
-/// The uploads of the example: subway, bus, bus, subway within an hour (paid, transfer, paid,
-/// transfer); a tap at a validator that the table does not know, and then an earlier one (unknown,
-/// paid).
+/// The uploads of the example.
 pub(crate) fn two_uploads(alloc: Global) -> Result<Vec<Vec<u8>>, Fail> {
-    let four = [
-        tap(0xa1, SUBWAY, 0),
-        tap(0xa1, BUS, 1_200_000),
-        tap(0xa1, BUS, 2_400_000),
-        tap(0xa1, SUBWAY, 3_600_000),
-    ];
-    uploads_of(alloc, &four, &[tap(0xb2, 9, 10), tap(0xb2, SUBWAY, 5)])
+    uploads_of(alloc, &rides(), &strays())
 }
 
 /// Two uploads of one tap each, of two tokens.
 pub(crate) fn two_taps(alloc: Global) -> Result<Vec<Vec<u8>>, Fail> {
-    let (one, other) = (tap(0xa1, SUBWAY, 0), tap(0xb2, SUBWAY, 0));
+    let (one, other) = (tap_after(0xa1, SUBWAY, 0), tap_after(0xb2, SUBWAY, 0));
     uploads_of(alloc, &[one], &[other])
 }
 
@@ -57,7 +46,8 @@ pub(crate) fn opened<'a, R: RandomSource>(
     uploads: &'a [Vec<u8>],
     shards: u32,
 ) -> Result<(Service<'a>, Share), Fail>
-    ensures { IfOk result (λ r. IsShareOf r.0 r.1) }
+    ensures uploads { IfOk result (λ r. r.0.uploads ≡ map (λ upload. upload.items) uploads.now) }
+    ensures share { IfOk result (λ r. IsShareOf r.0 r.1) }
 {
     let table = FareTable::read(alloc, SAMPLE.as_bytes())?;
     Ok(Service::open(rt, alloc, table, shards, uploads)?)
@@ -82,5 +72,27 @@ pub(crate) fn end_of(outcome: &Outcome, upload: u32) -> Option<UploadEnd> {
         Some(outcome.upload(upload))
     } else {
         None
+    }
+}
+
+/// The text of the outcome's report.
+pub(crate) fn report_text<R: Threads + Sync>(
+    rt: &R,
+    alloc: Global,
+    outcome: &Outcome,
+) -> Result<Vec<u8>, Fail> {
+    let mut text = Vec::new(alloc);
+    outcome.write_report(rt, alloc, &mut text)?;
+    Ok(text)
+}
+
+/// Each upload was posted whole, so many taps of it.
+pub(crate) fn are_posted<R: Abort>(rt: &R, outcome: &Outcome, taps: u64) {
+    for upload in 0..outcome.uploads() {
+        assert_eq!(rt;
+            outcome.upload(upload),
+            UploadEnd::Posted { taps },
+            "upload {upload}"
+        );
     }
 }

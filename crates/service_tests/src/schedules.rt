@@ -1,7 +1,7 @@
 //! The same answers for every number of workers and of shards.
 
-use crate::sample::{REPORT, SUBWAY, run, tap, two_uploads};
-use fare_service::{OpenGate, Outcome, UploadEnd};
+use crate::sample::{REPORT, SUBWAY, are_posted, report_text, run, tap_after, two_uploads};
+use fare_service::OpenGate;
 use std::alloc::Global;
 use std::marker::Sync;
 use std::process::Abort;
@@ -20,8 +20,7 @@ fn report_by_all_workers<R: Threads + Wait + RandomSource + Sync + Abort>(
 ) -> Result<(), Fail> {
     for workers in 1..=16u32 {
         let outcome = run(rt, alloc, uploads, shards, workers, &OpenGate)?;
-        let mut text = Vec::new(alloc);
-        outcome.write_report(rt, alloc, &mut text)?;
+        let text = report_text(rt, alloc, &outcome)?;
         assert_eq!(rt;
             (
                 outcome.workers(),
@@ -52,20 +51,9 @@ fn the_report_is_the_same_for_every_number_of_workers(rt: HostRuntime) -> Result
 fn ten_rides(alloc: Global, token: u8) -> Result<Vec<u8>, Fail> {
     let mut file = Vec::new(alloc);
     for ride in 0..10u64 {
-        file.extend_from_slice(&encode(alloc, &[tap(token, SUBWAY, 10_800_000 * ride)])?)?;
+        file.extend_from_slice(&encode(alloc, &[tap_after(token, SUBWAY, 10_800_000 * ride)])?)?;
     }
     Ok(file)
-}
-
-/// Each upload is posted whole, ten taps of it.
-fn are_posted<R: Abort>(rt: &R, outcome: &Outcome) {
-    for upload in 0..outcome.uploads() {
-        assert_eq!(rt;
-            outcome.upload(upload),
-            UploadEnd::Posted { taps: 10 },
-            "upload {upload}"
-        );
-    }
 }
 
 /// Would catch an upload that two workers draw, and batches that are lost where both workers want
@@ -80,7 +68,7 @@ fn twenty_uploads_by_two_workers(rt: HostRuntime) -> Result<(), Fail> {
     for shards in [1, 2, 8, 64] {
         let outcome = run(&rt, alloc, uploads.as_slice(), shards, 2, &OpenGate)?;
         assert_eq!(rt; outcome.uploads(), 20);
-        are_posted(&rt, &outcome);
+        are_posted(&rt, &outcome, 10);
         let totals = outcome.totals();
         assert_eq!(rt;
             (totals.taps, totals.paid, totals.cents),

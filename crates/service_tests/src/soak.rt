@@ -3,8 +3,8 @@
 ghost use Rattle.std.specs.Prelude.{◌<◌};
 
 use crate::reference::ReferenceAccount;
-use crate::sample::{START, bytes_of, run};
-use fare_service::{OpenGate, Outcome, UploadEnd};
+use crate::sample::{START, are_posted, bytes_of, run};
+use fare_service::{OpenGate, Outcome};
 use shard_book::{ShardBook, Statement};
 use std::alloc::Global;
 use std::process::Abort;
@@ -117,19 +117,6 @@ fn are_explained<R: Abort>(rt: &R, alloc: Global, outcome: &Outcome) -> Result<(
     Ok(())
 }
 
-/// Every upload was posted whole.
-fn are_posted<R: Abort>(rt: &R, outcome: &Outcome) {
-    for upload in 0..outcome.uploads() {
-        assert_eq!(rt;
-            outcome.upload(upload),
-            UploadEnd::Posted {
-                taps: u64::from(BATCHES * TAPS)
-            },
-            "upload {upload}"
-        );
-    }
-}
-
 /// The workers' totals together.
 fn taps_of_workers(outcome: &Outcome) -> u128 {
     let mut taps = 0u128;
@@ -152,7 +139,7 @@ fn sixteen_workers_share_tokens(rt: HostRuntime) -> Result<(), Fail> {
     }
     for _ in 0..ROUNDS {
         let outcome = run(&rt, alloc, uploads.as_slice(), 64, 16, &OpenGate)?;
-        are_posted(&rt, &outcome);
+        are_posted(&rt, &outcome, u64::from(BATCHES * TAPS));
         are_explained(&rt, alloc, &outcome)?;
         assert_eq!(rt; taps_of_workers(&outcome), outcome.totals().taps);
     }

@@ -1,20 +1,10 @@
 //! Writers that fail.
 
-use crate::sample::{REPORT, bytes_of, run, two_uploads};
+use crate::sample::{REPORT, STATEMENT, bytes_of, run, two_uploads};
 use fare_service::{OpenGate, PrintFault};
 use sample_table::Narrow;
 use shard_book::Token;
 use std::test::Fail;
-
-/// The statement of the first upload's token.
-const STATEMENT: &str = "statement 000000000000000000000000000000a1
-2024-03-08T17:00:00.000Z subway 1000 paid 300
-2024-03-08T17:20:00.000Z bus 2000 transfer 0
-2024-03-08T17:40:00.000Z bus 2000 paid 300
-2024-03-08T18:00:00.000Z subway 1000 transfer 0
-totals taps 4 paid 2 transfers 2 capped 0 stale 0 unknown 0 cents 600
-window 2024-03-08T17:00:00.000Z 2024-03-15T17:00:00.000Z paid 2 cents 600
-";
 
 /// Would catch a text that is said to be written where its end was not.
 #[test]
