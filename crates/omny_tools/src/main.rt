@@ -34,16 +34,9 @@ mod tasks;
 mod telling;
 mod words;
 
-use std::env::Env;
+use program_manners::words_of;
 use std::process::ExitCode;
-use std::{env, io};
 use tasks::{run, unread_words};
-
-/// The words of the command line, the program's name first.
-fn words_of<R: Env + AllocGlobal>(rt: &R) -> io::Result<Vec<String>> {
-    let words = env::args(rt)?.collect(rt.alloc())?;
-    Ok(words)
-}
 
 /// The program.
 fn main(rt: HostRuntime) -> ExitCode {
