@@ -34,16 +34,16 @@ mod tasks;
 mod telling;
 mod words;
 
-use program_manners::words_of;
+use program_manners::{Complaints, unread_words, words_of};
 use std::process::ExitCode;
-use tasks::{run, unread_words};
+use tasks::run;
 
 /// The program.
 fn main(rt: HostRuntime) -> ExitCode {
     let mut err = rt.stderr();
     let status = match words_of(&rt) {
         Ok(words) => run(&rt, &words, &mut err),
-        Err(error) => unread_words(&error, &mut err),
+        Err(error) => unread_words(&error, &mut Complaints::new(err)),
     };
     ExitCode::from(status)
 }
