@@ -2,8 +2,9 @@
 
 use crate::layout::{Cause, Remedy};
 use crate::names::Name;
-use fare_table::TableFault;
+use fare_table::{NoMemory, TableFault};
 use part_reports::Wrong;
+use std::alloc::{AllocError, AllocFailed};
 use std::fmt;
 use std::io::Write;
 use tap_rows::{Column, RowsFault};
@@ -49,6 +50,24 @@ impl Fault<'_> {
     /// Whether it is a layout fault of an upload: the next upload can follow.
     pub(crate) fn is_of_layout(&self) -> bool {
         matches!(self, Fault::Layout(..))
+    }
+}
+
+impl From<AllocError> for Fault<'_> {
+    fn from(_refused: AllocError) -> Self {
+        Fault::NoMemory
+    }
+}
+
+impl<T: Drop> From<AllocFailed<T>> for Fault<'_> {
+    fn from(_refused: AllocFailed<T>) -> Self {
+        Fault::NoMemory
+    }
+}
+
+impl From<NoMemory> for Fault<'_> {
+    fn from(_refused: NoMemory) -> Self {
+        Fault::NoMemory
     }
 }
 
