@@ -133,8 +133,5 @@ pub(crate) fn split<'a, W: Write + Drop>(
     let made = split_and_make(rt, words, &mut progress);
     progress.end();
     let ends = made?;
-    if out.write_all(ends.as_bytes()).is_err() {
-        return Err(out.failed());
-    }
-    Ok(())
+    out.put(ends.as_str())
 }

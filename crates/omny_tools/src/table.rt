@@ -161,9 +161,7 @@ fn understood<'a, W: Write + Drop, E: Write>(
     };
     let (warnings, count) = warnings_of(alloc, &told, seen)?;
     let lines = lines_of(alloc, question, tree, fares, from, count)?;
-    if out.write_all(lines.as_bytes()).is_err() {
-        return Err(out.failed());
-    }
+    out.put(lines.as_str())?;
     let _ = err.write_all(warnings.as_bytes());
     Ok(is_well && (count == 0 || !question.is_strict))
 }

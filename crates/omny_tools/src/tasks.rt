@@ -65,9 +65,7 @@ fn show<E: Write>(rt: &HostRuntime, error: &Error, err: &mut E) -> u8 {
 /// Writes a text to standard output.
 fn print<'a>(rt: &HostRuntime, text: &str) -> Result<(), Fault<'a>> {
     let mut out = Output::new(rt.alloc(), io::writer(rt))?;
-    if out.write_all(text.as_bytes()).is_err() {
-        return Err(out.failed());
-    }
+    out.put(text)?;
     out.finish()
 }
 

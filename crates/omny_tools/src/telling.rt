@@ -57,9 +57,7 @@ fn tell_one<'a, W: Write + Drop>(
     let upload = load_upload(rt, name)?;
     let facts = facts_of(&upload);
     let text = lines_of(rt.alloc(), number, name, &facts)?;
-    if out.write_all(text.as_bytes()).is_err() {
-        return Err(out.failed());
-    }
+    out.put(text.as_str())?;
     Ok((upload, facts.fault.is_none()))
 }
 
@@ -99,9 +97,7 @@ fn tell_tokens<'a, W: Write + Drop>(
 ) -> Result<(), Fault<'a>> {
     if let Some(sharing) = sharing {
         let text = token_lines(alloc, sharing)?;
-        if out.write_all(text.as_bytes()).is_err() {
-            return Err(out.failed());
-        }
+        out.put(text.as_str())?;
     }
     Ok(())
 }
