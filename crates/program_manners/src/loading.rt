@@ -10,6 +10,9 @@ use thiserror::Error;
 /// The most bytes of a file that is loaded: 64 MiB.
 pub const LOAD_LIMIT_BYTES: usize = 67_108_864;
 
+/// What standard input is called in a fault line.
+pub const STANDARD_INPUT: &str = "standard input";
+
 /// Why a file or standard input was not loaded.
 #[derive(Clone, Copy, Debug, PartialEq, Eq, Error)]
 pub enum LoadFault {
