@@ -4,6 +4,7 @@ use crate::layout::{Cause, Remedy};
 use crate::names::Name;
 use fare_table::{NoMemory, TableFault};
 use part_reports::Wrong;
+use program_manners::LoadFault;
 use std::alloc::{AllocError, AllocFailed};
 use std::fmt;
 use std::io::Write;
@@ -46,7 +47,16 @@ pub(crate) enum Fault<'a> {
     NoMemory,
 }
 
-impl Fault<'_> {
+impl<'a> Fault<'a> {
+    /// Why the file of this name was not loaded.
+    pub(crate) fn of_load(name: Name<'a>, fault: LoadFault) -> Fault<'a> {
+        match fault {
+            LoadFault::Unread => Fault::Unread(name),
+            LoadFault::TooLong => Fault::TooLong(name),
+            LoadFault::NoMemory => Fault::NoMemory,
+        }
+    }
+
     /// Whether it is a layout fault of an upload: the next upload can follow.
     pub(crate) fn is_of_layout(&self) -> bool {
         matches!(self, Fault::Layout(..))

@@ -23,7 +23,9 @@ mod words;
 pub use answers::show_answer;
 pub use arguments::{unread_words, words_of};
 pub use complaints::Complaints;
-pub use loading::{FileFault, LOAD_LIMIT_BYTES, LoadFault, STANDARD_INPUT, load_from};
+pub use loading::{
+    FileFault, LOAD_LIMIT_BYTES, LoadFault, STANDARD_INPUT, load_file, load_from, open_file,
+};
 pub use opened::Opened;
 pub use table_line::TableLine;
 pub use words::{
