@@ -2,9 +2,9 @@
 
 use crate::early_files::{Disk, Early, take_next};
 use crate::source::Source;
-use program_manners::{LOAD_LIMIT_BYTES, LoadFault, load_from};
+use program_manners::{LOAD_LIMIT_BYTES, LoadFault, load_file, load_from};
 use std::alloc::Global;
-use std::{fs, io};
+use std::fs;
 
 impl Disk for HostRuntime {
     // What is no regular file, as a pipe, may give other bytes before it is due, or none for long.
@@ -16,11 +16,7 @@ impl Disk for HostRuntime {
     }
 
     fn read(&self, alloc: Global, name: &str) -> Result<Vec<u8>, LoadFault> {
-        match fs::open(self, name) {
-            Ok(mut file) => load_from(alloc, &mut file),
-            Err(error) if error.kind() == io::ErrorKind::OutOfMemory => Err(LoadFault::NoMemory),
-            Err(_) => Err(LoadFault::Unread),
-        }
+        load_file(self, alloc, name)
     }
 }
 

@@ -35,5 +35,7 @@ mod uploads;
 pub use early_files::{Disk, Early, read_early};
 pub use host::Host;
 pub use program::main_over;
-pub use program_manners::{Complaints, LOAD_LIMIT_BYTES, LoadFault, load_from, unread_words};
+pub use program_manners::{
+    Complaints, LOAD_LIMIT_BYTES, LoadFault, load_from, unread_words, words_of,
+};
 pub use source::Source;

@@ -27,7 +27,7 @@ use clap::Error;
 use clap::error::ErrorKind;
 use fare_table::{FareTable, NoMemory};
 use hex::FromHex;
-use program_manners::{Complaints, show_answer};
+use program_manners::{Complaints, STANDARD_INPUT, show_answer};
 use shard_book::Token;
 use std::alloc::Global;
 use std::io::Write;
@@ -35,9 +35,6 @@ use std::marker::Sync;
 use std::random::RandomSource;
 use std::sync::Wait;
 use std::thread::Threads;
-
-/// What standard input is called in a fault line.
-const STANDARD_INPUT: &str = "standard input";
 
 /// How many threads read files at once, or as many as there are workers where these are more. What
 /// is loaded does not depend on it.

@@ -1,9 +1,8 @@
 //! The files and the standard input of the system.
 
 use crate::source::Source;
-use program_manners::{LoadFault, Opened, load_from};
-use std::io::{ErrorKind, Input};
-use std::{fs, io};
+use program_manners::{LoadFault, Opened, load_file, open_file};
+use std::io::Input;
 
 /// Loads from the system's files and standard input. It does not keep what it loaded.
 #[derive(Drop)]
@@ -19,32 +18,18 @@ impl<'a> Host<'a> {
     }
 }
 
-/// Why a file could not be opened.
-fn unopened(error: &io::Error) -> LoadFault {
-    if error.kind() == ErrorKind::OutOfMemory {
-        LoadFault::NoMemory
-    } else {
-        LoadFault::Unread
-    }
-}
-
 impl Source for Host<'_> {
     type Ledger = Opened;
 
     fn load(&mut self, name: &str) -> Result<Vec<u8>, LoadFault> {
-        match fs::open(self.rt, name) {
-            Ok(mut file) => load_from(self.rt.alloc(), &mut file),
-            Err(error) => Err(unopened(&error)),
-        }
+        load_file(self.rt, self.rt.alloc(), name)
     }
 
     fn open(&mut self, name: Option<&str>) -> Result<Opened, LoadFault> {
         let Some(name) = name else {
             return Ok(Opened::Input(self.rt.reader()));
         };
-        match fs::open(self.rt, name) {
-            Ok(file) => Ok(Opened::File(file)),
-            Err(error) => Err(unopened(&error)),
-        }
+        let file = open_file(self.rt, name)?;
+        Ok(Opened::File(file))
     }
 }

@@ -30,16 +30,8 @@ mod text;
 use escaping::Escaping;
 use files::Host;
 use program::main_over;
-use program_manners::{Complaints, unread_words};
-use std::env::Env;
+use program_manners::{Complaints, unread_words, words_of};
 use std::process::ExitCode;
-use std::{env, io};
-
-/// The words of the command line, the program's name first.
-fn words_of<R: Env + AllocGlobal>(rt: &R) -> io::Result<Vec<String>> {
-    let words = env::args(rt)?.collect(rt.alloc())?;
-    Ok(words)
-}
 
 /// The program.
 fn main(rt: HostRuntime) -> ExitCode {

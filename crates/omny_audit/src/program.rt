@@ -25,13 +25,10 @@ use crate::source::Source;
 use clap::Error;
 use clap::error::ErrorKind;
 use fare_table::FareTable;
-use program_manners::{Complaints, show_answer};
+use program_manners::{Complaints, STANDARD_INPUT, show_answer};
 use std::alloc::Global;
 use std::io::Write;
 use tap_balance::Balance;
-
-/// What standard input is called in a fault line.
-const STANDARD_INPUT: &str = "standard input";
 
 /// All bytes of the file of this name.
 fn load_named<'a, S: Source>(source: &mut S, name: &'a str) -> Result<Vec<u8>, Fault<'a>>

@@ -17,17 +17,9 @@ mod ticker;
 mod watched;
 
 use beside::run_beside_line;
-use fare_program::{Complaints, Host, main_over, unread_words};
-use std::env::Env;
+use fare_program::{Complaints, Host, main_over, unread_words, words_of};
 use std::io::IsTerminal;
 use std::process::ExitCode;
-use std::{env, io};
-
-/// The words of the command line, the program's name first.
-fn words_of<R: Env + AllocGlobal>(rt: &R) -> io::Result<Vec<String>> {
-    let words = env::args(rt)?.collect(rt.alloc())?;
-    Ok(words)
-}
 
 /// The program.
 fn main(rt: HostRuntime) -> ExitCode {

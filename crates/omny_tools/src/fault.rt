@@ -2,8 +2,10 @@
 
 use crate::layout::{Cause, Remedy};
 use crate::names::Name;
-use fare_table::TableFault;
+use fare_table::{NoMemory, TableFault};
 use part_reports::Wrong;
+use program_manners::LoadFault;
+use std::alloc::{AllocError, AllocFailed};
 use std::fmt;
 use std::io::Write;
 use tap_rows::{Column, RowsFault};
@@ -45,10 +47,37 @@ pub(crate) enum Fault<'a> {
     NoMemory,
 }
 
-impl Fault<'_> {
+impl<'a> Fault<'a> {
+    /// Why the file of this name was not loaded.
+    pub(crate) fn of_load(name: Name<'a>, fault: LoadFault) -> Fault<'a> {
+        match fault {
+            LoadFault::Unread => Fault::Unread(name),
+            LoadFault::TooLong => Fault::TooLong(name),
+            LoadFault::NoMemory => Fault::NoMemory,
+        }
+    }
+
     /// Whether it is a layout fault of an upload: the next upload can follow.
     pub(crate) fn is_of_layout(&self) -> bool {
         matches!(self, Fault::Layout(..))
+    }
+}
+
+impl From<AllocError> for Fault<'_> {
+    fn from(_refused: AllocError) -> Self {
+        Fault::NoMemory
+    }
+}
+
+impl<T: Drop> From<AllocFailed<T>> for Fault<'_> {
+    fn from(_refused: AllocFailed<T>) -> Self {
+        Fault::NoMemory
+    }
+}
+
+impl From<NoMemory> for Fault<'_> {
+    fn from(_refused: NoMemory) -> Self {
+        Fault::NoMemory
     }
 }
 

@@ -3,7 +3,7 @@
 use crate::fault::Fault;
 use crate::names::Name;
 use crate::progress::{Progress, Watched};
-use program_manners::{LOAD_LIMIT_BYTES, Opened};
+use program_manners::{Opened, load_file, load_from, open_file};
 use std::alloc::Global;
 use std::io::{BufReader, Input, Read};
 use std::{fs, io};
@@ -25,24 +25,11 @@ fn read_whole<'a, R: Read>(
     }
 }
 
-/// All bytes of an upload. One that is longer than an upload may be is not read to its end.
-fn read_upload<'a, R: Read + Drop>(
-    alloc: Global,
-    name: Name<'a>,
-    from: R,
-) -> Result<Vec<u8>, Fault<'a>> {
-    let bytes = read_whole(alloc, name, &mut from.take(LOAD_LIMIT_BYTES as u64 + 1))?;
-    if bytes.len() > LOAD_LIMIT_BYTES {
-        return Err(Fault::TooLong(name));
-    }
-    Ok(bytes)
-}
-
 /// Opens a file.
 pub(crate) fn open<'a>(rt: &HostRuntime, name: Name<'a>) -> Result<fs::File, Fault<'a>> {
-    match fs::open(rt, name.0) {
+    match open_file(rt, name.0) {
         Ok(file) => Ok(file),
-        Err(_) => Err(Fault::Unread(name)),
+        Err(fault) => Err(Fault::of_load(name, fault)),
     }
 }
 
@@ -91,7 +78,7 @@ pub(crate) fn plain_bytes(rt: &HostRuntime, name: Name<'_>) -> Option<u64> {
 }
 
 /// All bytes that the reader has left; tells how many are read.
-fn load_from<'a, R: Read + Drop>(
+fn load_watched<'a, R: Read + Drop>(
     rt: &HostRuntime,
     name: Name<'a>,
     from: R,
@@ -105,15 +92,21 @@ fn load_from<'a, R: Read + Drop>(
 /// All bytes of a file or of standard input.
 pub(crate) fn load<'a>(rt: &HostRuntime, name: Name<'a>) -> Result<Vec<u8>, Fault<'a>> {
     if name.is_input() {
-        return load_from(rt, name, rt.reader());
+        return load_watched(rt, name, rt.reader());
     }
-    load_from(rt, name, open(rt, name)?)
+    load_watched(rt, name, open(rt, name)?)
 }
 
-/// All bytes of an upload, from a file or from standard input.
+/// All bytes of an upload, from a file or from standard input. One that is longer than an upload
+/// may be is not read to its end.
 pub(crate) fn load_upload<'a>(rt: &HostRuntime, name: Name<'a>) -> Result<Vec<u8>, Fault<'a>> {
-    if name.is_input() {
-        return read_upload(rt.alloc(), name, rt.reader());
+    let loaded = if name.is_input() {
+        load_from(rt.alloc(), &mut rt.reader())
+    } else {
+        load_file(rt, rt.alloc(), name.0)
+    };
+    match loaded {
+        Ok(bytes) => Ok(bytes),
+        Err(fault) => Err(Fault::of_load(name, fault)),
     }
-    read_upload(rt.alloc(), name, open(rt, name)?)
 }

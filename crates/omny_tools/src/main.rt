@@ -34,23 +34,16 @@ mod tasks;
 mod telling;
 mod words;
 
-use std::env::Env;
+use program_manners::{Complaints, unread_words, words_of};
 use std::process::ExitCode;
-use std::{env, io};
-use tasks::{run, unread_words};
-
-/// The words of the command line, the program's name first.
-fn words_of<R: Env + AllocGlobal>(rt: &R) -> io::Result<Vec<String>> {
-    let words = env::args(rt)?.collect(rt.alloc())?;
-    Ok(words)
-}
+use tasks::run;
 
 /// The program.
 fn main(rt: HostRuntime) -> ExitCode {
     let mut err = rt.stderr();
     let status = match words_of(&rt) {
         Ok(words) => run(&rt, &words, &mut err),
-        Err(error) => unread_words(&error, &mut err),
+        Err(error) => unread_words(&error, &mut Complaints::new(err)),
     };
     ExitCode::from(status)
 }

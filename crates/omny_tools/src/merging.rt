@@ -56,9 +56,7 @@ fn open_all<'a>(rt: &HostRuntime, names: &[Name<'a>]) -> Result<Vec<BufReader<Op
     let mut texts = Vec::new(rt.alloc());
     for name in names {
         let text = open_in_pieces(rt, *name)?;
-        if texts.push(text).is_err() {
-            return Err(Fault::NoMemory);
-        }
+        texts.push(text)?;
     }
     Ok(texts)
 }

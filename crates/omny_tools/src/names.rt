@@ -1,9 +1,10 @@
 //! The names of files.
 
+use program_manners::STANDARD_INPUT;
 use std::fmt;
 
 /// The word that stands for standard input.
-const STANDARD_INPUT: &str = "-";
+const INPUT_WORD: &str = "-";
 
 /// The name of a file as the command line has it; `-` stands for standard input. Its `Display` is
 /// the name with its control characters escaped, so that it stays within its line.
@@ -13,7 +14,7 @@ pub(crate) struct Name<'a>(pub(crate) &'a str);
 impl<'a> Name<'a> {
     /// Standard input.
     pub(crate) fn input() -> Name<'a> {
-        Name(STANDARD_INPUT)
+        Name(INPUT_WORD)
     }
 
     /// The folder that the program runs in.
@@ -23,14 +24,14 @@ impl<'a> Name<'a> {
 
     /// Whether this is standard input.
     pub(crate) fn is_input(&self) -> bool {
-        self.0 == STANDARD_INPUT
+        self.0 == INPUT_WORD
     }
 }
 
 impl fmt::Display for Name<'_> {
     fn fmt<W: fmt::Write>(&self, f: &mut fmt::Formatter<W>) -> fmt::Result {
         if self.is_input() {
-            return f.write_str("standard input");
+            return f.write_str(STANDARD_INPUT);
         }
         let escaped = Escaped(self.0);
         write!(f, "{escaped}")

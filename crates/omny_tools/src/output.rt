@@ -29,6 +29,14 @@ impl<W: Write + Drop> Output<W> {
         }
     }
 
+    /// Collects a text, and writes what was collected where that is much.
+    pub(crate) fn put<'a>(&mut self, text: &str) -> Result<(), Fault<'a>> {
+        match self.write_all(text.as_bytes()) {
+            Ok(()) => Ok(()),
+            Err(_) => Err(self.failed()),
+        }
+    }
+
     /// Writes and flushes what was collected. Returns why this write or an earlier one failed.
     pub(crate) fn finish<'a>(&mut self) -> Result<(), Fault<'a>> {
         match self.flush() {

@@ -3,7 +3,7 @@
 use crate::merging::MergeWords;
 use crate::names::Name;
 use crate::splitting::SplitWords;
-use crate::words::names_at;
+use crate::words::{names_at, subcommand};
 use clap::{ArgAction, ArgMatches, Command, value_parser};
 use program_manners::{files_arg, option_arg, positional_arg};
 use std::alloc::{AllocError, Global};
@@ -85,9 +85,7 @@ pub(crate) fn split_command<'a>(alloc: Global) -> Result<Command<'a>, AllocError
         .value_parser(value_parser!(u32))
         .default_value("0");
     let file = positional_arg(alloc, "FILE", ArgAction::Append, UPLOADS_HELP).required(true);
-    Command::new(alloc, "split")
-        .about(SPLIT_ABOUT)
-        .after_help(SPLIT_STATUS)
+    subcommand(alloc, "split", SPLIT_ABOUT, SPLIT_STATUS)
         .arg(parts)?
         .arg(folder)?
         .arg(first)?
@@ -113,9 +111,7 @@ pub(crate) fn split_words<'a>(
 pub(crate) fn merge_command<'a>(alloc: Global) -> Result<Command<'a>, AllocError> {
     let ends = files_arg(alloc, "ends", ENDS_HELP).required(true);
     let reports = files_arg(alloc, "reports", REPORTS_HELP).required(true);
-    Command::new(alloc, "merge")
-        .about(MERGE_ABOUT)
-        .after_help(MERGE_STATUS)
+    subcommand(alloc, "merge", MERGE_ABOUT, MERGE_STATUS)
         .arg(ends)?
         .arg(reports)
 }
@@ -123,10 +119,13 @@ pub(crate) fn merge_command<'a>(alloc: Global) -> Result<Command<'a>, AllocError
 /// `merge-ledgers FILE...`
 pub(crate) fn merge_ledgers_command<'a>(alloc: Global) -> Result<Command<'a>, AllocError> {
     let file = positional_arg(alloc, "FILE", ArgAction::Append, LEDGERS_HELP).required(true);
-    Command::new(alloc, "merge-ledgers")
-        .about(MERGE_LEDGERS_ABOUT)
-        .after_help(MERGE_LEDGERS_STATUS)
-        .arg(file)
+    subcommand(
+        alloc,
+        "merge-ledgers",
+        MERGE_LEDGERS_ABOUT,
+        MERGE_LEDGERS_STATUS,
+    )
+    .arg(file)
 }
 
 /// What `merge` is asked for.

@@ -90,7 +90,8 @@ impl<'r> Progress<'r> {
         is_due
     }
 
-    /// Shows a line in place of the one that stands there.
+    /// Shows a line in place of the one that stands there. That one may be longer, so a line ends
+    /// by clearing what follows it.
     fn show(&mut self, line: &ArrayString<80>) {
         let _ = self.err.write(line.as_bytes());
         self.is_shown = true;
@@ -100,7 +101,7 @@ impl<'r> Progress<'r> {
     pub(crate) fn tell(&mut self, done: usize, all: usize, things: &str) {
         if self.is_due() {
             let mut line: ArrayString<80> = ArrayString::new();
-            let _ = write!(line, "\r{done} of {all} {things}");
+            let _ = write!(line, "\r{done} of {all} {things}\x1b[K");
             self.show(&line);
         }
     }
@@ -114,9 +115,9 @@ impl<'r> Progress<'r> {
             let _ = match all {
                 Some(all) => {
                     let all = all / MIB;
-                    write!(line, "\r{done} of {all} MiB {verb}")
+                    write!(line, "\r{done} of {all} MiB {verb}\x1b[K")
                 }
-                None => write!(line, "\r{done} MiB {verb}"),
+                None => write!(line, "\r{done} MiB {verb}\x1b[K"),
             };
             self.show(&line);
         }

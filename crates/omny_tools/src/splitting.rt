@@ -45,19 +45,13 @@ fn split_all<'a>(
     ends: &mut String,
     progress: &mut Progress<'_>,
 ) -> Result<Split, Fault<'a>> {
-    let Ok(mut split) = Split::new(rt.alloc(), words.parts.clamp(1, MAX_PARTS)) else {
-        return Err(Fault::NoMemory);
-    };
+    let mut split = Split::new(rt.alloc(), words.parts.clamp(1, MAX_PARTS))?;
     for (number, name) in words.uploads.iter().enumerate() {
         progress.tell(number, words.uploads.len(), "uploads");
         let upload = load_upload(rt, *name)?;
-        let Ok((more, end)) = split.with(&upload) else {
-            return Err(Fault::NoMemory);
-        };
+        let (more, end) = split.with(&upload)?;
         split = more;
-        if push_end(ends, u128::from(words.first) + number as u128, &end).is_err() {
-            return Err(Fault::NoMemory);
-        }
+        push_end(ends, u128::from(words.first) + number as u128, &end)?;
     }
     Ok(split)
 }
@@ -94,12 +88,8 @@ fn make_part<'a>(
     part: u32,
     bytes: &[u8],
 ) -> Result<(), Fault<'a>> {
-    let Ok(whole) = part_name(rt.alloc(), folder, part) else {
-        return Err(Fault::NoMemory);
-    };
-    let Ok(begun) = format!(in rt.alloc(); "{whole}.") else {
-        return Err(Fault::NoMemory);
-    };
+    let whole = part_name(rt.alloc(), folder, part)?;
+    let begun = format!(in rt.alloc(); "{whole}.")?;
     match store_whole(rt, begun.as_str(), whole.as_str(), bytes) {
         Ok(()) => Ok(()),
         Err(_) => Err(Fault::UnmadePart(folder, part)),
@@ -115,9 +105,7 @@ fn make_parts<'a>(
 ) -> Result<(), Fault<'a>> {
     for part in 0..split.len() {
         progress.tell(part as usize, split.len() as usize, "parts");
-        let Ok(bytes) = split.file(rt.alloc(), part) else {
-            return Err(Fault::NoMemory);
-        };
+        let bytes = split.file(rt.alloc(), part)?;
         make_part(rt, folder, part, &bytes)?;
     }
     Ok(())
@@ -145,8 +133,5 @@ pub(crate) fn split<'a, W: Write + Drop>(
     let made = split_and_make(rt, words, &mut progress);
     progress.end();
     let ends = made?;
-    if out.write_all(ends.as_bytes()).is_err() {
-        return Err(out.failed());
-    }
-    Ok(())
+    out.put(ends.as_str())
 }

@@ -83,16 +83,12 @@ fn refuse<'a, E: Write>(
     fault: TableFault,
     err: &mut E,
 ) -> Result<bool, Fault<'a>> {
-    let Ok(wrongs) = wrongs_of(alloc, tree) else {
-        return Err(Fault::NoMemory);
-    };
+    let wrongs = wrongs_of(alloc, tree)?;
     if wrongs.is_empty() {
         return Err(Fault::Fares(name, fault));
     }
-    match say_wrongs(alloc, name, text, &wrongs, err) {
-        Ok(()) => Ok(false),
-        Err(_) => Err(Fault::NoMemory),
-    }
+    say_wrongs(alloc, name, text, &wrongs, err)?;
+    Ok(false)
 }
 
 /// Adds the validators of an upload. The layout fault, if any, is told on `err`. Says whether there
@@ -105,9 +101,7 @@ fn add_upload<'a, E: Write>(
     err: &mut E,
 ) -> Result<bool, Fault<'a>> {
     let upload = load_upload(rt, name)?;
-    if seen.add(&upload).is_err() {
-        return Err(Fault::NoMemory);
-    }
+    seen.add(&upload)?;
     match facts_of(&upload).fault {
         Some((offset, fault)) => {
             progress.end();
@@ -165,15 +159,9 @@ fn understood<'a, W: Write + Drop, E: Write>(
     } else {
         Some(&seen)
     };
-    let Ok((warnings, count)) = warnings_of(alloc, &told, seen) else {
-        return Err(Fault::NoMemory);
-    };
-    let Ok(lines) = lines_of(alloc, question, tree, fares, from, count) else {
-        return Err(Fault::NoMemory);
-    };
-    if out.write_all(lines.as_bytes()).is_err() {
-        return Err(out.failed());
-    }
+    let (warnings, count) = warnings_of(alloc, &told, seen)?;
+    let lines = lines_of(alloc, question, tree, fares, from, count)?;
+    out.put(lines.as_str())?;
     let _ = err.write_all(warnings.as_bytes());
     Ok(is_well && (count == 0 || !question.is_strict))
 }
@@ -200,9 +188,7 @@ pub(crate) fn tell_table<'a, W: Write + Drop, E: Write>(
                 Some(span) => span.start,
                 None => 0,
             };
-            let Ok(places) = Places::of(rt.alloc(), text) else {
-                return Err(Fault::NoMemory);
-            };
+            let places = Places::of(rt.alloc(), text)?;
             let (line, column) = places.line_and_column(text, start);
             return Err(Fault::NotToml(name, line, column, error));
         }

@@ -15,7 +15,7 @@ use crate::words::{Task, task_of};
 use clap::Error;
 use clap::error::ErrorKind;
 use std::io;
-use std::io::{ErrorKind as ReadKind, Write};
+use std::io::Write;
 
 /// Says that the command line is wrong, and gives the status.
 fn mistake<E: Write>(err: &mut E, line: &str) -> u8
@@ -65,9 +65,7 @@ fn show<E: Write>(rt: &HostRuntime, error: &Error, err: &mut E) -> u8 {
 /// Writes a text to standard output.
 fn print<'a>(rt: &HostRuntime, text: &str) -> Result<(), Fault<'a>> {
     let mut out = Output::new(rt.alloc(), io::writer(rt))?;
-    if out.write_all(text.as_bytes()).is_err() {
-        return Err(out.failed());
-    }
+    out.put(text)?;
     out.finish()
 }
 
@@ -145,14 +143,4 @@ pub(crate) fn run<E: Write>(rt: &HostRuntime, words: &[String], err: &mut E) -> 
             1
         }
     }
-}
-
-/// Says why the words could not be had, and gives the status: 1 for want of memory, and 2 for a
-/// word that is not UTF-8.
-pub(crate) fn unread_words<E: Write>(error: &io::Error, err: &mut E) -> u8 {
-    if error.kind() == ReadKind::OutOfMemory {
-        say(err, &Fault::NoMemory);
-        return 1;
-    }
-    mistake(err, "an argument is not UTF-8")
 }

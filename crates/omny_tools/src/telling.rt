@@ -56,12 +56,8 @@ fn tell_one<'a, W: Write + Drop>(
 ) -> Result<(Vec<u8>, bool), Fault<'a>> {
     let upload = load_upload(rt, name)?;
     let facts = facts_of(&upload);
-    let Ok(text) = lines_of(rt.alloc(), number, name, &facts) else {
-        return Err(Fault::NoMemory);
-    };
-    if out.write_all(text.as_bytes()).is_err() {
-        return Err(out.failed());
-    }
+    let text = lines_of(rt.alloc(), number, name, &facts)?;
+    out.put(text.as_str())?;
     Ok((upload, facts.fault.is_none()))
 }
 
@@ -88,9 +84,7 @@ fn sharing_where(alloc: Global, has_tokens: bool) -> Option<Sharing> {
 /// Counts the tokens of the next upload, where that is asked for.
 fn add_tokens<'a>(sharing: &mut Option<Sharing>, upload: &[u8]) -> Result<(), Fault<'a>> {
     if let Some(sharing) = sharing {
-        if sharing.add(upload).is_err() {
-            return Err(Fault::NoMemory);
-        }
+        sharing.add(upload)?;
     }
     Ok(())
 }
@@ -102,12 +96,8 @@ fn tell_tokens<'a, W: Write + Drop>(
     out: &mut Output<W>,
 ) -> Result<(), Fault<'a>> {
     if let Some(sharing) = sharing {
-        let Ok(text) = token_lines(alloc, sharing) else {
-            return Err(Fault::NoMemory);
-        };
-        if out.write_all(text.as_bytes()).is_err() {
-            return Err(out.failed());
-        }
+        let text = token_lines(alloc, sharing)?;
+        out.put(text.as_str())?;
     }
     Ok(())
 }

@@ -126,22 +126,26 @@ pub(crate) enum Task<'a> {
     Nothing,
 }
 
+/// A subcommand of this name, with what its exit status says, and no options yet.
+pub(crate) fn subcommand<'a>(
+    alloc: Global,
+    name: &'a str,
+    about: &'a str,
+    status: &'a str,
+) -> Command<'a> {
+    Command::new(alloc, name).about(about).after_help(status)
+}
+
 /// `encode [FILE]`
 fn encode_command<'a>(alloc: Global) -> Result<Command<'a>, AllocError> {
     let file = positional_arg(alloc, "FILE", ArgAction::Set, ENCODE_HELP);
-    Command::new(alloc, "encode")
-        .about(ENCODE_ABOUT)
-        .after_help(STATUS)
-        .arg(file)
+    subcommand(alloc, "encode", ENCODE_ABOUT, STATUS).arg(file)
 }
 
 /// `decode [FILE]...`
 fn decode_command<'a>(alloc: Global) -> Result<Command<'a>, AllocError> {
     let file = positional_arg(alloc, "FILE", ArgAction::Append, DECODE_HELP);
-    Command::new(alloc, "decode")
-        .about(DECODE_ABOUT)
-        .after_help(STATUS)
-        .arg(file)
+    subcommand(alloc, "decode", DECODE_ABOUT, STATUS).arg(file)
 }
 
 /// `uploads [--good-part OUT] [--tokens] FILE...`
@@ -149,9 +153,7 @@ fn uploads_command<'a>(alloc: Global) -> Result<Command<'a>, AllocError> {
     let good = option_arg(alloc, "good-part", "OUT", GOOD_PART_HELP);
     let tokens = flag_arg(alloc, "tokens", TOKENS_HELP);
     let file = positional_arg(alloc, "FILE", ArgAction::Append, UPLOADS_HELP).required(true);
-    Command::new(alloc, "uploads")
-        .about(UPLOADS_ABOUT)
-        .after_help(STATUS)
+    subcommand(alloc, "uploads", UPLOADS_ABOUT, STATUS)
         .arg(good)?
         .arg(tokens)?
         .arg(file)
@@ -164,9 +166,7 @@ fn table_command<'a>(alloc: Global) -> Result<Command<'a>, AllocError> {
     let from = option_arg(alloc, "from", "MOMENT", FROM_HELP);
     let table = positional_arg(alloc, "F", ArgAction::Set, TABLE_HELP).required(true);
     let uploads = positional_arg(alloc, "UPLOAD", ArgAction::Append, TABLE_UPLOADS_HELP);
-    Command::new(alloc, "table")
-        .about(TABLE_ABOUT)
-        .after_help(STATUS)
+    subcommand(alloc, "table", TABLE_ABOUT, STATUS)
         .arg(strict)?
         .arg(riders)?
         .arg(from)?

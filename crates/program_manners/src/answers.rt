@@ -1,7 +1,6 @@
-//! What clap answers where there is nothing to run, and words that are no text.
+//! What clap answers where there is nothing to run.
 ghost use Rattle.std.specs.Prelude.{◌≡◌, ◌≢◌, ◌≤◌, IfErr, IfOk, Ok, codes};
 ghost use Rattle.std.specs.Io.KnownBytes.{Keeps};
-ghost use Rattle.std.specs.IoError.{error_kind};
 ghost use Rattle.clap.specs.Words.{kind_of};
 ghost use Rattle.program_manners.specs.LineWritten.{LineWritten};
 ghost use Rattle.program_manners.specs.Words.{IsRequest};
@@ -10,7 +9,7 @@ use crate::complaints::Complaints;
 use clap::Error;
 use clap::error::ErrorKind;
 use std::io;
-use std::io::{ErrorKind as ReadKind, Write};
+use std::io::Write;
 
 /// Prints clap's text and flushes the writer.
 fn show_text<W: Write>(error: &Error, out: &mut W) -> io::Result<()> {
@@ -54,22 +53,4 @@ pub fn show_answer<W: Write, E: Write>(
             Ok(2)
         }
     }
-}
-
-/// Says why the words could not be had, and gives the status: 1 for want of memory, and 2 for a
-/// word that is not UTF-8.
-pub fn unread_words<E: Write>(error: &io::Error, err: &mut Complaints<E>) -> u8
-    ensures memory { error_kind error.now ≡ ReadKind.OutOfMemory → (result ≡ 1)
-        × LineWritten (E.contents err.old.writer) (E.contents err.new.writer) err.new.failed
-        (codes "fault: out of memory") }
-    ensures word { error_kind error.now ≢ ReadKind.OutOfMemory → (result ≡ 2)
-        × LineWritten (E.contents err.old.writer) (E.contents err.new.writer) err.new.failed
-        (codes "error: an argument is not UTF-8") }
-{
-    if error.kind() == ReadKind::OutOfMemory {
-        err.tell_line("fault: out of memory");
-        return 1;
-    }
-    err.tell_line("error: an argument is not UTF-8");
-    2
 }

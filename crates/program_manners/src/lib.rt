@@ -7,20 +7,25 @@
 //! | `loading` | whole files up to a limit, and the line of one that was not loaded |
 //! | `opened` | a file or standard input, to be read in pieces |
 //! | `table_line` | the line of a fault of the fare table |
-//! | `answers` | what clap answers where there is nothing to run, and words that are no text |
+//! | `answers` | what clap answers where there is nothing to run |
+//! | `arguments` | the words of the command line, and why they could not be had |
 //! | `words` | a command and its options, as `clap` takes them |
 #![tactic(auto)]
 
 mod answers;
+mod arguments;
 mod complaints;
 mod loading;
 mod opened;
 mod table_line;
 mod words;
 
-pub use answers::{show_answer, unread_words};
+pub use answers::show_answer;
+pub use arguments::{unread_words, words_of};
 pub use complaints::Complaints;
-pub use loading::{FileFault, LOAD_LIMIT_BYTES, LoadFault, load_from};
+pub use loading::{
+    FileFault, LOAD_LIMIT_BYTES, LoadFault, STANDARD_INPUT, load_file, load_from, open_file,
+};
 pub use opened::Opened;
 pub use table_line::TableLine;
 pub use words::{

@@ -1,14 +1,18 @@
 //! Whole files, up to a limit.
-ghost use Rattle.std.specs.Prelude.{◌≡◌, ◌<◌, ◌≤◌, length, IfOk, IfSome, Some, IsErrOf};
+ghost use Rattle.std.specs.Prelude.{◌≡◌, ◌≢◌, ◌<◌, ◌≤◌, length, IfErr, IfOk, IfSome, Some, IsErrOf};
 ghost use Rattle.program_manners.specs.Lines.{load_text};
 
 use std::alloc::{AllocError, Global};
-use std::fmt;
+use std::fs::Files;
 use std::io::{ErrorKind, Read};
+use std::{fmt, fs};
 use thiserror::Error;
 
 /// The most bytes of a file that is loaded: 64 MiB.
 pub const LOAD_LIMIT_BYTES: usize = 67_108_864;
+
+/// What standard input is called in a fault line.
+pub const STANDARD_INPUT: &str = "standard input";
 
 /// Why a file or standard input was not loaded.
 #[derive(Clone, Copy, Debug, PartialEq, Eq, Error)]
@@ -53,6 +57,26 @@ impl fmt::Display for FileFault<'_> {
             LoadFault::NoMemory => f.write_str("fault: out of memory"),
         }
     }
+}
+
+/// The file of this name, to be read from its beginning. That it cannot be opened is told as that
+/// it cannot be read, unless memory was refused.
+pub fn open_file<R: Files>(rt: &R, name: &str) -> Result<R::File, LoadFault>
+    ensures { IfErr result (λ fault. fault ≢ LoadFault.TooLong) }
+{
+    match fs::open(rt, name) {
+        Ok(file) => Ok(file),
+        Err(error) if error.kind() == ErrorKind::OutOfMemory => Err(LoadFault::NoMemory),
+        Err(_) => Err(LoadFault::Unread),
+    }
+}
+
+/// All bytes of the file of this name, as `load_from` reads them.
+pub fn load_file<R: Files>(rt: &R, alloc: Global, name: &str) -> Result<Vec<u8>, LoadFault>
+    ensures { IfOk result (λ bytes. length bytes.items ≤ LOAD_LIMIT_BYTES) }
+{
+    let mut file = open_file(rt, name)?;
+    load_from(alloc, &mut file)
 }
 
 /// All bytes that the reader has left, to its end. Reading stops at the first read that fails (and

@@ -53,6 +53,46 @@ pub(super) fn one_of(alloc: Global, what: &str, names: &[&str]) -> Result<String
     Ok(text)
 }
 
+/// The array at a key at the top, with the value that it is. None where there is none, which is
+/// told.
+pub(super) fn array_at<'t>(
+    wrongs: &mut Wrongs,
+    tree: &'t Table,
+    key: &str,
+    wanted: &str,
+) -> Result<Option<(&'t Value, &'t Array)>, AllocError> {
+    let Some(value) = tree.get(key) else {
+        wrongs.missing("", key, wanted)?;
+        return Ok(None);
+    };
+    let Some(array) = value.as_array() else {
+        wrongs.value(top(wrongs.alloc, key)?, value, wanted)?;
+        return Ok(None);
+    };
+    Ok(Some((value, array)))
+}
+
+/// Whether each element of the array at a key is well; those that are not are told.
+pub(super) fn are_all<F: Fn(&Value) -> bool>(
+    wrongs: &mut Wrongs,
+    array: &Array,
+    key: &str,
+    wanted: &str,
+    is_well: F,
+) -> Result<bool, AllocError>
+    requires { F.IsAlwaysCallable is_well }
+{
+    let mut are_well = true;
+    for (place, value) in array.iter().enumerate() {
+        if !is_well(value) {
+            let path = item_path(wrongs.alloc, key, place)?;
+            wrongs.value(path, value, wanted)?;
+            are_well = false;
+        }
+    }
+    Ok(are_well)
+}
+
 /// Whether a name can be that of a mode.
 fn is_mode_name(name: &str) -> bool {
     !name.is_empty() && name.len() <= 16 && name.bytes().all(|byte| byte.is_ascii_lowercase())
@@ -65,19 +105,16 @@ fn strings_of<'t>(
     key: &str,
     wanted: &str,
 ) -> Result<Option<Vec<&'t str>>, AllocError> {
+    if !are_all(wrongs, array, key, wanted, |value| value.is_str())? {
+        return Ok(None);
+    }
     let mut names = Vec::new(wrongs.alloc);
-    let mut is_well = true;
-    for (place, value) in array.iter().enumerate() {
-        match value.as_str() {
-            Some(name) => names.push(name)?,
-            None => {
-                let path = item_path(wrongs.alloc, key, place)?;
-                wrongs.value(path, value, wanted)?;
-                is_well = false;
-            }
+    for value in array {
+        if let Some(name) = value.as_str() {
+            names.push(name)?;
         }
     }
-    if is_well { Ok(Some(names)) } else { Ok(None) }
+    Ok(Some(names))
 }
 
 /// Looks at the names of the modes.
@@ -96,12 +133,7 @@ fn check_names(wrongs: &mut Wrongs, array: &Array) -> Result<(), AllocError> {
 
 /// Looks at `modes`. Gives the names, where they can be had.
 fn modes_of<'t>(wrongs: &mut Wrongs, tree: &'t Table) -> Result<Option<Vec<&'t str>>, AllocError> {
-    let Some(value) = tree.get("modes") else {
-        wrongs.missing("", "modes", MODES)?;
-        return Ok(None);
-    };
-    let Some(array) = value.as_array() else {
-        wrongs.value(top(wrongs.alloc, "modes")?, value, MODES)?;
+    let Some((value, array)) = array_at(wrongs, tree, "modes", MODES)? else {
         return Ok(None);
     };
     let Some(names) = strings_of(wrongs, array, "modes", MODE_NAME)? else {
@@ -154,22 +186,12 @@ fn check_transfers(
     tree: &Table,
     modes: &Option<Vec<&str>>,
 ) -> Result<(), AllocError> {
-    let Some(value) = tree.get("transfers") else {
-        return wrongs.missing("", "transfers", TRANSFERS);
+    let Some((_, array)) = array_at(wrongs, tree, "transfers", TRANSFERS)? else {
+        return Ok(());
     };
-    let Some(array) = value.as_array() else {
-        return wrongs.value(top(wrongs.alloc, "transfers")?, value, TRANSFERS);
-    };
-    let mut is_well = true;
-    for (place, pair) in array.iter().enumerate() {
-        if !is_pair(pair) {
-            let path = item_path(wrongs.alloc, "transfers", place)?;
-            wrongs.value(path, pair, PAIR)?;
-            is_well = false;
-        }
-    }
+    let are_pairs = are_all(wrongs, array, "transfers", PAIR, |pair| is_pair(pair))?;
     match modes {
-        Some(modes) if is_well => check_pairs(wrongs, array, modes),
+        Some(modes) if are_pairs => check_pairs(wrongs, array, modes),
         _ => Ok(()),
     }
 }

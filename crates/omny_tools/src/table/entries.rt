@@ -1,11 +1,10 @@
 //! What is wrong with the ranges of validators of a text.
 
-use super::checks::{check_number, is_one_of, one_of, top};
+use super::checks::{are_all, array_at, check_number, is_one_of, one_of};
 use super::paths::{item_path, key_path};
 use super::wrong::Wrongs;
 use std::alloc::AllocError;
 use std::collections::BTreeMap;
-use toml::value::Array;
 use toml::{Table, Value};
 
 /// What `validators` has to be.
@@ -104,32 +103,16 @@ fn check_range(
     }
 }
 
-/// Whether each element is a table; those that are none are told.
-fn are_tables(wrongs: &mut Wrongs, array: &Array) -> Result<bool, AllocError> {
-    let mut is_well = true;
-    for (place, value) in array.iter().enumerate() {
-        if !value.is_table() {
-            let path = item_path(wrongs.alloc, "validators", place)?;
-            wrongs.value(path, value, RANGE)?;
-            is_well = false;
-        }
-    }
-    Ok(is_well)
-}
-
 /// Looks at `validators`.
 pub(super) fn check_ranges(
     wrongs: &mut Wrongs,
     tree: &Table,
     modes: &Option<Vec<&str>>,
 ) -> Result<(), AllocError> {
-    let Some(value) = tree.get("validators") else {
-        return wrongs.missing("", "validators", RANGES);
+    let Some((_, array)) = array_at(wrongs, tree, "validators", RANGES)? else {
+        return Ok(());
     };
-    let Some(array) = value.as_array() else {
-        return wrongs.value(top(wrongs.alloc, "validators")?, value, RANGES);
-    };
-    if !are_tables(wrongs, array)? {
+    if !are_all(wrongs, array, "validators", RANGE, |value| value.is_table())? {
         return Ok(());
     }
     let mut ranges = BTreeMap::new(wrongs.alloc);
