@@ -12,7 +12,7 @@ end
 
 set -l no_task __omny_tools_no_task
 complete -c omny_tools -f
-complete -c omny_tools -n $no_task -a encode -d 'Write the upload of a table of taps'
+complete -c omny_tools -n $no_task -a encode -d 'Write the upload of a tap table'
 complete -c omny_tools -n $no_task -a decode -d 'Write the taps of uploads as a table'
 complete -c omny_tools -n $no_task -a uploads -d 'Tell what uploads have'
 complete -c omny_tools -n $no_task -a table -d 'Tell a fare table as it is understood'

@@ -4,7 +4,7 @@ ghost use Rattle.std.specs.Prelude.{◌≡◌, ◌^◌, ◌≤◌, IfOk, IfSome}
 
 use crate::sample::{BUS, SAMPLE, START, SUBWAY, tap, token};
 use fare_table::{Clock, FareTable, NoMemory};
-use shard_book::{Ends, Lines, Replies, RunEnd, ShardBook, HashSeed};
+use shard_book::{Ends, HashSeed, Lines, Replies, RunEnd, ShardBook};
 use shared_books::{Missing, Pass, ReadFault, SharedBook};
 use std::alloc::Global;
 use std::process::Abort;

@@ -14,7 +14,7 @@ fn fault_of<'a, W: Write + Drop>(name: Name<'a>, fault: RowsFault, out: &Output<
     match fault {
         RowsFault::Write => out.failed(),
         RowsFault::NoMemory => Fault::NoMemory,
-        fault => Fault::Table(name, fault),
+        fault => Fault::TapTable(name, fault),
     }
 }
 

@@ -19,8 +19,8 @@ pub(crate) enum Fault<'a> {
     Unread(Name<'a>),
     /// The file is longer than an upload may be.
     TooLong(Name<'a>),
-    /// The file is no table of taps.
-    Table(Name<'a>, RowsFault),
+    /// The file is no tap table.
+    TapTable(Name<'a>, RowsFault),
     /// The upload has this layout fault, in the batch at this offset.
     Layout(Name<'a>, u64, LayoutFault),
     /// The text of a fare table is not UTF-8.
@@ -28,7 +28,7 @@ pub(crate) enum Fault<'a> {
     /// The text of a fare table is not TOML, at this line and column, for this reason.
     NotToml(Name<'a>, usize, usize, TomlError),
     /// The text is no fare table, and no value was found to be wrong.
-    Fares(Name<'a>, TableFault),
+    Table(Name<'a>, TableFault),
     /// The file that was to be made is there already.
     Exists(Name<'a>),
     /// The file could not be made.
@@ -124,7 +124,7 @@ impl fmt::Display for Fault<'_> {
         match self {
             Fault::Unread(name) => write!(f, "fault: cannot read {name}"),
             Fault::TooLong(name) => write!(f, "fault: {name} is too long"),
-            Fault::Table(name, fault) => match fault {
+            Fault::TapTable(name, fault) => match fault {
                 RowsFault::Head => {
                     write!(f, "fault: {name} line 1: it is not token,validator,moment")
                 }
@@ -147,7 +147,7 @@ impl fmt::Display for Fault<'_> {
                 let why = error.message();
                 write!(f, "fault: {name} line {line} column {column}: {why}")
             }
-            Fault::Fares(name, fault) => write!(f, "fault: {name}: {fault}"),
+            Fault::Table(name, fault) => write!(f, "fault: {name}: {fault}"),
             Fault::Exists(name) => write!(f, "fault: {name} is there already"),
             Fault::Unmade(name) => write!(f, "fault: cannot make {name}"),
             Fault::Line(name, number, wrong) => {

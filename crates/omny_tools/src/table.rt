@@ -4,7 +4,7 @@
 //! |---|---|
 //! | `paths` | the whole path of a key |
 //! | `places` | where each key and value stands in the text |
-//! | `checks`, `entries`, `people` | what is wrong with each value |
+//! | `checks`, `ranges`, `people` | what is wrong with each value |
 //! | `wrong` | one wrong value, and what is wanted in its place |
 //! | `known` | the known key that is nearest to one that is ignored |
 //! | `prices` | what the rides of a window cost, one after the other |
@@ -14,13 +14,13 @@
 
 mod checks;
 mod clocks;
-mod entries;
 mod known;
 mod lines;
 mod paths;
 mod people;
 mod places;
 mod prices;
+mod ranges;
 mod warnings;
 mod wrong;
 
@@ -85,7 +85,7 @@ fn refuse<'a, E: Write>(
 ) -> Result<bool, Fault<'a>> {
     let wrongs = wrongs_of(alloc, tree)?;
     if wrongs.is_empty() {
-        return Err(Fault::Fares(name, fault));
+        return Err(Fault::Table(name, fault));
     }
     say_wrongs(alloc, name, text, &wrongs, err)?;
     Ok(false)

@@ -25,9 +25,9 @@ const STATUS: &str = "Exit status:
   2  the command line is wrong";
 
 /// What `encode` does.
-const ENCODE_ABOUT: &str = "Writes the upload of a table of taps to standard output.
+const ENCODE_ABOUT: &str = "Writes the upload of a tap table to standard output.
 
-The table is CSV. Its first line is token,validator,moment. Each other line is a tap: 32
+The tap table is CSV. Its first line is token,validator,moment. Each other line is a tap: 32
 hexadecimal digits, a number from 0 to 4294967295, and a moment before 2100, in milliseconds
 since 1970-01-01T00:00Z or as 2024-03-08T17:00:00Z. A field may stand between double quotes. A line
 ends with LF or CRLF.
@@ -37,10 +37,11 @@ If a line is wrong, nothing is written, and its number is told. So a file is rea
 larger than memory. Standard input and pipes are held in memory whole.";
 
 /// The help of `encode`'s table.
-const ENCODE_HELP: &str = "The table; - stands for standard input [default: standard input]";
+const ENCODE_HELP: &str = "The tap table; - stands for standard input [default: standard input]";
 
 /// What `decode` does.
-const DECODE_ABOUT: &str = "Writes the taps of uploads to standard output, as one table for encode.
+const DECODE_ABOUT: &str =
+    "Writes the taps of uploads as one tap table for encode, to standard output.
 
 Tokens have lower-case digits, moments are milliseconds. Of an upload with a layout fault the taps
 before it are written, and the fault is told.";

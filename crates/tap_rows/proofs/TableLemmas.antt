@@ -16,8 +16,8 @@ use Rattle.tap_views.specs.Layout.{Tap}
 use Rattle.tap_parts.specs.Parts.{IsFileOf}
 use Rattle.tap_parts.proofs.Texts.{no_text}
 use Rattle.tap_rows.specs.Rows.{IsRow, IsNoRow}
-use Rattle.tap_rows.specs.Tables.{IsHead, BeginsWithRows, IsTapTable, IsRowsFault, IsEncoded, IsOfTable}
-use Rattle.tap_rows.specs.inside.Tables.{IsEncodedAs, IsNextRow, IsTableOf}
+use Rattle.tap_rows.specs.Tables.{IsHead, BeginsWithRows, IsTapTable, IsRowsFault, IsEncoded, IsOfTapTable}
+use Rattle.tap_rows.specs.inside.Tables.{IsEncodedAs, IsNextRow, IsTapTableOf}
 use Rattle.tap_rows.specs.declared.column.Column.{Column}
 use Rattle.tap_rows.specs.declared.fault.RowsFault.{RowsFault}
 use Rattle.tap_rows.specs.declared.fault.RowsFault.TheVariants.{Head, Row, Unread, Changed, Write, NoMemory}
@@ -135,7 +135,7 @@ no_bad_rest text (tap ∷ taps) [] rest column is also some bad =
 no_bad_rest text (tap ∷ taps) (other ∷ before) rest column is also some bad = no_bad_rest (drop_through 10 text) taps before rest column is.1 also.1 some bad
 
 -- a table is not refused by a fault of its own
-pub no_fault : (text : List ℕ) (taps : List TapFields) (fault : RowsFault) → IsTapTable text taps → IsOfTable fault → ¬ (IsRowsFault text fault)
+pub no_fault : (text : List ℕ) (taps : List TapFields) (fault : RowsFault) → IsTapTable text taps → IsOfTapTable fault → ¬ (IsRowsFault text fault)
 no_fault text taps Head table own refused = refused table.head_line
 no_fault text taps (Row number column) table own refused =
     no_bad_rest (drop_through 10 text) taps refused.before refused.rest column table.rows refused.rows refused.some refused.wrong
@@ -265,7 +265,7 @@ ready_early old now out0 out count pending more tap ready is early =
     subst E (sym is) (early_push pending tap ready.early early)
 
 -- ---- a table that was read twice
-pub same_count : (first second old new : Option (List ℕ)) (count written : ℕ) → IsSome first → first ≡ second → IfSome first (λ text. IsTableOf text count)
+pub same_count : (first second old new : Option (List ℕ)) (count written : ℕ) → IsSome first → first ≡ second → IfSome first (λ text. IsTapTableOf text count)
     → IfSome second (λ text. IsEncoded text old new written) → written ≡ count
 same_count None second old new count written some same table encoded = absurd (cc)
 same_count (Some text) second old new count written some same table encoded =
@@ -273,13 +273,13 @@ same_count (Some text) second old new count written some same table encoded =
     let taps = one_list (drop_through 10 text) table.taps again.taps table.table.rows again.table.rows in
     omega (arith, ap length taps, table.number, again.number)
 
-pub no_change : (first second : Option (List ℕ)) (count : ℕ) (fault answer : RowsFault) → (IsOfTable fault → answer ≡ Changed) → (¬ (IsOfTable fault) → answer ≡ fault) → answer ≡ Changed
-    → IsSome first → first ≡ second → IfSome first (λ text. IsTableOf text count) → IfSome second (λ text. IsRowsFault text fault) → ⊥
+pub no_change : (first second : Option (List ℕ)) (count : ℕ) (fault answer : RowsFault) → (IsOfTapTable fault → answer ≡ Changed) → (¬ (IsOfTapTable fault) → answer ≡ fault) → answer ≡ Changed
+    → IsSome first → first ≡ second → IfSome first (λ text. IsTapTableOf text count) → IfSome second (λ text. IsRowsFault text fault) → ⊥
 no_change None second count fault answer own other is some same table refused = absurd (cc)
 no_change (Some text) second count fault answer own other is some same table refused =
     by_fault fault other (subst (λ o. IfSome o (λ text. IsRowsFault text fault)) (sym same) refused)
   where
-    by_fault : (fault : RowsFault) → (¬ (IsOfTable fault) → answer ≡ fault) → IsRowsFault text fault → ⊥
+    by_fault : (fault : RowsFault) → (¬ (IsOfTapTable fault) → answer ≡ fault) → IsRowsFault text fault → ⊥
     by_fault Head other refused = no_fault text table.taps Head table.table tt refused
     by_fault (Row number column) other refused = no_fault text table.taps (Row number column) table.table tt refused
     by_fault Changed other refused = refused

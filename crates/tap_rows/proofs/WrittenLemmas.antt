@@ -16,7 +16,7 @@ use Rattle.tap_views.specs.declared.encoder.TapFields.{TapFields}
 use Rattle.tap_rows.specs.Fields.{AreFields, FieldStandsFor}
 use Rattle.tap_rows.specs.Moments.{IsDecimal}
 use Rattle.tap_rows.specs.Rows.{IsRow, IsTapFields, row_text, rows_text}
-use Rattle.tap_rows.specs.Tables.{head, IsHead, BeginsWithRows, IsTapTable, table_of_taps}
+use Rattle.tap_rows.specs.Tables.{head, IsHead, BeginsWithRows, IsTapTable, tap_table_text}
 
 -- each byte is a digit or comes after them
 abbrev pub AreHigh : List ℕ → Type 0
@@ -225,7 +225,7 @@ head_back =
       moment = bare (codes "moment") moment;
     }
 
-pub table_back : (taps : List TapFields) → AllByRecursion IsTapFields taps → IsTapTable (table_of_taps taps) taps
+pub table_back : (taps : List TapFields) → AllByRecursion IsTapFields taps → IsTapTable (tap_table_text taps) taps
 table_back taps are =
     let unbroken : IsUnbroken head = above_test 13 head refl in
     record {

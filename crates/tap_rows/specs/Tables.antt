@@ -1,4 +1,4 @@
--- A table of taps as CSV: a head line, and then a line for each tap. A line ends with a line feed,
+-- A tap table as CSV: a head line, and then a line for each tap. A line ends with a line feed,
 -- or with carriage return and line feed; the last may lack its end.
 use Rattle.std.specs.Prelude.{◌≡◌, ℕ, ◌+◌, List, [], ◌∷◌, ◌++◌, length, codes, Option}
 use Rattle.std.specs.Io.BufRead.{first_line, drop_through}
@@ -58,13 +58,13 @@ IsRowsFault text Write = Unit {0}
 IsRowsFault text NoMemory = Unit {0}
 
 -- the fault is one of the table's own
-abbrev pub IsOfTable : RowsFault → Type 0
-IsOfTable Head = Unit {0}
-IsOfTable (Row number column) = Unit {0}
-IsOfTable Changed = ⊥
-IsOfTable Unread = ⊥
-IsOfTable Write = ⊥
-IsOfTable NoMemory = ⊥
+abbrev pub IsOfTapTable : RowsFault → Type 0
+IsOfTapTable Head = Unit {0}
+IsOfTapTable (Row number column) = Unit {0}
+IsOfTapTable Changed = ⊥
+IsOfTapTable Unread = ⊥
+IsOfTapTable Write = ⊥
+IsOfTapTable NoMemory = ⊥
 
 -- what was written behind the old bytes is an upload with no fault, of exactly the taps of the
 -- table, in their order
@@ -77,5 +77,5 @@ pub record IsEncoded (text : List ℕ) (old new : Option (List ℕ)) (count : �
   pub written : Appends old new file
 
 -- the table that is written for these taps
-abbrev pub table_of_taps : List TapFields → List ℕ
-table_of_taps taps = head ++ 10 ∷ rows_text taps
+abbrev pub tap_table_text : List TapFields → List ℕ
+tap_table_text taps = head ++ 10 ∷ rows_text taps

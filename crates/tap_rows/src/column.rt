@@ -1,4 +1,4 @@
-//! The columns of a table of taps.
+//! The columns of a tap table.
 
 /// What is wrong with a row: the number of its fields, or its first field that tells nothing.
 #[derive(Clone, Copy, Debug, PartialEq, Eq)]

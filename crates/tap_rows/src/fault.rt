@@ -1,9 +1,9 @@
-//! Why a table of taps is not turned into an upload, or an upload into a table.
+//! Why a tap table is not turned into an upload, or an upload into a tap table.
 
 use crate::column::Column;
 use std::alloc::{AllocError, AllocFailed};
 
-/// Why a table of taps is not turned into an upload, or an upload into a table.
+/// Why a tap table is not turned into an upload, or an upload into a tap table.
 #[derive(Clone, Copy, Debug, PartialEq, Eq)]
 pub enum RowsFault {
     /// The first line is not `token,validator,moment`.

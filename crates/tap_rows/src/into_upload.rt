@@ -5,7 +5,7 @@ ghost use Rattle.std.specs.Prelude.{IfSome, IsSome};
 ghost use Rattle.std.specs.Prelude.{IsErrOf, OnOk, length};
 ghost use Rattle.std.specs.Io.KnownBytes.{Appends};
 ghost use Rattle.tap_parts.specs.Parts.{IsFileOf};
-ghost use Rattle.tap_rows.specs.Tables.{IsEncoded, IsOfTable, IsRowsFault};
+ghost use Rattle.tap_rows.specs.Tables.{IsEncoded, IsOfTapTable, IsRowsFault};
 ghost use Rattle.tap_rows.specs.inside.Tables.{IsBatchFault, IsEncodedAs};
 ghost use Rattle.tap_views.specs.Encoding.{AreEncodable};
 
@@ -79,9 +79,9 @@ fn write_taps<R: BufRead, W: Write>(
 
 /// The fault of a table that had none when it was read first: then its rows have changed.
 fn when_read_again(fault: RowsFault) -> RowsFault
-    ensures own { IsOfTable fault → result ≡ RowsFault.Changed }
-    ensures other { (¬ (IsOfTable fault)) → result ≡ fault }
-    ensures none { ¬ (IsOfTable result) }
+    ensures own { IsOfTapTable fault → result ≡ RowsFault.Changed }
+    ensures other { (¬ (IsOfTapTable fault)) → result ≡ fault }
+    ensures none { ¬ (IsOfTapTable result) }
 {
     match fault {
         RowsFault::Head | RowsFault::Row { .. } => RowsFault::Changed,
@@ -100,9 +100,9 @@ pub fn encode<R: BufRead, S: BufRead, W: Write>(
     ensures upload { IfOk result
         (λ count. IfSome (S.remaining again.old)
         (λ text. IsEncoded text (W.contents out.old) (W.contents out.new) count)) }
-    ensures refused { IfErr result (λ fault. IsOfTable fault
+    ensures refused { IfErr result (λ fault. IsOfTapTable fault
         → IfSome (R.remaining table.old) (λ text. IsRowsFault text fault)) }
-    ensures nothing { IfErr result (λ fault. IsOfTable fault → out.new ≡ out.old) }
+    ensures nothing { IfErr result (λ fault. IsOfTapTable fault → out.new ≡ out.old) }
     ensures same { IsErrOf result RowsFault.Changed → IsSome (R.remaining table.old)
         → R.remaining table.old ≡ S.remaining again.old → ⊥ }
 {

@@ -8,7 +8,7 @@ ghost use Rattle.tap_parts.specs.Parts.{IsFileOf};
 ghost use Rattle.tap_rows.specs.Decoded.{fields_in};
 ghost use Rattle.tap_rows.specs.Moments.{IsMoment, IsSecondText};
 ghost use Rattle.tap_rows.specs.Rows.{IsNoRow, IsRow, IsTapFields};
-ghost use Rattle.tap_rows.specs.Tables.{IsBadRow, IsTapTable, table_of_taps};
+ghost use Rattle.tap_rows.specs.Tables.{IsBadRow, IsTapTable, tap_table_text};
 ghost use Rattle.tap_rows.specs.declared.column.Column.{Column};
 ghost use Rattle.tap_views.specs.Layout.{Tap, moment_limit};
 ghost use Rattle.tap_views.specs.declared.encoder.TapFields.{TapFields};
@@ -24,7 +24,7 @@ pub fn one_row()
 {}
 
 /// A text is the table of at most one list of taps, and then it has no bad row.
-pub fn one_table()
+pub fn one_tap_table()
     ensures taps { (text : List ℕ) (taps others : List TapFields) → IsTapTable text taps
         → IsTapTable text others → taps ≡ others }
     ensures good { (text : List ℕ) (taps : List TapFields) (number : ℕ) (column : Column)
@@ -34,7 +34,7 @@ pub fn one_table()
 /// The table that is written of some taps is their table: encoded, it gives the same taps again.
 pub fn reads_back()
     ensures { (taps : List TapFields) → AllByRecursion IsTapFields taps
-        → IsTapTable (table_of_taps taps) taps }
+        → IsTapTable (tap_table_text taps) taps }
 {}
 
 /// The moment's text in UTC is read as this moment: with three places of a second, as ledgers have

@@ -6,7 +6,7 @@ ghost use Rattle.std.specs.Prelude.{if◌then◌else◌, length, true, false};
 ghost use Rattle.std.specs.Io.BufRead.{drop_through, ends_with_byte, first_line, strip_last};
 ghost use Rattle.std.specs.Io.BufRead.{take_through};
 ghost use Rattle.tap_rows.specs.Tables.{IsHead, IsRowsFault};
-ghost use Rattle.tap_rows.specs.inside.Tables.{IsHeadFault, IsNextRow, IsTableOf};
+ghost use Rattle.tap_rows.specs.inside.Tables.{IsHeadFault, IsNextRow, IsTapTableOf};
 ghost use Rattle.tap_views.specs.Layout.{moment_limit};
 
 use crate::fault::RowsFault;
@@ -111,7 +111,7 @@ pub(crate) fn next_row<R: BufRead>(
 /// The number of taps of a table.
 pub(crate) fn check<R: BufRead>(alloc: Global, table: &mut R) -> Result<u64, RowsFault>
     ensures table { IfOk result
-        (λ count. IfSome (R.remaining table.old) (λ text. IsTableOf text count)) }
+        (λ count. IfSome (R.remaining table.old) (λ text. IsTapTableOf text count)) }
     ensures refused { IfErr result
         (λ fault. IfSome (R.remaining table.old) (λ text. IsRowsFault text fault)) }
 {

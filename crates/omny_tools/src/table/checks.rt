@@ -1,8 +1,8 @@
 //! What is wrong with the modes, the transfers, the classes and the zone of a text.
 
-use super::entries::check_ranges;
 use super::paths::{item_path, key_path};
 use super::people::{check_default, check_riders};
+use super::ranges::check_ranges;
 use super::wrong::{Wrong, Wrongs};
 use jiff::tz::TimeZone;
 use std::alloc::{AllocError, Global};

@@ -47,10 +47,10 @@ fn ranges_of<'t>(
     fares: &'t FareTable,
 ) -> Result<Ranges<'t>, AllocError> {
     let mut ranges = BTreeMap::new(alloc);
-    let Some(entries) = array_at(tree, "validators") else {
+    let Some(elements) = array_at(tree, "validators") else {
         return Ok(ranges);
     };
-    for value in entries {
+    for value in elements {
         if let Some(entry) = value.as_table() {
             if let (Some(first), Some(last)) = (
                 number_at(entry, "first"),
@@ -111,10 +111,10 @@ fn push_modes(text: &mut String, tree: &Table, ranges: &Ranges<'_>) -> Result<()
 fn pairs_of<'t>(alloc: Global, tree: &'t Table) -> Result<Vec<(&'t str, &'t str)>, AllocError> {
     let mut pairs = Vec::new(alloc);
     let mut earlier = BTreeSet::new(alloc);
-    let Some(entries) = array_at(tree, "transfers") else {
+    let Some(elements) = array_at(tree, "transfers") else {
         return Ok(pairs);
     };
-    for value in entries {
+    for value in elements {
         if let Some(pair) = pair_of(value) {
             if earlier.insert(pair)? {
                 pairs.push(pair)?;

@@ -12,7 +12,7 @@ use Rattle.tap_rows.specs.Tables.{IsHead, IsTapTable}
 
 -- ---- what the private functions tell each other
 -- the text is a table, and so many taps stand in it
-pub record IsTableOf (text : List ℕ) (count : ℕ) : Type 0 where
+pub record IsTapTableOf (text : List ℕ) (count : ℕ) : Type 0 where
   pub taps : List TapFields
   pub table : IsTapTable text taps
   pub number : length taps ≡ count

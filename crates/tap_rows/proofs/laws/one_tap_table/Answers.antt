@@ -1,7 +1,7 @@
 use Rattle.std.specs.Io.BufRead.{drop_through}
 use Rattle.tap_rows.specs.declared.fault.RowsFault.TheVariants.{Row}
 use Rattle.tap_rows.proofs.TableLemmas.{one_list, no_fault}
-use Rattle.tap_rows.proofs.laws.one_table.Goals as goal
+use Rattle.tap_rows.proofs.laws.one_tap_table.Goals as goal
 
 pub returns : goal.returns
 returns c = record {
