@@ -8,7 +8,7 @@ mod moment;
 mod names;
 mod print_fault;
 mod statement;
-mod write_out;
+mod writing;
 
 pub use counts::{write_counts, write_totals};
 pub use digits::Digits;
@@ -17,4 +17,4 @@ pub use moment::write_moment;
 pub use names::answer_name;
 pub use print_fault::PrintFault;
 pub use statement::{statement_text, write_entry_words, write_statement_head, write_window_words};
-pub use write_out::write_out;
+pub use writing::write_out;

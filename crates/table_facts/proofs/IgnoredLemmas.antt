@@ -208,13 +208,13 @@ class_to (member name value more) p found x (inr (suc n, new)) =
 
 -- ---- the elements of `validators` from a place on
 abbrev range_keys : ℕ → Items → Members
-range_keys n entries = members_of (get_item n entries)
+range_keys n elements = members_of (get_item n elements)
 
 abbrev InRange : ℕ → Items → Told → Type 0
-InRange p entries x = (n : ℕ) × IsNew (Range (p + n)) (range_keys n entries) x
+InRange p elements x = (n : ℕ) × IsNew (Range (p + n)) (range_keys n elements) x
 
-range_from : (entries : Items) (p : ℕ) (found : List Told) (x : Told)
-    → Contains (ignored_of_ranges p found entries) x → Contains found x ⊎ InRange p entries x
+range_from : (elements : Items) (p : ℕ) (found : List Told) (x : Told)
+    → Contains (ignored_of_ranges p found elements) x → Contains found x ⊎ InRange p elements x
 range_from no_items p found x has = inl has
 range_from (item value more) p found x has =
     step (range_from more (suc p) (ignored_of (Range p) found (as_table value)) x has)
@@ -233,8 +233,8 @@ range_from (item value more) p found x has =
         let at : suc p + n ≡ p + suc n = omega arith in
         inr (suc n, subst (λ (q : ℕ). IsNew (Range q) (range_keys n more) x) at new)
 
-range_to : (entries : Items) (p : ℕ) (found : List Told) (x : Told) → Contains found x
-    ⊎ InRange p entries x → Contains (ignored_of_ranges p found entries) x
+range_to : (elements : Items) (p : ℕ) (found : List Told) (x : Told) → Contains found x
+    ⊎ InRange p elements x → Contains (ignored_of_ranges p found elements) x
 range_to no_items p found x (inl has) = has
 range_to no_items p found x (inr (zero, new)) = absurd (false≢true new.stands)
 range_to no_items p found x (inr (suc n, new)) = absurd (false≢true new.stands)
@@ -261,10 +261,10 @@ as_ignored tree h x new = record {
 }
 
 pub ignored_told : (tree : Members) (x : Told) → Contains (ignored_in tree) x → IsIgnored tree x
-ignored_told tree x has = by_range (range_from entries 0 with_classes x has)
+ignored_told tree x has = by_range (range_from elements 0 with_classes x has)
   where
-    entries : Items
-    entries = items_of (get_member (codes "validators") tree)
+    elements : Items
+    elements = items_of (get_member (codes "validators") tree)
 
     classes : Members
     classes = members_of (get_member (codes "classes") tree)
@@ -286,12 +286,12 @@ ignored_told tree x has = by_range (range_from entries 0 with_classes x has)
         as_ignored tree (Class n) x
         (subst (λ (q : ℕ). IsNew (Class q) (class_keys n classes) x) at new)
 
-    by_range : Contains with_classes x ⊎ InRange 0 entries x → IsIgnored tree x
+    by_range : Contains with_classes x ⊎ InRange 0 elements x → IsIgnored tree x
     by_range (inl c) = by_class (class_from classes 0 with_top x c)
     by_range (inr (n, new)) =
         let at : 0 + n ≡ n = omega arith in
         as_ignored tree (Range n) x
-        (subst (λ (q : ℕ). IsNew (Range q) (range_keys n entries) x) at new)
+        (subst (λ (q : ℕ). IsNew (Range q) (range_keys n elements) x) at new)
 
 pub all_told : (tree : Members) (x : Told) → IsIgnored tree x → Contains (ignored_in tree) x
 all_told tree (Top, key) is =
@@ -322,13 +322,13 @@ all_told tree (Class n, key) is =
     range_to (items_of (get_member (codes "validators") tree)) 0
     (ignored_of_classes 0 (ignored_from Top [] tree) classes) (Class n, key) (inl class_told)
 all_told tree (Range n, key) is =
-    let entries = items_of (get_member (codes "validators") tree) in
+    let elements = items_of (get_member (codes "validators") tree) in
     let at : n ≡ 0 + n = omega arith in
-    let new : IsNew (Range n) (range_keys n entries) (Range n, key) = record {
+    let new : IsNew (Range n) (range_keys n elements) (Range n, key) = record {
       here = refl;
       stands = is.stands;
       no_meaning = is.no_meaning;
     } in
-    range_to entries 0 (ignored_of_classes 0 (ignored_from Top [] tree)
+    range_to elements 0 (ignored_of_classes 0 (ignored_from Top [] tree)
     (members_of (get_member (codes "classes") tree))) (Range n, key)
-    (inr (n, subst (λ (q : ℕ). IsNew (Range q) (range_keys n entries) (Range n, key)) at new))
+    (inr (n, subst (λ (q : ℕ). IsNew (Range q) (range_keys n elements) (Range n, key)) at new))
