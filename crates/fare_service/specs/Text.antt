@@ -22,9 +22,9 @@ end_text (Refused taps offset fault) =
 end_text (Cut taps) = codes "cut " ++ decimal taps
 end_text Undrawn = codes "undrawn"
 
--- `uploads 2`, the head of the uploads
-unfoldable pub uploads_head : ℕ → List ℕ
-uploads_head count = codes "uploads " ++ (decimal count ++ codes "\n")
+-- `uploads 2`: the head of a section, this word and the number of its lines
+unfoldable pub section_head : List ℕ → ℕ → List ℕ
+section_head word count = word ++ (decimal count ++ codes "\n")
 
 -- `upload 0 posted 4`
 unfoldable pub upload_line : ℕ → UploadEnd → List ℕ
@@ -36,17 +36,9 @@ abbrev pub upload_lines : ℕ → List UploadEnd → List ℕ
 upload_lines upload [] = []
 upload_lines upload (end ∷ ends) = upload_line upload end ++ upload_lines (upload + 1) ends
 
--- `validators 3`, the head of the validators
-unfoldable pub validators_head : ℕ → List ℕ
-validators_head count = codes "validators " ++ (decimal count ++ codes "\n")
-
 -- `validator 9 taps 1 paid 0 ..`
 abbrev pub validator_line : ℕ × Sums → List ℕ
 validator_line sum = (codes "validator " ++ (decimal sum.0 ++ codes " ")) ++ counts sum.1
-
--- `tokens 2`, the head of the tokens
-unfoldable pub tokens_head : ℕ → List ℕ
-tokens_head count = codes "tokens " ++ (decimal count ++ codes "\n")
 
 -- `token 000000000000000000000000000000a1 taps 4 paid 2 ..`
 abbrev pub token_line : Token × Sums → List ℕ
@@ -54,15 +46,16 @@ token_line sum = (codes "token " ++ (encode_lower (bytes_of sum.0) ++ codes " ")
 
 -- the uploads of a report
 abbrev pub uploads_section : List UploadEnd → List ℕ
-uploads_section ends = uploads_head (length ends) ++ upload_lines 0 ends
+uploads_section ends = section_head (codes "uploads ") (length ends) ++ upload_lines 0 ends
 
 -- the validators of a report
 abbrev pub validators_section : List (ℕ × Sums) → List ℕ
-validators_section sums = validators_head (length sums) ++ flat_map validator_line sums
+validators_section sums =
+    section_head (codes "validators ") (length sums) ++ flat_map validator_line sums
 
 -- the tokens of a report
 abbrev pub tokens_section : List (Token × Sums) → List ℕ
-tokens_section sums = tokens_head (length sums) ++ flat_map token_line sums
+tokens_section sums = section_head (codes "tokens ") (length sums) ++ flat_map token_line sums
 
 -- the report: the end of each upload, the totals, the sums of each validator and those of each
 -- token

@@ -16,9 +16,8 @@ use Rattle.fare_texts.specs.Counts.{counts, totals_line}
 use Rattle.fare_service.specs.Ends.{end_by}
 use Rattle.fare_service.specs.Plain.{ArePlainEnds, IsPlainEnd, WasNotCut}
 use Rattle.fare_service.specs.Shares.{IsFaultOf}
-use Rattle.fare_service.specs.Text.{report, upload_line, upload_lines, uploads_head}
+use Rattle.fare_service.specs.Text.{report, section_head, upload_line, upload_lines}
 use Rattle.tap_views.specs.Names.{fault_name}
-use Rattle.fare_service.specs.Text.{tokens_head, validators_head}
 use Rattle.fare_service.specs.Text.{validator_line as validator_text, token_line as token_text}
 use Rattle.fare_service.specs.declared.upload_end.UploadEnd.{UploadEnd}
 use Rattle.fare_service.specs.declared.upload_end.UploadEnd.TheVariants.{Posted, Refused, Cut}
@@ -105,7 +104,7 @@ spelt h e t v vs k ts = simp append_assoc
 pub report_spelt : (ends : List UploadEnd) (totals : Sums) (validators : List (ℕ × Sums))
     (tokens : List (Token × Sums)) → AllByRecursion WasNotCut ends
     → report ends totals validators tokens ≡ report_text (told_by ends totals validators tokens)
-unfolding uploads_head validators_head tokens_head
+unfolding section_head
 report_spelt ends totals validators tokens whole =
     let sizes : length ends ≡ length (map end_of ends) = sym (length-map ends end_of) in
     let texts : List ℕ → List ℕ → (ℕ × Sums → List ℕ) → (Token × Sums → List ℕ) → List ℕ =

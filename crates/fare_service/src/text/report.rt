@@ -8,9 +8,8 @@ ghost use Rattle.shard_book.specs.Sums.{sums_of};
 ghost use Rattle.std.specs.List.{flat_map};
 ghost use Rattle.fare_texts.specs.Counts.{counts, totals_line};
 ghost use Rattle.fare_service.specs.Text.{report, uploads_section, validators_section};
-ghost use Rattle.fare_service.specs.Text.{uploads_head};
-ghost use Rattle.fare_service.specs.Text.{upload_line, upload_lines, validators_head};
-ghost use Rattle.fare_service.specs.Text.{validator_line, tokens_head, token_line};
+ghost use Rattle.fare_service.specs.Text.{section_head, upload_line, upload_lines};
+ghost use Rattle.fare_service.specs.Text.{validator_line, token_line};
 
 use crate::upload_end::UploadEnd;
 use fare_texts::{write_counts, write_totals};
@@ -33,7 +32,7 @@ pub(crate) fn report_front(
     write_uploads(&mut text, ends)?;
     write_totals(&mut text, totals)?;
     write_validators(&mut text, validators)?;
-    write_tokens_head(&mut text, tokens.len())?;
+    write_section_head(&mut text, "tokens ", tokens.len())?;
     Ok(text.into_bytes())
 }
 
@@ -43,16 +42,17 @@ fn write_uploads(text: &mut String, ends: &[UploadEnd]) -> Result<(), AllocError
     ensures { OnOk result
         (string_bytes text.new ≡ string_bytes text.old ++ uploads_section ends.now) }
 {
-    write_uploads_head(text, ends.len())?;
+    write_section_head(text, "uploads ", ends.len())?;
     write_upload_lines(text, ends)
 }
 
-/// The line `uploads 2`.
-#[tactic(auto, unfolding(crate::specs::Text::uploads_head))]
-fn write_uploads_head(text: &mut String, count: usize) -> Result<(), AllocError>
-    ensures { OnOk result (string_bytes text.new ≡ string_bytes text.old ++ uploads_head count) }
+/// The head of a section, as `uploads 2` of the word `uploads `.
+#[tactic(auto, unfolding(crate::specs::Text::section_head))]
+fn write_section_head(text: &mut String, word: &str, count: usize) -> Result<(), AllocError>
+    ensures { OnOk result
+        (string_bytes text.new ≡ string_bytes text.old ++ section_head word.now count) }
 {
-    writeln!(text, "uploads {count}")
+    writeln!(text, "{word}{count}")
 }
 
 /// A line for each upload.
@@ -82,16 +82,8 @@ fn write_validators(text: &mut String, sums: &[ValidatorSum]) -> Result<(), Allo
     ensures { OnOk result (string_bytes text.new ≡ string_bytes text.old
         ++ validators_section (map validator_sum sums.now)) }
 {
-    write_validators_head(text, sums.len())?;
+    write_section_head(text, "validators ", sums.len())?;
     write_validator_lines(text, sums)
-}
-
-/// The line `validators 3`.
-#[tactic(auto, unfolding(crate::specs::Text::validators_head))]
-fn write_validators_head(text: &mut String, count: usize) -> Result<(), AllocError>
-    ensures { OnOk result (string_bytes text.new ≡ string_bytes text.old ++ validators_head count) }
-{
-    writeln!(text, "validators {count}")
 }
 
 /// A line for each validator.
@@ -122,12 +114,4 @@ fn write_validator_name(text: &mut String, validator: u32) -> Result<(), AllocEr
         ++ (codes "validator " ++ (decimal validator ++ codes " "))) }
 {
     write!(text, "validator {validator} ")
-}
-
-/// The line `tokens 2`.
-#[tactic(auto, unfolding(crate::specs::Text::tokens_head))]
-fn write_tokens_head(text: &mut String, count: usize) -> Result<(), AllocError>
-    ensures { OnOk result (string_bytes text.new ≡ string_bytes text.old ++ tokens_head count) }
-{
-    writeln!(text, "tokens {count}")
 }
