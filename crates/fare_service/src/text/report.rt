@@ -77,7 +77,6 @@ fn write_upload(text: &mut String, upload: usize, end: &UploadEnd) -> Result<(),
 }
 
 /// The sums of each validator.
-#[tactic(auto, using(crate::proofs::Parts::in_parts))]
 fn write_validators(text: &mut String, sums: &[ValidatorSum]) -> Result<(), AllocError>
     ensures { OnOk result (string_bytes text.new ≡ string_bytes text.old
         ++ validators_section (map validator_sum sums.now)) }
