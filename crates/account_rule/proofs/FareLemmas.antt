@@ -1,6 +1,6 @@
 -- No reply costs more than the greatest fare of a table.
 use Rattle.std.proofs.Common.{◌≡◌, ℕ, ◌-◌, ◌*◌, ◌≤◌, Bool, true, false, ◌||◌, cond, min, nat_lt, nat_le, sym, ap, subst, arith}
-use Rattle.fare_table.specs.Terms.{HasLimits}
+use Rattle.fare_table.specs.Terms.{AreBoundedTerms}
 use Rattle.fare_table.specs.declared.terms.Terms.{Terms}
 use Rattle.account_rule.specs.declared.reply.Answer.{Answer}
 use Rattle.account_rule.specs.declared.reply.Answer.TheVariants.{Paid, Capped}
@@ -19,10 +19,10 @@ either true bound a b low high = low
 either false bound a b low high = high
 
 -- a charge is at most the fare
-charge-few : (terms : Terms) (place : ℕ) → HasLimits terms → charge terms place ≤ 100_000
+charge-few : (terms : Terms) (place : ℕ) → AreBoundedTerms terms → charge terms place ≤ 100_000
 unfolding charge
-charge-few terms place limits =
-    let most : terms.fare ≤ 100_000 = limits.fare_high in
+charge-few terms place bounds =
+    let most : terms.fare ≤ 100_000 = bounds.fare_high in
     either (nat_le terms.rides place || nat_le terms.ceiling (place * terms.fare)) 100_000 0 (min terms.fare (terms.ceiling - place * terms.fare)) (omega arith) (omega arith)
 
 -- the cents of a reply to a ride are at most those that it costs
@@ -35,6 +35,6 @@ ride_cents-few cents bound few =
     ]
 
 -- what a ride costs is at most the fare
-pub ride-few : (terms : Terms) (place : ℕ) (reply : Reply) → HasLimits terms → reply ≡ ride_reply (charge terms place) → reply.cents ≤ 100_000
-ride-few terms place reply limits is =
-    subst (λ (r : Reply). r.cents ≤ 100_000) (sym is) (ride_cents-few (charge terms place) 100_000 (charge-few terms place limits))
+pub ride-few : (terms : Terms) (place : ℕ) (reply : Reply) → AreBoundedTerms terms → reply ≡ ride_reply (charge terms place) → reply.cents ≤ 100_000
+ride-few terms place reply bounds is =
+    subst (λ (r : Reply). r.cents ≤ 100_000) (sym is) (ride_cents-few (charge terms place) 100_000 (charge-few terms place bounds))

@@ -6,7 +6,7 @@ use Rattle.std.proofs.Common.{◌++◌, length, Option, Some, None, refl, sym, a
 use Rattle.std.proofs.Common.{ltb, is_some, option_map}
 use Rattle.std.proofs.lemmas.Bool.{ltb-true, lt-ltb, le-ltb}
 use Rattle.fare_table.specs.declared.mode.Mode.{Mode}
-use Rattle.fare_table.specs.Terms.{HasLimits}
+use Rattle.fare_table.specs.Terms.{AreBoundedTerms}
 use Rattle.fare_table.specs.declared.terms.Terms.{Terms}
 use Rattle.account_rule.specs.declared.account.Account.{Account}
 use Rattle.account_rule.specs.declared.reply.Answer.TheVariants.{Transfer, Stale, Unknown}
@@ -188,10 +188,10 @@ later_live state taps tap mode moment last known later =
     ∙ rw (known, ← last moment) (both state tap.moment moment later))
 
 keeps_terms : (terms : Terms) (state next : State) → Some state ≡ Some next → state.terms ≡ terms
-    → HasLimits state.terms → KeepsTerms terms next
-keeps_terms terms state next some kept limits =
+    → AreBoundedTerms state.terms → KeepsTerms terms next
+keeps_terms terms state next some kept bounds =
     let same : state ≡ next = cc in
-    let keeps : KeepsTerms terms state = record { same = kept; limits = limits } in
+    let keeps : KeepsTerms terms state = record { same = kept; bounds = bounds } in
     subst (λ s. KeepsTerms terms s) same keeps
 
 -- a live tap to which the last one gives a transfer
@@ -224,7 +224,7 @@ transfer_at rules state taps tap mode stands known after given =
         giver = rw (giver-push rules taps tap _ shown, gives_it) refl;
         window = rw (windows-transfer rules taps tap _ shown ends) stands.window;
         terms = λ next some. let kept = stands.terms state refl in
-            keeps_terms rules.terms _ next some kept.same kept.limits;
+            keeps_terms rules.terms _ next some kept.same kept.bounds;
         mode = λ giver none. cc;
       };
     }
@@ -253,7 +253,7 @@ ride_at : (rules : TokenRules) (state : Option State) (taps : List TapIn) (tap :
     → tap.mode ≡ Some mode → mode.place < rules.modes → is_after state tap.moment ≡ true
     → gives rules.permits (kept_giver state) (live_at tap.moment mode) ≡ false
     → window ≡ window_at (kept_window state) tap.moment (rules.until tap.moment)
-    → HasLimits rules.terms
+    → AreBoundedTerms rules.terms
     → IsStep rules taps tap (ride_reply (charge rules.terms window.rides))
     (Some (record {
       last = tap.moment;
@@ -262,7 +262,7 @@ ride_at : (rules : TokenRules) (state : Option State) (taps : List TapIn) (tap :
       window = with_ride rules.terms window;
     }))
 unfolding is_after kept_giver kept_window live_at
-ride_at rules state taps tap mode window stands known listed after not_given at limits =
+ride_at rules state taps tap mode window stands known listed after not_given at bounds =
     let later : is_later taps tap.moment ≡ true = sym (stands.last tap.moment) ∙ after in
     let shown : live_tap taps tap ≡ Some (live_at tap.moment mode) =
     is_live taps tap mode known later in
@@ -291,7 +291,7 @@ ride_at rules state taps tap mode window stands known listed after not_given at 
           ←
               same_window,
         ) refl;
-        terms = λ next some. keeps_terms rules.terms _ next some refl limits;
+        terms = λ next some. keeps_terms rules.terms _ next some refl bounds;
         mode = λ giver some. let same_giver : live_at tap.moment mode ≡ giver = cc in
             subst (λ g. g.mode.place < rules.modes) same_giver listed;
       };
@@ -325,18 +325,18 @@ gives_none-state permits account state tap mode same after none =
 pub room : (rules : TokenRules) (account : Option State) (taps : List TapIn) (tap : TapIn)
     (terms : Terms) (window : Window)
     → KeepsOf rules account taps → window ≡ window_at (kept_window account) tap.moment tap.until
-    → terms ≡ rules.terms → HasLimits terms → IsRoomy terms window
-room rules account taps tap terms window stands at same_terms limits =
+    → terms ≡ rules.terms → AreBoundedTerms terms → IsRoomy terms window
+room rules account taps tap terms window stands at same_terms bounds =
     rw (same_terms, at, stands.window)
     (roomy rules (last_block (windows rules taps)) tap.moment tap.until
-    (rw same_terms at limits))
+    (rw same_terms at bounds))
 
 pub ride : (rules : TokenRules) (account : Option State) (taps : List TapIn) (tap : TapIn) (mode : Mode)
     (terms : Terms) (window counted : Window) (cents : ℕ)
     → KeepsOf rules account taps
     → tap.mode ≡ Some mode → mode.place < rules.modes → tap.until ≡ rules.until tap.moment
     → GivesNone rules.permits account tap mode
-    → terms ≡ rules.terms → HasLimits terms
+    → terms ≡ rules.terms → AreBoundedTerms terms
     → window ≡ window_at (kept_window account) tap.moment tap.until
     → cents ≡ charge terms window.rides → counted ≡ with_ride terms window
     → IsStep rules taps tap (ride_reply cents) (Some (record {
@@ -346,10 +346,10 @@ pub ride : (rules : TokenRules) (account : Option State) (taps : List TapIn) (ta
       window = counted;
     }))
 ride rules account taps tap mode terms window counted cents stands known listed limit none
-    same_terms limits at cost counts =
+    same_terms bounds at cost counts =
     rw (cost, counts, same_terms)
     (ride_at rules account taps tap mode window stands known listed none.after none.none
-    (rw limit at at) (rw same_terms at limits))
+    (rw limit at at) (rw same_terms at bounds))
 
 -- what a token that has an account pays is what the account keeps
 pub kept_terms : (rules : TokenRules) (account : Option State) (state : State) (taps : List TapIn)
@@ -391,7 +391,7 @@ next_ride rules account state next taps tap mode cents same stands known listed 
     (ride rules account taps tap mode state.terms
     (window_at (Some state.window) tap.moment tap.until)
     (with_ride state.terms (window_at (Some state.window) tap.moment tap.until)) cents
-    stands known listed limit none kept.same kept.limits
+    stands known listed limit none kept.same kept.bounds
     (at_kept account state tap.moment tap.until same) cost refl)
 
 -- the first ride of an account
@@ -399,7 +399,7 @@ pub first_ride : (rules : TokenRules) (account next : Option State) (taps : List
     (mode : Mode) (answered : Reply)
     → account ≡ None → KeepsOf rules account taps
     → tap.mode ≡ Some mode → mode.place < rules.modes → tap.until ≡ rules.until tap.moment
-    → HasLimits rules.terms
+    → AreBoundedTerms rules.terms
     → answered ≡ ride_reply (charge rules.terms (open_window tap.moment tap.until).rides)
     → next ≡ Some (record {
       last = tap.moment;
@@ -408,10 +408,10 @@ pub first_ride : (rules : TokenRules) (account next : Option State) (taps : List
       window = with_ride rules.terms (open_window tap.moment tap.until);
     })
     → IsStep rules taps tap answered next
-first_ride rules account next taps tap mode answered fresh stands known listed limit limits is_reply
+first_ride rules account next taps tap mode answered fresh stands known listed limit bounds is_reply
     is_next =
     rw (is_reply, is_next)
     (ride rules account taps tap mode rules.terms (open_window tap.moment tap.until)
     (with_ride rules.terms (open_window tap.moment tap.until)) _
-    stands known listed limit (gives_none-fresh rules.permits account tap mode fresh) refl limits
+    stands known listed limit (gives_none-fresh rules.permits account tap mode fresh) refl bounds
     (at_fresh account tap.moment tap.until fresh) refl refl)

@@ -1,7 +1,7 @@
 -- The window that an account keeps, and the window of the rule.
 use Rattle.std.proofs.Common.{◌≡◌, ℕ, suc, ◌+◌, ◌-◌, ◌≤◌, true, false, cond, List, [], ◌∷◌, ◌++◌}
 use Rattle.std.proofs.Common.{length, min, ltb, Some, option_map, IfSome, refl, ap, arith}
-use Rattle.fare_table.specs.Terms.{HasLimits}
+use Rattle.fare_table.specs.Terms.{AreBoundedTerms}
 use Rattle.account_rule.specs.TokenRules.{TokenRules}
 use Rattle.account_rule.specs.inside.Kept.{IsRoomy, open_window, shown_of, window_at, with_ride}
 use Rattle.account_rule.specs.Stands.{window_of}
@@ -72,14 +72,14 @@ charge-after rules (first ∷ window) ride =
 
 -- the limits of the terms leave room for one more ride
 pub roomy : (rules : TokenRules) (window : List LiveTap) (moment until : ℕ)
-    → HasLimits rules.terms → IsRoomy rules.terms (window_at (window_of rules window) moment until)
+    → AreBoundedTerms rules.terms → IsRoomy rules.terms (window_at (window_of rules window) moment until)
 unfolding window_of window_at open_window
-roomy rules [] moment until limits = record {
+roomy rules [] moment until bounds = record {
   paid = omega arith;
   cents = omega arith;
   rides = omega arith;
 }
-roomy rules (first ∷ window) moment until limits =
+roomy rules (first ∷ window) moment until bounds =
     elim (ltb moment (rules.until first.moment)) as (λ v. IsRoomy rules.terms (cond v (record {
       start = first.moment;
       until = rules.until first.moment;

@@ -1,7 +1,7 @@
 -- What an account keeps, and what its private functions make of it.
 use Rattle.std.specs.Prelude.{◌≡◌, ℕ, Bool, true, if◌then◌else◌, nat_lt, Option, Some, None}
 use Rattle.std.specs.Prelude.{option_map}
-use Rattle.fare_table.specs.Terms.{HasLimits}
+use Rattle.fare_table.specs.Terms.{AreBoundedTerms}
 use Rattle.fare_table.specs.declared.mode.Mode.{Mode}
 use Rattle.fare_table.specs.declared.terms.Terms.{Terms}
 use Rattle.account_rule.specs.declared.account.Account.{Account}
@@ -49,4 +49,4 @@ kept_window state = option_map (λ s. s.window) state
 -- the terms that are kept, if any, are the token's
 pub record KeepsTerms (terms : Terms) (state : State) : Type 0 where
   pub same : state.terms ≡ terms
-  pub limits : HasLimits state.terms
+  pub bounds : AreBoundedTerms state.terms

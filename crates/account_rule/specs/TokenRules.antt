@@ -23,7 +23,7 @@ permits_of fares from to = is_permitted fares from.place to.place
 -- the rules of the token
 unfoldable pub rules_of : Fares → List ℕ → TokenRules
 rules_of fares token = record {
-  modes = length fares.rules.modes;
+  modes = length fares.meaning.modes;
   terms = terms_at fares token;
   permits = permits_of fares;
   until = until fares;

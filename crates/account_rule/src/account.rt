@@ -3,7 +3,7 @@
 ghost use Rattle.std.specs.Prelude.{◌≡◌, ℕ, ◌<◌, ◌≤◌, List, [], ◌∷◌, ◌++◌, length, option_map};
 ghost use Rattle.std.specs.Prelude.{IfSome, Some};
 ghost use Rattle.std.specs.Option.{ForSome};
-ghost use Rattle.fare_table.specs.Terms.{HasLimits};
+ghost use Rattle.fare_table.specs.Terms.{AreBoundedTerms};
 ghost use Rattle.fare_table.specs.Until.{until};
 ghost use Rattle.account_rule.specs.declared.tap.TapIn.{TapIn};
 ghost use Rattle.account_rule.specs.Replies.{reply, ride_reply};
@@ -73,7 +73,7 @@ impl Account {
     #[inline(always)]
     pub fn step(&mut self, table: &FareTable, token: &[u8], tap: TapIn) -> Reply
         requires token { length token.now ≡ 16 }
-        requires mode { ForSome tap.mode (λ mode. mode.place < length table.now.rules.modes) }
+        requires mode { ForSome tap.mode (λ mode. mode.place < length table.now.meaning.modes) }
         requires until { tap.until ≡ until table.now tap.moment }
         requires stands { StandsForSome (rules_of table.now token.now) self.old }
 
@@ -127,7 +127,7 @@ impl Account {
     #[tactic(auto, unfolding(crate::specs::Kept::kept_of, crate::specs::inside::Kept::open_window, crate::specs::TokenRules::rules_of))]
     fn first_ride(&mut self, table: &FareTable, token: &[u8], mode: Mode, tap: TapIn) -> Reply
         requires { length token.now ≡ 16 }
-        ensures limits { let terms = (rules_of table.now token.now).terms in HasLimits terms }
+        ensures bounds { let terms = (rules_of table.now token.now).terms in AreBoundedTerms terms }
         ensures reply { let terms = (rules_of table.now token.now).terms in
             result ≡ ride_reply (charge terms (open_window tap.moment tap.until).rides) }
         ensures state { let terms = (rules_of table.now token.now).terms in
@@ -155,8 +155,8 @@ impl Account {
     #[tactic(auto, unfolding(crate::specs::Chains::is_linked, crate::specs::TokenRules::permits_of, crate::specs::inside::Kept::gives, crate::specs::Taps::live_at))]
     fn gives_transfer(&self, table: &FareTable, moment: u64, mode: Mode) -> bool
         requires giver { ForSome self.now.giver
-            (λ giver. giver.place < length table.now.rules.modes) }
-        requires mode { mode.place < length table.now.rules.modes }
+            (λ giver. giver.place < length table.now.meaning.modes) }
+        requires mode { mode.place < length table.now.meaning.modes }
         ensures { result ≡ gives (permits_of table.now)
             (option_map (live_at self.now.last) self.now.giver) (live_at moment mode) }
     {
@@ -170,7 +170,7 @@ impl Account {
     /// Takes a live tap on the mode as a ride, and returns what it costs.
     #[tactic(auto, unfolding(crate::specs::inside::Kept::window_at))]
     fn take_ride(&mut self, mode: Mode, tap: TapIn) -> u32
-        requires limits { HasLimits self.old.terms }
+        requires bounds { AreBoundedTerms self.old.terms }
         requires room { IsRoomy self.old.terms
             (window_at (Some self.old.window) tap.moment tap.until) }
         ensures cost { result ≡ charge self.old.terms

@@ -16,7 +16,7 @@ pub fn only_blocks()
 
 /// No window of any list has more paid rides than the terms allow, or costs more than their ceiling
 /// (MTA, fare capping).
-pub fn limits()
+pub fn windows_keep_limits()
     ensures rides { WindowsKeepTheRideLimit }
     ensures ceiling { WindowsKeepTheCeiling }
 {}
@@ -30,7 +30,7 @@ pub fn windows_add_up()
 {}
 
 /// The reply to each tap follows from its reason, and what gives a transfer is a ride.
-pub fn reasons()
+pub fn replies_follow_reasons()
     ensures replies { RepliesFollow }
     ensures givers { GiversAreRides }
 {}

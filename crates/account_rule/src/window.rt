@@ -1,7 +1,7 @@
 //! A window of rides, and what its next ride costs.
 
 ghost use Rattle.std.specs.Prelude.{◌≡◌, ◌+◌, ◌*◌, ◌^◌, ◌<◌, ◌≤◌};
-ghost use Rattle.fare_table.specs.Terms.{HasLimits};
+ghost use Rattle.fare_table.specs.Terms.{AreBoundedTerms};
 ghost use Rattle.account_rule.specs.inside.Kept.{IsRoomy, next_reason, open_window, shown_of};
 ghost use Rattle.account_rule.specs.inside.Kept.{with_ride};
 ghost use Rattle.account_rule.specs.Reasons.{charge_by};
@@ -70,7 +70,7 @@ impl Window {
     /// Counts one more ride, and returns what it costs.
     #[tactic(auto, unfolding(crate::specs::inside::Kept::with_ride, crate::specs::Windows::charge))]
     pub(crate) fn add_ride(&mut self, terms: Terms) -> u32
-        requires limits { HasLimits terms }
+        requires bounds { AreBoundedTerms terms }
         requires room { IsRoomy terms self.old }
         ensures cost { result ≡ charge terms self.old.rides }
         ensures counts { self.new ≡ with_ride terms self.old }
@@ -88,7 +88,7 @@ impl Window {
     /// Why its next ride is answered as it is.
     #[tactic(auto, unfolding(crate::specs::inside::Kept::next_reason))]
     pub(crate) fn next_reason(self, terms: Terms) -> Reason
-        requires limits { HasLimits terms }
+        requires bounds { AreBoundedTerms terms }
         requires room { IsRoomy terms self }
         ensures { result ≡ next_reason terms self }
     {

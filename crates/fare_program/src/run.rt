@@ -52,10 +52,10 @@ fn shows_plain(files: &[Vec<u8>], outcome: &Outcome)
         → ShowsPlain explain fares (map (λ f. f.items) files.now) token text }
 {
     let _ = outcome.shards();
-    laws::names(outcome);
+    laws::tokens_are_named(outcome);
     laws::one_reading_each(files);
-    laws::report(files, outcome);
-    laws::statements(files, outcome);
+    laws::report_is_plain(files, outcome);
+    laws::statements_are_plain(files, outcome);
 }
 
 /// Posts the files as they are.

@@ -59,7 +59,7 @@ pub(crate) fn post_settled<'a, R: Threads + Wait + RandomSource + Sync>(
     let settled = files.as_slice();
     let outcome = uncut_outcome_of(rt, alloc, table, options, settled)?;
     // proof: the outcome tells the settled history of the files that were given
-    laws::settled(settled, &outcome);
+    laws::outcome_is_settled(settled, &outcome);
     Ok(Posted {
         outcome,
         given: Some(ends),

@@ -15,7 +15,7 @@ use Rattle.shard_book.specs.SumsByKey.{all_entries}
 use Rattle.shard_book.specs.declared.sums.totals.Totals.{Totals}
 use Rattle.shard_book.specs.Sums.{Sums, sums, sums_of, sums_of_replies, add_sums, is_paid, is_transfer, is_capped, is_stale, is_unknown}
 use Rattle.shared_books.specs.Drawing.{NoneTwice}
-use Rattle.shared_books.specs.Marks.{joined}
+use Rattle.shared_books.specs.Marks.{history_of_visits}
 use Rattle.fare_table.specs.Fares.{Fares}
 use Rattle.fare_service.specs.declared.upload_end.UploadEnd.{UploadEnd}
 use Rattle.fare_service.specs.declared.upload_end.UploadEnd.TheVariants.{Posted, Refused, Cut, Undrawn}
@@ -119,9 +119,9 @@ pub sum_by-flat_map : {X Y : Type 0} (f : Y → ℕ) (g : X → List Y) (xs : Li
 sum_by-flat_map f g [] = refl
 sum_by-flat_map f g (x ∷ xs) = sum_by-append f (g x) (flat_map g xs) ∙ ap (λ k. sum_by f (g x) + k) (sum_by-flat_map f g xs) ∙ sym (sum_by-cons (λ y. sum_by f (g y)) x xs)
 
-sum_by-joined : {X : Type 0} (f : Entry → ℕ) (g : X → List Entry) (xs : List X) → sum_by f (joined (map g xs)) ≡ sum_by (λ x. sum_by f (g x)) xs
+sum_by-joined : {X : Type 0} (f : Entry → ℕ) (g : X → List Entry) (xs : List X) → sum_by f (history_of_visits (map g xs)) ≡ sum_by (λ x. sum_by f (g x)) xs
 sum_by-joined f g [] = refl
-sum_by-joined f g (x ∷ xs) = sum_by-append f (g x) (joined (map g xs)) ∙ ap (λ k. sum_by f (g x) + k) (sum_by-joined f g xs) ∙ sym (sum_by-cons (λ y. sum_by f (g y)) x xs)
+sum_by-joined f g (x ∷ xs) = sum_by-append f (g x) (history_of_visits (map g xs)) ∙ ap (λ k. sum_by f (g x) + k) (sum_by-joined f g xs) ∙ sym (sum_by-cons (λ y. sum_by f (g y)) x xs)
 
 pub sum_by-map : {X Y : Type 0} (f : Y → ℕ) (g : X → Y) (xs : List X) → sum_by f (map g xs) ≡ sum_by (λ x. f (g x)) xs
 sum_by-map f g [] = refl
@@ -141,7 +141,7 @@ sum_of_book f table shard shards works book is =
         → sum_by (λ v. sum_by f v.entries) (filter (λ v. v.worker == worker) is.visits) ≡ sum_by (λ v. sum_by f v.entries) (visits_to shard (all_visits done))
     own worker done at =
         sym (sum_by-joined f (λ (v : Signed). v.entries) (filter (λ v. v.worker == worker) is.visits))
-        ∙ (ap (λ vs. sum_by f (joined vs)) (is.order worker done at) ∙ sum_by-joined f (λ (v : RunVisit). v.entries) (visits_to shard (all_visits done)))
+        ∙ (ap (λ vs. sum_by f (history_of_visits vs)) (is.order worker done at) ∙ sum_by-joined f (λ (v : RunVisit). v.entries) (visits_to shard (all_visits done)))
 
 all_within : (given : Given) (done : List Worked) → All (IsWorkOf given.shards given.uploads) done → All (λ v. v.shard < given.shards) (all_visits done)
 all_within given [] all = All-nil (λ (v : RunVisit). v.shard < given.shards)

@@ -6,16 +6,16 @@ use Rattle.shared_books.specs.Passes.{PassView}
 use Rattle.fare_service.specs.declared.service.working.Stop.{Stop}
 use Rattle.fare_service.specs.Runs.{PlacedTap, of_shard, Run, if_any, runs_below, RunVisit, ArePosted, AreCut}
 use Rattle.fare_service.specs.inside.Runs.{WerePosted}
-use Rattle.fare_service.specs.Shares.{Made}
+use Rattle.fare_service.specs.Shares.{HasVisited}
 use Rattle.fare_service.proofs.RunLemmas.{posted_posted, posted_cut, below_more, below_cut}
 use Rattle.fare_service.proofs.VisitLemmas.{made_more}
 
 -- some runs were posted whole, and then others, whole or up to a cut
 abbrev pub Posts : ℕ → List PassView → List PassView → Sums → Sums → List Run → Type 0
-Posts shards p q s t runs = (more : List RunVisit) × Made shards p q s t more × ArePosted runs more
+Posts shards p q s t runs = (more : List RunVisit) × HasVisited shards p q s t more × ArePosted runs more
 
 abbrev pub Cuts : ℕ → List PassView → List PassView → Sums → Sums → List Run → Type 0
-Cuts shards p q s t runs = (more : List RunVisit) × Made shards p q s t more × AreCut runs more
+Cuts shards p q s t runs = (more : List RunVisit) × HasVisited shards p q s t more × AreCut runs more
 
 pub posts_more : (shards : ℕ) (p q r : List PassView) (s t u : Sums) (first then : List Run) → Posts shards p q s t first → Posts shards q r t u then → Posts shards p r s u (first ++ then)
 posts_more shards p q r s t u first then (xs, made, posted) (ys, more, also) =
@@ -44,6 +44,6 @@ batch_cut shards shard taps p q r s t u within before here =
 
 -- what was cut, told by an answer that is an error
 pub cuts_told : {A : Type 0} (r : Result A Stop) (shards : ℕ) (p q : List PassView) (s t : Sums) (runs : List Run) → IsErr r → Cuts shards p q s t runs
-    → (more : List RunVisit) × Made shards p q s t more × WerePosted runs (is_ok r) more
+    → (more : List RunVisit) × HasVisited shards p q s t more × WerePosted runs (is_ok r) more
 cuts_told (Ok x) shards p q s t runs err c = absurd (cc)
 cuts_told (Err e) shards p q s t runs err c = c

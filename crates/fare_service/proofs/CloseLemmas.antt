@@ -12,7 +12,7 @@ use Rattle.shared_books.specs.declared.turns.rule.Mark.{Mark}
 use Rattle.shared_books.specs.Claims.{all_claims}
 use Rattle.fare_service.specs.Claims.{HaveAllClaims}
 use Rattle.shared_books.specs.Drawing.{Drawing, DrawerView, HasAll, IsCount, times}
-use Rattle.shared_books.specs.Marks.{joined}
+use Rattle.shared_books.specs.Marks.{history_of_visits}
 use Rattle.shared_books.specs.Passes.{SharedBookView, PassView}
 use Rattle.fare_service.specs.declared.faults.GatherFault.{GatherFault}
 use Rattle.fare_service.specs.declared.faults.GatherFault.TheVariants.{NoMemory, Missing, Drawn}
@@ -79,9 +79,9 @@ history_of drawing opened shares drawer passes shard book all c =
     let number : length s.signs ≡ length (marks_at shard passes) = AllZip-length (IsSign (length shares) (length shares)) s.signs (marks_at shard passes) s.of_marks in
     record {
       visits = s.signs;
-      history = ap (λ b. b.entries) c.all.book ∙ ap joined (sym (signs_visits (length shares) (length shares) s.signs c.pass.marks signs));
+      history = ap (λ b. b.entries) c.all.book ∙ ap history_of_visits (sym (signs_visits (length shares) (length shares) s.signs c.pass.marks signs));
       signed = all_signed (length shares) (length shares) c.pass.book.first s.signs c.pass.marks signs c.all.made;
-      order = s.own;
+      order = s.made;
       seen = All-weaker (λ share. length (marks_at shard share.passes) ≤ length (marks_at shard passes)) (λ share. length (marks_at shard share.passes) ≤ length s.signs) (λ t h. omega (arith, h, number)) shares (all.longest shard);
       shared = c.pass.book;
       at = subst O all.of_books (book_here shard passes c.pass c.at);

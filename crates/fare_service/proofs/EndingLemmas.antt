@@ -27,7 +27,7 @@ use Rattle.fare_service.specs.Runs.{PlacedTap, placed_from, of_shard, Run, run, 
 use Rattle.fare_service.specs.inside.Runs.{visits_to}
 use Rattle.fare_service.specs.ServiceView.{ServiceView, shards_of}
 use Rattle.fare_service.specs.ShareView.{ShareView}
-use Rattle.fare_service.specs.Shares.{Worked, done_of, all_visits, file_at, IsEndOf, IsFresh, IsShareOf, IsWorkOf, KeepsWorks, own_at, marks_at, books_of}
+use Rattle.fare_service.specs.Shares.{Worked, done_of, all_visits, file_at, IsEndOf, IsFresh, IsShareOf, IsWorkOf, KeepsWorks, made_visits_at, marks_at, books_of}
 use Rattle.fare_service.specs.Stopping.{SomeFull, MayGoOn, WasCut, StoppedWell, HaveStopped, FullIsMade, is_cut, cuts, posting}
 use Rattle.fare_service.specs.inside.Stopping.{WorkedOn}
 use Rattle.fare_service.specs.inside.Closing.{IsClosedWork}
@@ -257,19 +257,19 @@ held_few service shard [] [] kept = omega arith
 held_few service shard [] (done ∷ works) kept = absurd kept
 held_few service shard (new ∷ news) [] kept = absurd kept
 held_few service shard (new ∷ news) (done ∷ works) kept =
-    let own : length (own_at shard new.passes) ≡ length (entries_to shard (all_visits done)) = ap length (kept.0.visits shard) in
+    let own : length (made_visits_at shard new.passes) ≡ length (entries_to shard (all_visits done)) = ap length (kept.0.visits shard) in
     let less = to_few shard (all_visits done) in
     let rest = held_few service shard news works kept.1 in
-    omega (arith, own, less, rest, sum_by-cons (λ (s : ShareView). length (own_at shard s.passes)) new news, sum_by-cons (λ (d : List Worked). length (all_visits d)) done works)
+    omega (arith, own, less, rest, sum_by-cons (λ (s : ShareView). length (made_visits_at shard s.passes)) new news, sum_by-cons (λ (d : List Worked). length (all_visits d)) done works)
 
 -- the visits of a closed book are those that the shares hold
 visits_are : (opened : List SharedBookView) (shares : List ShareView) (shard : ℕ) (book : Book) (h : IsHistoryOf opened shares shard book) → length h.visits ≡ visits_held shard shares
 visits_are opened shares shard book h =
     length_sum h.visits
     ∙ (sum_by_key (λ (v : Signed). v.worker) (λ (v : Signed). 1) (length shares) h.visits h.signed
-    ∙ sum_of_places (λ (s : ShareView). length (own_at shard s.passes)) shares (λ w. sum_by (λ (v : Signed). 1) (filter (λ v. v.worker == w) h.visits)) own)
+    ∙ sum_of_places (λ (s : ShareView). length (made_visits_at shard s.passes)) shares (λ w. sum_by (λ (v : Signed). 1) (filter (λ v. v.worker == w) h.visits)) own)
   where
-    own : (w : ℕ) (share : ShareView) → slice_get shares w ≡ Some share → sum_by (λ (v : Signed). 1) (filter (λ v. v.worker == w) h.visits) ≡ length (own_at shard share.passes)
+    own : (w : ℕ) (share : ShareView) → slice_get shares w ≡ Some share → sum_by (λ (v : Signed). 1) (filter (λ v. v.worker == w) h.visits) ≡ length (made_visits_at shard share.passes)
     own w share at =
         let few : List Signed = filter (λ v. v.worker == w) h.visits in
         sym (length_sum few) ∙ (sym (length-map few (λ (v : Signed). v.entries)) ∙ ap length (h.order w share at))

@@ -10,7 +10,7 @@ use Rattle.shared_books.specs.Marks.{mark, others}
 use Rattle.shared_books.specs.Passes.{PassView, IsFull, IsLater, Visits, seen_by}
 use Rattle.fare_service.specs.declared.service.working.Stop.{Stop}
 use Rattle.fare_service.specs.declared.service.working.Stop.TheVariants.{Memory, Full}
-use Rattle.fare_service.specs.Shares.{own_visits, own_at}
+use Rattle.fare_service.specs.Shares.{made_visits, made_visits_at}
 use Rattle.fare_service.specs.Stopping.{KnowsFull, SomeFull}
 use Rattle.fare_service.specs.inside.Stopping.{TellsFull}
 use Rattle.fare_service.proofs.RunVisits.{marks_here}
@@ -82,7 +82,7 @@ handed_on r s stop old between new is also more tells (inr e) =
 
 -- the visit that the pass to a shard made
 pub own_grows : (passes : List PassView) (shard : ℕ) (old new : PassView) (number : ℕ) (visit : List Entry) → shard < length passes → old ≡ get_or passes shard old
-    → Visits old new number visit → own_at shard (set passes shard new) ≡ own_at shard passes ++ visit ∷ []
+    → Visits old new number visit → made_visits_at shard (set passes shard new) ≡ made_visits_at shard passes ++ visit ∷ []
 own_grows passes shard old new number visit within is v =
-    ap own_visits (marks-set_same passes shard new within)
-    ∙ (own-visits old new number visit v ∙ ap (λ ms. own_visits ms ++ visit ∷ []) (sym (marks_here passes shard old within is)))
+    ap made_visits (marks-set_same passes shard new within)
+    ∙ (own-visits old new number visit v ∙ ap (λ ms. made_visits ms ++ visit ∷ []) (sym (marks_here passes shard old within is)))

@@ -5,7 +5,7 @@ use Rattle.shard_book.specs.Book.{Book}
 use Rattle.shard_book.specs.History.{IsLegal}
 use Rattle.shard_book.specs.Sums.{sums}
 use Rattle.shared_books.specs.Drawing.{NoneTwice}
-use Rattle.shared_books.specs.Marks.{joined}
+use Rattle.shared_books.specs.Marks.{history_of_visits}
 use Rattle.fare_service.specs.declared.upload_end.UploadEnd.{UploadEnd}
 use Rattle.fare_service.specs.ServiceView.{ServiceView, shards_of}
 use Rattle.fare_service.specs.Headline.{Signed, by_worker, end_of}
@@ -25,7 +25,7 @@ given_of service = record { table = service.table; shards = shards_of service; u
 -- the book of a shard, by the visits of the workers
 pub record IsBookOfWork (table : Fares) (shard shards : ℕ) (works : List (List Worked)) (book : Book) : Type 0 where
   pub visits : List Signed
-  pub history : book.entries ≡ joined (map (λ v. v.entries) visits)
+  pub history : book.entries ≡ history_of_visits (map (λ v. v.entries) visits)
   pub signed : All (λ v. v.worker < length works) visits
   pub order : (worker : ℕ) (done : List Worked) → slice_get works worker ≡ Some done → by_worker worker visits ≡ entries_to shard (all_visits done)
   pub its_table : book.table ≡ table

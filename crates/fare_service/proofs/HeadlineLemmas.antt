@@ -12,10 +12,10 @@ use Rattle.shard_book.specs.Book.{Book}
 use Rattle.shard_book.specs.SumsByKey.{all_entries}
 use Rattle.shard_book.specs.Sums.{sums}
 use Rattle.shard_book.specs.Windows.{WindowsKeepLimits}
-use Rattle.shared_books.specs.Marks.{joined}
+use Rattle.shared_books.specs.Marks.{history_of_visits}
 use Rattle.fare_service.specs.declared.upload_end.UploadEnd.TheVariants.{Undrawn}
 use Rattle.fare_service.specs.Headline.{Signed, by_worker, end_of, IsOneThread, Headline}
-use Rattle.fare_service.specs.Limits.{KeepsLimits}
+use Rattle.fare_service.specs.Limits.{BookKeepsLimits}
 use Rattle.fare_service.specs.Outcomes.{OutcomeView}
 use Rattle.fare_service.specs.Runs.{entries_to}
 use Rattle.fare_service.specs.Shares.{Worked, all_works, all_visits}
@@ -26,7 +26,7 @@ use Rattle.fare_service.proofs.PlacingLemmas.{stands_once}
 use Rattle.fare_service.proofs.Signing.{step_no, step_yes}
 
 -- visits one after another, in either word
-joined_visits : (visits : List Signed) → joined (map (λ v. v.entries) visits) ≡ flat_map (λ v. v.entries) visits
+joined_visits : (visits : List Signed) → history_of_visits (map (λ v. v.entries) visits) ≡ flat_map (λ v. v.entries) visits
 joined_visits [] = refl
 joined_visits (v ∷ visits) = ap (λ es. v.entries ++ es) (joined_visits visits)
 
@@ -58,7 +58,7 @@ all_signed workers (v ∷ visits) none = All-cons (λ x. x.worker < workers) v v
 
 -- the headline holds of what was gathered
 pub headline_of : (given : Given) (works : List (List Worked)) (outcome : OutcomeView) → IsGathered given works outcome → outcome.totals ≡ sums (all_entries outcome.books)
-    → ((shard : ℕ) (book : Book) → slice_get outcome.books shard ≡ Some book → KeepsLimits book)
+    → ((shard : ℕ) (book : Book) → slice_get outcome.books shard ≡ Some book → BookKeepsLimits book)
     → ((upload : ℕ) → end_of upload (all_works works) ≡ Undrawn → All (λ w. w.upload < upload) (all_works works)) → Headline given.table given.shards given.uploads works outcome
 headline_of given works outcome is totals limits undrawn = record {
   worked = is.each;

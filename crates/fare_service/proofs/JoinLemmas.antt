@@ -16,7 +16,7 @@ use Rattle.fare_service.specs.Claims.{claims_at}
 use Rattle.fare_service.specs.Headline.{by_worker}
 use Rattle.fare_service.specs.ShareView.{ShareView}
 use Rattle.fare_service.specs.inside.Joining.{AreSigns, AreJoined, AreJoinedAt, AreSignedAt, Belongs, IsJoinedOf}
-use Rattle.fare_service.specs.Shares.{books_of, marks_at, own_at}
+use Rattle.fare_service.specs.Shares.{books_of, marks_at, made_visits_at}
 use Rattle.fare_service.proofs.PlaceLemmas.{place_more}
 use Rattle.fare_service.proofs.Signing.{signed, signs_more, earlier_stay, new_own, merged-nil, made_own}
 use Rattle.fare_service.proofs.VisitLemmas.{marks-set_same, marks-set_other}
@@ -79,8 +79,8 @@ signed_more nobody shard shares share passes passes' below s j =
     record {
       signs = signs;
       of_marks = subst N (sym more) (subst P (sym j.marks) (signs_more i nobody s.signs (marks_at shard passes) (marks_at shard share.passes) below s.of_marks));
-      own = place_more (λ w h. by_worker w signs ≡ own_at shard h.passes) shares share
-          (λ w h at. earlier_stay i nobody w s.signs (marks_at shard passes) (marks_at shard share.passes) below (slice_get_within shares w h at) s.of_marks j.apart ∙ s.own w h at)
+      made = place_more (λ w h. by_worker w signs ≡ made_visits_at shard h.passes) shares share
+          (λ w h at. earlier_stay i nobody w s.signs (marks_at shard passes) (marks_at shard share.passes) below (slice_get_within shares w h at) s.of_marks j.apart ∙ s.made w h at)
           (new_own i nobody s.signs (marks_at shard passes) (marks_at shard share.passes) below s.of_marks j.begins);
     }
 
@@ -103,7 +103,7 @@ joined_more drawing books nobody shares share drawer drawer' passes passes' belo
   seen = All-push (λ s. s.drawer.seen ≤ drawer'.seen) shares share (All-weaker (λ s. s.drawer.seen ≤ drawer.seen) (λ s. s.drawer.seen ≤ drawer'.seen) (λ s h. omega (arith, h, met.later)) shares all.seen) met.later_too;
   of_books = of_books;
   signed = λ shard. signed_more nobody shard shares share passes passes' below (all.signed shard) (joined shard);
-  held = λ shard. omega (arith, (joined shard).held, all.held shard, sum_by-append (λ (s : ShareView). length (own_at shard s.passes)) shares (share ∷ []), sum_by-cons (λ (s : ShareView). length (own_at shard s.passes)) share []);
+  held = λ shard. omega (arith, (joined shard).held, all.held shard, sum_by-append (λ (s : ShareView). length (made_visits_at shard s.passes)) shares (share ∷ []), sum_by-cons (λ (s : ShareView). length (made_visits_at shard s.passes)) share []);
   longest = λ shard. let long = merged_longer (marks_at shard passes) (marks_at shard share.passes) in let new : length (marks_at shard passes') ≡ length (merged (marks_at shard passes) (marks_at shard share.passes)) = ap length (joined shard).marks in
       All-push (λ s. length (marks_at shard s.passes) ≤ length (marks_at shard passes')) shares share
       (All-weaker (λ s. length (marks_at shard s.passes) ≤ length (marks_at shard passes)) (λ s. length (marks_at shard s.passes) ≤ length (marks_at shard passes')) (λ s h. omega (arith, h, long.0, new)) shares (all.longest shard))
@@ -122,10 +122,10 @@ joined_first drawing books nobody share some is = record {
   signed = λ shard. record {
     signs = signed 0 nobody [] (marks_at shard share.passes);
     of_marks = signs_more 0 nobody [] [] (marks_at shard share.passes) some tt;
-    own = place_more (λ w h. by_worker w (signed 0 nobody [] (marks_at shard share.passes)) ≡ own_at shard h.passes) [] share (λ w h at. absurd (cc))
+    made = place_more (λ w h. by_worker w (signed 0 nobody [] (marks_at shard share.passes)) ≡ made_visits_at shard h.passes) [] share (λ w h at. absurd (cc))
         (new_own 0 nobody [] [] (marks_at shard share.passes) some tt (inl (visits_of (marks_at shard share.passes), refl)));
   };
-  held = λ shard. omega (arith, sum_by-cons (λ (s : ShareView). length (own_at shard s.passes)) share []);
+  held = λ shard. omega (arith, sum_by-cons (λ (s : ShareView). length (made_visits_at shard s.passes)) share []);
   longest = λ shard. All-cons (λ s. length (marks_at shard s.passes) ≤ length (marks_at shard share.passes)) share [] (omega arith) (All-nil (λ s. length (marks_at shard s.passes) ≤ length (marks_at shard share.passes)));
 }
 

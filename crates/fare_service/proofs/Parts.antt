@@ -1,5 +1,5 @@
 -- Texts that are written part by part.
-use Rattle.std.specs.Prelude.{ℕ, ◌≡◌, ◌+◌, ◌<◌, ◌≤◌, List, [], ◌∷◌, ◌++◌, length, take, Option, Some, None, slice_get}
+use Rattle.std.specs.Prelude.{ℕ, ◌≡◌, ◌+◌, ◌<◌, ◌≤◌, List, [], ◌∷◌, ◌++◌, length, take, Option, Some, None, slice_get, codes}
 use Rattle.std.specs.Io.KnownBytes.{Appends, append_known}
 use Rattle.std.proofs.KnownBytes.{Appends-trans}
 use Rattle.std.specs.List.{flat_map}
@@ -9,13 +9,21 @@ use Rattle.std.proofs.lemmas.Option.{slice_get_within, get_or_from_slice_get}
 use Rattle.std.proofs.Common.{sym, ◌∙◌, ap, subst, append_assoc, append-nil, arith, add-zero}
 use Rattle.shard_book.specs.Sums.{Sums}
 use Rattle.fare_table.specs.declared.token.Token.{Token}
-use Rattle.fare_service.specs.Text.{token_line, upload_line, upload_lines}
+use Rattle.fare_texts.specs.SumLines.{token_line}
+use Rattle.fare_service.specs.Text.{upload_line, upload_lines}
 use Rattle.fare_service.specs.declared.upload_end.UploadEnd.{UploadEnd}
 use Rattle.fare_service.specs.declared.upload_end.UploadEnd.TheVariants.{Posted}
 
 -- what was written in two parts is what stood there and both parts
 pub in_parts : (start middle done first second : List ℕ) → middle ≡ start ++ first → done ≡ middle ++ second → done ≡ start ++ (first ++ second)
 in_parts start middle done first second a b = b ∙ (ap (λ text. text ++ second) a ∙ append_assoc start first second)
+
+-- a line of a word, a number and what follows, of which the rest was written after the two
+pub in_line : (start middle done word number rest : List ℕ) → middle ≡ start ++ (word ++ (number ++ codes " ")) → done ≡ middle ++ rest
+    → done ≡ start ++ (word ++ (number ++ (codes " " ++ rest)))
+in_line start middle done word number rest a b =
+    in_parts start middle done (word ++ (number ++ codes " ")) rest a b
+    ∙ ap (λ text. start ++ text) (append_assoc word (number ++ codes " ") rest ∙ ap (λ text. word ++ text) (append_assoc number (codes " ") rest))
 
 -- four words with their numbers, put one before the other from the last
 pub four_counts : (start one two three done a m b n c o d p : List ℕ) → one ≡ d ++ (p ++ start) → two ≡ c ++ (o ++ one) → three ≡ b ++ (n ++ two) → done ≡ a ++ (m ++ three)

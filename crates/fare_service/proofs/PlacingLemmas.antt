@@ -12,7 +12,7 @@ use Rattle.shard_book.specs.declared.entry.Entry.{Entry}
 use Rattle.shard_book.specs.Book.{Book}
 use Rattle.shard_book.specs.Entry.{IsEntryOf}
 use Rattle.shared_books.specs.Drawing.{NoneTwice, times}
-use Rattle.shared_books.specs.Marks.{joined}
+use Rattle.shared_books.specs.Marks.{history_of_visits}
 use Rattle.fare_service.specs.declared.upload_end.UploadEnd.{UploadEnd}
 use Rattle.fare_service.specs.Headline.{Signed, by_worker}
 use Rattle.fare_service.specs.Outcomes.{OutcomeView}
@@ -255,10 +255,10 @@ origin_fields upload [] (e ∷ entries) h = absurd h
 origin_fields upload (p ∷ taps) [] h = absurd h
 origin_fields upload (p ∷ taps) (e ∷ entries) h = (h.0, origin_fields upload taps entries h.1)
 
-all_fields : (given : Given) (works : List (List Worked)) (made : List By) → All (λ y. IsMade given works y.worker y.made) made → AllZip IsEntryOfOrigin (all_origins made) (joined (map (λ y. entries_made y.made) made))
+all_fields : (given : Given) (works : List (List Worked)) (made : List By) → All (λ y. IsMade given works y.worker y.made) made → AllZip IsEntryOfOrigin (all_origins made) (history_of_visits (map (λ y. entries_made y.made) made))
 all_fields given works [] all = tt
 all_fields given works (y ∷ made) all =
-    AllZip-append IsEntryOfOrigin (origins_of y) (all_origins made) (entries_made y.made) (joined (map (λ z. entries_made z.made) made))
+    AllZip-append IsEntryOfOrigin (origins_of y) (all_origins made) (entries_made y.made) (history_of_visits (map (λ z. entries_made z.made) made))
     (origin_fields y.made.upload y.made.visit.taps (entries_made y.made) (All-head (λ z. IsMade given works z.worker z.made) y made all).entered.fields)
     (all_fields given works made (All-tail (λ z. IsMade given works z.worker z.made) y made all))
 
@@ -416,7 +416,7 @@ pub stands_once : (given : Given) (works : List (List Worked)) (outcome : Outcom
 stands_once given works outcome is shard book at =
     let work = is.books shard book at in
     let s = spread (IsMade given works) work.visits (λ w. to_shard shard (works_at w works)) (by_worker_at given shard works book work) (all_made given works is.each shard) in
-    let entries : joined (map (λ y. entries_made y.made) s.made) ≡ book.entries = ap joined s.entries ∙ sym work.history in
+    let entries : history_of_visits (map (λ y. entries_made y.made) s.made) ≡ book.entries = ap history_of_visits s.entries ∙ sym work.history in
     let F : List Entry → Type 0 = AllZip IsEntryOfOrigin (all_origins s.made) in
     record {
       origins = all_origins s.made;

@@ -16,12 +16,13 @@ use Rattle.shard_book.specs.Entry.{is_of, own, IsEntryOf}
 use Rattle.shard_book.specs.Keys.{same_token}
 use Rattle.fare_table.specs.Token.{bytes_of}
 use Rattle.shared_books.specs.Drawing.{NoneTwice}
-use Rattle.shared_books.specs.Marks.{joined}
+use Rattle.shared_books.specs.Marks.{history_of_visits}
 use Rattle.fare_service.specs.declared.upload_end.UploadEnd.{UploadEnd}
 use Rattle.fare_service.specs.declared.upload_end.UploadEnd.TheVariants.{Posted, Refused, Cut, Undrawn}
 use Rattle.fare_service.specs.Headline.{Signed, by_worker, end_of}
 use Rattle.fare_service.specs.Outcomes.{OutcomeView}
-use Rattle.fare_service.specs.Plain.{AreTapsOf, AreTapsOfEach, AreApart, HasOneReading, IsNamed, WasNotCut, unanswered, token_of_bytes, plain}
+use Rattle.tap_views.specs.Files.{AreGoodTaps, AreGoodTapsOfEach}
+use Rattle.fare_service.specs.Plain.{AreApart, HasOneReading, IsNamed, WasNotCut, unanswered, token_of_bytes, plain}
 use Rattle.fare_service.specs.Runs.{RunVisit, ArePosted, runs_of, entries_to}
 use Rattle.fare_service.specs.Shares.{Worked, all_visits, IsWorkOf, IsEndOf, all_works, file_at}
 use Rattle.fare_service.proofs.PlainLists.{All-split, All-flat, flat-All, All-at, mapped_at, flat_map-map, count, count_same, count_other, DoTheirs, done_alone, done_none, flat_alone, flat_none, HasOne, none_or_one}
@@ -30,44 +31,44 @@ use Rattle.fare_service.proofs.PlainRuns.{IsName, shard_entries, named_entries, 
 use Rattle.fare_service.proofs.VisitLemmas.{entries_to-append}
 use Rattle.fare_service.proofs.GatheredWork.{Given, IsBookOfWork, IsGathered}
 
-joined-append : (xs ys : List (List Entry)) → joined (xs ++ ys) ≡ joined xs ++ joined ys
+joined-append : (xs ys : List (List Entry)) → history_of_visits (xs ++ ys) ≡ history_of_visits xs ++ history_of_visits ys
 joined-append [] ys = refl
-joined-append (x ∷ xs) ys = ap (λ es. x ++ es) (joined-append xs ys) ∙ sym (assoc x (joined xs) (joined ys))
+joined-append (x ∷ xs) ys = ap (λ es. x ++ es) (joined-append xs ys) ∙ sym (assoc x (history_of_visits xs) (history_of_visits ys))
   where
     assoc : (a b c : List Entry) → (a ++ b) ++ c ≡ a ++ (b ++ c)
     assoc [] b c = refl
     assoc (e ∷ a) b c = ap (λ es. e ∷ es) (assoc a b c)
 
-entries-cons : (shard : ℕ) (w : Worked) (done : List Worked) → joined (entries_to shard (all_visits (w ∷ done))) ≡ joined (entries_to shard w.visits) ++ joined (entries_to shard (all_visits done))
-entries-cons shard w done = ap joined (entries_to-append shard w.visits (all_visits done)) ∙ joined-append (entries_to shard w.visits) (entries_to shard (all_visits done))
+entries-cons : (shard : ℕ) (w : Worked) (done : List Worked) → history_of_visits (entries_to shard (all_visits (w ∷ done))) ≡ history_of_visits (entries_to shard w.visits) ++ history_of_visits (entries_to shard (all_visits done))
+entries-cons shard w done = ap history_of_visits (entries_to-append shard w.visits (all_visits done)) ∙ joined-append (entries_to shard w.visits) (entries_to shard (all_visits done))
 
 -- what holds of all entries holds of those that a worker brought, and of those of an upload
-of_worker : (P : Entry → Type 0) (worker : ℕ) (visits : List Signed) → All P (joined (map (λ v. v.entries) visits)) → All P (joined (by_worker worker visits))
+of_worker : (P : Entry → Type 0) (worker : ℕ) (visits : List Signed) → All P (history_of_visits (map (λ v. v.entries) visits)) → All P (history_of_visits (by_worker worker visits))
 of_worker P worker [] all = All-nil P
 of_worker P worker (v ∷ visits) all =
-    let parts = All-split P v.entries (joined (map (λ x. x.entries) visits)) all in
+    let parts = All-split P v.entries (history_of_visits (map (λ x. x.entries) visits)) all in
     by_test (v.worker == worker) refl parts.0 (of_worker P worker visits parts.1)
   where
-    by_test : (b : Bool) → (v.worker == worker) ≡ b → All P v.entries → All P (joined (by_worker worker visits)) → All P (joined (by_worker worker (v ∷ visits)))
-    by_test true is first rest = rw is (All-append P v.entries (joined (by_worker worker visits)) first rest)
+    by_test : (b : Bool) → (v.worker == worker) ≡ b → All P v.entries → All P (history_of_visits (by_worker worker visits)) → All P (history_of_visits (by_worker worker (v ∷ visits)))
+    by_test true is first rest = rw is (All-append P v.entries (history_of_visits (by_worker worker visits)) first rest)
     by_test false is first rest = rw is rest
 
-of_work : (P : Entry → Type 0) (shard : ℕ) (done : List Worked) → All P (joined (entries_to shard (all_visits done))) → All (λ w. All P (joined (entries_to shard w.visits))) done
-of_work P shard [] all = All-nil (λ w. All P (joined (entries_to shard w.visits)))
+of_work : (P : Entry → Type 0) (shard : ℕ) (done : List Worked) → All P (history_of_visits (entries_to shard (all_visits done))) → All (λ w. All P (history_of_visits (entries_to shard w.visits))) done
+of_work P shard [] all = All-nil (λ w. All P (history_of_visits (entries_to shard w.visits)))
 of_work P shard (w ∷ done) all =
     let A : List Entry → Type 0 = All P in
-    let parts = All-split P (joined (entries_to shard w.visits)) (joined (entries_to shard (all_visits done))) (subst A (entries-cons shard w done) all) in
-    All-cons (λ x. All P (joined (entries_to shard x.visits))) w done parts.0 (of_work P shard done parts.1)
+    let parts = All-split P (history_of_visits (entries_to shard w.visits)) (history_of_visits (entries_to shard (all_visits done))) (subst A (entries-cons shard w done) all) in
+    All-cons (λ x. All P (history_of_visits (entries_to shard x.visits))) w done parts.0 (of_work P shard done parts.1)
 
 -- ---- the taps of an upload that was worked on
-taps_of_upload : (uploads : List (List ℕ)) (taps : List (List Tap)) (upload : ℕ) → AreTapsOfEach uploads taps → upload < length uploads
-    → AreTapsOf (slice_index_or uploads upload []) (get_or taps upload [])
+taps_of_upload : (uploads : List (List ℕ)) (taps : List (List Tap)) (upload : ℕ) → AreGoodTapsOfEach uploads taps → upload < length uploads
+    → AreGoodTaps (slice_index_or uploads upload []) (get_or taps upload [])
 taps_of_upload [] taps upload each within = absurd (omega (arith, within))
 taps_of_upload (file ∷ uploads) [] upload each within = absurd each
 taps_of_upload (file ∷ uploads) (ts ∷ taps) zero each within = each.0
 taps_of_upload (file ∷ uploads) (ts ∷ taps) (suc upload) each within = taps_of_upload uploads taps upload each.1 (omega (arith, within))
 
-pub each_length : (uploads : List (List ℕ)) (taps : List (List Tap)) → AreTapsOfEach uploads taps → length uploads ≡ length taps
+pub each_length : (uploads : List (List ℕ)) (taps : List (List Tap)) → AreGoodTapsOfEach uploads taps → length uploads ≡ length taps
 each_length [] [] each = refl
 each_length [] (ts ∷ taps) each = absurd each
 each_length (file ∷ uploads) [] each = absurd each
@@ -83,27 +84,27 @@ whole_posted shards file batches rest visits Undrawn is whole = absurd whole
 -- the upload's taps are named by their bytes, and its visits brought the token's shard the entries of the token's taps
 record IsRead (shards : ℕ) (token : Token) (taps : List (List Tap)) (w : Worked) : Type 0 where
   pub names : All IsName (get_or taps w.upload [])
-  pub part : map bare (own token (joined (entries_to (shard_of_token (bytes_of token) shards) w.visits))) ≡ own token (map unanswered (get_or taps w.upload []))
+  pub part : map bare (own token (history_of_visits (entries_to (shard_of_token (bytes_of token) shards) w.visits))) ≡ own token (map unanswered (get_or taps w.upload []))
 
-work_read : (given : Given) (token : Token) (taps : List (List Tap)) (w : Worked) → 0 < given.shards → All HasOneReading given.uploads → AreTapsOfEach given.uploads taps → IsWorkOf given.shards given.uploads w → WasNotCut w.end
-    → ((shard : ℕ) → shard < given.shards → All IsNamed (joined (entries_to shard w.visits))) → IsRead given.shards token taps w
+work_read : (given : Given) (token : Token) (taps : List (List Tap)) (w : Worked) → 0 < given.shards → All HasOneReading given.uploads → AreGoodTapsOfEach given.uploads taps → IsWorkOf given.shards given.uploads w → WasNotCut w.end
+    → ((shard : ℕ) → shard < given.shards → All IsNamed (history_of_visits (entries_to shard w.visits))) → IsRead given.shards token taps w
 work_read given token taps w some cuts each worked whole named =
     let t = taps_of_upload given.uploads taps w.upload each worked.within in
     let same = cuts w.upload [] worked.within t.batches worked.batches t.rest worked.rest t.is_file worked.is_file in
     let ts = flat_map (λ (batch : List Tap). batch) worked.batches in
     let is : get_or taps w.upload [] ≡ ts = t.all ∙ ap (flat_map (λ (batch : List Tap). batch)) same.0 in
     let posted = whole_posted given.shards (file_at given.uploads w.upload) worked.batches worked.rest w.visits w.end worked.ended whole in
-    let zip : (shard : ℕ) → shard < given.shards → AllZip IsEntryOf (run_of shard given.shards ts) (joined (entries_to shard w.visits)) =
+    let zip : (shard : ℕ) → shard < given.shards → AllZip IsEntryOf (run_of shard given.shards ts) (history_of_visits (entries_to shard w.visits)) =
     λ shard within. shard_entries given.shards shard worked.batches w.visits within posted worked.entered in
     let shard = shard_of_token (bytes_of token) given.shards in
     let within : shard < given.shards = mod-lt _ some in
     let names : All IsName ts = all_shards IsName given.shards ts some
-    (λ s below. (named_entries (run_of s given.shards ts) (joined (entries_to s w.visits)) (zip s below) (named s below)).1) in
+    (λ s below. (named_entries (run_of s given.shards ts) (history_of_visits (entries_to s w.visits)) (zip s below) (named s below)).1) in
     let N : List Tap → Type 0 = All IsName in
     record {
       names = subst N (sym is) names;
-      part = own_bare token (joined (entries_to shard w.visits))
-          ∙ ap (own token) (named_entries (run_of shard given.shards ts) (joined (entries_to shard w.visits)) (zip shard within) (named shard within)).0
+      part = own_bare token (history_of_visits (entries_to shard w.visits))
+          ∙ ap (own token) (named_entries (run_of shard given.shards ts) (history_of_visits (entries_to shard w.visits)) (zip shard within) (named shard within)).0
           ∙ own_run token given.shards ts names ∙ ap (λ us. own token (map unanswered us)) (sym is);
     }
 
@@ -180,7 +181,7 @@ pub record Stands (given : Given) (works : List (List Worked)) (outcome : Outcom
   pub named : (shard : ℕ) (book : Book) → slice_get outcome.books shard ≡ Some book → All IsNamed book.entries
   pub whole : All WasNotCut outcome.ends
   pub cuts : All HasOneReading given.uploads
-  pub each : AreTapsOfEach given.uploads taps
+  pub each : AreGoodTapsOfEach given.uploads taps
 
 module _ (given : Given) (works : List (List Worked)) (outcome : OutcomeView) (taps : List (List Tap)) (all : Stands given works outcome taps) where
   pub each_work : All (IsWorkOf given.shards given.uploads) (all_works works)
@@ -209,17 +210,17 @@ module _ (given : Given) (works : List (List Worked)) (outcome : OutcomeView) (t
           subst W (is ∙ told) whole
 
   -- the entries that a worker brought to a shard for an upload are named by their bytes
-  named_works : (shard : ℕ) → shard < given.shards → All (λ w. All IsNamed (joined (entries_to shard w.visits))) (all_works works)
-  named_works shard within = All-flat (λ w. All IsNamed (joined (entries_to shard w.visits))) works (λ worker d few. of_one worker (slice_index_or works worker d) (slice_get-get_or works worker d few))
+  named_works : (shard : ℕ) → shard < given.shards → All (λ w. All IsNamed (history_of_visits (entries_to shard w.visits))) (all_works works)
+  named_works shard within = All-flat (λ w. All IsNamed (history_of_visits (entries_to shard w.visits))) works (λ worker d few. of_one worker (slice_index_or works worker d) (slice_get-get_or works worker d few))
     where
-      of_one : (worker : ℕ) (done : List Worked) → slice_get works worker ≡ Some done → All (λ w. All IsNamed (joined (entries_to shard w.visits))) done
+      of_one : (worker : ℕ) (done : List Worked) → slice_get works worker ≡ Some done → All (λ w. All IsNamed (history_of_visits (entries_to shard w.visits))) done
       of_one worker done at =
           let empty : Book = record { table = given.table; shard = 0; shards = 0; entries = [] } in
           let there = slice_get-get_or outcome.books shard empty (omega (arith, within, all.gathered.shards)) in
           let book = get_or outcome.books shard empty in
           let b = all.gathered.books shard book there in
           let A : List Entry → Type 0 = All IsNamed in
-          let J : List (List Entry) → Type 0 = λ vs. All IsNamed (joined vs) in
+          let J : List (List Entry) → Type 0 = λ vs. All IsNamed (history_of_visits vs) in
           of_work IsNamed shard done (subst J (b.order worker done at) (of_worker IsNamed worker b.visits (subst A b.history (all.named shard book there))))
 
   all_read : (token : Token) → All (IsRead given.shards token taps) (all_works works)
@@ -249,9 +250,9 @@ own-nil : (token : Token) → own token [] ≡ []
 unfolding own
 own-nil token = refl
 
-bares-joined : (token : Token) (visits : List (List Entry)) → bares token (joined visits) ≡ flat_map (bares token) visits
+bares-joined : (token : Token) (visits : List (List Entry)) → bares token (history_of_visits visits) ≡ flat_map (bares token) visits
 bares-joined token [] = ap (map bare) (own-nil token)
-bares-joined token (visit ∷ visits) = bares-append token visit (joined visits) ∙ ap (λ es. bares token visit ++ es) (bares-joined token visits)
+bares-joined token (visit ∷ visits) = bares-append token visit (history_of_visits visits) ∙ ap (λ es. bares token visit ++ es) (bares-joined token visits)
 
 abbrev mine_of : Token → List (List Tap) → ℕ → List Entry
 mine_of token taps upload = own token (map unanswered (get_or taps upload []))

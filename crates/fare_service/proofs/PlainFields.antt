@@ -9,11 +9,11 @@ use Rattle.std.proofs.lemmas.List.Elements.{All-nil, All-cons, All-head, All-tai
 use Rattle.std.proofs.lemmas.Nat.{be_bytes_8}
 use Rattle.fare_table.specs.Fares.{Fares}
 use Rattle.tap_views.specs.Layout.{Tap, Layout, Tap1, Tap2, IsTapOf, spelling, magic, shared, IsBatch}
-use Rattle.tap_views.specs.Files.{IsFile}
+use Rattle.tap_views.specs.Files.{IsFile, AreGoodTaps, AreGoodTapsOfEach}
 use Rattle.shard_book.specs.declared.entry.Entry.{Entry}
 use Rattle.fare_table.specs.Token.{bytes_of}
 use Rattle.shard_book.specs.Visits.{AreEntriesOf}
-use Rattle.fare_service.specs.Plain.{AreTapsOf, AreTapsOfEach, IsPlain, answered, unanswered, plain_after, token_of_bytes}
+use Rattle.fare_service.specs.Plain.{IsPlain, answered, unanswered, plain_after, token_of_bytes}
 use Rattle.fare_service.proofs.PlainLists.{All-split}
 use Rattle.fare_service.proofs.PlainRuns.{IsName}
 
@@ -63,12 +63,12 @@ file_named file (batch ∷ batches) rest (front, back, is_batch, whole, is) all 
     let (first, others) = All-split (λ byte. byte < 256) front back (subst B whole all) in
     All-append IsName batch (flat_map (λ b. b) batches) (batch_named front batch is_batch first) (file_named back batches rest is others)
 
-upload_named : (file : List ℕ) (taps : List Tap) → AreTapsOf file taps → AreBytes file → All IsName taps
+upload_named : (file : List ℕ) (taps : List Tap) → AreGoodTaps file taps → AreBytes file → All IsName taps
 upload_named file taps is all =
     let N : List Tap → Type 0 = All IsName in
     subst N (sym is.all) (file_named file is.batches is.rest is.is_file all)
 
-uploads_named : (files : List (List ℕ)) (taps : List (List Tap)) → AreTapsOfEach files taps → All AreBytes files → All IsName (flat_map (λ ts. ts) taps)
+uploads_named : (files : List (List ℕ)) (taps : List (List Tap)) → AreGoodTapsOfEach files taps → All AreBytes files → All IsName (flat_map (λ ts. ts) taps)
 uploads_named [] [] each all = All-nil IsName
 uploads_named [] (ts ∷ taps) each all = absurd each
 uploads_named (file ∷ files) [] each all = absurd each

@@ -12,7 +12,7 @@ use Rattle.fare_table.specs.declared.token.Token.{Token}
 use Rattle.shard_book.specs.Entry.{IsEntryOf, is_of, own}
 use Rattle.shard_book.specs.Keys.{same_token}
 use Rattle.fare_table.specs.Token.{bytes_of}
-use Rattle.shared_books.specs.Marks.{joined}
+use Rattle.shared_books.specs.Marks.{history_of_visits}
 use Rattle.fare_service.specs.Plain.{unanswered, token_of_bytes, IsNamed}
 use Rattle.fare_service.specs.Runs.{PlacedTap, placed_from, taps_of_placed, of_shard, Run, run, if_any, runs_below, runs_of, RunVisit, IsEntered, run_of_visit, ArePosted, entries_to}
 use Rattle.fare_service.proofs.PlainReplies.{bare}
@@ -76,22 +76,22 @@ AllZip-append R (x ∷ xs) [] us vs one other = absurd one
 AllZip-append R (x ∷ xs) (y ∷ ys) us vs one other = (one.0, AllZip-append R xs ys us vs one.1 other)
 
 -- the visits to a shard have an entry for each tap of their runs to it
-visits_entries : (shards shard : ℕ) (visits : List RunVisit) → All (IsEntered shards) visits → AllZip IsEntryOf (taps_at shard (map run_of_visit visits)) (joined (entries_to shard visits))
+visits_entries : (shards shard : ℕ) (visits : List RunVisit) → All (IsEntered shards) visits → AllZip IsEntryOf (taps_at shard (map run_of_visit visits)) (history_of_visits (entries_to shard visits))
 visits_entries shards shard [] all = tt
 visits_entries shards shard (visit ∷ visits) all =
     by_test (visit.shard == shard) refl (visits_entries shards shard visits (All-tail (IsEntered shards) visit visits all))
   where
-    by_test : (b : Bool) → (visit.shard == shard) ≡ b → AllZip IsEntryOf (taps_at shard (map run_of_visit visits)) (joined (entries_to shard visits))
-        → AllZip IsEntryOf (taps_at shard (map run_of_visit (visit ∷ visits))) (joined (entries_to shard (visit ∷ visits)))
+    by_test : (b : Bool) → (visit.shard == shard) ≡ b → AllZip IsEntryOf (taps_at shard (map run_of_visit visits)) (history_of_visits (entries_to shard visits))
+        → AllZip IsEntryOf (taps_at shard (map run_of_visit (visit ∷ visits))) (history_of_visits (entries_to shard (visit ∷ visits)))
     by_test true is more =
-        rw is (AllZip-append IsEntryOf (taps_of_placed visit.taps) visit.entries (taps_at shard (map run_of_visit visits)) (joined (entries_to shard visits))
+        rw is (AllZip-append IsEntryOf (taps_of_placed visit.taps) visit.entries (taps_at shard (map run_of_visit visits)) (history_of_visits (entries_to shard visits))
         (All-head (IsEntered shards) visit visits all).fields more)
     by_test false is more = rw is more
 
 pub shard_entries : (shards shard : ℕ) (batches : List (List Tap)) (visits : List RunVisit) → shard < shards → ArePosted (runs_of shards 0 batches) visits → All (IsEntered shards) visits
-    → AllZip IsEntryOf (run_of shard shards (flat_map (λ batch. batch) batches)) (joined (entries_to shard visits))
+    → AllZip IsEntryOf (run_of shard shards (flat_map (λ batch. batch) batches)) (history_of_visits (entries_to shard visits))
 shard_entries shards shard batches visits within posted all =
-    let P : List Tap → Type 0 = λ taps. AllZip IsEntryOf taps (joined (entries_to shard visits)) in
+    let P : List Tap → Type 0 = λ taps. AllZip IsEntryOf taps (history_of_visits (entries_to shard visits)) in
     subst P (ap (taps_at shard) posted ∙ runs_taps_at shards shard 0 batches within) (visits_entries shards shard visits all)
 
 -- the tap's token is the name of its bytes

@@ -14,7 +14,7 @@ use Rattle.shard_book.specs.Sums.{sums}
 use Rattle.fare_service.specs.declared.upload_end.UploadEnd.{UploadEnd}
 use Rattle.fare_service.specs.Ends.{end_by}
 use Rattle.fare_service.specs.Plain.{HasOneReading, IsPlainEnd, ArePlainEnds, IsReportOver}
-use Rattle.fare_service.specs.Shares.{IsFaultOf}
+use Rattle.tap_views.specs.Files.{IsEndAfterBatches}
 use Rattle.fare_service.specs.Text.{report}
 
 -- faults of one row of the table are the same
@@ -41,7 +41,7 @@ same_fault bytes fault other one two = by_order (cases_lt (fault_order fault) (f
     by_order (inr above) (inl below) = absurd (one.first other below two.holds)
     by_order (inr above) (inr under) = same_row bytes fault other (omega (arith, above, under)) one.holds two.holds
 
-same_told : (file rest : List ℕ) (fault other : Option (ℕ × LayoutFault)) → IsFaultOf file rest fault → IsFaultOf file rest other → fault ≡ other
+same_told : (file rest : List ℕ) (fault other : Option (ℕ × LayoutFault)) → IsEndAfterBatches file rest fault → IsEndAfterBatches file rest other → fault ≡ other
 same_told file rest None None one two = refl
 same_told file rest None (Some (offset, fault)) one two = absurd (omega (arith, ap length one, two.some_byte))
 same_told file rest (Some (offset, fault)) None one two = absurd (omega (arith, ap length two, one.some_byte))
@@ -52,7 +52,7 @@ same_told file rest (Some (offset, fault)) (Some (offset', other)) one two =
 same_end : (file : List ℕ) (end other : UploadEnd) → HasOneReading file → IsPlainEnd file end → IsPlainEnd file other → end ≡ other
 same_end file end other cut one two =
     let same = cut one.batches two.batches one.rest two.rest one.is_file two.is_file in
-    let F : List ℕ → Type 0 = λ rest. IsFaultOf file rest one.fault in
+    let F : List ℕ → Type 0 = λ rest. IsEndAfterBatches file rest one.fault in
     one.ended ∙ ap (λ (bs : List (List Tap)). end_by (length (flat_map (λ (b : List Tap). b) bs)) one.fault) same.0
     ∙ ap (end_by (length (flat_map (λ (b : List Tap). b) two.batches))) (same_told file two.rest one.fault two.fault (subst F same.1 one.is_fault) two.is_fault) ∙ sym two.ended
 

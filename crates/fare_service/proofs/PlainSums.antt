@@ -14,7 +14,7 @@ use Rattle.shard_book.specs.Book.{Book, AreOfShard}
 use Rattle.shard_book.specs.declared.entry.Entry.{Entry}
 use Rattle.fare_table.specs.declared.token.Token.{Token}
 use Rattle.shard_book.specs.Entry.{is_of, is_at, own, reply_of}
-use Rattle.shard_book.specs.SumsByKey.{all_entries, at, validators, tokens, sums_by_validator, sums_by_token, validator_of, token_of}
+use Rattle.shard_book.specs.SumsByKey.{all_entries, entries_of_validator, validators, tokens, sums_by_validator, sums_by_token, validator_of, token_of}
 use Rattle.shard_book.specs.Keys.{same_token}
 use Rattle.shard_book.specs.Rising.{rising, IsRising}
 use Rattle.shard_book.specs.Sums.{sums, sums_of_replies, is_paid, is_transfer, is_capped, is_stale, is_unknown}
@@ -62,8 +62,8 @@ unfolding own
 same_entries xs ys same = same_elements (λ (entry : Entry). entry.token) token_eq token_itself same_token xs ys same
 
 -- so have those of one validator
-same_at : (validator : ℕ) (xs ys : List Entry) → ((token : Token) → own token xs ≡ own token ys) → (token : Token) → own token (at validator xs) ≡ own token (at validator ys)
-unfolding own at
+same_at : (validator : ℕ) (xs ys : List Entry) → ((token : Token) → own token xs ≡ own token ys) → (token : Token) → own token (entries_of_validator validator xs) ≡ own token (entries_of_validator validator ys)
+unfolding own entries_of_validator
 same_at validator xs ys same token =
     filter-filter (is_of token) (is_at validator) xs ∙ ap (filter (is_at validator)) (same token) ∙ sym (filter-filter (is_of token) (is_at validator) ys)
 
@@ -78,8 +78,8 @@ module _ (numbers : RisingNumbers) (names : RisingTokens) (xs ys : List Entry) (
   unfolding sums_by_validator validators
   same_by_validator =
       let keys = same_rising nat_cmp numbers (map validator_of xs) (map validator_of ys) (IsPermutation-map validator_of xs ys (same_entries xs ys same)) in
-      let each : (v : ℕ) → sums (at v xs) ≡ sums (at v ys) = λ v. same_sums (at v xs) (at v ys) (same_entries (at v xs) (at v ys) (same_at v xs ys same)) in
-      ap (map (λ (v : ℕ). (v, sums (at v xs)))) keys ∙ (λ i. map (λ (v : ℕ). (v, each v i)) (rising nat_cmp (map validator_of ys)))
+      let each : (v : ℕ) → sums (entries_of_validator v xs) ≡ sums (entries_of_validator v ys) = λ v. same_sums (entries_of_validator v xs) (entries_of_validator v ys) (same_entries (entries_of_validator v xs) (entries_of_validator v ys) (same_at v xs ys same)) in
+      ap (map (λ (v : ℕ). (v, sums (entries_of_validator v xs)))) keys ∙ (λ i. map (λ (v : ℕ). (v, each v i)) (rising nat_cmp (map validator_of ys)))
 
   pub same_by_token : sums_by_token xs ≡ sums_by_token ys
   unfolding sums_by_token tokens

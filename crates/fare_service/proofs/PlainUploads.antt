@@ -19,7 +19,8 @@ use Rattle.shard_book.specs.Statement.{IsStatement}
 use Rattle.shard_book.specs.Sums.{sums}
 use Rattle.fare_table.specs.Token.{bytes_of}
 use Rattle.fare_service.specs.Outcomes.{OutcomeView}
-use Rattle.fare_service.specs.Plain.{AreTapsOf, AreTapsOfEach, HasOneReading, IsNamed, IsPlain, IsUncutGathering, IsStatementOver, plain}
+use Rattle.tap_views.specs.Files.{AreGoodTaps, AreGoodTapsOfEach}
+use Rattle.fare_service.specs.Plain.{HasOneReading, IsNamed, IsPlain, IsUncutGathering, IsStatementOver, plain}
 use Rattle.fare_service.specs.Printed.{IsStatementOf}
 use Rattle.fare_texts.specs.StatementText.{IsStatementText}
 use Rattle.fare_service.proofs.HeadlineLemmas.{gathered_of}
@@ -29,11 +30,11 @@ use Rattle.fare_service.proofs.PlainRuns.{AllZip-append}
 use Rattle.fare_service.proofs.GatheredWork.{Given}
 
 -- one upload more
-pub each_more : (files : List (List ℕ)) (taps : List (List Tap)) (file : List ℕ) (ts : List Tap) → AreTapsOfEach files taps → AreTapsOf file ts → AreTapsOfEach (files ++ file ∷ []) (taps ++ ts ∷ [])
-each_more files taps file ts each is = AllZip-append AreTapsOf files taps (file ∷ []) (ts ∷ []) each (is, tt)
+pub each_more : (files : List (List ℕ)) (taps : List (List Tap)) (file : List ℕ) (ts : List Tap) → AreGoodTapsOfEach files taps → AreGoodTaps file ts → AreGoodTapsOfEach (files ++ file ∷ []) (taps ++ ts ∷ [])
+each_more files taps file ts each is = AllZip-append AreGoodTaps files taps (file ∷ []) (ts ∷ []) each (is, tt)
 
 -- files with one cut have one list of taps each
-one_list : (files : List (List ℕ)) (taps others : List (List Tap)) → All HasOneReading files → AreTapsOfEach files taps → AreTapsOfEach files others → taps ≡ others
+one_list : (files : List (List ℕ)) (taps others : List (List Tap)) → All HasOneReading files → AreGoodTapsOfEach files taps → AreGoodTapsOfEach files others → taps ≡ others
 one_list [] [] [] cuts each other = refl
 one_list [] [] (o ∷ others) cuts each other = absurd other
 one_list [] (t ∷ taps) others cuts each other = absurd each
@@ -48,7 +49,7 @@ pub one_plain : (fares : Fares) (files : List (List ℕ)) (history other : List 
 one_plain fares files history other cuts a b =
     a.entries ∙ ap (λ taps. plain fares (flat_map (λ ts. ts) taps)) (one_list files a.taps b.taps cuts a.each b.each) ∙ sym b.entries
 
-pub some_plain : (fares : Fares) (files : List (List ℕ)) (taps : List (List Tap)) → AreTapsOfEach files taps → (history : List Entry) × IsPlain fares files history
+pub some_plain : (fares : Fares) (files : List (List ℕ)) (taps : List (List Tap)) → AreGoodTapsOfEach files taps → (history : List Entry) × IsPlain fares files history
 some_plain fares files taps each = (plain fares (flat_map (λ ts. ts) taps), record { taps = taps; each = each; entries = refl })
 
 pub legal_plain : (fares : Fares) (files : List (List ℕ)) (history : List Entry) → IsPlain fares files history → IsLegal fares history

@@ -5,7 +5,7 @@ use Rattle.std.proofs.lemmas.List.{length-map}
 use Rattle.std.proofs.lemmas.List.Sums.{sum_by-append, sum_by-cons}
 use Rattle.tap_views.specs.Layout.{Tap}
 use Rattle.tap_views.specs.Faults.{IsFault}
-use Rattle.tap_views.specs.Files.{IsFile, IsReading, IsEnd, Item}
+use Rattle.tap_views.specs.Files.{IsFile, IsReading, IsEnd, Item, IsEndAfterBatches, IsFaultAt}
 use Rattle.tap_views.specs.declared.fault.LayoutFault.{LayoutFault}
 use Rattle.shard_book.specs.Entry.{reply_of}
 use Rattle.shard_book.specs.Sums.{Sums}
@@ -13,7 +13,7 @@ use Rattle.shared_books.specs.Passes.{PassView}
 use Rattle.fare_service.specs.declared.service.working.Stop.{Stop}
 use Rattle.fare_service.specs.Runs.{Run, RunVisit, placed_from, runs_below, runs_of, AreCut, entries_of, taps_posted}
 use Rattle.fare_service.specs.inside.Runs.{WerePosted}
-use Rattle.fare_service.specs.Shares.{Made, IsRefusal, IsFaultOf}
+use Rattle.fare_service.specs.Shares.{HasVisited}
 use Rattle.fare_service.proofs.RunLemmas.{cut_early}
 use Rattle.fare_service.proofs.VisitLemmas.{taps_after}
 use Rattle.fare_service.proofs.BatchLemmas.{Posts, Cuts, posts_more, posts_cut}
@@ -57,13 +57,13 @@ read_all file done r =
 
 -- a fault was read
 pub read_fault : (file : List ℕ) (done : List (List Tap)) (offset : ℕ) (fault : LayoutFault) (left : List Item) → IsReading file (map Ok done ++ Err (offset, fault) ∷ left)
-    → (rest : List ℕ) × IsFile file done rest × IsRefusal file rest offset fault
+    → (rest : List ℕ) × IsFile file done rest × IsFaultAt file rest offset fault
 read_fault file done offset fault left r =
     let (more, all, then) = splits (length file - length r.rest) r.rest r.last r.is_end done r.batches (Err (offset, fault) ∷ left) r.given in
     by_more more all then r.rest r.is_end r.is_file refl
   where
     by_more : (more : List (List Tap)) → r.batches ≡ done ++ more → Err (offset, fault) ∷ left ≡ map Ok more ++ r.last → (rest : List ℕ) → IsEnd (length file - length r.rest) rest r.last → IsFile file r.batches rest → rest ≡ r.rest
-        → (rest : List ℕ) × IsFile file done rest × IsRefusal file rest offset fault
+        → (rest : List ℕ) × IsFile file done rest × IsFaultAt file rest offset fault
     by_more [] all then [] is is_file same = absurd (let h : Err (offset, fault) ∷ left ≡ [] = then ∙ is in cc)
     by_more [] all then (byte ∷ bytes) (found, is, given) is_file same =
         let h : Err (offset, fault) ∷ left ≡ Err (length file - length r.rest, found) ∷ [] = then ∙ given in
@@ -127,7 +127,7 @@ batches_cut shards p q r s t u done more batch before here =
     (visits, made, subst P (sym (runs_of-append shards 0 (done ++ batch ∷ []) more)) (cut_early (runs_of shards 0 (done ++ batch ∷ [])) (runs_of shards (0 + batches_taps (done ++ batch ∷ [])) more) visits first))
 
 -- how far the totals count
-pub counted_taps : (shards : ℕ) (p q : List PassView) (s t : Sums) (more : List RunVisit) → Made shards p q s t more → t.taps ≡ s.taps + taps_posted more
+pub counted_taps : (shards : ℕ) (p q : List PassView) (s t : Sums) (more : List RunVisit) → HasVisited shards p q s t more → t.taps ≡ s.taps + taps_posted more
 counted_taps shards p q s t more made =
     ap (λ x. x.taps) made.counted ∙ taps_after s (map reply_of (entries_of more)) ∙ ap (λ n. s.taps + n) (length-map (entries_of more) reply_of)
 
@@ -137,7 +137,7 @@ done_room file done more rest is =
     omega (arith, file_room file (done ++ more) rest is, sum_by-append (λ (b : List Tap). length b) done more)
 
 pub posted_few : (shards : ℕ) (p q : List PassView) (s t : Sums) (more : List RunVisit) (file : List ℕ) (batches : List (List Tap)) (whole : Bool)
-    → Made shards p q s t more → WerePosted (runs_of shards 0 batches) whole more → 24 * batches_taps batches ≤ length file → length file < 2 ^ 64 → t.taps ≤ s.taps + 2 ^ 60
+    → HasVisited shards p q s t more → WerePosted (runs_of shards 0 batches) whole more → 24 * batches_taps batches ≤ length file → length file < 2 ^ 64 → t.taps ≤ s.taps + 2 ^ 60
 posted_few shards p q s t more file batches whole made posted room small =
     let count = counted_taps shards p q s t more made in
     let few : taps_posted more ≤ runs_taps (runs_of shards 0 batches) = no_more whole posted in
@@ -157,6 +157,6 @@ same_items file yielded left done item iterator r e step =
 -- an upload that was cut, told by an answer that is an error
 pub cut_upload : (r : Result (Option (ℕ × LayoutFault)) Stop) (shards : ℕ) (file : List ℕ) (p q : List PassView) (s t : Sums) (batches : List (List Tap)) (rest : List ℕ)
     → IsErr r → IsFile file batches rest → Cuts shards p q s t (runs_of shards 0 batches)
-    → (batches : List (List Tap)) × (rest : List ℕ) × IsFile file batches rest × ((more : List RunVisit) × Made shards p q s t more × WerePosted (runs_of shards 0 batches) (is_ok r) more) × IfOk r (IsFaultOf file rest)
+    → (batches : List (List Tap)) × (rest : List ℕ) × IsFile file batches rest × ((more : List RunVisit) × HasVisited shards p q s t more × WerePosted (runs_of shards 0 batches) (is_ok r) more) × IfOk r (IsEndAfterBatches file rest)
 cut_upload (Ok x) shards file p q s t batches rest err is cut = absurd (cc)
 cut_upload (Err e) shards file p q s t batches rest err is cut = (batches, rest, is, cut, tt)

@@ -20,7 +20,7 @@ use Rattle.fare_service.specs.ServiceView.{ServiceView, shards_of}
 use Rattle.fare_service.specs.inside.ServiceView.{IsService, IsBookOf}
 use Rattle.fare_service.specs.Runs.{PlacedTap, placed_from, of_shard, Run, if_any, RunVisit, IsEntered, ArePosted, AreCut, entries_to}
 use Rattle.fare_service.specs.inside.Runs.{WerePosted}
-use Rattle.fare_service.specs.Shares.{own_visits, marks_at, own_at, Made}
+use Rattle.fare_service.specs.Shares.{made_visits, marks_at, made_visits_at, HasVisited}
 use Rattle.fare_service.proofs.RunLemmas.{taps-of_shard, length-of_shard, no_run, cut_none, cut_some, whole_run}
 use Rattle.fare_service.proofs.VisitLemmas.{made_none, made_by_pass, own-visits, own-later, add_none}
 
@@ -93,7 +93,7 @@ marks_here passes shard old within is =
 -- a pass that made a visit of a run
 pub made_visit : (shards shard : ℕ) (passes : List PassView) (old new : PassView) (number : ℕ) (visit : RunVisit) (totals totals' : Sums) → shard < length passes
     → old ≡ get_or passes shard old → visit.shard ≡ shard → Visits old new number visit.entries → totals' ≡ add_sums totals (sums visit.entries) → IsEntered shards visit
-    → Made shards passes (set passes shard new) totals totals' (visit ∷ [])
+    → HasVisited shards passes (set passes shard new) totals totals' (visit ∷ [])
 made_visit shards shard passes old new number visit totals totals' within is at v counted entered =
     let none : (other : ℕ) → other ≢ shard → entries_to other (visit ∷ []) ≡ [] = λ other ne. elsewhere other (eqb_tells visit.shard other) ne in
     made_by_pass shards passes shard old new totals totals' (visit ∷ []) within book claims own none
@@ -109,8 +109,8 @@ made_visit shards shard passes old new number visit totals totals' within is at 
     here : entries_to shard (visit ∷ []) ≡ visit.entries ∷ []
     here = ap (λ b. map (λ v. v.entries) (cond b (visit ∷ []) [])) (eq-eqb visit.shard shard at)
 
-    own : own_visits new.marks ≡ own_at shard passes ++ entries_to shard (visit ∷ [])
-    own = own-visits old new number visit.entries v ∙ ap (λ ms. own_visits ms ++ visit.entries ∷ []) (sym (marks_here passes shard old within is)) ∙ ap (λ vs. own_at shard passes ++ vs) (sym here)
+    own : made_visits new.marks ≡ made_visits_at shard passes ++ entries_to shard (visit ∷ [])
+    own = own-visits old new number visit.entries v ∙ ap (λ ms. made_visits ms ++ visit.entries ∷ []) (sym (marks_here passes shard old within is)) ∙ ap (λ vs. made_visits_at shard passes ++ vs) (sym here)
 
     elsewhere : (other : ℕ) → (((visit.shard == other) ≡ true) × (visit.shard ≡ other)) ⊎ (((visit.shard == other) ≡ false) × (visit.shard ≢ other)) → other ≢ shard → entries_to other (visit ∷ []) ≡ []
     elsewhere other (inl (b, e)) ne = absurd (ne (sym e ∙ at))
@@ -118,9 +118,9 @@ made_visit shards shard passes old new number visit totals totals' within is at 
 
 -- a pass that has only seen more
 pub made_look : (shards shard : ℕ) (passes : List PassView) (old new : PassView) (totals : Sums) → shard < length passes
-    → old ≡ get_or passes shard old → IsLater old new → Made shards passes (set passes shard new) totals totals []
+    → old ≡ get_or passes shard old → IsLater old new → HasVisited shards passes (set passes shard new) totals totals []
 made_look shards shard passes old new totals within is later =
-    made_by_pass shards passes shard old new totals totals [] within (later.book ∙ ap (λ p. p.book) is) (later.claims ∙ ap (λ p. p.claims) is) (own-later old new later ∙ ap (λ ms. own_visits ms ++ []) (sym (marks_here passes shard old within is)))
+    made_by_pass shards passes shard old new totals totals [] within (later.book ∙ ap (λ p. p.book) is) (later.claims ∙ ap (λ p. p.claims) is) (own-later old new later ∙ ap (λ ms. made_visits ms ++ []) (sym (marks_here passes shard old within is)))
     (λ other ne. refl) (sym (add_none totals)) (All-nil (IsEntered shards))
 
 -- the book of a shard
@@ -133,13 +133,13 @@ same_run r batch shard n shards is same = ap run_taps is ∙ ap (λ k. run_of sh
 
 -- a run without taps
 pub run_empty : (shards shard place : ℕ) (batch : List Tap) (passes : List PassView) (totals : Sums) → length (run_of shard shards batch) ≡ 0
-    → (more : List RunVisit) × Made shards passes passes totals totals more × ArePosted (if_any shard (of_shard shard shards (placed_from place batch))) more
+    → (more : List RunVisit) × HasVisited shards passes passes totals totals more × ArePosted (if_any shard (of_shard shard shards (placed_from place batch))) more
 run_empty shards shard place batch passes totals none =
     ([], made_none shards passes totals, sym (no_run shard (of_shard shard shards (placed_from place batch)) (length-of_shard shard shards place batch ∙ none)))
 
 -- a run of which nothing was posted, since memory was refused before its turn
 pub run_refused : (shards shard place : ℕ) (batch : List Tap) (passes : List PassView) (totals : Sums) (r : Result (Unit {0}) Stop) → 0 < length (run_of shard shards batch) → IsErr r
-    → (more : List RunVisit) × Made shards passes passes totals totals more × WerePosted (if_any shard (of_shard shard shards (placed_from place batch))) (is_ok r) more
+    → (more : List RunVisit) × HasVisited shards passes passes totals totals more × WerePosted (if_any shard (of_shard shard shards (placed_from place batch))) (is_ok r) more
 run_refused shards shard place batch passes totals r some err =
     let placed = of_shard shard shards (placed_from place batch) in
     let there : 0 < length placed = omega (arith, length-of_shard shard shards place batch) in
@@ -148,7 +148,7 @@ run_refused shards shard place batch passes totals r some err =
 -- a run of which nothing was posted, since its book takes no more visits
 pub run_full : (shards shard place : ℕ) (batch : List Tap) (passes : List PassView) (old new : PassView) (totals : Sums) (r : Result (Unit {0}) Stop) → 0 < length (run_of shard shards batch) → IsErr r
     → shard < length passes → old ≡ get_or passes shard old → IsLater old new
-    → (more : List RunVisit) × Made shards passes (set passes shard new) totals totals more × WerePosted (if_any shard (of_shard shard shards (placed_from place batch))) (is_ok r) more
+    → (more : List RunVisit) × HasVisited shards passes (set passes shard new) totals totals more × WerePosted (if_any shard (of_shard shard shards (placed_from place batch))) (is_ok r) more
 run_full shards shard place batch passes old new totals r some err within is later =
     let placed = of_shard shard shards (placed_from place batch) in
     let there : 0 < length placed = omega (arith, length-of_shard shard shards place batch) in
@@ -158,7 +158,7 @@ run_full shards shard place batch passes old new totals r some err within is lat
 pub run_visited : (shards shard place : ℕ) (batch : List Tap) (passes : List PassView) (old new : PassView) (number : ℕ) (how : RunEnd) (entries : List Entry) (totals totals' : Sums)
     → 0 < length (run_of shard shards batch) → shard < shards → shard < length passes → old ≡ get_or passes shard old
     → Visits old new number entries → IsVisit (run_of shard shards batch) how entries → totals' ≡ add_sums totals (sums entries)
-    → (more : List RunVisit) × Made shards passes (set passes shard new) totals totals' more × WerePosted (if_any shard (of_shard shard shards (placed_from place batch))) (is_whole how) more
+    → (more : List RunVisit) × HasVisited shards passes (set passes shard new) totals totals' more × WerePosted (if_any shard (of_shard shard shards (placed_from place batch))) (is_whole how) more
 run_visited shards shard place batch passes old new number how entries totals totals' some below within is v h counted =
     let (visit, of) = visit_of shards shard place batch how entries below some h in
     let P : List Entry → Type 0 = λ es. Visits old new number es in (

@@ -14,7 +14,7 @@ use Rattle.fare_service.specs.Claims.{claims_at, left_share}
 use Rattle.fare_service.specs.ServiceView.{ServiceView, shards_of}
 use Rattle.fare_service.specs.ShareView.{ShareView}
 use Rattle.fare_service.specs.Runs.{RunVisit, entries_to, entries_of}
-use Rattle.fare_service.specs.Shares.{Worked, all_visits, done_of, IsWorked, KeepsWorks, IsShareOf, IsFresh, HasWorked, WentOn, Made, own_at, own_visits, books_of}
+use Rattle.fare_service.specs.Shares.{Worked, all_visits, done_of, IsWorked, KeepsWorks, IsShareOf, IsFresh, HasWorked, WentOn, HasVisited, made_visits_at, made_visits, books_of}
 use Rattle.fare_service.specs.inside.Shares.{worked}
 use Rattle.fare_service.proofs.VisitLemmas.{made_none, made_more, entries_to-append, sums-append, own-others, no_taps}
 
@@ -24,8 +24,8 @@ all_visits-append xs ys = flat_map-append (λ w. w.visits) xs ys
 -- nothing was done with the share
 pub worked_none : (service : ServiceView) (old new : ShareView) → new.drawer.claims ≡ old.drawer.claims → new.drawer.drawn ≡ old.drawer.drawn → new.done ≡ old.done → new.passes ≡ old.passes → new.totals ≡ old.totals → HasWorked service old new []
 worked_none service old new claims drawn done passes totals =
-    let P : List PassView → Type 0 = λ ps. Made (shards_of service) old.passes ps old.totals new.totals [] in
-    let T : Sums → Type 0 = λ t. Made (shards_of service) old.passes old.passes old.totals t [] in
+    let P : List PassView → Type 0 = λ ps. HasVisited (shards_of service) old.passes ps old.totals new.totals [] in
+    let T : Sums → Type 0 = λ t. HasVisited (shards_of service) old.passes old.passes old.totals t [] in
     record {
       each = All-nil (IsWorked service);
       claims = claims;
@@ -36,9 +36,9 @@ worked_none service old new claims drawn done passes totals =
 
 -- one upload was drawn and posted
 pub worked_one : (service : ServiceView) (old new : ShareView) (w : Worked) → IsWorked service w → new.drawer.claims ≡ old.drawer.claims → new.drawer.drawn ≡ old.drawer.drawn ++ w.upload ∷ [] → new.done ≡ old.done ++ done_of w ∷ []
-    → Made (shards_of service) old.passes new.passes old.totals new.totals w.visits → HasWorked service old new (w ∷ [])
+    → HasVisited (shards_of service) old.passes new.passes old.totals new.totals w.visits → HasWorked service old new (w ∷ [])
 worked_one service old new w is claims drawn done made =
-    let P : List RunVisit → Type 0 = λ vs. Made (shards_of service) old.passes new.passes old.totals new.totals vs in
+    let P : List RunVisit → Type 0 = λ vs. HasVisited (shards_of service) old.passes new.passes old.totals new.totals vs in
     record {
       each = All-cons (IsWorked service) w [] is (All-nil (IsWorked service));
       claims = claims;
@@ -50,7 +50,7 @@ worked_one service old new w is claims drawn done made =
 -- some uploads, and then others
 pub worked_more : (service : ServiceView) (a b c : ShareView) (xs ys : List Worked) → HasWorked service a b xs → HasWorked service b c ys → HasWorked service a c (xs ++ ys)
 worked_more service a b c xs ys p q =
-    let P : List RunVisit → Type 0 = λ vs. Made (shards_of service) a.passes c.passes a.totals c.totals vs in
+    let P : List RunVisit → Type 0 = λ vs. HasVisited (shards_of service) a.passes c.passes a.totals c.totals vs in
     record {
       each = All-append (IsWorked service) xs ys p.each q.each;
       claims = q.claims ∙ p.claims;
@@ -92,14 +92,14 @@ holding drawer passes totals done = record { drawer = drawer; passes = passes; t
 
 -- a worker that drew an upload and posted it
 pub next_done : (service : ServiceView) (drawer drawer' : DrawerView) (passes passes' : List PassView) (totals totals' : Sums) (done done' : List Done) (upload : ℕ) (end : UploadEnd) (visits : List RunVisit)
-    → drawer'.claims ≡ drawer.claims → drawer'.drawn ≡ drawer.drawn ++ upload ∷ [] → done' ≡ done ++ record { upload = upload; end = end } ∷ [] → Made (shards_of service) passes passes' totals totals' visits → IsWorked service (worked upload end visits)
+    → drawer'.claims ≡ drawer.claims → drawer'.drawn ≡ drawer.drawn ++ upload ∷ [] → done' ≡ done ++ record { upload = upload; end = end } ∷ [] → HasVisited (shards_of service) passes passes' totals totals' visits → IsWorked service (worked upload end visits)
     → HasWorked service (holding drawer passes totals done) (holding drawer' passes' totals' done') (worked upload end visits ∷ [])
 next_done service drawer drawer' passes passes' totals totals' done done' upload end visits claims drawn more made is =
     worked_one service (holding drawer passes totals done) (holding drawer' passes' totals' done') (worked upload end visits) is claims drawn more made
 
 pub next_share : (service : ServiceView) (drawer drawer' : DrawerView) (passes passes' : List PassView) (totals totals' : Sums) (done done' : List Done) (upload : ℕ) (end : UploadEnd) (old : ShareView)
     → holding drawer passes totals done ≡ old → IsShareOf service old → drawer'.claims ≡ drawer.claims → drawer'.drawn ≡ drawer.drawn ++ upload ∷ [] → drawer'.drawn_from ≡ drawer.drawn_from → done' ≡ done ++ record { upload = upload; end = end } ∷ []
-    → ((visits : List RunVisit) × Made (shards_of service) passes passes' totals totals' visits × IsWorked service (worked upload end visits)) → totals'.taps ≤ totals.taps + 2 ^ 60 → IsShareOf service (holding drawer' passes' totals' done')
+    → ((visits : List RunVisit) × HasVisited (shards_of service) passes passes' totals totals' visits × IsWorked service (worked upload end visits)) → totals'.taps ≤ totals.taps + 2 ^ 60 → IsShareOf service (holding drawer' passes' totals' done')
 next_share service drawer drawer' passes passes' totals totals' done done' upload end old is share claims drawn drawn_from more (visits, made, did) few =
     let P : ShareView → Type 0 = IsShareOf service in
     share_more service (holding drawer passes totals done) (holding drawer' passes' totals' done') (worked upload end visits ∷ []) (subst P (sym is) share)
@@ -110,22 +110,22 @@ pub has_room : (service : ServiceView) (share : ShareView) → IsShareOf service
 has_room service share is few = omega (arith, is.room, works_drawn service share is, few)
 
 -- passes of which none made a visit
-pub own_none : {A : Type 0} (f : A → PassView) → ((x : A) → own_visits (f x).marks ≡ []) → (shard : ℕ) (xs : List A) → own_at shard (map f xs) ≡ []
+pub own_none : {A : Type 0} (f : A → PassView) → ((x : A) → made_visits (f x).marks ≡ []) → (shard : ℕ) (xs : List A) → made_visits_at shard (map f xs) ≡ []
 own_none f none shard [] = refl
 own_none f none zero (x ∷ xs) = none x
 own_none f none (suc shard) (x ∷ xs) = own_none f none shard xs
 
-pub own_new : (shard : ℕ) (books : List SharedBookView) → own_at shard (map new_pass books) ≡ []
+pub own_new : (shard : ℕ) (books : List SharedBookView) → made_visits_at shard (map new_pass books) ≡ []
 own_new shard books = own_none new_pass (λ b. refl) shard books
 
-pub own_split : (shard : ℕ) (passes : List PassView) → own_at shard (map fresh_pass passes) ≡ []
+pub own_split : (shard : ℕ) (passes : List PassView) → made_visits_at shard (map fresh_pass passes) ≡ []
 own_split shard passes = own_none fresh_pass (λ p. own-others (seen_by p)) shard passes
 
 pub books_new : (books : List SharedBookView) → books_of (map new_pass books) ≡ books
 books_new [] = refl
 books_new (b ∷ bs) = ap (λ xs. b ∷ xs) (books_new bs)
 
-pub own_left : (shard : ℕ) (passes : List PassView) → own_at shard (map left_pass passes) ≡ own_at shard passes
+pub own_left : (shard : ℕ) (passes : List PassView) → made_visits_at shard (map left_pass passes) ≡ made_visits_at shard passes
 own_left shard [] = refl
 own_left zero (p ∷ ps) = refl
 own_left (suc shard) (p ∷ ps) = own_left shard ps
@@ -165,7 +165,7 @@ books_split (p ∷ ps) = ap (λ xs. p.book ∷ xs) (books_split ps)
 
 -- a share with which nothing was done
 pub fresh_share : (service : ServiceView) (drawer : DrawerView) (passes : List PassView) (totals : Sums) (done : List Done) → drawer.drawn_from ≡ service.drawing → drawer.drawn ≡ [] → books_of passes ≡ service.books
-    → ((shard : ℕ) → own_at shard passes ≡ []) → totals ≡ sums [] → done ≡ [] → IsShareOf service (holding drawer passes totals done)
+    → ((shard : ℕ) → made_visits_at shard passes ≡ []) → totals ≡ sums [] → done ≡ [] → IsShareOf service (holding drawer passes totals done)
 fresh_share service drawer passes totals done drawn_from drawn books own zero_totals none = record {
   drawer = drawn_from;
   passes = books;
@@ -174,5 +174,5 @@ fresh_share service drawer passes totals done drawn_from drawn books own zero_to
   room = omega (arith, ap (λ s. s.taps) zero_totals, no_taps);
 }
 
-pub fresh : (drawer : DrawerView) (passes : List PassView) (totals : Sums) (done : List Done) → drawer.drawn ≡ [] → ((shard : ℕ) → own_at shard passes ≡ []) → totals ≡ sums [] → done ≡ [] → IsFresh (holding drawer passes totals done)
+pub fresh : (drawer : DrawerView) (passes : List PassView) (totals : Sums) (done : List Done) → drawer.drawn ≡ [] → ((shard : ℕ) → made_visits_at shard passes ≡ []) → totals ≡ sums [] → done ≡ [] → IsFresh (holding drawer passes totals done)
 fresh drawer passes totals done drawn own zero_totals none = record { drawn = drawn; done = none; visits = own; totals = zero_totals }

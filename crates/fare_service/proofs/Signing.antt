@@ -10,7 +10,7 @@ use Rattle.shared_books.specs.declared.turns.rule.Mark.{Mark}
 use Rattle.shared_books.specs.Marks.{mark, visits_of, merged, Apart, Begins, made_at, made_from, numbered}
 use Rattle.fare_service.specs.Headline.{Signed, by_worker}
 use Rattle.fare_service.specs.inside.Joining.{IsSign, AreSigns, AreJoined}
-use Rattle.fare_service.specs.Shares.{own_visits}
+use Rattle.fare_service.specs.Shares.{made_visits}
 
 abbrev pub sign : ℕ → List Entry → Signed
 sign worker entries = record { worker = worker; entries = entries }
@@ -139,17 +139,17 @@ not_signed i nobody (s ∷ signs) (x ∷ old) below all = step_no i s signs (ne_
     other true e h = omega (arith, h, lt_below s.worker i (sym all.0.mine ∙ e))
     other false e h = omega (arith, h, all.0.other e)
 
-own_step : (m : Mark) (ms : List Mark) (b : Bool) → m.mine ≡ b → own_visits (m ∷ ms) ≡ cond b (m.visit ∷ own_visits ms) (own_visits ms)
+own_step : (m : Mark) (ms : List Mark) (b : Bool) → m.mine ≡ b → made_visits (m ∷ ms) ≡ cond b (m.visit ∷ made_visits ms) (made_visits ms)
 own_step m ms true e = ap (λ b. map (λ n. n.visit) (cond b (m ∷ filter (λ n. n.mine) ms) (filter (λ n. n.mine) ms))) e
 own_step m ms false e = ap (λ b. map (λ n. n.visit) (cond b (m ∷ filter (λ n. n.mine) ms) (filter (λ n. n.mine) ms))) e
 
-own_first_step : (i nobody : ℕ) (m : Mark) (ms : List Mark) (b : Bool) → m.mine ≡ b → i < nobody → by_worker i (signed i nobody [] ms) ≡ own_visits ms → by_worker i (signed i nobody [] (m ∷ ms)) ≡ own_visits (m ∷ ms)
+own_first_step : (i nobody : ℕ) (m : Mark) (ms : List Mark) (b : Bool) → m.mine ≡ b → i < nobody → by_worker i (signed i nobody [] ms) ≡ made_visits ms → by_worker i (signed i nobody [] (m ∷ ms)) ≡ made_visits (m ∷ ms)
 own_first_step i nobody m ms true e below rest =
     step_yes i (sign (cond m.mine i nobody) m.visit) (signed i nobody [] ms) (ap (λ b. cond b i nobody == i) e ∙ eq-eqb i i refl) ∙ ap (λ vs. m.visit ∷ vs) rest ∙ sym (own_step m ms true e)
 own_first_step i nobody m ms false e below rest =
     step_no i (sign (cond m.mine i nobody) m.visit) (signed i nobody [] ms) (ap (λ b. cond b i nobody == i) e ∙ ne_eqb nobody i (λ h. omega (arith, h))) ∙ rest ∙ sym (own_step m ms false e)
 
-own_first : (i nobody : ℕ) (ms : List Mark) → i < nobody → by_worker i (signed i nobody [] ms) ≡ own_visits ms
+own_first : (i nobody : ℕ) (ms : List Mark) → i < nobody → by_worker i (signed i nobody [] ms) ≡ made_visits ms
 own_first i nobody [] below = refl
 own_first i nobody (m ∷ ms) below = own_first_step i nobody m ms m.mine refl below (own_first i nobody ms below)
 
@@ -158,7 +158,7 @@ free_sign i nobody s x true e below is = λ h. omega (arith, h, lt_below s.worke
 free_sign i nobody s x false e below is = λ h. omega (arith, h, is.other e)
 
 new_own_step : (i nobody : ℕ) (s : Signed) (x y : Mark) (signs : List Signed) (other : List Mark) (b : Bool) → y.mine ≡ b → i < nobody → IsSign i nobody s x → x.visit ≡ y.visit
-    → by_worker i (signed i nobody signs other) ≡ own_visits other → by_worker i (signed i nobody (s ∷ signs) (y ∷ other)) ≡ own_visits (y ∷ other)
+    → by_worker i (signed i nobody signs other) ≡ made_visits other → by_worker i (signed i nobody (s ∷ signs) (y ∷ other)) ≡ made_visits (y ∷ other)
 new_own_step i nobody s x y signs other true e below is same rest =
     step_yes i (sign (cond y.mine i s.worker) s.entries) (signed i nobody signs other) (ap (λ b. cond b i s.worker == i) e ∙ eq-eqb i i refl)
     ∙ (ap (λ v. v ∷ by_worker i (signed i nobody signs other)) (is.visit ∙ same) ∙ ap (λ vs. y.visit ∷ vs) rest) ∙ sym (own_step y other true e)
@@ -167,7 +167,7 @@ new_own_step i nobody s x y signs other false e below is same rest =
 
 -- the next worker's visits are those that it made
 pub new_own : (i nobody : ℕ) (signs : List Signed) (old other : List Mark) → i < nobody → AreSigns i nobody signs old
-    → Begins (visits_of old) (visits_of other) ⊎ Begins (visits_of other) (visits_of old) → by_worker i (signed i nobody signs other) ≡ own_visits other
+    → Begins (visits_of old) (visits_of other) ⊎ Begins (visits_of other) (visits_of old) → by_worker i (signed i nobody signs other) ≡ made_visits other
 new_own i nobody [] [] other below all begins = own_first i nobody other below
 new_own i nobody [] (x ∷ old) other below all begins = absurd all
 new_own i nobody (s ∷ signs) [] other below all begins = absurd all
@@ -190,11 +190,11 @@ made_at-le zero (m ∷ ms) = elim m.mine as (λ b. cond b 1 0 ≤ 1) [ true ↦ 
 made_at-le (suc i) (m ∷ ms) = made_at-le i ms
 
 -- how many visits a pass made
-pub made_own : (n : ℕ) (ms : List Mark) → length (made_from n ms) ≡ length (own_visits ms)
+pub made_own : (n : ℕ) (ms : List Mark) → length (made_from n ms) ≡ length (made_visits ms)
 made_own n [] = refl
 made_own n (m ∷ ms) = by_mark m.mine refl (made_own (n + 1) ms)
   where
-    by_mark : (b : Bool) → m.mine ≡ b → length (made_from (n + 1) ms) ≡ length (own_visits ms) → length (made_from n (m ∷ ms)) ≡ length (own_visits (m ∷ ms))
+    by_mark : (b : Bool) → m.mine ≡ b → length (made_from (n + 1) ms) ≡ length (made_visits ms) → length (made_from n (m ∷ ms)) ≡ length (made_visits (m ∷ ms))
     by_mark true e rest = ap (λ b. length (cond b ((n, m.visit) ∷ made_from (n + 1) ms) (made_from (n + 1) ms))) e ∙ ap suc rest ∙ sym (ap length (own_step m ms true e))
     by_mark false e rest = ap (λ b. length (cond b ((n, m.visit) ∷ made_from (n + 1) ms) (made_from (n + 1) ms))) e ∙ rest ∙ sym (ap length (own_step m ms false e))
 

@@ -11,7 +11,7 @@ use Rattle.fare_service.specs.ServiceView.{ServiceView, shards_of}
 use Rattle.fare_service.specs.ShareView.{ShareView}
 use Rattle.fare_service.specs.Plain.{WasNotCut}
 use Rattle.fare_service.specs.Runs.{RunVisit}
-use Rattle.fare_service.specs.Shares.{Worked, HasWorked, IsShareOf, IsWorked, Made, WentOn}
+use Rattle.fare_service.specs.Shares.{Worked, HasWorked, IsShareOf, IsWorked, HasVisited, WentOn}
 use Rattle.fare_service.specs.inside.Shares.{worked}
 use Rattle.fare_service.specs.Stopping.{SomeFull, MayGoOn, StoppedWell, WasCut}
 use Rattle.fare_service.proofs.ShareLemmas.{holding, next_done, share_more, worked_none, worked_more}
@@ -67,7 +67,7 @@ going_start service share = ([], worked_none service share share refl refl refl 
 -- an upload that was drawn and posted
 module _ (service : ServiceView) (old : ShareView) (drawer drawer' : DrawerView) (passes passes' : List PassView) (totals totals' : Sums) (done done' : List Done) (next : Done)
     (going : Going service old (holding drawer passes totals done)) (claims : drawer'.claims ≡ drawer.claims) (drawn : drawer'.drawn ≡ drawer.drawn ++ next.upload ∷ []) (more : done' ≡ done ++ next ∷ [])
-    (did : (visits : List RunVisit) × Made (shards_of service) passes passes' totals totals' visits × IsWorked service (worked next.upload next.end visits))
+    (did : (visits : List RunVisit) × HasVisited (shards_of service) passes passes' totals totals' visits × IsWorked service (worked next.upload next.end visits))
     (full : SomeFull passes → SomeFull passes') where
   one : HasWorked service (holding drawer passes totals done) (holding drawer' passes' totals' done') (worked next.upload next.end did.0 ∷ [])
   one = next_done service drawer drawer' passes passes' totals totals' done done' next.upload next.end did.0 claims drawn more did.1 did.2

@@ -4,7 +4,7 @@ use Rattle.std.proofs.Common.{sym, ◌∙◌, ap, subst, arith, get_or, map}
 use Rattle.std.proofs.lemmas.List.{length-map}
 use Rattle.fare_service.proofs.RunVisits.{get_or-map}
 use Rattle.tap_views.specs.Layout.{Tap}
-use Rattle.tap_views.specs.Files.{IsFile}
+use Rattle.tap_views.specs.Files.{IsFile, IsEndAfterBatches}
 use Rattle.tap_views.specs.declared.fault.LayoutFault.{LayoutFault}
 use Rattle.shard_book.specs.Sums.{Sums}
 use Rattle.shared_books.specs.Passes.{PassView}
@@ -16,7 +16,7 @@ use Rattle.fare_service.specs.ServiceView.{ServiceView, shards_of}
 use Rattle.fare_service.specs.inside.ServiceView.{upload_at}
 use Rattle.fare_service.specs.Runs.{RunVisit, runs_of, ArePosted, taps_posted}
 use Rattle.fare_service.specs.inside.Runs.{WerePosted}
-use Rattle.fare_service.specs.Shares.{Made, IsFaultOf, IsWorked, IsEndOf}
+use Rattle.fare_service.specs.Shares.{HasVisited, IsWorked, IsEndOf}
 use Rattle.fare_service.specs.inside.Shares.{worked}
 use Rattle.fare_service.proofs.ReadingLemmas.{counted_taps}
 
@@ -24,17 +24,17 @@ use Rattle.fare_service.proofs.ReadingLemmas.{counted_taps}
 abbrev pub Ended : ℕ → List ℕ → List PassView → List PassView → Sums → Sums → Result (Option (ℕ × LayoutFault)) Stop → Type 0
 Ended shards file p q s t r =
     (batches : List (List Tap)) × (rest : List ℕ) × IsFile file batches rest
-    × ((more : List RunVisit) × Made shards p q s t more × WerePosted (runs_of shards 0 batches) (is_ok r) more) × IfOk r (IsFaultOf file rest)
+    × ((more : List RunVisit) × HasVisited shards p q s t more × WerePosted (runs_of shards 0 batches) (is_ok r) more) × IfOk r (IsEndAfterBatches file rest)
 
 -- the upload was worked on, and ended so
 abbrev pub Worked_as : ServiceView → ℕ → UploadEnd → List PassView → List PassView → Sums → Sums → Type 0
-Worked_as service upload end p q s t = (visits : List RunVisit) × Made (shards_of service) p q s t visits × IsWorked service (worked upload end visits)
+Worked_as service upload end p q s t = (visits : List RunVisit) × HasVisited (shards_of service) p q s t visits × IsWorked service (worked upload end visits)
 
-posted_taps_are : (shards : ℕ) (p q : List PassView) (s t : Sums) (more : List RunVisit) (taps : ℕ) → Made shards p q s t more → taps ≡ t.taps - s.taps → taps ≡ taps_posted more
+posted_taps_are : (shards : ℕ) (p q : List PassView) (s t : Sums) (more : List RunVisit) (taps : ℕ) → HasVisited shards p q s t more → taps ≡ t.taps - s.taps → taps ≡ taps_posted more
 posted_taps_are shards p q s t more taps made e = omega (arith, e, counted_taps shards p q s t more made)
 
 by_end : (service : ServiceView) (upload : ℕ) (end : UploadEnd) (file : List ℕ) (batches : List (List Tap)) (rest : List ℕ) (visits : List RunVisit) (p q : List PassView) (s t : Sums)
-    → upload < length service.uploads → file ≡ upload_at service upload → IsFile file batches rest → Made (shards_of service) p q s t visits → IsEndOf (shards_of service) file batches rest visits end
+    → upload < length service.uploads → file ≡ upload_at service upload → IsFile file batches rest → HasVisited (shards_of service) p q s t visits → IsEndOf (shards_of service) file batches rest visits end
     → Worked_as service upload end p q s t
 by_end service upload end file batches rest visits p q s t within same is made ended =
     let F : List ℕ → Type 0 = λ f. IsFile f batches rest in
@@ -48,7 +48,7 @@ upload_whole service upload taps found file p q s t r within same ended e counte
     let (batches, rest, is, (more, made, posted), fault) = subst P e ended in
     by_end service upload (end_by taps found) file batches rest more p q s t within same is made (ended_so batches rest more made posted found fault)
   where
-    ended_so : (batches : List (List Tap)) (rest : List ℕ) (more : List RunVisit) → Made (shards_of service) p q s t more → ArePosted (runs_of (shards_of service) 0 batches) more → (found : Option (ℕ × LayoutFault)) → IsFaultOf file rest found
+    ended_so : (batches : List (List Tap)) (rest : List ℕ) (more : List RunVisit) → HasVisited (shards_of service) p q s t more → ArePosted (runs_of (shards_of service) 0 batches) more → (found : Option (ℕ × LayoutFault)) → IsEndAfterBatches file rest found
         → IsEndOf (shards_of service) file batches rest more (end_by taps found)
     ended_so batches rest more made posted None clean = (clean, posted, posted_taps_are (shards_of service) p q s t more taps made counted)
     ended_so batches rest more made posted (Some (offset, fault)) refused = (refused, posted, posted_taps_are (shards_of service) p q s t more taps made counted)

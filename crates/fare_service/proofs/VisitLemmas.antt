@@ -19,7 +19,7 @@ use Rattle.shared_books.specs.Marks.{mark, others}
 use Rattle.shared_books.specs.Passes.{PassView, IsLater, Visits}
 use Rattle.fare_service.specs.Runs.{RunVisit, IsEntered, entries_to, entries_of}
 use Rattle.fare_service.specs.inside.Runs.{visits_to}
-use Rattle.fare_service.specs.Shares.{own_visits, marks_at, own_at, Made}
+use Rattle.fare_service.specs.Shares.{made_visits, marks_at, made_visits_at, HasVisited}
 
 -- sums are their seven numbers
 abbrev pub seven : ℕ → ℕ → ℕ → ℕ → ℕ → ℕ → ℕ → Sums
@@ -54,25 +54,25 @@ add_add r s t =
     (add_assoc r.taps s.taps t.taps) (add_assoc r.paid s.paid t.paid) (add_assoc r.transfers s.transfers t.transfers) (add_assoc r.capped s.capped t.capped)
     (add_assoc r.stale s.stale t.stale) (add_assoc r.unknown s.unknown t.unknown) (add_assoc r.cents s.cents t.cents)
 
-pub own-append : (xs ys : List Mark) → own_visits (xs ++ ys) ≡ own_visits xs ++ own_visits ys
+pub own-append : (xs ys : List Mark) → made_visits (xs ++ ys) ≡ made_visits xs ++ made_visits ys
 own-append xs ys =
     ap (map (λ m. m.visit)) (filter-append (λ m. m.mine) xs ys) ∙ map-append (λ m. m.visit) (filter (λ m. m.mine) xs) (filter (λ m. m.mine) ys)
 
-pub own-others : (visits : List (List Entry)) → own_visits (others visits) ≡ []
+pub own-others : (visits : List (List Entry)) → made_visits (others visits) ≡ []
 own-others [] = refl
 own-others (visit ∷ visits) = own-others visits
 
 -- a pass that made a visit
-pub own-visits : (old new : PassView) (number : ℕ) (visit : List Entry) → Visits old new number visit → own_visits new.marks ≡ own_visits old.marks ++ visit ∷ []
+pub own-visits : (old new : PassView) (number : ℕ) (visit : List Entry) → Visits old new number visit → made_visits new.marks ≡ made_visits old.marks ++ visit ∷ []
 own-visits old new number visit v =
-    ap own_visits v.marks
+    ap made_visits v.marks
     ∙ own-append (old.marks ++ others v.between) (mark true visit ∷ [])
-    ∙ ap (λ vs. vs ++ visit ∷ []) (own-append old.marks (others v.between) ∙ ap (λ vs. own_visits old.marks ++ vs) (own-others v.between) ∙ append-nil (own_visits old.marks))
+    ∙ ap (λ vs. vs ++ visit ∷ []) (own-append old.marks (others v.between) ∙ ap (λ vs. made_visits old.marks ++ vs) (own-others v.between) ∙ append-nil (made_visits old.marks))
 
 -- a pass that has only seen more
-pub own-later : (old new : PassView) → IsLater old new → own_visits new.marks ≡ own_visits old.marks ++ []
+pub own-later : (old new : PassView) → IsLater old new → made_visits new.marks ≡ made_visits old.marks ++ []
 own-later old new l =
-    ap own_visits l.marks ∙ own-append old.marks (others l.between) ∙ ap (λ vs. own_visits old.marks ++ vs) (own-others l.between)
+    ap made_visits l.marks ∙ own-append old.marks (others l.between) ∙ ap (λ vs. made_visits old.marks ++ vs) (own-others l.between)
 
 -- the passes with another one at a shard
 pub marks-set_same : (passes : List PassView) (shard : ℕ) (new : PassView) → shard < length passes → marks_at shard (set passes shard new) ≡ new.marks
@@ -87,10 +87,10 @@ marks-set_other passes shard other new ne =
 
 -- what one visit changed, or a look
 pub made_by_pass : (shards : ℕ) (passes : List PassView) (shard : ℕ) (old new : PassView) (totals totals' : Sums) (more : List RunVisit) → shard < length passes
-    → new.book ≡ (get_or passes shard old).book → new.claims ≡ (get_or passes shard old).claims → own_visits new.marks ≡ own_at shard passes ++ entries_to shard more
+    → new.book ≡ (get_or passes shard old).book → new.claims ≡ (get_or passes shard old).claims → made_visits new.marks ≡ made_visits_at shard passes ++ entries_to shard more
     → ((other : ℕ) → other ≢ shard → entries_to other more ≡ [])
     → totals' ≡ add_sums totals (sums (entries_of more)) → All (IsEntered shards) more
-    → Made shards passes (set passes shard new) totals totals' more
+    → HasVisited shards passes (set passes shard new) totals totals' more
 made_by_pass shards passes shard old new totals totals' more within book claims own others_none counted entered = record {
   books = map-set_same (λ p. p.book) passes shard new old book;
   claims = map-set_same (λ p. p.claims) passes shard new old claims;
@@ -99,19 +99,19 @@ made_by_pass shards passes shard old new totals totals' more within book claims 
   entered = entered;
 }
   where
-    visits_at : (s : ℕ) → (((s == shard) ≡ true) × (s ≡ shard)) ⊎ (((s == shard) ≡ false) × (s ≢ shard)) → own_at s (set passes shard new) ≡ own_at s passes ++ entries_to s more
+    visits_at : (s : ℕ) → (((s == shard) ≡ true) × (s ≡ shard)) ⊎ (((s == shard) ≡ false) × (s ≢ shard)) → made_visits_at s (set passes shard new) ≡ made_visits_at s passes ++ entries_to s more
     visits_at s (inl (b, e)) =
-        let P : ℕ → Type 0 = λ n. own_at n (set passes shard new) ≡ own_at n passes ++ entries_to n more in
-        subst P (sym e) (ap own_visits (marks-set_same passes shard new within) ∙ own)
+        let P : ℕ → Type 0 = λ n. made_visits_at n (set passes shard new) ≡ made_visits_at n passes ++ entries_to n more in
+        subst P (sym e) (ap made_visits (marks-set_same passes shard new within) ∙ own)
     visits_at s (inr (b, ne)) =
-        ap own_visits (marks-set_other passes shard s new ne) ∙ sym (ap (λ vs. own_at s passes ++ vs) (others_none s ne) ∙ append-nil (own_at s passes))
+        ap made_visits (marks-set_other passes shard s new ne) ∙ sym (ap (λ vs. made_visits_at s passes ++ vs) (others_none s ne) ∙ append-nil (made_visits_at s passes))
 
 -- nothing was made
-pub made_none : (shards : ℕ) (passes : List PassView) (totals : Sums) → Made shards passes passes totals totals []
+pub made_none : (shards : ℕ) (passes : List PassView) (totals : Sums) → HasVisited shards passes passes totals totals []
 made_none shards passes totals = record {
   books = refl;
   claims = refl;
-  visits = λ s. sym (append-nil (own_at s passes));
+  visits = λ s. sym (append-nil (made_visits_at s passes));
   counted = sym (add_none totals);
   entered = All-nil (IsEntered shards);
 }
@@ -121,12 +121,12 @@ pub entries_to-append : (shard : ℕ) (xs ys : List RunVisit) → entries_to sha
 entries_to-append shard xs ys =
     ap (map (λ v. v.entries)) (filter-append (λ v. v.shard == shard) xs ys) ∙ map-append (λ v. v.entries) (visits_to shard xs) (visits_to shard ys)
 
-pub made_more : (shards : ℕ) (p q r : List PassView) (s t u : Sums) (xs ys : List RunVisit) → Made shards p q s t xs → Made shards q r t u ys → Made shards p r s u (xs ++ ys)
+pub made_more : (shards : ℕ) (p q r : List PassView) (s t u : Sums) (xs ys : List RunVisit) → HasVisited shards p q s t xs → HasVisited shards q r t u ys → HasVisited shards p r s u (xs ++ ys)
 made_more shards p q r s t u xs ys a b = record {
   books = b.books ∙ a.books;
   claims = b.claims ∙ a.claims;
-  visits = λ n. b.visits n ∙ (ap (λ vs. vs ++ entries_to n ys) (a.visits n) ∙ append_assoc (own_at n p) (entries_to n xs) (entries_to n ys)
-      ∙ ap (λ vs. own_at n p ++ vs) (sym (entries_to-append n xs ys)));
+  visits = λ n. b.visits n ∙ (ap (λ vs. vs ++ entries_to n ys) (a.visits n) ∙ append_assoc (made_visits_at n p) (entries_to n xs) (entries_to n ys)
+      ∙ ap (λ vs. made_visits_at n p ++ vs) (sym (entries_to-append n xs ys)));
   counted = b.counted ∙ ap (λ c. add_sums c (sums (entries_of ys))) a.counted ∙ add_add s (sums (entries_of xs)) (sums (entries_of ys))
       ∙ ap (add_sums s) (sym (ap sums (flat_map-append (λ v. v.entries) xs ys) ∙ sums-append (entries_of xs) (entries_of ys)));
   entered = All-append (IsEntered shards) xs ys a.entered b.entered;

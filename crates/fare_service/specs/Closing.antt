@@ -5,21 +5,21 @@ use Rattle.shard_book.specs.History.{IsLegal}
 use Rattle.shared_books.specs.Passes.{SharedBookView}
 use Rattle.fare_service.specs.declared.faults.GatherFault.{GatherFault}
 use Rattle.fare_service.specs.declared.faults.GatherFault.TheVariants.{NoMemory, Missing, Drawn}
-use Rattle.shared_books.specs.Marks.{joined}
+use Rattle.shared_books.specs.Marks.{history_of_visits}
 use Rattle.fare_service.specs.Headline.{Signed, by_worker}
-use Rattle.fare_service.specs.Limits.{KeepsLimits}
+use Rattle.fare_service.specs.Limits.{BookKeepsLimits}
 use Rattle.fare_service.specs.ShareView.{ShareView}
-use Rattle.fare_service.specs.Shares.{marks_at, own_at}
+use Rattle.fare_service.specs.Shares.{marks_at, made_visits_at}
 
 -- The history of a book is its visits. Each was made by one share, and those that a share made are
 -- exactly its visits to the shard, in its order. No share has seen a visit more.
 pub record IsHistoryOf (opened : List SharedBookView) (shares : List ShareView) (shard : ℕ)
     (book : Book) : Type 0 where
   pub visits : List Signed
-  pub history : book.entries ≡ joined (map (λ v. v.entries) visits)
+  pub history : book.entries ≡ history_of_visits (map (λ v. v.entries) visits)
   pub signed : All (λ v. v.worker < length shares) visits
   pub order : (worker : ℕ) (share : ShareView) → slice_get shares worker ≡ Some share
-      → by_worker worker visits ≡ own_at shard share.passes
+      → by_worker worker visits ≡ made_visits_at shard share.passes
   pub seen : All (λ share. length (marks_at shard share.passes) ≤ length visits) shares
   pub shared : SharedBookView
   pub at : slice_get opened shard ≡ Some shared
@@ -27,7 +27,7 @@ pub record IsHistoryOf (opened : List SharedBookView) (shares : List ShareView) 
   pub its_shard : book.shard ≡ shared.shard
   pub of_shards : book.shards ≡ shared.shards
   pub legal : IsLegal book.table book.entries
-  pub limits : KeepsLimits book
+  pub limits : BookKeepsLimits book
 
 -- the shares hold all visits to a shard: they are the history of its book
 abbrev pub HoldAllVisits : List SharedBookView → List ShareView → ℕ → Type 0

@@ -9,7 +9,7 @@ use Rattle.fare_service.specs.declared.faults.RunFault.{RunFault}
 use Rattle.fare_service.specs.declared.faults.RunFault.TheVariants.{Workers, NoMemory as NoThread}
 use Rattle.fare_service.specs.declared.faults.RunFault.TheVariants.{Gather}
 use Rattle.fare_service.specs.ShareView.{ShareView}
-use Rattle.fare_service.specs.Shares.{own_at}
+use Rattle.fare_service.specs.Shares.{made_visits_at}
 
 -- the number of shards is refused first, and then the number of uploads; memory is asked for last
 abbrev pub IsOpenFault : ℕ → ℕ → OpenFault → Type 0
@@ -19,7 +19,7 @@ IsOpenFault shards uploads NoMemory = (0 < shards) × (shards ≤ 64) × (upload
 
 -- how many visits to a shard the shares hold
 abbrev pub visits_held : ℕ → List ShareView → ℕ
-visits_held shard shares = sum_by (λ share. length (own_at shard share.passes)) shares
+visits_held shard shares = sum_by (λ share. length (made_visits_at shard share.passes)) shares
 
 -- how many uploads the shares drew
 abbrev pub uploads_held : List ShareView → ℕ

@@ -5,7 +5,7 @@ use Rattle.std.specs.List.{flat_map, AllZip}
 use Rattle.fare_table.specs.Fares.{Fares}
 use Rattle.shard_book.specs.declared.entry.Entry.{Entry}
 use Rattle.fare_table.specs.declared.token.Token.{Token}
-use Rattle.shard_book.specs.Book.{Book}
+use Rattle.shard_book.specs.Book.{EachBook}
 use Rattle.shard_book.specs.History.{IsLegal}
 use Rattle.shard_book.specs.Windows.{WindowsKeepLimits}
 use Rattle.shared_books.specs.Drawing.{NoneTwice}
@@ -41,10 +41,6 @@ pub record IsOneThread (shard : ℕ) (works : List (List Worked)) (entries : Lis
 abbrev pub end_of : ℕ → List Worked → UploadEnd
 end_of upload [] = Undrawn
 end_of upload (w ∷ works) = if w.upload == upload then w.end else end_of upload works
-
--- so it is of the book of each shard
-abbrev pub EachBook : (ℕ → Book → Type 0) → List Book → Type 0
-EachBook P books = (shard : ℕ) (book : Book) → slice_get books shard ≡ Some book → P shard book
 
 -- What an outcome of files is, under a table and with so many shards, by what each worker did.
 pub record Headline (fares : Fares) (shards : ℕ) (files : List (List ℕ))

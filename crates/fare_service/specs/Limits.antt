@@ -4,5 +4,5 @@ use Rattle.fare_table.specs.declared.token.Token.{Token}
 use Rattle.shard_book.specs.Windows.{WindowsKeepLimits}
 
 -- no window of any token has more paid rides than the ride limit or costs more than the ceiling
-pub record KeepsLimits (book : Book) : Type 0 where
+pub record BookKeepsLimits (book : Book) : Type 0 where
   pub windows : (token : Token) → WindowsKeepLimits book.table book.entries token

@@ -3,7 +3,7 @@
 use Rattle.std.specs.Prelude.{◌≡◌, ℕ, ◌<◌, ◌==◌, List, [], length, map, filter, take, All, count_by}
 use Rattle.std.specs.List.{flat_map, AllZip}
 use Rattle.tap_views.specs.Layout.{Tap}
-use Rattle.tap_views.specs.Files.{IsFile}
+use Rattle.tap_views.specs.Files.{IsFile, IsFaultAt}
 use Rattle.tap_views.specs.Shards.{shard_of_token}
 use Rattle.shard_book.specs.declared.entry.Entry.{Entry}
 use Rattle.shard_book.specs.Entry.{IsEntryOf}
@@ -11,7 +11,7 @@ use Rattle.fare_service.specs.declared.upload_end.UploadEnd.{UploadEnd}
 use Rattle.fare_service.specs.declared.upload_end.UploadEnd.TheVariants.{Posted, Refused, Cut}
 use Rattle.fare_service.specs.declared.upload_end.UploadEnd.TheVariants.{Undrawn}
 use Rattle.fare_service.specs.Runs.{PlacedTap, placed_from, of_shard, runs_of}
-use Rattle.fare_service.specs.Shares.{Worked, all_visits, IsRefusal}
+use Rattle.fare_service.specs.Shares.{Worked, all_visits}
 
 -- the taps of an upload's batches in the order in which they are posted: batch by batch, and each
 -- batch by rising shard
@@ -26,7 +26,7 @@ WerePostedOf shards file (Posted taps) posted =
     × (posted ≡ in_posting_order shards batches) × (taps ≡ length posted)
 WerePostedOf shards file (Refused taps offset fault) posted =
     (batches : List (List Tap)) × (rest : List ℕ) × IsFile file batches rest
-    × IsRefusal file rest offset fault
+    × IsFaultAt file rest offset fault
     × (posted ≡ in_posting_order shards batches) × (taps ≡ length posted)
 WerePostedOf shards file (Cut taps) posted =
     (batches : List (List Tap)) × (rest : List ℕ) × IsFile file batches rest

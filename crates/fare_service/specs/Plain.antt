@@ -4,7 +4,7 @@ use Rattle.std.specs.Int.{from_be_bytes, w64}
 use Rattle.std.specs.List.{flat_map, AllZip}
 use Rattle.std.specs.Prelude.{◌≡◌, ℕ, List, [], ◌∷◌, ◌++◌, length, take, drop, slice_get, Option}
 use Rattle.std.specs.Prelude.{Some, All, Contains}
-use Rattle.tap_views.specs.Files.{IsFile}
+use Rattle.tap_views.specs.Files.{IsFile, AreGoodTapsOfEach, IsEndAfterBatches}
 use Rattle.tap_views.specs.Layout.{Tap, num}
 use Rattle.tap_views.specs.declared.fault.LayoutFault.{LayoutFault}
 use Rattle.fare_table.specs.Fares.{Fares}
@@ -23,23 +23,12 @@ use Rattle.fare_table.specs.declared.token.Token.{Token}
 use Rattle.fare_service.specs.Ends.{end_by}
 use Rattle.fare_service.specs.Headline.{Headline}
 use Rattle.fare_service.specs.Outcomes.{OutcomeView}
-use Rattle.fare_service.specs.Shares.{Worked, IsFaultOf}
+use Rattle.fare_service.specs.Shares.{Worked}
 use Rattle.fare_texts.specs.StatementText.{IsStatementText}
 use Rattle.fare_service.specs.Text.{report}
 use Rattle.fare_service.specs.declared.upload_end.UploadEnd.TheVariants.{Posted, Refused, Cut}
 use Rattle.fare_service.specs.declared.upload_end.UploadEnd.TheVariants.{Undrawn}
 use Rattle.fare_service.specs.declared.upload_end.UploadEnd.{UploadEnd}
-
--- the taps of an upload: those of all its batches before its first fault, in order
-pub record AreTapsOf (file : List ℕ) (taps : List Tap) : Type 0 where
-  pub batches : List (List Tap)
-  pub rest : List ℕ
-  pub is_file : IsFile file batches rest
-  pub all : taps ≡ flat_map (λ batch. batch) batches
-
--- the taps of each upload
-abbrev pub AreTapsOfEach : List (List ℕ) → List (List Tap) → Type 0
-AreTapsOfEach uploads taps = AllZip AreTapsOf uploads taps
 
 -- the token that 16 bytes name: its numbers are those of the first eight bytes and of the others
 abbrev pub token_of_bytes : List ℕ → Token
@@ -89,7 +78,7 @@ plain fares taps = plain_after fares [] taps
 -- one after the other under the table, without shards or workers
 pub record IsPlain (fares : Fares) (uploads : List (List ℕ)) (history : List Entry) : Type 0 where
   pub taps : List (List Tap)
-  pub each : AreTapsOfEach uploads taps
+  pub each : AreGoodTapsOfEach uploads taps
   pub entries : history ≡ plain fares (flat_map (λ upload. upload) taps)
 
 -- no token has taps in two uploads
@@ -133,7 +122,7 @@ pub record IsPlainEnd (file : List ℕ) (end : UploadEnd) : Type 0 where
   pub rest : List ℕ
   pub fault : Option (ℕ × LayoutFault)
   pub is_file : IsFile file batches rest
-  pub is_fault : IsFaultOf file rest fault
+  pub is_fault : IsEndAfterBatches file rest fault
   pub ended : end ≡ end_by (length (flat_map (λ batch. batch) batches)) fault
 
 -- each upload ended as its bytes call for

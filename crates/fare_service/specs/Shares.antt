@@ -1,12 +1,10 @@
 -- What a share keeps: the uploads that it drew, each with its end, the visits that it made for
 -- them, and the totals of the replies.
 use Rattle.std.specs.Prelude.{◌≡◌, ℕ, ◌+◌, ◌*◌, ◌^◌, ◌<◌, ◌≤◌, List, [], ◌++◌, length, map, filter}
-use Rattle.std.specs.Prelude.{All, slice_index_or, Option, Some, None}
+use Rattle.std.specs.Prelude.{All, slice_index_or}
 use Rattle.std.specs.List.{flat_map}
 use Rattle.tap_views.specs.Layout.{Tap}
-use Rattle.tap_views.specs.Files.{IsFile}
-use Rattle.tap_views.specs.Faults.{IsFault}
-use Rattle.tap_views.specs.declared.fault.LayoutFault.{LayoutFault}
+use Rattle.tap_views.specs.Files.{IsFile, IsFaultAt}
 use Rattle.shard_book.specs.declared.entry.Entry.{Entry}
 use Rattle.shard_book.specs.Sums.{Sums, sums, add_sums}
 use Rattle.shared_books.specs.declared.turns.rule.Mark.{Mark}
@@ -26,16 +24,16 @@ abbrev pub books_of : List PassView → List SharedBookView
 books_of passes = map (λ pass. pass.book) passes
 
 -- the visits that a pass made, in the order of their numbers
-abbrev pub own_visits : List Mark → List (List Entry)
-own_visits marks = map (λ m. m.visit) (filter (λ m. m.mine) marks)
+abbrev pub made_visits : List Mark → List (List Entry)
+made_visits marks = map (λ m. m.visit) (filter (λ m. m.mine) marks)
 
 -- what the pass to a shard knows; nothing where there is no such shard
 abbrev pub marks_at : ℕ → List PassView → List Mark
 marks_at shard passes = slice_index_or (map (λ pass. pass.marks) passes) shard []
 
 -- the visits that the pass to a shard made
-abbrev pub own_at : ℕ → List PassView → List (List Entry)
-own_at shard passes = own_visits (marks_at shard passes)
+abbrev pub made_visits_at : ℕ → List PassView → List (List Entry)
+made_visits_at shard passes = made_visits (marks_at shard passes)
 
 -- an upload that a share drew: how it ended, and the visits that were made for it
 pub record Worked : Type 0 where
@@ -55,23 +53,12 @@ all_works works = flat_map (λ done. done) works
 abbrev pub done_of : Worked → Done
 done_of w = record { upload = w.upload; end = w.end }
 
--- the fault with which a file's rest begins, and where that rest stands
-pub record IsRefusal (file rest : List ℕ) (offset : ℕ) (fault : LayoutFault) : Type 0 where
-  pub some_byte : 0 < length rest
-  pub is_fault : IsFault rest fault
-  pub stands_at : offset + length rest ≡ length file
-
--- the fault of a file with this rest, and its offset, or none
-abbrev pub IsFaultOf : List ℕ → List ℕ → Option (ℕ × LayoutFault) → Type 0
-IsFaultOf file rest None = rest ≡ []
-IsFaultOf file rest (Some (offset, fault)) = IsRefusal file rest offset fault
-
 -- how an upload of these batches and this rest ended, by the visits that were made for it
 abbrev pub IsEndOf : ℕ → List ℕ → List (List Tap) → List ℕ → List RunVisit → UploadEnd → Type 0
 IsEndOf shards file batches rest visits (Posted taps) =
     (rest ≡ []) × ArePosted (runs_of shards 0 batches) visits × (taps ≡ taps_posted visits)
 IsEndOf shards file batches rest visits (Refused taps offset fault) =
-    IsRefusal file rest offset fault × ArePosted (runs_of shards 0 batches) visits
+    IsFaultAt file rest offset fault × ArePosted (runs_of shards 0 batches) visits
     × (taps ≡ taps_posted visits)
 IsEndOf shards file batches rest visits (Cut taps) =
     AreCut (runs_of shards 0 batches) visits × (taps ≡ taps_posted visits)
@@ -100,7 +87,7 @@ pub record KeepsWorks (service : ServiceView) (share : ShareView) (works : List 
   pub each : All (IsWorked service) works
   pub drawn : share.drawer.drawn ≡ map (λ w. w.upload) works
   pub done : share.done ≡ map done_of works
-  pub visits : (shard : ℕ) → own_at shard share.passes ≡ entries_to shard (all_visits works)
+  pub visits : (shard : ℕ) → made_visits_at shard share.passes ≡ entries_to shard (all_visits works)
   pub totals : share.totals ≡ sums (entries_of (all_visits works))
 
 -- the share belongs to the service, and keeps what was done for some uploads
@@ -115,16 +102,17 @@ pub record IsShareOf (service : ServiceView) (share : ShareView) : Type 0 where
 pub record IsFresh (share : ShareView) : Type 0 where
   pub drawn : share.drawer.drawn ≡ []
   pub done : share.done ≡ []
-  pub visits : (shard : ℕ) → own_at shard share.passes ≡ []
+  pub visits : (shard : ℕ) → made_visits_at shard share.passes ≡ []
   pub totals : share.totals ≡ sums []
 
 -- what a worker's visits changed: the passes have made them and keep their claims, and the totals
 -- count their replies
-pub record Made (shards : ℕ) (passes passes' : List PassView) (totals totals' : Sums)
+pub record HasVisited (shards : ℕ) (passes passes' : List PassView) (totals totals' : Sums)
     (more : List RunVisit) : Type 0 where
   pub books : books_of passes' ≡ books_of passes
   pub claims : claims_of passes' ≡ claims_of passes
-  pub visits : (shard : ℕ) → own_at shard passes' ≡ own_at shard passes ++ entries_to shard more
+  pub visits : (shard : ℕ)
+      → made_visits_at shard passes' ≡ made_visits_at shard passes ++ entries_to shard more
   pub counted : totals' ≡ add_sums totals (sums (entries_of more))
   pub entered : All (IsEntered shards) more
 
@@ -135,7 +123,8 @@ pub record HasWorked (service : ServiceView) (old new : ShareView) (more : List 
   pub claims : new.drawer.claims ≡ old.drawer.claims
   pub drawn : new.drawer.drawn ≡ old.drawer.drawn ++ map (λ w. w.upload) more
   pub done : new.done ≡ old.done ++ map done_of more
-  pub made : Made (shards_of service) old.passes new.passes old.totals new.totals (all_visits more)
+  pub made : HasVisited (shards_of service) old.passes new.passes old.totals new.totals
+      (all_visits more)
 
 -- the share went on with some uploads
 abbrev pub WentOn : ServiceView → ShareView → ShareView → Type 0

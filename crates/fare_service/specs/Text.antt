@@ -3,12 +3,11 @@
 use Rattle.std.specs.Prelude.{ℕ, ◌+◌, List, [], ◌∷◌, ◌++◌, length, codes}
 use Rattle.std.specs.Fmt.{decimal}
 use Rattle.std.specs.List.{flat_map}
-use Rattle.hex.specs.Hex.{encode_lower}
 use Rattle.tap_views.specs.Names.{fault_name}
-use Rattle.fare_table.specs.Token.{bytes_of}
 use Rattle.shard_book.specs.Sums.{Sums}
 use Rattle.fare_table.specs.declared.token.Token.{Token}
-use Rattle.fare_texts.specs.Counts.{counts, totals_line}
+use Rattle.fare_texts.specs.SumLines.{token_line, validator_line}
+use Rattle.fare_texts.specs.Counts.{totals_line}
 use Rattle.fare_service.specs.declared.upload_end.UploadEnd.{UploadEnd}
 use Rattle.fare_service.specs.declared.upload_end.UploadEnd.TheVariants.{Posted, Refused, Cut}
 use Rattle.fare_service.specs.declared.upload_end.UploadEnd.TheVariants.{Undrawn}
@@ -35,14 +34,6 @@ upload_line upload end =
 abbrev pub upload_lines : ℕ → List UploadEnd → List ℕ
 upload_lines upload [] = []
 upload_lines upload (end ∷ ends) = upload_line upload end ++ upload_lines (upload + 1) ends
-
--- `validator 9 taps 1 paid 0 ..`
-abbrev pub validator_line : ℕ × Sums → List ℕ
-validator_line sum = (codes "validator " ++ (decimal sum.0 ++ codes " ")) ++ counts sum.1
-
--- `token 000000000000000000000000000000a1 taps 4 paid 2 ..`
-abbrev pub token_line : Token × Sums → List ℕ
-token_line sum = (codes "token " ++ (encode_lower (bytes_of sum.0) ++ codes " ")) ++ counts sum.1
 
 -- the uploads of a report
 abbrev pub uploads_section : List UploadEnd → List ℕ

@@ -15,10 +15,10 @@ use Rattle.std.specs.Prelude.{nat_le, nat_lt, if◌then◌else◌}
 use Rattle.fare_table.specs.Fares.{has_number}
 use Rattle.fare_table.specs.Validators.{stand_apart}
 use Rattle.fare_table.specs.inside.Validators.{is_rising, last_begun, IsSplitAt}
-use Rattle.fare_table.specs.declared.validators.Span.{Span}
+use Rattle.fare_table.specs.declared.validators.RangeRest.{RangeRest}
 
 -- the range, where it reaches the number
-abbrev pub reaching : ℕ → Option (ℕ × Span) → Option (ℕ × Span)
+abbrev pub reaching : ℕ → Option (ℕ × RangeRest) → Option (ℕ × RangeRest)
 reaching number None = None
 reaching number (Some range) = if nat_le number range.1.last then Some range else None
 
@@ -28,12 +28,12 @@ or_twice None a b = refl
 or_twice (Some x) a b = refl
 
 -- what two neighbours that stand apart say
-pub record AreApart (range next : ℕ × Span) (more : List (ℕ × Span)) : Type 0 where
+pub record AreApart (range next : ℕ × RangeRest) (more : List (ℕ × RangeRest)) : Type 0 where
   pub begins : range.0 ≤ range.1.last
   pub ends : range.1.last < next.0
   pub rest : stand_apart (next ∷ more) ≡ true
 
-pub apart : (range next : ℕ × Span) (more : List (ℕ × Span)) → stand_apart (range ∷ next ∷ more) ≡ true
+pub apart : (range next : ℕ × RangeRest) (more : List (ℕ × RangeRest)) → stand_apart (range ∷ next ∷ more) ≡ true
     → AreApart range next more
 apart range next more stands =
     let both = and_parts (nat_le range.0 range.1.last && nat_lt range.1.last next.0)
@@ -45,7 +45,7 @@ apart range next more stands =
       rest = both.1;
     }
 
-found_step : (n : ℕ) (range next : ℕ × Span) (more : List (ℕ × Span)) → AreApart range next more
+found_step : (n : ℕ) (range next : ℕ × RangeRest) (more : List (ℕ × RangeRest)) → AreApart range next more
     → find (has_number n) (next ∷ more) ≡ reaching n (last_begun n (next ∷ more))
     → ((nat_le range.0 n ≡ true) × (range.0 ≤ n)) ⊎ ((nat_le range.0 n ≡ false) × (n < range.0))
     → ((nat_le next.0 n ≡ true) × (next.0 ≤ n)) ⊎ ((nat_le next.0 n ≡ false) × (n < next.0))
@@ -59,7 +59,7 @@ found_step n range next more two ih (inl a) (inl b) =
     rw (a.0, past, ih, b.0, or_twice (last_begun n more) next range)
 
 -- the range that has a number is the last one that begins at it or before it, where that reaches it
-pub found : (n : ℕ) (ranges : List (ℕ × Span)) → stand_apart ranges ≡ true
+pub found : (n : ℕ) (ranges : List (ℕ × RangeRest)) → stand_apart ranges ≡ true
     → find (has_number n) ranges ≡ reaching n (last_begun n ranges)
 found n [] stands = refl
 found n (range ∷ []) stands = elim (leb_tells range.0 n) [ inl a ↦ rw a.0 | inr a ↦ rw a.0 ]
@@ -69,13 +69,13 @@ found n (range ∷ next ∷ more) stands =
     (leb_tells next.0 n)
 
 -- the first of ranges that stand apart begins no later than it ends
-begins_first : (range : ℕ × Span) (more : List (ℕ × Span)) → stand_apart (range ∷ more) ≡ true
+begins_first : (range : ℕ × RangeRest) (more : List (ℕ × RangeRest)) → stand_apart (range ∷ more) ≡ true
     → range.0 ≤ range.1.last
 begins_first range [] stands = leb-true _ _ stands
 begins_first range (next ∷ more) stands = (apart range next more stands).begins
 
 -- ranges that stand apart end before those behind them begin, and so before those end
-ends_before : (range : ℕ × Span) (more : List (ℕ × Span)) (i : ℕ) (d : ℕ × Span)
+ends_before : (range : ℕ × RangeRest) (more : List (ℕ × RangeRest)) (i : ℕ) (d : ℕ × RangeRest)
     → stand_apart (range ∷ more) ≡ true → i < length more
     → (range.1.last < (get_or more i d).0) × (range.1.last < (get_or more i d).1.last)
 ends_before range [] i d stands inside = absurd (omega arith)
@@ -90,14 +90,14 @@ ends_before range (next ∷ more) (suc i) d stands inside =
     (omega (arith, two.ends, begins, behind.0), omega (arith, two.ends, begins, behind.1))
 
 -- a range that ends before a number is not the one that has it
-passed : (n : ℕ) (range : ℕ × Span) (more : List (ℕ × Span)) → range.1.last < n
+passed : (n : ℕ) (range : ℕ × RangeRest) (more : List (ℕ × RangeRest)) → range.1.last < n
     → find (has_number n) (range ∷ more) ≡ find (has_number n) more
 passed n range more ends =
     let past : nat_le n range.1.last ≡ false = grind (arith, nat_tests, ends) in
     rw (past, and-false (nat_le range.0 n))
 
 -- of ranges that stand apart, one that has a number is the one that is found
-pub only_one : (n : ℕ) (ranges : List (ℕ × Span)) (i : ℕ) (d : ℕ × Span) → stand_apart ranges ≡ true
+pub only_one : (n : ℕ) (ranges : List (ℕ × RangeRest)) (i : ℕ) (d : ℕ × RangeRest) → stand_apart ranges ≡ true
     → i < length ranges
     → (get_or ranges i d).0 ≤ n → n ≤ (get_or ranges i d).1.last
     → find (has_number n) ranges ≡ Some (get_or ranges i d)
@@ -114,7 +114,7 @@ only_one n (range ∷ next ∷ more) (suc i) d stands inside begins ends =
     (only_one n (next ∷ more) i d two.rest (omega arith) begins ends)
 
 -- of ranges that stand apart none has a number before the first one
-pub none_before : (n : ℕ) (ranges : List (ℕ × Span)) (d : ℕ × Span) → stand_apart ranges ≡ true
+pub none_before : (n : ℕ) (ranges : List (ℕ × RangeRest)) (d : ℕ × RangeRest) → stand_apart ranges ≡ true
     → n < (get_or ranges 0 d).0
     → find (has_number n) ranges ≡ None
 none_before n [] d stands begins = refl
@@ -127,7 +127,7 @@ none_before n (range ∷ next ∷ more) d stands begins =
     rw later (none_before n (next ∷ more) d two.rest (omega (arith, two.begins, two.ends, begins)))
 
 -- nor has one a number between two neighbours
-pub none_between : (n : ℕ) (ranges : List (ℕ × Span)) (i : ℕ) (d : ℕ × Span)
+pub none_between : (n : ℕ) (ranges : List (ℕ × RangeRest)) (i : ℕ) (d : ℕ × RangeRest)
     → stand_apart ranges ≡ true → suc i < length ranges
     → (get_or ranges i d).1.last < n → n < (get_or ranges (suc i) d).0
     → find (has_number n) ranges ≡ None
@@ -142,7 +142,7 @@ none_between n (range ∷ next ∷ more) (suc i) d stands inside ends begins =
     rw (passed n range (next ∷ more) (omega (arith, before.1, ends)))
     (none_between n (next ∷ more) i d two.rest (omega arith) ends begins)
 
-last_of_cons : (r : ℕ × Span) (t : List (ℕ × Span))
+last_of_cons : (r : ℕ × RangeRest) (t : List (ℕ × RangeRest))
     → slice_get (r ∷ t) (length (r ∷ t) - 1) ≡ option_or (slice_get t (length t - 1)) (Some r)
 last_of_cons r [] = refl
 last_of_cons r (x ∷ xs) =
@@ -153,7 +153,7 @@ last_of_cons r (x ∷ xs) =
 
 -- the last of a list whose first part begins at the number or before it, and whose other part after
 -- it
-pub last_begun-split : (n : ℕ) (ranges : List (ℕ × Span)) (i : ℕ)
+pub last_begun-split : (n : ℕ) (ranges : List (ℕ × RangeRest)) (i : ℕ)
     → AllWithin (λ range. nat_le range.0 n ≡ true) ranges 0 i
     → AllWithin (λ range. nat_le range.0 n ≡ false) ranges i (length ranges)
     → slice_get (take i ranges) (length (take i ranges) - 1) ≡ last_begun n ranges
@@ -169,7 +169,7 @@ last_begun-split n (r ∷ rest) (suc i) front back =
     rw (last_of_cons r (take i rest), ih, before)
 
 -- the first numbers of ranges that stand apart rise
-pub stands-rises : (ranges : List (ℕ × Span)) → stand_apart ranges ≡ true
+pub stands-rises : (ranges : List (ℕ × RangeRest)) → stand_apart ranges ≡ true
     → is_rising (map (λ range. range.0) ranges) ≡ true
 stands-rises [] stands = refl
 stands-rises (r ∷ []) stands = refl
@@ -204,13 +204,13 @@ rising-reaches firsts rising (suc k) d inside =
     omega (arith, below, reached)
 
 -- what holds of first numbers holds of the ranges' first numbers
-pub within-firsts : (n : ℕ) (b : Bool) (ranges : List (ℕ × Span)) (i j : ℕ) → j ≤ length ranges
+pub within-firsts : (n : ℕ) (b : Bool) (ranges : List (ℕ × RangeRest)) (i j : ℕ) → j ≤ length ranges
     → AllWithin (λ first. nat_le first n ≡ b) (map (λ range. range.0) ranges) i j
     → AllWithin (λ range. nat_le range.0 n ≡ b) ranges i j
 within-firsts n b ranges i j inside all = λ k d low high.
-    let here : nat_le (get_or (map (λ (range : ℕ × Span). range.0) ranges) k d.0) n ≡ b =
+    let here : nat_le (get_or (map (λ (range : ℕ × RangeRest). range.0) ranges) k d.0) n ≡ b =
     all k d.0 low high in
-    rw (get_or-map (λ (range : ℕ × Span). range.0) ranges k d d.0 (omega arith)) at here
+    rw (get_or-map (λ (range : ℕ × RangeRest). range.0) ranges k d d.0 (omega arith)) at here
 
 found_one : {A : Type 0} (p q : A → Bool) (x : A) (xs : List A) (b : Bool) → p x ≡ true
     → IfSome (find q xs) (λ y. p y ≡ true) → IfSome (cond b (Some x) (find q xs)) (λ y. p y ≡ true)

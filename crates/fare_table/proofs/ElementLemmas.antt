@@ -18,13 +18,13 @@ use Rattle.fare_table.specs.Fares.{Fares, has_number, mode_at, range_at}
 use Rattle.fare_table.specs.Members.{are_tables, array_at, number_at, of_kind, text_at}
 use Rattle.fare_table.specs.Modes.{mode_named}
 use Rattle.fare_table.specs.OrFault.{OrFault, ◌>>=◌}
-use Rattle.fare_table.specs.Rules.{TableRules, rules_of_tree}
+use Rattle.fare_table.specs.TableMeaning.{TableMeaning, meaning_of_tree}
 use Rattle.fare_table.specs.Validators.{stand_apart, range_in, range_of, ranges_from, ranges_of}
 use Rattle.fare_table.specs.Validators.{share_number, with_range}
 use Rattle.fare_table.specs.declared.fault.Key.TheVariants as the_key
 use Rattle.fare_table.specs.declared.fault.TableFault.{TableFault}
 use Rattle.fare_table.specs.declared.fault.TableFault.TheVariants.{Kind, Overlap}
-use Rattle.fare_table.specs.declared.validators.Span.{Span}
+use Rattle.fare_table.specs.declared.validators.RangeRest.{RangeRest}
 
 -- ---- ranges that stand apart, and one more
 -- of two choices that exclude each other the order is free
@@ -35,7 +35,7 @@ swap true false x y z apart = refl
 swap false b x y z apart = refl
 
 -- ranges that stand apart have no number both
-other_has : (n : ℕ) (one other : ℕ × Span) → one.1.last < other.0 → has_number n one ≡ true
+other_has : (n : ℕ) (one other : ℕ × RangeRest) → one.1.last < other.0 → has_number n one ≡ true
     → has_number n other ≡ false
 other_has n one other ends has = elim (cases_Bool (has_number n other)) [
   | inl both ↦
@@ -45,10 +45,10 @@ other_has n one other ends has = elim (cases_Bool (has_number n other)) [
   | inr none ↦ none
 ]
 
-with_one : ℕ × Span → List (ℕ × Span) → List (ℕ × Span)
+with_one : ℕ × RangeRest → List (ℕ × RangeRest) → List (ℕ × RangeRest)
 with_one range ranges = insert_entry nat_cmp ranges range.0 range.1
 
-found_step : (n : ℕ) (range other : ℕ × Span) (more : List (ℕ × Span)) → range.0 ≤ range.1.last
+found_step : (n : ℕ) (range other : ℕ × RangeRest) (more : List (ℕ × RangeRest)) → range.0 ≤ range.1.last
     → other.0 ≤ other.1.last → share_number range other ≡ false
     → find (has_number n) (with_one range more)
     ≡ cond (has_number n range) (Some range) (find (has_number n) more)
@@ -64,7 +64,7 @@ found_step n range other more order further free ih = elim (free_apart range oth
 
 -- one more range that shares no number with the others has its numbers, and each other keeps its
 -- own
-found_with : (n : ℕ) (range : ℕ × Span) (ranges : List (ℕ × Span)) → range.0 ≤ range.1.last
+found_with : (n : ℕ) (range : ℕ × RangeRest) (ranges : List (ℕ × RangeRest)) → range.0 ≤ range.1.last
     → stand_apart ranges ≡ true → list_any (share_number range) ranges ≡ false
     → find (has_number n) (with_one range ranges)
     ≡ cond (has_number n range) (Some range) (find (has_number n) ranges)
@@ -76,7 +76,7 @@ found_with n range (other ∷ more) order stands free =
     (found_with n range more order (rest_stands other more stands) apart.1)
 
 -- ranges that both have a number share it
-both_have : (n : ℕ) (range other : ℕ × Span) → has_number n range ≡ true → has_number n other ≡ true
+both_have : (n : ℕ) (range other : ℕ × RangeRest) → has_number n range ≡ true → has_number n other ≡ true
     → share_number range other ≡ true
 both_have n range other one two =
     let a = and_parts (nat_le range.0 n) (nat_le n range.1.last) one in
@@ -89,7 +89,7 @@ both_have n range other one two =
     let second : nat_le other.0 range.1.last ≡ true = le-leb _ _ (omega (arith, b0, a1)) in
     rw (first, second) refl
 
-shared_if : (n : ℕ) (range other : ℕ × Span) (more : List (ℕ × Span)) (b : Bool) (found : ℕ × Span)
+shared_if : (n : ℕ) (range other : ℕ × RangeRest) (more : List (ℕ × RangeRest)) (b : Bool) (found : ℕ × RangeRest)
     → has_number n range ≡ true → has_number n other ≡ b
     → cond b (Some other) (find (has_number n) more) ≡ Some found
     → (find (has_number n) more ≡ Some found → list_any (share_number range) more ≡ true)
@@ -103,7 +103,7 @@ shared_if n range other more false found has is at later =
     or_true false = refl
 
 -- a range with a number shares one with ranges of which one has it
-shares : (n : ℕ) (range found : ℕ × Span) (ranges : List (ℕ × Span)) → has_number n range ≡ true
+shares : (n : ℕ) (range found : ℕ × RangeRest) (ranges : List (ℕ × RangeRest)) → has_number n range ≡ true
     → find (has_number n) ranges ≡ Some found → list_any (share_number range) ranges ≡ true
 shares n range found [] has at = absurd (cc)
 shares n range found (other ∷ more) has at =
@@ -111,25 +111,25 @@ shares n range found (other ∷ more) has at =
     (shares n range found more has)
 
 -- ---- what the elements read as
-pub record AddsRange (earlier : List (ℕ × Span)) (range : ℕ
-    × Span) (ranges : List (ℕ × Span)) : Type 0 where
+pub record AddsRange (earlier : List (ℕ × RangeRest)) (range : ℕ
+    × RangeRest) (ranges : List (ℕ × RangeRest)) : Type 0 where
   pub free : list_any (share_number range) earlier ≡ false
   pub one : ranges ≡ insert_entry nat_cmp earlier range.0 range.1
 
-added_if : (b : Bool) (earlier ranges : List (ℕ × Span)) (range : ℕ × Span)
+added_if : (b : Bool) (earlier ranges : List (ℕ × RangeRest)) (range : ℕ × RangeRest)
     → list_any (share_number range) earlier ≡ b
     → (if b then Err Overlap else Ok (insert_entry nat_cmp earlier range.0 range.1)) ≡ Ok ranges
     → AddsRange earlier range ranges
 added_if true earlier ranges range is at = absurd (cc)
 added_if false earlier ranges range is at = record { free = is; one = cc }
 
-pub adds_range : (earlier ranges : List (ℕ × Span)) (range : ℕ × Span)
+pub adds_range : (earlier ranges : List (ℕ × RangeRest)) (range : ℕ × RangeRest)
     → with_range earlier range ≡ Ok ranges → AddsRange earlier range ranges
 adds_range earlier ranges range is =
     added_if (list_any (share_number range) earlier) earlier ranges range refl is
 
 -- what an element says that reads as a range
-pub record Reads (modes : List (List ℕ)) (value : Data) (range : ℕ × Span) : Type 0 where
+pub record Reads (modes : List (List ℕ)) (value : Data) (range : ℕ × RangeRest) : Type 0 where
   pub element : Members
   pub is_table : value ≡ table element
   pub first : get_member (codes "first") element ≡ Some (integer (pos range.0))
@@ -137,41 +137,41 @@ pub record Reads (modes : List (List ℕ)) (value : Data) (range : ℕ × Span) 
   pub order : range.0 ≤ range.1.last
   pub names : NamesMode modes element range.1.mode
 
-abbrev pub span_of : ℕ → ℕ → Span
+abbrev pub span_of : ℕ → ℕ → RangeRest
 span_of last mode = record { last = last; mode = mode }
 
-abbrev pub by_mode : ℕ → ℕ → ℕ → OrFault (ℕ × Span)
+abbrev pub by_mode : ℕ → ℕ → ℕ → OrFault (ℕ × RangeRest)
 by_mode first last mode = Ok (first, span_of last mode)
 
-abbrev by_name : List (List ℕ) → ℕ → ℕ → List ℕ → OrFault (ℕ × Span)
+abbrev by_name : List (List ℕ) → ℕ → ℕ → List ℕ → OrFault (ℕ × RangeRest)
 by_name modes first last name = mode_named modes name >>= by_mode first last
 
-abbrev by_last : List (List ℕ) → Members → ℕ → ℕ → OrFault (ℕ × Span)
+abbrev by_last : List (List ℕ) → Members → ℕ → ℕ → OrFault (ℕ × RangeRest)
 by_last modes element first last =
     text_at (codes "mode") the_key.ModeName element >>= by_name modes first last
 
-abbrev by_first : List (List ℕ) → Members → ℕ → OrFault (ℕ × Span)
+abbrev by_first : List (List ℕ) → Members → ℕ → OrFault (ℕ × RangeRest)
 by_first modes element first =
     number_at (codes "last") the_key.Last first 4_294_967_295 element >>= by_last modes element first
 
-one_range : (first last mode : ℕ) (range : ℕ × Span) → by_mode first last mode ≡ Ok range
+one_range : (first last mode : ℕ) (range : ℕ × RangeRest) → by_mode first last mode ≡ Ok range
     → (first ≡ range.0) × (last ≡ range.1.last) × (mode ≡ range.1.mode)
 one_range first last mode range is =
     (ap (first_of first) is, ap (last_of last) is, ap (mode_of mode) is)
   where
-    first_of : ℕ → OrFault (ℕ × Span) → ℕ
+    first_of : ℕ → OrFault (ℕ × RangeRest) → ℕ
     first_of d (Ok r) = r.0
     first_of d (Err e) = d
 
-    last_of : ℕ → OrFault (ℕ × Span) → ℕ
+    last_of : ℕ → OrFault (ℕ × RangeRest) → ℕ
     last_of d (Ok r) = r.1.last
     last_of d (Err e) = d
 
-    mode_of : ℕ → OrFault (ℕ × Span) → ℕ
+    mode_of : ℕ → OrFault (ℕ × RangeRest) → ℕ
     mode_of d (Ok r) = r.1.mode
     mode_of d (Err e) = d
 
-reads_table : (modes : List (List ℕ)) (value : Data) (element : Members) (range : ℕ × Span)
+reads_table : (modes : List (List ℕ)) (value : Data) (element : Members) (range : ℕ × RangeRest)
     → value ≡ table element → range_of modes element ≡ Ok range → Reads modes value range
 unfolding range_of
 reads_table modes value element range whole is =
@@ -198,7 +198,7 @@ reads_table modes value element range whole is =
       };
     }
 
-pub reads : (modes : List (List ℕ)) (value : Data) (range : ℕ × Span)
+pub reads : (modes : List (List ℕ)) (value : Data) (range : ℕ × RangeRest)
     → range_in modes value ≡ Ok range → Reads modes value range
 reads modes value range is =
     let element = bind_ok (of_kind the_key.Validators (as_table value)) (range_of modes) range is in
@@ -207,15 +207,15 @@ reads modes value range is =
 
 -- ---- the ranges behind some elements
 -- the item at the place reads as the range
-abbrev pub IsRangeAt : List (List ℕ) → Items → ℕ → ℕ × Span → Type 0
+abbrev pub IsRangeAt : List (List ℕ) → Items → ℕ → ℕ × RangeRest → Type 0
 IsRangeAt modes items place range =
     (value : Data) × (get_item place items ≡ Some value) × (range_in modes value ≡ Ok range)
 
-pub record Steps (modes : List (List ℕ)) (earlier : List (ℕ × Span)) (value : Data) (more : Items)
-    (ranges : List (ℕ × Span)) : Type 0 where
-  pub range : ℕ × Span
+pub record Steps (modes : List (List ℕ)) (earlier : List (ℕ × RangeRest)) (value : Data) (more : Items)
+    (ranges : List (ℕ × RangeRest)) : Type 0 where
+  pub range : ℕ × RangeRest
   pub read : range_in modes value ≡ Ok range
-  pub next : List (ℕ × Span)
+  pub next : List (ℕ × RangeRest)
   pub free : list_any (share_number range) earlier ≡ false
   pub order : range.0 ≤ range.1.last
   pub stands : stand_apart next ≡ true
@@ -223,12 +223,12 @@ pub record Steps (modes : List (List ℕ)) (earlier : List (ℕ × Span)) (value
       ≡ cond (has_number n range) (Some range) (find (has_number n) earlier)
   pub rest : ranges_from modes next more ≡ Ok ranges
 
-abbrev after_range : List (List ℕ) → List (ℕ × Span) → Items → ℕ × Span → OrFault (List (ℕ × Span))
+abbrev after_range : List (List ℕ) → List (ℕ × RangeRest) → Items → ℕ × RangeRest → OrFault (List (ℕ × RangeRest))
 after_range modes earlier more range =
     with_range earlier range >>= (λ ranges. ranges_from modes ranges more)
 
-pub step : (modes : List (List ℕ)) (earlier : List (ℕ × Span)) (value : Data) (more : Items)
-    (ranges : List (ℕ × Span))
+pub step : (modes : List (List ℕ)) (earlier : List (ℕ × RangeRest)) (value : Data) (more : Items)
+    (ranges : List (ℕ × RangeRest))
     → ranges_from modes earlier (item value more) ≡ Ok ranges → stand_apart earlier ≡ true
     → Steps modes earlier value more ranges
 unfolding with_one
@@ -251,17 +251,17 @@ step modes earlier value more ranges is stands =
     }
 
 -- a number that a range has
-abbrev HasOne : ℕ → List (ℕ × Span) → Type 0
-HasOne n ranges = (found : ℕ × Span) × (find (has_number n) ranges ≡ Some found)
+abbrev HasOne : ℕ → List (ℕ × RangeRest) → Type 0
+HasOne n ranges = (found : ℕ × RangeRest) × (find (has_number n) ranges ≡ Some found)
 
-has_if : (b : Bool) (n : ℕ) (range found : ℕ × Span) (next : List (ℕ × Span))
+has_if : (b : Bool) (n : ℕ) (range found : ℕ × RangeRest) (next : List (ℕ × RangeRest))
     → find (has_number n) next ≡ cond b (Some range) (Some found) → HasOne n next
 has_if true n range found next is = (range, is)
 has_if false n range found next is = (found, is)
 
 -- an earlier range that has a number is kept
-still : (modes : List (List ℕ)) (n : ℕ) (earlier : List (ℕ × Span)) (items : Items)
-    (ranges : List (ℕ × Span)) (found : ℕ × Span) → ranges_from modes earlier items ≡ Ok ranges
+still : (modes : List (List ℕ)) (n : ℕ) (earlier : List (ℕ × RangeRest)) (items : Items)
+    (ranges : List (ℕ × RangeRest)) (found : ℕ × RangeRest) → ranges_from modes earlier items ≡ Ok ranges
     → stand_apart earlier ≡ true
     → find (has_number n) earlier ≡ Some found → find (has_number n) ranges ≡ Some found
 still modes n earlier no_items ranges found is stands at = let same : earlier ≡ ranges = cc in
@@ -275,11 +275,11 @@ still modes n earlier (item value more) ranges found is stands at =
     ]
 
 -- what an element reads as, and that it is found by its numbers
-there : (modes : List (List ℕ)) (n : ℕ) (earlier : List (ℕ × Span)) (items : Items)
-    (ranges : List (ℕ × Span)) (place : ℕ) (value : Data)
+there : (modes : List (List ℕ)) (n : ℕ) (earlier : List (ℕ × RangeRest)) (items : Items)
+    (ranges : List (ℕ × RangeRest)) (place : ℕ) (value : Data)
     → ranges_from modes earlier items ≡ Ok ranges → stand_apart earlier ≡ true
     → get_item place items ≡ Some value
-    → (range : ℕ × Span) × (range_in modes value ≡ Ok range)
+    → (range : ℕ × RangeRest) × (range_in modes value ≡ Ok range)
     × (has_number n range ≡ true → find (has_number n) ranges ≡ Some range)
 there modes n earlier no_items ranges place value is stands at = absurd (cc)
 there modes n earlier (item first more) ranges zero value is stands at =
@@ -294,8 +294,8 @@ there modes n earlier (item first more) ranges (suc place) value is stands at =
     let s = step modes earlier first more ranges is stands in
     there modes n s.next more ranges place value s.rest s.stands at
 
-came_if : (modes : List (List ℕ)) (n : ℕ) (earlier : List (ℕ × Span)) (value : Data) (more : Items)
-    (range found : ℕ × Span) (b : Bool) → range_in modes value ≡ Ok range
+came_if : (modes : List (List ℕ)) (n : ℕ) (earlier : List (ℕ × RangeRest)) (value : Data) (more : Items)
+    (range found : ℕ × RangeRest) (b : Bool) → range_in modes value ≡ Ok range
     → cond b (Some range) (find (has_number n) earlier) ≡ Some found
     → (find (has_number n) earlier ≡ Some found)
     ⊎ ((place : ℕ) × IsRangeAt modes (item value more) place found)
@@ -304,8 +304,8 @@ came_if modes n earlier value more range found true read at = let same : range �
 came_if modes n earlier value more range found false read at = inl at
 
 -- a range that is found is an earlier one or an element's
-came : (modes : List (List ℕ)) (n : ℕ) (earlier : List (ℕ × Span)) (items : Items) (ranges : List (ℕ
-    × Span)) (found : ℕ × Span) → ranges_from modes earlier items ≡ Ok ranges
+came : (modes : List (List ℕ)) (n : ℕ) (earlier : List (ℕ × RangeRest)) (items : Items) (ranges : List (ℕ
+    × RangeRest)) (found : ℕ × RangeRest) → ranges_from modes earlier items ≡ Ok ranges
     → stand_apart earlier ≡ true
     → find (has_number n) ranges ≡ Some found → (find (has_number n) earlier ≡ Some found)
     ⊎ ((place : ℕ) × IsRangeAt modes items place found)
@@ -320,8 +320,8 @@ came modes n earlier (item value more) ranges found is stands at =
     (came modes n s.next more ranges found s.rest s.stands at)
 
 -- no element has a number that an earlier range has
-again : (modes : List (List ℕ)) (n : ℕ) (earlier : List (ℕ × Span)) (items : Items)
-    (ranges : List (ℕ × Span)) (place : ℕ) (value : Data) (range : ℕ × Span)
+again : (modes : List (List ℕ)) (n : ℕ) (earlier : List (ℕ × RangeRest)) (items : Items)
+    (ranges : List (ℕ × RangeRest)) (place : ℕ) (value : Data) (range : ℕ × RangeRest)
     → ranges_from modes earlier items ≡ Ok ranges → stand_apart earlier ≡ true
     → HasOne n earlier → get_item place items ≡ Some value → range_in modes value ≡ Ok range
     → has_number n range ≡ true → ⊥
@@ -338,8 +338,8 @@ again modes n earlier (item first more) ranges (suc place) value range is stands
     (has_if (has_number n s.range) n s.range old.0 s.next (s.found n
     ∙ ap (λ o. cond (has_number n s.range) (Some s.range) o) old.1)) at read has
 
-first_has : (modes : List (List ℕ)) (n : ℕ) (earlier : List (ℕ × Span)) (first value : Data)
-    (one range : ℕ × Span) (next : List (ℕ × Span)) → range_in modes first ≡ Ok one
+first_has : (modes : List (List ℕ)) (n : ℕ) (earlier : List (ℕ × RangeRest)) (first value : Data)
+    (one range : ℕ × RangeRest) (next : List (ℕ × RangeRest)) → range_in modes first ≡ Ok one
     → find (has_number n) next ≡ cond (has_number n one) (Some one) (find (has_number n) earlier)
     → Some first ≡ Some value → range_in modes value ≡ Ok range → has_number n range ≡ true
     → HasOne n next
@@ -353,8 +353,8 @@ first_has modes n earlier first value one range next is found at read has =
     )
 
 -- an element that has a number is the only one
-only : (modes : List (List ℕ)) (n : ℕ) (earlier : List (ℕ × Span)) (items : Items) (ranges : List (ℕ
-    × Span)) (place place' : ℕ) (value value' : Data) (range range' : ℕ × Span)
+only : (modes : List (List ℕ)) (n : ℕ) (earlier : List (ℕ × RangeRest)) (items : Items) (ranges : List (ℕ
+    × RangeRest)) (place place' : ℕ) (value value' : Data) (range range' : ℕ × RangeRest)
     → ranges_from modes earlier items ≡ Ok ranges → stand_apart earlier ≡ true
     → get_item place items ≡ Some value → range_in modes value ≡ Ok range
     → has_number n range ≡ true
@@ -388,17 +388,17 @@ pub if_ok : {A : Type 0} (b : Bool) (o : OrFault A) (e : TableFault) (a : A)
 if_ok true o e a is = is
 if_ok false o e a is = absurd (cc)
 
-pub record AreRead (modes : List (List ℕ)) (tree : Members) (ranges : List (ℕ × Span)) : Type
+pub record AreRead (modes : List (List ℕ)) (tree : Members) (ranges : List (ℕ × RangeRest)) : Type
     0 where
   pub items : Items
   pub listed : get_member (codes "validators") tree ≡ Some (array items)
   pub read : ranges_from modes [] items ≡ Ok ranges
 
-abbrev pub by_tables : List (List ℕ) → Items → OrFault (List (ℕ × Span))
+abbrev pub by_tables : List (List ℕ) → Items → OrFault (List (ℕ × RangeRest))
 by_tables modes items = if are_tables items then ranges_from modes [] items else Err
     (Kind the_key.Validators)
 
-pub ranges_read : (modes : List (List ℕ)) (tree : Members) (ranges : List (ℕ × Span))
+pub ranges_read : (modes : List (List ℕ)) (tree : Members) (ranges : List (ℕ × RangeRest))
     → ranges_of modes tree ≡ Ok ranges → AreRead modes tree ranges
 unfolding ranges_of
 ranges_read modes tree ranges is =
@@ -422,7 +422,7 @@ found_says p [] y at = absurd (cc)
 found_says p (x ∷ xs) y at = found_says_if p (p x) x y (find p xs) refl (found_says p xs y) at
 
 -- a validator that an element has is one of the range that it reads as
-agrees : (modes : List (List ℕ)) (element : Members) (range : ℕ × Span) (validator : ℕ)
+agrees : (modes : List (List ℕ)) (element : Members) (range : ℕ × RangeRest) (validator : ℕ)
     → Reads modes (table element) range → HasValidator element validator
     → has_number validator range ≡ true
 agrees modes element range validator r has =
@@ -440,7 +440,7 @@ agrees modes element range validator r has =
 
 -- and the other way round
 has_it : (modes : List (List ℕ)) (value : Data) (range : ℕ
-    × Span) (validator : ℕ) (r : Reads modes value range) → has_number validator range ≡ true
+    × RangeRest) (validator : ℕ) (r : Reads modes value range) → has_number validator range ≡ true
     → HasValidator r.element validator
 has_it modes value range validator r has =
     let both = and_parts (nat_le range.0 validator) (nat_le validator range.1.last) has in
@@ -453,15 +453,15 @@ has_it modes value range validator r has =
       upto = leb-true validator range.1.last both.1;
     }
 
-abbrev MapsTo : Option (ℕ × Span) → ℕ → Type 0
-MapsTo o mode = (range : ℕ × Span) × (o ≡ Some range) × (range.1.mode ≡ mode)
+abbrev MapsTo : Option (ℕ × RangeRest) → ℕ → Type 0
+MapsTo o mode = (range : ℕ × RangeRest) × (o ≡ Some range) × (range.1.mode ≡ mode)
 
-maps : (o : Option (ℕ × Span)) (mode : ℕ)
-    → option_map (λ (range : ℕ × Span). range.1.mode) o ≡ Some mode → MapsTo o mode
+maps : (o : Option (ℕ × RangeRest)) (mode : ℕ)
+    → option_map (λ (range : ℕ × RangeRest). range.1.mode) o ≡ Some mode → MapsTo o mode
 maps None mode is = absurd (cc)
 maps (Some range) mode is = (range, refl, cc)
 
-gives : (modes : List (List ℕ)) (tree : Members) (ranges : List (ℕ × Span)) (validator mode : ℕ)
+gives : (modes : List (List ℕ)) (tree : Members) (ranges : List (ℕ × RangeRest)) (validator mode : ℕ)
     → AreRead modes tree ranges → MapsTo (range_at ranges validator) mode
     → RangeGives modes tree validator mode
 gives modes tree ranges validator mode text at = ⊎_elim
@@ -487,15 +487,15 @@ gives modes tree ranges validator mode text at = ⊎_elim
     (came modes validator [] text.items ranges at.0 text.read refl at.1)
 
 -- an element that has the validator reads as the range that is found
-pub record IsFound (modes : List (List ℕ)) (ranges : List (ℕ × Span)) (validator : ℕ)
+pub record IsFound (modes : List (List ℕ)) (ranges : List (ℕ × RangeRest)) (validator : ℕ)
     (items : Items) (place : ℕ) (element : Members) : Type 0 where
-  pub range : ℕ × Span
+  pub range : ℕ × RangeRest
   pub stands : get_item place items ≡ Some (table element)
   pub read : range_in modes (table element) ≡ Ok range
   pub has : has_number validator range ≡ true
   pub found : find (has_number validator) ranges ≡ Some range
 
-is_found : (modes : List (List ℕ)) (tree : Members) (ranges : List (ℕ × Span)) (validator place : ℕ)
+is_found : (modes : List (List ℕ)) (tree : Members) (ranges : List (ℕ × RangeRest)) (validator place : ℕ)
     (element : Members) (text : AreRead modes tree ranges) → HasRange tree place element
     → HasValidator element validator
     → IsFound modes ranges validator text.items place element
@@ -509,9 +509,9 @@ is_found modes tree ranges validator place element text listed has =
     let here = agrees modes element at.0 validator (reads modes (table element) at.0 at.1) has in
     record { range = at.0; stands = stands; read = at.1; has = here; found = at.2 here }
 
-is_given : (modes : List (List ℕ)) (tree : Members) (ranges : List (ℕ × Span)) (validator mode : ℕ)
+is_given : (modes : List (List ℕ)) (tree : Members) (ranges : List (ℕ × RangeRest)) (validator mode : ℕ)
     → AreRead modes tree ranges → RangeGives modes tree validator mode
-    → option_map (λ (range : ℕ × Span). range.1.mode) (range_at ranges validator) ≡ Some mode
+    → option_map (λ (range : ℕ × RangeRest). range.1.mode) (range_at ranges validator) ≡ Some mode
 is_given modes tree ranges validator mode text g =
     let f = is_found modes tree ranges validator g.place g.element text g.listed g.has in
     let r = reads modes (table g.element) f.range f.read in
@@ -523,53 +523,53 @@ is_given modes tree ranges validator mode text g =
     let modes_same : Ok mode ≡ Ok f.range.1.mode =
     sym g.names.named ∙ ap (mode_named modes) name ∙ r.names.named in
     let one : f.range.1.mode ≡ mode = cc in
-    ap (option_map (λ (range : ℕ × Span). range.1.mode)) f.found ∙ ap (λ (m : ℕ). Some m) one
+    ap (option_map (λ (range : ℕ × RangeRest). range.1.mode)) f.found ∙ ap (λ (m : ℕ). Some m) one
 
 pub mode-given : (tree : Members) (fares : Fares) (validator mode : ℕ)
-    → rules_of_tree tree ≡ Ok fares.rules
-    → (mode_at fares validator ≡ Some mode) ↔ RangeGives fares.rules.modes tree validator mode
+    → meaning_of_tree tree ≡ Ok fares.meaning
+    → (mode_at fares validator ≡ Some mode) ↔ RangeGives fares.meaning.modes tree validator mode
 mode-given tree fares validator mode is =
-    let text = ranges_read fares.rules.modes tree fares.rules.ranges
-    (parts tree fares.rules is).ranges in (
-      λ at. gives fares.rules.modes tree fares.rules.ranges validator mode text
-          (maps (range_at fares.rules.ranges validator) mode at),
-      λ g. is_given fares.rules.modes tree fares.rules.ranges validator mode text g,
+    let text = ranges_read fares.meaning.modes tree fares.meaning.ranges
+    (parts tree fares.meaning is).ranges in (
+      λ at. gives fares.meaning.modes tree fares.meaning.ranges validator mode text
+          (maps (range_at fares.meaning.ranges validator) mode at),
+      λ g. is_given fares.meaning.modes tree fares.meaning.ranges validator mode text g,
     )
 
 none_or_gives : (o : Option ℕ) → ((mode : ℕ) → o ≡ Some mode → ⊥) → o ≡ None
 none_or_gives None none = refl
 none_or_gives (Some mode) none = absurd (none mode refl)
 
-maps_none : (o : Option (ℕ × Span)) (range : ℕ × Span) → o ≡ Some range
-    → option_map (λ (range : ℕ × Span). range.1.mode) o ≡ None → ⊥
+maps_none : (o : Option (ℕ × RangeRest)) (range : ℕ × RangeRest) → o ≡ Some range
+    → option_map (λ (range : ℕ × RangeRest). range.1.mode) o ≡ None → ⊥
 maps_none o range is none = let no : Some range.1.mode ≡ None =
-    sym (ap (option_map (λ (range : ℕ × Span). range.1.mode)) is) ∙ none in absurd (cc)
+    sym (ap (option_map (λ (range : ℕ × RangeRest). range.1.mode)) is) ∙ none in absurd (cc)
 
 pub mode-none : (tree : Members) (fares : Fares) (validator : ℕ)
-    → rules_of_tree tree ≡ Ok fares.rules
+    → meaning_of_tree tree ≡ Ok fares.meaning
     → (mode_at fares validator ≡ None) ↔ ((place : ℕ) → ¬ RangeHas tree validator place)
 mode-none tree fares validator is =
-    let text = ranges_read fares.rules.modes tree fares.rules.ranges
-    (parts tree fares.rules is).ranges in (
+    let text = ranges_read fares.meaning.modes tree fares.meaning.ranges
+    (parts tree fares.meaning is).ranges in (
       λ none place e.
-          let f = is_found fares.rules.modes tree fares.rules.ranges validator place e.element text
+          let f = is_found fares.meaning.modes tree fares.meaning.ranges validator place e.element text
           e.listed e.has in
-          maps_none (range_at fares.rules.ranges validator) f.range f.found none,
+          maps_none (range_at fares.meaning.ranges validator) f.range f.found none,
       λ none. none_or_gives (mode_at fares validator) (λ mode at.
-          let g = gives fares.rules.modes tree fares.rules.ranges validator mode text
-          (maps (range_at fares.rules.ranges validator) mode at) in
+          let g = gives fares.meaning.modes tree fares.meaning.ranges validator mode text
+          (maps (range_at fares.meaning.ranges validator) mode at) in
           none g.place (record { element = g.element; listed = g.listed; has = g.has })),
     )
 
-pub one-entry : (tree : Members) (rules : TableRules) (validator place place' : ℕ)
-    → rules_of_tree tree ≡ Ok rules
+pub one-entry : (tree : Members) (meaning : TableMeaning) (validator place place' : ℕ)
+    → meaning_of_tree tree ≡ Ok meaning
     → RangeHas tree validator place → RangeHas tree validator place' → place ≡ place'
-one-entry tree rules validator place place' is one other =
-    let text = ranges_read rules.modes tree rules.ranges (parts tree rules is).ranges in
-    let f = is_found rules.modes tree rules.ranges validator place one.element text one.listed
+one-entry tree meaning validator place place' is one other =
+    let text = ranges_read meaning.modes tree meaning.ranges (parts tree meaning is).ranges in
+    let f = is_found meaning.modes tree meaning.ranges validator place one.element text one.listed
     one.has in
-    let g = is_found rules.modes tree rules.ranges validator place' other.element text other.listed
+    let g = is_found meaning.modes tree meaning.ranges validator place' other.element text other.listed
     other.has in
-    only rules.modes validator [] text.items rules.ranges place place' (table one.element)
+    only meaning.modes validator [] text.items meaning.ranges place place' (table one.element)
     (table other.element) f.range g.range text.read refl f.stands f.read f.has g.stands g.read
     g.has

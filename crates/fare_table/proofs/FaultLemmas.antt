@@ -1,4 +1,4 @@
--- The fault that the rules of a tree tell is that of the first row that holds.
+-- The fault that the meaning of a tree tells is that of the first row that holds.
 use Rattle.std.proofs.Common.{◌≡◌, ⊎_elim, ℕ, zero, suc, ◌+◌, ◌*◌, ◌&&◌, ◌||◌, not, Bool, true}
 use Rattle.std.proofs.Common.{false, List, [], ◌∷◌, ◌++◌, Option, Some, None, Ok, Err, cond}
 use Rattle.std.proofs.Common.{option_map, refl, sym, ap, ◌∙◌, subst, arith, codes, append_assoc}
@@ -19,7 +19,7 @@ use Rattle.fare_table.specs.Classes.{ceiling_of, checked, class_in, class_named,
 use Rattle.fare_table.specs.Classes.{classes_of, default_of, is_empty}
 use Rattle.fare_table.specs.Faults.{FaultRow, Where, top, class, a_row, are_pairs, are_texts, class_rows}
 use Rattle.fare_table.specs.Faults.{classes_in, first_row, holds, is_from, is_kind, is_mode}
-use Rattle.fare_table.specs.Faults.{is_in_limits, is_wrong, items_of, member_at, members_at}
+use Rattle.fare_table.specs.Faults.{is_in_bounds, is_wrong, items_of, member_at, members_at}
 use Rattle.fare_table.specs.Faults.{members_of, mode_names, needed_rows, pairs, passes}
 use Rattle.fare_table.specs.Faults.{rows_of_class, texts, value_at, string_of}
 use Rattle.fare_table.specs.Members.{hold_tables, number_at, number_in, of_kind, within}
@@ -84,13 +84,13 @@ abbrev pub fails : (Data → Bool) → Option Data → Bool
 fails test o = passes (λ value. not (test value)) o
 
 abbrev pub needs : Option Data → (Data → Bool) → (Data → Bool) → Key → Option TableFault
-needs o kind limits key =
+needs o kind bounds key =
     cond (is_none o) (Some (Missing key))
-    (cond (fails kind o) (Some (Kind key)) (cond (fails limits o) (Some (Range key)) None))
+    (cond (fails kind o) (Some (Kind key)) (cond (fails bounds o) (Some (Range key)) None))
 
 pub told_needed : (tree : Members) (at : Where) (key : Key)
     → first_row tree (needed_rows at key)
-    ≡ needs (value_at at key tree) (is_kind key) (is_in_limits key (members_at at tree)) key
+    ≡ needs (value_at at key tree) (is_kind key) (is_in_bounds key (members_at at tree)) key
 told_needed tree at key =
     told tree at (Missing key) (a_row at (Kind key) ∷ a_row at (Range key) ∷ [])
     ∙ ap (λ (x : Option TableFault). cond (is_none (value_at at key tree)) (Some (Missing key)) x)
@@ -150,7 +150,7 @@ by_names ds = strings_from [] ds
 modes_steps : (o : Option Data)
     → fault_in ((ok_or o (Missing the_key.Modes)
     >>= (λ value. of_kind the_key.Modes (as_array value))) >>= by_names)
-    ≡ needs o (is_kind the_key.Modes) (is_in_limits the_key.Modes no_members) the_key.Modes
+    ≡ needs o (is_kind the_key.Modes) (is_in_bounds the_key.Modes no_members) the_key.Modes
 modes_steps None = refl
 modes_steps (Some (array ds)) =
     ap (λ (names : OrFault (List (List ℕ))).
@@ -360,7 +360,7 @@ checked-told tree n (member name (table inner) more) stand tables =
 checked-told tree n (member name _ more) stand tables = absurd (false≢true tables)
 
 class_need : Option Data → Option TableFault
-class_need o = needs o (is_kind the_key.Classes) (is_in_limits the_key.Classes no_members)
+class_need o = needs o (is_kind the_key.Classes) (is_in_bounds the_key.Classes no_members)
     the_key.Classes
 
 empty_if : (b : Bool) (inner : Members) (rest : Option TableFault) → fault_in (checked inner) ≡ rest

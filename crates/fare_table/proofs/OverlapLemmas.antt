@@ -16,10 +16,10 @@ use Rattle.std.specs.declared.ops.Bound.TheVariants.{Unbounded, Included}
 use Rattle.fare_table.proofs.ApartLemmas.{AreApart, apart, or_twice}
 use Rattle.fare_table.specs.Validators.{are_modes_below, stand_apart, share_number}
 use Rattle.fare_table.specs.inside.Validators.{last_begun}
-use Rattle.fare_table.specs.declared.validators.Span.{Span}
+use Rattle.fare_table.specs.declared.validators.RangeRest.{RangeRest}
 
 Range : Type 0
-Range = ℕ × Span
+Range = ℕ × RangeRest
 
 -- the last element of a list
 abbrev pub last_of : {A : Type 0} → List A → Option A
@@ -31,27 +31,27 @@ last_of-append [] x = refl
 last_of-append (y ∷ ys) x = rw (last_of-append ys x)
 
 -- the ranges that begin at the number or before it
-abbrev pub begun : ℕ → List (ℕ × Span) → List (ℕ × Span)
+abbrev pub begun : ℕ → List (ℕ × RangeRest) → List (ℕ × RangeRest)
 begun n ranges = entries_between nat_cmp Unbounded (Included n) ranges
 
-alone : (range : ℕ × Span) → stand_apart (range ∷ []) ≡ true → range.0 ≤ range.1.last
+alone : (range : ℕ × RangeRest) → stand_apart (range ∷ []) ≡ true → range.0 ≤ range.1.last
 alone range stands = leb-true _ _ stands
 
 not_past : (n q : ℕ) → not (is_lt (nat_cmp n q)) ≡ nat_le q n
 not_past n q = grind (arith, nat_tests)
 
-begun_cons : (n : ℕ) (range : ℕ × Span) (more : List (ℕ × Span))
+begun_cons : (n : ℕ) (range : ℕ × RangeRest) (more : List (ℕ × RangeRest))
     → begun n (range ∷ more) ≡ cond (nat_le range.0 n) (range ∷ begun n more) (begun n more)
 begun_cons n range more =
     ap (λ b. cond b (range ∷ begun n more) (begun n more)) (not_past n range.0)
 
-begun_step : (n : ℕ) (range : ℕ × Span) (more : List (ℕ × Span)) → n < range.0 → begun n more ≡ []
+begun_step : (n : ℕ) (range : ℕ × RangeRest) (more : List (ℕ × RangeRest)) → n < range.0 → begun n more ≡ []
     → begun n (range ∷ more) ≡ []
 begun_step n range more after rest =
     let past : nat_le range.0 n ≡ false = grind (arith, nat_tests) in
     begun_cons n range more ∙ rw (past, rest)
 
-begun_none : (n : ℕ) (range : ℕ × Span) (more : List (ℕ × Span)) → stand_apart (range ∷ more) ≡ true
+begun_none : (n : ℕ) (range : ℕ × RangeRest) (more : List (ℕ × RangeRest)) → stand_apart (range ∷ more) ≡ true
     → n < range.0 → begun n (range ∷ more) ≡ []
 begun_none n range [] stands after = begun_step n range [] after refl
 begun_none n range (next ∷ more) stands after =
@@ -67,13 +67,13 @@ and_true : (b : Bool) → (b && true) ≡ b
 and_true true = refl
 and_true false = refl
 
-pub rest_stands : (range : ℕ × Span) (more : List (ℕ × Span)) → stand_apart (range ∷ more) ≡ true
+pub rest_stands : (range : ℕ × RangeRest) (more : List (ℕ × RangeRest)) → stand_apart (range ∷ more) ≡ true
     → stand_apart more ≡ true
 rest_stands range [] stands = refl
 rest_stands range (next ∷ more) stands = (apart range next more stands).rest
 
 -- what a map's range up to a number ends with
-pub last_begun-begun : (n : ℕ) (ranges : List (ℕ × Span)) → stand_apart ranges ≡ true
+pub last_begun-begun : (n : ℕ) (ranges : List (ℕ × RangeRest)) → stand_apart ranges ≡ true
     → last_of (begun n ranges) ≡ last_begun n ranges
 last_begun-begun n [] stands = refl
 last_begun-begun n (range ∷ more) stands = elim (leb_tells range.0 n) [
@@ -81,18 +81,18 @@ last_begun-begun n (range ∷ more) stands = elim (leb_tells range.0 n) [
   | inr a ↦ rw (begun_none n range more stands a.1, a.0)
 ]
 
-pub ends_after : (range : ℕ × Span) (more : List (ℕ × Span)) → stand_apart (range ∷ more) ≡ true
+pub ends_after : (range : ℕ × RangeRest) (more : List (ℕ × RangeRest)) → stand_apart (range ∷ more) ≡ true
     → range.0 ≤ range.1.last
 ends_after range [] stands = alone range stands
 ends_after range (next ∷ more) stands = (apart range next more stands).begins
 
 -- the range reaches back to the number
-abbrev pub reaches : ℕ → Option (ℕ × Span) → Bool
+abbrev pub reaches : ℕ → Option (ℕ × RangeRest) → Bool
 reaches number None = false
 reaches number (Some range) = nat_le number range.1.last
 
 -- the last range that begins no later than a number reaches any number that an earlier one reaches
-reached : (x n : ℕ) (range : ℕ × Span) (more : List (ℕ × Span)) → stand_apart (range ∷ more) ≡ true
+reached : (x n : ℕ) (range : ℕ × RangeRest) (more : List (ℕ × RangeRest)) → stand_apart (range ∷ more) ≡ true
     → nat_le range.0 n ≡ true → x ≤ range.1.last
     → reaches x (last_begun n (range ∷ more)) ≡ true
 reached x n range [] stands here back = rw here (le-leb _ _ back)
@@ -107,7 +107,7 @@ reached x n range (next ∷ more) stands here back =
       | inr a ↦ rw (here, a.0) (le-leb _ _ back)
     ]
 
-shares_step : (range other next : ℕ × Span) (more : List (ℕ × Span)) → range.0 ≤ range.1.last
+shares_step : (range other next : ℕ × RangeRest) (more : List (ℕ × RangeRest)) → range.0 ≤ range.1.last
     → AreApart other next more
     → list_any (share_number range) (next ∷ more)
     ≡ reaches range.0 (last_begun range.1.last (next ∷ more))
@@ -151,7 +151,7 @@ shares_step range other next more order two ih back (inl a) (inr d) =
 
 -- a range shares a number with one of those that stand apart where the last one that begins no
 -- later than it ends reaches back to it
-pub shares-last_begun : (range : ℕ × Span) (ranges : List (ℕ × Span)) → range.0 ≤ range.1.last
+pub shares-last_begun : (range : ℕ × RangeRest) (ranges : List (ℕ × RangeRest)) → range.0 ≤ range.1.last
     → stand_apart ranges ≡ true
     → list_any (share_number range) ranges ≡ reaches range.0 (last_begun range.1.last ranges)
 shares-last_begun range [] order stands = refl
@@ -165,7 +165,7 @@ shares-last_begun range (other ∷ next ∷ more) order stands =
     (leb_tells range.0 other.1.last) (leb_tells other.0 range.1.last)
     (leb_tells next.0 range.1.last)
 
-cons_stands : (range next : ℕ × Span) (more : List (ℕ × Span)) → range.0 ≤ range.1.last
+cons_stands : (range next : ℕ × RangeRest) (more : List (ℕ × RangeRest)) → range.0 ≤ range.1.last
     → range.1.last < next.0 → stand_apart (next ∷ more) ≡ true
     → stand_apart (range ∷ next ∷ more) ≡ true
 cons_stands range next more begins ends rest =
@@ -174,7 +174,7 @@ cons_stands range next more begins ends rest =
     rw (first, second, rest)
 
 -- a range that shares no number with another ends before it or begins after it
-pub free_apart : (range other : ℕ × Span) → share_number range other ≡ false
+pub free_apart : (range other : ℕ × RangeRest) → share_number range other ≡ false
     → (range.1.last < other.0) ⊎ (other.1.last < range.0)
 free_apart range other free = elim (leb_tells range.0 other.1.last) [
   | inl a ↦ elim (leb_tells other.0 range.1.last) [
@@ -184,29 +184,29 @@ free_apart range other free = elim (leb_tells range.0 other.1.last) [
   | inr a ↦ inr a.1
 ]
 
-pub comes_before : (range other : ℕ × Span) → range.0 ≤ range.1.last → range.1.last < other.0
+pub comes_before : (range other : ℕ × RangeRest) → range.0 ≤ range.1.last → range.1.last < other.0
     → nat_cmp range.0 other.0 ≡ Less
 comes_before range other order before = sym (nat_cmp_is range.0 other.0 Less (omega arith))
 
-pub comes_after : (range other : ℕ × Span) → other.0 ≤ other.1.last → other.1.last < range.0
+pub comes_after : (range other : ℕ × RangeRest) → other.0 ≤ other.1.last → other.1.last < range.0
     → nat_cmp range.0 other.0 ≡ Greater
 comes_after range other order after = sym (nat_cmp_is range.0 other.0 Greater (omega arith))
 
-with_one : ℕ × Span → List (ℕ × Span) → List (ℕ × Span)
+with_one : ℕ × RangeRest → List (ℕ × RangeRest) → List (ℕ × RangeRest)
 with_one range ranges = insert_entry nat_cmp ranges range.0 range.1
 
-one_before : (range other : ℕ × Span) (more : List (ℕ × Span)) → nat_cmp range.0 other.0 ≡ Less
+one_before : (range other : ℕ × RangeRest) (more : List (ℕ × RangeRest)) → nat_cmp range.0 other.0 ≡ Less
     → with_one range (other ∷ more) ≡ range ∷ other ∷ more
 unfolding with_one
 one_before range other more less = rw less
 
-one_after : (range other : ℕ × Span) (more : List (ℕ × Span)) → nat_cmp range.0 other.0 ≡ Greater
+one_after : (range other : ℕ × RangeRest) (more : List (ℕ × RangeRest)) → nat_cmp range.0 other.0 ≡ Greater
     → with_one range (other ∷ more) ≡ other ∷ with_one range more
 unfolding with_one
 one_after range other more greater = rw greater
 
 -- before ranges that go on with a new one stands a range that ends before both
-cons_with_one : (first range next : ℕ × Span) (more : List (ℕ × Span)) → first.0 ≤ first.1.last
+cons_with_one : (first range next : ℕ × RangeRest) (more : List (ℕ × RangeRest)) → first.0 ≤ first.1.last
     → first.1.last < range.0 → first.1.last < next.0
     → range.0 ≤ range.1.last → next.0 ≤ next.1.last → share_number range next ≡ false
     → stand_apart (with_one range (next ∷ more)) ≡ true
@@ -221,7 +221,7 @@ cons_with_one first range next more begins ends further order onward free stands
           rw same (cons_stands first next (with_one range more) begins further (rw same at stands))
     ]
 
-stands-with_one : (range other : ℕ × Span) (more : List (ℕ × Span)) → range.0 ≤ range.1.last
+stands-with_one : (range other : ℕ × RangeRest) (more : List (ℕ × RangeRest)) → range.0 ≤ range.1.last
     → stand_apart (other ∷ more) ≡ true
     → list_any (share_number range) (other ∷ more) ≡ false
     → stand_apart (with_one range (other ∷ more)) ≡ true
@@ -250,7 +250,7 @@ stands-with_one range other (next ∷ more) order stands free =
     ]
 
 -- ranges that stand apart stay so with a range that shares no number with them
-pub stands-insert : (range : ℕ × Span) (ranges : List (ℕ × Span)) → range.0 ≤ range.1.last
+pub stands-insert : (range : ℕ × RangeRest) (ranges : List (ℕ × RangeRest)) → range.0 ≤ range.1.last
     → stand_apart ranges ≡ true
     → list_any (share_number range) ranges ≡ false
     → stand_apart (insert_entry nat_cmp ranges range.0 range.1) ≡ true
@@ -259,7 +259,7 @@ stands-insert range [] order stands free = le-leb _ _ order
 stands-insert range (other ∷ more) order stands free =
     stands-with_one range other more order stands free
 
-known_step : (count : ℕ) (range other : ℕ × Span) (more : List (ℕ × Span)) (o : Ordering)
+known_step : (count : ℕ) (range other : ℕ × RangeRest) (more : List (ℕ × RangeRest)) (o : Ordering)
     → nat_lt range.1.mode count ≡ true → are_modes_below count (other ∷ more) ≡ true
     → are_modes_below count (insert_entry nat_cmp more range.0 range.1) ≡ true
     → are_modes_below count
@@ -272,7 +272,7 @@ known_step count range other more Greater known all later =
     rw ((and_parts (nat_lt other.1.mode count) (are_modes_below count more) all).0) later
 
 -- one more range of a mode of the table
-pub known-insert : (count : ℕ) (range : ℕ × Span) (ranges : List (ℕ × Span)) → range.1.mode < count
+pub known-insert : (count : ℕ) (range : ℕ × RangeRest) (ranges : List (ℕ × RangeRest)) → range.1.mode < count
     → are_modes_below count ranges ≡ true
     → are_modes_below count (insert_entry nat_cmp ranges range.0 range.1) ≡ true
 known-insert count range [] below all = let known : nat_lt range.1.mode count ≡ true =

@@ -10,7 +10,7 @@ use Rattle.toml.specs.Data.{Items, Members}
 use Rattle.fare_table.proofs.PartLemmas.{bind_ok, parts}
 use Rattle.fare_table.specs.Members.{array_at}
 use Rattle.fare_table.specs.OrFault.{OrFault, ◌>>=◌}
-use Rattle.fare_table.specs.Rules.{TableRules, rules_of_tree}
+use Rattle.fare_table.specs.TableMeaning.{TableMeaning, meaning_of_tree}
 use Rattle.fare_table.specs.Transfers.{has_pair, joins, named_pairs, pairs_from, places_of}
 use Rattle.fare_table.specs.Transfers.{transfers_from, transfers_of, with_pair, ListsPair}
 use Rattle.fare_table.specs.declared.fault.Key.TheVariants as the_key
@@ -202,8 +202,8 @@ pairs-listed modes tree pairs from to is =
     )
 
 -- the law
-pub permitted-listed : (tree : Members) (rules : TableRules) (from to : ℕ)
-    → rules_of_tree tree ≡ Ok rules → (has_pair rules.transfers from to ≡ true)
-    ↔ ListsPair rules.modes tree from to
-permitted-listed tree rules from to is =
-    pairs-listed rules.modes tree rules.transfers from to (parts tree rules is).transfers
+pub permitted-listed : (tree : Members) (meaning : TableMeaning) (from to : ℕ)
+    → meaning_of_tree tree ≡ Ok meaning → (has_pair meaning.transfers from to ≡ true)
+    ↔ ListsPair meaning.modes tree from to
+permitted-listed tree meaning from to is =
+    pairs-listed meaning.modes tree meaning.transfers from to (parts tree meaning is).transfers

@@ -5,12 +5,12 @@ use Rattle.fare_table.specs.Classes.{classes_of, default_of}
 use Rattle.fare_table.specs.Modes.{modes_of}
 use Rattle.fare_table.specs.OrFault.{OrFault, ◌>>=◌}
 use Rattle.fare_table.specs.Riders.{riders_of}
-use Rattle.fare_table.specs.Rules.{TableRules, rules_of_tree}
+use Rattle.fare_table.specs.TableMeaning.{TableMeaning, meaning_of_tree}
 use Rattle.fare_table.specs.Transfers.{transfers_of}
 use Rattle.fare_table.specs.Validators.{ranges_of}
 use Rattle.fare_table.specs.Zone.{zone_of}
 use Rattle.fare_table.specs.declared.terms.Terms.{Terms}
-use Rattle.fare_table.specs.declared.validators.Span.{Span}
+use Rattle.fare_table.specs.declared.validators.RangeRest.{RangeRest}
 
 -- two steps that came to an end: the first gave a value, and the second went on with it
 pub bind_ok : {A B : Type 0} (o : OrFault A) (f : A → OrFault B) (b : B) → (o >>= f) ≡ Ok b
@@ -18,19 +18,19 @@ pub bind_ok : {A B : Type 0} (o : OrFault A) (f : A → OrFault B) (b : B) → (
 bind_ok (Ok a) f b is = (a, refl, is)
 bind_ok (Err e) f b is = absurd (cc)
 
--- the rules are what the keys give
-pub record AreParts (tree : Members) (rules : TableRules) : Type 0 where
-  pub modes : modes_of tree ≡ Ok rules.modes
-  pub transfers : transfers_of rules.modes tree ≡ Ok rules.transfers
+-- the meaning is what the keys give
+pub record AreParts (tree : Members) (meaning : TableMeaning) : Type 0 where
+  pub modes : modes_of tree ≡ Ok meaning.modes
+  pub transfers : transfers_of meaning.modes tree ≡ Ok meaning.transfers
   pub table : Members
   pub classes : classes_of tree ≡ Ok table
-  pub standard : default_of table tree ≡ Ok rules.standard
-  pub ranges : ranges_of rules.modes tree ≡ Ok rules.ranges
-  pub riders : riders_of table tree ≡ Ok rules.riders
-  pub zone : zone_of tree ≡ Ok rules.zone
+  pub standard : default_of table tree ≡ Ok meaning.standard
+  pub ranges : ranges_of meaning.modes tree ≡ Ok meaning.ranges
+  pub riders : riders_of table tree ≡ Ok meaning.riders
+  pub zone : zone_of tree ≡ Ok meaning.zone
 
-abbrev by_zone : Members → List (List ℕ) → List (ℕ × ℕ) → Terms → List (ℕ × Span)
-    → List (List ℕ × Terms) → Option (List ℕ) → OrFault TableRules
+abbrev by_zone : Members → List (List ℕ) → List (ℕ × ℕ) → Terms → List (ℕ × RangeRest)
+    → List (List ℕ × Terms) → Option (List ℕ) → OrFault TableMeaning
 by_zone tree modes transfers standard ranges riders zone = Ok (record {
   modes = modes;
   transfers = transfers;
@@ -40,58 +40,58 @@ by_zone tree modes transfers standard ranges riders zone = Ok (record {
   zone = zone;
 })
 
-abbrev by_riders : Members → List (List ℕ) → List (ℕ × ℕ) → Terms → List (ℕ × Span)
-    → List (List ℕ × Terms) → OrFault TableRules
+abbrev by_riders : Members → List (List ℕ) → List (ℕ × ℕ) → Terms → List (ℕ × RangeRest)
+    → List (List ℕ × Terms) → OrFault TableMeaning
 by_riders tree modes transfers standard ranges riders =
     zone_of tree >>= by_zone tree modes transfers standard ranges riders
 
-abbrev by_ranges : Members → List (List ℕ) → List (ℕ × ℕ) → Members → Terms → List (ℕ × Span)
-    → OrFault TableRules
+abbrev by_ranges : Members → List (List ℕ) → List (ℕ × ℕ) → Members → Terms → List (ℕ × RangeRest)
+    → OrFault TableMeaning
 by_ranges tree modes transfers classes standard ranges =
     riders_of classes tree >>= by_riders tree modes transfers standard ranges
 
-abbrev by_default : Members → List (List ℕ) → List (ℕ × ℕ) → Members → Terms → OrFault TableRules
+abbrev by_default : Members → List (List ℕ) → List (ℕ × ℕ) → Members → Terms → OrFault TableMeaning
 by_default tree modes transfers classes standard =
     ranges_of modes tree >>= by_ranges tree modes transfers classes standard
 
-abbrev by_classes : Members → List (List ℕ) → List (ℕ × ℕ) → Members → OrFault TableRules
+abbrev by_classes : Members → List (List ℕ) → List (ℕ × ℕ) → Members → OrFault TableMeaning
 by_classes tree modes transfers classes =
     default_of classes tree >>= by_default tree modes transfers classes
 
-abbrev by_transfers : Members → List (List ℕ) → List (ℕ × ℕ) → OrFault TableRules
+abbrev by_transfers : Members → List (List ℕ) → List (ℕ × ℕ) → OrFault TableMeaning
 by_transfers tree modes transfers = classes_of tree >>= by_classes tree modes transfers
 
-abbrev by_modes : Members → List (List ℕ) → OrFault TableRules
+abbrev by_modes : Members → List (List ℕ) → OrFault TableMeaning
 by_modes tree modes = transfers_of modes tree >>= by_transfers tree modes
 
-abbrev outcome_of : TableRules → OrFault TableRules
-outcome_of rules = Ok rules
+abbrev outcome_of : TableMeaning → OrFault TableMeaning
+outcome_of meaning = Ok meaning
 
-same_rules : (one other : TableRules) → outcome_of one ≡ outcome_of other → one ≡ other
+same_rules : (one other : TableMeaning) → outcome_of one ≡ outcome_of other → one ≡ other
 same_rules one other is = cc
 
-moved : (tree : Members) (one other : TableRules) → outcome_of one ≡ outcome_of other
+moved : (tree : Members) (one other : TableMeaning) → outcome_of one ≡ outcome_of other
     → AreParts tree one → AreParts tree other
 moved tree one other is has =
-    subst (λ (r : TableRules). AreParts tree r) (same_rules one other is) has
+    subst (λ (r : TableMeaning). AreParts tree r) (same_rules one other is) has
 
-pub parts : (tree : Members) (rules : TableRules) → rules_of_tree tree ≡ Ok rules
-    → AreParts tree rules
-unfolding rules_of_tree
-parts tree rules is =
-    let modes = bind_ok (modes_of tree) (by_modes tree) rules is in
-    let transfers = bind_ok (transfers_of modes.0 tree) (by_transfers tree modes.0) rules modes.2 in
-    let classes = bind_ok (classes_of tree) (by_classes tree modes.0 transfers.0) rules
+pub parts : (tree : Members) (meaning : TableMeaning) → meaning_of_tree tree ≡ Ok meaning
+    → AreParts tree meaning
+unfolding meaning_of_tree
+parts tree meaning is =
+    let modes = bind_ok (modes_of tree) (by_modes tree) meaning is in
+    let transfers = bind_ok (transfers_of modes.0 tree) (by_transfers tree modes.0) meaning modes.2 in
+    let classes = bind_ok (classes_of tree) (by_classes tree modes.0 transfers.0) meaning
     transfers.2 in
     let standard = bind_ok (default_of classes.0 tree)
-    (by_default tree modes.0 transfers.0 classes.0) rules classes.2 in
+    (by_default tree modes.0 transfers.0 classes.0) meaning classes.2 in
     let ranges = bind_ok (ranges_of modes.0 tree)
-    (by_ranges tree modes.0 transfers.0 classes.0 standard.0) rules standard.2 in
+    (by_ranges tree modes.0 transfers.0 classes.0 standard.0) meaning standard.2 in
     let riders = bind_ok (riders_of classes.0 tree)
-    (by_riders tree modes.0 transfers.0 standard.0 ranges.0) rules ranges.2 in
+    (by_riders tree modes.0 transfers.0 standard.0 ranges.0) meaning ranges.2 in
     let zone = bind_ok (zone_of tree)
-    (by_zone tree modes.0 transfers.0 standard.0 ranges.0 riders.0) rules riders.2 in
-    let whole : TableRules = record {
+    (by_zone tree modes.0 transfers.0 standard.0 ranges.0 riders.0) meaning riders.2 in
+    let whole : TableMeaning = record {
       modes = modes.0;
       transfers = transfers.0;
       standard = standard.0;
@@ -99,7 +99,7 @@ parts tree rules is =
       riders = riders.0;
       zone = zone.0;
     } in
-    moved tree whole rules zone.2
+    moved tree whole meaning zone.2
     (record {
       modes = modes.1;
       transfers = transfers.1;

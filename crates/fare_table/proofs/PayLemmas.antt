@@ -26,7 +26,7 @@ use Rattle.fare_table.specs.OrFault.{OrFault, ◌>>=◌}
 use Rattle.fare_table.specs.Paying.{HasTerms, IsCeiling, IsClassOf, NamesRider, Pays}
 use Rattle.fare_table.specs.Riders.{is_rider, rider_of, riders_from, riders_at, riders_of}
 use Rattle.fare_table.specs.Riders.{token_of_digits, with_rider}
-use Rattle.fare_table.specs.Rules.{TableRules, rules_of_tree}
+use Rattle.fare_table.specs.TableMeaning.{TableMeaning, meaning_of_tree}
 use Rattle.fare_table.specs.declared.fault.Key.TheVariants as the_key
 use Rattle.fare_table.specs.declared.fault.TableFault.{TableFault}
 use Rattle.fare_table.specs.declared.fault.TableFault.TheVariants.{Kind, Range, Rider}
@@ -674,74 +674,74 @@ default_named classes tree terms is =
     terms is in
     (name.0, text-read (codes "default_class") the_key.DefaultClass tree name.0 name.1, name.2)
 
-pays_if : (tree classes : Members) (rules : TableRules) (token : List ℕ) (o : Option Terms)
-    → classes_of tree ≡ Ok classes → default_of classes tree ≡ Ok rules.standard
-    → AreRiders classes (get_member (codes "riders") tree) rules.riders
-    → Named token rules.riders ≡ o → Pays tree token (unwrap_or o rules.standard)
-pays_if tree classes rules token None read standard are at =
-    let d = default_named classes tree rules.standard standard in
+pays_if : (tree classes : Members) (meaning : TableMeaning) (token : List ℕ) (o : Option Terms)
+    → classes_of tree ≡ Ok classes → default_of classes tree ≡ Ok meaning.standard
+    → AreRiders classes (get_member (codes "riders") tree) meaning.riders
+    → Named token meaning.riders ≡ o → Pays tree token (unwrap_or o meaning.standard)
+pays_if tree classes meaning token None read standard are at =
+    let d = default_named classes tree meaning.standard standard in
     record {
       class = d.0;
       is = inr (
         d.1,
         λ key other n.
-            let t = there classes token [] n.riders rules.riders key other
-            (named_from classes tree rules.riders token key other are n) n.stands n.named in
+            let t = there classes token [] n.riders meaning.riders key other
+            (named_from classes tree meaning.riders token key other are n) n.stands n.named in
             let no : None ≡ Some t.0 = sym at ∙ t.2 in
             absurd (cc (no)),
       );
-      has = has_terms tree classes d.0 rules.standard read d.2;
+      has = has_terms tree classes d.0 meaning.standard read d.2;
     }
-pays_if tree classes rules token (Some terms) read standard are at =
-    let c = came_from classes tree rules.riders token terms are at in
+pays_if tree classes meaning token (Some terms) read standard are at =
+    let c = came_from classes tree meaning.riders token terms are at in
     record { class = c.1; is = inl (c.0, c.2); has = has_terms tree classes c.1 terms read c.3 }
 
-pays : (tree : Members) (fares : Fares) (token : List ℕ) → rules_of_tree tree ≡ Ok fares.rules
+pays : (tree : Members) (fares : Fares) (token : List ℕ) → meaning_of_tree tree ≡ Ok fares.meaning
     → Pays tree token (terms_at fares token)
 pays tree fares token is =
-    let p = parts tree fares.rules is in
-    pays_if tree p.table fares.rules token (Named token fares.rules.riders) p.classes p.standard
-    (riders_read p.table tree fares.rules.riders p.riders) refl
+    let p = parts tree fares.meaning is in
+    pays_if tree p.table fares.meaning token (Named token fares.meaning.riders) p.classes p.standard
+    (riders_read p.table tree fares.meaning.riders p.riders) refl
 
-pub one-key : (tree : Members) (rules : TableRules) (token key key' class class' : List ℕ)
-    → rules_of_tree tree ≡ Ok rules
+pub one-key : (tree : Members) (meaning : TableMeaning) (token key key' class class' : List ℕ)
+    → meaning_of_tree tree ≡ Ok meaning
     → NamesRider tree token key class → NamesRider tree token key' class' → key ≡ key'
-one-key tree rules token key key' class class' is one two =
-    let p = parts tree rules is in
-    let are = riders_read p.table tree rules.riders p.riders in
+one-key tree meaning token key key' class class' is one two =
+    let p = parts tree meaning is in
+    let are = riders_read p.table tree meaning.riders p.riders in
     let same : one.riders ≡ two.riders =
     table_of (get_member (codes "riders") tree) one.riders two.riders one.listed two.listed in
-    one_key p.table token [] two.riders rules.riders key key' class class'
-    (named_from p.table tree rules.riders token key' class' are two)
+    one_key p.table token [] two.riders meaning.riders key key' class class'
+    (named_from p.table tree meaning.riders token key' class' are two)
     (ap (get_member key) (sym same) ∙ one.stands) one.named two.stands two.named
 
 text_of : (o : Option Data) (n m : List ℕ) → o ≡ Some (string n) → o ≡ Some (string m) → n ≡ m
 text_of o n m one two = let both : Some (string n) ≡ Some (string m) = sym one ∙ two in cc
 
 -- a token pays by one class
-one_class : (tree : Members) (rules : TableRules) (token class class' : List ℕ)
-    → rules_of_tree tree ≡ Ok rules → IsClassOf tree token class → IsClassOf tree token class'
+one_class : (tree : Members) (meaning : TableMeaning) (token class class' : List ℕ)
+    → meaning_of_tree tree ≡ Ok meaning → IsClassOf tree token class → IsClassOf tree token class'
     → class ≡ class'
-one_class tree rules token class class' is (inl one) (inl two) =
-    let key = one-key tree rules token one.0 two.0 class class' is one.1 two.1 in
+one_class tree meaning token class class' is (inl one) (inl two) =
+    let key = one-key tree meaning token one.0 two.0 class class' is one.1 two.1 in
     let same : one.1.riders ≡ two.1.riders =
     table_of (get_member (codes "riders") tree) one.1.riders two.1.riders one.1.listed
     two.1.listed in
     text_of (get_member two.0 two.1.riders) class class'
     (ap (λ (m : Members). get_member two.0 m) (sym same)
     ∙ ap (λ k. get_member k one.1.riders) (sym key) ∙ one.1.stands) two.1.stands
-one_class tree rules token class class' is (inl one) (inr two) = absurd (two.1 one.0 class one.1)
-one_class tree rules token class class' is (inr one) (inl two) = absurd (one.1 two.0 class' two.1)
-one_class tree rules token class class' is (inr one) (inr two) =
+one_class tree meaning token class class' is (inl one) (inr two) = absurd (two.1 one.0 class one.1)
+one_class tree meaning token class class' is (inr one) (inl two) = absurd (one.1 two.0 class' two.1)
+one_class tree meaning token class class' is (inr one) (inr two) =
     text_of (get_member (codes "default_class") tree) class class' one.0 two.0
 
 pub pays-terms : (tree : Members) (fares : Fares) (token : List ℕ) (terms : Terms)
-    → rules_of_tree tree ≡ Ok fares.rules → (terms_at fares token ≡ terms) ↔ Pays tree token terms
+    → meaning_of_tree tree ≡ Ok fares.meaning → (terms_at fares token ≡ terms) ↔ Pays tree token terms
 pays-terms tree fares token terms is =
     let p = pays tree fares token is in (
       λ same. subst (λ (t : Terms). Pays tree token t) same p,
       λ other.
-          let class = one_class tree fares.rules token p.class other.class is p.is other.is in
+          let class = one_class tree fares.meaning token p.class other.class is p.is other.is in
           one_terms tree other.class (terms_at fares token) terms
           (subst (λ c. HasTerms tree c (terms_at fares token)) class p.has) other.has,
     )

@@ -42,9 +42,9 @@ is_within : (number : ℤ) (key : Key) (low high n : ℕ) → within key low hig
     → (number ≡ pos n) × (low ≤ n) × (n ≤ high)
 is_within (pos m) key low high n is =
     let both = within_if (nat_le low m && nat_le m high) key m n is in
-    let limits = and_parts (nat_le low m) (nat_le m high) both.0 in
-    let above = leb-true low m limits.0 in
-    let below = leb-true m high limits.1 in
+    let bounds = and_parts (nat_le low m) (nat_le m high) both.0 in
+    let above = leb-true low m bounds.0 in
+    let below = leb-true m high bounds.1 in
     (ap pos both.1, omega (arith, above, both.1), omega (arith, below, both.1))
 is_within (negsuc m) key low high n is = absurd (cc)
 

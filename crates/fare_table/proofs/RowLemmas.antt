@@ -40,7 +40,7 @@ use Rattle.fare_table.specs.OrFault.{OrFault, ◌>>=◌}
 use Rattle.fare_table.specs.Riders.{is_rider, rider_of, riders_from, riders_of, token_of_digits}
 use Rattle.fare_table.specs.Riders.{with_rider}
 use Rattle.fare_table.specs.Riders as riders
-use Rattle.fare_table.specs.Rules.{TableRules, rules_in, rules_of_tree}
+use Rattle.fare_table.specs.TableMeaning.{TableMeaning, meaning_in, meaning_of_tree}
 use Rattle.fare_table.specs.Transfers.{transfers_of}
 use Rattle.fare_table.specs.Validators.{stand_apart, range_of, ranges_from, ranges_of, share_number}
 use Rattle.fare_table.specs.Validators.{with_range}
@@ -51,7 +51,7 @@ use Rattle.fare_table.specs.declared.fault.TableFault.TheVariants as the_fault
 use Rattle.fare_table.specs.declared.fault.TableFault.TheVariants.{Missing, Kind, Range, Mode}
 use Rattle.fare_table.specs.declared.fault.TableFault.TheVariants.{Overlap, Rider}
 use Rattle.fare_table.specs.declared.terms.Terms.{Terms}
-use Rattle.fare_table.specs.declared.validators.Span.{Span}
+use Rattle.fare_table.specs.declared.validators.RangeRest.{RangeRest}
 
 -- ---- one element of `validators`
 told_three : (tree : Members) (at : Where) (one two three : TableFault)
@@ -68,7 +68,7 @@ place_tells : (o : Option ℕ) (first last : ℕ)
 place_tells None first last = refl
 place_tells (Some n) first last = refl
 
-abbrev by_word : List (List ℕ) → ℕ → ℕ → List ℕ → OrFault (ℕ × Span)
+abbrev by_word : List (List ℕ) → ℕ → ℕ → List ℕ → OrFault (ℕ × RangeRest)
 by_word modes first last name = mode_named modes name >>= by_mode first last
 
 abbrev mode_need : Option Data → List (List ℕ) → Option TableFault
@@ -121,10 +121,10 @@ swap_or true true c = refl
 swap_or true false c = refl
 swap_or false b c = refl
 
-with_one : ℕ × Span → List (ℕ × Span) → List (ℕ × Span)
+with_one : ℕ × RangeRest → List (ℕ × RangeRest) → List (ℕ × RangeRest)
 with_one one ranges = insert_entry nat_cmp ranges one.0 one.1
 
-any_step : (test : ℕ × Span → Bool) (one other : ℕ × Span) (more : List (ℕ × Span))
+any_step : (test : ℕ × RangeRest → Bool) (one other : ℕ × RangeRest) (more : List (ℕ × RangeRest))
     → one.0 ≤ one.1.last → other.0 ≤ other.1.last → share_number one other ≡ false
     → list_any test (with_one one more) ≡ (test one || list_any test more)
     → list_any test (with_one one (other ∷ more)) ≡ (test one || list_any test (other ∷ more))
@@ -136,7 +136,7 @@ any_step test one other more order further free ih = elim (free_apart one other 
 ]
 
 -- a test of ranges holds of one more range or of the others
-any_with : (test : ℕ × Span → Bool) (one : ℕ × Span) (ranges : List (ℕ × Span)) → one.0 ≤ one.1.last
+any_with : (test : ℕ × RangeRest → Bool) (one : ℕ × RangeRest) (ranges : List (ℕ × RangeRest)) → one.0 ≤ one.1.last
     → stand_apart ranges ≡ true → list_any (share_number one) ranges ≡ false
     → list_any test (with_one one ranges) ≡ (test one || list_any test ranges)
 unfolding with_one
@@ -147,30 +147,30 @@ any_with test one (other ∷ more) order stands free =
     (any_with test one more order (rest_stands other more stands) apart.1)
 
 -- the range shares a number with the element at a place
-abbrev meets : Members → ℕ × Span → ℕ → Bool
+abbrev meets : Members → ℕ × RangeRest → ℕ → Bool
 meets tree one place = nat_le one.0 (last_at tree place) && nat_le (first_at tree place) one.1.last
 
 -- the ranges are those of the elements before a place
-abbrev AreEarlier : Members → ℕ → List (ℕ × Span) → Type 0
+abbrev AreEarlier : Members → ℕ → List (ℕ × RangeRest) → Type 0
 AreEarlier tree n earlier =
-    (one : ℕ × Span) → list_any (share_number one) earlier ≡ is_earlier (meets tree one) n
+    (one : ℕ × RangeRest) → list_any (share_number one) earlier ≡ is_earlier (meets tree one) n
 
 -- some items are those of a whole from a place on
 abbrev StandItems : Items → ℕ → Items → Type 0
 StandItems whole n part = (k j : ℕ) → j ≡ n + k → get_item j whole ≡ get_item k part
 
-overlap_if : (b : Bool) (next : List (ℕ × Span)) (f : List (ℕ × Span)
-    → OrFault (List (ℕ × Span))) (rest : Option TableFault) → (b ≡ false → fault_in (f next) ≡ rest)
+overlap_if : (b : Bool) (next : List (ℕ × RangeRest)) (f : List (ℕ × RangeRest)
+    → OrFault (List (ℕ × RangeRest))) (rest : Option TableFault) → (b ≡ false → fault_in (f next) ≡ rest)
     → fault_in ((if b then Err Overlap else Ok next) >>= f) ≡ cond b (Some Overlap) rest
 overlap_if true next f rest same = refl
 overlap_if false next f rest same = same refl
 
 -- the numbers of an element that reads as a range
-record Numbers (tree : Members) (n : ℕ) (one : ℕ × Span) : Type 0 where
+record Numbers (tree : Members) (n : ℕ) (one : ℕ × RangeRest) : Type 0 where
   first : first_at tree n ≡ one.0
   last : last_at tree n ≡ one.1.last
 
-numbers : (tree : Members) (modes : List (List ℕ)) (n : ℕ) (inner : Members) (one : ℕ × Span)
+numbers : (tree : Members) (modes : List (List ℕ)) (n : ℕ) (inner : Members) (one : ℕ × RangeRest)
     → members_at (range n) tree ≡ inner → Reads modes (table inner) one → Numbers tree n one
 numbers tree modes n inner one here r =
     let whole : table inner ≡ table r.element = r.is_table in
@@ -182,7 +182,7 @@ numbers tree modes n inner one here r =
           (ap (get_member (codes "last")) (here ∙ same) ∙ r.last);
     }
 
-shared : (tree : Members) (n : ℕ) (one : ℕ × Span) → Numbers tree n one
+shared : (tree : Members) (n : ℕ) (one : ℕ × RangeRest) → Numbers tree n one
     → is_earlier (meets tree one) n ≡ shares_validator (range n) tree
 shared tree n one is =
     ap (λ (a : ℕ). is_earlier (λ earlier.
@@ -192,13 +192,13 @@ shared tree n one is =
     nat_le (first_at tree n) (last_at tree earlier) && nat_le (first_at tree earlier) b) n)
     (sym is.last)
 
-met : (tree : Members) (n : ℕ) (one other : ℕ × Span) → Numbers tree n one
+met : (tree : Members) (n : ℕ) (one other : ℕ × RangeRest) → Numbers tree n one
     → share_number other one ≡ meets tree other n
 met tree n one other is =
     ap (λ (a : ℕ). nat_le other.0 a && nat_le one.0 other.1.last) (sym is.last)
     ∙ ap (λ (b : ℕ). nat_le other.0 (last_at tree n) && nat_le b other.1.last) (sym is.first)
 
-earlier_next : (tree : Members) (n : ℕ) (one : ℕ × Span) (earlier : List (ℕ × Span))
+earlier_next : (tree : Members) (n : ℕ) (one : ℕ × RangeRest) (earlier : List (ℕ × RangeRest))
     → Numbers tree n one → one.0 ≤ one.1.last → stand_apart earlier ≡ true
     → list_any (share_number one) earlier ≡ false
     → AreEarlier tree n earlier → AreEarlier tree (suc n) (with_one one earlier)
@@ -207,7 +207,7 @@ earlier_next tree n one earlier is order stands free are other =
     ∙ ap (λ (b : Bool). b || list_any (share_number other) earlier) (met tree n one other is)
     ∙ ap (λ (b : Bool). meets tree other n || b) (are other)
 
-ranges-told : (tree : Members) (modes : List (List ℕ)) (n : ℕ) (earlier : List (ℕ × Span))
+ranges-told : (tree : Members) (modes : List (List ℕ)) (n : ℕ) (earlier : List (ℕ × RangeRest))
     (part : Items) → mode_names tree ≡ modes → StandItems (elements_in tree) n part
     → are_tables part ≡ true
     → stand_apart earlier ≡ true → AreEarlier tree n earlier
@@ -439,9 +439,9 @@ zone-told tree = zone_steps (get_member (codes "zone") tree)
     ∙ sym (told_two tree top (Kind the_key.Zone) the_fault.Zone)
 
 -- ---- the whole
-rules-told : (tree : Members) → fault_in (rules_of_tree tree) ≡ first_row tree (rows tree)
-unfolding rules_of_tree
-rules-told tree =
+meaning-told : (tree : Members) → fault_in (meaning_of_tree tree) ≡ first_row tree (rows tree)
+unfolding meaning_of_tree
+meaning-told tree =
     let key_rows = riders_step tree ++ zone_step in
     let entry_rows = validators_step tree ++ key_rows in
     let default_rows = default_step ++ entry_rows in
@@ -464,9 +464,9 @@ rules-told tree =
     done (zone_of tree) _ ∙ zone-told tree))))))
 
 text_tells : (o : Option Members)
-    → fault_in (ok_or o the_fault.Text >>= rules_of_tree) ≡ first_fault o
+    → fault_in (ok_or o the_fault.Text >>= meaning_of_tree) ≡ first_fault o
 text_tells None = refl
-text_tells (Some tree) = rules-told tree
+text_tells (Some tree) = meaning-told tree
 
 told_fault : {A : Type 0} (o : OrFault A) (fault : TableFault) → (o ≡ Err fault)
     ↔ (fault_in o ≡ Some fault)
@@ -476,10 +476,10 @@ told_fault {A} (Err e) fault = (
   λ is. let same : e ≡ fault = cc in ap (λ (f : TableFault). Err f) same,
 )
 
-pub first-row : (text : List ℕ) (fault : TableFault) → (rules_in text ≡ Err fault)
+pub first-row : (text : List ℕ) (fault : TableFault) → (meaning_in text ≡ Err fault)
     ↔ (first_fault (parse_document text) ≡ Some fault)
 first-row text fault =
-    let both = told_fault (rules_in text) fault in
+    let both = told_fault (meaning_in text) fault in
     let told = text_tells (parse_document text) in
     (λ is. sym told ∙ both.0 is, λ is. both.1 (told ∙ is))
 
@@ -487,22 +487,22 @@ told_none : {A : Type 0} (o : OrFault A) → ((a : A) × (o ≡ Ok a)) ↔ (faul
 told_none {A} (Ok a) = (λ is. refl, λ is. (a, refl))
 told_none {A} (Err e) = (λ is. ap (λ (x : OrFault A). fault_in x) is.1, λ is. absurd (cc))
 
-pub no-row : (text : List ℕ) → ((rules : TableRules) × (rules_in text ≡ Ok rules))
+pub no-row : (text : List ℕ) → ((meaning : TableMeaning) × (meaning_in text ≡ Ok meaning))
     ↔ (first_fault (parse_document text) ≡ None)
 no-row text =
-    let both = told_none (rules_in text) in
+    let both = told_none (meaning_in text) in
     let told = text_tells (parse_document text) in
     (λ is. sym told ∙ both.0 is, λ is. both.1 (told ∙ is))
 
 -- the same of what reading a text answers
 pub first-of-err : {A : Type 0} (P : Type 0) (text : List ℕ) (result : Result A TableFault)
-    → IfErr result (λ e. e ≢ the_fault.NoMemory → P → rules_in text ≡ Err e)
+    → IfErr result (λ e. e ≢ the_fault.NoMemory → P → meaning_in text ≡ Err e)
     → IfErr result (λ e. e ≢ the_fault.NoMemory → P → first_fault (parse_document text) ≡ Some e)
 first-of-err P text (Ok a) is = tt
 first-of-err P text (Err e) is = λ other known. (first-row text e).0 (is other known)
 
 pub none-of-ok : {A : Type 0} (P : Type 0) (text : List ℕ) (result : Result A TableFault) (f : A
-    → TableRules) → IfOk result (λ a. P × (rules_in text ≡ Ok (f a)))
+    → TableMeaning) → IfOk result (λ a. P × (meaning_in text ≡ Ok (f a)))
     → IfOk result (λ a. first_fault (parse_document text) ≡ None)
 none-of-ok P text (Ok a) f is = (no-row text).0 (f a, is.1)
 none-of-ok P text (Err e) f is = tt

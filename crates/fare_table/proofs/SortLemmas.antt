@@ -13,10 +13,10 @@ use Rattle.fare_table.proofs.ElementLemmas.{ranges_read, step}
 use Rattle.fare_table.proofs.PartLemmas.{bind_ok, parts}
 use Rattle.fare_table.proofs.PayLemmas.{AreRiders, adds_rider, after_rider, riders_read}
 use Rattle.fare_table.specs.Riders.{rider_of, riders_from, with_rider}
-use Rattle.fare_table.specs.Rules.{TableRules, rules_of_tree}
+use Rattle.fare_table.specs.TableMeaning.{TableMeaning, meaning_of_tree}
 use Rattle.fare_table.specs.Validators.{stand_apart, ranges_from}
 use Rattle.fare_table.specs.declared.terms.Terms.{Terms}
-use Rattle.fare_table.specs.declared.validators.Span.{Span}
+use Rattle.fare_table.specs.declared.validators.RangeRest.{RangeRest}
 
 abbrev Riders : Type 0
 Riders = List (List ℕ × Terms)
@@ -95,24 +95,24 @@ rise_all classes o riders are = ⊎_elim
     (λ some. rise_from classes [] some.0 riders some.2 tt)
     are
 
-pub riders-rise : (tree : Members) (rules : TableRules) → rules_of_tree tree ≡ Ok rules
-    → IsStrictlySortedBy (slice_cmp nat_cmp) (keys_of rules.riders)
-riders-rise tree rules is =
-    let p = parts tree rules is in
-    rise_all p.table (get_member (codes "riders") tree) rules.riders
-    (riders_read p.table tree rules.riders p.riders)
+pub riders-rise : (tree : Members) (meaning : TableMeaning) → meaning_of_tree tree ≡ Ok meaning
+    → IsStrictlySortedBy (slice_cmp nat_cmp) (keys_of meaning.riders)
+riders-rise tree meaning is =
+    let p = parts tree meaning is in
+    rise_all p.table (get_member (codes "riders") tree) meaning.riders
+    (riders_read p.table tree meaning.riders p.riders)
 
-stands_from : (modes : List (List ℕ)) (earlier : List (ℕ × Span)) (part : Items) (ranges : List (ℕ
-    × Span)) → ranges_from modes earlier part ≡ Ok ranges → stand_apart earlier ≡ true
+stands_from : (modes : List (List ℕ)) (earlier : List (ℕ × RangeRest)) (part : Items) (ranges : List (ℕ
+    × RangeRest)) → ranges_from modes earlier part ≡ Ok ranges → stand_apart earlier ≡ true
     → stand_apart ranges ≡ true
 stands_from modes earlier no_items ranges is stands = let same : earlier ≡ ranges = cc in
-    subst (λ (r : List (ℕ × Span)). stand_apart r ≡ true) same stands
+    subst (λ (r : List (ℕ × RangeRest)). stand_apart r ≡ true) same stands
 stands_from modes earlier (item value more) ranges is stands =
     let s = step modes earlier value more ranges is stands in
     stands_from modes s.next more ranges s.rest s.stands
 
-pub ranges-rise : (tree : Members) (rules : TableRules) → rules_of_tree tree ≡ Ok rules
-    → stand_apart rules.ranges ≡ true
-ranges-rise tree rules is =
-    let text = ranges_read rules.modes tree rules.ranges (parts tree rules is).ranges in
-    stands_from rules.modes [] text.items rules.ranges text.read refl
+pub ranges-rise : (tree : Members) (meaning : TableMeaning) → meaning_of_tree tree ≡ Ok meaning
+    → stand_apart meaning.ranges ≡ true
+ranges-rise tree meaning is =
+    let text = ranges_read meaning.modes tree meaning.ranges (parts tree meaning is).ranges in
+    stands_from meaning.modes [] text.items meaning.ranges text.read refl

@@ -16,7 +16,7 @@ use Rattle.fare_table.specs.Modes.{are_mode_names, mode_named, modes_of, strings
 use Rattle.fare_table.specs.OrFault.{OrFault, ◌>>=◌}
 use Rattle.fare_table.specs.Riders.{rider_of, riders_from, riders_at, riders_of, token_of_digits}
 use Rattle.fare_table.specs.Riders.{with_rider}
-use Rattle.fare_table.specs.Rules.{rules_of_tree}
+use Rattle.fare_table.specs.TableMeaning.{meaning_of_tree}
 use Rattle.fare_table.specs.Transfers.{name_pair, pairs_from, places_of, transfers_from}
 use Rattle.fare_table.specs.Transfers.{transfers_of, with_pair}
 use Rattle.fare_table.specs.Validators.{range_in, range_of, ranges_from, ranges_of, with_range}
@@ -26,7 +26,7 @@ use Rattle.fare_table.specs.declared.fault.Key.TheVariants as the_key
 use Rattle.fare_table.specs.declared.fault.TableFault.{TableFault}
 use Rattle.fare_table.specs.declared.fault.TableFault.TheVariants as the_fault
 use Rattle.fare_table.specs.declared.terms.Terms.{Terms}
-use Rattle.fare_table.specs.declared.validators.Span.{Span}
+use Rattle.fare_table.specs.declared.validators.RangeRest.{RangeRest}
 
 -- the outcome is not the text fault
 abbrev pub NotText : {A : Type 0} → OrFault A → Type 0
@@ -204,7 +204,7 @@ range_in-text modes value =
     steps (of_kind the_key.Validators (as_table value)) (λ element. range_of modes element)
     (of_kind-text the_key.Validators (as_table value)) (range_of-text modes)
 
-ranges_from-text : (modes : List (List ℕ)) (earlier : List (ℕ × Span)) (items : Items)
+ranges_from-text : (modes : List (List ℕ)) (earlier : List (ℕ × RangeRest)) (items : Items)
     → NotText (ranges_from modes earlier items)
 ranges_from-text modes earlier no_items = an_ok earlier
 ranges_from-text modes earlier (item value more) =
@@ -264,8 +264,8 @@ zone_of-text : (tree : Members) → NotText (zone_of tree)
 unfolding zone_of
 zone_of-text tree = zone_in-text (get_member (codes "zone") tree)
 
-pub rules_of-text : (tree : Members) → NotText (rules_of_tree tree)
-unfolding rules_of_tree
+pub rules_of-text : (tree : Members) → NotText (meaning_of_tree tree)
+unfolding meaning_of_tree
 rules_of-text tree =
     steps (modes_of tree) _ (modes_of-text tree) (λ modes.
     steps (transfers_of modes tree) _ (transfers_of-text modes tree) (λ transfers.

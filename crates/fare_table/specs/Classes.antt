@@ -14,7 +14,7 @@ abbrev pub ceiling_of : ℕ → Option Data → OrFault ℕ
 ceiling_of price None = Ok price
 ceiling_of price (Some value) = number_in the_key.Ceiling 1 100_000_000 value
 
--- the terms of a class: its fare, its rides and its ceiling, within their limits
+-- the terms of a class: its fare, its rides and its ceiling, within their bounds
 unfoldable pub class_of : Members → OrFault Terms
 class_of element = do
   fare ← number_at (codes "fare") the_key.Fare 1 100_000 element

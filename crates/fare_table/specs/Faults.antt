@@ -145,24 +145,24 @@ abbrev pub is_from : ℕ → ℕ → Data → Bool
 is_from low high value =
     passes (λ number. int_le (pos low) number && int_le number (pos high)) (as_integer value)
 
--- the value is within the limits of the key; `last` is not below `first` beside it
-abbrev pub is_in_limits : Key → Members → Data → Bool
-is_in_limits the_key.Modes beside value =
+-- the value is within the bounds of the key; `last` is not below `first` beside it
+abbrev pub is_in_bounds : Key → Members → Data → Bool
+is_in_bounds the_key.Modes beside value =
     passes (λ names. are_mode_names (texts names)) (as_array value)
-is_in_limits the_key.Transfers beside value = true
-is_in_limits the_key.Classes beside value =
+is_in_bounds the_key.Transfers beside value = true
+is_in_bounds the_key.Classes beside value =
     passes (λ classes. not (is_empty classes)) (as_table value)
-is_in_limits the_key.Fare beside value = is_from 1 100_000 value
-is_in_limits the_key.Rides beside value = is_from 1 1_000 value
-is_in_limits the_key.Ceiling beside value = is_from 1 100_000_000 value
-is_in_limits the_key.DefaultClass beside value = true
-is_in_limits the_key.Validators beside value = true
-is_in_limits the_key.First beside value = is_from 0 4_294_967_295 value
-is_in_limits the_key.Last beside value =
+is_in_bounds the_key.Fare beside value = is_from 1 100_000 value
+is_in_bounds the_key.Rides beside value = is_from 1 1_000 value
+is_in_bounds the_key.Ceiling beside value = is_from 1 100_000_000 value
+is_in_bounds the_key.DefaultClass beside value = true
+is_in_bounds the_key.Validators beside value = true
+is_in_bounds the_key.First beside value = is_from 0 4_294_967_295 value
+is_in_bounds the_key.Last beside value =
     is_from (amount_of (get_member (codes "first") beside)) 4_294_967_295 value
-is_in_limits the_key.ModeName beside value = true
-is_in_limits the_key.Riders beside value = true
-is_in_limits the_key.Zone beside value = true
+is_in_bounds the_key.ModeName beside value = true
+is_in_bounds the_key.Riders beside value = true
+is_in_bounds the_key.Zone beside value = true
 
 -- one of the names is this one
 abbrev pub is_mode : List (List ℕ) → List ℕ → Bool
@@ -240,7 +240,7 @@ is_wrong tree at Text = false
 is_wrong tree at (Missing key) = is_none (value_at at key tree)
 is_wrong tree at (Kind key) = passes (λ value. not (is_kind key value)) (value_at at key tree)
 is_wrong tree at (Range key) =
-    passes (λ value. not (is_in_limits key (members_at at tree) value)) (value_at at key tree)
+    passes (λ value. not (is_in_bounds key (members_at at tree) value)) (value_at at key tree)
 is_wrong tree at Mode = names_no_mode at tree
 is_wrong tree at Overlap = shares_validator at tree
 is_wrong tree at Rider = names_no_rider at tree
@@ -260,7 +260,7 @@ a_row at fault = (at, fault)
 abbrev pub holds : Members → FaultRow → Bool
 holds tree one = is_wrong tree one.0 one.1
 
--- a value that has to be there, of its kind and within its limits
+-- a value that has to be there, of its kind and within its bounds
 abbrev pub needed_rows : Where → Key → List FaultRow
 needed_rows at key = a_row at (Missing key) ∷ a_row at (Kind key) ∷ a_row at (Range key) ∷ []
 

@@ -11,7 +11,7 @@ pub mod Paying
 pub mod PosixRule
 pub mod RiderMarks
 pub mod Riders
-pub mod Rules
+pub mod TableMeaning
 pub mod Terms
 pub mod TextRanges
 pub mod Token

@@ -1,9 +1,9 @@
--- The limits of what a rider class pays.
+-- The bounds of the terms of a rider class.
 use Rattle.std.specs.Prelude.{◌≤◌}
 use Rattle.fare_table.specs.declared.terms.Terms.{Terms}
 
--- the fare, the rides and the ceiling are within their limits
-pub record HasLimits (terms : Terms) : Type 0 where
+-- the fare, the limit of rides and the ceiling are within their bounds
+pub record AreBoundedTerms (terms : Terms) : Type 0 where
   pub fare_low : 1 ≤ terms.fare
   pub fare_high : terms.fare ≤ 100_000
   pub rides_low : 1 ≤ terms.rides

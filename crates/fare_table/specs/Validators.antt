@@ -10,31 +10,31 @@ use Rattle.fare_table.specs.Modes.{mode_named}
 use Rattle.fare_table.specs.OrFault.{OrFault, ◌>>=◌}
 use Rattle.fare_table.specs.declared.fault.Key.TheVariants as the_key
 use Rattle.fare_table.specs.declared.fault.TableFault.TheVariants.{Kind, Overlap}
-use Rattle.fare_table.specs.declared.validators.Span.{Span}
+use Rattle.fare_table.specs.declared.validators.RangeRest.{RangeRest}
 
 -- each range begins no later than it ends, and ends before the next one begins
-abbrev pub stand_apart : List (ℕ × Span) → Bool
+abbrev pub stand_apart : List (ℕ × RangeRest) → Bool
 stand_apart [] = true
 stand_apart (range ∷ []) = nat_le range.0 range.1.last
 stand_apart (range ∷ next ∷ more) =
     nat_le range.0 range.1.last && nat_lt range.1.last next.0 && stand_apart (next ∷ more)
 
 -- each range's mode is one of so many
-abbrev pub are_modes_below : ℕ → List (ℕ × Span) → Bool
+abbrev pub are_modes_below : ℕ → List (ℕ × RangeRest) → Bool
 are_modes_below count ranges = list_all (λ range. nat_lt range.1.mode count) ranges
 
 -- the two ranges have a validator in common
-abbrev pub share_number : ℕ × Span → ℕ × Span → Bool
+abbrev pub share_number : ℕ × RangeRest → ℕ × RangeRest → Bool
 share_number range other = nat_le range.0 other.1.last && nat_le other.0 range.1.last
 
 -- the ranges and one more, at its place in the order of first numbers
-abbrev pub with_range : List (ℕ × Span) → ℕ × Span → OrFault (List (ℕ × Span))
+abbrev pub with_range : List (ℕ × RangeRest) → ℕ × RangeRest → OrFault (List (ℕ × RangeRest))
 with_range earlier range =
     if list_any (share_number range) earlier then Err Overlap
     else Ok (insert_entry nat_cmp earlier range.0 range.1)
 
 -- the range of an element: its first number, its last one and its mode
-unfoldable pub range_of : List (List ℕ) → Members → OrFault (ℕ × Span)
+unfoldable pub range_of : List (List ℕ) → Members → OrFault (ℕ × RangeRest)
 range_of modes element = do
   first ← number_at (codes "first") the_key.First 0 4_294_967_295 element
   last ← number_at (codes "last") the_key.Last first 4_294_967_295 element
@@ -43,13 +43,14 @@ range_of modes element = do
   Ok (first, record { last = last; mode = mode })
 
 -- the range of a value that is a table
-abbrev pub range_in : List (List ℕ) → Data → OrFault (ℕ × Span)
+abbrev pub range_in : List (List ℕ) → Data → OrFault (ℕ × RangeRest)
 range_in modes value = do
   element ← of_kind the_key.Validators (as_table value)
   range_of modes element
 
 -- the earlier ranges and those of the items
-abbrev pub ranges_from : List (List ℕ) → List (ℕ × Span) → Items → OrFault (List (ℕ × Span))
+abbrev pub ranges_from : List (List ℕ) → List (ℕ × RangeRest) → Items
+    → OrFault (List (ℕ × RangeRest))
 ranges_from modes earlier no_items = Ok earlier
 ranges_from modes earlier (item value more) = do
   range ← range_in modes value
@@ -57,7 +58,7 @@ ranges_from modes earlier (item value more) = do
   ranges_from modes ranges more
 
 -- the ranges that the text lists, in the order of their first numbers
-unfoldable pub ranges_of : List (List ℕ) → Members → OrFault (List (ℕ × Span))
+unfoldable pub ranges_of : List (List ℕ) → Members → OrFault (List (ℕ × RangeRest))
 ranges_of modes tree = do
   items ← array_at (codes "validators") the_key.Validators tree
   if are_tables items then ranges_from modes [] items else Err (Kind the_key.Validators)

@@ -90,7 +90,7 @@ pub enum TableFault {
         /// The key.
         key: Key,
     },
-    /// A value is outside its limits.
+    /// A value is outside its bounds.
     #[error("{key} is out of range")]
     Range {
         /// The key.

@@ -13,7 +13,7 @@ ghost use Rattle.fare_table.specs.TextRanges.{RangeGives, RangeHas};
 ghost use Rattle.fare_table.specs.Fares.{Fares, mode_at, terms_at};
 ghost use Rattle.fare_table.specs.Faults.{first_fault};
 ghost use Rattle.fare_table.specs.Paying.{NamesRider, Pays};
-ghost use Rattle.fare_table.specs.Rules.{TableRules, rules_in, rules_of_tree};
+ghost use Rattle.fare_table.specs.TableMeaning.{TableMeaning, meaning_in, meaning_of_tree};
 ghost use Rattle.fare_table.specs.Transfers.{has_pair, ListsPair};
 ghost use Rattle.fare_table.specs.Until.{IsWindowEnd, until};
 ghost use Rattle.fare_table.specs.Validators.{stand_apart};
@@ -40,21 +40,23 @@ pub fn windows_have_one_end()
 /// A table permits a transfer from one mode to another exactly where its text lists the pair of
 /// their names.
 pub fn permitted_pairs_are_listed()
-    ensures { (tree : Members) (rules : TableRules) (from to : ℕ) → rules_of_tree tree ≡ Ok rules
-        → (has_pair rules.transfers from to ≡ true) ↔ ListsPair rules.modes tree from to }
+    ensures { (tree : Members) (meaning : TableMeaning) (from to : ℕ)
+        → meaning_of_tree tree ≡ Ok meaning
+        → (has_pair meaning.transfers from to ≡ true) ↔ ListsPair meaning.modes tree from to }
 {}
 
 /// The mode of a validator is the one that the element of the text's `validators` names which has
 /// it, and none exactly where no element has it. At most one element has it.
 pub fn modes_are_of_ranges()
     ensures some { (tree : Members) (fares : Fares) (validator mode : ℕ)
-        → rules_of_tree tree ≡ Ok fares.rules
-        → (mode_at fares validator ≡ Some mode) ↔ RangeGives fares.rules.modes tree validator mode }
+        → meaning_of_tree tree ≡ Ok fares.meaning
+        → (mode_at fares validator ≡ Some mode)
+        ↔ RangeGives fares.meaning.modes tree validator mode }
     ensures none { (tree : Members) (fares : Fares) (validator : ℕ)
-        → rules_of_tree tree ≡ Ok fares.rules
+        → meaning_of_tree tree ≡ Ok fares.meaning
         → (mode_at fares validator ≡ None) ↔ ((place : ℕ) → ¬ RangeHas tree validator place) }
-    ensures one { (tree : Members) (rules : TableRules) (validator place place' : ℕ)
-        → rules_of_tree tree ≡ Ok rules → RangeHas tree validator place
+    ensures one { (tree : Members) (meaning : TableMeaning) (validator place place' : ℕ)
+        → meaning_of_tree tree ≡ Ok meaning → RangeHas tree validator place
         → RangeHas tree validator place' → place ≡ place' }
 {}
 
@@ -62,10 +64,10 @@ pub fn modes_are_of_ranges()
 /// it, else those of the default class. At most one key names it.
 pub fn terms_are_of_classes()
     ensures terms { (tree : Members) (fares : Fares) (token : List ℕ) (terms : Terms)
-        → rules_of_tree tree ≡ Ok fares.rules
+        → meaning_of_tree tree ≡ Ok fares.meaning
         → (terms_at fares token ≡ terms) ↔ Pays tree token terms }
-    ensures one { (tree : Members) (rules : TableRules) (token key key' class class' : List ℕ)
-        → rules_of_tree tree ≡ Ok rules → NamesRider tree token key class
+    ensures one { (tree : Members) (meaning : TableMeaning) (token key key' class class' : List ℕ)
+        → meaning_of_tree tree ≡ Ok meaning → NamesRider tree token key class
         → NamesRider tree token key' class' → key ≡ key' }
 {}
 
@@ -77,19 +79,19 @@ pub fn keys_come_in_byte_order()
 {}
 
 /// The ranges of a table rise and stand apart. Its riders come in the byte order of their tokens.
-pub fn rules_come_in_order()
-    ensures ranges { (tree : Members) (rules : TableRules) → rules_of_tree tree ≡ Ok rules
-        → stand_apart rules.ranges ≡ true }
-    ensures riders { (tree : Members) (rules : TableRules) → rules_of_tree tree ≡ Ok rules
-        → IsStrictlySortedBy (slice_cmp nat_cmp) (keys_of rules.riders) }
+pub fn ranges_and_riders_rise()
+    ensures ranges { (tree : Members) (meaning : TableMeaning) → meaning_of_tree tree ≡ Ok meaning
+        → stand_apart meaning.ranges ≡ true }
+    ensures riders { (tree : Members) (meaning : TableMeaning) → meaning_of_tree tree ≡ Ok meaning
+        → IsStrictlySortedBy (slice_cmp nat_cmp) (keys_of meaning.riders) }
 {}
 
 /// A text has a fault exactly where a row of the table of faults holds, and it is that of the first
 /// such row. Where none holds it has a meaning.
 pub fn first_row_tells_the_fault()
     ensures fault { (text : List ℕ) (fault : TableFault)
-        → (rules_in text ≡ Err fault) ↔ (first_fault (parse_document text) ≡ Some fault) }
-    ensures none { (text : List ℕ) → ((rules : TableRules) × (rules_in text ≡ Ok rules))
+        → (meaning_in text ≡ Err fault) ↔ (first_fault (parse_document text) ≡ Some fault) }
+    ensures none { (text : List ℕ) → ((meaning : TableMeaning) × (meaning_in text ≡ Ok meaning))
         ↔ (first_fault (parse_document text) ≡ None) }
 {}
 

@@ -8,9 +8,9 @@ ghost use Rattle.fare_table.specs.Fares.{mode_at, is_permitted, terms_at};
 ghost use Rattle.fare_table.specs.inside.OrFault.{Answers};
 ghost use Rattle.fare_table.specs.inside.PosixRule.{HasRule, rule_of};
 ghost use Rattle.fare_table.specs.declared.fault.TableFault.{TableFault};
-ghost use Rattle.fare_table.specs.Rules.{rules_in, rules_of_tree};
+ghost use Rattle.fare_table.specs.TableMeaning.{meaning_in, meaning_of_tree};
 ghost use Rattle.fare_table.specs.Zone.{IsZoneOf, zone_rule, zone_text};
-ghost use Rattle.fare_table.specs.Terms.{HasLimits};
+ghost use Rattle.fare_table.specs.Terms.{AreBoundedTerms};
 
 use crate::clock::Clock;
 use crate::fault::{NoMemory, TableFault};
@@ -75,14 +75,14 @@ impl FareTable {
     /// keys are read: modes, transfers, classes, the default class, validators, riders, zone.
     /// `NoMemory` is answered where a growth is refused.
     pub fn read(alloc: Global, text: &[u8]) -> Result<FareTable, TableFault>
-        ensures ok { IfOk result (λ t. IsUtf8 text.now × (rules_in text.now ≡ Ok t.rules)) }
-        ensures zone { IfOk result (λ t. IsZoneOf t.rules.zone t.zone) }
+        ensures ok { IfOk result (λ t. IsUtf8 text.now × (meaning_in text.now ≡ Ok t.meaning)) }
+        ensures zone { IfOk result (λ t. IsZoneOf t.meaning.zone t.zone) }
 
         // A fault is the text's first, and a text with a fault is answered by it or by want of
         // memory.
         ensures fault { IfErr result (λ e. e ≢ TableFault.NoMemory → IsUtf8 text.now
-            → rules_in text.now ≡ Err e) }
-        ensures refused { IsUtf8 text.now → (e : TableFault) → rules_in text.now ≡ Err e
+            → meaning_in text.now ≡ Err e) }
+        ensures refused { IsUtf8 text.now → (e : TableFault) → meaning_in text.now ≡ Err e
             → IsErrOf result e ⊎ IsErrOf result TableFault.NoMemory }
 
         // The text fault comes only where the text is no TOML, and always where it is not UTF-8.
@@ -125,18 +125,18 @@ impl FareTable {
     /// The mode of a validator, or `None` where no range has it.
     pub fn mode_of(&self, validator: u32) -> Option<Mode>
         ensures mode { option_map (λ m. m.place) result ≡ mode_at self.now validator }
-        ensures within { IfSome result (λ m. m.place < length self.now.rules.modes) }
-        ensures few { length self.now.rules.modes ≤ 32 }
+        ensures within { IfSome result (λ m. m.place < length self.now.meaning.modes) }
+        ensures few { length self.now.meaning.modes ≤ 32 }
     {
-        let span = self.parts.ranges.at(validator)?;
-        Some(Mode { place: span.mode })
+        let rest = self.parts.ranges.at(validator)?;
+        Some(Mode { place: rest.mode })
     }
 
     /// Whether a ride of the one mode includes a transfer to the other: whether the pair stands in
     /// `transfers`.
     pub fn permits(&self, from: Mode, to: Mode) -> bool
-        requires from { from.place < length self.now.rules.modes }
-        requires to { to.place < length self.now.rules.modes }
+        requires from { from.place < length self.now.meaning.modes }
+        requires to { to.place < length self.now.meaning.modes }
         ensures { result ≡ is_permitted self.now from.place to.place }
     {
         self.parts.transfers.permits(from.place, to.place)
@@ -144,8 +144,8 @@ impl FareTable {
 
     /// The mode's name.
     pub fn mode_name(&self, mode: Mode) -> &str
-        requires { mode.place < length self.now.rules.modes }
-        ensures { slice_get self.now.rules.modes mode.place ≡ Some result.now }
+        requires { mode.place < length self.now.meaning.modes }
+        ensures { slice_get self.now.meaning.modes mode.place ≡ Some result.now }
     {
         self.parts.modes[mode.place as usize].as_str()
     }
@@ -154,7 +154,7 @@ impl FareTable {
     pub fn terms_of(&self, token: &[u8]) -> Terms
         requires { length token.now ≡ 16 }
         ensures terms { result ≡ terms_at self.now token.now }
-        ensures limits { HasLimits result }
+        ensures bounds { AreBoundedTerms result }
     {
         match self.parts.riders.terms_of(token) {
             Some(terms) => terms,
@@ -164,10 +164,10 @@ impl FareTable {
 }
 
 /// Reads each key in its turn, up to the first fault.
-#[tactic(auto, unfolding(crate::specs::Rules::rules_of_tree))]
+#[tactic(auto, unfolding(crate::specs::TableMeaning::meaning_of_tree))]
 fn table_of(alloc: Global, table: &Table) -> Result<FareTable, TableFault>
-    ensures answer { Answers (λ t. t.rules) result (rules_of_tree (table_view table.now)) }
-    ensures zone { IfOk result (λ t. IsZoneOf t.rules.zone t.zone) }
+    ensures answer { Answers (λ t. t.meaning) result (meaning_of_tree (table_view table.now)) }
+    ensures zone { IfOk result (λ t. IsZoneOf t.meaning.zone t.zone) }
 {
     let modes = modes_of(alloc, table)?;
     let transfers = transfers_of(alloc, &modes, table)?;

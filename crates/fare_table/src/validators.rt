@@ -17,9 +17,9 @@ mod guesses;
 /// The most ranges that are searched without a guess.
 const MAX_RANGES_UNGUESSED: usize = 4;
 
-/// The rest of a range of validators beside its first number.
+/// What a range of validators has beside its first number.
 #[derive(Clone, Copy)]
-pub struct Span {
+pub struct RangeRest {
     /// The last validator of the range.
     pub last: u32,
     /// The place of its mode.
@@ -30,7 +30,7 @@ pub struct Span {
 #[derive(Drop)]
 pub struct Ranges {
     /// Each range: its first number, and the rest of it.
-    ranges: Vec<(u32, Span)>,
+    ranges: Vec<(u32, RangeRest)>,
     /// The first numbers again, side by side, so that a search touches little memory.
     firsts: Vec<u32>,
     /// Where to look first. A table has hundreds of ranges, and a search by halves takes ten steps.
@@ -39,10 +39,10 @@ pub struct Ranges {
 
 impl Model for Ranges {
     ghost use Rattle.std.specs.Prelude.{ℕ, List};
-    ghost use Rattle.fare_table.specs.declared.validators.Span.{Span};
+    ghost use Rattle.fare_table.specs.declared.validators.RangeRest.{RangeRest};
     ghost use Rattle.fare_table.specs.inside.Validators.{AreSearchable};
 
-    ghost Value = { List (ℕ × Span) };
+    ghost Value = { List (ℕ × RangeRest) };
 
     ghost view = { λ r. r.ranges.items };
 
@@ -57,12 +57,12 @@ impl Ranges {
 
     /// The ranges of a map by their first numbers. `NoMemory` is answered where a growth is
     /// refused.
-    pub(crate) fn new(alloc: Global, ranges: BTreeMap<u32, Span>) -> Result<Ranges, NoMemory>
+    pub(crate) fn new(alloc: Global, ranges: BTreeMap<u32, RangeRest>) -> Result<Ranges, NoMemory>
         requires { stand_apart ranges.entries ≡ true }
         ensures { IfOk result (λ r. r ≡ ranges.entries) }
     {
         let firsts = ranges.keys().copied().collect(alloc)?;
-        let ranges: Vec<(u32, Span)> = ranges.into_iter().collect(alloc)?;
+        let ranges: Vec<(u32, RangeRest)> = ranges.into_iter().collect(alloc)?;
         let guesses = Guesses::new(alloc, &ranges)?;
         Ok(Ranges {
             ranges,
@@ -72,22 +72,22 @@ impl Ranges {
     }
 
     /// The rest of the range of a number.
-    pub(crate) fn at(&self, number: u32) -> Option<Span>
+    pub(crate) fn at(&self, number: u32) -> Option<RangeRest>
         ensures { result ≡ option_map (λ range. range.1) (range_at self.now number) }
     {
-        let (_, span) = range_at(&self.ranges, &self.firsts, &self.guesses, number)?;
-        Some(*span)
+        let (_, rest) = range_at(&self.ranges, &self.firsts, &self.guesses, number)?;
+        Some(*rest)
     }
 }
 
 /// The range of the number. Of few ranges none is guessed, since two or three halves are found
 /// sooner.
 fn range_at<'a>(
-    ranges: &'a [(u32, Span)],
+    ranges: &'a [(u32, RangeRest)],
     firsts: &[u32],
     guesses: &Guesses,
     number: u32,
-) -> Option<&'a (u32, Span)>
+) -> Option<&'a (u32, RangeRest)>
     requires { AreSearchable ranges.now firsts.now }
     ensures { option_copied result ≡ range_at ranges.now number }
 {
@@ -104,10 +104,10 @@ fn range_at<'a>(
 /// a wrong range. The choice between the two is a sum and no branch, since numbers come in no order
 /// that a processor could guess.
 fn range_near<'a>(
-    ranges: &'a [(u32, Span)],
+    ranges: &'a [(u32, RangeRest)],
     guess: usize,
     number: u32,
-) -> Option<Option<&'a (u32, Span)>>
+) -> Option<Option<&'a (u32, RangeRest)>>
     requires { stand_apart ranges.now ≡ true }
     ensures { IfSome result (λ found. option_copied found ≡ range_at ranges.now number) }
 {
@@ -125,7 +125,7 @@ fn range_near<'a>(
 }
 
 /// Whether the number lies before the range at the place, and behind the one before that.
-fn is_just_before(ranges: &[(u32, Span)], place: usize, number: u32) -> bool
+fn is_just_before(ranges: &[(u32, RangeRest)], place: usize, number: u32) -> bool
     requires apart { stand_apart ranges.now ≡ true }
     requires inside { place < length ranges.now }
     ensures { IsTrue result → range_at ranges.now number ≡ None }
@@ -139,10 +139,10 @@ fn is_just_before(ranges: &[(u32, Span)], place: usize, number: u32) -> bool
 /// The range of the number, found by halves.
 #[tactic(auto, using(crate::proofs::ApartLemmas::found))]
 fn range_by_halves<'a>(
-    ranges: &'a [(u32, Span)],
+    ranges: &'a [(u32, RangeRest)],
     firsts: &[u32],
     number: u32,
-) -> Option<&'a (u32, Span)>
+) -> Option<&'a (u32, RangeRest)>
     requires { AreSearchable ranges.now firsts.now }
     ensures { option_copied result ≡ range_at ranges.now number }
 {
@@ -155,7 +155,11 @@ fn range_by_halves<'a>(
 }
 
 /// The last range that begins at the number or before it.
-fn last_begun<'a>(ranges: &'a [(u32, Span)], firsts: &[u32], number: u32) -> Option<&'a (u32, Span)>
+fn last_begun<'a>(
+    ranges: &'a [(u32, RangeRest)],
+    firsts: &[u32],
+    number: u32,
+) -> Option<&'a (u32, RangeRest)>
     requires { AreSearchable ranges.now firsts.now }
     ensures { option_copied result ≡ last_begun number ranges.now }
 {

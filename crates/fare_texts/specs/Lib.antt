@@ -3,3 +3,4 @@ pub mod Local
 pub mod Moments
 pub mod PrintFaults
 pub mod StatementText
+pub mod SumLines

@@ -2,7 +2,7 @@
 use Rattle.fare_texts.specs.declared.print_fault.PrintFault.{PrintFault}
 use Rattle.fare_texts.specs.declared.print_fault.PrintFault.TheVariants.{Write, NoMemory}
 
--- the statement `kept` holds, unless the fault is a write that failed
+-- `kept` holds, unless the fault is a write that failed
 abbrev pub KeepsUnlessWrite : PrintFault → Type 0 → Type 0
 KeepsUnlessWrite Write kept = Unit {0}
 KeepsUnlessWrite NoMemory kept = kept

@@ -31,7 +31,7 @@ name_of names (Some place) = slice_index_or names place []
 
 -- the name of a validator's mode, or `-` where the table does not know the validator
 abbrev pub mode_text : Fares → ℕ → List ℕ
-mode_text fares validator = name_of fares.rules.modes (mode_at fares validator)
+mode_text fares validator = name_of fares.meaning.modes (mode_at fares validator)
 
 -- `statement 000000000000000000000000000000a1`
 unfoldable pub statement_head : Token → List ℕ

@@ -90,7 +90,7 @@ from_none fares shards books each k book is =
     (subst (λ (shard : ℕ). AreOfShard shard shards book.entries) same got.1, got.2)
 
 pub books_are_read : (fares : Fares) (shards : ℕ) (books : List Book) (only : Option Token) (text : List ℕ) → AreBooksOf fares shards books
-    → AllByRecursion IsPostable (all_entries books) → AreLetters fares.rules.modes → length (told_entries only (all_entries books)) ≤ 2 ^ 62
+    → AllByRecursion IsPostable (all_entries books) → AreLetters fares.meaning.modes → length (told_entries only (all_entries books)) ≤ 2 ^ 62
     → AreShort text → IsWrittenOf books only text → IsLedgerOf fares (told_entries only (all_entries books)) text
 books_are_read fares shards books only text each postable names few short written =
     let table : written.first.table ≡ fares = (each 0 written.first written.stands_first).0 in

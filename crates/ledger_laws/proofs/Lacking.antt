@@ -155,11 +155,11 @@ unfolding line_head
 head_free token place =
     both (free (encode_lower (bytes_of token)) (encoded_lacks (bytes_of token))) (both comma (both (number place) comma))
 
-fields_free : (fares : Fares) (entry : Entry) → AreLetters fares.rules.modes → Free (entry_fields fares entry)
+fields_free : (fares : Fares) (entry : Entry) → AreLetters fares.meaning.modes → Free (entry_fields fares entry)
 unfolding entry_fields
 fields_free fares entry letters =
     both comma (both (number entry.validator)
-    (both comma (both (free (mode_field fares entry.validator) (mode_lacks fares.rules.modes (mode_at fares entry.validator) letters))
+    (both comma (both (free (mode_field fares entry.validator) (mode_lacks fares.meaning.modes (mode_at fares entry.validator) letters))
     (both comma (both (free (answer_text entry.answer) (answer_lacks entry.answer))
     (both comma (both (number entry.cents) comma)))))))
 
@@ -195,7 +195,7 @@ five a b c d e =
     sym (append_assoc a (b ++ (c ++ d)) e
     ∙ ap (λ (t : List ℕ). a ++ t) (append_assoc b (c ++ d) e ∙ ap (λ (t : List ℕ). b ++ t) (append_assoc c d e)))
 
-pub line_ends_once : (fares : Fares) (token : Token) (place : ℕ) (entry : Entry) (why : Reason) (line : List ℕ) → AreLetters fares.rules.modes
+pub line_ends_once : (fares : Fares) (token : Token) (place : ℕ) (entry : Entry) (why : Reason) (line : List ℕ) → AreLetters fares.meaning.modes
     → IsLedgerLine fares token place entry why line → EndsOnce line
 line_ends_once fares token place entry why line letters is = record {
   front = line_head token place ++ (is.moment ++ (entry_fields fares entry ++ is.reason_fields));

@@ -60,7 +60,7 @@ record IsOwn (fares : Fares) (token : Token) (entries : List Entry) : Type 0 whe
   pub postable : AllByRecursion IsPostable entries
   pub legal : IsLegal fares entries
 
-module _ (fares : Fares) (letters : AreLetters fares.rules.modes) (token : Token) (done : List Entry) (below : AreBelow token done) where
+module _ (fares : Fares) (letters : AreLetters fares.meaning.modes) (token : Token) (done : List Entry) (below : AreBelow token done) where
   no_fall : (earlier : List Entry) (entry : Entry) → AllOf token earlier → entry.token ≡ token → IsPostable entry
       → AllByRecursion (λ before. token_number before.token ≤ token_number entry.token) (done ++ earlier)
   no_fall earlier entry all is postable =
@@ -153,7 +153,7 @@ goes_on fares history done token list known goes = record {
     by (t ∷ ts) less before =
         (all_append _ done (own token history) before.0 (own_are_below fares token t (own token history) known less.0), by ts less.1 before.1)
 
-told_each : (fares : Fares) (history done : List Entry) (list : List Token) (text : List ℕ) → AreLetters fares.rules.modes → ((t : Token) → IsLegal fares (own t history))
+told_each : (fares : Fares) (history done : List Entry) (list : List Token) (text : List ℕ) → AreLetters fares.meaning.modes → ((t : Token) → IsLegal fares (own t history))
     → AllByRecursion IsPostable history → Goes fares history done list → AreLinesOfEach fares history list text
     → Told fares done (flat_map (λ token. own token history) list) text
 told_each fares history done [] text letters legal postable goes lines = told_none fares done text lines

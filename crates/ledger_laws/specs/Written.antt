@@ -1,10 +1,9 @@
 -- Which entries a written ledger tells, in its order, and what they have to be.
-use Rattle.std.specs.Prelude.{◌≡◌, ℕ, ◌^◌, ◌≤◌, true, List, length, flat_map, Option, Some}
-use Rattle.std.specs.Prelude.{slice_get}
+use Rattle.std.specs.Prelude.{◌≡◌, ℕ, ◌^◌, ◌≤◌, true, List, length, flat_map, Option}
 use Rattle.std.specs.Char.{is_ascii_lowercase}
 use Rattle.std.specs.List.{AllByRecursion, list_all}
 use Rattle.fare_table.specs.Fares.{Fares}
-use Rattle.shard_book.specs.Book.{AreOfShard, Book}
+use Rattle.shard_book.specs.Book.{AreOfShard, Book, EachBook}
 use Rattle.shard_book.specs.Entry.{own}
 use Rattle.shard_book.specs.History.{IsLegal}
 use Rattle.shard_book.specs.declared.entry.Entry.{Entry}
@@ -29,14 +28,10 @@ AreShort text = AllByRecursion (λ line. length line ≤ 255) (lines_of text)
 pub record CanBeTold (fares : Fares) (only : Option Token) (history : List Entry) : Type 0 where
   pub legal : (token : Token) → IsLegal fares (own token history)
   pub postable : AllByRecursion IsPostable history
-  pub names : AreLetters fares.rules.modes
+  pub names : AreLetters fares.meaning.modes
   pub few : length (told_entries only history) ≤ 2 ^ 62
-
--- so it is of the book of each shard, which is its place in the list
-abbrev pub EachOf : (ℕ → Book → Type 0) → List Book → Type 0
-EachOf P books = (shard : ℕ) (book : Book) → slice_get books shard ≡ Some book → P shard book
 
 -- books under one table, each of its own shard of so many, and with a legal history
 abbrev pub AreBooksOf : Fares → ℕ → List Book → Type 0
-AreBooksOf fares shards books = EachOf (λ shard book. (book.table ≡ fares)
+AreBooksOf fares shards books = EachBook (λ shard book. (book.table ≡ fares)
     × AreOfShard shard shards book.entries × IsLegal fares book.entries) books

@@ -26,7 +26,7 @@ fn nothing() -> Entry
     ensures { result ≡ no_entry }
 {
     // proof: the token of 16 zero bytes is that of two zero numbers
-    shard_book::laws::same_bytes();
+    shard_book::laws::same_bytes_same_token();
     let token = Token::of(&[0; 16]);
     Entry {
         token,

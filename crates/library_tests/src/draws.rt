@@ -93,7 +93,7 @@ fn an_owner_without_a_drawer_finishes_too(rt: HostRuntime) -> Result<(), Fail> {
 
 /// Draws until there are no more.
 fn draw_all(draw: &Draw, mut drawer: Drawer) -> Drawer
-    requires own { drawer.drawn_from ≡ draw.now }
+    requires belongs { drawer.drawn_from ≡ draw.now }
     ensures { result.drawn_from ≡ draw.now }
 {
     while draw.draw(&mut drawer).is_some() {}

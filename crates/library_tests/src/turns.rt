@@ -23,7 +23,7 @@ fn shared_from<R: RandomSource>(
     first: u64,
 ) -> Result<(SharedBook, Pass, Clock), Fail>
     requires { first ≤ 2 ^ 62 }
-    ensures own { IfOk result (λ r. r.1.book ≡ r.0) }
+    ensures belongs { IfOk result (λ r. r.1.book ≡ r.0) }
     ensures clock { IfOk result (λ r. r.2 ≡ r.0.table.zone) }
     ensures only { IfOk result (λ r. (r.0.shard ≡ 0) × (r.0.shards ≡ 1)) }
 {
@@ -44,7 +44,7 @@ fn visit<R: Wait>(
     pass: &mut Pass,
     taps: &[TapFields],
 ) -> Result<Option<(u64, RunEnd)>, NoMemory>
-    requires own { pass.old.book ≡ shared.now }
+    requires belongs { pass.old.book ≡ shared.now }
     requires clock { clock.now ≡ shared.now.table.zone }
     requires only { (shared.now.shard ≡ 0) × (shared.now.shards ≡ 1) }
     ensures { pass.new.book ≡ pass.old.book }
@@ -181,7 +181,7 @@ const TURNS: u64 = 100;
 /// Reads the token again and again. Nothing where a read has no answer, or does not begin with the
 /// lines of the one before.
 fn read_often<R: Wait>(rt: &R, alloc: Global, shared: &SharedBook, mut pass: Pass) -> Option<Pass>
-    requires own { pass.book ≡ shared.now }
+    requires belongs { pass.book ≡ shared.now }
     ensures { IfSome result (λ pass. pass.book ≡ shared.now) }
 {
     let Ok(first) = shared.read(rt, alloc, &mut pass, &token(0xa1)) else {
@@ -208,7 +208,7 @@ fn visit_often<R: Wait>(
     clock: &Clock,
     mut pass: Pass,
 ) -> Option<Pass>
-    requires own { pass.book ≡ shared.now }
+    requires belongs { pass.book ≡ shared.now }
     requires clock { clock.now ≡ shared.now.table.zone }
     requires only { (shared.now.shard ≡ 0) × (shared.now.shards ≡ 1) }
     ensures { IfSome result (λ pass. pass.book ≡ shared.now) }
@@ -298,7 +298,7 @@ fn jobs_of<'a>(
     taps: &'a [TapFields],
     visits: u64,
 ) -> Result<Vec<Job<'a>>, NoMemory>
-    requires own { pass.old.book ≡ shared.now }
+    requires belongs { pass.old.book ≡ shared.now }
     requires zone { clock.now ≡ shared.now.table.zone }
     requires only { (shared.now.shard ≡ 0) × (shared.now.shards ≡ 1) }
     ensures { pass.new.book ≡ shared.now }

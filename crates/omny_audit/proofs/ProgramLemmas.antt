@@ -5,12 +5,12 @@ use Rattle.std.specs.Result.{IsErrAnd}
 use Rattle.std.proofs.lemmas.Bool.Decides.{nat_tests}
 use Rattle.std.proofs.lemmas.List.{map-append}
 use Rattle.clap.specs.Words.{Text}
-use Rattle.tap_balance.specs.Balances.{AreGoodTaps}
+use Rattle.tap_balance.specs.Balances.{AreGoodFields}
 use Rattle.tap_views.specs.declared.encoder.TapFields.{TapFields}
 use Rattle.omny_audit.specs.Fault.{IsOneOf, NamesOneOf, named_by}
 use Rattle.omny_audit.specs.Options.{AuditAsked, files_of}
 use Rattle.omny_audit.specs.declared.fault.Fault.{Fault}
-use Rattle.omny_audit.specs.Program.{AreGoodTapsOfAll, LoadsNamedFiles, compared}
+use Rattle.omny_audit.specs.Program.{AreGoodFieldsOfAll, LoadsNamedFiles, compared}
 use Rattle.omny_audit.specs.Source.{OpensOne}
 use Rattle.omny_audit.specs.inside.Source.{IsAllOf}
 use Rattle.program_manners.specs.Loads.{Loaded, Tells, TellsOne}
@@ -36,8 +36,8 @@ loads_push names name told told' told'' files bytes all one = record {
 }
 
 -- and the taps of one more
-pub posted_push : (uploads : List (List ℕ)) (good : List TapFields) (upload : List ℕ) (taps : List TapFields) → AreGoodTapsOfAll uploads good
-    → AreGoodTaps upload taps → AreGoodTapsOfAll (uploads ++ upload ∷ []) (good ++ taps)
+pub posted_push : (uploads : List (List ℕ)) (good : List TapFields) (upload : List ℕ) (taps : List TapFields) → AreGoodFieldsOfAll uploads good
+    → AreGoodFields upload taps → AreGoodFieldsOfAll (uploads ++ upload ∷ []) (good ++ taps)
 posted_push [] good upload taps all one =
     (taps, [], one, refl, ap (λ (xs : List TapFields). xs ++ taps) all ∙ sym (append-nil taps))
 posted_push (first ∷ uploads) good upload taps all one = (

@@ -5,7 +5,7 @@ use Rattle.std.specs.Io.KnownBytes.{Appends, Keeps}
 use Rattle.clap.specs.Words.{Text}
 use Rattle.fare_table.specs.Fares.{Fares}
 use Rattle.fare_table.specs.Meaning.{Means}
-use Rattle.tap_balance.specs.Balances.{AreGoodTaps}
+use Rattle.tap_balance.specs.Balances.{AreGoodFields}
 use Rattle.tap_views.specs.declared.encoder.TapFields.{TapFields}
 use Rattle.omny_audit.specs.Findings.{IsFinding}
 use Rattle.omny_audit.specs.Fault.{audit_fault_text, is_quiet, is_unwritten}
@@ -29,12 +29,12 @@ pub record LoadsNamedFiles (names : List Text) (told told' : Option (List Loaded
   pub bytes : map (λ load. load.bytes) loads ≡ files
   pub told_is : Tells told told' loads
 
--- the good taps of the uploads, one upload after another
-abbrev pub AreGoodTapsOfAll : List (List ℕ) → List TapFields → Type 0
-AreGoodTapsOfAll [] taps = taps ≡ []
-AreGoodTapsOfAll (upload ∷ uploads) taps =
-    (first : List TapFields) × (rest : List TapFields) × AreGoodTaps upload first
-    × AreGoodTapsOfAll uploads rest × (taps ≡ first ++ rest)
+-- the fields of the good taps of the uploads, one upload after another
+abbrev pub AreGoodFieldsOfAll : List (List ℕ) → List TapFields → Type 0
+AreGoodFieldsOfAll [] taps = taps ≡ []
+AreGoodFieldsOfAll (upload ∷ uploads) taps =
+    (first : List TapFields) × (rest : List TapFields) × AreGoodFields upload first
+    × AreGoodFieldsOfAll uploads rest × (taps ≡ first ++ rest)
 
 -- the taps with which a ledger's are compared, where uploads are named
 abbrev pub compared : List Text → List TapFields → Option (List TapFields)
@@ -53,7 +53,7 @@ pub record Audits (asked : AuditAsked) (told told' : Option (List Loaded))
   pub uploads : List (List ℕ)
   pub loads_uploads : LoadsNamedFiles asked.uploads after_table after_uploads uploads
   pub good : List TapFields
-  pub are_good : AreGoodTapsOfAll uploads good
+  pub are_good : AreGoodFieldsOfAll uploads good
   pub ledger : List ℕ
   pub loads_ledger : TellsOne after_uploads told' asked.ledger ledger
   pub text : List ℕ

@@ -10,7 +10,8 @@ ghost use Rattle.omny_audit.specs.Fault.{NamesOneOf, is_unwritten, named_by};
 ghost use Rattle.omny_audit.specs.Options.{AsksForAuditText, ParsesForAudit, audit_asked_by};
 ghost use Rattle.omny_audit.specs.inside.Options.{audit_asked_of};
 ghost use Rattle.omny_audit.specs.Options.{files_of};
-ghost use Rattle.omny_audit.specs.Program.{AreGoodTapsOfAll, AuditGaveUp, Audits, LoadsNamedFiles};
+ghost use Rattle.omny_audit.specs.Program.{AreGoodFieldsOfAll, AuditGaveUp, Audits};
+ghost use Rattle.omny_audit.specs.Program.{LoadsNamedFiles};
 ghost use Rattle.omny_audit.specs.Program.{LoadsRequiredTable};
 ghost use Rattle.omny_audit.specs.Program.{IsFaultTold};
 ghost use Rattle.omny_audit.specs.Source.{OpensOne};
@@ -70,7 +71,7 @@ fn load_balance<'a, S: Source>(
     ensures ok { IfOk result (λ balance. (files : List (List ℕ)) × (good : List TapFields)
         × LoadsNamedFiles (map (λ n. n.now) names.now)
         (S.loaded source.old) (S.loaded source.new) files
-        × AreGoodTapsOfAll files good × IsBalance balance good []) }
+        × AreGoodFieldsOfAll files good × IsBalance balance good []) }
     ensures fault { IfErr result (λ fault. is_unwritten fault ≡ false) }
     ensures named { IfErr result (λ fault. NamesOneOf (map (λ n. n.now) names.now) fault) }
 {

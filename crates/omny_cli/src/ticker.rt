@@ -2,45 +2,24 @@
 //! is gone before anything else is written.
 
 use crate::progress::Steps;
-use arrayvec::ArrayString;
-use std::fmt::Write as _;
+use program_manners::{PACE_MS, QUIET_MS, TerminalLine};
 use std::io;
-use std::io::Write;
 use std::sync::{Condvar, Mutex, Wait};
 use std::time::{Clock, Duration, Instant};
-
-/// After how many milliseconds the line is shown first.
-const QUIET_MS: u64 = 1_000;
-
-/// How many milliseconds a line stays before the next one.
-const PACE_MS: u64 = 200;
 
 /// The line as it is on the terminal.
 #[derive(Drop)]
 struct Line {
-    /// The standard error.
-    err: io::Stderr,
-    /// Whether a line is there.
-    is_shown: bool,
+    /// The line of the standard error.
+    shown: TerminalLine<io::Stderr>,
     /// Whether no line may be shown any more.
     is_over: bool,
 }
 
 impl Line {
-    /// Shows the line in place of the one that is there, by one write.
-    fn show(&mut self, steps: &Steps, seconds: u64) {
-        let mut line: ArrayString<80> = ArrayString::new();
-        let _ = write!(line, "\r{steps}, {seconds} s\x1b[K");
-        let _ = self.err.write(line.as_bytes());
-        self.is_shown = true;
-    }
-
     /// Takes the line away for good.
     fn end(&mut self) {
-        if self.is_shown {
-            let _ = self.err.write(b"\r\x1b[K");
-        }
-        self.is_shown = false;
+        self.shown.clear();
         self.is_over = true;
     }
 }
@@ -62,8 +41,7 @@ impl Ticker {
         Ticker {
             steps: Mutex::new(steps),
             line: Mutex::new(Line {
-                err,
-                is_shown: false,
+                shown: TerminalLine::new(err),
                 is_over: false,
             }),
             ended: Condvar::new(),
@@ -108,7 +86,7 @@ impl Ticker {
         let steps = *self.steps.lock(rt);
         let mut line = self.line.lock(rt);
         if !line.is_over {
-            line.show(&steps, seconds);
+            line.shown.show(format_args!("{steps}, {seconds} s"));
         }
     }
 

@@ -10,7 +10,7 @@
 //! | `fault` | why a task is given up, and the line that says so |
 //! | `layout` | what a layout fault means, and what to do |
 //! | `coding` | `encode` and `decode` |
-//! | `telling`, `sharing` | `uploads` |
+//! | `telling`, `common_tokens` | `uploads` |
 //! | `splitting` | `split` |
 //! | `merging` | `merge` and `merge-ledgers` |
 //! | `part_words` | the command lines of `split`, `merge` and `merge-ledgers` |
@@ -19,6 +19,7 @@
 #![tactic(auto)]
 
 mod coding;
+mod common_tokens;
 mod fault;
 mod input;
 mod layout;
@@ -27,7 +28,6 @@ mod names;
 mod output;
 mod part_words;
 mod progress;
-mod sharing;
 mod splitting;
 mod table;
 mod tasks;

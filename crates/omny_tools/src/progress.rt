@@ -1,34 +1,26 @@
 //! A line on the standard error that tells how far a long run is: only where that is a terminal,
 //! and only from the first second on.
 
-use arrayvec::ArrayString;
-use std::fmt::Write as _;
+use program_manners::{PACE_MS, QUIET_MS, TerminalLine};
+use std::fmt::Display;
 use std::io;
 use std::io::{IsTerminal, Read, Write};
 use std::time::Instant;
 
-/// After how many milliseconds the line is shown first.
-const QUIET_MS: u128 = 1_000;
-
-/// How many milliseconds a line stands before the next one.
-const PACE_MS: u128 = 200;
-
 /// A MiB in bytes.
 const MIB: u64 = 1_048_576;
 
-/// How far a run is. It is told by one write a line, so that no other writer stands within it.
+/// How far a run is.
 #[derive(Drop)]
 pub(crate) struct Progress<'r> {
     /// The runtime, whose clock is asked.
     rt: &'r HostRuntime,
-    /// The standard error.
-    err: io::Stderr,
+    /// The line of the standard error.
+    line: TerminalLine<io::Stderr>,
     /// When the run began; none where nothing is shown.
     begun: Option<Instant>,
     /// After how many milliseconds of the run the next line is due.
     due_ms: u128,
-    /// Whether a line stands on the terminal.
-    is_shown: bool,
 }
 
 impl<'r> Progress<'r> {
@@ -42,10 +34,9 @@ impl<'r> Progress<'r> {
         };
         Progress {
             rt,
-            err,
+            line: TerminalLine::new(err),
             begun,
-            due_ms: QUIET_MS,
-            is_shown: false,
+            due_ms: u128::from(QUIET_MS),
         }
     }
 
@@ -53,10 +44,9 @@ impl<'r> Progress<'r> {
     pub(crate) fn hidden(rt: &'r HostRuntime) -> Progress<'r> {
         Progress {
             rt,
-            err: rt.stderr(),
+            line: TerminalLine::new(rt.stderr()),
             begun: None,
-            due_ms: QUIET_MS,
-            is_shown: false,
+            due_ms: u128::from(QUIET_MS),
         }
     }
 
@@ -85,50 +75,39 @@ impl<'r> Progress<'r> {
         };
         let is_due = passed >= self.due_ms;
         if is_due {
-            self.due_ms = passed.saturating_add(PACE_MS);
+            self.due_ms = passed.saturating_add(u128::from(PACE_MS));
         }
         is_due
     }
 
-    /// Shows a line in place of the one that stands there. That one may be longer, so a line ends
-    /// by clearing what follows it.
-    fn show(&mut self, line: &ArrayString<80>) {
-        let _ = self.err.write(line.as_bytes());
-        self.is_shown = true;
+    /// Shows the text, if a line is due.
+    fn show<D: Display + Drop>(&mut self, text: D) {
+        if self.is_due() {
+            self.line.show(text);
+        }
     }
 
     /// Tells that so many of all these things are done.
     pub(crate) fn tell(&mut self, done: usize, all: usize, things: &str) {
-        if self.is_due() {
-            let mut line: ArrayString<80> = ArrayString::new();
-            let _ = write!(line, "\r{done} of {all} {things}\x1b[K");
-            self.show(&line);
-        }
+        self.show(format_args!("{done} of {all} {things}"));
     }
 
     /// Tells what is done with so many bytes of all, or that it is with so many where their number
     /// is not known.
     pub(crate) fn tell_bytes(&mut self, done: u64, all: Option<u64>, verb: &str) {
-        if self.is_due() {
-            let mut line: ArrayString<80> = ArrayString::new();
-            let done = done / MIB;
-            let _ = match all {
-                Some(all) => {
-                    let all = all / MIB;
-                    write!(line, "\r{done} of {all} MiB {verb}\x1b[K")
-                }
-                None => write!(line, "\r{done} MiB {verb}\x1b[K"),
-            };
-            self.show(&line);
+        let done = done / MIB;
+        match all {
+            Some(all) => {
+                let all = all / MIB;
+                self.show(format_args!("{done} of {all} MiB {verb}"));
+            }
+            None => self.show(format_args!("{done} MiB {verb}")),
         }
     }
 
     /// Takes the line away.
     pub(crate) fn end(&mut self) {
-        if self.is_shown {
-            let _ = self.err.write(b"\r\x1b[K");
-            self.is_shown = false;
-        }
+        self.line.clear();
     }
 }
 

@@ -1,12 +1,12 @@
 //! `uploads`.
 
+use crate::common_tokens::CommonTokens;
 use crate::fault::Fault;
 use crate::input::load_upload;
 use crate::layout::{AtTap, Cause, Remedy};
 use crate::names::Name;
 use crate::output::Output;
 use crate::progress::Progress;
-use crate::sharing::Sharing;
 use fare_texts::write_moment;
 use std::alloc::{AllocError, Global};
 use std::fs;
@@ -62,29 +62,29 @@ fn tell_one<'a, W: Write + Drop>(
 }
 
 /// The lines of how many tokens each upload has, and how many of these stand in another one, too.
-fn token_lines(alloc: Global, sharing: &Sharing) -> Result<String, AllocError> {
+fn token_lines(alloc: Global, common: &CommonTokens) -> Result<String, AllocError> {
     let mut text = String::new(alloc);
-    for (number, counts) in sharing.counts().iter().enumerate() {
+    for (number, counts) in common.counts().iter().enumerate() {
         let all = counts.all;
-        let shared = counts.shared;
-        write!(text, "tokens {number} all {all} shared {shared}\n")?;
+        let common = counts.common;
+        write!(text, "tokens {number} all {all} shared {common}\n")?;
     }
     Ok(text)
 }
 
 /// Counts no tokens yet, where that is asked for.
-fn sharing_where(alloc: Global, has_tokens: bool) -> Option<Sharing> {
+fn no_tokens_yet(alloc: Global, has_tokens: bool) -> Option<CommonTokens> {
     if has_tokens {
-        Some(Sharing::new(alloc))
+        Some(CommonTokens::new(alloc))
     } else {
         None
     }
 }
 
 /// Counts the tokens of the next upload, where that is asked for.
-fn add_tokens<'a>(sharing: &mut Option<Sharing>, upload: &[u8]) -> Result<(), Fault<'a>> {
-    if let Some(sharing) = sharing {
-        sharing.add(upload)?;
+fn add_tokens<'a>(common: &mut Option<CommonTokens>, upload: &[u8]) -> Result<(), Fault<'a>> {
+    if let Some(common) = common {
+        common.add(upload)?;
     }
     Ok(())
 }
@@ -92,11 +92,11 @@ fn add_tokens<'a>(sharing: &mut Option<Sharing>, upload: &[u8]) -> Result<(), Fa
 /// Writes how many tokens the uploads have and share, where that is asked for.
 fn tell_tokens<'a, W: Write + Drop>(
     alloc: Global,
-    sharing: &Option<Sharing>,
+    common: &Option<CommonTokens>,
     out: &mut Output<W>,
 ) -> Result<(), Fault<'a>> {
-    if let Some(sharing) = sharing {
-        let text = token_lines(alloc, sharing)?;
+    if let Some(common) = common {
+        let text = token_lines(alloc, common)?;
         out.put(text.as_str())?;
     }
     Ok(())
@@ -106,7 +106,7 @@ fn tell_tokens<'a, W: Write + Drop>(
 fn tell_each<'a, W: Write + Drop>(
     rt: &HostRuntime,
     names: &[Name<'a>],
-    sharing: &mut Option<Sharing>,
+    common: &mut Option<CommonTokens>,
     progress: &mut Progress<'_>,
     out: &mut Output<W>,
 ) -> Result<bool, Fault<'a>> {
@@ -115,7 +115,7 @@ fn tell_each<'a, W: Write + Drop>(
         progress.tell(number, names.len(), "uploads");
         let (upload, is_whole) = tell_one(rt, number, *name, out)?;
         is_well &= is_whole;
-        add_tokens(sharing, &upload)?;
+        add_tokens(common, &upload)?;
     }
     Ok(is_well)
 }
@@ -129,11 +129,11 @@ pub(crate) fn tell<'a, W: Write + Drop>(
     out: &mut Output<W>,
 ) -> Result<bool, Fault<'a>> {
     let mut progress = Progress::new(rt);
-    let mut sharing = sharing_where(rt.alloc(), has_tokens);
-    let told = tell_each(rt, names, &mut sharing, &mut progress, out);
+    let mut common = no_tokens_yet(rt.alloc(), has_tokens);
+    let told = tell_each(rt, names, &mut common, &mut progress, out);
     progress.end();
     let is_well = told?;
-    tell_tokens(rt.alloc(), &sharing, out)?;
+    tell_tokens(rt.alloc(), &common, out)?;
     Ok(is_well)
 }
 
@@ -158,10 +158,10 @@ pub(crate) fn tell_and_keep<'a, W: Write + Drop>(
     has_tokens: bool,
     out: &mut Output<W>,
 ) -> Result<bool, Fault<'a>> {
-    let mut sharing = sharing_where(rt.alloc(), has_tokens);
+    let mut common = no_tokens_yet(rt.alloc(), has_tokens);
     let (upload, is_whole) = tell_one(rt, 0, name, out)?;
-    add_tokens(&mut sharing, &upload)?;
-    tell_tokens(rt.alloc(), &sharing, out)?;
+    add_tokens(&mut common, &upload)?;
+    tell_tokens(rt.alloc(), &common, out)?;
     make(rt, good, good_part(&upload))?;
     Ok(is_whole)
 }

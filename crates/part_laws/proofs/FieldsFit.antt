@@ -11,14 +11,14 @@ use Rattle.std.proofs.lemmas.List.Elements.{All-head, All-map, All-nil, All-tail
 use Rattle.std.proofs.lemmas.List.Elements.{recursion_from_All}
 use Rattle.std.proofs.lemmas.List.Sorted.{All-permutation}
 use Rattle.tap_views.specs.Encoding.{fields_of}
-use Rattle.tap_views.specs.Files.{IsFile}
+use Rattle.tap_views.specs.Files.{IsFile, AreGoodTaps, AreGoodTapsOfEach}
 use Rattle.tap_views.specs.Layout.{IsBatch, IsTapOf, Layout, Tap, Tap1, Tap2, magic, num, shared}
 use Rattle.tap_views.specs.Layout.{spelling}
 use Rattle.tap_views.specs.declared.encoder.TapFields.{TapFields}
 use Rattle.fare_table.specs.Fares.{Fares}
 use Rattle.fare_table.specs.Token.{Fits}
 use Rattle.shard_book.specs.declared.entry.Entry.{Entry}
-use Rattle.fare_service.specs.Plain.{AreTapsOf, AreTapsOfEach, token_of_bytes, unanswered}
+use Rattle.fare_service.specs.Plain.{token_of_bytes, unanswered}
 use Rattle.fare_service.proofs.PlainFields.{AreBytes}
 use Rattle.fare_service.proofs.PlainLists.{All-split}
 use Rattle.fare_service.proofs.PlainReplies.{bare}
@@ -114,13 +114,13 @@ file_fits file (batch ∷ batches) rest (front, back, is_batch, whole, is) all =
     All-append TapFits batch (flat_map (λ b. b) batches) (batch_fits front batch is_batch first)
     (file_fits back batches rest is others)
 
-upload_fits : (file : List ℕ) (taps : List Tap) → AreTapsOf file taps → AreBytes file
+upload_fits : (file : List ℕ) (taps : List Tap) → AreGoodTaps file taps → AreBytes file
     → All TapFits taps
 upload_fits file taps is all =
     let N : List Tap → Type 0 = All TapFits in
     subst N (sym is.all) (file_fits file is.batches is.rest is.is_file all)
 
-uploads_fit : (files : List (List ℕ)) (taps : List (List Tap)) → AreTapsOfEach files taps
+uploads_fit : (files : List (List ℕ)) (taps : List (List Tap)) → AreGoodTapsOfEach files taps
     → All AreBytes files → All TapFits (uploads_joined taps)
 uploads_fit [] [] each all = All-nil TapFits
 uploads_fit [] (ts ∷ taps) each all = absurd each

@@ -25,7 +25,7 @@ use Rattle.part_reports.specs.Reports.{HasTapNumbers, IsMerged, IsPartReport, Re
 use Rattle.part_reports.specs.Reports.{joined_ends, report_text, tokens_of_reports, validators_of_reports}
 use Rattle.part_reports.specs.Reports.{sums_of_validator as listed_at}
 use Rattle.part_reports.proofs.Unique.{end_line_unique}
-use Rattle.part_laws.specs.Sizes.{CanBeWritten, HasSize, HaveLimits}
+use Rattle.part_laws.specs.Sizes.{CanBeWritten, HasSize, HaveBoundedTerms}
 use Rattle.part_laws.specs.Split.{AreTokensOf, AreValidatorsOf, IsSplit, Part, pairs_of_parts}
 use Rattle.part_laws.specs.Split.{sums_at}
 use Rattle.part_laws.proofs.CentsFit.{entries_few}
@@ -80,11 +80,11 @@ all_writable (p ∷ list) fit few can =
     (All-tail CanBeWritten p list can))
 
 pub writable : (fares : Fares) (uploads : List (List ℕ)) (history : List Entry)
-    (parts : List Part) → IsSplit fares uploads history parts → HaveLimits fares
+    (parts : List Part) → IsSplit fares uploads history parts → HaveBoundedTerms fares
     → All CanBeWritten parts → All IsWritable parts
-writable fares uploads history parts split limits can =
+writable fares uploads history parts split bounds can =
     all_writable parts (entries_fit fares uploads history parts split)
-    (entries_few fares uploads history parts split limits) can
+    (entries_few fares uploads history parts split bounds) can
 
 -- what the report of the part's history tells
 abbrev pub own_told : (part : Part) (ends : List UploadEnd) → Report

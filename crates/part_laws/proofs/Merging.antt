@@ -16,7 +16,7 @@ use Rattle.fare_table.specs.Fares.{Fares}
 use Rattle.shard_book.specs.declared.entry.Entry.{Entry}
 use Rattle.fare_table.specs.declared.token.Token.{Token}
 use Rattle.shard_book.specs.Entry.{is_of, is_at, own, reply_of}
-use Rattle.shard_book.specs.SumsByKey.{at, validators, tokens, sums_by_validator, sums_by_token}
+use Rattle.shard_book.specs.SumsByKey.{entries_of_validator, validators, tokens, sums_by_validator, sums_by_token}
 use Rattle.shard_book.specs.SumsByKey.{validator_of, token_of}
 use Rattle.shard_book.specs.Keys.{same_token}
 use Rattle.shard_book.specs.Rising.{rising, IsRising}
@@ -88,8 +88,8 @@ same_entries xs ys same =
     same_elements (λ (entry : Entry). entry.token) token_eq token_itself same_token xs ys same
 
 pub same_at : (validator : ℕ) (xs ys : List Entry) → ((token : Token) → own token xs ≡ own token ys)
-    → (token : Token) → own token (at validator xs) ≡ own token (at validator ys)
-unfolding own at
+    → (token : Token) → own token (entries_of_validator validator xs) ≡ own token (entries_of_validator validator ys)
+unfolding own entries_of_validator
 same_at validator xs ys same token =
     filter-filter (is_of token) (is_at validator) xs ∙ ap (filter (is_at validator)) (same token)
     ∙ sym (filter-filter (is_of token) (is_at validator) ys)
@@ -108,10 +108,10 @@ module _ (numbers : RisingNumbers) (names : RisingTokens) (xs ys : List Entry)
   same_by_validator =
       let keys = same_rising nat_cmp numbers (map validator_of xs) (map validator_of ys)
       (IsPermutation-map validator_of xs ys (same_entries xs ys same)) in
-      let each : (v : ℕ) → sums (at v xs) ≡ sums (at v ys) =
-      λ v. same_sums (at v xs) (at v ys)
-      (same_entries (at v xs) (at v ys) (same_at v xs ys same)) in
-      ap (map (λ (v : ℕ). (v, sums (at v xs)))) keys
+      let each : (v : ℕ) → sums (entries_of_validator v xs) ≡ sums (entries_of_validator v ys) =
+      λ v. same_sums (entries_of_validator v xs) (entries_of_validator v ys)
+      (same_entries (entries_of_validator v xs) (entries_of_validator v ys) (same_at v xs ys same)) in
+      ap (map (λ (v : ℕ). (v, sums (entries_of_validator v xs)))) keys
       ∙ (λ i. map (λ (v : ℕ). (v, each v i)) (rising nat_cmp (map validator_of ys)))
 
   same_by_token : sums_by_token xs ≡ sums_by_token ys
@@ -235,7 +235,7 @@ module _ (fares : Fares) (uploads : List (List ℕ)) (history : List Entry) (par
       is.settled.canonical.sorted sorted
       (λ f. sum_by-IsPermutation f files here is.settled.canonical.moved
       ∙ sum_by-IsPermutation f
-      (map fields_of (of_part number (length parts) (uploads_joined split.settled.taps))) files is.own
+      (map fields_of (of_part number (length parts) (uploads_joined split.settled.taps))) files is.its_taps
       ∙ ap (sum_by f) (part_fields number (length parts) (uploads_joined split.settled.taps))
       ∙ sum_filter p f all
       ∙ sym (sum_by-IsPermutation (λ x. cond (p x) (f x) 0) all order split.settled.canonical.moved)

@@ -13,7 +13,7 @@ use Rattle.std.proofs.lemmas.Bool.Decides.{nat_tests}
 use Rattle.std.proofs.lemmas.List.{map-append}
 use Rattle.std.proofs.lemmas.List.Elements.{filter-append}
 use Rattle.shard_book.specs.declared.entry.Entry.{Entry}
-use Rattle.shard_book.specs.SumsByKey.{at, sums_by_validator, validators, validator_of}
+use Rattle.shard_book.specs.SumsByKey.{entries_of_validator, sums_by_validator, validators, validator_of}
 use Rattle.shard_book.specs.Rising.{rising}
 use Rattle.shard_book.specs.Sums.{Sums, add_all, add_sums, sums, sums_of_replies}
 use Rattle.part_reports.specs.Reports.{sums_of_validator as listed_at}
@@ -139,8 +139,8 @@ or_right true b is = absurd (false≢true (sym is))
 or_right false b is = is
 
 none_at : (v : ℕ) (entries : List Entry)
-    → is_member (eq_by_cmp nat_cmp) (map validator_of entries) v ≡ false → at v entries ≡ []
-unfolding at
+    → is_member (eq_by_cmp nat_cmp) (map validator_of entries) v ≡ false → entries_of_validator v entries ≡ []
+unfolding entries_of_validator
 none_at v [] none = refl
 none_at v (entry ∷ entries) none =
     let here = or_left (eq_by_cmp nat_cmp v entry.validator) _ none in
@@ -172,12 +172,12 @@ among-append (x ∷ xs) ys v =
 
 module _ (risen : RisingNumbers) where
   listed_in : (v : ℕ) (entries : List Entry)
-      → listed_at v (sums_by_validator entries) ≡ sums (at v entries)
+      → listed_at v (sums_by_validator entries) ≡ sums (entries_of_validator v entries)
   unfolding sums_by_validator validators
   listed_in v entries =
       let keys = rising nat_cmp (map validator_of entries) in
       let is = (risen (map validator_of entries) keys).1 refl in
-      listed_one v (λ k. sums (at k entries)) keys is.rises
+      listed_one v (λ k. sums (entries_of_validator k entries)) keys is.rises
       (λ none. ap sums (none_at v entries (sym (is.same v) ∙ none_member v keys none)))
 
   pub listed_parts : (v : ℕ) (parts : List Part)
@@ -196,7 +196,7 @@ module _ (risen : RisingNumbers) where
   members (p ∷ parts) v =
       let first = sums_by_validator p.history in
       let keys = rising nat_cmp (map validator_of p.history) in
-      let own_keys : keys_of first ≡ keys = keys-map (λ k. sums (at k p.history)) keys in
+      let own_keys : keys_of first ≡ keys = keys-map (λ k. sums (entries_of_validator k p.history)) keys in
       ap (λ vs. among vs v) (keys-append first (by_validator parts))
       ∙ among-append (keys_of first) (keys_of (by_validator parts)) v
       ∙ ap (λ b. b || among (keys_of (by_validator parts)) v)

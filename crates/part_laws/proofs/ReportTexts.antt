@@ -12,19 +12,18 @@ use Rattle.tap_views.specs.declared.fault.LayoutFault.TheVariants.{Short, Magic,
 use Rattle.tap_views.specs.declared.fault.LayoutFault.TheVariants.{Length, Moment}
 use Rattle.fare_table.specs.declared.token.Token.{Token}
 use Rattle.shard_book.specs.Sums.{Sums}
-use Rattle.fare_texts.specs.Counts.{counts, totals_line}
+use Rattle.fare_texts.specs.Counts.{totals_line}
 use Rattle.fare_service.specs.Ends.{end_by}
 use Rattle.fare_service.specs.Plain.{ArePlainEnds, IsPlainEnd, WasNotCut}
-use Rattle.fare_service.specs.Shares.{IsFaultOf}
+use Rattle.tap_views.specs.Files.{IsEndAfterBatches}
 use Rattle.fare_service.specs.Text.{report, section_head, upload_line, upload_lines}
 use Rattle.tap_views.specs.Names.{fault_name}
-use Rattle.fare_service.specs.Text.{validator_line as validator_text, token_line as token_text}
 use Rattle.fare_service.specs.declared.upload_end.UploadEnd.{UploadEnd}
 use Rattle.fare_service.specs.declared.upload_end.UploadEnd.TheVariants.{Posted, Refused, Cut}
 use Rattle.fare_service.specs.declared.upload_end.UploadEnd.TheVariants.{Undrawn}
 use Rattle.fare_service.proofs.TapCounts.{file_room}
-use Rattle.part_reports.specs.Lines.{End, IsUploadEnd, end_line, end_lines, head_line, token_line}
-use Rattle.part_reports.specs.Lines.{validator_line}
+use Rattle.fare_texts.specs.SumLines.{token_line, validator_line}
+use Rattle.part_reports.specs.Lines.{End, IsUploadEnd, end_line, end_lines, number_line}
 use Rattle.part_reports.specs.Reports.{Report, report_text}
 use Rattle.part_laws.specs.Sizes.{HasSize}
 
@@ -87,16 +86,6 @@ lines_spelt number [] whole = refl
 lines_spelt number (end ∷ ends) whole =
     λ i. line_spelt number end whole.0 i ++ lines_spelt (number + 1) ends whole.1 i
 
-validator_spelt : (sum : ℕ × Sums) → validator_text sum ≡ validator_line sum
-validator_spelt sum =
-    ap (λ (t : List ℕ). codes "validator " ++ t)
-    (append_assoc (decimal sum.0) (codes " ") (counts sum.1))
-
-token_spelt : (sum : Token × Sums) → token_text sum ≡ token_line sum
-token_spelt sum =
-    ap (λ (t : List ℕ). codes "token " ++ t)
-    (append_assoc _ (codes " ") (counts sum.1))
-
 spelt : (h e t v vs k ts : List ℕ) → (h ++ e) ++ (t ++ ((v ++ vs) ++ (k ++ ts)))
     ≡ (h ++ (e ++ (t ++ (v ++ (vs ++ k))))) ++ ts
 spelt h e t v vs k ts = simp append_assoc
@@ -107,16 +96,14 @@ pub report_spelt : (ends : List UploadEnd) (totals : Sums) (validators : List (�
 unfolding section_head
 report_spelt ends totals validators tokens whole =
     let sizes : length ends ≡ length (map end_of ends) = sym (length-map ends end_of) in
-    let texts : List ℕ → List ℕ → (ℕ × Sums → List ℕ) → (Token × Sums → List ℕ) → List ℕ =
-    λ heads lines by_validator by_token. (heads ++ lines) ++ (totals_line totals
-    ++ ((head_line (codes "validators ") (length validators) ++ flat_map by_validator validators)
-    ++ (head_line (codes "tokens ") (length tokens) ++ flat_map by_token tokens))) in
-    (λ i. texts (head_line (codes "uploads ") (sizes i)) (lines_spelt 0 ends whole i)
-    (λ sum. validator_spelt sum i) (λ sum. token_spelt sum i))
-    ∙ spelt (head_line (codes "uploads ") (length (map end_of ends)))
+    let texts : List ℕ → List ℕ → List ℕ = λ heads lines. (heads ++ lines) ++ (totals_line totals
+    ++ ((number_line (codes "validators ") (length validators) ++ flat_map validator_line validators)
+    ++ (number_line (codes "tokens ") (length tokens) ++ flat_map token_line tokens))) in
+    (λ i. texts (number_line (codes "uploads ") (sizes i)) (lines_spelt 0 ends whole i))
+    ∙ spelt (number_line (codes "uploads ") (length (map end_of ends)))
     (end_lines 0 (map end_of ends)) (totals_line totals)
-    (head_line (codes "validators ") (length validators)) (flat_map validator_line validators)
-    (head_line (codes "tokens ") (length tokens)) (flat_map token_line tokens)
+    (number_line (codes "validators ") (length validators)) (flat_map validator_line validators)
+    (number_line (codes "tokens ") (length tokens)) (flat_map token_line tokens)
 
 -- ---- the ends that the bytes of uploads call for
 end_whole : (taps : ℕ) (fault : Option (ℕ × LayoutFault)) → WasNotCut (end_by taps fault)
@@ -151,7 +138,7 @@ most (Length want have) = omega arith
 most (Moment index) = omega arith
 
 fault_fits : (file rest : List ℕ) (taps : ℕ) (fault : Option (ℕ × LayoutFault)) → HasSize file
-    → taps < 2 ^ 64 → IsFaultOf file rest fault → IsUploadEnd (end_of (end_by taps fault))
+    → taps < 2 ^ 64 → IsEndAfterBatches file rest fault → IsUploadEnd (end_of (end_by taps fault))
 fault_fits file rest taps None size small is = record { taps = small; fault = tt }
 fault_fits file rest taps (Some (offset, fault)) size small is = record {
   taps = small;

@@ -11,8 +11,9 @@ use Rattle.tap_views.specs.Encoding.{fields_of}
 use Rattle.tap_views.specs.Layout.{Tap}
 use Rattle.tap_views.specs.declared.encoder.TapFields.{TapFields}
 use Rattle.tap_parts.specs.Parts.{part_of_token, of_part}
-use Rattle.upload_parts.specs.Split.{HasTaps, IsSplitFile}
-use Rattle.fare_service.specs.Plain.{AreTapsOf, AreTapsOfEach, HasOneReading}
+use Rattle.tap_views.specs.Files.{AreGoodTaps, AreGoodTapsOfEach}
+use Rattle.upload_parts.specs.Split.{IsSplitFile}
+use Rattle.fare_service.specs.Plain.{HasOneReading}
 use Rattle.fare_service.proofs.PlainRuns.{AllZip-append}
 use Rattle.tap_parts.specs.Parts.{uploads_joined}
 use Rattle.part_laws.specs.Files.{HasNoFault}
@@ -38,27 +39,11 @@ module _ (number parts : ℕ) where
       ∙ map-append fields_of (of_part number parts (uploads_joined one))
       (of_part number parts (uploads_joined other))
 
-  -- taps of uploads that are told in the one way are told in the other
-  told : (uploads : List (List ℕ)) (taps : List (List Tap)) → AllZip HasTaps uploads taps
-      → AreTapsOfEach uploads taps
-  told [] [] zip = tt
-  told [] (ts ∷ taps) zip = absurd zip
-  told (u ∷ uploads) [] zip = absurd zip
-  told (u ∷ uploads) (ts ∷ taps) zip = (
-    record {
-      batches = zip.0.batches;
-      rest = zip.0.read.rest;
-      is_file = zip.0.read.is_file;
-      all = zip.0.all;
-    },
-    told uploads taps zip.1,
-  )
-
   -- some taps of the uploads, of which the files have those of the part
   record Kept (uploads files : List (List ℕ)) : Type 0 where
     pub taps : List (List Tap)
-    pub each : AreTapsOfEach uploads taps
-    pub own : (list : List (List Tap)) → All HasOneReading files → AreTapsOfEach files list
+    pub each : AreGoodTapsOfEach uploads taps
+    pub own : (list : List (List Tap)) → All HasOneReading files → AreGoodTapsOfEach files list
         → IsPermutation (mine taps) (map fields_of (uploads_joined list))
 
   kept : (groups : List (List (List ℕ))) (files : List (List ℕ))
@@ -66,7 +51,7 @@ module _ (number parts : ℕ) where
       → Kept (all_of groups) files
   kept [] [] zip = record { taps = []; each = tt; own = none }
     where
-      none : (list : List (List Tap)) → All HasOneReading [] → AreTapsOfEach [] list
+      none : (list : List (List Tap)) → All HasOneReading [] → AreGoodTapsOfEach [] list
           → IsPermutation (mine []) (map fields_of (uploads_joined list))
       none [] cuts each = IsPermutation-refl []
       none (ts ∷ list) cuts each = absurd each
@@ -77,14 +62,14 @@ module _ (number parts : ℕ) where
       let rest = kept groups files zip.1 in
       record {
         taps = p.taps ++ rest.taps;
-        each = AllZip-append AreTapsOf group p.taps (all_of groups) rest.taps
-            (told group p.taps p.of_uploads) rest.each;
+        each = AllZip-append AreGoodTaps group p.taps (all_of groups) rest.taps
+            p.of_uploads rest.each;
         own = first p rest;
       }
     where
       first : (p : IsSplitFile group parts number file) (rest : Kept (all_of groups) files)
           (list : List (List Tap)) → All HasOneReading (file ∷ files)
-          → AreTapsOfEach (file ∷ files) list
+          → AreGoodTapsOfEach (file ∷ files) list
           → IsPermutation (mine (p.taps ++ rest.taps)) (map fields_of (uploads_joined list))
       first p rest [] cuts each = absurd each
       first p rest (ts ∷ list) cuts each =
@@ -104,12 +89,12 @@ module _ (number parts : ℕ) where
       → AllZip (λ group file. IsSplitFile group parts number file) groups files
       → (uploads : List (List ℕ)) → uploads ≡ all_of groups → All HasOneReading uploads
       → All HasOneReading files
-      → (taps list : List (List Tap)) → AreTapsOfEach uploads taps → AreTapsOfEach files list
+      → (taps list : List (List Tap)) → AreGoodTapsOfEach uploads taps → AreGoodTapsOfEach files list
       → IsPermutation (map fields_of (of_part number parts (uploads_joined taps)))
       (map fields_of (uploads_joined list))
   own_taps groups files zip uploads whole cuts file_cuts taps list each is =
       let k = kept groups files zip in
-      let E : List (List ℕ) → Type 0 = λ us. AreTapsOfEach us k.taps in
+      let E : List (List ℕ) → Type 0 = λ us. AreGoodTapsOfEach us k.taps in
       let same = one_list uploads k.taps taps cuts (subst E (sym whole) k.each) each in
       subst (λ ts. IsPermutation (map fields_of (of_part number parts (uploads_joined ts)))
       (map fields_of (uploads_joined list))) same (k.own list file_cuts is)

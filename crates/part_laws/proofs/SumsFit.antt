@@ -1,4 +1,4 @@
--- The sums of a history have 64 bits, where the fares have their limits.
+-- The sums of a history have 64 bits, where the fares have bounded terms.
 use Rattle.std.specs.Prelude.{◌≡◌, ℕ, ◌+◌, ◌*◌, ◌<◌, ◌≤◌, ◌^◌, Bool, true, false, cond, List, []}
 use Rattle.std.specs.Prelude.{◌∷◌, length, map, filter, All, sum_by}
 use Rattle.std.specs.BTreeSet.{insert_key}
@@ -18,7 +18,7 @@ use Rattle.fare_table.specs.Token.{Fits, token_cmp}
 use Rattle.fare_table.specs.declared.token.Token.{Token}
 use Rattle.shard_book.specs.declared.entry.Entry.{Entry}
 use Rattle.shard_book.specs.Entry.{is_at, is_of, own, reply_of}
-use Rattle.shard_book.specs.SumsByKey.{at, sums_by_token, sums_by_validator, token_of, tokens}
+use Rattle.shard_book.specs.SumsByKey.{entries_of_validator, sums_by_token, sums_by_validator, token_of, tokens}
 use Rattle.shard_book.specs.SumsByKey.{validator_of, validators}
 use Rattle.shard_book.specs.Rising.{rising}
 use Rattle.shard_book.specs.Sums.{is_capped, is_paid, is_stale, is_transfer, is_unknown, sums}
@@ -132,7 +132,7 @@ rising_few cmp (key ∷ keys) =
 
 pub summed : (entries : List Entry) → length entries < 2 ^ 47 → All CostsFew entries
     → All EntryFits entries → CanBeSummed entries
-unfolding sums_by_validator sums_by_token validators tokens at own
+unfolding sums_by_validator sums_by_token validators tokens entries_of_validator own
 summed entries small few fit =
     let numbers = map validator_of entries in
     let names = map token_of entries in

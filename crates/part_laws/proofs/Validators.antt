@@ -10,7 +10,7 @@ use Rattle.std.proofs.lemmas.List.Sorted.{IsPermutation-map, list_any-IsPermutat
 use Rattle.fare_table.specs.Fares.{Fares}
 use Rattle.shard_book.specs.declared.entry.Entry.{Entry}
 use Rattle.shard_book.specs.Entry.{is_at}
-use Rattle.shard_book.specs.SumsByKey.{at, validators, sums_by_validator, validator_of}
+use Rattle.shard_book.specs.SumsByKey.{entries_of_validator, validators, sums_by_validator, validator_of}
 use Rattle.shard_book.specs.Rising.{rising}
 use Rattle.shard_book.specs.Sums.{Sums, sums, add_sums}
 use Rattle.shard_book.specs.Sums.{add_all}
@@ -25,22 +25,22 @@ module _ (law : SumsAdd) where
   added [] = refl
   added (p ∷ list) = law p.history (entries_of_parts list) ∙ ap (add_sums (sums p.history)) (added list)
 
-  added_at : (v : ℕ) (list : List Part) → sums (at v (entries_of_parts list)) ≡ sums_at v list
-  unfolding at
+  added_at : (v : ℕ) (list : List Part) → sums (entries_of_validator v (entries_of_parts list)) ≡ sums_at v list
+  unfolding entries_of_validator
   added_at v [] = refl
   added_at v (p ∷ list) = ap sums (filter-append (is_at v) p.history (entries_of_parts list))
-      ∙ law (at v p.history) (at v (entries_of_parts list))
-      ∙ ap (add_sums (sums (at v p.history))) (added_at v list)
+      ∙ law (entries_of_validator v p.history) (entries_of_validator v (entries_of_parts list))
+      ∙ ap (add_sums (sums (entries_of_validator v p.history))) (added_at v list)
 
 pairs_as : (entries : List Entry) (pairs : List (ℕ × Sums))
-    → All (λ pair. pair.1 ≡ sums (at pair.0 entries)) pairs
-    → pairs ≡ map (λ v. (v, sums (at v entries))) (keys_of pairs)
+    → All (λ pair. pair.1 ≡ sums (entries_of_validator pair.0 entries)) pairs
+    → pairs ≡ map (λ v. (v, sums (entries_of_validator v entries))) (keys_of pairs)
 pairs_as entries [] each = refl
 pairs_as entries (pair ∷ pairs) each =
     ap (λ (s : Sums). (pair.0, s) ∷ pairs)
-    (All-head (λ p. p.1 ≡ sums (at p.0 entries)) pair pairs each)
-    ∙ ap (λ (ps : List (ℕ × Sums)). (pair.0, sums (at pair.0 entries)) ∷ ps)
-    (pairs_as entries pairs (All-tail (λ p. p.1 ≡ sums (at p.0 entries)) pair pairs each))
+    (All-head (λ p. p.1 ≡ sums (entries_of_validator p.0 entries)) pair pairs each)
+    ∙ ap (λ (ps : List (ℕ × Sums)). (pair.0, sums (entries_of_validator pair.0 entries)) ∷ ps)
+    (pairs_as entries pairs (All-tail (λ p. p.1 ≡ sums (entries_of_validator p.0 entries)) pair pairs each))
 
 module _ (fares : Fares) (uploads : List (List ℕ)) (history : List Entry) (parts : List Part)
     (split : IsSplit fares uploads history parts) (law : SumsAdd) (risen : RisingNumbers) where
@@ -49,10 +49,10 @@ module _ (fares : Fares) (uploads : List (List ℕ)) (history : List Entry) (par
       ∙ same_sums (entries_of_parts parts) history
       (same_entries (entries_of_parts parts) history (own_all fares uploads history parts split))
 
-  pub at_history : (v : ℕ) → sums_at v parts ≡ sums (at v history)
+  pub at_history : (v : ℕ) → sums_at v parts ≡ sums (entries_of_validator v history)
   at_history v =
-      sym (added_at law v parts) ∙ same_sums (at v (entries_of_parts parts)) (at v history)
-      (same_entries (at v (entries_of_parts parts)) (at v history)
+      sym (added_at law v parts) ∙ same_sums (entries_of_validator v (entries_of_parts parts)) (entries_of_validator v history)
+      (same_entries (entries_of_validator v (entries_of_parts parts)) (entries_of_validator v history)
       (same_at v (entries_of_parts parts) history (own_all fares uploads history parts split)))
 
   pub merged_validators : (merged : List (ℕ × Sums)) → IsStrictlySortedBy nat_cmp (keys_of merged)
@@ -71,4 +71,4 @@ module _ (fares : Fares) (uploads : List (List ℕ)) (history : List Entry) (par
             (map validator_of history) moved;
       }) in
       pairs_as history merged (λ k d within. each k d within ∙ at_history _)
-      ∙ ap (map (λ (v : ℕ). (v, sums (at v history)))) keys
+      ∙ ap (map (λ (v : ℕ). (v, sums (entries_of_validator v history)))) keys

@@ -21,14 +21,14 @@ use Rattle.fare_table.specs.Token.{token_cmp}
 use Rattle.fare_table.specs.declared.token.Token.{Token}
 use Rattle.shard_book.specs.declared.entry.Entry.{Entry}
 use Rattle.shard_book.specs.Entry.{own, reply_of}
-use Rattle.shard_book.specs.SumsByKey.{at, sums_by_token, sums_by_validator, token_of, tokens}
+use Rattle.shard_book.specs.SumsByKey.{entries_of_validator, sums_by_token, sums_by_validator, token_of, tokens}
 use Rattle.shard_book.specs.SumsByKey.{validator_of, validators}
 use Rattle.shard_book.specs.Rising.{rising}
 use Rattle.shard_book.specs.Sums.{Sums, add_all, sums, sums_of_replies}
 use Rattle.fare_service.specs.Ends.{end_by}
-use Rattle.fare_service.specs.Plain.{ArePlainEnds, AreTapsOf, AreTapsOfEach, HasOneReading, IsPlainEnd}
+use Rattle.tap_views.specs.Files.{AreGoodTaps, AreGoodTapsOfEach, IsEndAfterBatches}
+use Rattle.fare_service.specs.Plain.{ArePlainEnds, HasOneReading, IsPlainEnd}
 use Rattle.fare_service.specs.Plain.{IsReportOver, WasNotCut, unanswered}
-use Rattle.fare_service.specs.Shares.{IsFaultOf}
 use Rattle.fare_service.specs.declared.upload_end.UploadEnd.{UploadEnd}
 use Rattle.fare_service.proofs.PlainLists.{All-split}
 use Rattle.fare_service.proofs.PlainReplies.{bare, plain_bare}
@@ -52,7 +52,7 @@ use Rattle.part_laws.proofs.Validators.{SumsAdd, at_history, merged_totals}
 
 -- ---- the ends of a part's files, none of which has a fault
 no_fault : (file rest : List ℕ) (taps : ℕ) (fault : Option (ℕ × LayoutFault))
-    → IsFaultOf file rest fault → rest ≡ [] → (end_of (end_by taps fault)).fault ≡ None
+    → IsEndAfterBatches file rest fault → rest ≡ [] → (end_of (end_by taps fault)).fault ≡ None
 no_fault file rest taps None is empty = refl
 no_fault file rest taps (Some (offset, fault)) is empty =
     absurd (omega (arith, is.some_byte, ap length empty))
@@ -78,7 +78,7 @@ numbers_rise : RisingNumbers → (entries : List Entry)
 unfolding sums_by_validator validators
 numbers_rise risen entries =
     let keys = rising nat_cmp (map validator_of entries) in
-    subst (IsStrictlySortedBy nat_cmp) (sym (number_keys (λ k. sums (at k entries)) keys))
+    subst (IsStrictlySortedBy nat_cmp) (sym (number_keys (λ k. sums (entries_of_validator k entries)) keys))
     ((risen (map validator_of entries) keys).1 refl).rises
 
 names_rise : RisingTokens → (entries : List Entry)
@@ -157,7 +157,7 @@ all_posted taps None = refl
 all_posted taps (Some (offset, fault)) = refl
 
 one_end : (file : List ℕ) (taps : List Tap) (end : UploadEnd) → HasOneReading file
-    → AreTapsOf file taps → IsPlainEnd file end → (end_of end).taps ≡ length taps
+    → AreGoodTaps file taps → IsPlainEnd file end → (end_of end).taps ≡ length taps
 one_end file taps end cut of is =
     let same = cut of.batches is.batches of.rest is.rest of.is_file is.is_file in
     ap (λ e. (end_of e).taps) is.ended
@@ -165,7 +165,7 @@ one_end file taps end cut of is =
     ∙ sym (ap length (of.all ∙ ap (flat_map (λ (batch : List Tap). batch)) same.0))
 
 end_taps : (files : List (List ℕ)) (taps : List (List Tap)) (ends : List UploadEnd)
-    → AllByRecursion HasOneReading files → AreTapsOfEach files taps → ArePlainEnds files ends
+    → AllByRecursion HasOneReading files → AreGoodTapsOfEach files taps → ArePlainEnds files ends
     → sum_by (λ end. end.taps) (map end_of ends) ≡ length (uploads_joined taps)
 end_taps [] [] [] cuts each plain = refl
 end_taps [] [] (end ∷ ends) cuts each plain = absurd plain
@@ -207,14 +207,14 @@ unfolding sums_by_validator validators
 member_validators risen entries v =
     let keys = rising nat_cmp (map validator_of entries) in
     ap (λ (ks : List ℕ). is_member (eq_by_cmp nat_cmp) ks v)
-    (number_keys (λ k. sums (at k entries)) keys)
+    (number_keys (λ k. sums (entries_of_validator k entries)) keys)
     ∙ ((risen (map validator_of entries) keys).1 refl).same v
 
 all_sums : (entries : List Entry) (P : ℕ × Sums → Type 0)
-    → ((v : ℕ) → P (v, sums (at v entries))) → All P (sums_by_validator entries)
+    → ((v : ℕ) → P (v, sums (entries_of_validator v entries))) → All P (sums_by_validator entries)
 unfolding sums_by_validator validators
 all_sums entries P each =
-    All-map P (λ v. (v, sums (at v entries))) (rising nat_cmp (map validator_of entries))
+    All-map P (λ v. (v, sums (entries_of_validator v entries))) (rising nat_cmp (map validator_of entries))
     (λ k d within. each (get_or (rising nat_cmp (map validator_of entries)) k d))
 
 module _ (fares : Fares) (uploads : List (List ℕ)) (history : List Entry) (parts : List Part)

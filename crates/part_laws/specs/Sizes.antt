@@ -1,12 +1,12 @@
 -- What can be told in numbers of 64 bits.
 use Rattle.std.specs.Prelude.{ℕ, ◌<◌, ◌^◌, List, length, All}
 use Rattle.fare_table.specs.Fares.{Fares, terms_at}
-use Rattle.fare_table.specs.Terms.{HasLimits}
+use Rattle.fare_table.specs.Terms.{AreBoundedTerms}
 use Rattle.part_laws.specs.Split.{Part}
 
--- the terms of each token are within their limits, so that no tap costs more than 100,000 cents
-abbrev pub HaveLimits : Fares → Type 0
-HaveLimits fares = (token : List ℕ) → HasLimits (terms_at fares token)
+-- the terms of each token are within their bounds, so that no tap costs more than 100,000 cents
+abbrev pub HaveBoundedTerms : Fares → Type 0
+HaveBoundedTerms fares = (token : List ℕ) → AreBoundedTerms (terms_at fares token)
 
 -- the file has fewer than 2 ^ 64 bytes
 abbrev pub HasSize : List ℕ → Type 0

@@ -9,7 +9,7 @@ use Rattle.tap_views.specs.Layout.{Tap}
 use Rattle.fare_table.specs.Fares.{Fares}
 use Rattle.shard_book.specs.declared.entry.Entry.{Entry}
 use Rattle.fare_table.specs.declared.token.Token.{Token}
-use Rattle.shard_book.specs.SumsByKey.{at, sums_by_token, validator_of}
+use Rattle.shard_book.specs.SumsByKey.{entries_of_validator, sums_by_token, validator_of}
 use Rattle.shard_book.specs.Sums.{Sums, add_all, sums}
 use Rattle.fare_table.specs.Token.{token_cmp}
 use Rattle.tap_parts.specs.Parts.{of_part}
@@ -35,14 +35,15 @@ pairs_of_parts parts = flat_map (λ part. sums_by_token part.history) parts
 
 -- the sums of a validator in each part, added up
 abbrev pub sums_at : ℕ → List Part → Sums
-sums_at validator parts = add_all (map (λ part. sums (at validator part.history)) parts)
+sums_at validator parts =
+    add_all (map (λ part. sums (entries_of_validator validator part.history)) parts)
 
 -- The part's history is the settled one of its files. These have exactly the uploads' taps that
 -- fall to the part, in some order.
 pub record IsPartOf (fares : Fares) (taps : List Tap) (number parts : ℕ) (part : Part) : Type 0
   where
     pub settled : IsSettledHistory fares part.files part.history
-    pub own : IsPermutation (map fields_of (of_part number parts taps))
+    pub its_taps : IsPermutation (map fields_of (of_part number parts taps))
         (map fields_of (uploads_joined settled.taps))
 
 -- each part is of the uploads, and the history is their settled one

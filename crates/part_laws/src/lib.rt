@@ -12,7 +12,8 @@ ghost use Rattle.shard_book.specs.Entry.{own};
 ghost use Rattle.shard_book.specs.SumsByKey.{sums_by_token, sums_by_validator};
 ghost use Rattle.shard_book.specs.Sums.{Sums, add_all, sums};
 ghost use Rattle.fare_table.specs.Token.{bytes_of};
-ghost use Rattle.fare_service.specs.Plain.{ArePlainEnds, AreTapsOfEach, HasOneReading};
+ghost use Rattle.tap_views.specs.Files.{AreGoodTapsOfEach};
+ghost use Rattle.fare_service.specs.Plain.{ArePlainEnds, HasOneReading};
 ghost use Rattle.fare_service.specs.Plain.{IsReportOver};
 ghost use Rattle.fare_service.specs.Text.{report, upload_lines};
 ghost use Rattle.fare_service.specs.declared.upload_end.UploadEnd.{UploadEnd};
@@ -22,13 +23,13 @@ ghost use Rattle.tap_parts.specs.Parts.{uploads_joined};
 ghost use Rattle.upload_parts.specs.Split.{IsSplitFile};
 ghost use Rattle.part_reports.specs.Reports.{IsMerged};
 ghost use Rattle.part_laws.specs.Files.{HasNoFault, ends_texts};
-ghost use Rattle.part_laws.specs.Sizes.{CanBeWritten, HasSize, HaveLimits};
+ghost use Rattle.part_laws.specs.Sizes.{CanBeWritten, HasSize, HaveBoundedTerms};
 ghost use Rattle.part_laws.specs.Split.{AreTokensOf, AreValidatorsOf, IsPartOf, IsSplit, Part};
 ghost use Rattle.part_laws.specs.Split.{entries_of_parts, part_with};
 
 use fare_service::laws::one_reading_each;
 use part_reports::laws::texts_differ;
-use shard_book::laws::{rising, sums as adding};
+use shard_book::laws::{one_rising_list, sums_add_up};
 
 /// Uploads were split in groups, each into the same number of parts. The files that one part has of
 /// all groups, settled by a run of their own, are that part in the sense of the laws below.
@@ -38,7 +39,7 @@ pub fn split_part(uploads: &[Vec<u8>], files: &[Vec<u8>])
         → map (λ upload. upload.items) uploads.now ≡ flat_map (λ group. group) groups
         → AllZip (λ group file. IsSplitFile group parts number file) groups
         (map (λ file. file.items) files.now)
-        → AreTapsOfEach (map (λ upload. upload.items) uploads.now) taps
+        → AreGoodTapsOfEach (map (λ upload. upload.items) uploads.now) taps
         → IsSettledHistory fares (map (λ file. file.items) files.now) history
         → IsPartOf fares (uploads_joined taps) number parts
         (part_with (map (λ file. file.items) files.now) history) }
@@ -48,7 +49,7 @@ pub fn split_part(uploads: &[Vec<u8>], files: &[Vec<u8>])
 }
 
 /// The files that a split makes of one part have no layout fault.
-pub fn no_faults(files: &[Vec<u8>])
+pub fn split_files_have_no_fault(files: &[Vec<u8>])
     ensures { (groups : List (List (List ℕ))) (number parts : ℕ)
         → AllZip (λ group file. IsSplitFile group parts number file) groups
         (map (λ file. file.items) files.now)
@@ -61,7 +62,7 @@ pub fn no_faults(files: &[Vec<u8>])
 /// those of its part, with the answers and charges that they have in the settled history of the
 /// uploads. The sums over all parts' entries, of each validator and of each token are those of the
 /// settled history.
-pub fn merged()
+pub fn parts_have_the_whole_sums()
     ensures entries { (fares : Fares) (uploads : List (List ℕ)) (history : List Entry)
         (parts : List Part) → IsSplit fares uploads history parts
         → (token : Token) (part : Part)
@@ -73,7 +74,7 @@ pub fn merged()
         × (sums_by_validator (entries_of_parts parts) ≡ sums_by_validator history)
         × (sums_by_token (entries_of_parts parts) ≡ sums_by_token history) }
 {
-    rising();
+    one_rising_list();
 }
 
 /// The parts' totals add up to those of the settled history. A rising list of the parts'
@@ -87,8 +88,8 @@ pub fn merged_sums()
         → (merged : List (ℕ × Sums)) → AreValidatorsOf parts merged
         → merged ≡ sums_by_validator history }
 {
-    adding();
-    rising();
+    sums_add_up();
+    one_rising_list();
 }
 
 /// A rising list of all the parts' sums by token is that of the settled history.
@@ -98,7 +99,7 @@ pub fn merged_tokens()
         → (merged : List (Token × Sums)) → AreTokensOf parts merged
         → merged ≡ sums_by_token history }
 {
-    rising();
+    one_rising_list();
 }
 
 /// The report with the uploads' ends, the parts' totals added up, and these lists of validators and
@@ -117,13 +118,13 @@ pub fn merged_report()
 
 /// Each part's file is the report of the part's settled history, and the ends' files tell how the
 /// uploads ended. Whatever is merged of these files is the report of the uploads' settled history.
-/// The fares have their limits. The files have sizes of 64 bits, and each part has fewer than 2^47
+/// The fares have bounded terms. The files have sizes of 64 bits, and each part has fewer than 2^47
 /// taps.
 pub fn merged_text()
     ensures { (fares : Fares) (uploads : List (List ℕ)) (history : List Entry)
         (parts : List Part) → IsSplit fares uploads history parts
         → (ends : List UploadEnd) → ArePlainEnds uploads ends
-        → All HasSize uploads → HaveLimits fares → All CanBeWritten parts
+        → All HasSize uploads → HaveBoundedTerms fares → All CanBeWritten parts
         → (end_files report_files : List (List ℕ))
         → flat_map (λ file. file) end_files ≡ upload_lines 0 ends
         → AllZip (λ part file. IsReportOver part.files part.history file) parts report_files
@@ -131,7 +132,7 @@ pub fn merged_text()
         → IsReportOver uploads history text }
 {
     texts_differ();
-    rising();
+    one_rising_list();
     merged_report();
 }
 
@@ -143,12 +144,12 @@ pub fn can_be_merged()
         (parts : List Part) → IsSplit fares uploads history parts
         → (lists : List (List UploadEnd)) → ArePlainEnds uploads (flat_map (λ some. some) lists)
         → All HasSize uploads → All HasOneReading uploads
-        → HaveLimits fares → All CanBeWritten parts
+        → HaveBoundedTerms fares → All CanBeWritten parts
         → All (λ part. All HasNoFault part.files) parts
         → (report_files : List (List ℕ))
         → AllZip (λ part file. IsReportOver part.files part.history file) parts report_files
         → (text : List ℕ) × IsMerged (ends_texts 0 lists) report_files text }
 {
-    adding();
-    rising();
+    sums_add_up();
+    one_rising_list();
 }

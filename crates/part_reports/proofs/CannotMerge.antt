@@ -13,7 +13,8 @@ use Rattle.std.proofs.lemmas.List.Sums.{sum_by-append}
 use Rattle.fare_table.specs.Token.{token_cmp, token_eq}
 use Rattle.fare_table.specs.declared.token.Token.{Token}
 use Rattle.shard_book.specs.Sums.{Sums, add_all}
-use Rattle.part_reports.specs.Lines.{End, IsUploadEnd, token_line}
+use Rattle.fare_texts.specs.SumLines.{token_line}
+use Rattle.part_reports.specs.Lines.{End, IsUploadEnd}
 use Rattle.part_reports.specs.Reports.{IsMerged, IsPartReport, Report, end_texts, joined_ends}
 use Rattle.part_reports.specs.Reports.{report_text, tokens_of_reports}
 use Rattle.part_reports.specs.TokenLines.{ShareNoToken, HaveOtherTokens, IsMergedByToken, TokenLine, lines_of_token}

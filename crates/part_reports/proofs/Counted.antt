@@ -2,9 +2,9 @@
 use Rattle.std.proofs.Common.{◌≡◌, ℕ, ◌<◌, ◌^◌, List, ◌++◌, Option, Some, None, Result, Ok, Err}
 use Rattle.std.proofs.Common.{sym, ap, subst, ◌∙◌, append_assoc}
 use Rattle.part_reports.specs.declared.fault.MergeFault.{MergeFault}
-use Rattle.part_reports.specs.Lines.{head_line}
+use Rattle.part_reports.specs.Lines.{number_line}
 use Rattle.part_reports.specs.inside.LinesRead.{IsRead}
-use Rattle.part_reports.proofs.Unique.{head_line_unique}
+use Rattle.part_reports.proofs.Unique.{number_line_unique}
 
 -- a number's word, and what may stand behind it
 pub record Counting {V : Type 0} (May : ℕ → V → Type 0) (Whole : V → Type 0) (size : V → ℕ) : Type 0
@@ -16,10 +16,10 @@ pub record Counting {V : Type 0} (May : ℕ → V → Type 0) (Whole : V → Typ
 
 abbrev pub IsHeadRead : List ℕ → Option (List ℕ) → Option (List ℕ) → Result ℕ MergeFault → Type 0
 IsHeadRead word text now result = IsRead {T = ℕ} {V =
-    ℕ} (λ told number. told ≡ number) (λ number. number < 2 ^ 64) (head_line word) text now result
+    ℕ} (λ told number. told ≡ number) (λ number. number < 2 ^ 64) (number_line word) text now result
 
 abbrev pub counted_text : {V : Type 0} → List ℕ → (V → ℕ) → (V → List ℕ) → V → List ℕ
-counted_text word size lines value = head_line word (size value) ++ lines value
+counted_text word size lines value = number_line word (size value) ++ lines value
 
 pub counted_no_head : {T V : Type 0} (Is : T → V → Type 0) (May : ℕ → V → Type 0) (Whole : V
     → Type 0) (size : V → ℕ) (word : List ℕ) (lines : V → List ℕ)
@@ -30,7 +30,7 @@ counted_no_head Is May Whole size word lines counting None now after fault head 
 counted_no_head Is May Whole size word lines counting (Some text) now after fault head =
     λ of_texts value rest whole shown.
     head of_texts (size value) (lines value ++ rest) (counting.few value whole) (shown
-    ∙ append_assoc (head_line word (size value)) (lines value) rest)
+    ∙ append_assoc (number_line word (size value)) (lines value) rest)
 
 pub counted : {T V : Type 0} (Is : T → V → Type 0) (May : ℕ → V → Type 0) (Whole : V → Type 0)
     (size : V → ℕ) (word : List ℕ) (lines : V → List ℕ)
@@ -49,16 +49,16 @@ counted Is May Whole size word lines counting (Some text) now after number (Ok x
       may = counting.whole value (subst (λ n. n < 2 ^ 64) (sym same) head.may)
           (subst (λ n. May n value) (head.is ∙ sym same) here.may);
       rest = here.rest;
-      shown = head.shown ∙ ap (λ text. head_line word head.value ++ text) here.shown
-          ∙ ap (λ n. head_line word n ++ (lines value ++ here.rest)) (sym same)
-          ∙ sym (append_assoc (head_line word (size value)) (lines value) here.rest);
+      shown = head.shown ∙ ap (λ text. number_line word head.value ++ text) here.shown
+          ∙ ap (λ n. number_line word n ++ (lines value ++ here.rest)) (sym same)
+          ∙ sym (append_assoc (number_line word (size value)) (lines value) here.rest);
       left = here.left;
     }
 counted Is May Whole size word lines counting (Some text) now after number (Err fault) head read =
     λ of_texts value rest whole shown.
     let here = subst (λ now. IsRead Is (May number) lines now after (Err fault)) head.left read in
-    let same = head_line_unique word head.value (size value) head.rest (lines value ++ rest)
+    let same = number_line_unique word head.value (size value) head.rest (lines value ++ rest)
     head.may (counting.few value whole)
-    (sym head.shown ∙ shown ∙ append_assoc (head_line word (size value)) (lines value) rest) in
+    (sym head.shown ∙ shown ∙ append_assoc (number_line word (size value)) (lines value) rest) in
     here of_texts value rest (subst (λ n. May n value) (sym (head.is ∙ same.0))
     (counting.are value whole)) same.1

@@ -13,7 +13,8 @@ use Rattle.std.proofs.lemmas.Bool.Decides.{nat_tests}
 use Rattle.std.proofs.lemmas.List.Elements.{All-head, All-map, All-push, All-tail}
 use Rattle.std.proofs.lemmas.List.Sums.{sum_by-append}
 use Rattle.shard_book.specs.Sums.{Sums, add_all, sums}
-use Rattle.part_reports.specs.Lines.{IsValidatorSum, token_line}
+use Rattle.fare_texts.specs.SumLines.{token_line}
+use Rattle.part_reports.specs.Lines.{IsValidatorSum}
 use Rattle.part_reports.specs.Reports.{IsPartReport, Report, report_text, sums_of_validator}
 use Rattle.part_reports.specs.declared.sums.WholeSums.{WholeSums}
 use Rattle.part_reports.specs.Texts.{AreLeft}

@@ -5,7 +5,7 @@ use Rattle.std.specs.Prelude.{◌==◌, if◌then◌else◌, IfSome}
 use Rattle.std.specs.Io.BufRead.{drop_through, take_through}
 use Rattle.shard_book.specs.Sums.{Sums}
 use Rattle.fare_table.specs.declared.token.Token.{Token}
-use Rattle.part_reports.specs.Lines.{token_line}
+use Rattle.fare_texts.specs.SumLines.{token_line}
 use Rattle.part_reports.specs.TokenLines.{TokenLine, text_of}
 use Rattle.part_reports.specs.inside.Kinds.{IsSumLine, IsTextOf}
 use Rattle.part_reports.specs.inside.Sources.{IsAtLine, IsBehindOne, IsFirstLine, IsLineOfKind}

@@ -9,7 +9,8 @@ use Rattle.std.proofs.lemmas.List.Concat.{flat_map-append}
 use Rattle.fare_texts.specs.Counts.{counts, totals_line}
 use Rattle.shard_book.specs.Sums.{Sums, sums_of}
 use Rattle.shard_book.specs.declared.sums.totals.Totals.{Totals}
-use Rattle.part_reports.specs.Lines.{End, end_lines, head_line, validator_line}
+use Rattle.fare_texts.specs.SumLines.{validator_line}
+use Rattle.part_reports.specs.Lines.{End, end_lines, number_line}
 use Rattle.part_reports.specs.Reports.{front_text}
 use Rattle.part_reports.specs.declared.sums.WholeSums.{WholeSums}
 use Rattle.part_reports.specs.declared.upload_ends.UploadEnds.{UploadEnds}
@@ -73,18 +74,18 @@ pub front_joined : (ends : UploadEnds) (list : List End) (sums : WholeSums) (cou
     → whole ≡ front_text list (sums_of sums.totals) (shown sums.validators.entries) sums.tokens
 front_joined ends list sums count first with_ends whole none totals heads lines all have number p1
     p2 p3 p4 p5 p6 p7 p8 =
-    let h = head_line (codes "uploads ") (length list) in
+    let h = number_line (codes "uploads ") (length list) in
     let e = end_lines 0 list in
     let t = totals_line (sums_of sums.totals) in
-    let v = head_line (codes "validators ") (length (shown sums.validators.entries)) in
+    let v = number_line (codes "validators ") (length (shown sums.validators.entries)) in
     let f = flat_map validator_line (shown sums.validators.entries) in
-    let k = head_line (codes "tokens ") sums.tokens in
-    let first_is : first ≡ h = p1 ∙ ap (head_line (codes "uploads ")) have.uploads in
+    let k = number_line (codes "tokens ") sums.tokens in
+    let first_is : first ≡ h = p1 ∙ ap (number_line (codes "uploads ")) have.uploads in
     let ends_is : with_ends ≡ h ++ e = p2 ∙ ap (λ text. text ++ ends.text.items) first_is
     ∙ ap (λ text. h ++ text) have.text in
     let totals_is : totals ≡ t = p4 ∙ ap (λ text. text ++ t) p3 in
-    let heads_is : heads ≡ t ++ v = p5 ∙ ap (λ text. text ++ head_line (codes "validators ") count)
-    totals_is ∙ ap (λ n. t ++ head_line (codes "validators ") n) (number
+    let heads_is : heads ≡ t ++ v = p5 ∙ ap (λ text. text ++ number_line (codes "validators ") count)
+    totals_is ∙ ap (λ n. t ++ number_line (codes "validators ") n) (number
     ∙ sym (shown_length sums.validators.entries)) in
     let lines_is : lines ≡ (t ++ v) ++ f = p6 ∙ ap (λ text. text ++ f) heads_is in
     let all_is : all ≡ ((t ++ v) ++ f) ++ k = p7 ∙ ap (λ text. text ++ k) lines_is in

@@ -19,7 +19,8 @@ use Rattle.shard_book.specs.Sums.{Sums}
 use Rattle.fare_table.specs.declared.token.Token.{Token}
 use Rattle.part_reports.specs.Lines.{AreCounts, End, IsUploadEnd, IsNoneOrFault, IsTokenSum}
 use Rattle.part_reports.specs.Lines.{IsValidatorSum}
-use Rattle.part_reports.specs.Lines.{end_line, end_words, head_line, token_line, validator_line}
+use Rattle.fare_texts.specs.SumLines.{token_line, validator_line}
+use Rattle.part_reports.specs.Lines.{end_line, end_words, number_line}
 use Rattle.part_reports.specs.Ledgers.{IsLedgerEntryLine}
 use Rattle.part_reports.specs.TokenLines.{TokenLine}
 use Rattle.part_reports.proofs.Counts.{counts_read, taps_counted, paid_counted, transfers_counted}
@@ -175,7 +176,7 @@ counted n line small is = longer (decimal n) line (decimal_none n small) is
 
 -- a word with no line feed, and a number
 pub head_is_one : (word : List ℕ) (number : ℕ) → All (λ byte. ¬ (byte ≡ 10)) word → number < 2 ^ 64
-    → IsOneLine (head_line word number)
+    → IsOneLine (number_line word number)
 head_is_one word number none small =
     longer word _ (recursion_from_All (λ byte. ¬ (byte ≡ 10)) word none)
     (counted number _ small over)

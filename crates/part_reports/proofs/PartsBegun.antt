@@ -21,7 +21,7 @@ use Rattle.part_reports.specs.inside.LinesRead.{IsRead}
 use Rattle.part_reports.specs.inside.Sources.{IsSource, Standing}
 use Rattle.part_reports.specs.inside.Sums.{AreFew, AreFrontsCounted, WithFront}
 use Rattle.part_reports.proofs.TextsRead.{no_files, split}
-use Rattle.part_reports.proofs.Unique.{head_line_unique, totals_line_unique}
+use Rattle.part_reports.proofs.Unique.{number_line_unique, totals_line_unique}
 use Rattle.part_reports.proofs.WholeFronts.{IsUnique, behind_ends, behind_totals, ends_unique}
 use Rattle.part_reports.proofs.WholeFronts.{told_parts, tokens_text, validators_unique}
 
@@ -34,7 +34,7 @@ told_unique a b x y may may_too same =
     may.totals may_too.totals ends.1 in
     let validators = validators_unique a.validators b.validators (tokens_text a.tokens ++ x)
     (tokens_text b.tokens ++ y) may.validators may_too.validators totals.1 in
-    let tokens = head_line_unique (codes "tokens ") a.tokens b.tokens x y may.tokens may_too.tokens
+    let tokens = number_line_unique (codes "tokens ") a.tokens b.tokens x y may.tokens may_too.tokens
     validators.1 in (
       λ i. record {
         ends = ends.0 i;

@@ -12,7 +12,8 @@ use Rattle.shard_book.specs.Sums.{Sums}
 use Rattle.fare_table.specs.declared.token.Token.{Token}
 use Rattle.part_reports.specs.Lines.{AreCounts, End, IsUploadEnd, IsNoneOrFault, IsTokenSum}
 use Rattle.part_reports.specs.Lines.{IsValidatorSum}
-use Rattle.part_reports.specs.Lines.{end_line, end_words, head_line, token_line, validator_line}
+use Rattle.fare_texts.specs.SumLines.{token_line, validator_line}
+use Rattle.part_reports.specs.Lines.{end_line, end_words, number_line}
 use Rattle.part_reports.specs.Ledgers.{IsLedgerEntryLine}
 use Rattle.part_reports.specs.TokenLines.{TokenLine}
 use Rattle.part_reports.specs.inside.Counted.{IsCounted}
@@ -21,7 +22,7 @@ use Rattle.part_reports.proofs.OneLine.{entry_line_is_one, one_line_unique}
 use Rattle.part_reports.proofs.Tokens.{token_text_unique}
 
 head_counted : (word : List ℕ) (n : ℕ) (x : List ℕ) → n < 2 ^ 64
-    → IsCounted (head_line word n ++ x) word n (codes "\n" ++ x)
+    → IsCounted (number_line word n ++ x) word n (codes "\n" ++ x)
 head_counted word n x small = record {
   small = small;
   ends = refl;
@@ -29,10 +30,10 @@ head_counted word n x small = record {
       ∙ ap (λ (t : List ℕ). word ++ t) (append_assoc (decimal n) (codes "\n") x);
 }
 
-pub head_line_unique : (word : List ℕ) (n m : ℕ) (x y : List ℕ) → n < 2 ^ 64 → m < 2 ^ 64
-    → head_line word n ++ x ≡ head_line word m ++ y → (n ≡ m) × (x ≡ y)
-head_line_unique word n m x y small small_too is =
-    let (same, rest) = counted_step (head_line word n ++ x) (head_line word m ++ y) word n m
+pub number_line_unique : (word : List ℕ) (n m : ℕ) (x y : List ℕ) → n < 2 ^ 64 → m < 2 ^ 64
+    → number_line word n ++ x ≡ number_line word m ++ y → (n ≡ m) × (x ≡ y)
+number_line_unique word n m x y small small_too is =
+    let (same, rest) = counted_step (number_line word n ++ x) (number_line word m ++ y) word n m
     (codes "\n" ++ x) (codes "\n" ++ y) is (head_counted word n x small)
     (head_counted word m y small_too) in
     (same, append_cancel_left (codes "\n") x y rest)
@@ -40,7 +41,7 @@ head_line_unique word n m x y small small_too is =
 -- ` refused N` before ` at OFFSET L5`
 refused_counted : (taps : ℕ) (fault : ℕ × ℕ) (x : List ℕ) → taps < 2 ^ 64
     → IsCounted (end_words taps (Some fault) ++ x) (codes " refused ") taps
-    (codes " at " ++ (decimal fault.0 ++ (head_line (codes " L") fault.1 ++ x)))
+    (codes " at " ++ (decimal fault.0 ++ (number_line (codes " L") fault.1 ++ x)))
 refused_counted taps fault x small = record {
   small = small;
   ends = refl;
@@ -48,8 +49,8 @@ refused_counted taps fault x small = record {
 }
 
 at_counted : (offset : ℕ) (x : List ℕ) (number : ℕ) → offset < 2 ^ 64
-    → IsCounted (codes " at " ++ (decimal offset ++ (head_line (codes " L") number ++ x)))
-    (codes " at ") offset (head_line (codes " L") number ++ x)
+    → IsCounted (codes " at " ++ (decimal offset ++ (number_line (codes " L") number ++ x)))
+    (codes " at ") offset (number_line (codes " L") number ++ x)
 at_counted offset x number small = record { small = small; ends = refl; shown = refl }
 
 posted_not_refused : (a b : ℕ) (fault : ℕ × ℕ) (x y : List ℕ)
@@ -64,7 +65,7 @@ end_text_unique : (a b : ℕ) (fault other : Option (ℕ × ℕ)) (x y : List �
     → IsNoneOrFault fault → IsNoneOrFault other → end_words a fault ++ x ≡ end_words b other ++ y
     → (a ≡ b) × (fault ≡ other) × (x ≡ y)
 end_text_unique a b None None x y small small_too fits fits_too is =
-    let (same, rest) = head_line_unique (codes " posted ") a b x y small small_too is in
+    let (same, rest) = number_line_unique (codes " posted ") a b x y small small_too is in
     (same, refl, rest)
 end_text_unique a b None (Some other) x y small small_too fits fits_too is =
     absurd (posted_not_refused a b other x y is)
@@ -73,15 +74,15 @@ end_text_unique a b (Some fault) None x y small small_too fits fits_too is =
 end_text_unique a b (Some fault) (Some other) x y small small_too fits fits_too is =
     let (same, one) = counted_step (end_words a (Some fault) ++ x) (end_words b (Some other) ++ y)
     (codes " refused ") a b (codes " at " ++ (decimal fault.0
-    ++ (head_line (codes " L") fault.1 ++ x)))
-    (codes " at " ++ (decimal other.0 ++ (head_line (codes " L") other.1 ++ y))) is
+    ++ (number_line (codes " L") fault.1 ++ x)))
+    (codes " at " ++ (decimal other.0 ++ (number_line (codes " L") other.1 ++ y))) is
     (refused_counted a fault x small) (refused_counted b other y small_too) in
     let (offset, two) = counted_step (codes " at "
-    ++ (decimal fault.0 ++ (head_line (codes " L") fault.1 ++ x)))
-    (codes " at " ++ (decimal other.0 ++ (head_line (codes " L") other.1 ++ y))) (codes " at ")
-    fault.0 other.0 (head_line (codes " L") fault.1 ++ x) (head_line (codes " L") other.1 ++ y) one
+    ++ (decimal fault.0 ++ (number_line (codes " L") fault.1 ++ x)))
+    (codes " at " ++ (decimal other.0 ++ (number_line (codes " L") other.1 ++ y))) (codes " at ")
+    fault.0 other.0 (number_line (codes " L") fault.1 ++ x) (number_line (codes " L") other.1 ++ y) one
     (at_counted fault.0 x fault.1 fits.offset) (at_counted other.0 y other.1 fits_too.offset) in
-    let (number, rest) = head_line_unique (codes " L") fault.1 other.1 x y
+    let (number, rest) = number_line_unique (codes " L") fault.1 other.1 x y
     (omega (arith, fits.most)) (omega (arith, fits_too.most)) two in
     (same, same_fault fault other offset number, rest)
 

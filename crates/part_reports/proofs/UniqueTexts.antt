@@ -11,12 +11,13 @@ use Rattle.fare_texts.specs.Counts.{totals_line}
 use Rattle.reason_texts.specs.Ledger.{head_text}
 use Rattle.part_reports.specs.Ledgers.{IsLedgerEntryLine, IsPartLedger}
 use Rattle.part_reports.specs.Lines.{End, IsUploadEnd, IsTokenSum, IsValidatorSum}
-use Rattle.part_reports.specs.Lines.{end_line, end_lines, head_line, token_line, validator_line}
+use Rattle.fare_texts.specs.SumLines.{token_line, validator_line}
+use Rattle.part_reports.specs.Lines.{end_line, end_lines, number_line}
 use Rattle.part_reports.specs.Reports.{IsPartReport, Report, report_text}
 use Rattle.part_reports.specs.Reports.{HasTapNumbers}
 use Rattle.part_reports.specs.TokenLines.{TokenLine, text_of}
 use Rattle.part_reports.proofs.Tokens.{token_digits}
-use Rattle.part_reports.proofs.Unique.{end_line_unique, entry_line_unique, head_line_unique}
+use Rattle.part_reports.proofs.Unique.{end_line_unique, entry_line_unique, number_line_unique}
 use Rattle.part_reports.proofs.Unique.{token_line_unique, totals_line_unique, validator_line_unique}
 
 -- lines of one form, as many in both texts
@@ -61,16 +62,16 @@ spelt a b c d e f t = simp append_assoc
 
 -- the report's text, line behind line
 text_spelt : (report : Report) → report_text report
-    ≡ head_line (codes "uploads ") (length report.ends) ++ (end_lines 0 report.ends
-    ++ (totals_line report.totals ++ (head_line (codes "validators ") (length report.validators)
+    ≡ number_line (codes "uploads ") (length report.ends) ++ (end_lines 0 report.ends
+    ++ (totals_line report.totals ++ (number_line (codes "validators ") (length report.validators)
     ++ (flat_map validator_line report.validators
-    ++ (head_line (codes "tokens ") (length report.tokens)
+    ++ (number_line (codes "tokens ") (length report.tokens)
     ++ flat_map token_line report.tokens)))))
 text_spelt report =
-    spelt (head_line (codes "uploads ") (length report.ends)) (end_lines 0 report.ends)
-    (totals_line report.totals) (head_line (codes "validators ") (length report.validators))
+    spelt (number_line (codes "uploads ") (length report.ends)) (end_lines 0 report.ends)
+    (totals_line report.totals) (number_line (codes "validators ") (length report.validators))
     (flat_map validator_line report.validators)
-    (head_line (codes "tokens ") (length report.tokens)) (flat_map token_line report.tokens)
+    (number_line (codes "tokens ") (length report.tokens)) (flat_map token_line report.tokens)
 
 same_report : (a b : Report) → a.ends ≡ b.ends → a.totals ≡ b.totals
     → a.validators ≡ b.validators → a.tokens ≡ b.tokens → a ≡ b
@@ -80,20 +81,20 @@ same_report a b ends totals validators tokens =
 pub report_unique : (a b : Report) → HasTapNumbers a → HasTapNumbers b → report_text a ≡ report_text b
     → a ≡ b
 report_unique a b fits fits_too is =
-    let (number, one) = head_line_unique (codes "uploads ") (length a.ends) (length b.ends) _ _
+    let (number, one) = number_line_unique (codes "uploads ") (length a.ends) (length b.ends) _ _
     fits.number fits_too.number (sym (text_spelt a) ∙ is ∙ text_spelt b) in
     let (ends, two) = ends_unique 0 a.ends b.ends _ _ number
     (recursion_from_All IsUploadEnd a.ends fits.ends) (recursion_from_All IsUploadEnd b.ends fits_too.ends) one
     in
     let (totals, three) = totals_line_unique a.totals b.totals _ _ fits.totals fits_too.totals two
     in
-    let (validators_number, four) = head_line_unique (codes "validators ") (length a.validators)
+    let (validators_number, four) = number_line_unique (codes "validators ") (length a.validators)
     (length b.validators) _ _ fits.validators_number fits_too.validators_number three in
     let (validators, five) = lines_unique validator_line IsValidatorSum validator_line_unique
     a.validators b.validators _ _ validators_number
     (recursion_from_All IsValidatorSum a.validators fits.validators)
     (recursion_from_All IsValidatorSum b.validators fits_too.validators) four in
-    let (tokens_number, six) = head_line_unique (codes "tokens ") (length a.tokens)
+    let (tokens_number, six) = number_line_unique (codes "tokens ") (length a.tokens)
     (length b.tokens) (flat_map token_line a.tokens) (flat_map token_line b.tokens)
     fits.tokens_number fits_too.tokens_number five in
     let (tokens, over) = lines_unique token_line IsTokenSum token_line_unique a.tokens b.tokens []

@@ -7,12 +7,13 @@ use Rattle.shard_book.specs.Sums.{Sums}
 use Rattle.part_reports.specs.declared.fault.MergeFault.{MergeFault}
 use Rattle.part_reports.specs.Faults.{IsOfTexts}
 use Rattle.part_reports.specs.Lines.{AreCounts, IsUploadEnd, IsValidatorSum, end_line, end_lines}
-use Rattle.part_reports.specs.Lines.{head_line, validator_line}
+use Rattle.fare_texts.specs.SumLines.{validator_line}
+use Rattle.part_reports.specs.Lines.{number_line}
 use Rattle.part_reports.specs.inside.Fronts.{AreEnds, AreValidators, MayBePart, ToldFront, ends_text}
 use Rattle.part_reports.specs.inside.Fronts.{told_text, validators_text}
 use Rattle.part_reports.specs.inside.LinesRead.{IsRead, Stood}
 use Rattle.part_reports.proofs.ListsWritten.{lines_unique, end_lines_from, flat_map_from}
-use Rattle.part_reports.proofs.Unique.{end_line_unique, head_line_unique, totals_line_unique}
+use Rattle.part_reports.proofs.Unique.{end_line_unique, number_line_unique, totals_line_unique}
 use Rattle.part_reports.proofs.Unique.{validator_line_unique}
 
 -- what is written determines the value and what is behind it
@@ -22,20 +23,20 @@ IsUnique {V = V} May written = (a b : V) (x y : List ℕ) → May a → May b
 
 pub ends_unique : IsUnique AreEnds ends_text
 ends_unique a b x y may may_too same =
-    let head = head_line_unique (codes "uploads ") (length a) (length b) (end_lines 0 a ++ x)
+    let head = number_line_unique (codes "uploads ") (length a) (length b) (end_lines 0 a ++ x)
     (end_lines 0 b ++ y) may.few may_too.few
-    (sym (append_assoc (head_line (codes "uploads ") (length a)) (end_lines 0 a) x) ∙ same
-    ∙ append_assoc (head_line (codes "uploads ") (length b)) (end_lines 0 b) y) in
+    (sym (append_assoc (number_line (codes "uploads ") (length a)) (end_lines 0 a) x) ∙ same
+    ∙ append_assoc (number_line (codes "uploads ") (length b)) (end_lines 0 b) y) in
     lines_unique IsUploadEnd end_line end_line_unique 0 a b x y may.are.each may_too.are.each head.0
     (ap (λ text. text ++ x) (sym (end_lines_from 0 a)) ∙ head.1
     ∙ ap (λ text. text ++ y) (end_lines_from 0 b))
 
 pub validators_unique : IsUnique AreValidators validators_text
 validators_unique a b x y may may_too same =
-    let head = head_line_unique (codes "validators ") (length a) (length b)
+    let head = number_line_unique (codes "validators ") (length a) (length b)
     (flat_map validator_line a ++ x) (flat_map validator_line b ++ y) may.few may_too.few
-    (sym (append_assoc (head_line (codes "validators ") (length a)) (flat_map validator_line a) x)
-    ∙ same ∙ append_assoc (head_line (codes "validators ") (length b)) (flat_map validator_line b)
+    (sym (append_assoc (number_line (codes "validators ") (length a)) (flat_map validator_line a) x)
+    ∙ same ∙ append_assoc (number_line (codes "validators ") (length b)) (flat_map validator_line b)
     y) in
     lines_unique IsValidatorSum (λ _ sum. validator_line sum)
     (λ _ a b x y. validator_line_unique a b x y) 0 a b x y may.are.each may_too.are.each head.0
@@ -48,7 +49,7 @@ parts h e t v f k rest = simp append_assoc
 
 -- the parts of the text
 abbrev pub tokens_text : ℕ → List ℕ
-tokens_text number = head_line (codes "tokens ") number
+tokens_text number = number_line (codes "tokens ") number
 
 abbrev pub behind_ends : ToldFront → List ℕ → List ℕ
 behind_ends told rest = totals_line told.totals
@@ -59,9 +60,9 @@ behind_totals told rest = validators_text told.validators ++ (tokens_text told.t
 
 pub told_parts : (told : ToldFront) (rest : List ℕ)
     → told_text told ++ rest ≡ ends_text told.ends ++ behind_ends told rest
-told_parts told rest = parts (head_line (codes "uploads ") (length told.ends))
+told_parts told rest = parts (number_line (codes "uploads ") (length told.ends))
     (end_lines 0 told.ends) (totals_line told.totals)
-    (head_line (codes "validators ") (length told.validators))
+    (number_line (codes "validators ") (length told.validators))
     (flat_map validator_line told.validators) (tokens_text told.tokens) rest
 
 -- behind a part that was read, what is left is what is behind it
@@ -87,7 +88,7 @@ EndsRead text now result = IsRead {T = Unit {0}} (λ _ _. Unit {0}) AreEnds ends
 
 abbrev NumberRead : Option (List ℕ) → Option (List ℕ) → Result ℕ MergeFault → Type 0
 NumberRead text now result = IsRead {T = ℕ} {V =
-    ℕ} (λ told number. told ≡ number) (λ number. number < 2 ^ 64) (head_line (codes "tokens ")) text
+    ℕ} (λ told number. told ≡ number) (λ number. number < 2 ^ 64) (number_line (codes "tokens ")) text
     now result
 
 pub no_ends : {T : Type 0} (Is : T → ToldFront → Type 0) (text now after : Option (List ℕ))
@@ -145,7 +146,7 @@ no_tokens Is IsA IsB a b (Some text) now then_now later last after fault ends to
     tokens = λ of_texts told rest may shown.
     let at = behind_two IsA a text now then_now told rest ends totals may shown in
     absent {T = ℕ} {V = ℕ} (λ told number. told ≡ number) (λ number. number < 2 ^ 64)
-    (head_line (codes "tokens ")) later last fault told.tokens rest tokens of_texts may.tokens
+    (number_line (codes "tokens ")) later last fault told.tokens rest tokens of_texts may.tokens
     (behind validators_unique (behind_totals told rest) later told.validators
     (tokens_text told.tokens ++ rest)
     (subst (λ now. IsRead IsB AreValidators validators_text now later (Ok b)) at validators)

@@ -20,7 +20,8 @@ use Rattle.fare_table.specs.Token.{token_cmp, token_eq}
 use Rattle.fare_table.specs.declared.token.Token.{Token}
 use Rattle.shard_book.specs.Sums.{Sums, add_all, sums, sums_of}
 use Rattle.shard_book.specs.declared.sums.totals.Totals.{Totals}
-use Rattle.part_reports.specs.Lines.{End, IsTokenSum, token_line}
+use Rattle.fare_texts.specs.SumLines.{token_line}
+use Rattle.part_reports.specs.Lines.{End, IsTokenSum}
 use Rattle.part_reports.specs.Reports.{IsMerged, IsPartReport, Report, end_texts, front_text}
 use Rattle.part_reports.specs.Reports.{joined_ends, report_text, sums_of_validator, tokens_of_reports, validators_of_reports}
 use Rattle.part_reports.specs.TokenLines.{IsMergedByToken, TokenLine, lines_of_token, text_of}

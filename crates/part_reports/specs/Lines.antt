@@ -2,15 +2,13 @@
 use Rattle.std.specs.Prelude.{◌≡◌, ℕ, ◌+◌, ◌*◌, ◌<◌, ◌≤◌, ◌^◌, List, [], ◌∷◌, ◌++◌, codes}
 use Rattle.std.specs.Prelude.{Option, Some, None}
 use Rattle.std.specs.Fmt.{decimal}
-use Rattle.hex.specs.Hex.{encode_lower}
-use Rattle.fare_table.specs.Token.{Fits, bytes_of}
+use Rattle.fare_table.specs.Token.{Fits}
 use Rattle.shard_book.specs.Sums.{Sums}
 use Rattle.fare_table.specs.declared.token.Token.{Token}
-use Rattle.fare_texts.specs.Counts.{counts}
 
--- `validators 3`: a word, a number and the end of the line
-abbrev pub head_line : List ℕ → ℕ → List ℕ
-head_line word number = word ++ (decimal number ++ codes "\n")
+-- a word, a number and the end of the line, as `validators 3`
+abbrev pub number_line : List ℕ → ℕ → List ℕ
+number_line word number = word ++ (decimal number ++ codes "\n")
 
 -- how an upload ended: how many of its taps were posted, and, where it has a layout fault, the
 -- offset of the fault's batch and the number in the fault's name
@@ -33,14 +31,6 @@ end_line number end = codes "upload " ++ (decimal number ++ end_words end.taps e
 abbrev pub end_lines : ℕ → List End → List ℕ
 end_lines first [] = []
 end_lines first (end ∷ ends) = end_line first end ++ end_lines (first + 1) ends
-
--- `validator 9 taps 1 paid 0 ..`
-abbrev pub validator_line : ℕ × Sums → List ℕ
-validator_line sum = codes "validator " ++ (decimal sum.0 ++ (codes " " ++ counts sum.1))
-
--- `token 000000000000000000000000000000a1 taps 4 paid 2 ..`
-abbrev pub token_line : Token × Sums → List ℕ
-token_line sum = codes "token " ++ (encode_lower (bytes_of sum.0) ++ (codes " " ++ counts sum.1))
 
 -- ---- what the numbers can be
 -- the offset has 64 bits, and the name is one of `L1` to `L6`

@@ -10,7 +10,8 @@ use Rattle.fare_table.specs.Token.{token_cmp}
 use Rattle.fare_table.specs.declared.token.Token.{Token}
 use Rattle.fare_texts.specs.Counts.{totals_line}
 use Rattle.part_reports.specs.Lines.{End, IsUploadEnd, AreCounts, IsValidatorSum, IsTokenSum}
-use Rattle.part_reports.specs.Lines.{end_lines, head_line, token_line, validator_line}
+use Rattle.fare_texts.specs.SumLines.{token_line, validator_line}
+use Rattle.part_reports.specs.Lines.{end_lines, number_line}
 
 -- what a report tells: how each upload ended, the totals, and the sums of each validator and of
 -- each token
@@ -23,9 +24,9 @@ pub record Report : Type 0 where
 -- the report's text, up to the lines of its tokens
 abbrev pub front_text : List End → Sums → List (ℕ × Sums) → ℕ → List ℕ
 front_text ends totals validators tokens =
-    head_line (codes "uploads ") (length ends) ++ (end_lines 0 ends ++ (totals_line totals
-    ++ (head_line (codes "validators ") (length validators)
-    ++ (flat_map validator_line validators ++ head_line (codes "tokens ") tokens))))
+    number_line (codes "uploads ") (length ends) ++ (end_lines 0 ends ++ (totals_line totals
+    ++ (number_line (codes "validators ") (length validators)
+    ++ (flat_map validator_line validators ++ number_line (codes "tokens ") tokens))))
 
 -- the report's text
 abbrev pub report_text : Report → List ℕ

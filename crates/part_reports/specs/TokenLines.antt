@@ -34,8 +34,8 @@ ShareNoToken lists = (a b : ℕ) (first second : List TokenLine) → a ≢ b
 
 -- the lines of all lists, whose tokens do not fall, those of one token in the order that they have
 -- in their list
-pub record IsMergedByToken (lists : List (List TokenLine)) (joined : List TokenLine) : Type 0 where
+pub record IsMergedByToken (lists : List (List TokenLine)) (merged : List TokenLine) : Type 0 where
   pub apart : ShareNoToken lists
-  pub no_fall : DoNotFall joined
+  pub no_fall : DoNotFall merged
   pub same : (token : Token)
-      → lines_of_token token joined ≡ lines_of_token token (flat_map (λ list. list) lists)
+      → lines_of_token token merged ≡ lines_of_token token (flat_map (λ list. list) lists)

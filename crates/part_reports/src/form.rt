@@ -15,7 +15,8 @@ ghost use Rattle.fare_table.specs.declared.token.Token.{Token as AToken};
 ghost use Rattle.part_reports.specs.Ledgers.{IsLedgerEntryLine};
 ghost use Rattle.part_reports.specs.Lines.{AreCounts, IsUploadEnd, IsNamedFault, IsTokenSum};
 ghost use Rattle.part_reports.specs.Lines.{End as EndOfUpload, IsValidatorSum, end_line, end_words};
-ghost use Rattle.part_reports.specs.Lines.{head_line, token_line, validator_line};
+ghost use Rattle.fare_texts.specs.SumLines.{token_line, validator_line};
+ghost use Rattle.part_reports.specs.Lines.{number_line};
 ghost use Rattle.part_reports.specs.TokenLines.{TokenLine};
 ghost use Rattle.part_reports.specs.inside.Counted.{IsCounted, sums_with};
 ghost use Rattle.part_reports.specs.inside.UploadEnds.{end_of_upload, fault_words};
@@ -164,8 +165,8 @@ fn counts_of(text: &[u8]) -> Option<Totals>
 /// The number of a line that is a word, a number and its end.
 pub(crate) fn head_of(line: &[u8], word: &[u8]) -> Option<u64>
     ensures { MatchOption result
-        ((number : ℕ) → number < 2 ^ 64 → ¬ (line.now ≡ head_line word.now number))
-        (λ number. (number < 2 ^ 64) × (line.now ≡ head_line word.now number)) }
+        ((number : ℕ) → number < 2 ^ 64 → ¬ (line.now ≡ number_line word.now number))
+        (λ number. (number < 2 ^ 64) × (line.now ≡ number_line word.now number)) }
 {
     let (number, rest) = count(line, word)?;
     if is_end(rest) { Some(number) } else { None }

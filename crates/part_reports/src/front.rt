@@ -6,7 +6,8 @@ ghost use Rattle.shard_book.specs.Shown.{validator_sum};
 ghost use Rattle.shard_book.specs.Sums.{sums_of};
 ghost use Rattle.part_reports.specs.Faults.{IsOfTaps};
 ghost use Rattle.part_reports.specs.Lines.{AreCounts, IsUploadEnd, IsValidatorSum};
-ghost use Rattle.part_reports.specs.Lines.{end_line, end_lines, head_line, validator_line};
+ghost use Rattle.fare_texts.specs.SumLines.{validator_line};
+ghost use Rattle.part_reports.specs.Lines.{end_line, end_lines, number_line};
 ghost use Rattle.part_reports.specs.inside.UploadEnds.{end_of_upload};
 ghost use Rattle.part_reports.specs.inside.Fronts.{AreEnds, AreSoManyPosted, AreRising, AreSums};
 ghost use Rattle.part_reports.specs.inside.Fronts.{AreValidators, IsFront, MayBePart};
@@ -36,7 +37,7 @@ pub(crate) struct Front {
 fn next_head<R: BufRead + Drop>(reader: &mut LineReader<R>, word: &[u8]) -> Result<u64, MergeFault>
     requires one_line { All (λ byte. ¬ (byte ≡ 10)) word.now }
     ensures read { IsRead (λ told number. told ≡ number) (λ number. number < 2 ^ 64)
-        (head_line word.now) (R.remaining reader.old.from) (R.remaining reader.new.from) result }
+        (number_line word.now) (R.remaining reader.old.from) (R.remaining reader.new.from) result }
     ensures other { IfErr result (λ fault. ¬ (IsOfTaps fault)) }
 {
     reader.next()?;

@@ -1,4 +1,5 @@
 pub mod LineWritten
 pub mod Lines
 pub mod Loads
+pub mod TerminalLine
 pub mod Words

@@ -7,6 +7,7 @@
 //! | `loading` | whole files up to a limit, and the line of one that was not loaded |
 //! | `opened` | a file or standard input, to be read in pieces |
 //! | `table_line` | the line of a fault of the fare table |
+//! | `terminal_line` | a line on a terminal that says how far a long run is |
 //! | `answers` | what clap answers where there is nothing to run |
 //! | `arguments` | the words of the command line, and why they could not be had |
 //! | `words` | a command and its options, as `clap` takes them |
@@ -18,6 +19,7 @@ mod complaints;
 mod loading;
 mod opened;
 mod table_line;
+mod terminal_line;
 mod words;
 
 pub use answers::show_answer;
@@ -28,6 +30,7 @@ pub use loading::{
 };
 pub use opened::Opened;
 pub use table_line::TableLine;
+pub use terminal_line::{PACE_MS, QUIET_MS, TerminalLine};
 pub use words::{
     files_arg, flag_arg, names_in, new_command, number_arg, option_arg, positional_arg,
 };

@@ -31,7 +31,7 @@ name_or_empty names (Some place) = slice_index_or names place []
 
 -- the name of a validator's mode, or nothing where the table does not know the validator
 abbrev pub mode_field : Fares → ℕ → List ℕ
-mode_field fares validator = name_or_empty fares.rules.modes (mode_at fares validator)
+mode_field fares validator = name_or_empty fares.meaning.modes (mode_at fares validator)
 
 -- `000000000000000000000000000000a1,1,`
 unfoldable pub line_head : Token → ℕ → List ℕ

@@ -13,7 +13,7 @@ use Rattle.fare_texts.specs.Moments.{IsMomentText}
 abbrev pub HasModeOf : Fares → Reason → Type 0
 HasModeOf fares Unknown = Unit {0}
 HasModeOf fares (Stale latest) = Unit {0}
-HasModeOf fares (Transfer moment mode) = mode.place < length fares.rules.modes
+HasModeOf fares (Transfer moment mode) = mode.place < length fares.meaning.modes
 HasModeOf fares (Ride start until charge) = Unit {0}
 
 -- ` because it is ride 3 of the window`
@@ -69,5 +69,5 @@ abbrev pub IsReasonWords : Fares → Reason → List ℕ → Type 0
 IsReasonWords fares Unknown text = text ≡ codes " because the table has no such validator"
 IsReasonWords fares (Stale latest) text = IsStaleText latest text
 IsReasonWords fares (Transfer moment mode) text =
-    IsTransferText (slice_index_or fares.rules.modes mode.place []) moment text
+    IsTransferText (slice_index_or fares.meaning.modes mode.place []) moment text
 IsReasonWords fares (Ride start until charge) text = IsRideText start until charge text

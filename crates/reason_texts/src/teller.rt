@@ -26,7 +26,7 @@ fn tap_of(table: &FareTable, clock: &Clock, entry: &Entry) -> Result<TapIn, NoMe
     requires { clock.now ≡ table.now.zone }
     ensures tap { IfOk result (λ tap. tap ≡ tap_of table.now entry.now) }
     ensures mode { IfOk result (λ tap. ForSome tap.mode (λ mode.
-        mode.place < length table.now.rules.modes)) }
+        mode.place < length table.now.meaning.modes)) }
     ensures until { IfOk result (λ tap. tap.until ≡ until table.now tap.moment) }
     ensures late { OnErr result (4_102_444_800_000 ≤ entry.now.moment) }
 {

@@ -36,7 +36,7 @@ fn run<R: Threads + Wait + Sync, G: Gate + Sync>(
         (report_of outcome)) }
 {
     let outcome = service.run(rt, alloc, share, workers, gate)?;
-    laws::report(uploads, &outcome);
+    laws::report_is_plain(uploads, &outcome);
     Ok(outcome)
 }
 

@@ -4,9 +4,9 @@ use Rattle.std.proofs.lemmas.List.Elements.{All-nil, All-append}
 use Rattle.tap_views.specs.Layout.{Tap}
 use Rattle.tap_parts.specs.Parts.{uploads_joined}
 use Rattle.tap_parts.proofs.Early.{Early, file_early}
-use Rattle.fare_service.specs.Plain.{AreTapsOfEach}
+use Rattle.tap_views.specs.Files.{AreGoodTapsOfEach}
 
-pub uploads_early : (uploads : List (List ℕ)) (taps : List (List Tap)) → AreTapsOfEach uploads taps
+pub uploads_early : (uploads : List (List ℕ)) (taps : List (List Tap)) → AreGoodTapsOfEach uploads taps
     → All Early (uploads_joined taps)
 uploads_early [] [] each = All-nil Early
 uploads_early [] (t ∷ ts) each = absurd each

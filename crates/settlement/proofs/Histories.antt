@@ -8,12 +8,13 @@ use Rattle.tap_views.specs.declared.encoder.TapFields.{TapFields}
 use Rattle.account_rule.specs.declared.reply.Answer.TheVariants.{Unknown}
 use Rattle.shard_book.specs.declared.entry.Entry.{Entry}
 use Rattle.tap_parts.specs.Parts.{IsFileOf}
-use Rattle.fare_service.specs.Plain.{AreTapsOf, HasOneReading, token_of_bytes, unanswered, answered}
+use Rattle.tap_views.specs.Files.{AreGoodTaps}
+use Rattle.fare_service.specs.Plain.{HasOneReading, token_of_bytes, unanswered, answered}
 use Rattle.fare_service.specs.Plain.{plain_after}
 
 -- a file's taps have the fields that it is read as
 pub read_fields : (file : List ℕ) (taps : List Tap) (list : List TapFields) → HasOneReading file
-    → AreTapsOf file taps → IsFileOf file list → map fields_of taps ≡ list
+    → AreGoodTaps file taps → IsFileOf file list → map fields_of taps ≡ list
 read_fields file taps list cut of reads =
     let same = cut of.batches reads.batches of.rest [] of.is_file reads.is_file in
     ap (map fields_of) (of.all ∙ ap (flat_map (λ (batch : List Tap). batch)) same.0) ∙ reads.read

@@ -7,7 +7,8 @@ use Rattle.tap_views.specs.Layout.{Tap}
 use Rattle.tap_views.specs.declared.encoder.TapFields.{TapFields}
 use Rattle.tap_parts.specs.Parts.{of_part}
 use Rattle.tap_parts.proofs.Adding.{fields-append}
-use Rattle.fare_service.specs.Plain.{AreTapsOf, IsPlainEnd}
+use Rattle.tap_views.specs.Files.{AreGoodTaps}
+use Rattle.fare_service.specs.Plain.{IsPlainEnd}
 use Rattle.fare_service.specs.declared.upload_end.UploadEnd.{UploadEnd}
 use Rattle.fare_service.proofs.PlainRuns.{AllZip-append}
 use Rattle.settlement.specs.inside.SplitTaps.{AreInParts, in_part}
@@ -30,7 +31,7 @@ pub both_split : (parts : ℕ) (one other : List (List ℕ)) (lists more : List 
     → AreInParts parts (one ++ other) (lists ++ more) (ends ++ later)
 both_split parts one other lists more ends later front back = record {
   taps = front.taps ++ back.taps;
-  of_uploads = AllZip-append AreTapsOf one front.taps other back.taps front.of_uploads
+  of_uploads = AllZip-append AreGoodTaps one front.taps other back.taps front.of_uploads
       back.of_uploads;
   number = All-append (λ (list : List (List TapFields)). length list ≡ parts) lists more
       front.number back.number;

@@ -18,7 +18,8 @@ use Rattle.tap_views.specs.Encoding.{fields_of}
 use Rattle.tap_views.specs.Layout.{Tap}
 use Rattle.tap_views.specs.declared.encoder.TapFields.{TapFields}
 use Rattle.tap_parts.specs.Parts.{part_of_token, of_part}
-use Rattle.fare_service.specs.Plain.{AreTapsOf, AreTapsOfEach, AreApart, HasOneReading}
+use Rattle.tap_views.specs.Files.{AreGoodTaps, AreGoodTapsOfEach}
+use Rattle.fare_service.specs.Plain.{AreApart, HasOneReading}
 use Rattle.fare_service.specs.declared.upload_end.UploadEnd.{UploadEnd}
 use Rattle.tap_parts.specs.Canonical.{tap_cmp}
 use Rattle.settlement.specs.Settled.{IsPartFile, IsSettled}
@@ -106,7 +107,7 @@ IsPlaced parts part taps =
     All (IsIn parts part) (map fields_of taps) × Pairs Rises (map fields_of taps)
 
 placed : (parts part : ℕ) (all : List Tap) (file : List ℕ) (taps : List Tap) → HasOneReading file
-    → AreTapsOf file taps → IsPartFile (map fields_of (of_part part parts all)) file
+    → AreGoodTaps file taps → IsPartFile (map fields_of (of_part part parts all)) file
     → IsPlaced parts part taps
 placed parts part all file taps cut of is =
     let same : is.list ≡ map fields_of taps = sym (read_fields file taps is.list cut of is.reads) in
@@ -124,20 +125,20 @@ placed parts part all file taps cut of is =
     )
 
 pub file_at : (files : List (List ℕ)) (taps : List (List Tap)) (i : ℕ) (ts : List Tap)
-    → All HasOneReading files → AreTapsOfEach files taps → slice_get taps i ≡ Some ts
-    → (file : List ℕ) × (slice_get files i ≡ Some file) × AreTapsOf file ts × HasOneReading file
+    → All HasOneReading files → AreGoodTapsOfEach files taps → slice_get taps i ≡ Some ts
+    → (file : List ℕ) × (slice_get files i ≡ Some file) × AreGoodTaps file ts × HasOneReading file
 file_at [] [] i ts cuts each there = absurd (cc)
 file_at [] (t ∷ taps) i ts cuts each there = absurd each
 file_at (f ∷ files) [] i ts cuts each there = absurd each
 file_at (f ∷ files) (t ∷ taps) zero ts cuts each there =
     let same : t ≡ ts = cc in
-    (f, refl, subst (λ x. AreTapsOf f x) same each.0, All-head HasOneReading f files cuts)
+    (f, refl, subst (λ x. AreGoodTaps f x) same each.0, All-head HasOneReading f files cuts)
 file_at (f ∷ files) (t ∷ taps) (suc i) ts cuts each there =
     file_at files taps i ts (All-tail HasOneReading f files cuts) each.1 there
 
 pub all_placed : (uploads : List (List ℕ)) (ends : List UploadEnd) (files : List (List ℕ))
     (taps : List (List Tap)) → All HasOneReading files → IsSettled uploads ends files
-    → AreTapsOfEach files taps
+    → AreGoodTapsOfEach files taps
     → (i : ℕ) (ts : List Tap) → slice_get taps i ≡ Some ts → IsPlaced (length files) i ts
 all_placed uploads ends files taps cuts is each i ts there =
     let (file, at, of, cut) = file_at files taps i ts cuts each there in
@@ -160,7 +161,7 @@ in_its_part parts part taps tap all there =
 
 pub apart : (uploads : List (List ℕ)) (ends : List UploadEnd) (files : List (List ℕ))
     (taps : List (List Tap)) → All HasOneReading files → IsSettled uploads ends files
-    → AreTapsOfEach files taps → AreApart taps
+    → AreGoodTapsOfEach files taps → AreApart taps
 apart uploads ends files taps cuts is each =
     λ first second ones others tap other at_first at_second has has_other same.
     let one = (all_placed uploads ends files taps cuts is each first ones at_first).0 in

@@ -7,7 +7,8 @@ use Rattle.std.proofs.lemmas.List.Sums.{sum_by-cons}
 use Rattle.tap_views.specs.Encoding.{fields_of}
 use Rattle.tap_views.specs.Layout.{Tap}
 use Rattle.tap_parts.specs.Parts.{part_of_token, of_part}
-use Rattle.fare_service.specs.Plain.{AreTapsOfEach, HasOneReading}
+use Rattle.tap_views.specs.Files.{AreGoodTapsOfEach}
+use Rattle.fare_service.specs.Plain.{HasOneReading}
 
 -- ---- parts of lists
 pub sum_filter : {X : Type 0} (p : X → Bool) (f : X → ℕ) (xs : List X)
@@ -46,7 +47,7 @@ part_fields part parts (tap ∷ taps) =
 
 -- ---- the files
 pub one_list : (files : List (List ℕ)) (taps others : List (List Tap)) → All HasOneReading files
-    → AreTapsOfEach files taps → AreTapsOfEach files others → taps ≡ others
+    → AreGoodTapsOfEach files taps → AreGoodTapsOfEach files others → taps ≡ others
 one_list [] [] [] cuts each other = refl
 one_list [] [] (o ∷ others) cuts each other = absurd other
 one_list [] (t ∷ taps) others cuts each other = absurd each

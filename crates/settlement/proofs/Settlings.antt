@@ -14,7 +14,8 @@ use Rattle.shard_book.specs.Sums.{sums}
 use Rattle.fare_table.specs.Token.{bytes_of}
 use Rattle.shard_book.specs.Visits.{AreEntriesOf}
 use Rattle.shard_book.specs.declared.entry.Entry.{Entry}
-use Rattle.fare_service.specs.Plain.{HasOneReading, AreTapsOfEach, IsPlain, IsReportOver, plain}
+use Rattle.tap_views.specs.Files.{AreGoodTapsOfEach}
+use Rattle.fare_service.specs.Plain.{HasOneReading, IsPlain, IsReportOver, plain}
 use Rattle.fare_service.specs.Plain.{plain_after, answered, unanswered}
 use Rattle.fare_service.specs.Text.{report, validators_section, tokens_section}
 use Rattle.fare_texts.specs.Counts.{totals_line}
@@ -78,7 +79,7 @@ same_reports uploads others history again text other same one two = record {
 }
 
 pub some_history : (fares : Fares) (uploads : List (List ℕ)) (taps : List (List Tap))
-    → AreTapsOfEach uploads taps → (history : List Entry) × IsSettledHistory fares uploads history
+    → AreGoodTapsOfEach uploads taps → (history : List Entry) × IsSettledHistory fares uploads history
 some_history fares uploads taps each =
     let (order, canonical) = canonical_order (uploads_joined taps) in (
       plain fares order,

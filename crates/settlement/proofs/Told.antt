@@ -23,7 +23,8 @@ use Rattle.fare_table.specs.declared.token.Token.{Token}
 use Rattle.tap_parts.specs.Parts.{part_of_token, of_part}
 use Rattle.fare_service.specs.Headline.{Headline}
 use Rattle.fare_service.specs.Outcomes.{OutcomeView}
-use Rattle.fare_service.specs.Plain.{AreTapsOfEach, HasOneReading, IsPlain, IsStatementOver}
+use Rattle.tap_views.specs.Files.{AreGoodTapsOfEach}
+use Rattle.fare_service.specs.Plain.{HasOneReading, IsPlain, IsStatementOver}
 use Rattle.fare_service.specs.Plain.{IsUncutGathering, WasNotCut, plain, unanswered}
 use Rattle.fare_service.specs.Shares.{Worked}
 use Rattle.fare_service.specs.Text.{report}
@@ -144,7 +145,7 @@ module _ (parts : ℕ) (g : TapFields → ℕ) where
 -- the taps of all files are those of the uploads
 pub files_alike : (uploads : List (List ℕ)) (ends : List UploadEnd) (files : List (List ℕ))
     (taps : List (List Tap)) → All HasOneReading files → (is : IsSettled uploads ends files)
-    → AreTapsOfEach files taps
+    → AreGoodTapsOfEach files taps
     → length files ≡ length taps
     → AreAlike (map fields_of (uploads_joined taps)) (map fields_of (uploads_joined is.taps))
 files_alike uploads ends files taps cuts is each number g =

@@ -3,7 +3,8 @@ use Rattle.std.specs.Prelude.{◌≡◌, ◌++◌, ℕ, List, map}
 use Rattle.std.specs.List.Sorted.{IsPermutation}
 use Rattle.tap_views.specs.Encoding.{fields_of}
 use Rattle.tap_views.specs.Layout.{Tap}
-use Rattle.fare_service.specs.Plain.{AreTapsOfEach, ArePlainEnds}
+use Rattle.tap_views.specs.Files.{AreGoodTapsOfEach}
+use Rattle.fare_service.specs.Plain.{ArePlainEnds}
 use Rattle.fare_service.specs.Text.{uploads_section}
 use Rattle.fare_service.specs.declared.upload_end.UploadEnd.{UploadEnd}
 use Rattle.tap_parts.specs.Parts.{uploads_joined}
@@ -12,8 +13,8 @@ use Rattle.tap_parts.specs.Parts.{uploads_joined}
 pub record HaveSameTaps (uploads others : List (List ℕ)) : Type 0 where
   pub taps : List (List Tap)
   pub other_taps : List (List Tap)
-  pub of_uploads : AreTapsOfEach uploads taps
-  pub of_others : AreTapsOfEach others other_taps
+  pub of_uploads : AreGoodTapsOfEach uploads taps
+  pub of_others : AreGoodTapsOfEach others other_taps
   pub moved : IsPermutation (map fields_of (uploads_joined taps))
       (map fields_of (uploads_joined other_taps))
 

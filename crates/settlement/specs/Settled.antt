@@ -6,7 +6,8 @@ use Rattle.tap_views.specs.declared.encoder.TapFields.{TapFields}
 use Rattle.fare_table.specs.Fares.{Fares}
 use Rattle.shard_book.specs.declared.entry.Entry.{Entry}
 use Rattle.tap_parts.specs.Parts.{of_part, IsFileOf, uploads_joined}
-use Rattle.fare_service.specs.Plain.{AreTapsOfEach, ArePlainEnds, plain}
+use Rattle.tap_views.specs.Files.{AreGoodTapsOfEach}
+use Rattle.fare_service.specs.Plain.{ArePlainEnds, plain}
 use Rattle.fare_service.specs.declared.upload_end.UploadEnd.{UploadEnd}
 use Rattle.tap_parts.specs.Canonical.{IsCanonical}
 
@@ -15,7 +16,7 @@ use Rattle.tap_parts.specs.Canonical.{IsCanonical}
 pub record IsSettledHistory (fares : Fares) (uploads : List (List ℕ)) (history : List Entry)
     : Type 0 where
   pub taps : List (List Tap)
-  pub of_uploads : AreTapsOfEach uploads taps
+  pub of_uploads : AreGoodTapsOfEach uploads taps
   pub order : List Tap
   pub canonical : IsCanonical (map fields_of (uploads_joined taps)) (map fields_of order)
   pub entries : history ≡ plain fares order
@@ -33,7 +34,7 @@ pub record IsSettled (uploads : List (List ℕ)) (ends : List UploadEnd) (files 
     : Type 0 where
   pub ended : ArePlainEnds uploads ends
   pub taps : List (List Tap)
-  pub of_uploads : AreTapsOfEach uploads taps
+  pub of_uploads : AreGoodTapsOfEach uploads taps
   pub some_part : 1 ≤ length files
   pub few_parts : length files ≤ 65535
   pub each : (part : ℕ) (file : List ℕ) → slice_get files part ≡ Some file

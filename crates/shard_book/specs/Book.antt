@@ -1,5 +1,5 @@
 -- What contracts see of a book.
-use Rattle.std.specs.Prelude.{◌≡◌, ℕ, List, [], ◌∷◌, ◌++◌, All}
+use Rattle.std.specs.Prelude.{◌≡◌, ℕ, List, [], ◌∷◌, ◌++◌, All, slice_get, Some}
 use Rattle.tap_views.specs.Layout.{Tap, num}
 use Rattle.tap_views.specs.Shards.{shard_of_token}
 use Rattle.fare_table.specs.Fares.{Fares}
@@ -19,6 +19,10 @@ pub record Book : Type 0 where
 -- each entry's token is of the shard
 pub record AreOfShard (shard shards : ℕ) (entries : List Entry) : Type 0 where
   pub each : All (λ entry. shard_of_token (bytes_of entry.token) shards ≡ shard) entries
+
+-- so it is of the book of each shard, which is its place in the list
+abbrev pub EachBook : (ℕ → Book → Type 0) → List Book → Type 0
+EachBook P books = (shard : ℕ) (book : Book) → slice_get books shard ≡ Some book → P shard book
 
 -- the book with more entries
 abbrev pub with_entries : Book → List Entry → Book

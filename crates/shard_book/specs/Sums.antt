@@ -72,7 +72,7 @@ sums_of_replies replies = record {
 abbrev pub sums : List Entry → Sums
 sums entries = sums_of_replies (map reply_of entries)
 
--- two sums, joined
+-- two sums, added up
 abbrev pub add_sums : Sums → Sums → Sums
 add_sums a b = record {
   taps = a.taps + b.taps;

@@ -26,13 +26,14 @@ unfoldable pub tokens : List Entry → List Token
 tokens entries = rising token_cmp (map token_of entries)
 
 -- the entries of one validator, in history order
-unfoldable pub at : ℕ → List Entry → List Entry
-at validator entries = filter (is_at validator) entries
+unfoldable pub entries_of_validator : ℕ → List Entry → List Entry
+entries_of_validator validator entries = filter (is_at validator) entries
 
 -- the validators, rising, each with the sums of its entries
 unfoldable pub sums_by_validator : List Entry → List (ℕ × Sums)
 sums_by_validator entries =
-    map (λ validator. (validator, sums (at validator entries))) (validators entries)
+    map (λ validator. (validator, sums (entries_of_validator validator entries)))
+    (validators entries)
 
 -- the tokens, rising, each with the sums of its own entries
 unfoldable pub sums_by_token : List Entry → List (Token × Sums)

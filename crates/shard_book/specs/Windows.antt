@@ -16,7 +16,7 @@ use Rattle.fare_table.specs.Token.{bytes_of}
 -- No window has more paid rides than the ride limit or costs more than the ceiling. The replies to
 -- rides are, window by window, those of their places, so that the windows' paid rides and cents add
 -- up to those of all replies.
-pub record KeepLimits (terms : Terms) (blocks : List (List LiveTap)) (replied : List Reply)
+pub record BlocksKeepLimits (terms : Terms) (blocks : List (List LiveTap)) (replied : List Reply)
     : Type 0 where
   pub rides : All (λ window. paid_rides terms (length window) ≤ terms.rides) blocks
   pub ceiling : All (λ window. ride_cents terms (length window) ≤ terms.ceiling) blocks
@@ -32,5 +32,5 @@ pub record KeepLimits (terms : Terms) (blocks : List (List LiveTap)) (replied : 
 abbrev pub WindowsKeepLimits : Fares → List Entry → Token → Type 0
 WindowsKeepLimits table entries token =
     let rules = rules_of table (bytes_of token) in
-    KeepLimits rules.terms (windows rules (taps_of table token entries))
+    BlocksKeepLimits rules.terms (windows rules (taps_of table token entries))
     (map reply_of (own token entries))

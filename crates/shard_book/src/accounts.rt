@@ -70,7 +70,8 @@ impl Accounts {
     /// The token's account, a fresh one where none is kept.
     #[tactic(auto, unfolding(crate::specs::inside::Accounts::kept_at))]
     pub(crate) fn account_of(&self, token: Token) -> Account
-        ensures { (rules : TokenRules) (taps : List TapIn) → IsKept rules (kept_at self.now token) taps
+        ensures { (rules : TokenRules) (taps : List TapIn)
+            → IsKept rules (kept_at self.now token) taps
             → Stands rules result taps }
     {
         match self.map.get(&token) {
@@ -151,7 +152,7 @@ impl Accounts {
         tap: TapIn,
         known: u32,
     ) -> Result<(u32, Reply), NoMemory>
-        requires mode { ForSome tap.mode (λ mode. mode.place < length table.now.rules.modes) }
+        requires mode { ForSome tap.mode (λ mode. mode.place < length table.now.meaning.modes) }
         requires until { tap.until ≡ until table.now tap.moment }
         requires kept { (taps : List TapIn)
             × IsKept (rules_of table.now (bytes_of token)) (kept_at self.old token) taps }

@@ -17,43 +17,43 @@ use fare_table::Token;
 use std::cmp::Ordering;
 
 /// Tokens are ordered by their bytes.
-pub fn order(a: Token, b: Token) -> Ordering
+pub fn token_order(a: Token, b: Token) -> Ordering
     ensures { result ≡ slice_cmp nat_cmp (bytes_of a) (bytes_of b) }
 {
     a.cmp(&b)
 }
 
 /// Tokens of 16 bytes that have the same bytes are the same token.
-pub fn same_bytes()
+pub fn same_bytes_same_token()
     ensures { (a b : Token) → Fits a → Fits b → bytes_of a ≡ bytes_of b → a ≡ b }
 {}
 
 /// The rising list of the keys is the one strictly rising list that has the same members.
-pub fn rising()
+pub fn one_rising_list()
     ensures numbers { (keys risen : List ℕ) → IsRising nat_cmp keys risen
         ↔ (risen ≡ rising nat_cmp keys) }
     ensures tokens { (keys risen : List Token) → IsRising token_cmp keys risen
         ↔ (risen ≡ rising token_cmp keys) }
 {}
 
-/// The sums of one history after another are the sums of both, joined.
-pub fn sums()
+/// The sums of one history after another are the sums of both, added up.
+pub fn sums_add_up()
     ensures { (before after : List Entry)
         → sums (before ++ after) ≡ add_sums (sums before) (sums after) }
 {}
 
 /// The beginning of a legal history is legal.
-pub fn beginnings()
+pub fn beginnings_are_legal()
     ensures { (table : Fares) (before after : List Entry) → IsLegal table (before ++ after)
         → IsLegal table before }
 {}
 
 /// No window of any token has more paid rides than the ride limit or costs more than the ceiling
 /// (MTA, fare capping), and the token's entries were charged what its windows cost.
-pub fn windows(book: &ShardBook)
+pub fn book_keeps_limits(book: &ShardBook)
     ensures { (token : Token) → WindowsKeepLimits book.now.table book.now.entries token }
 {
     let _ = book.len();
-    account_rule::laws::limits();
+    account_rule::laws::windows_keep_limits();
     account_rule::laws::windows_add_up();
 }

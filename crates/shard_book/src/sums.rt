@@ -111,7 +111,7 @@ pub fn totals_of_entries(entries: &[Entry]) -> Totals
 
 /// The validators of the books, rising, each with the totals of its entries: one scan a book, and a
 /// sort of the validators. Of many entries, threads go over a quarter of the books each.
-#[tactic(auto, unfolding(crate::specs::inside::ByKey::sums_by, crate::specs::inside::ByKey::with_key, crate::specs::SumsByKey::sums_by_validator, crate::specs::SumsByKey::validators, crate::specs::SumsByKey::at))]
+#[tactic(auto, unfolding(crate::specs::inside::ByKey::sums_by, crate::specs::inside::ByKey::with_key, crate::specs::SumsByKey::sums_by_validator, crate::specs::SumsByKey::validators, crate::specs::SumsByKey::entries_of_validator))]
 pub fn sums_by_validator<R: Threads + Sync>(
     rt: &R,
     alloc: Global,
@@ -186,7 +186,7 @@ impl ShardBook {
 
     /// The validators of the history, rising, each with the totals of its entries: one scan of
     /// the history, and a sort of the validators.
-    #[tactic(auto, unfolding(crate::specs::inside::ByKey::sums_by, crate::specs::inside::ByKey::with_key, crate::specs::SumsByKey::sums_by_validator, crate::specs::SumsByKey::validators, crate::specs::SumsByKey::at))]
+    #[tactic(auto, unfolding(crate::specs::inside::ByKey::sums_by, crate::specs::inside::ByKey::with_key, crate::specs::SumsByKey::sums_by_validator, crate::specs::SumsByKey::validators, crate::specs::SumsByKey::entries_of_validator))]
     pub fn by_validator(&self, alloc: Global) -> Result<Vec<ValidatorSum>, NoMemory>
         ensures { IfOk result (λ list.
             map validator_sum list.items ≡ sums_by_validator self.now.entries) }

@@ -3,7 +3,7 @@ use Rattle.std.proofs.Common.{◌≡◌, ℕ, ◌+◌, ◌*◌, ◌/◌, ◌^◌
 use Rattle.atomic_table.specs.Table.{Step, Allows, rest}
 use Rattle.shard_book.specs.declared.entry.Entry.{Entry}
 use Rattle.shared_books.specs.declared.turns.rule.Opening.{Opening}
-use Rattle.shared_books.specs.Marks.{mark, others, visits_of, joined}
+use Rattle.shared_books.specs.Marks.{mark, others, visits_of, history_of_visits}
 use Rattle.shared_books.specs.Turns.{Boxed, IsTurn}
 use Rattle.shared_books.specs.PassStates.{pass_state}
 use Rattle.shared_books.specs.inside.Steps.{Seat, HasTakenBook, given_back}
@@ -57,9 +57,9 @@ store_allowed k slots id me now number book b e =
     subst (λ (z : Seat). Allows (IsTurn k) slots id z 0 (λ _. 2 * number + 2) (λ _ after. after ≡ given_back z)) (sym is)
     (gives_turn k slots id me.0 book b.visit (2 * number + 2) b.unjoined b.turn (ap (λ n. 2 * n + 2) b.number_is) (subst (λ n. n < 2 ^ 62) b.number_is b.few) b.book_is b.legal)
 
-pub given_is : (me now after : Seat) (book : Boxed) (visit : List Entry) → now ≡ (me.0, (0, Some book) ∷ rest me.1) → me.1 ≡ (0, None) ∷ [] → after ≡ given_back now → book.value.entries ≡ joined (visits_of me.0.marks) ++ visit
+pub given_is : (me now after : Seat) (book : Boxed) (visit : List Entry) → now ≡ (me.0, (0, Some book) ∷ rest me.1) → me.1 ≡ (0, None) ∷ [] → after ≡ given_back now → book.value.entries ≡ history_of_visits (visits_of me.0.marks) ++ visit
     → after ≡ (pass_state me.0.opened me.0.claims false (me.0.marks ++ mark true visit ∷ []) me.0.met, [])
 given_is me now after book visit e carries given entries =
     let is : now ≡ (me.0, (0, Some book) ∷ []) = e ∙ ap (λ (xs : Slots). (me.0, (0, Some book) ∷ xs)) (ap rest carries) in
-    let gained : drop (length (joined (visits_of me.0.marks))) book.value.entries ≡ visit = ap (λ es. drop (length (joined (visits_of me.0.marks))) es) entries ∙ drop_all (joined (visits_of me.0.marks)) visit in
+    let gained : drop (length (history_of_visits (visits_of me.0.marks))) book.value.entries ≡ visit = ap (λ es. drop (length (history_of_visits (visits_of me.0.marks))) es) entries ∙ drop_all (history_of_visits (visits_of me.0.marks)) visit in
     given ∙ (ap given_back is ∙ (λ i. (pass_state me.0.opened me.0.claims false (me.0.marks ++ mark true (gained i) ∷ []) me.0.met, [])))

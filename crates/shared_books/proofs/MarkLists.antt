@@ -3,7 +3,7 @@ use Rattle.std.proofs.Common.{◌≡◌, ℕ, ◌+◌, ◌<◌, ◌≤◌, ◌�
 use Rattle.std.proofs.lemmas.List.{length-map}
 use Rattle.shard_book.specs.declared.entry.Entry.{Entry}
 use Rattle.shared_books.specs.declared.turns.rule.Mark.{Mark}
-use Rattle.shared_books.specs.Marks.{mark, others, visits_of, joined, made_from, numbered, made_at, Apart, Begins, merged}
+use Rattle.shared_books.specs.Marks.{mark, others, visits_of, history_of_visits, made_from, numbered, made_at, Apart, Begins, merged}
 
 pub visits-append : (xs ys : List Mark) → visits_of (xs ++ ys) ≡ visits_of xs ++ visits_of ys
 visits-append [] ys = refl
@@ -23,12 +23,12 @@ pub others-append : (vs ws : List (List Entry)) → others (vs ++ ws) ≡ others
 others-append [] ws = refl
 others-append (v ∷ vs) ws = λ k. mark false v ∷ others-append vs ws k
 
-pub joined-append : (vs ws : List (List Entry)) → joined (vs ++ ws) ≡ joined vs ++ joined ws
+pub joined-append : (vs ws : List (List Entry)) → history_of_visits (vs ++ ws) ≡ history_of_visits vs ++ history_of_visits ws
 joined-append [] ws = refl
-joined-append (v ∷ vs) ws = ap (λ es. v ++ es) (joined-append vs ws) ∙ sym (append_assoc v (joined vs) (joined ws))
+joined-append (v ∷ vs) ws = ap (λ es. v ++ es) (joined-append vs ws) ∙ sym (append_assoc v (history_of_visits vs) (history_of_visits ws))
 
-pub joined-snoc : (vs : List (List Entry)) (v : List Entry) → joined (vs ++ v ∷ []) ≡ joined vs ++ v
-joined-snoc vs v = joined-append vs (v ∷ []) ∙ ap (λ es. joined vs ++ es) (append-nil v)
+pub joined-snoc : (vs : List (List Entry)) (v : List Entry) → history_of_visits (vs ++ v ∷ []) ≡ history_of_visits vs ++ v
+joined-snoc vs v = joined-append vs (v ∷ []) ∙ ap (λ es. history_of_visits vs ++ es) (append-nil v)
 
 pub drop_all : (xs ys : List Entry) → drop (length xs) (xs ++ ys) ≡ ys
 drop_all [] ys = refl

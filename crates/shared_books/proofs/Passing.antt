@@ -8,7 +8,7 @@ use Rattle.shared_books.specs.declared.turns.rule.Opening.{Opening}
 use Rattle.shared_books.specs.declared.turns.rule.Mark.{Mark}
 use Rattle.shared_books.specs.declared.turns.rule.PassState.{PassState}
 use Rattle.shared_books.specs.Claims.{all_claims}
-use Rattle.shared_books.specs.Marks.{mark, others, visits_of, joined, made_from, numbered, merged, Apart}
+use Rattle.shared_books.specs.Marks.{mark, others, visits_of, history_of_visits, made_from, numbered, merged, Apart}
 use Rattle.shared_books.specs.Passes.{PassView, seen_by, book_of, IsLater, Visits, IsFull, IsJoined, HasMadeAll}
 use Rattle.shared_books.specs.inside.Passes.{opened_of}
 use Rattle.shared_books.specs.Turns.{Boxed, book_after}
@@ -63,7 +63,7 @@ out_later a b c number book g h =
       view_is = h.view_is ∙ (ap (λ ms. pass_state b.0.opened b.0.claims true ms []) marks ∙ ap (λ v. pass_state v.opened v.claims true (a.0.marks ++ others (g.between ++ h.between)) []) g.view_is);
       number_is = h.number_is ∙ (ap (λ (ms : List Mark). b.0.opened.first + length ms) marks ∙ ap (λ (o : Opening). o.first + length (a.0.marks ++ others (g.between ++ h.between))) opened);
       few = h.few;
-      legal = subst (λ (o : Opening). IsLegal o.book.value.table (joined (visits_of (a.0.marks ++ others (g.between ++ h.between))))) opened (subst (λ ms. IsLegal b.0.opened.book.value.table (joined (visits_of ms))) marks h.legal);
+      legal = subst (λ (o : Opening). IsLegal o.book.value.table (history_of_visits (visits_of (a.0.marks ++ others (g.between ++ h.between))))) opened (subst (λ ms. IsLegal b.0.opened.book.value.table (history_of_visits (visits_of ms))) marks h.legal);
       book_is = h.book_is ∙ (ap (λ ms. book_after b.0.opened (visits_of ms)) marks ∙ ap (λ o. book_after o (visits_of (a.0.marks ++ others (g.between ++ h.between)))) opened);
       carries = h.carries;
     }
@@ -99,7 +99,7 @@ full_of n w = ⊎_elim (λ e. even n e) (λ e. absurd (odd n e)) w
 pub finds_full : (a : Seat) (found : ℕ) (b : Seat) → found ≡ 2 ^ 63 → HasSeen a found b → FindsFull a b
 finds_full a found b full h = record {
   goes_on = seen_goes_on a found b h;
-  legal = subst (λ (v : PassState). IsLegal v.opened.book.value.table (joined (visits_of v.marks))) (sym h.view_is) h.legal;
+  legal = subst (λ (v : PassState). IsLegal v.opened.book.value.table (history_of_visits (visits_of v.marks))) (sym h.view_is) h.legal;
   count = ap (λ v. v.opened.first + length v.marks) h.view_is ∙ full_of _ (subst (λ n. (n ≡ 2 * (a.0.opened.first + length (a.0.marks ++ others h.between))) ⊎ (n ≡ 2 * (a.0.opened.first + length (a.0.marks ++ others h.between)) + 1)) full h.word);
 }
 
@@ -118,7 +118,7 @@ pub pass_looks : (held : ℕ) (a : Seat) (found : ℕ) (b : Seat) → IsPass hel
 pass_looks held a found b p h = pass_goes_on held a b p (seen_goes_on a found b h)
     (subst (λ n. n ≤ 2 ^ 62) (sym (ap (λ v. v.opened.first + length v.marks) h.view_is)) (small_of found _ h.word h.most))
 
-pub later_of : (home : TableId) (a b : Seat) → SeesMore a b → IsLegal b.0.opened.book.value.table (joined (visits_of b.0.marks)) → IsLater (knows home a) (knows home b)
+pub later_of : (home : TableId) (a b : Seat) → SeesMore a b → IsLegal b.0.opened.book.value.table (history_of_visits (visits_of b.0.marks)) → IsLater (knows home a) (knows home b)
 later_of home a b g legal = record {
   between = g.between;
   book = ap (λ v. opened_of home v.opened) g.view_is;
@@ -129,7 +129,7 @@ later_of home a b g legal = record {
 }
 
 pub later_by_look : (home : TableId) (a : Seat) (found : ℕ) (b : Seat) → HasSeen a found b → IsLater (knows home a) (knows home b)
-later_by_look home a found b h = later_of home a b (seen_goes_on a found b h) (subst (λ (v : PassState). IsLegal v.opened.book.value.table (joined (visits_of v.marks))) (sym h.view_is) h.legal)
+later_by_look home a found b h = later_of home a b (seen_goes_on a found b h) (subst (λ (v : PassState). IsLegal v.opened.book.value.table (history_of_visits (visits_of v.marks))) (sym h.view_is) h.legal)
 
 pub head_is : (home : TableId) (a : Seat) (found : ℕ) (b : Seat) → HasSeen a found b → found / 2 ≡ b.0.opened.first + length (visits_of b.0.marks)
 head_is home a found b h = half_of found _ h.word ∙ (sym (ap (λ v. v.opened.first + length v.marks) h.view_is) ∙ ap (λ n. b.0.opened.first + n) (sym (length-visits b.0.marks)))
@@ -162,10 +162,10 @@ book_now a b number book more visit h e =
     ∙ (ap (λ es. record { table = a.0.opened.book.value.table; shard = a.0.opened.book.value.shard; shards = a.0.opened.book.value.shards; entries = es }) (sym (joined-snoc (visits_of (a.0.marks ++ others h.between)) visit))
     ∙ (ap (λ o. book_after o (visits_of (a.0.marks ++ others h.between) ++ visit ∷ [])) (sym opened) ∙ ap (λ ms. book_after b.0.opened (visits_of ms ++ visit ∷ [])) (sym marks))))
 
-pub entries_now : (a b : Seat) (number : ℕ) (book more : Book) (visit : List Entry) → HasBookOut a b number book → more ≡ with_entries book visit → more.entries ≡ joined (visits_of b.0.marks) ++ visit
+pub entries_now : (a b : Seat) (number : ℕ) (book more : Book) (visit : List Entry) → HasBookOut a b number book → more ≡ with_entries book visit → more.entries ≡ history_of_visits (visits_of b.0.marks) ++ visit
 entries_now a b number book more visit h e = ap (λ x. x.entries) (book_now a b number book more visit h e) ∙ joined-snoc (visits_of b.0.marks) visit
 
-pub legal_now : (a b : Seat) (number : ℕ) (book more : Book) (visit : List Entry) → HasBookOut a b number book → more ≡ with_entries book visit → IsLegal more.table more.entries → IsLegal b.0.opened.book.value.table (joined (visits_of b.0.marks ++ visit ∷ []))
+pub legal_now : (a b : Seat) (number : ℕ) (book more : Book) (visit : List Entry) → HasBookOut a b number book → more ≡ with_entries book visit → IsLegal more.table more.entries → IsLegal b.0.opened.book.value.table (history_of_visits (visits_of b.0.marks ++ visit ∷ []))
 legal_now a b number book more visit h e legal = subst (λ (x : Book). IsLegal x.table x.entries) (book_now a b number book more visit h e) legal
 
 pub brings : (a b : Seat) (number : ℕ) (book more : Book) (visit : List Entry) → HasBookOut a b number book → more ≡ with_entries book visit → IsLegal more.table more.entries → BringsVisit b number more
@@ -205,7 +205,7 @@ pass_visits held a b c number book visit p h e =
     }
 
 pub visits_made : (home : TableId) (a b c : Seat) (number : ℕ) (book : Book) (visit : List Entry) → HasBookOut a b number book → c ≡ gave_back b visit
-    → IsLegal b.0.opened.book.value.table (joined (visits_of b.0.marks ++ visit ∷ [])) → Visits (knows home a) (knows home c) number visit
+    → IsLegal b.0.opened.book.value.table (history_of_visits (visits_of b.0.marks ++ visit ∷ [])) → Visits (knows home a) (knows home c) number visit
 visits_made home a b c number book visit h e legal =
     let opened : b.0.opened ≡ a.0.opened = ap (λ v. v.opened) h.view_is in
     let marks : b.0.marks ≡ a.0.marks ++ others h.between = ap (λ v. v.marks) h.view_is in
@@ -220,7 +220,7 @@ visits_made home a b c number book visit h e legal =
       number_is = h.number_is ∙ ap (λ n. a.0.opened.first + n) size;
       few = h.few;
       made = ap (λ me. made_from me.0.opened.first me.0.marks) e ∙ (made-snoc b.0.opened.first b.0.marks visit ∙ (ap (λ ms. ms ++ (b.0.opened.first + length b.0.marks, visit) ∷ []) same ∙ ap (λ n. made_from a.0.opened.first a.0.marks ++ (n, visit) ∷ []) (sym number_is)));
-      legal = subst (λ (me : Seat). IsLegal me.0.opened.book.value.table (joined (visits_of me.0.marks))) (sym e) (subst (λ vs. IsLegal b.0.opened.book.value.table (joined vs)) (sym (visits-append b.0.marks (mark true visit ∷ []))) legal);
+      legal = subst (λ (me : Seat). IsLegal me.0.opened.book.value.table (history_of_visits (visits_of me.0.marks))) (sym e) (subst (λ vs. IsLegal b.0.opened.book.value.table (history_of_visits vs)) (sym (visits-append b.0.marks (mark true visit ∷ []))) legal);
     }
 
 -- two passes meet
@@ -288,7 +288,7 @@ pub full_pass_is : (held : ℕ) (a b : Seat) → IsPass held a → FindsFull a b
 full_pass_is held a b p f = pass_goes_on held a b p f.goes_on (omega (arith, f.count))
 
 pub visit_told : (home there : TableId) (old : PassView) (a b c : Seat) (number : ℕ) (book : Book) (visit : List Entry) → knows home a ≡ old → there ≡ home → HasBookOut a b number book → c ≡ gave_back b visit
-    → IsLegal b.0.opened.book.value.table (joined (visits_of b.0.marks ++ visit ∷ [])) → Visits old (knows there c) number visit
+    → IsLegal b.0.opened.book.value.table (history_of_visits (visits_of b.0.marks ++ visit ∷ [])) → Visits old (knows there c) number visit
 visit_told home there old a b c number book visit is same h e legal =
     subst (λ k. Visits k (knows there c) number visit) is (subst (λ x. Visits (knows home a) (knows x c) number visit) (sym same) (visits_made home a b c number book visit h e legal))
 
@@ -299,10 +299,10 @@ held_small held me p = let f = made_few me.0.opened.first me.0.marks in let h = 
 pub legal_out : (a b : Seat) (number : ℕ) (book : Book) → HasBookOut a b number book → IsLegal book.table book.entries
 legal_out a b number book h = subst (λ (x : Book). IsLegal x.table x.entries) (sym h.book_is) h.legal
 
-pub seen_out : (there : TableId) (a b c : Seat) (number : ℕ) (book : Book) → HasBookOut a b number book → c ≡ gave_back b [] → book.entries ≡ joined (seen_by (knows there c))
+pub seen_out : (there : TableId) (a b c : Seat) (number : ℕ) (book : Book) → HasBookOut a b number book → c ≡ gave_back b [] → book.entries ≡ history_of_visits (seen_by (knows there c))
 seen_out there a b c number book h e =
     entries_now a b number book book [] h (nothing_more book)
-    ∙ (sym (joined-snoc (visits_of b.0.marks) []) ∙ (ap joined (sym (visits-append b.0.marks (mark true [] ∷ []))) ∙ ap (λ me. joined (visits_of me.0.marks)) (sym e)))
+    ∙ (sym (joined-snoc (visits_of b.0.marks) []) ∙ (ap history_of_visits (sym (visits-append b.0.marks (mark true [] ∷ []))) ∙ ap (λ me. history_of_visits (visits_of me.0.marks)) (sym e)))
 
 pub table_out : (home : TableId) (old : PassView) (a b : Seat) (number : ℕ) (book : Book) → knows home a ≡ old → HasBookOut a b number book → book.table ≡ old.book.table
 table_out home old a b number book is h = ap (λ x. x.table) h.book_is ∙ ap (λ k. k.book.table) is

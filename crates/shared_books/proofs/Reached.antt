@@ -5,7 +5,7 @@ use Rattle.atomic_table.specs.Table.{State}
 use Rattle.shared_books.specs.declared.turns.rule.Opening.{Opening}
 use Rattle.shared_books.specs.declared.turns.rule.PassState.{PassState}
 use Rattle.shared_books.specs.Machine.{Machine, taken, given, start, after}
-use Rattle.shared_books.specs.Marks.{mark, others, visits_of, joined}
+use Rattle.shared_books.specs.Marks.{mark, others, visits_of, history_of_visits}
 use Rattle.shard_book.specs.History.{IsLegal}
 use Rattle.shared_books.specs.Turns.{Boxed, book_after, HoldsTurn, ShowsMachine}
 use Rattle.shared_books.specs.PassStates.{pass_state}
@@ -79,7 +79,7 @@ gives_are k s seat v t at unjoined on visit book is legal =
         schedule = schedule_snoc (start k.first) t.events (given seat visit) t.schedule holds;
         shows = subst (λ w. ShowsMachine k (after (start k.first) (t.events ++ given seat visit ∷ [])) record { words = set s.words 0 w; homes = set s.homes 0 (some (Some book)); views = set s.views seat (pass_state v.opened v.claims false (v.marks ++ mark true visit ∷ []) v.met) }) more
             (subst (λ (x : Machine). ShowsMachine k x record { words = set s.words 0 (2 * m.count + 2); homes = set s.homes 0 (some (Some book)); views = set s.views seat (pass_state v.opened v.claims false (v.marks ++ mark true visit ∷ []) v.met) }) (sym (after-snoc (start k.first) t.events (given seat visit)))
-            (gave k m s seat v visit book sh at unjoined holds all (omega arith) (is ∙ ap (λ vs. book_after k (vs ++ visit ∷ [])) all) (subst (λ vs. IsLegal k.book.value.table (joined (vs ++ visit ∷ []))) all legal)));
+            (gave k m s seat v visit book sh at unjoined holds all (omega arith) (is ∙ ap (λ vs. book_after k (vs ++ visit ∷ [])) all) (subst (λ vs. IsLegal k.book.value.table (history_of_visits (vs ++ visit ∷ []))) all legal)));
       },
       refl,
     )

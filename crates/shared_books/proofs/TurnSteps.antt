@@ -17,7 +17,7 @@ use Rattle.shared_books.specs.declared.turns.rule.Mark.{Mark}
 use Rattle.shared_books.specs.declared.turns.rule.PassState.{PassState}
 use Rattle.shared_books.specs.Claims.{all_claims}
 use Rattle.shared_books.specs.Machine.{Machine, Event, taken, given, start, May, next, after, IsSchedule}
-use Rattle.shared_books.specs.Marks.{mark, others, visits_of, joined, made_at, made_from, Apart, Begins, merged}
+use Rattle.shared_books.specs.Marks.{mark, others, visits_of, history_of_visits, made_at, made_from, Apart, Begins, merged}
 use Rattle.shared_books.specs.Turns.{Boxed, book_after, makers, FitsMachine, IsSpentPass, ShowsMachine, IsTurn}
 use Rattle.shared_books.specs.PassStates.{pass_state}
 use Rattle.shared_books.specs.inside.Steps.{Seat, spent_pass_state, new_pass_state, left_pass_state, both_pass_states, HasSeen, HasTriedTurn, given_back, HasEndedJoin}
@@ -89,7 +89,7 @@ pub record CaughtUp (k : Opening) (m : Machine) (v : PassState) : Type 0 where
   pub more : List (List Entry)
   pub all : visits_of (v.marks ++ others more) ≡ m.visits
   pub number : v.opened.first + length (v.marks ++ others more) ≡ m.count
-  pub legal : IsLegal v.opened.book.value.table (joined (visits_of (v.marks ++ others more)))
+  pub legal : IsLegal v.opened.book.value.table (history_of_visits (visits_of (v.marks ++ others more)))
 
 pub caught_up : (k : Opening) (m : Machine) (s : S) (id : ℕ) (v : PassState) → ShowsMachine k m s → FitsMachine k m id v → CaughtUp k m v
 caught_up k m s id v r f =
@@ -102,7 +102,7 @@ caught_up k m s id v r f =
       more = more;
       all = all;
       number = (let c = r.count in omega arith);
-      legal = subst (λ (o : Opening). IsLegal o.book.value.table (joined (visits_of marks))) (sym f.opened) (subst (λ vs. IsLegal k.book.value.table (joined vs)) (sym all) r.legal);
+      legal = subst (λ (o : Opening). IsLegal o.book.value.table (history_of_visits (visits_of marks))) (sym f.opened) (subst (λ vs. IsLegal k.book.value.table (history_of_visits vs)) (sym all) r.legal);
     }
 
 begins_itself : (vs : List (List Entry)) → Begins vs vs
@@ -213,7 +213,7 @@ takes_turn k slots id me old half unjoined off even few s r count at fits = dite
 
 -- the turn is given back with a visit
 pub gave : (k : Opening) (m : Machine) (s : S) (id : ℕ) (v : PassState) (visit : List Entry) (b : Boxed) → ShowsMachine k m s → get_elem? s.views id ≡ some v → v.unjoined ≡ true → m.holder ≡ some id
-    → visits_of v.marks ≡ m.visits → m.count < 2 ^ 62 → b.value ≡ book_after k (m.visits ++ visit ∷ []) → IsLegal k.book.value.table (joined (m.visits ++ visit ∷ []))
+    → visits_of v.marks ≡ m.visits → m.count < 2 ^ 62 → b.value ≡ book_after k (m.visits ++ visit ∷ []) → IsLegal k.book.value.table (history_of_visits (m.visits ++ visit ∷ []))
     → ShowsMachine k (next m (given id visit)) record { words = set s.words 0 (2 * m.count + 2); homes = set s.homes 0 (some (Some b)); views = set s.views id (pass_state v.opened v.claims false (v.marks ++ mark true visit ∷ []) v.met) }
 gave k m s id v visit b r at unjoined holds all few book legal =
     let marks : List Mark = v.marks ++ mark true visit ∷ [] in
@@ -247,7 +247,7 @@ gave k m s id v visit b r at unjoined holds all few book legal =
     }
 
 pub gives_turn : (k : Opening) (slots id : ℕ) (v : PassState) (b : Boxed) (visit : List Entry) (new : ℕ) → v.unjoined ≡ true → v.turn ≡ true → new ≡ 2 * (v.opened.first + length v.marks) + 2 → v.opened.first + length v.marks < 2 ^ 62
-    → b.value ≡ book_after v.opened (visits_of v.marks ++ visit ∷ []) → IsLegal v.opened.book.value.table (joined (visits_of v.marks ++ visit ∷ []))
+    → b.value ≡ book_after v.opened (visits_of v.marks ++ visit ∷ []) → IsLegal v.opened.book.value.table (history_of_visits (visits_of v.marks ++ visit ∷ []))
     → Allows (IsTurn k) slots id (v, (0, Some b) ∷ []) 0 (λ _. new) (λ _ after. after ≡ given_back (v, (0, Some b) ∷ []))
 gives_turn k slots id v b visit new unjoined on is few book legal s r count at fits =
     let m : Machine = after (start k.first) r.events in
@@ -257,10 +257,10 @@ gives_turn k slots id v b visit new unjoined on is few book legal s r count at f
     let size : length v.marks ≡ length m.visits = sym (length-visits v.marks) ∙ ap (λ (vs : List (List Entry)). length vs) all in
     let number : v.opened.first + length v.marks ≡ m.count = let c = sh.count in let first : v.opened.first ≡ k.first = ap (λ o. o.first) f.opened in omega arith in
     let w = pass_state v.opened v.claims false (v.marks ++ mark true visit ∷ []) v.met in
-    let entries : b.value.entries ≡ joined (visits_of v.marks) ++ visit = ap (λ x. x.entries) book ∙ joined-snoc (visits_of v.marks) visit in
-    let gained : drop (length (joined (visits_of v.marks))) b.value.entries ≡ visit = ap (λ es. drop (length (joined (visits_of v.marks))) es) entries ∙ drop_all (joined (visits_of v.marks)) visit in
+    let entries : b.value.entries ≡ history_of_visits (visits_of v.marks) ++ visit = ap (λ x. x.entries) book ∙ joined-snoc (visits_of v.marks) visit in
+    let gained : drop (length (history_of_visits (visits_of v.marks))) b.value.entries ≡ visit = ap (λ es. drop (length (history_of_visits (visits_of v.marks))) es) entries ∙ drop_all (history_of_visits (visits_of v.marks)) visit in
     let book_now : b.value ≡ book_after k (m.visits ++ visit ∷ []) = book ∙ (ap (λ vs. book_after v.opened (vs ++ visit ∷ [])) all ∙ ap (λ o. book_after o (m.visits ++ visit ∷ [])) f.opened) in
-    let legal_now : IsLegal k.book.value.table (joined (m.visits ++ visit ∷ [])) = subst (λ (o : Opening). IsLegal o.book.value.table (joined (m.visits ++ visit ∷ []))) f.opened (subst (λ vs. IsLegal v.opened.book.value.table (joined (vs ++ visit ∷ []))) all legal) in (
+    let legal_now : IsLegal k.book.value.table (history_of_visits (m.visits ++ visit ∷ [])) = subst (λ (o : Opening). IsLegal o.book.value.table (history_of_visits (m.visits ++ visit ∷ []))) f.opened (subst (λ vs. IsLegal v.opened.book.value.table (history_of_visits (vs ++ visit ∷ []))) all legal) in (
       w,
       gives,
       tt,

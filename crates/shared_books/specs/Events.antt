@@ -9,7 +9,7 @@ use Rattle.shard_book.specs.declared.entry.Entry.{Entry}
 use Rattle.shared_books.specs.declared.turns.rule.Opening.{Opening}
 use Rattle.shared_books.specs.declared.turns.rule.PassState.{PassState}
 use Rattle.shared_books.specs.Machine.{Machine, Event, taken, given, start, after, IsSchedule}
-use Rattle.shared_books.specs.Marks.{mark, others, visits_of, joined, Begins}
+use Rattle.shared_books.specs.Marks.{mark, others, visits_of, history_of_visits, Begins}
 use Rattle.shared_books.specs.Turns.{Boxed, book_after, HasBook, HoldsTurn, IsTurn}
 use Rattle.shared_books.specs.PassStates.{pass_state}
 
@@ -39,7 +39,7 @@ pub record IsShown (k : Opening) (m : Machine) (s : State (Option Boxed) PassSta
   pub count : m.count ≡ k.first + length m.visits
   pub seen : (seat : ℕ) (v : PassState) → get_elem? s.views seat ≡ some v → v.unjoined ≡ true
       → Begins (visits_of v.marks) m.visits
-  pub legal : IsLegal k.book.value.table (joined m.visits)
+  pub legal : IsLegal k.book.value.table (history_of_visits m.visits)
 
 -- the state is one that a schedule of takes and gives reaches
 pub record IsReached (k : Opening) (s : State (Option Boxed) PassState) : Type 0 where
@@ -90,6 +90,6 @@ GivesAreEvents =
     → get_elem? s.views seat ≡ some v → v.unjoined ≡ true → v.turn ≡ true
     → (visit : List Entry) (book : Boxed)
     → book.value ≡ book_after k (visits_of v.marks ++ visit ∷ [])
-    → IsLegal k.book.value.table (joined (visits_of v.marks ++ visit ∷ []))
+    → IsLegal k.book.value.table (history_of_visits (visits_of v.marks ++ visit ∷ []))
     → (u : IsTurn k (given_back_by s seat v visit book))
     × (u.events ≡ t.events ++ given seat visit ∷ [])

@@ -5,7 +5,7 @@ use Rattle.std.specs.Prelude.{◌++◌, map}
 use Rattle.shard_book.specs.declared.entry.Entry.{Entry}
 use Rattle.shared_books.specs.declared.turns.rule.Mark.{Mark}
 
--- a visit, and whether it is the pass's own
+-- a visit, and whether the pass made it
 abbrev pub mark : Bool → List Entry → Mark
 mark mine visit = record { mine = mine; visit = visit }
 
@@ -18,11 +18,11 @@ abbrev pub visits_of : List Mark → List (List Entry)
 visits_of marks = map (λ m. m.visit) marks
 
 -- the history that visits make
-abbrev pub joined : List (List Entry) → List Entry
-joined [] = []
-joined (visit ∷ visits) = visit ++ joined visits
+abbrev pub history_of_visits : List (List Entry) → List Entry
+history_of_visits [] = []
+history_of_visits (visit ∷ visits) = visit ++ history_of_visits visits
 
--- the pass's own visits, each with its number, where the first mark has the number n
+-- the visits that the pass made, each with its number, where the first mark has the number n
 abbrev pub made_from : ℕ → List Mark → List (ℕ × List Entry)
 made_from n [] = []
 made_from n (m ∷ ms) = cond m.mine ((n, m.visit) ∷ made_from (n + 1) ms) (made_from (n + 1) ms)
@@ -32,7 +32,7 @@ abbrev pub numbered : ℕ → List (List Entry) → List (ℕ × List Entry)
 numbered n [] = []
 numbered n (visit ∷ visits) = (n, visit) ∷ numbered (n + 1) visits
 
--- how many of the marks at place i are the pass's own: 1 or 0
+-- how many of the visits at place i the pass made: 1 or 0
 abbrev pub made_at : ℕ → List Mark → ℕ
 made_at i [] = 0
 made_at zero (m ∷ ms) = cond m.mine 1 0

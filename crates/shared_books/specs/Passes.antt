@@ -7,8 +7,8 @@ use Rattle.shard_book.specs.Book.{Book}
 use Rattle.shard_book.specs.History.{IsLegal}
 use Rattle.shared_books.specs.declared.turns.rule.Mark.{Mark}
 use Rattle.shared_books.specs.Claims.{all_claims, claims_given, claims_left}
-use Rattle.shared_books.specs.Marks.{mark, others, visits_of, joined, made_from, numbered, merged}
-use Rattle.shared_books.specs.Marks.{Apart, Begins}
+use Rattle.shared_books.specs.Marks.{mark, others, visits_of, history_of_visits, made_from}
+use Rattle.shared_books.specs.Marks.{numbered, merged, Apart, Begins}
 
 -- a shared book: which one it is, the number of its first visit, and the table, shard and shards
 -- that it was opened with. They never change
@@ -55,7 +55,12 @@ left_pass pass =
 -- the book after these visits
 abbrev pub book_of : SharedBookView → List (List Entry) → Book
 book_of o visits =
-    record { table = o.table; shard = o.shard; shards = o.shards; entries = joined visits }
+    record {
+      table = o.table;
+      shard = o.shard;
+      shards = o.shards;
+      entries = history_of_visits visits;
+    }
 
 -- the pass has seen visits of others more, and the history that it has seen is legal
 pub record IsLater (old new : PassView) : Type 0 where
@@ -64,7 +69,7 @@ pub record IsLater (old new : PassView) : Type 0 where
   pub claims : new.claims ≡ old.claims
   pub marks : new.marks ≡ old.marks ++ others between
   pub made : made_by new ≡ made_by old
-  pub legal : IsLegal new.book.table (joined (seen_by new))
+  pub legal : IsLegal new.book.table (history_of_visits (seen_by new))
 
 -- the pass made a visit, which stands at its number: before it stand all visits that the pass had
 -- seen, and then others', and the history with it is legal
@@ -76,7 +81,7 @@ pub record Visits (old new : PassView) (number : ℕ) (visit : List Entry) : Typ
   pub number_is : number ≡ old.book.first + length (seen_by old ++ between)
   pub few : number < 2 ^ 62
   pub made : made_by new ≡ made_by old ++ (number, visit) ∷ []
-  pub legal : IsLegal new.book.table (joined (seen_by new))
+  pub legal : IsLegal new.book.table (history_of_visits (seen_by new))
 
 -- the book has as many visits as are counted
 pub record IsFull (pass : PassView) : Type 0 where
@@ -99,6 +104,6 @@ pub record HasMadeAll (pass : PassView) (closed : Book) : Type 0 where
 
 -- the pass made fewer visits than were taken
 pub record LacksVisits (pass : PassView) (held kept : ℕ) : Type 0 where
-  pub own : held ≡ length (made_by pass)
+  pub made : held ≡ length (made_by pass)
   pub fewer : held < kept
   pub seen : length (seen_by pass) ≤ kept

@@ -14,7 +14,7 @@ use Rattle.shared_books.specs.declared.turns.rule.Opening.{Opening}
 use Rattle.shared_books.specs.declared.turns.rule.PassState.{PassState}
 use Rattle.shared_books.specs.Claims.{AreClaims}
 use Rattle.shared_books.specs.Machine.{Machine, Event, start, after, IsSchedule}
-use Rattle.shared_books.specs.Marks.{visits_of, joined, made_at, Begins}
+use Rattle.shared_books.specs.Marks.{visits_of, history_of_visits, made_at, Begins}
 
 -- a book on the heap, as it lies in the slot
 abbrev pub Boxed : Type 0
@@ -27,7 +27,7 @@ book_after k visits =
       table = k.book.value.table;
       shard = k.book.value.shard;
       shards = k.book.value.shards;
-      entries = joined visits;
+      entries = history_of_visits visits;
     }
 
 -- how many of all passes made the visit at place i
@@ -66,7 +66,7 @@ pub record ShowsMachine (k : Opening) (m : Machine) (s : State (Option Boxed) Pa
   pub free : m.holder ≡ none → (slice_index s.words 0 ≡ 2 * m.count) × HasBook k m.visits s
   pub held : (seat : ℕ) → m.holder ≡ some seat → (slice_index s.words 0 ≡ 2 * m.count + 1)
       × (get_elem? s.homes 0 ≡ some none) × HoldsTurn s seat
-  pub legal : IsLegal k.book.value.table (joined m.visits)
+  pub legal : IsLegal k.book.value.table (history_of_visits m.visits)
   pub each : (seat : ℕ) (v : PassState) → get_elem? s.views seat ≡ some v → v.unjoined ≡ true
       → FitsMachine k m seat v
   pub once : (i : ℕ) → i < length m.visits → makers i s.views ≡ 1

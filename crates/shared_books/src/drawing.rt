@@ -100,7 +100,7 @@ impl Draw {
     /// Draws a number that no other drawing gives, or `None` where all are drawn. It waits for
     /// nobody.
     pub fn draw(&self, drawer: &mut Drawer) -> Option<u32>
-        requires own { drawer.old.drawn_from ≡ self.now }
+        requires belongs { drawer.old.drawn_from ≡ self.now }
         ensures some { IfSome result (λ number. (drawer.old.seen ≤ number)
             × (number < self.now.numbers)
             × (drawer.new ≡ record drawer.old {
@@ -129,7 +129,7 @@ impl Draw {
     /// A new drawer, which holds no number and gets half of the claims. The old one keeps all that
     /// it holds. A single claim is lost.
     pub fn split(&self, drawer: &mut Drawer) -> Result<Drawer, NoMemory>
-        requires own { drawer.old.drawn_from ≡ self.now }
+        requires belongs { drawer.old.drawn_from ≡ self.now }
         ensures new { IsOkAnd result (λ new. new
             ≡ record drawer.old { claims = claims_given drawer.old.claims; drawn = [] }) }
         ensures old { drawer.new
@@ -145,7 +145,7 @@ impl Draw {
 
     /// The drawer takes over what another one holds.
     pub fn join(&self, drawer: &mut Drawer, other: Drawer)
-        requires own { drawer.old.drawn_from ≡ self.now }
+        requires belongs { drawer.old.drawn_from ≡ self.now }
         requires other { other.drawn_from ≡ self.now }
         ensures met { HasMet drawer.old other drawer.new }
     {
@@ -163,7 +163,7 @@ impl Draw {
     /// How many numbers were drawn, where the drawer holds them all. So it is where it has all
     /// claims.
     pub fn finish(self, drawer: Drawer) -> Result<u32, DrawMissing>
-        requires own { drawer.drawn_from ≡ self }
+        requires belongs { drawer.drawn_from ≡ self }
         ensures ok { IfOk result (λ drawn. HasAll drawn drawer.drawn × (drawn ≡ length drawer.drawn)
             × IsCount drawn drawer) }
         ensures err { IfErr result (λ missing. (missing.held ≡ length drawer.drawn)

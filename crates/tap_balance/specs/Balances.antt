@@ -9,21 +9,18 @@ use Rattle.std.specs.Option.{unwrap_or}
 use Rattle.std.specs.Ordering.{is_eq, nat_cmp, ordering_then}
 use Rattle.std.specs.declared.cmp.Ordering.{Ordering}
 use Rattle.tap_views.specs.Encoding.{fields_of}
+use Rattle.tap_views.specs.Files.{AreGoodTaps}
 use Rattle.tap_views.specs.Layout.{Tap}
 use Rattle.tap_views.specs.declared.encoder.TapFields.{TapFields}
-use Rattle.tap_views.specs.declared.fault.LayoutFault.{LayoutFault}
-use Rattle.upload_facts.specs.Facts.{IsReadAs, taps_of_batches}
 use Rattle.tap_balance.specs.declared.balance.Balance.{Balance}
 use Rattle.tap_balance.specs.declared.balance.Difference.{Difference}
 use Rattle.tap_balance.specs.declared.balance.Difference.TheVariants.{Missing, Surplus}
 use Rattle.tap_balance.specs.declared.balance.TapKey.{TapKey}
 
--- the good taps of an upload: those of all its batches before its first layout fault, in order
-pub record AreGoodTaps (upload : List ℕ) (taps : List TapFields) : Type 0 where
-  pub batches : List (List Tap)
-  pub fault : Option (ℕ × LayoutFault)
-  pub read : IsReadAs upload batches fault
-  pub all : taps ≡ map fields_of (taps_of_batches batches)
+-- the fields of the good taps of an upload, in their order
+abbrev pub AreGoodFields : List ℕ → List TapFields → Type 0
+AreGoodFields upload fields =
+    (taps : List Tap) × AreGoodTaps upload taps × (fields ≡ map fields_of taps)
 
 -- what a balance keeps a tap by
 abbrev pub key_of : TapFields → TapKey

@@ -6,7 +6,7 @@ ghost use Rattle.std.specs.Prelude.{if◌then◌else◌, false, map, true};
 ghost use Rattle.std.specs.Ordering.{is_eq};
 ghost use Rattle.tap_views.specs.Encoding.{fields_of};
 ghost use Rattle.tap_views.specs.declared.encoder.TapFields.{TapFields};
-ghost use Rattle.tap_balance.specs.Balances.{AreGoodTaps, IsBalance, IsDifference, key_cmp};
+ghost use Rattle.tap_balance.specs.Balances.{AreGoodFields, IsBalance, IsDifference, key_cmp};
 ghost use Rattle.tap_balance.specs.Balances.{key_of, left_at};
 ghost use Rattle.tap_balance.specs.declared.balance.TapKey.{TapKey};
 
@@ -157,7 +157,7 @@ impl Balance {
     /// added before a tap is struck out. Its one error is want of memory, and after it the balance
     /// is of no use.
     pub fn add_upload(&mut self, upload: &[u8]) -> Result<(), AllocError>
-        ensures { OnOk result ((taps : List TapFields) × AreGoodTaps upload.now taps
+        ensures { OnOk result ((taps : List TapFields) × AreGoodFields upload.now taps
             × ((good : List TapFields) → IsBalance self.old good []
             → IsBalance self.new (good ++ taps) [])) }
     {

@@ -9,7 +9,7 @@ ghost use Rattle.tap_views.specs.declared.encoder.TapFields.{TapFields};
 
 /// Taps that are the same by token, moment and validator are one tap; where a tap is told that one
 /// side has more often, the taps of both sides are not the same in any order.
-pub fn differences()
+pub fn differences_are_real()
     ensures same { (tap other : TapFields) → (is_same tap other ≡ true) ↔ (tap ≡ other) }
     ensures apart { (good others : List TapFields) (difference : Difference)
         → IsDifference good others (Some difference) → ¬ (IsPermutation good others) }

@@ -79,7 +79,7 @@ fn write_taps<R: BufRead, W: Write>(
 
 /// The fault of a table that had none when it was read first: then its rows have changed.
 fn when_read_again(fault: RowsFault) -> RowsFault
-    ensures own { IsOfTapTable fault → result ≡ RowsFault.Changed }
+    ensures changed { IsOfTapTable fault → result ≡ RowsFault.Changed }
     ensures other { (¬ (IsOfTapTable fault)) → result ≡ fault }
     ensures none { ¬ (IsOfTapTable result) }
 {

@@ -14,7 +14,7 @@ module _ (shard shards : ℕ) where
   own-step tap taps true is sound more = rw is (
     record {
       is_tap = sound;
-      own = eqb-true _ _ is;
+      in_shard = eqb-true _ _ is;
     },
     more,
   )

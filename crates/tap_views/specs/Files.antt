@@ -1,5 +1,7 @@
 -- A file: batches one after the other, and what is left, which begins with no batch.
-use Rattle.std.specs.Prelude.{◌≡◌, ℕ, ◌-◌, List, [], ◌∷◌, ◌++◌, length, map, Result, Ok, Err}
+use Rattle.std.specs.Prelude.{◌≡◌, ℕ, ◌+◌, ◌-◌, ◌<◌, List, [], ◌∷◌, ◌++◌, length, map, Option}
+use Rattle.std.specs.Prelude.{None, Some, Result, Ok, Err}
+use Rattle.std.specs.List.{flat_map, AllZip}
 use Rattle.tap_views.specs.Layout.{Tap, IsBatch}
 use Rattle.tap_views.specs.Faults.{IsFault}
 use Rattle.tap_views.specs.declared.fault.LayoutFault.{LayoutFault}
@@ -15,6 +17,28 @@ IsFile file [] rest = (file ≡ rest) × HasNoBatch rest
 IsFile file (batch ∷ batches) rest =
     (front : List ℕ) × (back : List ℕ) × IsBatch front batch × (file ≡ front ++ back)
     × IsFile back batches rest
+
+-- what is left of the file behind its batches begins at this offset, and this is its layout fault
+pub record IsFaultAt (file rest : List ℕ) (offset : ℕ) (fault : LayoutFault) : Type 0 where
+  pub some_byte : 0 < length rest
+  pub is_fault : IsFault rest fault
+  pub stands_at : offset + length rest ≡ length file
+
+-- how the file ends behind its batches: with nothing, or with a layout fault
+abbrev pub IsEndAfterBatches : List ℕ → List ℕ → Option (ℕ × LayoutFault) → Type 0
+IsEndAfterBatches file rest None = rest ≡ []
+IsEndAfterBatches file rest (Some (offset, fault)) = IsFaultAt file rest offset fault
+
+-- the good taps of a file: those of all its batches before its first layout fault, in order
+pub record AreGoodTaps (file : List ℕ) (taps : List Tap) : Type 0 where
+  pub batches : List (List Tap)
+  pub rest : List ℕ
+  pub is_file : IsFile file batches rest
+  pub all : taps ≡ flat_map (λ batch. batch) batches
+
+-- the good taps of each file
+abbrev pub AreGoodTapsOfEach : List (List ℕ) → List (List Tap) → Type 0
+AreGoodTapsOfEach files taps = AllZip AreGoodTaps files taps
 
 -- what a reader of a file is given: a batch, or where the file's rest begins and its fault
 abbrev pub Item : Type 0

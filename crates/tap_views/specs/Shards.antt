@@ -23,4 +23,4 @@ run_taps run = run_of run.shard run.shards run.batch
 -- a tap of the shard
 pub record IsShardTap (shard shards : ℕ) (tap : Tap) : Type 0 where
   pub is_tap : IsTap tap
-  pub own : shard_of_token tap.token shards ≡ shard
+  pub in_shard : shard_of_token tap.token shards ≡ shard

@@ -119,11 +119,11 @@ impl<'a> Batch<'a> {
     }
 
     /// The same, where the places of the shard's taps are known.
-    pub(crate) fn run_at<'b>(&'b self, places: &'b [u16], own: u32, shards: u32) -> Run<'b>
-        requires below { own < shards }
+    pub(crate) fn run_at<'b>(&'b self, places: &'b [u16], of_shard: u32, shards: u32) -> Run<'b>
+        requires below { of_shard < shards }
         requires most { shards ≤ 64 }
-        requires places { places.now ≡ places_from own shards 0 self.now }
-        ensures { result ≡ record { batch = self.now; shard = own; shards = shards } }
+        requires places { places.now ≡ places_from of_shard shards 0 self.now }
+        ensures { result ≡ record { batch = self.now; shard = of_shard; shards = shards } }
     {
         let shared = match self.shared {
             None => None,
@@ -133,7 +133,7 @@ impl<'a> Batch<'a> {
             shared,
             records: self.records,
             count: self.count,
-            shard: own,
+            shard: of_shard,
             shards,
             places: Some(places),
         }

@@ -90,7 +90,7 @@ impl<'a> Run<'a> {
     pub fn taps(&self) -> RunTaps<'a>
         ensures taps { result ≡ run_taps self.now }
         ensures most { length result ≤ 4096 }
-        ensures own { AllByRecursion (IsShardTap self.now.shard self.now.shards) result }
+        ensures in_shard { AllByRecursion (IsShardTap self.now.shard self.now.shards) result }
     {
         RunTaps {
             taps: Taps {

@@ -6,9 +6,9 @@ use Rattle.std.proofs.lemmas.List.{length-map, map-append}
 use Rattle.tap_views.specs.Layout.{Tap, Layout, Tap1, Tap2, IsBatch, IsTapOf, magic, spelling}
 use Rattle.std.specs.List.{AllByRecursion}
 use Rattle.tap_views.specs.Faults.{IsFault}
-use Rattle.tap_views.specs.Files.{IsFile, IsReading, IsEnd, Item}
+use Rattle.tap_views.specs.Files.{IsFile, IsReading, IsEnd, Item, IsFaultAt}
 use Rattle.tap_views.specs.declared.fault.LayoutFault.{LayoutFault}
-use Rattle.upload_facts.specs.Facts.{IsFaultAt, taps_of_batches}
+use Rattle.upload_facts.specs.Facts.{taps_of_batches}
 
 -- what a reader is given last is no batch
 no_batch : (offset : ℕ) (rest : List ℕ) (last left : List Item) (batch : List Tap)
@@ -89,9 +89,9 @@ read_fault file done offset fault left r =
           byte ∷ bytes,
           subst P (all ∙ append-nil done) is_file,
           record {
-            some = λ e. absurd (cc);
+            some_byte = omega arith;
             is_fault = subst F which is;
-            place = omega (arith, at, ap length same);
+            stands_at = omega (arith, at, ap length same);
           },
         )
     by_more (batch ∷ more) all then rest is is_file same =

@@ -3,22 +3,10 @@ use Rattle.std.specs.Prelude.{◌≡◌, ℕ, ◌+◌, ◌≤◌, List, [], ◌+
 use Rattle.std.specs.Prelude.{Option, None, Some}
 use Rattle.std.specs.List.{AllByRecursion}
 use Rattle.tap_views.specs.Layout.{Tap, num}
-use Rattle.tap_views.specs.Faults.{IsFault}
-use Rattle.tap_views.specs.Files.{IsFile}
+use Rattle.tap_views.specs.Files.{IsFile, IsEndAfterBatches}
 use Rattle.tap_views.specs.declared.fault.LayoutFault.{LayoutFault}
 use Rattle.upload_facts.specs.declared.facts.Facts.{Facts}
 use Rattle.upload_facts.specs.declared.span.MomentSpan.{MomentSpan}
-
--- what is left of the upload behind its batches begins at this offset, and this is its layout fault
-pub record IsFaultAt (upload rest : List ℕ) (offset : ℕ) (fault : LayoutFault) : Type 0 where
-  pub some : ¬ (rest ≡ [])
-  pub is_fault : IsFault rest fault
-  pub place : offset + length rest ≡ length upload
-
--- how the upload ends behind its batches: with nothing, or with a layout fault
-abbrev pub IsEndAfterBatches : List ℕ → List ℕ → Option (ℕ × LayoutFault) → Type 0
-IsEndAfterBatches upload rest None = rest ≡ []
-IsEndAfterBatches upload rest (Some (offset, fault)) = IsFaultAt upload rest offset fault
 
 -- the upload is these batches, one after the other, and then ends so
 pub record IsReadAs (upload : List ℕ) (batches : List (List Tap)) (fault : Option (ℕ × LayoutFault))

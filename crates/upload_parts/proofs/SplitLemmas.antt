@@ -1,7 +1,6 @@
 -- Taps of uploads, split into parts.
 use Rattle.std.proofs.Common.{ℕ, ◌<◌, List, [], ◌∷◌, ◌++◌, length, get_or, map}
 use Rattle.std.proofs.Common.{sym, ap, ◌∙◌, subst, All, refl}
-use Rattle.std.specs.List.{AllZip}
 use Rattle.std.proofs.lemmas.List.{get_or_default}
 use Rattle.std.proofs.lemmas.List.Elements.{All-append}
 use Rattle.tap_views.specs.Encoding.{fields_of, AreEarly}
@@ -12,7 +11,8 @@ use Rattle.tap_parts.proofs.Adding.{fields-append}
 use Rattle.tap_parts.proofs.Early.{Early, file_early, part_early}
 use Rattle.upload_facts.specs.Facts.{taps_of_batches}
 use Rattle.upload_facts.proofs.ReadingLemmas.{taps_more}
-use Rattle.upload_parts.specs.Split.{AreSplit, AreAllEarly, HasTaps}
+use Rattle.tap_views.specs.Files.{AreGoodTaps, AreGoodTapsOfEach}
+use Rattle.upload_parts.specs.Split.{AreSplit, AreAllEarly}
 use Rattle.tap_parts.specs.Parts.{uploads_joined}
 use Rattle.tap_parts.specs.Uploads.{IsUploadAdded}
 use Rattle.tap_parts.specs.declared.upload.UploadTaps.{UploadTaps}
@@ -20,18 +20,18 @@ use Rattle.tap_parts.specs.declared.upload.UploadTaps.{UploadTaps}
 abbrev AreFieldsEarly : List TapFields → Type 0
 AreFieldsEarly taps = AreEarly (λ (tap : TapFields). tap.moment) taps
 
-upload_early : (upload : List ℕ) (taps : List Tap) → HasTaps upload taps → All Early taps
+upload_early : (upload : List ℕ) (taps : List Tap) → AreGoodTaps upload taps → All Early taps
 upload_early upload taps has =
     subst (λ ts. All Early ts) (sym has.all)
-    (file_early upload has.batches has.read.rest has.read.is_file)
+    (file_early upload has.batches has.rest has.is_file)
 
 -- the taps that were added are those of the upload
 added_taps : (upload : List ℕ) (old new : List (List TapFields)) (end : UploadTaps)
-    → (is : IsUploadAdded upload old new end) → HasTaps upload (taps_of_batches is.batches)
+    → (is : IsUploadAdded upload old new end) → AreGoodTaps upload (taps_of_batches is.batches)
 added_taps upload old new end is = record {
   batches = is.batches;
-  fault = end.fault;
-  read = is.read;
+  rest = is.read.rest;
+  is_file = is.read.is_file;
   all = refl;
 }
 
@@ -48,8 +48,8 @@ added_early upload old new end is all = λ k d within.
     (map fields_of (of_part k (length old) taps)) (all k [] here) early)
 
 zip_more : (uploads : List (List ℕ)) (taps : List (List Tap)) (upload : List ℕ) (more : List Tap)
-    → AllZip HasTaps uploads taps → HasTaps upload more
-    → AllZip HasTaps (uploads ++ upload ∷ []) (taps ++ more ∷ [])
+    → AreGoodTapsOfEach uploads taps → AreGoodTaps upload more
+    → AreGoodTapsOfEach (uploads ++ upload ∷ []) (taps ++ more ∷ [])
 zip_more [] [] upload more zip has = (has, tt)
 zip_more [] (ts ∷ taps) upload more zip has = absurd zip
 zip_more (u ∷ uploads) [] upload more zip has = absurd zip

@@ -1,22 +1,14 @@
 -- Uploads that are split by token into parts.
-use Rattle.std.specs.Prelude.{◌≡◌, ℕ, ◌<◌, List, [], length, map, All, Option}
+use Rattle.tap_views.specs.Files.{AreGoodTapsOfEach}
+use Rattle.std.specs.Prelude.{◌≡◌, ℕ, ◌<◌, List, [], length, map, All}
 use Rattle.std.specs.Prelude.{slice_index_or}
-use Rattle.std.specs.List.{AllZip}
 use Rattle.tap_views.specs.Encoding.{fields_of, AreEarly}
 use Rattle.tap_views.specs.Layout.{Tap}
 use Rattle.tap_views.specs.declared.encoder.TapFields.{TapFields}
-use Rattle.tap_views.specs.declared.fault.LayoutFault.{LayoutFault}
 use Rattle.tap_parts.specs.Parts.{IsFileOf, of_part, uploads_joined}
 use Rattle.tap_parts.specs.declared.upload.UploadTaps.{UploadTaps}
 use Rattle.upload_facts.specs.Facts.{IsReadAs, taps_of_batches}
 use Rattle.tap_parts.specs.Canonical.{IsCanonical}
-
--- the upload has these taps before its first layout fault
-pub record HasTaps (upload : List ℕ) (taps : List Tap) : Type 0 where
-  pub batches : List (List Tap)
-  pub fault : Option (ℕ × LayoutFault)
-  pub read : IsReadAs upload batches fault
-  pub all : taps ≡ taps_of_batches batches
 
 -- the upload's end has its first layout fault, if it has one, and the number of taps before it
 pub record IsSplitEnd (upload : List ℕ) (end : UploadTaps) : Type 0 where
@@ -28,7 +20,7 @@ pub record IsSplitEnd (upload : List ℕ) (end : UploadTaps) : Type 0 where
 pub record AreSplit (parts : ℕ) (uploads : List (List ℕ)) (lists : List (List TapFields))
     : Type 0 where
   pub taps : List (List Tap)
-  pub of_uploads : AllZip HasTaps uploads taps
+  pub of_uploads : AreGoodTapsOfEach uploads taps
   pub number : length lists ≡ parts
   pub each : (part : ℕ) → part < parts
       → slice_index_or lists part [] ≡ map fields_of (of_part part parts (uploads_joined taps))
@@ -37,7 +29,7 @@ pub record AreSplit (parts : ℕ) (uploads : List (List ℕ)) (lists : List (Lis
 -- order
 pub record IsSplitFile (uploads : List (List ℕ)) (parts part : ℕ) (file : List ℕ) : Type 0 where
   pub taps : List (List Tap)
-  pub of_uploads : AllZip HasTaps uploads taps
+  pub of_uploads : AreGoodTapsOfEach uploads taps
   pub list : List TapFields
   pub canonical : IsCanonical (map fields_of (of_part part parts (uploads_joined taps))) list
   pub reads : IsFileOf file list

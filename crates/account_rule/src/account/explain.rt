@@ -22,7 +22,7 @@ impl Account {
     /// Table, token and tap are those of `step`. It takes no memory.
     pub fn explain(&self, table: &FareTable, token: &[u8], tap: TapIn) -> Reason
         requires token { length token.now ≡ 16 }
-        requires mode { ForSome tap.mode (λ mode. mode.place < length table.now.rules.modes) }
+        requires mode { ForSome tap.mode (λ mode. mode.place < length table.now.meaning.modes) }
         requires until { tap.until ≡ until table.now tap.moment }
         requires stands { StandsForSome (rules_of table.now token.now) self.now }
 

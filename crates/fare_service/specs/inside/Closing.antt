@@ -11,9 +11,9 @@ use Rattle.fare_service.specs.declared.faults.GatherFault.TheVariants.{NoMemory,
 use Rattle.shared_books.specs.Drawing.{AllBelow, NoneTwice, times}
 use Rattle.shared_books.specs.Claims.{all_claims}
 use Rattle.fare_service.specs.Claims.{claims_at}
-use Rattle.fare_service.specs.Limits.{KeepsLimits}
+use Rattle.fare_service.specs.Limits.{BookKeepsLimits}
 use Rattle.fare_service.specs.ShareView.{ShareView}
-use Rattle.fare_service.specs.Shares.{marks_at, own_at}
+use Rattle.fare_service.specs.Shares.{marks_at, made_visits_at}
 use Rattle.fare_service.specs.Closing.{IsHistoryOf}
 
 -- the book of a shard was closed by its pass, which had made all visits
@@ -22,7 +22,7 @@ pub record IsClosedBy (passes : List PassView) (shard : ℕ) (book : Book) : Typ
   pub at : slice_get passes shard ≡ Some pass
   pub all : HasMadeAll pass book
   pub legal : IsLegal book.table book.entries
-  pub limits : KeepsLimits book
+  pub limits : BookKeepsLimits book
 
 -- each book is what closing it by these passes gives
 abbrev pub AreClosed : List PassView → List Book → Type 0
@@ -35,7 +35,7 @@ pub record IsUnseen (opened : List SharedBookView) (shard : ℕ) (book : Book) :
   pub at : slice_get opened shard ≡ Some shared
   pub none : book ≡ book_of shared []
   pub legal : IsLegal book.table book.entries
-  pub limits : KeepsLimits book
+  pub limits : BookKeepsLimits book
 
 -- each book is as it was opened
 abbrev pub AreUnseen : List SharedBookView → List Book → Type 0
@@ -48,7 +48,7 @@ pub record IsAppended (end : Result Book LackingVisits) (before after : List Boo
   pub is : end ≡ Ok book
   pub appended : after ≡ before ++ book ∷ []
   pub legal : IsLegal book.table book.entries
-  pub limits : KeepsLimits book
+  pub limits : BookKeepsLimits book
 
 -- a closing lacked visits to the shard, as many as the fault says
 pub record TellsMissing (shard : ℕ) (end : Result Book LackingVisits) (fault : GatherFault)
@@ -60,7 +60,7 @@ pub record TellsMissing (shard : ℕ) (end : Result Book LackingVisits) (fault :
 -- visits to a shard are missing
 abbrev pub IsMissing : ℕ → List PassView → GatherFault → Type 0
 IsMissing shards passes (Missing shard held kept) =
-    (shard < shards) × (held ≡ length (own_at shard passes)) × (held < kept)
+    (shard < shards) × (held ≡ length (made_visits_at shard passes)) × (held < kept)
 IsMissing shards passes NoMemory = ⊥
 IsMissing shards passes (Drawn held drawn) = ⊥
 

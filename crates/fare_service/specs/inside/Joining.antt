@@ -12,7 +12,7 @@ use Rattle.fare_service.specs.Claims.{claims_at}
 use Rattle.fare_service.specs.Faults.{visits_held}
 use Rattle.fare_service.specs.Headline.{Signed, by_worker}
 use Rattle.fare_service.specs.ShareView.{ShareView}
-use Rattle.fare_service.specs.Shares.{books_of, own_visits, marks_at, own_at}
+use Rattle.fare_service.specs.Shares.{books_of, made_visits, marks_at, made_visits_at}
 use Rattle.std.specs.List.{AllZip}
 
 -- the ends with those of some uploads, of which the last counts
@@ -40,7 +40,7 @@ pub record AreJoined (old other new : List Mark) : Type 0 where
   pub marks : new ≡ merged old other
   pub apart : Apart old other
   pub begins : Begins (visits_of old) (visits_of other) ⊎ Begins (visits_of other) (visits_of old)
-  pub held : length (own_visits new) ≡ length (own_visits old) + length (own_visits other)
+  pub held : length (made_visits new) ≡ length (made_visits old) + length (made_visits other)
 
 -- the passes to a shard were joined
 abbrev pub AreJoinedAt : ℕ → List PassView → List PassView → List PassView → Type 0
@@ -52,8 +52,8 @@ pub record AreSignedAt (nobody shard : ℕ) (shares : List ShareView) (passes : 
     : Type 0 where
   pub signs : List Signed
   pub of_marks : AreSigns (length shares) nobody signs (marks_at shard passes)
-  pub own : (worker : ℕ) (share : ShareView) → slice_get shares worker ≡ Some share
-      → by_worker worker signs ≡ own_at shard share.passes
+  pub made : (worker : ℕ) (share : ShareView) → slice_get shares worker ≡ Some share
+      → by_worker worker signs ≡ made_visits_at shard share.passes
 
 -- the share belongs to the drawing and to the books
 pub record Belongs (drawing : Drawing) (books : List SharedBookView) (share : ShareView)
@@ -72,6 +72,6 @@ pub record IsJoinedOf (drawing : Drawing) (books : List SharedBookView) (nobody 
   pub seen : All (λ share. share.drawer.seen ≤ drawer.seen) shares
   pub of_books : books_of passes ≡ books
   pub signed : (shard : ℕ) → AreSignedAt nobody shard shares passes
-  pub held : (shard : ℕ) → length (own_at shard passes) ≡ visits_held shard shares
+  pub held : (shard : ℕ) → length (made_visits_at shard passes) ≡ visits_held shard shares
   pub longest : (shard : ℕ)
       → All (λ share. length (marks_at shard share.passes) ≤ length (marks_at shard passes)) shares

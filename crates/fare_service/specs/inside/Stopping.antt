@@ -4,7 +4,7 @@ use Rattle.shard_book.specs.declared.entry.Entry.{Entry}
 use Rattle.shared_books.specs.Passes.{PassView}
 use Rattle.fare_service.specs.ServiceView.{ServiceView}
 use Rattle.fare_service.specs.ShareView.{ShareView}
-use Rattle.fare_service.specs.Shares.{own_at, WentOn}
+use Rattle.fare_service.specs.Shares.{made_visits_at, WentOn}
 use Rattle.fare_service.specs.declared.service.working.Stop.{Stop}
 use Rattle.fare_service.specs.declared.service.working.Stop.TheVariants.{Memory, Full}
 use Rattle.fare_service.specs.Stopping.{SomeFull, StoppedWell}
@@ -19,7 +19,7 @@ TellsFull answer old new = SomeFull old ⊎ IsErrOf answer Full → SomeFull new
 abbrev pub TellsMemory : ℕ → Result (Unit {0}) Stop → List PassView → List PassView → Type 0
 TellsMemory shard answer old new =
     IsErrOf answer Memory → (new ≡ old)
-    ⊎ ((visit : List Entry) × (own_at shard new ≡ own_at shard old ++ visit ∷ []))
+    ⊎ ((visit : List Entry) × (made_visits_at shard new ≡ made_visits_at shard old ++ visit ∷ []))
 
 -- What a worker gives back of its share: the share as it was, or what it did with it until it
 -- stopped. It keeps the share's claims.

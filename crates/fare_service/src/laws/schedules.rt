@@ -13,7 +13,8 @@ ghost use Rattle.shard_book.specs.History.{IsLegal};
 ghost use Rattle.fare_table.specs.Token.{bytes_of};
 ghost use Rattle.shard_book.specs.Visits.{AreEntriesOf};
 ghost use Rattle.fare_service.specs.Headline.{Headline};
-ghost use Rattle.fare_service.specs.Plain.{ArePlainEnds, AreTapsOf, HasOneReading, IsNamed};
+ghost use Rattle.tap_views.specs.Files.{AreGoodTaps};
+ghost use Rattle.fare_service.specs.Plain.{ArePlainEnds, HasOneReading, IsNamed};
 ghost use Rattle.fare_service.specs.Plain.{IsPlain, IsReportOver, IsStatementOver};
 ghost use Rattle.fare_service.specs.Plain.{IsUncutGathering, WasNotCut};
 ghost use Rattle.fare_service.specs.Printed.{IsStatementOf, report_of};
@@ -21,12 +22,12 @@ ghost use Rattle.fare_service.specs.Shares.{Worked};
 
 use crate::outcome::Outcome;
 use crate::upload_end::UploadEnd;
-use shard_book::laws::rising;
+use shard_book::laws::one_rising_list;
 use tap_views::laws::one_reading;
 
 /// The tokens of an outcome's books are those that their bytes name, and are of their book's shard.
 /// Reads no entry.
-pub fn names(outcome: &Outcome)
+pub fn tokens_are_named(outcome: &Outcome)
     ensures named { (shard : ℕ) (book : Book) → slice_get outcome.now.books shard ≡ Some book
         → All IsNamed book.entries }
     ensures here { (shard : ℕ) (book : Book) → slice_get outcome.now.books shard ≡ Some book
@@ -49,7 +50,7 @@ pub fn one_reading_each(uploads: &[Vec<u8>])
 
 /// A file has taps before its first layout fault, and its bytes are bytes.
 fn taps_of(file: &[u8])
-    ensures taps { (taps : List Tap) × AreTapsOf file.now taps }
+    ensures taps { (taps : List Tap) × AreGoodTaps file.now taps }
     ensures bytes { All (λ byte. byte < 256) file.now }
 {
     let _ = tap_views::batches(file);
@@ -78,7 +79,7 @@ pub fn plain_history(uploads: &[Vec<u8>])
 /// Where no upload was cut or left undrawn and no token has taps in two uploads, the entries of
 /// each token are those of the plain history of the uploads, and so is the text of its statement:
 /// for every schedule, number of workers and number of shards.
-pub fn statements(uploads: &[Vec<u8>], outcome: &Outcome)
+pub fn statements_are_plain(uploads: &[Vec<u8>], outcome: &Outcome)
     ensures entries { (fares : Fares) (shards : ℕ) (history : List Entry)
         → IsUncutGathering fares shards
         (map (λ upload. upload.items) uploads.now) outcome.now history
@@ -92,12 +93,12 @@ pub fn statements(uploads: &[Vec<u8>], outcome: &Outcome)
         ↔ IsStatementOver fares history token text }
 {
     let _ = outcome.shards();
-    names(outcome);
+    tokens_are_named(outcome);
     one_reading_each(uploads);
 }
 
 /// Where no upload was cut or left undrawn, each ends as its bytes call for.
-pub fn ends(outcome: &Outcome)
+pub fn uncut_ends_are_plain(outcome: &Outcome)
     ensures { (fares : Fares) (shards : ℕ) (uploads : List (List ℕ)) (works : List (List Worked))
         → Headline fares shards uploads works outcome.now → All WasNotCut outcome.now.ends
         → ArePlainEnds uploads outcome.now.ends }
@@ -108,16 +109,16 @@ pub fn ends(outcome: &Outcome)
 /// Where no upload was cut or left undrawn and no token has taps in two uploads, the report is that
 /// of the plain history of the uploads, each upload posted or refused as its bytes call for: for
 /// every schedule, number of workers and number of shards.
-pub fn report(uploads: &[Vec<u8>], outcome: &Outcome)
+pub fn report_is_plain(uploads: &[Vec<u8>], outcome: &Outcome)
     ensures { (fares : Fares) (shards : ℕ) (history : List Entry)
         → IsUncutGathering fares shards
         (map (λ upload. upload.items) uploads.now) outcome.now history
         → IsReportOver (map (λ upload. upload.items) uploads.now) history (report_of outcome.now) }
 {
     let _ = outcome.shards();
-    names(outcome);
+    tokens_are_named(outcome);
     one_reading_each(uploads);
-    rising();
+    one_rising_list();
 }
 
 /// Two outcomes over the same uploads and under one table have the same report and the same text of
@@ -136,10 +137,10 @@ pub fn same_texts(uploads: &[Vec<u8>], one: &Outcome, other: &Outcome)
 {
     plain_history(uploads);
     one_reading_each(uploads);
-    report(uploads, one);
-    report(uploads, other);
-    statements(uploads, one);
-    statements(uploads, other);
+    report_is_plain(uploads, one);
+    report_is_plain(uploads, other);
+    statements_are_plain(uploads, one);
+    statements_are_plain(uploads, other);
 }
 
 /// Whether the upload ended by itself: posted, or refused by a layout fault.

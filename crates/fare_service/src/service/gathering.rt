@@ -14,7 +14,7 @@ ghost use Rattle.fare_service.specs.inside.Closing.{LacksClaims, NoneMissing};
 ghost use Rattle.fare_service.specs.inside.Joining.{AreJoinedAt, Belongs, IsJoinedOf, told};
 ghost use Rattle.fare_service.specs.inside.Joining.{told_all};
 ghost use Rattle.fare_service.specs.Faults.{IsForMemory, IsGatherFault};
-ghost use Rattle.fare_service.specs.Shares.{books_of, own_at};
+ghost use Rattle.fare_service.specs.Shares.{books_of, made_visits_at};
 
 use crate::faults::GatherFault;
 use crate::outcome::Outcome;
@@ -118,7 +118,7 @@ fn close_all(
     passes: Vec<Pass>,
     closed: &mut Vec<ShardBook>,
 ) -> Result<(), GatherFault>
-    requires own { books_of passes.items ≡ books.items }
+    requires belong { books_of passes.items ≡ books.items }
     requires few { length books.items ≤ 64 }
     requires empty { closed.old.items ≡ [] }
     requires room { length books.items ≤ vec_capacity closed.old }
@@ -178,7 +178,7 @@ fn push_closed(
         Ok(book) => {
             // proof: the book is legal, and its windows keep the limits
             let _entries = book.len();
-            laws::windows(&book);
+            laws::book_keeps_limits(&book);
             closed.push_reserved(book);
             Ok(())
         }

@@ -126,11 +126,11 @@ impl<'a> Service<'a> {
     ghost use Rattle.fare_service.specs.ServiceView.{shards_of};
     ghost use Rattle.tap_views.specs.Runs.{AreRuns};
     ghost use Rattle.tap_views.specs.Layout.{Tap};
-    ghost use Rattle.tap_views.specs.Files.{IsFile};
+    ghost use Rattle.tap_views.specs.Files.{IsFile, IsEndAfterBatches};
     ghost use Rattle.fare_service.specs.Runs.{RunVisit, if_any, of_shard, placed_from, runs_below};
     ghost use Rattle.fare_service.specs.Runs.{runs_of};
     ghost use Rattle.fare_service.specs.inside.Runs.{WerePosted};
-    ghost use Rattle.fare_service.specs.Shares.{Made, books_of, IsFaultOf, IsShareOf, IsWorked};
+    ghost use Rattle.fare_service.specs.Shares.{HasVisited, books_of, IsShareOf, IsWorked};
     ghost use Rattle.fare_service.specs.Shares.{WentOn};
     ghost use Rattle.fare_service.specs.inside.Shares.{worked};
     ghost use Rattle.fare_service.specs.Plain.{WasNotCut};
@@ -155,7 +155,7 @@ impl<'a> Service<'a> {
         requires clock { buffers.old.clock ≡ self.now.table.zone }
         requires room { posting.old.totals.taps + 4096 ≤ 2 ^ 95 }
         ensures made { (place : ℕ) → (more : List RunVisit)
-            × Made (shards_of self.now) posting.old.passes.items posting.new.passes.items
+            × HasVisited (shards_of self.now) posting.old.passes.items posting.new.passes.items
             (sums_of posting.old.totals) (sums_of posting.new.totals) more
             × WerePosted (if_any shard
             (of_shard shard (shards_of self.now) (placed_from place batch.now)))
@@ -201,7 +201,7 @@ impl<'a> Service<'a> {
         requires runs { length buffers.old.runs ≡ shards_of self.now }
         requires room { posting.old.totals.taps + 2 ^ 18 ≤ 2 ^ 95 }
         ensures made { (place : ℕ) → (more : List RunVisit)
-            × Made (shards_of self.now) posting.old.passes.items posting.new.passes.items
+            × HasVisited (shards_of self.now) posting.old.passes.items posting.new.passes.items
             (sums_of posting.old.totals) (sums_of posting.new.totals) more
             × WerePosted (runs_below (shards_of self.now) (shards_of self.now)
             (placed_from place batch.now)) (is_ok result) more }
@@ -230,11 +230,11 @@ impl<'a> Service<'a> {
         requires runs { length buffers.old.runs ≡ shards_of self.now }
         requires room { posting.old.totals.taps + 2 ^ 60 ≤ 2 ^ 94 }
         ensures made { (batches : List (List Tap)) × (rest : List ℕ) × IsFile file.now batches rest
-            × ((more : List RunVisit) × Made
+            × ((more : List RunVisit) × HasVisited
             (shards_of self.now) posting.old.passes.items posting.new.passes.items
             (sums_of posting.old.totals) (sums_of posting.new.totals) more
             × WerePosted (runs_of (shards_of self.now) 0 batches) (is_ok result) more)
-            × IfOk result (IsFaultOf file.now rest) }
+            × IfOk result (IsEndAfterBatches file.now rest) }
         ensures clock { buffers.new.run.clock ≡ buffers.old.run.clock }
         ensures runs { length buffers.new.runs ≡ length buffers.old.runs }
         ensures few { posting.new.totals.taps ≤ posting.old.totals.taps + 2 ^ 60 }
@@ -268,7 +268,7 @@ impl<'a> Service<'a> {
         requires runs { length buffers.old.runs ≡ shards_of self.now }
         requires room { posting.old.totals.taps + 2 ^ 60 ≤ 2 ^ 94 }
         ensures worked { (visits : List RunVisit)
-            × Made (shards_of self.now) posting.old.passes.items posting.new.passes.items
+            × HasVisited (shards_of self.now) posting.old.passes.items posting.new.passes.items
             (sums_of posting.old.totals) (sums_of posting.new.totals) visits
             × IsWorked self.now (worked upload result.0 visits) }
         ensures clock { buffers.new.run.clock ≡ buffers.old.run.clock }
@@ -313,7 +313,7 @@ impl<'a> Service<'a> {
               drawn = drawer.old.drawn ++ next.0.upload ∷ [];
             })) }
         ensures worked { IfSome result (λ next. (visits : List RunVisit)
-            × Made (shards_of self.now) posting.old.passes.items posting.new.passes.items
+            × HasVisited (shards_of self.now) posting.old.passes.items posting.new.passes.items
             (sums_of posting.old.totals) (sums_of posting.new.totals) visits
             × IsWorked self.now (worked next.0.upload next.0.end visits)) }
         ensures few { posting.new.totals.taps ≤ posting.old.totals.taps + 2 ^ 60 }

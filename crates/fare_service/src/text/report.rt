@@ -9,7 +9,7 @@ ghost use Rattle.std.specs.List.{flat_map};
 ghost use Rattle.fare_texts.specs.Counts.{counts, totals_line};
 ghost use Rattle.fare_service.specs.Text.{report, uploads_section, validators_section};
 ghost use Rattle.fare_service.specs.Text.{section_head, upload_line, upload_lines};
-ghost use Rattle.fare_service.specs.Text.{validator_line, token_line};
+ghost use Rattle.fare_texts.specs.SumLines.{token_line, validator_line};
 
 use crate::upload_end::UploadEnd;
 use fare_texts::{write_counts, write_totals};
@@ -98,7 +98,6 @@ fn write_validator_lines(text: &mut String, sums: &[ValidatorSum]) -> Result<(),
 }
 
 /// The line `validator 9 taps 1 paid 0 ..`.
-#[tactic(auto, using(crate::proofs::Parts::in_parts))]
 fn write_validator(text: &mut String, sum: &ValidatorSum) -> Result<(), AllocError>
     ensures { OnOk result (string_bytes text.new ≡ string_bytes text.old
         ++ validator_line (validator_sum sum.now)) }

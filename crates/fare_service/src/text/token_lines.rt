@@ -9,7 +9,7 @@ ghost use Rattle.shard_book.specs.Shown.{token_sum};
 ghost use Rattle.shard_book.specs.Sums.{sums_of};
 ghost use Rattle.fare_table.specs.Token.{bytes_of};
 ghost use Rattle.fare_texts.specs.Counts.{first_counts, last_counts};
-ghost use Rattle.fare_service.specs.Text.{token_line};
+ghost use Rattle.fare_texts.specs.SumLines.{token_line};
 ghost use Rattle.fare_texts.specs.declared.print_fault.PrintFault.TheVariants.{Write as ForWrite};
 
 use crate::text::line::Line;
@@ -115,8 +115,8 @@ fn put_live_counts(line: &mut Line, totals: &Totals)
 #[inline(always)]
 fn put_name(line: &mut Line, token: Token)
     requires { length line.old ≤ 334 }
-    ensures { line.new ≡ (codes "token " ++ (encode_lower (bytes_of token) ++ codes " "))
-        ++ line.old }
+    ensures { line.new ≡ codes "token "
+        ++ (encode_lower (bytes_of token) ++ (codes " " ++ line.old)) }
 {
     line.put(b" ");
     line.put_digits(&token.bytes());

@@ -2,7 +2,7 @@
 use Rattle.std.specs.Prelude.{◌≡◌, ◌≤◌, true, All, length, map, string_bytes}
 use Rattle.std.specs.Map.{values_of}
 use Rattle.fare_table.specs.Fares.{Fares}
-use Rattle.fare_table.specs.Terms.{HasLimits}
+use Rattle.fare_table.specs.Terms.{AreBoundedTerms}
 use Rattle.fare_table.specs.Zone.{zone_rule, zone_text}
 use Rattle.fare_table.specs.declared.table.TableData.{TableData}
 use Rattle.fare_table.specs.Validators.{are_modes_below}
@@ -10,7 +10,7 @@ use Rattle.fare_table.specs.Validators.{are_modes_below}
 -- what contracts see of the parts of a table
 abbrev pub fares_of : TableData → Fares
 fares_of parts = record {
-  rules = record {
+  meaning = record {
     modes = map string_bytes parts.modes.items;
     transfers = parts.transfers;
     standard = parts.standard;
@@ -21,9 +21,9 @@ fares_of parts = record {
   zone = zone_rule parts.zone;
 }
 
--- at most 32 modes, ranges of modes of the table, and terms within their limits
+-- at most 32 modes, ranges of modes of the table, and terms within their bounds
 pub record AreSound (parts : TableData) : Type 0 where
   pub few : length parts.modes.items ≤ 32
   pub known : are_modes_below (length parts.modes.items) parts.ranges ≡ true
-  pub standard : HasLimits parts.standard
-  pub riders : All HasLimits (values_of parts.riders)
+  pub standard : AreBoundedTerms parts.standard
+  pub riders : All AreBoundedTerms (values_of parts.riders)

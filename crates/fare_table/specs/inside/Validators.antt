@@ -3,11 +3,11 @@ use Rattle.std.specs.Prelude.{◌≡◌, ℕ, ◌+◌, ◌&&◌, Bool, true, fal
 use Rattle.std.specs.Prelude.{None, length, map, nat_le, nat_lt, if◌then◌else◌}
 use Rattle.std.specs.List.{AllWithin}
 use Rattle.std.specs.Option.{option_or}
-use Rattle.fare_table.specs.declared.validators.Span.{Span}
+use Rattle.fare_table.specs.declared.validators.RangeRest.{RangeRest}
 use Rattle.fare_table.specs.Validators.{stand_apart}
 
 -- the last range that begins at the number or before it, of ranges that rise
-abbrev pub last_begun : ℕ → List (ℕ × Span) → Option (ℕ × Span)
+abbrev pub last_begun : ℕ → List (ℕ × RangeRest) → Option (ℕ × RangeRest)
 last_begun number [] = None
 last_begun number (range ∷ more) =
     if nat_le range.0 number then option_or (last_begun number more) (Some range) else None
@@ -19,7 +19,7 @@ is_rising (first ∷ []) = true
 is_rising (first ∷ next ∷ more) = nat_lt first next && is_rising (next ∷ more)
 
 -- ranges that rise and stand apart, and their first numbers
-pub record AreSearchable (ranges : List (ℕ × Span)) (firsts : List ℕ) : Type 0 where
+pub record AreSearchable (ranges : List (ℕ × RangeRest)) (firsts : List ℕ) : Type 0 where
   pub apart : stand_apart ranges ≡ true
   pub same : firsts ≡ map (λ range. range.0) ranges
 

@@ -3,7 +3,7 @@ ghost use Rattle.std.specs.Prelude.{◌≡◌, ◌≤◌, IfOk, option_map};
 ghost use Rattle.toml.specs.View.{view, table_view};
 ghost use Rattle.fare_table.specs.Classes as spec;
 ghost use Rattle.fare_table.specs.inside.OrFault.{seen_through};
-ghost use Rattle.fare_table.specs.Terms.{HasLimits};
+ghost use Rattle.fare_table.specs.Terms.{AreBoundedTerms};
 
 use super::members::{hold_tables, number_at, number_in, of_kind, optional, table_at, text_at};
 use crate::fault::{Key, TableFault};
@@ -46,7 +46,7 @@ fn checked(classes: &Table) -> Result<(), TableFault>
 /// The terms of a value, where it is a table.
 fn class_in(value: &Value) -> Result<Terms, TableFault>
     ensures terms { result ≡ spec.class_in (view value.now) }
-    ensures limits { IfOk result HasLimits }
+    ensures bounds { IfOk result AreBoundedTerms }
 {
     class_of(of_kind(value.as_table(), Key::Classes)?)
 }
@@ -55,7 +55,7 @@ fn class_in(value: &Value) -> Result<Terms, TableFault>
 #[tactic(auto, unfolding(crate::specs::Classes::class_of))]
 fn class_of(element: &Table) -> Result<Terms, TableFault>
     ensures terms { result ≡ spec.class_of (table_view element.now) }
-    ensures limits { IfOk result HasLimits }
+    ensures bounds { IfOk result AreBoundedTerms }
 {
     let fare = number_at(element, "fare", Key::Fare, 1, 100_000)?;
     let rides = number_at(element, "rides", Key::Rides, 1, 1_000)?;
@@ -84,7 +84,7 @@ fn ceiling_of(price: u32, value: Option<&Value>) -> Result<u32, TableFault>
 /// The terms of the class of this name.
 pub(crate) fn class_named(classes: &Table, name: &str) -> Result<Terms, TableFault>
     ensures terms { result ≡ spec.class_named (table_view classes.now) name.now }
-    ensures limits { IfOk result HasLimits }
+    ensures bounds { IfOk result AreBoundedTerms }
 {
     let Some(value) = optional(classes, name) else {
         return Err(TableFault::Rider);
@@ -96,7 +96,7 @@ pub(crate) fn class_named(classes: &Table, name: &str) -> Result<Terms, TableFau
 #[tactic(auto, unfolding(crate::specs::Classes::default_of))]
 pub(crate) fn default_of(classes: &Table, table: &Table) -> Result<Terms, TableFault>
     ensures terms { result ≡ spec.default_of (table_view classes.now) (table_view table.now) }
-    ensures limits { IfOk result HasLimits }
+    ensures bounds { IfOk result AreBoundedTerms }
 {
     class_named(classes, text_at(table, "default_class", Key::DefaultClass)?)
 }

@@ -4,7 +4,7 @@ ghost use Rattle.std.specs.Map.{keys_of, values_of};
 ghost use Rattle.toml.specs.View.{view, table_view};
 ghost use Rattle.fare_table.specs.inside.OrFault.{Answers};
 ghost use Rattle.fare_table.specs.Riders as spec;
-ghost use Rattle.fare_table.specs.Terms.{HasLimits};
+ghost use Rattle.fare_table.specs.Terms.{AreBoundedTerms};
 ghost use Rattle.fare_table.specs.Token.{Fits, by_bytes};
 
 use super::classes::class_named;
@@ -23,7 +23,7 @@ use toml::{Table, Value};
 pub(crate) fn riders_of(alloc: Global, classes: &Table, table: &Table) -> Result<Riders, TableFault>
     ensures answer { Answers (λ r. r) result
         (spec.riders_of (table_view classes.now) (table_view table.now)) }
-    ensures limits { IfOk result (λ r. All HasLimits (values_of r)) }
+    ensures bounds { IfOk result (λ r. All AreBoundedTerms (values_of r)) }
 {
     let Some(value) = optional(table, "riders") else {
         return Ok(Riders::new(alloc, BTreeMap::new(alloc))?);
@@ -45,7 +45,7 @@ fn riders_from(
     ensures answer { Answers (λ m. by_bytes m.entries) result
         (spec.riders_from (table_view classes.now) [] (table_view members.now)) }
     ensures fits { IfOk result (λ m. All Fits (keys_of m.entries)) }
-    ensures limits { IfOk result (λ m. All HasLimits (values_of (by_bytes m.entries))) }
+    ensures bounds { IfOk result (λ m. All AreBoundedTerms (values_of (by_bytes m.entries))) }
 {
     let mut riders = BTreeMap::new(alloc);
     for (key, value) in members {
@@ -62,7 +62,7 @@ fn riders_from(
 /// The token of a rider and the terms of the class that the value names.
 fn rider_of(classes: &Table, key: &str, value: &Value) -> Result<([u8; 16], Terms), TableFault>
     ensures rider { result ≡ spec.rider_of (table_view classes.now) key.now (view value.now) }
-    ensures limits { IfOk result (λ rider. HasLimits rider.1) }
+    ensures bounds { IfOk result (λ rider. AreBoundedTerms rider.1) }
 {
     let token = token_of_digits(key)?;
     let name = of_kind(value.as_str(), Key::Riders)?;

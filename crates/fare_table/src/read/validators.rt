@@ -11,7 +11,7 @@ ghost use Rattle.fare_table.specs.inside.Validators.{last_begun};
 use super::members::{are_tables, array_at, number_at, of_kind, text_at};
 use super::modes::mode_named;
 use crate::fault::{Key, TableFault};
-use crate::validators::{Ranges, Span};
+use crate::validators::{RangeRest, Ranges};
 use std::alloc::Global;
 use std::collections::BTreeMap;
 use toml::value::Array;
@@ -44,7 +44,7 @@ fn ranges_from(
     alloc: Global,
     modes: &[String],
     array: &Array,
-) -> Result<BTreeMap<u32, Span>, TableFault>
+) -> Result<BTreeMap<u32, RangeRest>, TableFault>
     requires { length modes.now ≤ 32 }
     ensures answer { Answers (λ m. m.entries) result
         (spec.ranges_from (map string_bytes modes.now) [] (array_view array.now)) }
@@ -53,41 +53,41 @@ fn ranges_from(
 {
     let mut ranges = BTreeMap::new(alloc);
     for value in array {
-        let (first, span) = range_in(modes, value)?;
-        if shares_number(&ranges, first, span) {
+        let (first, rest) = range_in(modes, value)?;
+        if shares_number(&ranges, first, rest) {
             return Err(TableFault::Overlap);
         }
-        ranges.insert(first, span)?;
+        ranges.insert(first, rest)?;
     }
     Ok(ranges)
 }
 
 /// Whether an earlier range shares a number with this one. The last range that begins no later than
 /// this one ends is the only one that can share a number.
-fn shares_number(ranges: &BTreeMap<u32, Span>, first: u32, span: Span) -> bool
+fn shares_number(ranges: &BTreeMap<u32, RangeRest>, first: u32, rest: RangeRest) -> bool
     requires apart { stand_apart ranges.now.entries ≡ true }
-    requires order { first ≤ span.last }
-    ensures { result ≡ list_any (share_number (first, span)) ranges.now.entries }
+    requires order { first ≤ rest.last }
+    ensures { result ≡ list_any (share_number (first, rest)) ranges.now.entries }
 {
-    match last_upto(ranges, span.last) {
+    match last_upto(ranges, rest.last) {
         Some(last) => first <= last,
         None => false,
     }
 }
 
 /// The last number of the last range that begins at the number or before it.
-fn last_upto(ranges: &BTreeMap<u32, Span>, number: u32) -> Option<u32>
+fn last_upto(ranges: &BTreeMap<u32, RangeRest>, number: u32) -> Option<u32>
     requires { stand_apart ranges.now.entries ≡ true }
     ensures { result ≡ option_map (λ range. range.1.last) (last_begun number ranges.now.entries) }
 {
     match ranges.range(..=number).next_back() {
-        Some((_first, span)) => Some(span.last),
+        Some((_first, rest)) => Some(rest.last),
         None => None,
     }
 }
 
 /// The range of a value, where it is a table.
-fn range_in(modes: &[String], value: &Value) -> Result<(u32, Span), TableFault>
+fn range_in(modes: &[String], value: &Value) -> Result<(u32, RangeRest), TableFault>
     requires { length modes.now ≤ 32 }
     ensures range { result ≡ spec.range_in (map string_bytes modes.now) (view value.now) }
     ensures order { IfOk result (λ range. range.0 ≤ range.1.last) }
@@ -98,7 +98,7 @@ fn range_in(modes: &[String], value: &Value) -> Result<(u32, Span), TableFault>
 
 /// The range of an element: its first number, its last one and its mode.
 #[tactic(auto, unfolding(crate::specs::Validators::range_of))]
-fn range_of(modes: &[String], element: &Table) -> Result<(u32, Span), TableFault>
+fn range_of(modes: &[String], element: &Table) -> Result<(u32, RangeRest), TableFault>
     requires { length modes.now ≤ 32 }
     ensures range { result ≡ spec.range_of (map string_bytes modes.now) (table_view element.now) }
     ensures order { IfOk result (λ range. range.0 ≤ range.1.last) }
@@ -107,5 +107,5 @@ fn range_of(modes: &[String], element: &Table) -> Result<(u32, Span), TableFault
     let first = number_at(element, "first", Key::First, 0, u32::MAX)?;
     let last = number_at(element, "last", Key::Last, first, u32::MAX)?;
     let mode = mode_named(modes, text_at(element, "mode", Key::ModeName)?)?;
-    Ok((first, Span { last, mode }))
+    Ok((first, RangeRest { last, mode }))
 }

@@ -3,7 +3,7 @@
 ghost use Rattle.std.specs.Prelude.{◌+◌, ◌*◌, ◌≤◌, IfOk, length, vec_len};
 
 use crate::fault::NoMemory;
-use crate::validators::Span;
+use crate::validators::RangeRest;
 use std::alloc::Global;
 
 /// The steps for each range. With so many, mostly no two ranges end in one step.
@@ -31,7 +31,7 @@ pub(crate) struct Guesses {
 
 impl Guesses {
     /// Guesses for the ranges. Their memory grows with the ranges, whatever numbers these have.
-    pub(crate) fn new(alloc: Global, ranges: &[(u32, Span)]) -> Result<Guesses, NoMemory>
+    pub(crate) fn new(alloc: Global, ranges: &[(u32, RangeRest)]) -> Result<Guesses, NoMemory>
         ensures few { IfOk result (λ g. vec_len g.places ≤ 4 * length ranges.now + 2) }
     {
         let lowest = end_of(ranges.first());
@@ -58,9 +58,9 @@ impl Guesses {
 }
 
 /// The last number of the range, or 0 where there is none.
-fn end_of(range: Option<&(u32, Span)>) -> u32 {
+fn end_of(range: Option<&(u32, RangeRest)>) -> u32 {
     match range {
-        Some((_first, span)) => span.last,
+        Some((_first, rest)) => rest.last,
         None => 0,
     }
 }
@@ -77,7 +77,7 @@ fn step_of(above: u32, width_bits: u32) -> usize
 /// the number of ranges.
 fn places_of(
     alloc: Global,
-    ranges: &[(u32, Span)],
+    ranges: &[(u32, RangeRest)],
     lowest: u32,
     width_bits: u32,
 ) -> Result<Vec<u32>, NoMemory>
@@ -87,8 +87,8 @@ fn places_of(
     // proof: the steps are so wide that none lies beyond this one
     let highest_step = ranges.len().saturating_mul(STEPS_FOR_EACH as usize);
     let mut places = Vec::new(alloc);
-    for (place, (_first, span)) in ranges.iter().enumerate() {
-        let step = step_of(span.last.saturating_sub(lowest), width_bits).min(highest_step);
+    for (place, (_first, rest)) in ranges.iter().enumerate() {
+        let step = step_of(rest.last.saturating_sub(lowest), width_bits).min(highest_step);
         places.resize(step + 1, place.min(0xffff_ffff) as u32)?;
     }
     places.push(ranges.len().min(0xffff_ffff) as u32)?;

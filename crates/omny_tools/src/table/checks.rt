@@ -196,7 +196,7 @@ fn check_transfers(
     }
 }
 
-/// Looks at the number at a key, which lies within limits. Gives it, where it does.
+/// Looks at the number at a key, which lies within its bounds. Gives it, where it does.
 pub(super) fn check_number(
     wrongs: &mut Wrongs,
     holder: &str,

@@ -3,11 +3,11 @@ use Rattle.part_laws.proofs.MergedTexts.{are_tokens, are_validators, shown, writ
 use Rattle.part_laws.proofs.merged_text.Goals as goal
 
 pub returns : goal.returns
-returns c = λ fares uploads history parts split ends plain sizes limits few end_files report_files
+returns c = λ fares uploads history parts split ends plain sizes bounds few end_files report_files
     told_ends told_parts text is.
-    let can = writable fares uploads history parts split limits few in
+    let can = writable fares uploads history parts split bounds few in
     let differ = c.texts_differ.ensures.any in
-    let risen = c.rising.ensures.numbers in
+    let risen = c.one_rising_list.ensures.numbers in
     let validators = are_validators differ risen uploads parts ends plain sizes can end_files
     report_files told_ends told_parts text is in
     let tokens = are_tokens differ risen uploads parts ends plain sizes can end_files report_files

@@ -8,7 +8,8 @@ use Rattle.shard_book.specs.Shown.{validator_sum}
 use Rattle.shard_book.specs.Sums.{Sums, sums_of}
 use Rattle.shard_book.specs.declared.sums.ValidatorSum.{ValidatorSum}
 use Rattle.part_reports.specs.Lines.{End, IsUploadEnd, AreCounts, IsValidatorSum}
-use Rattle.part_reports.specs.Lines.{end_lines, head_line, validator_line}
+use Rattle.fare_texts.specs.SumLines.{validator_line}
+use Rattle.part_reports.specs.Lines.{end_lines, number_line}
 use Rattle.part_reports.specs.Reports.{front_text}
 use Rattle.part_reports.specs.declared.front.Front.{Front}
 
@@ -25,7 +26,7 @@ pub record AreEnds (ends : List End) : Type 0 where
 
 -- the line of their number, and their lines
 abbrev pub ends_text : List End → List ℕ
-ends_text ends = head_line (codes "uploads ") (length ends) ++ end_lines 0 ends
+ends_text ends = number_line (codes "uploads ") (length ends) ++ end_lines 0 ends
 
 -- so many validators, which rise
 pub record AreRising (count : ℕ) (validators : List (ℕ × Sums)) : Type 0 where
@@ -41,7 +42,7 @@ pub record AreValidators (validators : List (ℕ × Sums)) : Type 0 where
 -- the line of their number, and their lines
 abbrev pub validators_text : List (ℕ × Sums) → List ℕ
 validators_text validators =
-    head_line (codes "validators ") (length validators) ++ flat_map validator_line validators
+    number_line (codes "validators ") (length validators) ++ flat_map validator_line validators
 
 -- the validator is above the last of these
 abbrev pub MayFollowValidators : List (ℕ × Sums) → ℕ → Type 0

@@ -6,7 +6,7 @@ use Rattle.part_reports.specs.declared.fault.MergeFault.{MergeFault}
 use Rattle.part_reports.specs.declared.form as form
 use Rattle.part_reports.specs.declared.upload_ends.UploadEnds.{UploadEnds}
 use Rattle.part_reports.specs.Faults.{IsOfTexts}
-use Rattle.part_reports.specs.Lines.{End, IsUploadEnd, end_line, end_lines, head_line}
+use Rattle.part_reports.specs.Lines.{End, IsUploadEnd, end_line, end_lines, number_line}
 
 -- how the upload ended
 abbrev pub end_of_upload : form.End.End → End
@@ -14,7 +14,7 @@ end_of_upload end = record { taps = end.taps; fault = end.fault }
 
 -- ` at 64 L5`, with the end of the line
 abbrev pub fault_words : ℕ × ℕ → List ℕ
-fault_words fault = codes " at " ++ (decimal fault.0 ++ head_line (codes " L") fault.1)
+fault_words fault = codes " at " ++ (decimal fault.0 ++ number_line (codes " L") fault.1)
 
 -- these uploads were read
 pub record Have (ends : UploadEnds) (list : List End) : Type 0 where

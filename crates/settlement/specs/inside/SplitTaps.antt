@@ -5,7 +5,8 @@ use Rattle.tap_views.specs.Encoding.{fields_of}
 use Rattle.tap_views.specs.Layout.{Tap}
 use Rattle.tap_views.specs.declared.encoder.TapFields.{TapFields}
 use Rattle.tap_parts.specs.Parts.{AreAdded, of_part}
-use Rattle.fare_service.specs.Plain.{AreTapsOfEach, ArePlainEnds}
+use Rattle.tap_views.specs.Files.{AreGoodTapsOfEach}
+use Rattle.fare_service.specs.Plain.{ArePlainEnds}
 use Rattle.fare_service.specs.declared.upload_end.UploadEnd.{UploadEnd}
 use Rattle.tap_parts.specs.Parts.{uploads_joined}
 
@@ -23,7 +24,7 @@ pub record ArePiecesAdded (pieces old new : List (List TapFields)) : Type 0 wher
 pub record AreAllAdded (uploads : List (List ℕ)) (old new : List (List TapFields))
     (ends : List UploadEnd) : Type 0 where
   pub taps : List (List Tap)
-  pub of_uploads : AreTapsOfEach uploads taps
+  pub of_uploads : AreGoodTapsOfEach uploads taps
   pub added : AreAdded (uploads_joined taps) old new
   pub ended : ArePlainEnds uploads ends
 
@@ -32,7 +33,7 @@ pub record AreAllAdded (uploads : List (List ℕ)) (old new : List (List TapFiel
 pub record AreInParts (parts : ℕ) (uploads : List (List ℕ)) (lists : List (List (List TapFields)))
     (ends : List UploadEnd) : Type 0 where
   pub taps : List (List Tap)
-  pub of_uploads : AreTapsOfEach uploads taps
+  pub of_uploads : AreGoodTapsOfEach uploads taps
   pub number : All (λ list. length list ≡ parts) lists
   pub each : (part : ℕ) → part < parts
       → in_part part lists ≡ map fields_of (of_part part parts (uploads_joined taps))

@@ -54,7 +54,8 @@ counted (Some kept) = sums_of_counts kept.counts
 -- what is kept now stands for the taps for which that before it stood, and counts the same: it
 -- stayed, or is fresh
 pub record StandsOn (old new : Option KeptAccount) : Type 0 where
-  pub kept : (rules : TokenRules) (taps : List TapIn) → IsKept rules old taps → IsKept rules new taps
+  pub kept : (rules : TokenRules) (taps : List TapIn)
+      → IsKept rules old taps → IsKept rules new taps
   pub sums : counted new ≡ counted old
 
 -- whether an account has taps; one that was opened ahead has none yet

@@ -7,7 +7,7 @@ use Rattle.shard_book.specs.Book.{Book}
 -- a table without modes, ranges and riders
 abbrev pub no_fares : Fares
 no_fares = record {
-  rules =
+  meaning =
       record {
         modes = [];
         transfers = [];

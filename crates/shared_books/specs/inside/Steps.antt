@@ -7,7 +7,8 @@ use Rattle.shard_book.specs.History.{IsLegal}
 use Rattle.shared_books.specs.declared.turns.rule.Opening.{Opening}
 use Rattle.shared_books.specs.declared.turns.rule.Mark.{Mark}
 use Rattle.shared_books.specs.declared.turns.rule.PassState.{PassState}
-use Rattle.shared_books.specs.Marks.{mark, others, visits_of, joined, merged, Apart, Begins}
+use Rattle.shared_books.specs.Marks.{mark, others, visits_of, history_of_visits, merged, Apart}
+use Rattle.shared_books.specs.Marks.{Begins}
 use Rattle.shared_books.specs.Claims.{claims_given, claims_left}
 use Rattle.shared_books.specs.Turns.{Boxed, book_after}
 use Rattle.shared_books.specs.PassStates.{pass_state}
@@ -40,7 +41,7 @@ new_pass_state v = pass_state v.opened (claims_given v.claims) false (others (vi
 abbrev pub left_pass_state : PassState → PassState
 left_pass_state v = pass_state v.opened (claims_left v.claims) v.turn v.marks v.met
 
--- the marks of another pass, before a look shows how they lie beside the own ones
+-- the marks of another pass, before a look shows how they lie beside those of this one
 abbrev pub both_pass_states : PassState → PassState → PassState
 both_pass_states v w = pass_state v.opened (v.claims + w.claims) v.turn v.marks w.marks
 
@@ -57,7 +58,7 @@ pub record HasSeen (before : Seat) (found : ℕ) (after : Seat) : Type 0 where
   pub word : IsTurnWord found before.0.opened (before.0.marks ++ others between)
   pub most : found ≤ 2 ^ 63
   pub legal : IsLegal before.0.opened.book.value.table
-      (joined (visits_of (before.0.marks ++ others between)))
+      (history_of_visits (visits_of (before.0.marks ++ others between)))
   pub carries : after.1 ≡ before.1
 
 -- the turn was taken: the pass has seen all visits that are counted, and the book of these visits
@@ -68,7 +69,7 @@ pub record HasTakenBook (s : Step (Option Boxed)) (before after : Seat) : Type 0
       (before.0.marks ++ others between) before.0.met
   pub word : s.first ≡ 2 * (before.0.opened.first + length (before.0.marks ++ others between))
   pub legal : IsLegal before.0.opened.book.value.table
-      (joined (visits_of (before.0.marks ++ others between)))
+      (history_of_visits (visits_of (before.0.marks ++ others between)))
   pub book : Boxed
   pub book_is : book.value ≡ book_after before.0.opened
       (visits_of (before.0.marks ++ others between))
@@ -85,8 +86,9 @@ abbrev pub given_back : Seat → Seat
 given_back (v, []) = (v, [])
 given_back (v, (slot, None) ∷ out) = (v, out)
 given_back (v, (slot, Some b) ∷ out) = (
-  pass_state v.opened v.claims false (v.marks
-      ++ mark true (drop (length (joined (visits_of v.marks))) b.value.entries) ∷ []) v.met,
+  pass_state v.opened v.claims false
+      (v.marks ++ mark true
+      (drop (length (history_of_visits (visits_of v.marks))) b.value.entries) ∷ []) v.met,
   out,
 )
 

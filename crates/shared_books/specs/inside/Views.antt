@@ -4,7 +4,7 @@ use Rattle.std.specs.Prelude.{None}
 use Rattle.shard_book.specs.declared.entry.Entry.{Entry}
 use Rattle.shard_book.specs.Book.{Book}
 use Rattle.shard_book.specs.History.{IsLegal}
-use Rattle.shared_books.specs.Marks.{others, visits_of, joined, made_from}
+use Rattle.shared_books.specs.Marks.{others, visits_of, history_of_visits, made_from}
 use Rattle.shared_books.specs.Turns.{book_after}
 use Rattle.shared_books.specs.PassStates.{pass_state}
 use Rattle.shared_books.specs.inside.Steps.{Seat}
@@ -32,14 +32,14 @@ pub record HasBookOut (before after : Seat) (number : ℕ) (book : Book) : Type 
   pub number_is : number ≡ before.0.opened.first + length (before.0.marks ++ others between)
   pub few : number < 2 ^ 62
   pub legal : IsLegal before.0.opened.book.value.table
-      (joined (visits_of (before.0.marks ++ others between)))
+      (history_of_visits (visits_of (before.0.marks ++ others between)))
   pub book_is : book ≡ book_after before.0.opened (visits_of (before.0.marks ++ others between))
   pub carries : after.1 ≡ (0, None) ∷ []
 
 -- all visits are counted that a book takes
 pub record FindsFull (before after : Seat) : Type 0 where
   pub goes_on : SeesMore before after
-  pub legal : IsLegal after.0.opened.book.value.table (joined (visits_of after.0.marks))
+  pub legal : IsLegal after.0.opened.book.value.table (history_of_visits (visits_of after.0.marks))
   pub count : after.0.opened.first + length after.0.marks ≡ 2 ^ 62
 
 -- the book has gained a visit, and the history with it is legal
@@ -50,10 +50,11 @@ pub record BringsVisit (me : Seat) (number : ℕ) (book : Book) : Type 0 where
   pub carries : me.1 ≡ (0, None) ∷ []
   pub number_is : number ≡ me.0.opened.first + length me.0.marks
   pub few : number < 2 ^ 62
-  pub legal : IsLegal me.0.opened.book.value.table (joined (visits_of me.0.marks ++ visit ∷ []))
+  pub legal : IsLegal me.0.opened.book.value.table
+      (history_of_visits (visits_of me.0.marks ++ visit ∷ []))
   pub book_is : book ≡ book_after me.0.opened (visits_of me.0.marks ++ visit ∷ [])
 
--- what a pass keeps of its number of own visits and its seat
+-- what a pass keeps of the number of visits that it made, and its seat
 pub record IsPass (held : ℕ) (me : Seat) : Type 0 where
   pub free : IsFree me
   pub held_is : held ≡ length (made_from me.0.opened.first me.0.marks)

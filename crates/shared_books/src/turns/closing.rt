@@ -20,7 +20,7 @@ impl SharedBook {
     /// The book, where the pass made all visits; otherwise both are dropped. So it is where the
     /// pass has all claims. A turn that was taken and not given back counts as a visit.
     pub fn close(self, pass: Pass) -> Result<ShardBook, Missing>
-        requires own { pass.book ≡ self }
+        requires belongs { pass.book ≡ self }
         ensures ok { IfOk result (HasMadeAll pass) }
         ensures err { IfErr result (λ missing. LacksVisits pass missing.held missing.kept) }
         ensures claims { IfErr result (λ _. pass.claims < all_claims) }

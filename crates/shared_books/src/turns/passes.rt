@@ -11,7 +11,7 @@ impl SharedBook {
     /// A new pass, which has seen as much and made no visit, and gets half of the claims. The old
     /// one keeps all that it has seen and made. A single claim is lost.
     pub fn split(&self, pass: &mut Pass) -> Result<Pass, NoMemory>
-        requires own { pass.old.book ≡ self.now }
+        requires belongs { pass.old.book ≡ self.now }
         ensures new { IsOkAnd result (λ new. new ≡ fresh_pass pass.old) }
         ensures old { pass.new ≡ left_pass pass.old }
     {
@@ -22,7 +22,7 @@ impl SharedBook {
 
     /// The pass takes over what another one has seen and made, and its claims.
     pub fn join(&self, pass: &mut Pass, other: Pass)
-        requires own { pass.old.book ≡ self.now }
+        requires belongs { pass.old.book ≡ self.now }
         requires other { other.book ≡ self.now }
         ensures { IsJoined pass.old other pass.new }
     {

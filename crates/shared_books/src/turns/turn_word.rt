@@ -13,14 +13,14 @@ impl SharedBook {
     ghost use Rattle.std.specs.Prelude.{◌≡◌, ◌+◌, ◌*◌, ◌/◌, ◌^◌, ◌<◌, ◌++◌, ◌∷◌, [], ℕ};
     ghost use Rattle.std.specs.Prelude.{true, false, List, IfSome, IfNone};
     ghost use Rattle.shard_book.specs.declared.entry.Entry.{Entry};
-    ghost use Rattle.shared_books.specs.Marks.{mark, joined, visits_of};
+    ghost use Rattle.shared_books.specs.Marks.{mark, history_of_visits, visits_of};
     ghost use Rattle.shared_books.specs.PassStates.{pass_state};
     ghost use Rattle.shared_books.specs.inside.Steps.{HasSeen};
     ghost use Rattle.shared_books.specs.inside.Views.{IsFree, SeesMore, HasBookOut, BringsVisit};
 
     /// Loads the turn word.
     pub(super) fn look(&self, seat: &mut Seat<Slot, PassState>) -> u64
-        requires own { seat.old.table_id ≡ self.now.home }
+        requires belongs { seat.old.table_id ≡ self.now.home }
         requires free { IsFree seat.old.me }
         ensures same { seat.new.table_id ≡ seat.old.table_id }
         ensures seen { HasSeen seat.old.me result seat.new.me }
@@ -30,7 +30,7 @@ impl SharedBook {
 
     /// Tries to take the turn, where the turn word was even.
     pub(super) fn try_take(&self, seat: &mut Seat<Slot, PassState>, found: u64) -> Slot
-        requires own { seat.old.table_id ≡ self.now.home }
+        requires belongs { seat.old.table_id ≡ self.now.home }
         requires free { IsFree seat.old.me }
         requires even { (count : ℕ) × (found ≡ 2 * count) }
         requires few { found < 2 ^ 63 }
@@ -52,7 +52,7 @@ impl SharedBook {
 
     /// Tries to take the turn as if the turn word stood at the expected number.
     pub(super) fn try_expected(&self, seat: &mut Seat<Slot, PassState>, expected: u64) -> Slot
-        requires own { seat.old.table_id ≡ self.now.home }
+        requires belongs { seat.old.table_id ≡ self.now.home }
         requires free { IsFree seat.old.me }
         ensures same { seat.new.table_id ≡ seat.old.table_id }
         ensures taken { IfSome result
@@ -67,11 +67,11 @@ impl SharedBook {
 
     /// Puts the book back and gives the turn back, with the visit that the book has gained.
     pub(super) fn give(&self, seat: &mut Seat<Slot, PassState>, number: u64, book: Box<ShardBook>)
-        requires own { seat.old.table_id ≡ self.now.home }
+        requires belongs { seat.old.table_id ≡ self.now.home }
         requires brings { BringsVisit seat.old.me number book.value }
         ensures same { seat.new.table_id ≡ seat.old.table_id }
         ensures given { (visit : List Entry)
-            → book.value.entries ≡ joined (visits_of seat.old.me.0.marks) ++ visit
+            → book.value.entries ≡ history_of_visits (visits_of seat.old.me.0.marks) ++ visit
             → seat.new.me ≡ (
               pass_state seat.old.me.0.opened seat.old.me.0.claims false
                   (seat.old.me.0.marks ++ mark true visit ∷ []) seat.old.me.0.met,

@@ -17,7 +17,7 @@ impl SharedBook {
     ghost use Rattle.tap_views.specs.Shards.{run_taps};
     ghost use Rattle.shard_book.specs.Visits.{window_ends_of};
     ghost use Rattle.shard_book.specs.Statement.{IsStatement};
-    ghost use Rattle.shared_books.specs.Marks.{joined};
+    ghost use Rattle.shared_books.specs.Marks.{history_of_visits};
     ghost use Rattle.shared_books.specs.Passes.{new_pass, seen_by, IsLater, Visits, IsFull};
     ghost use Rattle.shared_books.specs.Results.{MakesVisit, IsOpenedAs, IsReadFault};
 
@@ -70,7 +70,7 @@ impl SharedBook {
         ends: &Ends,
         out: &mut Replies,
     ) -> Result<Visit, Full>
-        requires own { pass.old.book ≡ self.now }
+        requires belongs { pass.old.book ≡ self.now }
         requires shard { run.now.shard ≡ self.now.shard }
         requires shards { run.now.shards ≡ self.now.shards }
         requires ends { ends.now ≡ window_ends_of self.now.table (run_taps run.now) }
@@ -97,9 +97,10 @@ impl SharedBook {
         pass: &mut Pass,
         token: &Token,
     ) -> Result<Readout, ReadFault>
-        requires own { pass.old.book ≡ self.now }
+        requires belongs { pass.old.book ≡ self.now }
         ensures read { IfOk result (λ r. Visits pass.old pass.new r.number []
-            × IsStatement self.now.table (joined (seen_by pass.new)) token.now r.statement) }
+            × IsStatement self.now.table (history_of_visits (seen_by pass.new)) token.now
+            r.statement) }
         ensures fault { IfErr result (IsReadFault pass.old pass.new) }
     {
         let Pass { seat, held, next } = pass;
@@ -116,7 +117,7 @@ impl SharedBook {
 
     /// How many visits are counted, `first` included. It waits for nobody.
     pub fn head(&self, pass: &mut Pass) -> u64
-        requires own { pass.old.book ≡ self.now }
+        requires belongs { pass.old.book ≡ self.now }
         ensures later { IsLater pass.old pass.new }
         ensures count { result ≡ self.now.first + length (seen_by pass.new) }
     {

@@ -27,7 +27,7 @@ impl SharedBook {
         seat: &mut Seat<Slot, PassState>,
         expected: u64,
     ) -> Result<(u64, Box<ShardBook>), Full>
-        requires own { seat.old.table_id ≡ self.now.home }
+        requires belongs { seat.old.table_id ≡ self.now.home }
         requires free { IsFree seat.old.me }
         ensures same { seat.new.table_id ≡ seat.old.table_id }
         ensures taken { IfOk result
@@ -46,7 +46,7 @@ impl SharedBook {
         rt: &R,
         seat: &mut Seat<Slot, PassState>,
     ) -> Result<(u64, Box<ShardBook>), Full>
-        requires own { seat.old.table_id ≡ self.now.home }
+        requires belongs { seat.old.table_id ≡ self.now.home }
         requires free { IsFree seat.old.me }
         ensures same { seat.new.table_id ≡ seat.old.table_id }
         ensures taken { IfOk result

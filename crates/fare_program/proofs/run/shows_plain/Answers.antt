@@ -56,7 +56,7 @@ returns c = λ fares shards workers explain token text run posted shows history 
       apart = apart;
     } in
     let some : 0 < length outcome.books = omega (arith, c.shards.ensures.some, c.shards.ensures.number) in
-    let same = own_all (record { table = fares; shards = shards; uploads = files }) outcome history some c.names.ensures.named c.names.ensures.here c.one_reading_each.ensures whole in
-    shown explain files outcome fares history token text (c.report.ensures fares shards history whole)
+    let same = own_all (record { table = fares; shards = shards; uploads = files }) outcome history some c.tokens_are_named.ensures.named c.tokens_are_named.ensures.here c.one_reading_each.ensures whole in
+    shown explain files outcome fares history token text (c.report_is_plain.ensures fares shards history whole)
     (λ t. explained_same fares outcome history t text (same t) (λ book there. (whole.headline.books 0 book there).0))
-    (λ t. (c.statements.ensures.texts fares shards history whole t text).0) shows
+    (λ t. (c.statements_are_plain.ensures.texts fares shards history whole t text).0) shows

@@ -8,4 +8,4 @@ returns-clause-settled g c =
     let S : List (Vec ℕ Global) → Type 0 = λ fs. IsSettled (map (λ f. f.items) c.args.files.items) c.in_ok-ends.field-0.ends.items (map (λ f. f.items) fs) in
     let settled = subst S (sym c.as_slice-settled.ensures.value) c.in_ok-ends.ensures in
     let run = c.in_ok-outcome.ensures.run in
-    record { ended = settled.ended; tells = c.settled.ensures _ _ _ _ run.0 settled run.2 c.in_ok-outcome.ensures.whole }
+    record { ended = settled.ended; tells = c.outcome_is_settled.ensures _ _ _ _ run.0 settled run.2 c.in_ok-outcome.ensures.whole }

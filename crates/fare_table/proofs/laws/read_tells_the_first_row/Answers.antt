@@ -12,4 +12,4 @@ returns-clause-first c = first-of-err (IsUtf8 c.args.text.now) c.args.text.now c
 
 pub returns-clause-none : goal.returns-clause-none
 returns-clause-none c = none-of-ok (IsUtf8 c.args.text.now) c.args.text.now c.read.result (λ t.
-    t.rules) c.read.ensures.ok
+    t.meaning) c.read.ensures.ok

@@ -4,7 +4,7 @@ use Rattle.std.specs.List.{AllWithin}
 use Rattle.std.specs.Prelude.{nat_le}
 use Rattle.fare_table.proofs.ApartLemmas.{stands-rises, last_begun-split, within-firsts}
 use Rattle.fare_table.specs.inside.Validators.{IsSplitAt}
-use Rattle.fare_table.specs.declared.validators.Span.{Span}
+use Rattle.fare_table.specs.declared.validators.RangeRest.{RangeRest}
 use Rattle.fare_table.proofs.validators.last_begun.Goals as goal
 
 pub begun_by_halves-requires : goal.begun_by_halves-requires
@@ -15,14 +15,14 @@ returns c =
     let ranges = c.args.ranges.now in
     let n = c.args.number in
     let i = c.begun_by_halves.result in
-    let split : IsSplitAt n (map (λ (range : ℕ × Span). range.0) ranges) i 0 =
+    let split : IsSplitAt n (map (λ (range : ℕ × RangeRest). range.0) ranges) i 0 =
     rw c.requires.same at c.begun_by_halves.ensures.split in
-    let long : length (map (λ (range : ℕ × Span). range.0) ranges) ≡ length ranges =
-    length-map ranges (λ (range : ℕ × Span). range.0) in
+    let long : length (map (λ (range : ℕ × RangeRest). range.0) ranges) ≡ length ranges =
+    length-map ranges (λ (range : ℕ × RangeRest). range.0) in
     let inside : i ≤ length ranges =
     rw (c.requires.same, long) at c.begun_by_halves.ensures.bound in
     let after : AllWithin (λ first. nat_le first n ≡ false)
-    (map (λ (range : ℕ × Span). range.0) ranges) i (length ranges) =
+    (map (λ (range : ℕ × RangeRest). range.0) ranges) i (length ranges) =
     rw (add-zero, long) at split.back in
     c.last.ensures.value
     ∙ last_begun-split n ranges i (within-firsts n true ranges 0 i inside split.front)

@@ -1,6 +1,6 @@
 use Rattle.std.proofs.Common.{◌≡◌, ◌∙◌, ◌<◌, ◌++◌, ◌∷◌, [], List, ℕ, length, map, refl, subst, take, ap, get_or, Bor, ◌+◌}
 use Rattle.std.proofs.lemmas.List.{map-append, take_all, take_more}
-use Rattle.tap_balance.specs.Balances.{AreGoodTaps}
+use Rattle.tap_balance.specs.Balances.{AreGoodFields}
 use Rattle.omny_audit.specs.Fault.{NamesOneOf}
 use Rattle.omny_audit.proofs.ProgramLemmas.{handed_on, loads_push, names_at, posted_push, tells_none}
 use Rattle.omny_audit.proofs.program.load_balance.Goals as goal
@@ -22,7 +22,7 @@ loop-name-preserved g c =
       before.0 ++ c.in_ok-upload.upload.items ∷ [],
       before.1 ++ added.0,
       rw more (loads_push _ _ _ _ _ _ _ before.2 c.in_ok-upload.ensures.ok),
-      posted_push _ _ _ _ before.3 (subst (λ (u : List ℕ). AreGoodTaps u added.0) c.deref.ensures.value added.1),
+      posted_push _ _ _ _ before.3 (subst (λ (u : List ℕ). AreGoodFields u added.0) c.deref.ensures.value added.1),
       added.2 before.1 before.4,
     )
 

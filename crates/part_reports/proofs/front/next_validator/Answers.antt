@@ -1,4 +1,5 @@
-use Rattle.part_reports.specs.Lines.{IsValidatorSum, validator_line}
+use Rattle.fare_texts.specs.SumLines.{validator_line}
+use Rattle.part_reports.specs.Lines.{IsValidatorSum}
 use Rattle.shard_book.specs.Shown.{validator_sum}
 use Rattle.part_reports.proofs.LinesRead.{read_line}
 use Rattle.part_reports.proofs.OneLine.{validator_line_is_one}

@@ -3,7 +3,8 @@ use Rattle.std.proofs.Common.{◌∙◌, subst, arith, append_assoc, append-nil}
 use Rattle.std.proofs.lemmas.List.{map-append}
 use Rattle.std.specs.Vec.Iter.{into_iter_items}
 use Rattle.fare_service.specs.declared.upload_end.UploadEnd.{UploadEnd}
-use Rattle.fare_service.specs.Plain.{AreTapsOfEach, IsPlainEnd, ArePlainEnds}
+use Rattle.tap_views.specs.Files.{AreGoodTapsOfEach}
+use Rattle.fare_service.specs.Plain.{IsPlainEnd, ArePlainEnds}
 use Rattle.fare_service.proofs.PlainUploads.{each_more}
 use Rattle.fare_service.proofs.PlainRuns.{AllZip-append}
 use Rattle.tap_parts.proofs.Adding.{none_added, batch_added}
@@ -49,7 +50,7 @@ loop-upload-preserved c =
     let end = c.by_fault.result in
     let files = map bytes_in yielded in
     let all = map-append bytes_in yielded (upload ∷ []) in
-    let T : List (List ℕ) → Type 0 = λ fs. AreTapsOfEach fs (taps ++ more ∷ []) in
+    let T : List (List ℕ) → Type 0 = λ fs. AreGoodTapsOfEach fs (taps ++ more ∷ []) in
     let E : List (List ℕ) → Type 0 = λ fs. ArePlainEnds fs c.push.new.self.items in
     let F : List UploadEnd → Type 0 = λ es. ArePlainEnds (files ++ upload.items ∷ []) es in
     record {
@@ -82,7 +83,7 @@ returns c =
     (omega (arith, c.in-None.ensures.steps.0, c.loop-upload.invariant.left_len)) in
     let all = sym (append-nil c.loop-upload.yielded)
     ∙ (ap (λ us. c.loop-upload.yielded ++ us) (sym none) ∙ c.loop-upload.invariant.left) in
-    let T : List (Vec ℕ Global) → Type 0 = λ uploads. AreTapsOfEach (map bytes_in uploads) taps in
+    let T : List (Vec ℕ Global) → Type 0 = λ uploads. AreGoodTapsOfEach (map bytes_in uploads) taps in
     let E : List (Vec ℕ Global) → Type 0 =
     λ uploads. ArePlainEnds (map bytes_in uploads) c.loop-upload.ends.items in
     record { taps = taps; of_uploads = subst T all each; added = added; ended = subst E all ended }

@@ -2,7 +2,8 @@ use Rattle.std.proofs.Common.{◌≡◌, ◌++◌, List, length, map}
 use Rattle.std.specs.Vec.Iter.{into_iter_items, into_iter_len}
 use Rattle.tap_views.specs.Layout.{Tap}
 use Rattle.tap_parts.specs.Parts.{AreAdded}
-use Rattle.fare_service.specs.Plain.{AreTapsOfEach, ArePlainEnds}
+use Rattle.tap_views.specs.Files.{AreGoodTapsOfEach}
+use Rattle.fare_service.specs.Plain.{ArePlainEnds}
 use Rattle.tap_parts.specs.Parts.{uploads_joined}
 use Rattle.settlement.proofs.splitting.add_all.Given as goal
 
@@ -12,7 +13,7 @@ invariant-loop-upload l = record {
   ends : (goal.iterator-loop-upload).is_finite l.upload-iterator;
   left : l.yielded ++ into_iter_items l.upload-iterator ≡ l.fn.uploads.items;
   left_len : into_iter_len l.upload-iterator ≡ length (into_iter_items l.upload-iterator);
-  made : (taps : List (List Tap)) × AreTapsOfEach (map (λ upload. upload.items) l.yielded) taps
+  made : (taps : List (List Tap)) × AreGoodTapsOfEach (map (λ upload. upload.items) l.yielded) taps
       × AreAdded (uploads_joined taps) l.fn.parts l.parts
       × ArePlainEnds (map (λ upload. upload.items) l.yielded) l.ends.items;
 }

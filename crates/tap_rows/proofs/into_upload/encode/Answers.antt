@@ -12,4 +12,4 @@ pub returns-in-Err-clause-same : goal.returns-in-Err-clause-same
 returns-in-Err-clause-same g c = λ changed some same.
     let is : c.when_read_again.result ≡ Changed = cc in
     no_change (g.R.Read.remaining c.args.table.now) (g.S.Read.remaining c.args.again.now) c.in_ok-count.count c.in-Err.fault c.when_read_again.result
-    c.when_read_again.ensures.own c.when_read_again.ensures.other is some same c.in_ok-count.ensures.table c.in-Err.ensures.refused
+    c.when_read_again.ensures.changed c.when_read_again.ensures.other is some same c.in_ok-count.ensures.table c.in-Err.ensures.refused

@@ -1,13 +1,13 @@
-use Rattle.std.proofs.Common.{◌≡◌, ◌∙◌, ℕ, List, [], ap, refl, None, Some}
+use Rattle.std.proofs.Common.{◌≡◌, ◌∙◌, ℕ, List, [], ap, refl, None, Some, length, arith}
 use Rattle.std.specs.Prelude.{Option}
 use Rattle.tap_views.specs.declared.fault.LayoutFault.{LayoutFault}
-use Rattle.upload_facts.specs.Facts.{IsEndAfterBatches}
+use Rattle.tap_views.specs.Files.{IsEndAfterBatches}
 use Rattle.tap_rows.specs.Decoded.{fields_in}
 use Rattle.tap_rows.proofs.laws.decodes_back.Goals as goal
 
 no_fault : (upload rest : List ℕ) (fault : Option (ℕ × LayoutFault)) → rest ≡ [] → IsEndAfterBatches upload rest fault → fault ≡ None
 no_fault upload rest None none is = refl
-no_fault upload rest (Some (offset, fault)) none is = absurd (is.some none)
+no_fault upload rest (Some (offset, fault)) none is = absurd (omega (arith, is.some_byte, ap length none))
 
 pub returns : goal.returns
 returns c = λ taps batches fault file read.

@@ -42,7 +42,7 @@ slice_bounds-result-end c =
     c.next.new.self (same_items c.args.upload.now c.loop-item.yielded c.next.new.self made.0
     (Err (c.in-Err.offset, c.in-Err.field-0-1)) c.loop-item.item-iterator
     c.loop-item.invariant.reading made.1 step) in
-    let fits : c.in-Err.offset ≤ length c.args.upload.now = omega (arith, read.2.place) in
+    let fits : c.in-Err.offset ≤ length c.args.upload.now = omega (arith, read.2.stands_at) in
     sym (length-take-le c.in-Err.offset c.args.upload.now fits)
 
 pub returns-in-Err : goal.returns-in-Err
@@ -53,7 +53,7 @@ returns-in-Err c =
     c.next.new.self (same_items c.args.upload.now c.loop-item.yielded c.next.new.self made.0
     (Err (c.in-Err.offset, c.in-Err.field-0-1)) c.loop-item.item-iterator
     c.loop-item.invariant.reading made.1 step) in
-    is_front c.args.upload.now made.0 read.0 c.in-Err.offset read.1 read.2.place
+    is_front c.args.upload.now made.0 read.0 c.in-Err.offset read.1 read.2.stands_at
 
 pub returns : goal.returns
 returns c =

@@ -20,7 +20,7 @@ next_reason-requires-clause-room c =
     room (rules_of c.args.table.now c.args.token.now) (kept_of c.args.self.now) c.requires.stands.0
     c.args.tap _ _ c.requires.stands.1
     (c.open.ensures ∙ at_fresh _ c.args.tap.moment c.args.tap.until
-    (kept-fresh _ c.if-not-self.true)) c.terms_of.ensures.terms c.terms_of.ensures.limits
+    (kept-fresh _ c.if-not-self.true)) c.terms_of.ensures.terms c.terms_of.ensures.bounds
 
 pub returns-then-not-self : goal.returns-then-not-self
 unfolding Stands rules_of
@@ -59,11 +59,11 @@ returns-then-gives_transfer c =
 
 -- a later ride
 
-pub next_reason-requires-2-clause-limits : goal.next_reason-requires-2-clause-limits
+pub next_reason-requires-2-clause-bounds : goal.next_reason-requires-2-clause-bounds
 unfolding StandsForSome Stands
-next_reason-requires-2-clause-limits c =
+next_reason-requires-2-clause-bounds c =
     (kept_terms _ (kept_of c.args.self.now) _ c.requires.stands.0 (kept-open _ c.if-not-self.false)
-    c.requires.stands.1).limits
+    c.requires.stands.1).bounds
 
 pub next_reason-requires-2-clause-room : goal.next_reason-requires-2-clause-room
 unfolding StandsForSome Stands rules_of
@@ -74,7 +74,7 @@ next_reason-requires-2-clause-room c =
     c.args.tap _ _ c.requires.stands.1
     (c.window_at.ensures
     ∙ at_kept _ _ c.args.tap.moment c.args.tap.until (kept-open _ c.if-not-self.false))
-    kept.same kept.limits
+    kept.same kept.bounds
 
 pub returns : goal.returns
 unfolding rules_of Stands

@@ -37,7 +37,7 @@ unfolding rules_of Stands
 is_first_ride c taps stands =
     first_ride (rules_of c.args.table.now c.args.token.now) (kept_of c.args.self.now) _ taps
     c.args.tap c.in-Some.mode _ (kept-fresh _ c.if-not-self.true) stands c.in-Some.is
-    (c.requires.mode _ c.in-Some.is) c.requires.until c.first_ride.ensures.limits
+    (c.requires.mode _ c.in-Some.is) c.requires.until c.first_ride.ensures.bounds
     c.first_ride.ensures.reply c.first_ride.ensures.state
 
 pub returns-then-not-self-clause-reply : goal.returns-then-not-self-clause-reply
@@ -103,11 +103,11 @@ returns-then-gives_transfer-clause-some c = (
 
 -- the tap is a later ride
 
-pub take_ride-requires-clause-limits : goal.take_ride-requires-clause-limits
+pub take_ride-requires-clause-bounds : goal.take_ride-requires-clause-bounds
 unfolding StandsForSome Stands
-take_ride-requires-clause-limits c =
+take_ride-requires-clause-bounds c =
     (kept_terms _ (kept_of c.args.self.now) _ c.requires.stands.0 (kept-open _ c.if-not-self.false)
-    c.requires.stands.1).limits
+    c.requires.stands.1).bounds
 
 pub take_ride-requires-clause-room : goal.take_ride-requires-clause-room
 unfolding StandsForSome Stands rules_of
@@ -117,7 +117,7 @@ take_ride-requires-clause-room c =
     room (rules_of c.args.table.now c.args.token.now) (kept_of c.args.self.now) c.requires.stands.0
     c.args.tap _ _ c.requires.stands.1
     (at_kept _ _ c.args.tap.moment c.args.tap.until (kept-open _ c.if-not-self.false)) kept.same
-    kept.limits
+    kept.bounds
 
 is_next_ride : (c : After-to_ride) (taps : List TapIn)
     → Stands (rules_of c.args.table.now c.args.token.now) c.args.self.now taps
@@ -154,7 +154,7 @@ pub returns-in_default-clause-few : goal.returns-in_default-clause-few
 returns-in_default-clause-few c = free-few _ _ c.free.ensures
 
 pub returns-then-not-self-clause-few : goal.returns-then-not-self-clause-few
-returns-then-not-self-clause-few c = ride-few _ _ _ c.first_ride.ensures.limits c.first_ride.ensures.reply
+returns-then-not-self-clause-few c = ride-few _ _ _ c.first_ride.ensures.bounds c.first_ride.ensures.reply
 
 pub returns-then-tap-self-clause-few : goal.returns-then-tap-self-clause-few
 returns-then-tap-self-clause-few c = free-few _ _ c.free-then-tap-self.ensures
@@ -165,5 +165,5 @@ returns-then-gives_transfer-clause-few c = free-few _ _ c.free-then-gives_transf
 pub returns-clause-few : goal.returns-clause-few
 unfolding StandsForSome Stands
 returns-clause-few c =
-    let limits = (kept_terms _ (kept_of c.args.self.now) _ c.requires.stands.0 (kept-open _ c.if-not-self.false) c.requires.stands.1).limits in
-    ride-few c.args.self.now.terms _ _ limits (c.to_ride.ensures ∙ ap ride_reply c.take_ride.ensures.cost)
+    let bounds = (kept_terms _ (kept_of c.args.self.now) _ c.requires.stands.0 (kept-open _ c.if-not-self.false) c.requires.stands.1).bounds in
+    ride-few c.args.self.now.terms _ _ bounds (c.to_ride.ensures ∙ ap ride_reply c.take_ride.ensures.cost)

@@ -1,7 +1,7 @@
 use Rattle.std.proofs.Common.{List, [], ◌∷◌, ◌++◌, Vec, Global, ℕ, All, map, take, sym, ap, ◌∙◌, subst, take_all}
 use Rattle.std.proofs.lemmas.List.{map_more}
 use Rattle.std.proofs.lemmas.List.Elements.{All-map, All-more}
-use Rattle.fare_service.specs.Plain.{AreTapsOf, AreTapsOfEach}
+use Rattle.tap_views.specs.Files.{AreGoodTaps, AreGoodTapsOfEach}
 use Rattle.fare_service.proofs.PlainFields.{AreBytes, plain_fields}
 use Rattle.fare_service.proofs.PlainUploads.{each_more, some_plain, one_plain, legal_plain}
 use Rattle.fare_service.proofs.laws.schedules.plain_history.Goals as goal
@@ -16,8 +16,8 @@ loop-upload-preserved c =
     let i = c.loop-upload.upload-index in
     let (taps, each) = c.loop-upload.invariant.taps in
     let (more, are) = c.taps_of.ensures.taps in
-    let B : List ℕ → Type 0 = λ bytes. AreTapsOf bytes more in
-    let T : List (List ℕ) → Type 0 = λ files. AreTapsOfEach files (taps ++ more ∷ []) in
+    let B : List ℕ → Type 0 = λ bytes. AreGoodTaps bytes more in
+    let T : List (List ℕ) → Type 0 = λ files. AreGoodTapsOfEach files (taps ++ more ∷ []) in
     let A : List ℕ → Type 0 = AreBytes in
     let U : Vec ℕ Global → Type 0 = λ u. AreBytes u.items in
     let all = map_more bytes_in uploads i upload c.loop-upload-test.true ∙ ap (λ u. map bytes_in (take i uploads) ++ bytes_in u ∷ []) (sym c.upload-item.is) in
@@ -30,7 +30,7 @@ loop-upload-preserved c =
 pub returns-clause-some : goal.returns-clause-some
 returns-clause-some c = λ fares.
     let (taps, each) = c.loop-upload.invariant.taps in
-    let T : List (Vec ℕ Global) → Type 0 = λ uploads. AreTapsOfEach (map bytes_in uploads) taps in
+    let T : List (Vec ℕ Global) → Type 0 = λ uploads. AreGoodTapsOfEach (map bytes_in uploads) taps in
     some_plain fares (map bytes_in c.args.uploads.now) taps (subst T (take_all c.loop-upload.upload-index c.args.uploads.now c.loop-upload-test.false) each)
 
 pub returns-clause-one : goal.returns-clause-one

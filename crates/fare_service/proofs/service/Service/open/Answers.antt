@@ -6,7 +6,7 @@ use Rattle.shared_books.specs.Passes.{PassView}
 use Rattle.fare_service.specs.Claims.{claims_at}
 use Rattle.fare_service.specs.ServiceView.{ServiceView}
 use Rattle.fare_service.specs.inside.ServiceView.{AreOpened}
-use Rattle.fare_service.specs.Shares.{own_at, books_of}
+use Rattle.fare_service.specs.Shares.{made_visits_at, books_of}
 use Rattle.fare_service.proofs.ShareLemmas.{fresh_share, fresh, own_new, books_new, claims_new_at}
 use Rattle.fare_service.proofs.service.Service.open.Goals as goal
 
@@ -24,14 +24,14 @@ invariant_of-service g c =
 pub returns-clause-share : goal.returns-clause-share
 returns-clause-share g c =
     let service : ServiceView = record { table = c.args.table; drawing = c.in_ok-draw.draw; books = c.in_ok-books.books.items; uploads = map (λ upload. upload.items) c.args.uploads.now } in
-    let P : List PassView → Type 0 = λ ps. (shard : ℕ) → own_at shard ps ≡ [] in
+    let P : List PassView → Type 0 = λ ps. (shard : ℕ) → made_visits_at shard ps ≡ [] in
     fresh_share service c.in_ok-draw.drawer c.in_ok-books.passes.items (sums_of c.new-3.result) c.new-4.result.items
     (ap (λ d. d.drawn_from) c.in_ok-draw.ensures.drawer) (ap (λ d. d.drawn) c.in_ok-draw.ensures.drawer) (ap books_of c.in_ok-books.ensures.passes ∙ books_new c.in_ok-books.books.items)
     (subst P (sym c.in_ok-books.ensures.passes) (λ shard. own_new shard c.in_ok-books.books.items)) c.new-3.ensures c.new-4.ensures.items
 
 pub returns-clause-fresh : goal.returns-clause-fresh
 returns-clause-fresh g c =
-    let P : List PassView → Type 0 = λ ps. (shard : ℕ) → own_at shard ps ≡ [] in
+    let P : List PassView → Type 0 = λ ps. (shard : ℕ) → made_visits_at shard ps ≡ [] in
     fresh c.in_ok-draw.drawer c.in_ok-books.passes.items (sums_of c.new-3.result) c.new-4.result.items (ap (λ d. d.drawn) c.in_ok-draw.ensures.drawer)
     (subst P (sym c.in_ok-books.ensures.passes) (λ shard. own_new shard c.in_ok-books.books.items)) c.new-3.ensures c.new-4.ensures.items
 

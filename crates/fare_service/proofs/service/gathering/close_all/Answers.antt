@@ -7,7 +7,7 @@ use Rattle.shared_books.specs.declared.turns.rule.Mark.{Mark}
 use Rattle.shared_books.specs.Passes.{PassView}
 use Rattle.fare_service.specs.declared.faults.GatherFault.{GatherFault}
 use Rattle.fare_service.specs.inside.Closing.{AreClosed, IsClosedBy, IsFirstMissing, IsMissing}
-use Rattle.fare_service.specs.Shares.{marks_at, own_visits}
+use Rattle.fare_service.specs.Shares.{marks_at, made_visits}
 use Rattle.fare_service.proofs.PlaceLemmas.{place_more}
 use Rattle.fare_service.proofs.Signing.{made_own}
 use Rattle.fare_service.proofs.JoinLemmas.{next_book, at_end, marks_mid}
@@ -27,7 +27,7 @@ returns-in-Err-clause-missing c =
     let F : GatherFault → Type 0 = IsMissing (length c.args.books.items) c.args.passes.items in
     subst F (sym m.told) (
       omega (arith, c.loop-book.invariant.shard, ap length c.loop-book.invariant.left, length-append c.loop-book.yielded (into_iter_items c.loop-book.book-iterator), ap length steps.0),
-      missing.own ∙ made_own c.in-Some-next.pass.book.first c.in-Some-next.pass.marks ∙ sym (ap (λ ms. length (own_visits ms)) marks),
+      missing.made ∙ made_own c.in-Some-next.pass.book.first c.in-Some-next.pass.marks ∙ sym (ap (λ ms. length (made_visits ms)) marks),
       missing.fewer,
     )
 
@@ -56,7 +56,7 @@ loop-book-preserved c =
     let rest = into_iter_items c.next-in-loop-book.new.self in
     let all : p.0 ++ c.in-Some-next.pass ∷ rest ≡ c.args.passes.items = ap (λ ps. p.0 ++ ps) (sym c.in-Some-next.ensures.items) ∙ p.1 in
     let books : c.loop-book.yielded ++ c.in-Some.book ∷ into_iter_items c.next.new.self ≡ c.args.books.items = ap (λ bs. c.loop-book.yielded ++ bs) (sym steps.0) ∙ c.loop-book.invariant.left in
-    let own = next_book p.0 rest c.in-Some-next.pass c.args.passes.items c.loop-book.yielded (into_iter_items c.next.new.self) c.in-Some.book c.args.books.items all c.requires.own p.2 books in
+    let own = next_book p.0 rest c.in-Some-next.pass c.args.passes.items c.loop-book.yielded (into_iter_items c.next.new.self) c.in-Some.book c.args.books.items all c.requires.belong p.2 books in
     let place : length p.0 ≡ length c.loop-book.closed.items = omega (arith, ap length p.2, length-map p.0 (λ (k : PassView). k.book), c.loop-book.invariant.number) in
     let A : List PassView → Type 0 = λ ps. slice_get ps (length c.loop-book.closed.items) ≡ Some c.in-Some-next.pass in
     let N : ℕ → Type 0 = λ n. slice_get (p.0 ++ c.in-Some-next.pass ∷ rest) n ≡ Some c.in-Some-next.pass in

@@ -2,7 +2,8 @@ use Rattle.std.proofs.Common.{ℕ, ◌++◌, codes, length, map, ap, ◌∙◌, 
 use Rattle.std.specs.List.{flat_map}
 use Rattle.shard_book.specs.Shown.{validator_sum}
 use Rattle.shard_book.specs.Sums.{sums_of}
-use Rattle.fare_service.specs.Text.{uploads_section, validators_section, section_head, token_line}
+use Rattle.fare_texts.specs.SumLines.{token_line}
+use Rattle.fare_service.specs.Text.{uploads_section, validators_section, section_head}
 use Rattle.fare_texts.specs.Counts.{totals_line}
 use Rattle.fare_service.proofs.Parts.{before_lines}
 use Rattle.fare_service.proofs.text.report.report_front.Goals as goal

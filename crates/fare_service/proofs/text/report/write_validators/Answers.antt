@@ -3,7 +3,8 @@ use Rattle.std.proofs.lemmas.List.{length-map}
 use Rattle.std.proofs.lemmas.Result.{on_ok_weaker}
 use Rattle.std.specs.List.{flat_map}
 use Rattle.shard_book.specs.Shown.{validator_sum}
-use Rattle.fare_service.specs.Text.{section_head, validator_line}
+use Rattle.fare_texts.specs.SumLines.{validator_line}
+use Rattle.fare_service.specs.Text.{section_head}
 use Rattle.fare_service.proofs.Parts.{in_parts}
 use Rattle.fare_service.proofs.text.report.write_validators.Goals as goal
 

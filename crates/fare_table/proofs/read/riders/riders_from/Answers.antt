@@ -9,7 +9,7 @@ use Rattle.toml.specs.View.{members_view, view}
 use Rattle.fare_table.proofs.TokenBytes.{found-by_bytes, insert-by_bytes}
 use Rattle.fare_table.specs.Riders.{is_rider, rider_of, riders_from}
 use Rattle.fare_table.specs.declared.fault.TableFault.TheVariants.{Rider}
-use Rattle.fare_table.specs.Terms.{HasLimits}
+use Rattle.fare_table.specs.Terms.{AreBoundedTerms}
 use Rattle.fare_table.specs.Token.{Fits, by_bytes, token_cmp}
 use Rattle.fare_table.specs.declared.terms.Terms.{Terms}
 use Rattle.fare_table.proofs.read.riders.riders_from.Goals as goal
@@ -78,6 +78,6 @@ loop-key-preserved c =
       fits = rw c.in_ok-insert.ensures.entries
           (All-keys-insert_entry token_cmp c.of-token.result terms Fits entries fits
           c.of-token.ensures.fits);
-      limits = rw one (All-values-insert_entry (slice_cmp nat_cmp) bytes terms HasLimits earlier
-          c.loop-key.invariant.limits c.in_ok-bytes.ensures.limits);
+      bounds = rw one (All-values-insert_entry (slice_cmp nat_cmp) bytes terms AreBoundedTerms earlier
+          c.loop-key.invariant.bounds c.in_ok-bytes.ensures.bounds);
     }

@@ -2,7 +2,7 @@ use Rattle.std.proofs.Common.{◌≡◌, [], All}
 use Rattle.std.specs.Map.{keys_of, values_of}
 use Rattle.toml.specs.View.{members_view}
 use Rattle.fare_table.specs.Riders.{riders_from}
-use Rattle.fare_table.specs.Terms.{HasLimits}
+use Rattle.fare_table.specs.Terms.{AreBoundedTerms}
 use Rattle.fare_table.specs.Token.{Fits, by_bytes}
 use Rattle.fare_table.proofs.read.riders.riders_from.Given as goal
 
@@ -13,5 +13,5 @@ invariant-loop-key l = record {
       ≡ riders_from (members_view l.classes.entries) (by_bytes l.riders.entries)
       (members_view l.key-iterator);
   fits : All Fits (keys_of l.riders.entries);
-  limits : All HasLimits (values_of (by_bytes l.riders.entries));
+  bounds : All AreBoundedTerms (values_of (by_bytes l.riders.entries));
 }

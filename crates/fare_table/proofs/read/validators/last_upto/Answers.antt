@@ -7,11 +7,11 @@ pub returns-in-Some : goal.returns-in-Some
 returns-in-Some c =
     let ranges = c.args.ranges.now.entries in
     let listed : begun c.args.number ranges ≡ c.next_back.new.self
-    ++ (c.in-Some._first.now, c.in-Some.span.now) ∷ [] =
+    ++ (c.in-Some._first.now, c.in-Some.rest.now) ∷ [] =
     sym (c.range.ensures.between tt) ∙ c.in-Some.ensures.steps in
-    let last : last_begun c.args.number ranges ≡ Some (c.in-Some._first.now, c.in-Some.span.now) =
+    let last : last_begun c.args.number ranges ≡ Some (c.in-Some._first.now, c.in-Some.rest.now) =
     sym (last_begun-begun c.args.number ranges c.requires) ∙ ap last_of listed
-    ∙ last_of-append c.next_back.new.self (c.in-Some._first.now, c.in-Some.span.now) in
+    ∙ last_of-append c.next_back.new.self (c.in-Some._first.now, c.in-Some.rest.now) in
     rw last
 
 pub returns-in-None : goal.returns-in-None

@@ -9,11 +9,11 @@ use Rattle.toml.specs.View.{items_view, view}
 use Rattle.toml.specs.declared.value.Value.{Value}
 use Rattle.fare_table.proofs.OverlapLemmas.{stands-insert, known-insert}
 use Rattle.fare_table.specs.Validators.{range_in, ranges_from, share_number}
-use Rattle.fare_table.specs.declared.validators.Span.{Span}
+use Rattle.fare_table.specs.declared.validators.RangeRest.{RangeRest}
 use Rattle.fare_table.proofs.read.validators.ranges_from.Goals as goal
 
-ranges-step : (modes : List (List ℕ)) (earlier ranges : List (ℕ × Span)) (value : Data)
-    (more : Items) (range : ℕ × Span) → range_in modes value ≡ Ok range
+ranges-step : (modes : List (List ℕ)) (earlier ranges : List (ℕ × RangeRest)) (value : Data)
+    (more : Items) (range : ℕ × RangeRest) → range_in modes value ≡ Ok range
     → list_any (share_number range) earlier ≡ false
     → ranges ≡ insert_entry nat_cmp earlier range.0 range.1
     → ranges_from modes earlier (item value more) ≡ ranges_from modes ranges more
@@ -25,7 +25,7 @@ loop-value-preserved c =
     let i = c.loop-value.value-index in
     let modes = map string_bytes c.args.modes.now in
     let earlier = c.loop-value.ranges.entries in
-    let range : ℕ × Span = (c.in_ok-first.first, c.in_ok-first.span) in
+    let range : ℕ × RangeRest = (c.in_ok-first.first, c.in_ok-first.rest) in
     let free : list_any (share_number range) earlier ≡ false = sym c.if-shares_number.ensures in
     let read : c.value-item.result ≡ get_or items i c.value-item.result =
     let P : List Value → Type 0 =

@@ -10,7 +10,7 @@ loop-tap-init c =
     let run = c.args.run.now in
     posting-none run c.into_iter-tap-iterator.result c.args.self.now c.args.out.now
     (c.into_iter-tap-iterator.ensures.into_iter_gives ∙ c.taps-tap-items.ensures.taps)
-    (subst (λ (taps : List Tap). AllByRecursion (IsShardTap run.shard run.shards) taps) (sym c.into_iter-tap-iterator.ensures.into_iter_gives) c.taps-tap-items.ensures.own)
+    (subst (λ (taps : List Tap). AllByRecursion (IsShardTap run.shard run.shards) taps) (sym c.into_iter-tap-iterator.ensures.into_iter_gives) c.taps-tap-items.ensures.in_shard)
     c.requires.legal
 
 pub push-requires : goal.push-requires

@@ -6,14 +6,14 @@ use Rattle.shared_books.proofs.drawing.Draw.join.Goals as goal
 
 pub join_seat-requires : goal.join_seat-requires
 join_seat-requires c =
-    let home : c.drawer.inside.seat.table_id ≡ c.self.inside.table.shared.table_id = ap (λ d. d.drawn_from.home) c.drawer.view_is ∙ (ap (λ d. d.home) c.requires.own ∙ sym (ap (λ d. d.home) c.self.view_is)) in
+    let home : c.drawer.inside.seat.table_id ≡ c.self.inside.table.shared.table_id = ap (λ d. d.drawn_from.home) c.drawer.view_is ∙ (ap (λ d. d.home) c.requires.belongs ∙ sym (ap (λ d. d.home) c.self.view_is)) in
     let other : c.other.inside.seat.table_id ≡ c.self.inside.table.shared.table_id = ap (λ d. d.drawn_from.home) c.other.view_is ∙ (ap (λ d. d.home) c.requires.other ∙ sym (ap (λ d. d.home) c.self.view_is)) in
     let word : 0 < c.self.inside.table.shared.table_id.words = omega (arith, c.self.invariant.1) in
     (home, other, c.other.invariant.carries, word, meets _ _ _ _ _ c.drawer.invariant.unjoined c.other.invariant.unjoined)
 
 pub load-requires : goal.load-requires
 load-requires c =
-    let home : c.drawer.inside.seat.table_id ≡ c.self.inside.table.shared.table_id = ap (λ d. d.drawn_from.home) c.drawer.view_is ∙ (ap (λ d. d.home) c.requires.own ∙ sym (ap (λ d. d.home) c.self.view_is)) in
+    let home : c.drawer.inside.seat.table_id ≡ c.self.inside.table.shared.table_id = ap (λ d. d.drawn_from.home) c.drawer.view_is ∙ (ap (λ d. d.home) c.requires.belongs ∙ sym (ap (λ d. d.home) c.self.view_is)) in
     let word : 0 < c.self.inside.table.shared.table_id.words = omega (arith, c.self.invariant.1) in
     (c.join_seat.ensures.0 ∙ home, word, looks _ _ _ _ (ap (λ m. m.0.unjoined) c.join_seat.ensures.2))
 

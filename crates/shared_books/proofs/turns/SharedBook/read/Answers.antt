@@ -43,7 +43,7 @@ pub returns-clause-read : goal.returns-clause-read
 returns-clause-read g c =
     let taken = c.in_ok-number.ensures.taken in
     let given = c.give.ensures.given [] (entries_now _ _ _ _ _ _ taken (nothing_more _)) in
-    let table : c.in_ok-number.book.value.table ≡ c.args.self.now.table = table_out _ _ _ _ _ _ c.pass.view_is taken ∙ ap (λ o. o.table) c.requires.own in
+    let table : c.in_ok-number.book.value.table ≡ c.args.self.now.table = table_out _ _ _ _ _ _ c.pass.view_is taken ∙ ap (λ o. o.table) c.requires.belongs in
     let seen = seen_out c.give.new.seat.table_id _ _ _ _ _ taken given in (
       visit_told _ _ _ _ _ _ _ _ [] c.pass.view_is (c.give.ensures.same ∙ c.take.ensures.same) taken given (legal_now _ _ _ _ _ _ taken (nothing_more _) (legal_out _ _ _ _ taken)),
       subst (λ es. IsStatement c.args.self.now.table es c.args.token.now c.in_ok-statement.field-0) seen

@@ -20,8 +20,8 @@ loop-preserved-then-found-eq1 g c = record {
   goes_on = goes_on _ _ _ c.loop.invariant.goes_on (seen_goes_on _ _ _ c.look-found.ensures.seen);
 }
 
-pub try_take-requires-clause-own : goal.try_take-requires-clause-own
-try_take-requires-clause-own g c = c.look-found.ensures.same ∙ (c.loop.invariant.home ∙ c.requires.own)
+pub try_take-requires-clause-belongs : goal.try_take-requires-clause-belongs
+try_take-requires-clause-belongs g c = c.look-found.ensures.same ∙ (c.loop.invariant.home ∙ c.requires.belongs)
 
 pub try_take-requires-clause-free : goal.try_take-requires-clause-free
 try_take-requires-clause-free g c = still_free _ _ c.requires.free (goes_on _ _ _ c.loop.invariant.goes_on (seen_goes_on _ _ _ c.look-found.ensures.seen))

@@ -1,4 +1,4 @@
-use Rattle.std.proofs.Common.{◌≡◌, ℕ, List, [], ◌++◌, ◌∷◌, map, Ok, Err, Some, None, ap, ◌∙◌, sym}
+use Rattle.std.proofs.Common.{◌≡◌, ℕ, List, [], ◌++◌, ◌∷◌, map, Ok, Err, ap, ◌∙◌, sym}
 use Rattle.std.proofs.Common.{refl, subst, append_assoc, append-nil}
 use Rattle.std.proofs.lemmas.List.{map-append}
 use Rattle.tap_views.specs.Encoding.{fields_of}
@@ -64,12 +64,11 @@ returns-in-Err c =
     (Err c.in-Err.field-0) c.loop-item.item-iterator c.loop-item.invariant.reading made.1
     step) in (
       map fields_of (taps_of_batches made.0),
-      record {
-        batches = made.0;
-        fault = Some c.in-Err.field-0;
-        read = record { rest = read.0; is_file = read.1; is_end = read.2 };
-        all = refl;
-      },
+      (
+        taps_of_batches made.0,
+        record { batches = made.0; rest = read.0; is_file = read.1; all = refl },
+        refl,
+      ),
       made.2,
     )
 
@@ -81,11 +80,10 @@ returns c =
     (subst P (ap (λ (left : List Item). c.loop-item.yielded ++ left) c.in-None.ensures.steps.0
     ∙ (append-nil c.loop-item.yielded ∙ made.1)) c.loop-item.invariant.reading) in (
       map fields_of (taps_of_batches made.0),
-      record {
-        batches = made.0;
-        fault = None;
-        read = record { rest = read.0; is_file = read.1; is_end = read.2 };
-        all = refl;
-      },
+      (
+        taps_of_batches made.0,
+        record { batches = made.0; rest = read.0; is_file = read.1; all = refl },
+        refl,
+      ),
       made.2,
     )

@@ -24,8 +24,8 @@ returns-clause-taps c =
     (kept_left c.self.inside.places c.self.inside.shard c.self.inside.shards taps
     c.self.invariant.3)
 
-pub returns-clause-own : goal.returns-clause-own
-returns-clause-own c =
+pub returns-clause-in_shard : goal.returns-clause-in_shard
+returns-clause-in_shard c =
     let taps = taps_in (layout_of c.self.inside.shared) c.self.inside.count
     c.self.inside.records.now in
     rw (returns-clause-taps c, ← c.self.view_is)

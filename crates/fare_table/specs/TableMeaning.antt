@@ -1,0 +1,49 @@
+-- What the keys of a table's text mean.
+use Rattle.std.specs.Prelude.{ℕ, List, Option, Ok}
+use Rattle.std.specs.Option.{ok_or}
+use Rattle.toml.specs.Data.{Members}
+use Rattle.toml.specs.Parse.{parse_document}
+use Rattle.fare_table.specs.Classes.{classes_of, default_of}
+use Rattle.fare_table.specs.Modes.{modes_of}
+use Rattle.fare_table.specs.OrFault.{OrFault, ◌>>=◌}
+use Rattle.fare_table.specs.Riders.{riders_of}
+use Rattle.fare_table.specs.Transfers.{transfers_of}
+use Rattle.fare_table.specs.Validators.{ranges_of}
+use Rattle.fare_table.specs.Zone.{zone_of}
+use Rattle.fare_table.specs.declared.fault.TableFault.TheVariants.{Text}
+use Rattle.fare_table.specs.declared.terms.Terms.{Terms}
+use Rattle.fare_table.specs.declared.validators.RangeRest.{RangeRest}
+
+-- the modes' names by their places, the pairs of places with a transfer, each once, the terms of
+-- the default class, the ranges of validators by their first numbers, rising, the terms of the
+-- riders by their tokens, rising, and the text of the zone
+pub record TableMeaning : Type 0 where
+  pub modes : List (List ℕ)
+  pub transfers : List (ℕ × ℕ)
+  pub standard : Terms
+  pub ranges : List (ℕ × RangeRest)
+  pub riders : List (List ℕ × Terms)
+  pub zone : Option (List ℕ)
+
+-- the meaning of a table's tree, or the fault of the first key that has one
+unfoldable pub meaning_of_tree : Members → OrFault TableMeaning
+meaning_of_tree tree = do
+  modes ← modes_of tree
+  transfers ← transfers_of modes tree
+  classes ← classes_of tree
+  standard ← default_of classes tree
+  ranges ← ranges_of modes tree
+  riders ← riders_of classes tree
+  zone ← zone_of tree
+  Ok (record {
+    modes = modes;
+    transfers = transfers;
+    standard = standard;
+    ranges = ranges;
+    riders = riders;
+    zone = zone;
+  })
+
+-- the meaning of a table's text, or the first fault that keeps it from having one
+abbrev pub meaning_in : List ℕ → OrFault TableMeaning
+meaning_in text = ok_or (parse_document text) Text >>= meaning_of_tree

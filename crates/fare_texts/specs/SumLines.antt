@@ -1,0 +1,16 @@
+-- The lines of a report that tell the sums of a validator and of a token.
+use Rattle.std.specs.Prelude.{ℕ, List, ◌++◌, codes}
+use Rattle.std.specs.Fmt.{decimal}
+use Rattle.hex.specs.Hex.{encode_lower}
+use Rattle.fare_table.specs.Token.{bytes_of}
+use Rattle.fare_table.specs.declared.token.Token.{Token}
+use Rattle.shard_book.specs.Sums.{Sums}
+use Rattle.fare_texts.specs.Counts.{counts}
+
+-- `validator 9 taps 1 paid 0 ..`
+abbrev pub validator_line : ℕ × Sums → List ℕ
+validator_line sum = codes "validator " ++ (decimal sum.0 ++ (codes " " ++ counts sum.1))
+
+-- `token 000000000000000000000000000000a1 taps 4 paid 2 ..`
+abbrev pub token_line : Token × Sums → List ℕ
+token_line sum = codes "token " ++ (encode_lower (bytes_of sum.0) ++ (codes " " ++ counts sum.1))

@@ -1,5 +1,0 @@
-use Rattle.ledger_check.proofs.VerdictLemmas.{decide}
-use Rattle.ledger_check.proofs.laws.verdicts.Goals as goal
-
-pub returns : goal.returns
-returns c = decide

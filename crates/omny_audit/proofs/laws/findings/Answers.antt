@@ -1,8 +1,0 @@
-use Rattle.ledger_check.specs.Verdicts.{is_legal}
-use Rattle.omny_audit.proofs.FindingLemmas.{decides}
-use Rattle.omny_audit.proofs.laws.findings.Goals as goal
-
-pub returns : goal.returns
-returns c = λ fares text good told well finding.
-    decides c.differences.ensures.apart fares text good (is_legal finding.verdict) finding.rest well
-    (c.verdicts.ensures fares text finding.verdict finding.is_verdict) finding.second

@@ -1,0 +1,69 @@
+//! A line on a terminal that says how far a long run is.
+ghost use Rattle.std.specs.Prelude.{◌≡◌, [], IfOk, IfSome, false};
+ghost use Rattle.program_manners.specs.TerminalLine.{line_with, IsWrittenOnce};
+
+use arrayvec::ArrayString;
+use std::fmt;
+use std::fmt::{Display, Write as _};
+use std::io::Write;
+
+/// After how many milliseconds of a run its line is shown first.
+pub const QUIET_MS: u64 = 1_000;
+
+/// How many milliseconds a line stays before the next one.
+pub const PACE_MS: u64 = 200;
+
+/// What shows a text, or an error where that is more than 80 bytes.
+fn line_of<D: Display + Drop>(text: D) -> Result<ArrayString<80>, fmt::Error>
+    ensures { IfOk result (λ line. IfSome (D.output text) (λ shown.
+        line.bytes ≡ line_with shown)) }
+{
+    let mut line = ArrayString::new();
+    write!(line, "\r{text}\x1b[K")?;
+    Ok(line)
+}
+
+/// The last line of a terminal, on which one text after another is shown.
+#[derive(Drop)]
+pub struct TerminalLine<W: Write + Drop> {
+    /// The terminal.
+    to: W,
+    /// Whether a text is there.
+    is_shown: bool,
+}
+
+impl<W: Write + Drop> TerminalLine<W> {
+    /// A line with no text.
+    pub fn new(to: W) -> TerminalLine<W>
+        ensures { result ≡ record { to = to; is_shown = false } }
+    {
+        TerminalLine {
+            to,
+            is_shown: false,
+        }
+    }
+
+    /// Shows a text in place of the one that is there, by one write. That one may be longer, so
+    /// what follows the text is cleared. A text of more than 76 bytes is not shown.
+    pub fn show<D: Display + Drop>(&mut self, text: D)
+        ensures { IfSome (D.output text) (λ shown. IsWrittenOnce (W.contents self.old.to)
+            (W.contents self.new.to) (line_with shown)) }
+    {
+        if let Ok(line) = line_of(text) {
+            let _ = self.to.write(line.as_bytes());
+            self.is_shown = true;
+        }
+    }
+
+    /// Takes the text away.
+    pub fn clear(&mut self)
+        ensures written { IsWrittenOnce (W.contents self.old.to) (W.contents self.new.to)
+            (line_with []) }
+        ensures none { self.new.is_shown ≡ false }
+    {
+        if self.is_shown {
+            let _ = self.to.write(b"\r\x1b[K");
+            self.is_shown = false;
+        }
+    }
+}
