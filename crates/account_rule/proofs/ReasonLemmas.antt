@@ -17,7 +17,7 @@ use Rattle.account_rule.specs.declared.tap.TapIn.{TapIn}
 use Rattle.account_rule.specs.declared.window.Window.{Window}
 use Rattle.account_rule.specs.Chains.{chains, continues, ends_in_transfer, is_even}
 use Rattle.account_rule.specs.Blocks.{blocks_by, blocks_from, last_block}
-use Rattle.account_rule.specs.Kept.{State, is_after, kept_giver, kept_window}
+use Rattle.account_rule.specs.Kept.{Kept, is_after, kept_giver, kept_window}
 use Rattle.account_rule.specs.inside.Kept.{gives, next_reason, open_window, window_at}
 use Rattle.account_rule.specs.Reasons.{charge_by, charged_by, given_by, latest, live_reason, reason}
 use Rattle.account_rule.specs.Reasons.{replied_by, ride_of}
@@ -101,7 +101,7 @@ later-true (tap ∷ taps) moment h =
       | false ↦ λ all. later-true taps moment all
     ] h
 
-last-latest : (state : State) (taps : List TapIn)
+last-latest : (state : Kept) (taps : List TapIn)
     → ((moment : ℕ) → is_after (Some state) moment ≡ is_later taps moment)
     → state.last ≡ latest taps
 unfolding is_after
@@ -215,7 +215,7 @@ ride_of-after rules (first ∷ window) ride =
 
 -- what the account keeps tells the reason
 
-pub why_stale : (rules : TokenRules) (account : Option State) (state : State) (taps : List TapIn)
+pub why_stale : (rules : TokenRules) (account : Option Kept) (state : Kept) (taps : List TapIn)
     (tap : TapIn) (mode : Mode)
     → account ≡ Some state → KeepsOf rules account taps → tap.mode ≡ Some mode
     → tap.moment ≤ state.last
@@ -228,7 +228,7 @@ why_stale rules account state taps tap mode same stands known before =
     ap (λ moment. Stale moment) (last-latest state taps kept.last)
     ∙ sym (reason_stale rules taps tap mode known not_after)
 
-pub why_transfer : (rules : TokenRules) (account : Option State) (state : State) (taps : List TapIn)
+pub why_transfer : (rules : TokenRules) (account : Option Kept) (state : Kept) (taps : List TapIn)
     (tap : TapIn) (mode : Mode)
     → account ≡ Some state → KeepsOf rules account taps → tap.mode ≡ Some mode
     → state.last < tap.moment
@@ -249,7 +249,7 @@ why_transfer rules account state taps tap mode same stands known after given =
     ∙ sym (reason_live rules taps tap mode known later
     ∙ reason_transfer rules taps (taps ++ tap ∷ []) ends)
 
-pub why_ride : (rules : TokenRules) (account : Option State) (taps : List TapIn) (tap : TapIn)
+pub why_ride : (rules : TokenRules) (account : Option Kept) (taps : List TapIn) (tap : TapIn)
     (mode : Mode) (terms : Terms) (window : Window)
     → KeepsOf rules account taps → tap.mode ≡ Some mode → tap.until ≡ rules.until tap.moment
     → GivesNone rules.permits account tap mode

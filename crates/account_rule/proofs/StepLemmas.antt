@@ -17,7 +17,7 @@ use Rattle.account_rule.specs.Chains.{chains, ends_in_transfer}
 use Rattle.account_rule.specs.Blocks.{last_block}
 use Rattle.account_rule.specs.Replies.{live_reply, reply, reply_with, ride_reply}
 use Rattle.account_rule.specs.TokenRules.{TokenRules}
-use Rattle.account_rule.specs.Kept.{KeepsTerms, State, state_of, is_after, kept_giver, kept_of}
+use Rattle.account_rule.specs.Kept.{KeepsTerms, Kept, kept_numbers, is_after, kept_giver, kept_of}
 use Rattle.account_rule.specs.Kept.{kept_window}
 use Rattle.account_rule.specs.inside.Kept.{IsRoomy, gives, open_window, window_at, with_ride}
 use Rattle.account_rule.specs.Stands.{KeepsOf, Stands, giver_of, window_of}
@@ -30,7 +30,7 @@ use Rattle.account_rule.proofs.WindowLemmas.{charge-after, roomy, window_of-afte
 
 -- an account with a window keeps what stands in its fields
 pub kept-open : (account : Account) → account.has_window ≡ true
-    → kept_of account ≡ Some (state_of account)
+    → kept_of account ≡ Some (kept_numbers account)
 unfolding kept_of
 kept-open account there = rw there refl
 
@@ -41,19 +41,19 @@ kept-fresh account fresh = rw fresh refl
 
 -- an account with a window stands for what its fields stand for
 pub stands-open : (rules : TokenRules) (account : Account) (taps : List TapIn)
-    → account.has_window ≡ true → KeepsOf rules (Some (state_of account)) taps
+    → account.has_window ≡ true → KeepsOf rules (Some (kept_numbers account)) taps
     → Stands rules account taps
 unfolding Stands
 stands-open rules account taps there keeps = rw (kept-open account there) keeps
 
 -- a step from one state to the next is the rule's
 pub record IsStep (rules : TokenRules) (taps : List TapIn) (tap : TapIn) (answered : Reply)
-    (next : Option State) : Type 0 where
+    (next : Option Kept) : Type 0 where
   pub reply : answered ≡ reply rules taps tap
   pub stands : KeepsOf rules next (taps ++ tap ∷ [])
 
 -- a tap that is not live changes nothing but what is later
-same : (rules : TokenRules) (state : Option State) (taps : List TapIn) (tap : TapIn)
+same : (rules : TokenRules) (state : Option Kept) (taps : List TapIn) (tap : TapIn)
     → KeepsOf rules state taps
     → live_tap taps tap ≡ None
     → ((moment : ℕ) → is_later (taps ++ tap ∷ []) moment ≡ is_later taps moment)
@@ -117,7 +117,7 @@ unfolding live_reply
 reply_ride rules taps ends = rw ends refl
 
 -- a tap of no known validator
-pub unknown : (rules : TokenRules) (state : Option State) (taps : List TapIn) (tap : TapIn)
+pub unknown : (rules : TokenRules) (state : Option Kept) (taps : List TapIn) (tap : TapIn)
     → KeepsOf rules state taps
     → tap.mode ≡ None → IsStep rules taps tap (reply_with Unknown 0) state
 unknown rules state taps tap stands none = record {
@@ -126,7 +126,7 @@ unknown rules state taps tap stands none = record {
       (λ moment. is_later-push taps tap moment ∙ rw none (and-true (is_later taps moment)));
 }
 
-at_state : (rules : TokenRules) (account : Option State) (state : State) (taps : List TapIn)
+at_state : (rules : TokenRules) (account : Option Kept) (state : Kept) (taps : List TapIn)
     → account ≡ Some state
     → KeepsOf rules account taps → KeepsOf rules (Some state) taps
 at_state rules account state taps same stands = rw same at stands
@@ -142,7 +142,7 @@ later_stale last moment earlier before =
     ] refl
 
 -- a known tap that is not later than all known taps before it
-stale_at : (rules : TokenRules) (state : State) (taps : List TapIn) (tap : TapIn) (mode : Mode)
+stale_at : (rules : TokenRules) (state : Kept) (taps : List TapIn) (tap : TapIn) (mode : Mode)
     → KeepsOf rules (Some state) taps
     → tap.mode ≡ Some mode → tap.moment ≤ state.last
     → IsStep rules taps tap (reply_with Stale 0) (Some state)
@@ -157,7 +157,7 @@ stale_at rules state taps tap mode stands known before =
           ∙ rw (known, ← stands.last moment) (later_stale state.last moment tap.moment before));
     }
 
-both : (state : Option State) (tapped moment : ℕ) → is_after state tapped ≡ true
+both : (state : Option Kept) (tapped moment : ℕ) → is_after state tapped ≡ true
     → (is_after state moment && ltb tapped moment) ≡ ltb tapped moment
 unfolding is_after
 both None tapped moment later = refl
@@ -169,7 +169,7 @@ both (Some state) tapped moment later =
           [ true ↦ refl | false ↦ refl ]
     ] refl
 
-pub stale : (rules : TokenRules) (account : Option State) (state : State) (taps : List TapIn)
+pub stale : (rules : TokenRules) (account : Option Kept) (state : Kept) (taps : List TapIn)
     (tap : TapIn) (mode : Mode)
     → account ≡ Some state → KeepsOf rules account taps → tap.mode ≡ Some mode
     → tap.moment ≤ state.last
@@ -178,7 +178,7 @@ stale rules account state taps tap mode same stands known before =
     stale_at rules state taps tap mode (at_state rules account state taps same stands) known before
 
 -- a live tap is the last moment from then on
-later_live : (state : Option State) (taps : List TapIn) (tap : TapIn) (mode : Mode) (moment : ℕ)
+later_live : (state : Option Kept) (taps : List TapIn) (tap : TapIn) (mode : Mode) (moment : ℕ)
     → ((other : ℕ) → is_after state other ≡ is_later taps other) → tap.mode ≡ Some mode
     → is_after state tap.moment ≡ true
     → ltb tap.moment moment ≡ is_later (taps ++ tap ∷ []) moment
@@ -187,7 +187,7 @@ later_live state taps tap mode moment last known later =
     sym (is_later-push taps tap moment
     ∙ rw (known, ← last moment) (both state tap.moment moment later))
 
-keeps_terms : (terms : Terms) (state next : State) → Some state ≡ Some next → state.terms ≡ terms
+keeps_terms : (terms : Terms) (state next : Kept) → Some state ≡ Some next → state.terms ≡ terms
     → AreBoundedTerms state.terms → KeepsTerms terms next
 keeps_terms terms state next some kept bounds =
     let same : state ≡ next = cc in
@@ -195,7 +195,7 @@ keeps_terms terms state next some kept bounds =
     subst (λ s. KeepsTerms terms s) same keeps
 
 -- a live tap to which the last one gives a transfer
-transfer_at : (rules : TokenRules) (state : State) (taps : List TapIn) (tap : TapIn) (mode : Mode)
+transfer_at : (rules : TokenRules) (state : Kept) (taps : List TapIn) (tap : TapIn) (mode : Mode)
     → KeepsOf rules (Some state) taps
     → tap.mode ≡ Some mode → state.last < tap.moment
     → gives rules.permits (kept_giver (Some state)) (live_at tap.moment mode) ≡ true
@@ -229,7 +229,7 @@ transfer_at rules state taps tap mode stands known after given =
       };
     }
 
-pub transfer : (rules : TokenRules) (account : Option State) (state : State) (taps : List TapIn)
+pub transfer : (rules : TokenRules) (account : Option Kept) (state : Kept) (taps : List TapIn)
     (tap : TapIn) (mode : Mode)
     → account ≡ Some state → KeepsOf rules account taps → tap.mode ≡ Some mode
     → state.last < tap.moment
@@ -247,7 +247,7 @@ transfer rules account state taps tap mode same stands known after given =
     after given
 
 -- a live tap to which no transfer is given
-ride_at : (rules : TokenRules) (state : Option State) (taps : List TapIn) (tap : TapIn) (mode : Mode)
+ride_at : (rules : TokenRules) (state : Option Kept) (taps : List TapIn) (tap : TapIn) (mode : Mode)
     (window : Window)
     → KeepsOf rules state taps
     → tap.mode ≡ Some mode → mode.place < rules.modes → is_after state tap.moment ≡ true
@@ -299,12 +299,12 @@ ride_at rules state taps tap mode window stands known listed after not_given at 
 
 -- what an account does not give: it has no last tap, or one that gives no transfer
 pub record GivesNone (permits : Mode → Mode
-    → Bool) (account : Option State) (tap : TapIn) (mode : Mode) : Type 0 where
+    → Bool) (account : Option Kept) (tap : TapIn) (mode : Mode) : Type 0 where
   pub after : is_after account tap.moment ≡ true
   pub none : gives permits (kept_giver account) (live_at tap.moment mode) ≡ false
 
 pub gives_none-fresh : (permits : Mode → Mode
-    → Bool) (account : Option State) (tap : TapIn) (mode : Mode)
+    → Bool) (account : Option Kept) (tap : TapIn) (mode : Mode)
     → account ≡ None → GivesNone permits account tap mode
 unfolding is_after kept_giver gives
 gives_none-fresh permits account tap mode fresh = record {
@@ -313,7 +313,7 @@ gives_none-fresh permits account tap mode fresh = record {
 }
 
 pub gives_none-state : (permits : Mode → Mode
-    → Bool) (account : Option State) (state : State) (tap : TapIn) (mode : Mode)
+    → Bool) (account : Option Kept) (state : Kept) (tap : TapIn) (mode : Mode)
     → account ≡ Some state → state.last < tap.moment
     → gives permits (option_map (live_at state.last) state.giver) (live_at tap.moment mode) ≡ false
     → GivesNone permits account tap mode
@@ -322,7 +322,7 @@ gives_none-state permits account state tap mode same after none =
     record { after = rw same (lt-ltb state.last tap.moment after); none = rw same none }
 
 -- the window to which the ride belongs has room for it
-pub room : (rules : TokenRules) (account : Option State) (taps : List TapIn) (tap : TapIn)
+pub room : (rules : TokenRules) (account : Option Kept) (taps : List TapIn) (tap : TapIn)
     (terms : Terms) (window : Window)
     → KeepsOf rules account taps → window ≡ window_at (kept_window account) tap.moment tap.until
     → terms ≡ rules.terms → AreBoundedTerms terms → IsRoomy terms window
@@ -331,7 +331,7 @@ room rules account taps tap terms window stands at same_terms bounds =
     (roomy rules (last_block (windows rules taps)) tap.moment tap.until
     (rw same_terms at bounds))
 
-pub ride : (rules : TokenRules) (account : Option State) (taps : List TapIn) (tap : TapIn) (mode : Mode)
+pub ride : (rules : TokenRules) (account : Option Kept) (taps : List TapIn) (tap : TapIn) (mode : Mode)
     (terms : Terms) (window counted : Window) (cents : ℕ)
     → KeepsOf rules account taps
     → tap.mode ≡ Some mode → mode.place < rules.modes → tap.until ≡ rules.until tap.moment
@@ -352,23 +352,23 @@ ride rules account taps tap mode terms window counted cents stands known listed 
     (rw limit at at) (rw same_terms at bounds))
 
 -- what a token that has an account pays is what the account keeps
-pub kept_terms : (rules : TokenRules) (account : Option State) (state : State) (taps : List TapIn)
+pub kept_terms : (rules : TokenRules) (account : Option Kept) (state : Kept) (taps : List TapIn)
     → account ≡ Some state → KeepsOf rules account taps → KeepsTerms rules.terms state
 kept_terms rules account state taps same stands = stands.terms state same
 
 -- the window of a ride in an account that has a window, and of a first ride
-pub at_kept : (account : Option State) (state : State) (start until : ℕ) → account ≡ Some state
+pub at_kept : (account : Option Kept) (state : Kept) (start until : ℕ) → account ≡ Some state
     → window_at (Some state.window) start until ≡ window_at (kept_window account) start until
 unfolding kept_window
 at_kept account state start until same = rw same refl
 
-pub at_fresh : (account : Option State) (start until : ℕ) → account ≡ None
+pub at_fresh : (account : Option Kept) (start until : ℕ) → account ≡ None
     → open_window start until ≡ window_at (kept_window account) start until
 unfolding kept_window window_at
 at_fresh account start until fresh = rw fresh refl
 
 -- a ride of an account that has a window
-pub next_ride : (rules : TokenRules) (account : Option State) (state next : State) (taps : List TapIn)
+pub next_ride : (rules : TokenRules) (account : Option Kept) (state next : Kept) (taps : List TapIn)
     (tap : TapIn) (mode : Mode) (cents : ℕ)
     → account ≡ Some state → KeepsOf rules account taps
     → tap.mode ≡ Some mode → mode.place < rules.modes → tap.until ≡ rules.until tap.moment
@@ -395,7 +395,7 @@ next_ride rules account state next taps tap mode cents same stands known listed 
     (at_kept account state tap.moment tap.until same) cost refl)
 
 -- the first ride of an account
-pub first_ride : (rules : TokenRules) (account next : Option State) (taps : List TapIn) (tap : TapIn)
+pub first_ride : (rules : TokenRules) (account next : Option Kept) (taps : List TapIn) (tap : TapIn)
     (mode : Mode) (answered : Reply)
     → account ≡ None → KeepsOf rules account taps
     → tap.mode ≡ Some mode → mode.place < rules.modes → tap.until ≡ rules.until tap.moment

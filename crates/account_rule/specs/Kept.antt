@@ -9,7 +9,7 @@ use Rattle.account_rule.specs.declared.window.Window.{Window}
 use Rattle.account_rule.specs.Taps.{LiveTap, live_at}
 
 -- what is kept from the first live tap on, which is a ride and so opens a window
-pub record State : Type 0 where
+pub record Kept : Type 0 where
   -- the moment of the last live tap
   pub last : ℕ
   -- its mode, where it is a ride and so can give a transfer
@@ -19,8 +19,8 @@ pub record State : Type 0 where
   pub window : Window
 
 -- what stands in the account's fields
-abbrev pub state_of : Account → State
-state_of account =
+abbrev pub kept_numbers : Account → Kept
+kept_numbers account =
     record {
       last = account.last;
       giver = account.giver;
@@ -29,24 +29,24 @@ state_of account =
     }
 
 -- what the account keeps, if it has seen a live tap
-unfoldable pub kept_of : Account → Option State
-kept_of account = if account.has_window then Some (state_of account) else None
+unfoldable pub kept_of : Account → Option Kept
+kept_of account = if account.has_window then Some (kept_numbers account) else None
 
 -- whether the moment is after the last live tap's
-unfoldable pub is_after : Option State → ℕ → Bool
+unfoldable pub is_after : Option Kept → ℕ → Bool
 is_after None moment = true
 is_after (Some state) moment = nat_lt state.last moment
 
 -- the last live tap, if it can give a transfer
-unfoldable pub kept_giver : Option State → Option LiveTap
+unfoldable pub kept_giver : Option Kept → Option LiveTap
 kept_giver None = None
 kept_giver (Some state) = option_map (live_at state.last) state.giver
 
 -- the last window
-unfoldable pub kept_window : Option State → Option Window
+unfoldable pub kept_window : Option Kept → Option Window
 kept_window state = option_map (λ s. s.window) state
 
 -- the terms that are kept, if any, are the token's
-pub record KeepsTerms (terms : Terms) (state : State) : Type 0 where
+pub record KeepsTerms (terms : Terms) (state : Kept) : Type 0 where
   pub same : state.terms ≡ terms
   pub bounds : AreBoundedTerms state.terms

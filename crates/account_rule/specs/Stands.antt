@@ -6,7 +6,7 @@ use Rattle.account_rule.specs.declared.tap.TapIn.{TapIn}
 use Rattle.account_rule.specs.declared.window.Window.{Window}
 use Rattle.account_rule.specs.Chains.{chains}
 use Rattle.account_rule.specs.Blocks.{last_block}
-use Rattle.account_rule.specs.Kept.{KeepsTerms, State, is_after, kept_giver, kept_of, kept_window}
+use Rattle.account_rule.specs.Kept.{KeepsTerms, Kept, is_after, kept_giver, kept_of, kept_window}
 use Rattle.account_rule.specs.TokenRules.{TokenRules}
 use Rattle.account_rule.specs.Taps.{LiveTap, is_later}
 use Rattle.account_rule.specs.Windows.{windows, paid_rides, ride_cents}
@@ -29,7 +29,7 @@ window_of rules (first ∷ window) = Some (record {
 })
 
 -- what is kept stands for the list: it is what decides every later reply
-pub record KeepsOf (rules : TokenRules) (kept : Option State) (taps : List TapIn) : Type 0 where
+pub record KeepsOf (rules : TokenRules) (kept : Option Kept) (taps : List TapIn) : Type 0 where
   -- its last moment tells which moments are later than all known taps
   pub last : (moment : ℕ) → is_after kept moment ≡ is_later taps moment
   -- its giver is the last live tap, where that is a ride

@@ -1,7 +1,7 @@
 -- One more file that was loaded.
 use Rattle.std.proofs.Common.{◌≡◌, ◌∙◌, ◌<◌, ℕ, List, [], ◌∷◌, ◌++◌, length, map, refl, ap, arith, append_assoc, Option, Some, None, Bor}
 use Rattle.std.proofs.lemmas.List.{map-append}
-use Rattle.fare_program.specs.Program.{LoadsFiles, wanted}
+use Rattle.fare_program.specs.Program.{LoadsFiles, names_to_load}
 use Rattle.program_manners.specs.Loads.{Loaded, Tells, TellsOne}
 
 tells_on : (told told' told'' : Option (List Loaded)) (loads more : List Loaded) → Tells told told' loads → Tells told' told'' more → Tells told told'' (loads ++ more)
@@ -23,6 +23,6 @@ names_are : (names : List (Bor (List ℕ))) → map (λ n. Some n.now) names ≡
 names_are [] = refl
 names_are (n ∷ names) = ap (λ xs. Some n.now ∷ xs) (names_are names)
 
-pub wanted_are : (names : List (Bor (List ℕ))) → 0 < length names → map (λ n. Some n.now) names ≡ wanted (map (λ n. n.now) names)
-wanted_are [] some = absurd (omega arith)
-wanted_are (n ∷ names) some = names_are (n ∷ names)
+pub names_to_load_are : (names : List (Bor (List ℕ))) → 0 < length names → map (λ n. Some n.now) names ≡ names_to_load (map (λ n. n.now) names)
+names_to_load_are [] some = absurd (omega arith)
+names_to_load_are (n ∷ names) some = names_are (n ∷ names)

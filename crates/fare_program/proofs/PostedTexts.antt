@@ -8,11 +8,11 @@ use Rattle.fare_service.specs.declared.upload_end.UploadEnd.{UploadEnd}
 use Rattle.ledger_texts.specs.Ledger.{IsLedgerOfBooks}
 use Rattle.fare_program.specs.Options.{Asked}
 use Rattle.fare_program.specs.Posted.{are_posted}
-use Rattle.fare_program.specs.Program.{ShowsAsked, ShowsLive, ShowsOf}
+use Rattle.fare_program.specs.Program.{ShowsAsked, ShowsLiveRun, ShowsOf}
 use Rattle.fare_program.specs.inside.Program.{Shows}
 use Rattle.fare_program.specs.Settling.{ShowsSettled}
 use Rattle.fare_program.specs.inside.Settling.{IsOutcomeOf}
-use Rattle.fare_program.specs.inside.PostedFiles.{IsLive, IsPosted}
+use Rattle.fare_program.specs.inside.PostedFiles.{IsLiveRun, IsAskedOutcome}
 use Rattle.fare_program.proofs.Settled.{shows_settled}
 
 module _ (asked : Asked) (fares : Fares) (files : List (List ℕ)) (ends : List UploadEnd) (outcome : OutcomeView) (token : Option Token) (text : List ℕ) (well : Bool)
@@ -21,7 +21,7 @@ module _ (asked : Asked) (fares : Fares) (files : List (List ℕ)) (ends : List 
   reported true is shows = cc
   reported false is shows = shows
 
-  shows_live : IsLive fares asked.shards asked.workers files ends outcome → ShowsLive asked fares files token text well
+  shows_live : IsLiveRun fares asked.shards asked.workers files ends outcome → ShowsLiveRun asked fares files token text well
   shows_live is =
       let S : List UploadEnd → Type 0 = λ es. ShowsOf asked token es outcome text in
       let shows = subst S is.ended shown in
@@ -34,10 +34,10 @@ module _ (asked : Asked) (fares : Fares) (files : List (List ℕ)) (ends : List 
         plain = λ ledger posted. is.plain asked.explain token text (sym told ∙ posted) (reported asked.ledger ledger shows);
       }
 
-  by_settling : (settle : Bool) → MatchBool settle (IsOutcomeOf fares files ends outcome) (IsLive fares asked.shards asked.workers files ends outcome)
-      → MatchBool settle (ShowsSettled asked fares files token text well) (ShowsLive asked fares files token text well)
+  by_settling : (settle : Bool) → MatchBool settle (IsOutcomeOf fares files ends outcome) (IsLiveRun fares asked.shards asked.workers files ends outcome)
+      → MatchBool settle (ShowsSettled asked fares files token text well) (ShowsLiveRun asked fares files token text well)
   by_settling true is = shows_settled asked fares files ends outcome token text well is shown is_well
   by_settling false is = shows_live is
 
-  pub shows_asked : IsPosted asked fares files ends outcome → ShowsAsked asked fares files token text well
+  pub shows_asked : IsAskedOutcome asked fares files ends outcome → ShowsAsked asked fares files token text well
   shows_asked is = by_settling asked.settle is

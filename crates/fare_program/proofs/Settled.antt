@@ -13,7 +13,7 @@ use Rattle.ledger_texts.specs.Ledger.{IsLedgerOfBooks, IsLedgerOver}
 use Rattle.fare_program.specs.Options.{Asked}
 use Rattle.fare_program.specs.Posted.{are_posted}
 use Rattle.fare_program.specs.Program.{ShowsOf, ShowsWith}
-use Rattle.fare_program.specs.Settling.{ReportsOver, ShowsSettled}
+use Rattle.fare_program.specs.Settling.{IsTextOver, ShowsSettled}
 use Rattle.fare_program.specs.inside.Settling.{IsOutcomeOf}
 use Rattle.fare_program.proofs.Explains.{explained_same}
 use Rattle.fare_program.proofs.Ledgers.{ledger_same}
@@ -34,13 +34,13 @@ shows_settled asked fares files ends outcome token text well is shown is_well = 
     stated true token shown = explained_same fares outcome is.tells.history token text (is.tells.entries token) is.tells.table shown
     stated false token shown = (is.tells.statements token text).0 shown
 
-    reported : (token : Option Token) → ShowsWith asked.explain token ends outcome text → ReportsOver asked.explain token fares files is.tells.history text
+    reported : (token : Option Token) → ShowsWith asked.explain token ends outcome text → IsTextOver asked.explain token fares files is.tells.history text
     reported None shown =
         let R : List ℕ → Type 0 = λ t. IsReportOver files is.tells.history t in
         subst R (sym shown) is.tells.reported
     reported (Some token) shown = stated asked.explain token shown
 
     over : (ledger : Bool) → MatchBool ledger (IsLedgerOfBooks outcome.books token text) (ShowsWith asked.explain token ends outcome text)
-        → MatchBool ledger (IsLedgerOver fares is.tells.history token text) (ReportsOver asked.explain token fares files is.tells.history text)
+        → MatchBool ledger (IsLedgerOver fares is.tells.history token text) (IsTextOver asked.explain token fares files is.tells.history text)
     over true shown = ledger_same fares outcome is.tells.history token text is.tells.entries is.tells.table shown
     over false shown = reported token shown

@@ -12,52 +12,52 @@ use Rattle.program_manners.specs.Words.{flag_rule, named_app, number_rule, optio
 use Rattle.program_manners.specs.Words.{positional_rule}
 
 -- `--table F`
-abbrev pub table_rule : Rule
-table_rule = option_rule (codes "table")
+abbrev pub table_option : Rule
+table_option = option_rule (codes "table")
 
 -- `--list`
-abbrev pub list_rule : Rule
-list_rule = flag_rule (codes "list")
+abbrev pub list_flag : Rule
+list_flag = flag_rule (codes "list")
 
 -- `--workers N`, a number of 1 to 16; 2 where it is not given
-abbrev pub workers_rule : Rule
-workers_rule = number_rule (codes "workers") (pos 16) (codes "2")
+abbrev pub workers_option : Rule
+workers_option = number_rule (codes "workers") (pos 16) (codes "2")
 
 -- `--shards N`, a number of 1 to 64; 8 where it is not given
-abbrev pub shards_rule : Rule
-shards_rule = number_rule (codes "shards") (pos 64) (codes "8")
+abbrev pub shards_option : Rule
+shards_option = number_rule (codes "shards") (pos 64) (codes "8")
 
 -- `--token HEX`
-abbrev pub token_rule : Rule
-token_rule = option_rule (codes "token")
+abbrev pub token_option : Rule
+token_option = option_rule (codes "token")
 
 -- `--settle`
-abbrev pub settle_rule : Rule
-settle_rule = flag_rule (codes "settle")
+abbrev pub settle_flag : Rule
+settle_flag = flag_rule (codes "settle")
 
 -- `--ledger`
-abbrev pub ledger_rule : Rule
-ledger_rule = flag_rule (codes "ledger")
+abbrev pub ledger_flag : Rule
+ledger_flag = flag_rule (codes "ledger")
 
 -- `--explain`
-abbrev pub explain_rule : Rule
-explain_rule = flag_rule (codes "explain")
+abbrev pub explain_flag : Rule
+explain_flag = flag_rule (codes "explain")
 
 -- `FILE`, as often as wanted
-abbrev pub file_rule : Rule
-file_rule = positional_rule (codes "FILE") Append
+abbrev pub file_argument : Rule
+file_argument = positional_rule (codes "FILE") Append
 
 -- the program's options, without its files
 abbrev pub app_of_options : App
 app_of_options =
     with_rule (with_rule (with_rule (with_rule
     (with_rule (with_rule (with_rule (with_rule (named_app (codes "omny_cli"))
-    table_rule) list_rule) workers_rule) shards_rule) token_rule) settle_rule) ledger_rule)
-    explain_rule
+    table_option) list_flag) workers_option) shards_option) token_option) settle_flag) ledger_flag)
+    explain_flag
 
 -- all words that the program takes
 unfoldable pub program : App
-program = with_rule app_of_options file_rule
+program = with_rule app_of_options file_argument
 
 -- the words after the program's name are a command line of the program
 abbrev pub Parses : List Text → Type 0

@@ -16,7 +16,7 @@ use Rattle.fare_service.specs.Printed.{IsStatementOf, report_with}
 use Rattle.fare_program.specs.Fault.{fault_text}
 use Rattle.fare_program.specs.Options.{Asked, lists}
 use Rattle.fare_program.specs.Posted.{are_posted}
-use Rattle.fare_program.specs.Settling.{ReportsOver, ShowsSettled}
+use Rattle.fare_program.specs.Settling.{IsTextOver, ShowsSettled}
 use Rattle.fare_program.specs.declared.fault.Fault.{Fault}
 use Rattle.fare_program.specs.declared.fault.Fault.TheVariants.{Write}
 use Rattle.ledger_texts.specs.Explained.{IsExplainedOf}
@@ -33,9 +33,9 @@ LoadsTable (Some name) told told' fares = (bytes : List ℕ) × (meaning : Fares
     × TellsOne told told' (Some name) bytes × Means bytes meaning × (fares ≡ Some meaning)
 
 -- the names under which files are loaded: standard input, which has no name, where none is named
-abbrev pub wanted : List (List ℕ) → List (Option (List ℕ))
-wanted [] = None ∷ []
-wanted (name ∷ names) = map Some (name ∷ names)
+abbrev pub names_to_load : List (List ℕ) → List (Option (List ℕ))
+names_to_load [] = None ∷ []
+names_to_load (name ∷ names) = map Some (name ∷ names)
 
 -- A file of each of these names was loaded, in their order.
 pub record LoadsFiles (names : List (Option (List ℕ))) (told told' : Option (List Loaded))
@@ -51,7 +51,7 @@ pub record Loads (table : Option (List ℕ)) (names : List (List ℕ))
     : Type 0 where
   pub between : Option (List Loaded)
   pub loads_table : LoadsTable table told between fares
-  pub loads_files : LoadsFiles (wanted names) between told' files
+  pub loads_files : LoadsFiles (names_to_load names) between told' files
 
 -- Table and files were loaded; what was appended to the writer is the listing of these files, with
 -- the validators known that the table knows. It is clean where no file has a layout fault.
@@ -89,7 +89,7 @@ ShowsOf asked token ends outcome text = MatchBool asked.ledger
 abbrev pub ShowsPlain : Bool → Fares → List (List ℕ) → Option Token → List ℕ → Type 0
 ShowsPlain explain fares files token text =
     (history : List Entry) (is : IsPlain fares files history) → AreApart is.taps
-    → ReportsOver explain token fares files history text
+    → IsTextOver explain token fares files history text
 
 -- the token that is asked for, if any, is that of these 32 hexadecimal digits
 abbrev pub IsTokenIn : Option (List ℕ) → Option Token → Type 0
@@ -100,8 +100,8 @@ IsTokenIn _ _ = ⊥
 -- A service was run over the files as they are, and the text is what is asked for of its outcome.
 -- It is well where each upload was posted whole. A report or a statement that is well is then that
 -- of the plain history of the files, where no token has taps in two of them.
-pub record ShowsLive (asked : Asked) (fares : Fares) (files : List (List ℕ)) (token : Option Token)
-    (text : List ℕ) (well : Bool) : Type 0 where
+pub record ShowsLiveRun (asked : Asked) (fares : Fares) (files : List (List ℕ))
+    (token : Option Token) (text : List ℕ) (well : Bool) : Type 0 where
   pub outcome : OutcomeView
   pub run : HasRun fares asked.shards files asked.workers outcome
   pub shows : ShowsOf asked token outcome.ends outcome text
@@ -113,7 +113,8 @@ pub record ShowsLive (asked : Asked) (fares : Fares) (files : List (List ℕ)) (
 -- no schedule and no number of workers has a part in it.
 abbrev pub ShowsAsked : Asked → Fares → List (List ℕ) → Option Token → List ℕ → Bool → Type 0
 ShowsAsked asked fares files token text well = MatchBool asked.settle
-    (ShowsSettled asked fares files token text well) (ShowsLive asked fares files token text well)
+    (ShowsSettled asked fares files token text well)
+    (ShowsLiveRun asked fares files token text well)
 
 -- Table and files were loaded, and their taps posted; what was appended to the writer is the
 -- report, the statement of the token that is asked for, or the ledger, whichever is asked for.
@@ -138,5 +139,5 @@ Does asked told told' out out' well = MatchBool (lists asked)
 -- The program gave up: the fault's line was told, and nothing was written but where a write failed.
 pub record GaveUp (fault : Fault) (said said' : Option (List ℕ)) (failed : Bool)
     (out out' : Option (List ℕ)) : Type 0 where
-  pub told : LineWritten said said' failed (fault_text fault)
+  pub line_told : LineWritten said said' failed (fault_text fault)
   pub kept : fault ≢ Write → Keeps out out'

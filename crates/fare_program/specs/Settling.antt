@@ -13,10 +13,10 @@ use Rattle.fare_program.specs.Posted.{are_posted}
 
 -- the text is the report over this history of the files, or the statement of this token, explained
 -- where that is asked for
-abbrev pub ReportsOver : Bool → Option Token → Fares → List (List ℕ) → List Entry → List ℕ
+abbrev pub IsTextOver : Bool → Option Token → Fares → List (List ℕ) → List Entry → List ℕ
     → Type 0
-ReportsOver explain None fares files history text = IsReportOver files history text
-ReportsOver explain (Some token) fares files history text =
+IsTextOver explain None fares files history text = IsReportOver files history text
+IsTextOver explain (Some token) fares files history text =
     MatchBool explain (IsExplainedOver fares history token text)
     (IsStatementOver fares history token text)
 
@@ -25,7 +25,7 @@ ReportsOver explain (Some token) fares files history text =
 abbrev pub ShowsOver : Asked → Option Token → Fares → List (List ℕ) → List Entry → List ℕ → Type 0
 ShowsOver asked token fares files history text =
     MatchBool asked.ledger (IsLedgerOver fares history token text)
-    (ReportsOver asked.explain token fares files history text)
+    (IsTextOver asked.explain token fares files history text)
 
 -- The text shows what is asked for of the settled history of the files. It is well where each file
 -- ends posted whole.

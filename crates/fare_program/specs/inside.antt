@@ -1,5 +1,5 @@
 -- What only private functions cite. Who reads the contracts of public calls need not read it.
-pub mod EarlyFiles
+pub mod FilesAhead
 pub mod Fault
 pub mod Listing
 pub mod Options

@@ -1,6 +1,6 @@
 //! The files and the standard input of the system.
 
-use crate::early_files::{Disk, Early, take_next};
+use crate::files_ahead::{Disk, FileAhead, take_next};
 use crate::source::Source;
 use program_manners::{LOAD_LIMIT_BYTES, LoadFault, load_file, load_from};
 use std::alloc::Global;
@@ -8,7 +8,7 @@ use std::fs;
 
 impl Disk for HostRuntime {
     // What is no regular file, as a pipe, may give other bytes before it is due, or none for long.
-    fn may_be_early(&self, name: &str) -> bool {
+    fn may_be_read_ahead(&self, name: &str) -> bool {
         match fs::metadata(self, name) {
             Ok(about) => about.is_file() && about.len() <= LOAD_LIMIT_BYTES as u64,
             Err(_) => false,
@@ -26,7 +26,7 @@ pub struct Host<'a, R> {
     /// The runtime that reaches the files.
     rt: &'a R,
     /// The files that were read before they are due, the next one last.
-    early: Vec<Early>,
+    ahead: Vec<FileAhead>,
 }
 
 impl<'a, R: AllocGlobal> Host<'a, R> {
@@ -34,7 +34,7 @@ impl<'a, R: AllocGlobal> Host<'a, R> {
     pub fn new(rt: &'a R) -> Host<'a, R> {
         Host {
             rt,
-            early: Vec::new(rt.alloc()),
+            ahead: Vec::new(rt.alloc()),
         }
     }
 }
@@ -43,12 +43,12 @@ impl<R: Disk + Input + AllocGlobal> Source for Host<'_, R>
 where
     R::Reader: Drop,
 {
-    fn keep_early(&mut self, early: Vec<Early>) {
-        self.early = early;
+    fn keep_ahead(&mut self, ahead: Vec<FileAhead>) {
+        self.ahead = ahead;
     }
 
     fn load(&mut self, name: &str) -> Result<Vec<u8>, LoadFault> {
-        match take_next(&mut self.early, name) {
+        match take_next(&mut self.ahead, name) {
             Some(loaded) => loaded,
             None => self.rt.read(self.rt.alloc(), name),
         }

@@ -5,7 +5,7 @@
 //! | module | what it does |
 //! |---|---|
 //! | `command_line`, `options` | what a command line asks for; its words, as `clap` reads them |
-//! | `source`, `early_files` | whole files from a source; those that are read before their turns |
+//! | `source`, `files_ahead` | whole files from a source; those that are read before their turns |
 //! | `host` | the system's files and standard input as a source |
 //! | `listing` | the liveness of each tap, from those before it |
 //! | `lines`, `uploads` | the text of a listing |
@@ -18,8 +18,8 @@
 #![tactic(auto)]
 
 mod command_line;
-mod early_files;
 mod fault;
+mod files_ahead;
 mod host;
 mod lines;
 mod listing;
@@ -32,7 +32,7 @@ mod settle;
 mod source;
 mod uploads;
 
-pub use early_files::{Disk, Early, read_early};
+pub use files_ahead::{Disk, FileAhead, read_ahead};
 pub use host::Host;
 pub use program::main_over;
 pub use program_manners::{

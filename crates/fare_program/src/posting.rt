@@ -4,7 +4,7 @@ ghost use Rattle.std.specs.Io.KnownBytes.{Appends, Keeps};
 ghost use Rattle.fare_program.specs.Fault.{status_of};
 ghost use Rattle.fare_program.specs.inside.Options.{asked_of};
 ghost use Rattle.fare_program.specs.Program.{ShowsAsked, ShowsOf, ShowsStatement, ShowsWith};
-ghost use Rattle.fare_program.specs.inside.PostedFiles.{IsPosted, ends_of};
+ghost use Rattle.fare_program.specs.inside.PostedFiles.{IsAskedOutcome, ends_of};
 
 use crate::fault::Fault;
 use crate::options::Options;
@@ -52,7 +52,7 @@ fn post<'a, R: Threads + Wait + RandomSource + Sync>(
     files: Vec<Vec<u8>>,
 ) -> Result<Posted, Fault<'a>>
     ensures posted { IfOk result
-        (λ posted. IsPosted (asked_of options.now) table (map (λ f. f.items) files.items)
+        (λ posted. IsAskedOutcome (asked_of options.now) table (map (λ f. f.items) files.items)
         (ends_of posted) posted.outcome) }
     ensures status { IfErr result (λ fault. status_of fault ≡ 1) }
 {

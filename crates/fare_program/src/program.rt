@@ -10,14 +10,14 @@ ghost use Rattle.fare_program.specs.inside.Fault.{IsLoadLine, IsTableLine, IsWhy
 ghost use Rattle.fare_program.specs.Options.{AsksForText, Parses, asked_by};
 ghost use Rattle.fare_program.specs.inside.Options.{asked_of};
 ghost use Rattle.fare_program.specs.Program.{Does, GaveUp, IsTokenIn, Loads, LoadsFiles};
-ghost use Rattle.fare_program.specs.Program.{LoadsTable, wanted};
+ghost use Rattle.fare_program.specs.Program.{LoadsTable, names_to_load};
 ghost use Rattle.program_manners.specs.Loads.{TellsOne};
 ghost use Rattle.program_manners.specs.LineWritten.{LineWritten};
 ghost use Rattle.program_manners.specs.Words.{IsRequest};
 ghost use Rattle.fare_program.specs.Uploads.{IsListing};
 
-use crate::early_files::{Disk, read_early};
 use crate::fault::Fault;
+use crate::files_ahead::{Disk, read_ahead};
 use crate::options::Options;
 use crate::output::write_text;
 use crate::posting::charge;
@@ -96,7 +96,7 @@ fn load_files<'a, R: Threads + Sync, D: Disk + Sync, S: Source>(
     workers: u32,
     source: &mut S,
 ) -> Result<Vec<Vec<u8>>, Fault<'a>>
-    ensures ok { IfOk result (λ files. LoadsFiles (wanted (map (λ n. n.now) names.now))
+    ensures ok { IfOk result (λ files. LoadsFiles (names_to_load (map (λ n. n.now) names.now))
         (S.loaded source.old) (S.loaded source.new) (map (λ f. f.items) files.items)) }
     ensures status { IfErr result (λ fault. status_of fault ≡ 1) }
 {
@@ -106,8 +106,8 @@ fn load_files<'a, R: Threads + Sync, D: Disk + Sync, S: Source>(
         push(&mut files, bytes)?;
         return Ok(files);
     }
-    let early = read_early(rt, alloc, disk, names, workers.max(READERS) as usize);
-    source.keep_early(early);
+    let ahead = read_ahead(rt, alloc, disk, names, workers.max(READERS) as usize);
+    source.keep_ahead(ahead);
     for name in names {
         let bytes = load_named(source, name)?;
         push(&mut files, bytes)?;

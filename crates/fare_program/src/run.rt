@@ -8,7 +8,7 @@ ghost use Rattle.fare_program.specs.Posted.{are_posted, is_posted};
 ghost use Rattle.fare_program.specs.Program.{ShowsPlain};
 ghost use Rattle.fare_service.specs.Headline.{HasRun};
 ghost use Rattle.fare_program.specs.inside.Program.{Shows};
-ghost use Rattle.fare_program.specs.inside.PostedFiles.{IsLive, ends_of};
+ghost use Rattle.fare_program.specs.inside.PostedFiles.{IsLiveRun, ends_of};
 
 use crate::fault::Fault;
 use crate::options::Options;
@@ -67,7 +67,7 @@ pub(crate) fn post_live<'a, R: Threads + Wait + RandomSource + Sync>(
     files: Vec<Vec<u8>>,
 ) -> Result<Posted, Fault<'a>>
     ensures live { IfOk result
-        (λ posted. IsLive table options.now.shards options.now.workers
+        (λ posted. IsLiveRun table options.now.shards options.now.workers
         (map (λ f. f.items) files.items) (ends_of posted) posted.outcome) }
     ensures status { IfErr result (λ fault. status_of fault ≡ 1) }
 {

@@ -1,6 +1,6 @@
 //! Where the program's bytes come from.
 
-use crate::early_files::Early;
+use crate::files_ahead::FileAhead;
 use program_manners::LoadFault;
 
 /// Where the program's bytes come from.
@@ -13,7 +13,7 @@ pub trait Source {
 
     /// Takes what was read of the next files before they are due, the first one last. None is
     /// loaded by it: each is given, or its fault told, when it is loaded by its name.
-    fn keep_early(&mut self, early: Vec<Early>)
+    fn keep_ahead(&mut self, ahead: Vec<FileAhead>)
         ensures { loaded self.new ≡ loaded self.old };
 
     /// All bytes of the file of this name. What a fault leaves loaded is not told.

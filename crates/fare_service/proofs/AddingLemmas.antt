@@ -26,7 +26,7 @@ use Rattle.fare_service.specs.inside.Closing.{IsClosedWork}
 use Rattle.fare_service.specs.ServiceView.{ServiceView}
 use Rattle.fare_service.specs.inside.ServiceView.{IsService}
 use Rattle.fare_service.specs.ShareView.{ShareView}
-use Rattle.fare_service.specs.inside.Joining.{told_all}
+use Rattle.fare_service.specs.inside.Joining.{with_all_done}
 use Rattle.fare_service.specs.Outcomes.{OutcomeView}
 use Rattle.fare_service.specs.Runs.{RunVisit, IsEntered, entries_of, taps_posted}
 use Rattle.fare_service.specs.inside.Runs.{visits_to}
@@ -314,7 +314,7 @@ from_nothing none s is =
 
 -- the totals of the shares are those of the books that were closed with them
 pub shares_add_up : (service : ServiceView) → IsService service → (shares : List ShareView) → All (IsShareOf service) shares → (closed : List Book) → IsClosedWork service.books shares closed
-    → (ends : List UploadEnd) → ends ≡ told_all (replicate (length service.uploads) Undrawn) shares → length ends ≡ length service.uploads
+    → (ends : List UploadEnd) → ends ≡ with_all_done (replicate (length service.uploads) Undrawn) shares → length ends ≡ length service.uploads
     → (workers : List Sums) → workers ≡ map (λ share. share.totals) shares → sums (all_entries closed) ≡ add_all workers
 shares_add_up service is shares all closed work ends are number workers sums_are =
     let o = has_gathered service is shares all closed work ends are number workers sums_are (sums (all_entries closed)) in

@@ -16,7 +16,7 @@ use Rattle.shared_books.specs.Marks.{history_of_visits}
 use Rattle.shared_books.specs.Passes.{SharedBookView, PassView}
 use Rattle.fare_service.specs.declared.faults.GatherFault.{GatherFault}
 use Rattle.fare_service.specs.declared.faults.GatherFault.TheVariants.{NoMemory, Missing, Drawn}
-use Rattle.fare_service.specs.Closing.{IsHistoryOf, HoldAllVisits, IsFirst}
+use Rattle.fare_service.specs.Closing.{IsHistoryOf, HoldAllVisits, TellsFirst}
 use Rattle.fare_service.specs.inside.Closing.{AreClosed, AreUnseen, IsClosedBy, IsUnseen, IsClosedWork, IsFirstMissing, IsFirstUnseen, LacksClaims}
 use Rattle.fare_service.specs.Faults.{uploads_held}
 use Rattle.fare_service.specs.ShareView.{ShareView}
@@ -137,7 +137,7 @@ whole_unseen opened closed unseen shard within = let b = there closed shard with
 
 -- the first shard that misses visits
 pub first_missing : (drawing : Drawing) (opened : List SharedBookView) (uploads : ℕ) (shares : List ShareView) (drawer : DrawerView) (passes : List PassView) (closed : List Book) (fault : GatherFault)
-    → IsJoinedOf drawing opened (length shares) shares drawer passes → IsFirstMissing passes closed fault → IsFirst opened uploads shares fault
+    → IsJoinedOf drawing opened (length shares) shares drawer passes → IsFirstMissing passes closed fault → TellsFirst opened uploads shares fault
 first_missing drawing opened uploads shares drawer passes closed (Missing shard held kept) all m = (
   λ earlier h. whole_closed drawing opened shares drawer passes closed all m.1 earlier (omega (arith, h, m.0)),
   All-weaker (λ share. length (marks_at shard share.passes) ≤ length (marks_at shard passes)) (λ share. length (marks_at shard share.passes) ≤ kept) (λ s h. omega (arith, h, m.2)) shares (all.longest shard),
@@ -145,16 +145,16 @@ first_missing drawing opened uploads shares drawer passes closed (Missing shard 
 first_missing drawing opened uploads shares drawer passes closed NoMemory all m = absurd m
 first_missing drawing opened uploads shares drawer passes closed (Drawn held drawn) all m = absurd m
 
-pub first_unseen : (opened : List SharedBookView) (uploads : ℕ) (shares : List ShareView) (closed : List Book) (fault : GatherFault) → shares ≡ [] → IsFirstUnseen opened closed fault → IsFirst opened uploads shares fault
+pub first_unseen : (opened : List SharedBookView) (uploads : ℕ) (shares : List ShareView) (closed : List Book) (fault : GatherFault) → shares ≡ [] → IsFirstUnseen opened closed fault → TellsFirst opened uploads shares fault
 first_unseen opened uploads shares closed (Missing shard held kept) none m =
-    let P : List ShareView → Type 0 = λ ss. IsFirst opened uploads ss (Missing shard held kept) in
+    let P : List ShareView → Type 0 = λ ss. TellsFirst opened uploads ss (Missing shard held kept) in
     subst P (sym none) (λ earlier h. whole_unseen opened closed m.1 earlier (omega (arith, h, m.0)), All-nil (λ share. length (marks_at shard share.passes) ≤ kept))
 first_unseen opened uploads shares closed NoMemory none m = absurd m
 first_unseen opened uploads shares closed (Drawn held drawn) none m = absurd m
 
 -- missing uploads, where all books were closed
 pub first_drawn : (drawing : Drawing) (opened : List SharedBookView) (shares : List ShareView) (drawer : DrawerView) (passes : List PassView) (closed : List Book) (held drawn : ℕ)
-    → IsJoinedOf drawing opened (length shares) shares drawer passes → AreClosed passes closed → length closed ≡ length opened → IsCount drawn drawer → IsFirst opened drawing.numbers shares (Drawn held drawn)
+    → IsJoinedOf drawing opened (length shares) shares drawer passes → AreClosed passes closed → length closed ≡ length opened → IsCount drawn drawer → TellsFirst opened drawing.numbers shares (Drawn held drawn)
 first_drawn drawing opened shares drawer passes closed held drawn all books number is = (
   λ shard h. whole_closed drawing opened shares drawer passes closed all books shard (omega (arith, h, number)),
   All-weaker (λ share. share.drawer.seen ≤ drawer.seen) (λ share. share.drawer.seen ≤ drawn) (λ s h. omega (arith, h, is.later)) shares all.seen,
@@ -162,9 +162,9 @@ first_drawn drawing opened shares drawer passes closed held drawn all books numb
 )
 
 pub first_undrawn : (opened : List SharedBookView) (uploads : ℕ) (shares : List ShareView) (closed : List Book) (held drawn : ℕ) → shares ≡ [] → AreUnseen opened closed → length closed ≡ length opened → drawn ≤ uploads
-    → IsFirst opened uploads shares (Drawn held drawn)
+    → TellsFirst opened uploads shares (Drawn held drawn)
 first_undrawn opened uploads shares closed held drawn none unseen number few =
-    let P : List ShareView → Type 0 = λ ss. IsFirst opened uploads ss (Drawn held drawn) in
+    let P : List ShareView → Type 0 = λ ss. TellsFirst opened uploads ss (Drawn held drawn) in
     subst P (sym none) (λ shard h. whole_unseen opened closed unseen shard (omega (arith, h, number)), All-nil (λ share. share.drawer.seen ≤ drawn), few)
 
 -- how many uploads the shares hold

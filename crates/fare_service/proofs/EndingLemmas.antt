@@ -23,7 +23,7 @@ use Rattle.fare_service.specs.Faults.{visits_held}
 use Rattle.fare_service.specs.Headline.{Signed, HasOutcome, ToldUndrawn}
 use Rattle.fare_service.specs.Outcomes.{OutcomeView}
 use Rattle.fare_service.specs.Plain.{WasNotCut}
-use Rattle.fare_service.specs.Runs.{PlacedTap, placed_from, of_shard, Run, run, if_any, runs_below, runs_of, RunVisit, run_of_visit, ArePosted, AreCut, IsEntered, taps_of_placed, entries_to, entries_of, taps_posted}
+use Rattle.fare_service.specs.Runs.{PlacedTap, placed_from, of_shard, PlacedRun, placed_run, if_any, runs_below, runs_of, RunVisit, run_of_visit, ArePostedWhole, AreCut, IsEntered, taps_of_placed, entries_to, entries_of, taps_posted}
 use Rattle.fare_service.specs.inside.Runs.{visits_to}
 use Rattle.fare_service.specs.ServiceView.{ServiceView, shards_of}
 use Rattle.fare_service.specs.ShareView.{ShareView}
@@ -168,34 +168,34 @@ within (y ∷ xs) (suc i) x at = omega (arith, within xs i x at)
 
 -- all runs have a tap
 run_some : (shard : ℕ) (taps : List PlacedTap) → All (λ r. 0 < length r.taps) (if_any shard taps)
-run_some shard [] = All-nil (λ (r : Run). 0 < length r.taps)
-run_some shard (tap ∷ taps) = All-cons (λ (r : Run). 0 < length r.taps) (run shard (tap ∷ taps)) [] (omega arith) (All-nil (λ (r : Run). 0 < length r.taps))
+run_some shard [] = All-nil (λ (r : PlacedRun). 0 < length r.taps)
+run_some shard (tap ∷ taps) = All-cons (λ (r : PlacedRun). 0 < length r.taps) (placed_run shard (tap ∷ taps)) [] (omega arith) (All-nil (λ (r : PlacedRun). 0 < length r.taps))
 
 below_some : (shards shard : ℕ) (taps : List PlacedTap) → All (λ r. 0 < length r.taps) (runs_below shards shard taps)
-below_some shards zero taps = All-nil (λ (r : Run). 0 < length r.taps)
+below_some shards zero taps = All-nil (λ (r : PlacedRun). 0 < length r.taps)
 below_some shards (suc shard) taps =
-    All-append (λ (r : Run). 0 < length r.taps) (runs_below shards shard taps) (if_any shard (of_shard shard shards taps)) (below_some shards shard taps) (run_some shard (of_shard shard shards taps))
+    All-append (λ (r : PlacedRun). 0 < length r.taps) (runs_below shards shard taps) (if_any shard (of_shard shard shards taps)) (below_some shards shard taps) (run_some shard (of_shard shard shards taps))
 
 runs_some : (shards place : ℕ) (batches : List (List Tap)) → All (λ r. 0 < length r.taps) (runs_of shards place batches)
-runs_some shards place [] = All-nil (λ (r : Run). 0 < length r.taps)
+runs_some shards place [] = All-nil (λ (r : PlacedRun). 0 < length r.taps)
 runs_some shards place (batch ∷ batches) =
-    All-append (λ (r : Run). 0 < length r.taps) (runs_below shards shards (placed_from place batch)) (runs_of shards (place + length batch) batches) (below_some shards shards (placed_from place batch)) (runs_some shards (place + length batch) batches)
+    All-append (λ (r : PlacedRun). 0 < length r.taps) (runs_below shards shards (placed_from place batch)) (runs_of shards (place + length batch) batches) (below_some shards shards (placed_from place batch)) (runs_some shards (place + length batch) batches)
 
 -- visits of runs that have a tap posted one each
-visits_few : (shards : ℕ) (before more : List Run) (visits : List RunVisit) → map run_of_visit visits ≡ before ++ more → All (λ r. 0 < length r.taps) before → All (IsEntered shards) visits
+visits_few : (shards : ℕ) (before more : List PlacedRun) (visits : List RunVisit) → map run_of_visit visits ≡ before ++ more → All (λ r. 0 < length r.taps) before → All (IsEntered shards) visits
     → length visits ≤ taps_posted visits + length more
 visits_few shards [] more visits same some entered = omega (arith, ap length same, length-map visits run_of_visit)
 visits_few shards (r ∷ before) more [] same some entered = absurd (cc)
 visits_few shards (r ∷ before) more (v ∷ visits) same some entered =
     let head : run_of_visit v ≡ r = cc in
     let tail : map run_of_visit visits ≡ before ++ more = cc in
-    let taps : 0 < length v.taps = omega (arith, All-head (λ (x : Run). 0 < length x.taps) r before some, ap (λ (x : Run). length x.taps) head) in
+    let taps : 0 < length v.taps = omega (arith, All-head (λ (x : PlacedRun). 0 < length x.taps) r before some, ap (λ (x : PlacedRun). length x.taps) head) in
     let entries : length (taps_of_placed v.taps) ≡ length v.entries = AllZip-length IsEntryOf (taps_of_placed v.taps) v.entries (All-head (IsEntered shards) v visits entered).fields in
     let both : taps_posted (v ∷ visits) ≡ length v.entries + taps_posted visits = length-append v.entries (entries_of visits) in
-    let rest = visits_few shards before more visits tail (All-tail (λ (x : Run). 0 < length x.taps) r before some) (All-tail (IsEntered shards) v visits entered) in
+    let rest = visits_few shards before more visits tail (All-tail (λ (x : PlacedRun). 0 < length x.taps) r before some) (All-tail (IsEntered shards) v visits entered) in
     omega (arith, taps, entries, both, rest, length-map v.taps (λ (p : PlacedTap). p.tap))
 
-all_before : (P : Run → Type 0) (xs ys : List Run) → All P (xs ++ ys) → All P xs
+all_before : (P : PlacedRun → Type 0) (xs ys : List PlacedRun) → All P (xs ++ ys) → All P xs
 all_before P [] ys all = All-nil P
 all_before P (x ∷ xs) ys all = All-cons P x xs (All-head P x (xs ++ ys) all) (all_before P xs ys (All-tail P x (xs ++ ys) all))
 
@@ -206,7 +206,7 @@ work_few given w is =
     let h : length w.visits ≤ taps_posted w.visits + cut_one w.end = by_end w.end is.ended in
     omega (arith, h, told)
   where
-    whole : ArePosted (runs_of given.shards 0 is.batches) w.visits → length w.visits ≤ taps_posted w.visits
+    whole : ArePostedWhole (runs_of given.shards 0 is.batches) w.visits → length w.visits ≤ taps_posted w.visits
     whole posted =
         let h = visits_few given.shards (runs_of given.shards 0 is.batches) [] w.visits (posted ∙ sym (append-nil (runs_of given.shards 0 is.batches))) (runs_some given.shards 0 is.batches) is.entered in
         omega (arith, h)
@@ -216,14 +216,14 @@ work_few given w is =
       where
         some : All (λ r. 0 < length r.taps) c.before
         some =
-            let P : List Run → Type 0 = All (λ (r : Run). 0 < length r.taps) in
-            all_before (λ (r : Run). 0 < length r.taps) c.before (c.cut ∷ c.after) (subst P c.all (runs_some given.shards 0 is.batches))
+            let P : List PlacedRun → Type 0 = All (λ (r : PlacedRun). 0 < length r.taps) in
+            all_before (λ (r : PlacedRun). 0 < length r.taps) c.before (c.cut ∷ c.after) (subst P c.all (runs_some given.shards 0 is.batches))
 
-        by_made : ((map run_of_visit w.visits ≡ c.before) ⊎ ((posted : ℕ) × (posted < length c.cut.taps) × (map run_of_visit w.visits ≡ c.before ++ run c.cut.shard (take posted c.cut.taps) ∷ [])))
+        by_made : ((map run_of_visit w.visits ≡ c.before) ⊎ ((posted : ℕ) × (posted < length c.cut.taps) × (map run_of_visit w.visits ≡ c.before ++ placed_run c.cut.shard (take posted c.cut.taps) ∷ [])))
             → length w.visits ≤ taps_posted w.visits + 1
         by_made (inl e) = let h = visits_few given.shards c.before [] w.visits (e ∙ sym (append-nil c.before)) some is.entered in omega (arith, h)
         by_made (inr (posted, few, e)) =
-            let h = visits_few given.shards c.before (run c.cut.shard (take posted c.cut.taps) ∷ []) w.visits e some is.entered in
+            let h = visits_few given.shards c.before (placed_run c.cut.shard (take posted c.cut.taps) ∷ []) w.visits e some is.entered in
             omega (arith, h)
 
     by_end : (end : UploadEnd) → IsEndOf given.shards (file_at given.uploads w.upload) is.batches is.rest w.visits end → length w.visits ≤ taps_posted w.visits + cut_one end

@@ -7,7 +7,7 @@ use Rattle.std.proofs.lemmas.Bool.Decides.{eqb_tells}
 use Rattle.shard_book.specs.declared.entry.Entry.{Entry}
 use Rattle.shared_books.specs.declared.turns.rule.Mark.{Mark}
 use Rattle.shared_books.specs.Marks.{mark, others}
-use Rattle.shared_books.specs.Passes.{PassView, IsFull, IsLater, Visits, seen_by}
+use Rattle.shared_books.specs.Passes.{PassView, IsFull, HasSeenMore, Visits, seen_by}
 use Rattle.fare_service.specs.declared.service.working.Stop.{Stop}
 use Rattle.fare_service.specs.declared.service.working.Stop.TheVariants.{Memory, Full}
 use Rattle.fare_service.specs.Shares.{made_visits, made_visits_at}
@@ -25,7 +25,7 @@ pub knows_more : (old new : PassView) (more : List Mark) → new.book ≡ old.bo
 knows_more old new more book marks full =
     omega (arith, full, ap (λ b. b.first) book, seen old, seen new, ap length marks, length-append old.marks more)
 
-pub later_full : (old new : PassView) → IsLater old new → KnowsFull old → KnowsFull new
+pub later_full : (old new : PassView) → HasSeenMore old new → KnowsFull old → KnowsFull new
 later_full old new l = knows_more old new (others l.between) l.book l.marks
 
 pub visits_full : (old new : PassView) (number : ℕ) (visit : List Entry) → Visits old new number visit → KnowsFull old → KnowsFull new

@@ -22,7 +22,7 @@ use Rattle.fare_service.specs.Headline.{end_of, HasOutcome, HasRun}
 use Rattle.fare_service.specs.ServiceView.{ServiceView, shards_of}
 use Rattle.fare_service.specs.inside.ServiceView.{IsService, IsBookOf}
 use Rattle.fare_service.specs.ShareView.{ShareView}
-use Rattle.fare_service.specs.inside.Joining.{Belongs, told, told_all}
+use Rattle.fare_service.specs.inside.Joining.{Belongs, with_done, with_all_done}
 use Rattle.fare_service.specs.Outcomes.{OutcomeView}
 use Rattle.fare_service.specs.inside.Outcomes.{IsOutcome}
 use Rattle.fare_service.specs.Runs.{entries_of}
@@ -88,17 +88,17 @@ kept_at service (s ∷ shares) (w ∷ works) zero done kept at =
 kept_at service (s ∷ shares) (w ∷ works) (suc worker) done kept at = kept_at service shares works worker done kept.1 at
 
 -- the ends, of what all did
-told-append : (ends : List UploadEnd) (xs ys : List Done) → told ends (xs ++ ys) ≡ told (told ends xs) ys
+told-append : (ends : List UploadEnd) (xs ys : List Done) → with_done ends (xs ++ ys) ≡ with_done (with_done ends xs) ys
 told-append ends [] ys = refl
 told-append ends (d ∷ xs) ys = told-append (slice_set ends d.upload d.end) xs ys
 
-told_works : (service : ServiceView) (ends : List UploadEnd) (shares : List ShareView) (works : List (List Worked)) → Kept service shares works → told_all ends shares ≡ told ends (map done_of (all_works works))
+told_works : (service : ServiceView) (ends : List UploadEnd) (shares : List ShareView) (works : List (List Worked)) → Kept service shares works → with_all_done ends shares ≡ with_done ends (map done_of (all_works works))
 told_works service ends [] [] kept = refl
 told_works service ends [] (w ∷ works) kept = absurd kept
 told_works service ends (s ∷ shares) [] kept = absurd kept
 told_works service ends (s ∷ shares) (w ∷ works) kept =
-    ap (λ ds. told_all (told ends ds) shares) kept.0.done ∙ told_works service (told ends (map done_of w)) shares works kept.1
-    ∙ sym (told-append ends (map done_of w) (map done_of (all_works works))) ∙ ap (told ends) (sym (map-append done_of w (all_works works)))
+    ap (λ ds. with_all_done (with_done ends ds) shares) kept.0.done ∙ told_works service (with_done ends (map done_of w)) shares works kept.1
+    ∙ sym (told-append ends (map done_of w) (map done_of (all_works works))) ∙ ap (with_done ends) (sym (map-append done_of w (all_works works)))
 
 set_same : (ends : List UploadEnd) (upload : ℕ) (new end : UploadEnd) → slice_get (slice_set ends upload new) upload ≡ Some end → end ≡ new
 set_same [] upload new end at = absurd (cc)
@@ -145,7 +145,7 @@ abbrev Told : List UploadEnd → List Worked → ℕ → UploadEnd → Type 0
 Told ends works upload end = ((drawn_times upload works ≡ 0) × (slice_get ends upload ≡ Some end)) ⊎ ((0 < drawn_times upload works) × (end ≡ end_of upload works))
 
 told_end : (ends : List UploadEnd) (works : List Worked) (upload : ℕ) (end : UploadEnd) → NoneTwice (map (λ w. w.upload) works)
-    → slice_get (told ends (map done_of works)) upload ≡ Some end → Told ends works upload end
+    → slice_get (with_done ends (map done_of works)) upload ≡ Some end → Told ends works upload end
 told_end ends [] upload end once at = inl (refl, at)
 told_end ends (w ∷ works) upload end once at = by_test (eqb_tells w.upload upload) (told_end (slice_set ends w.upload w.end) works upload end (fewer_after w works once) at)
   where
@@ -189,7 +189,7 @@ not_drawn (w ∷ works) upload none = by_test (eqb_tells w.upload upload) (not_d
 
 -- the ends that the shares tell
 ends_told : (service : ServiceView) (shares : List ShareView) (works : List (List Worked)) → Kept service shares works → NoneTwice (map (λ w. w.upload) (all_works works))
-    → (ends : List UploadEnd) → ends ≡ told_all (replicate (length service.uploads) Undrawn) shares
+    → (ends : List UploadEnd) → ends ≡ with_all_done (replicate (length service.uploads) Undrawn) shares
     → (upload : ℕ) (end : UploadEnd) → slice_get ends upload ≡ Some end → Told (replicate (length service.uploads) Undrawn) (all_works works) upload end
 ends_told service shares works kept once ends are upload end at =
     let G : List UploadEnd → Type 0 = λ es. slice_get es upload ≡ Some end in
@@ -219,7 +219,7 @@ abbrev pub HasGathered : ServiceView → List ShareView → OutcomeView → Type
 HasGathered service shares outcome = (works : List (List Worked)) × AllZip (KeepsWorks service) shares works × IsGathered (given_of service) works outcome
 
 pub has_gathered : (service : ServiceView) → IsService service → (shares : List ShareView) → All (IsShareOf service) shares → (closed : List Book) → IsClosedWork service.books shares closed
-    → (ends : List UploadEnd) → ends ≡ told_all (replicate (length service.uploads) Undrawn) shares → length ends ≡ length service.uploads
+    → (ends : List UploadEnd) → ends ≡ with_all_done (replicate (length service.uploads) Undrawn) shares → length ends ≡ length service.uploads
     → (workers : List Sums) → workers ≡ map (λ share. share.totals) shares → (totals : Sums) → HasGathered service shares (record { books = closed; ends = ends; workers = workers; totals = totals })
 has_gathered service is shares all closed work ends are number workers sums_are totals =
     let k = keepings service shares all in
@@ -244,7 +244,7 @@ has_gathered service is shares all closed work ends are number workers sums_are 
     by_told works upload end (inr (some, e)) = e
 
 pub told_undrawn : (service : ServiceView) (shares : List ShareView) → All (IsShareOf service) shares → (closed : List Book) → IsClosedWork service.books shares closed
-    → (ends : List UploadEnd) → ends ≡ told_all (replicate (length service.uploads) Undrawn) shares → length ends ≡ length service.uploads
+    → (ends : List UploadEnd) → ends ≡ with_all_done (replicate (length service.uploads) Undrawn) shares → length ends ≡ length service.uploads
     → (upload : ℕ) → slice_get ends upload ≡ Some Undrawn → All (λ share. share.drawer.seen ≤ upload) shares
 told_undrawn service shares all closed work ends are number upload at =
     let k = keepings service shares all in

@@ -9,8 +9,8 @@ use Rattle.std.proofs.lemmas.Grind.{flat_map-append}
 use Rattle.std.proofs.lemmas.Bool.Decides.{eqb_tells}
 use Rattle.std.proofs.lemmas.Option.{slice_get_within}
 use Rattle.shared_books.specs.declared.turns.rule.Mark.{Mark}
-use Rattle.shared_books.specs.Drawing.{Drawing, DrawerView, HasMet}
-use Rattle.shared_books.specs.Marks.{visits_of, merged}
+use Rattle.shared_books.specs.Drawing.{Drawing, DrawerView, IsJoinedDrawer}
+use Rattle.shared_books.specs.Marks.{visits_of, joined_marks}
 use Rattle.shared_books.specs.Passes.{SharedBookView, PassView, IsJoined}
 use Rattle.fare_service.specs.Claims.{claims_at}
 use Rattle.fare_service.specs.Headline.{by_worker}
@@ -58,7 +58,7 @@ join_step fn yielded into place old pass new shard before at within is joined = 
     by_place : (((shard == place) ≡ true) × (shard ≡ place)) ⊎ (((shard == place) ≡ false) × (shard ≢ place)) → AreJoinedAt shard fn (yielded ++ pass ∷ []) (set into place new)
     by_place (inl (b, e)) =
         let none : marks_at shard yielded ≡ [] = marks_beyond shard yielded (omega (arith, e, at)) in
-        let first : marks_at shard into ≡ marks_at shard fn = before.marks ∙ (ap (merged (marks_at shard fn)) none ∙ merged-nil (marks_at shard fn)) in
+        let first : marks_at shard into ≡ marks_at shard fn = before.marks ∙ (ap (joined_marks (marks_at shard fn)) none ∙ merged-nil (marks_at shard fn)) in
         let here : old.marks ≡ marks_at shard fn = sym (ap (λ s. marks_at s into) e ∙ marks_here into place old within is) ∙ first in
         let last : pass.marks ≡ marks_at shard (yielded ++ pass ∷ []) = sym (ap (λ s. marks_at s (yielded ++ pass ∷ [])) (e ∙ at) ∙ marks_last yielded pass) in
         let there : new.marks ≡ marks_at shard (set into place new) = sym (ap (λ s. marks_at s (set into place new)) e ∙ marks-set_same into place new within) in
@@ -85,14 +85,14 @@ signed_more nobody shard shares share passes passes' below s j =
     }
 
 -- two lists of marks that were joined are no shorter
-merged_longer : (xs ys : List Mark) → (length xs ≤ length (merged xs ys)) × (length ys ≤ length (merged xs ys))
+merged_longer : (xs ys : List Mark) → (length xs ≤ length (joined_marks xs ys)) × (length ys ≤ length (joined_marks xs ys))
 merged_longer [] ys = (omega arith, omega arith)
 merged_longer (x ∷ xs) [] = (omega arith, omega arith)
 merged_longer (x ∷ xs) (y ∷ ys) = let rest = merged_longer xs ys in (omega (arith, rest.0), omega (arith, rest.1))
 
 -- one share more was joined
 pub joined_more : (drawing : Drawing) (books : List SharedBookView) (nobody : ℕ) (shares : List ShareView) (share : ShareView) (drawer drawer' : DrawerView) (passes passes' : List PassView) → length shares < nobody
-    → IsJoinedOf drawing books nobody shares drawer passes → HasMet drawer share.drawer drawer' → books_of passes' ≡ books → ((shard : ℕ) → AreJoinedAt shard passes share.passes passes')
+    → IsJoinedOf drawing books nobody shares drawer passes → IsJoinedDrawer drawer share.drawer drawer' → books_of passes' ≡ books → ((shard : ℕ) → AreJoinedAt shard passes share.passes passes')
     → ((shard : ℕ) → claims_at shard passes' ≡ claims_at shard passes + claims_at shard share.passes)
     → IsJoinedOf drawing books nobody (shares ++ share ∷ []) drawer' passes'
 joined_more drawing books nobody shares share drawer drawer' passes passes' below all met of_books joined claims = record {
@@ -104,7 +104,7 @@ joined_more drawing books nobody shares share drawer drawer' passes passes' belo
   of_books = of_books;
   signed = λ shard. signed_more nobody shard shares share passes passes' below (all.signed shard) (joined shard);
   held = λ shard. omega (arith, (joined shard).held, all.held shard, sum_by-append (λ (s : ShareView). length (made_visits_at shard s.passes)) shares (share ∷ []), sum_by-cons (λ (s : ShareView). length (made_visits_at shard s.passes)) share []);
-  longest = λ shard. let long = merged_longer (marks_at shard passes) (marks_at shard share.passes) in let new : length (marks_at shard passes') ≡ length (merged (marks_at shard passes) (marks_at shard share.passes)) = ap length (joined shard).marks in
+  longest = λ shard. let long = merged_longer (marks_at shard passes) (marks_at shard share.passes) in let new : length (marks_at shard passes') ≡ length (joined_marks (marks_at shard passes) (marks_at shard share.passes)) = ap length (joined shard).marks in
       All-push (λ s. length (marks_at shard s.passes) ≤ length (marks_at shard passes')) shares share
       (All-weaker (λ s. length (marks_at shard s.passes) ≤ length (marks_at shard passes)) (λ s. length (marks_at shard s.passes) ≤ length (marks_at shard passes')) (λ s h. omega (arith, h, long.0, new)) shares (all.longest shard))
       (omega (arith, long.1, new));

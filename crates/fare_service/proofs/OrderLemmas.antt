@@ -10,7 +10,7 @@ use Rattle.std.proofs.lemmas.List.Sums.{sum_by-cons}
 use Rattle.tap_views.specs.Layout.{Tap}
 use Rattle.tap_views.specs.Shards.{shard_of_token}
 use Rattle.fare_service.specs.Placing.{in_posting_order, in_file_order, IsReordered}
-use Rattle.fare_service.specs.Runs.{PlacedTap, placed_from, of_shard, Run, if_any, runs_below, runs_of}
+use Rattle.fare_service.specs.Runs.{PlacedTap, placed_from, of_shard, PlacedRun, if_any, runs_below, runs_of}
 use Rattle.fare_service.proofs.AddingLemmas.{sum_below, sum_by_key, length_sum}
 use Rattle.fare_service.proofs.PlacedVisits.{filter_all, filter_none, own_taps}
 use Rattle.fare_service.proofs.TapCounts.{length-placed}
@@ -27,7 +27,7 @@ taps_below shards n taps = flat_map (λ r. r.taps) (runs_below shards n taps)
 
 below_step : (shards n : ℕ) (taps : List PlacedTap) → taps_below shards (suc n) taps ≡ taps_below shards n taps ++ of_shard n shards taps
 below_step shards n taps =
-    flat_map-append (λ (r : Run). r.taps) (runs_below shards n taps) (if_any n (of_shard n shards taps)) ∙ ap (λ ts. taps_below shards n taps ++ ts) (any_taps n (of_shard n shards taps))
+    flat_map-append (λ (r : PlacedRun). r.taps) (runs_below shards n taps) (if_any n (of_shard n shards taps)) ∙ ap (λ ts. taps_below shards n taps ++ ts) (any_taps n (of_shard n shards taps))
 
 same_shard : (shard shards : ℕ) (taps : List PlacedTap) → of_shard shard shards (of_shard shard shards taps) ≡ of_shard shard shards taps
 same_shard shard shards taps =
@@ -79,8 +79,8 @@ order_same : (shard shards place : ℕ) (batches : List (List Tap)) → shard < 
     → of_shard shard shards (flat_map (λ r. r.taps) (runs_of shards place batches)) ≡ of_shard shard shards (placed_from place (flat_map (λ batch. batch) batches))
 order_same shard shards place [] within = refl
 order_same shard shards place (batch ∷ batches) within =
-    let rest = flat_map (λ (r : Run). r.taps) (runs_of shards (place + length batch) batches) in
-    ap (of_shard shard shards) (flat_map-append (λ (r : Run). r.taps) (runs_below shards shards (placed_from place batch)) (runs_of shards (place + length batch) batches))
+    let rest = flat_map (λ (r : PlacedRun). r.taps) (runs_of shards (place + length batch) batches) in
+    ap (of_shard shard shards) (flat_map-append (λ (r : PlacedRun). r.taps) (runs_below shards shards (placed_from place batch)) (runs_of shards (place + length batch) batches))
     ∙ (of_shard-append shard shards (taps_below shards shards (placed_from place batch)) rest
     ∙ (ap (λ ts. ts ++ of_shard shard shards rest) (below_same shard shards shards (placed_from place batch) within)
     ∙ (ap (λ ts. of_shard shard shards (placed_from place batch) ++ ts) (order_same shard shards (place + length batch) batches within)

@@ -15,7 +15,7 @@ use Rattle.fare_service.specs.declared.upload_end.UploadEnd.{UploadEnd}
 use Rattle.fare_service.specs.declared.upload_end.UploadEnd.TheVariants.{Posted, Refused, Cut, Undrawn}
 use Rattle.fare_service.specs.Headline.{end_of}
 use Rattle.fare_service.specs.Placing.{posted_of, in_posting_order, WerePostedOf}
-use Rattle.fare_service.specs.Runs.{PlacedTap, placed_from, taps_of_placed, of_shard, Run, run, if_any, runs_below, runs_of, RunVisit, IsEntered, run_of_visit, ArePosted, AreCut, entries_of, taps_posted}
+use Rattle.fare_service.specs.Runs.{PlacedTap, placed_from, taps_of_placed, of_shard, PlacedRun, placed_run, if_any, runs_below, runs_of, RunVisit, IsEntered, run_of_visit, ArePostedWhole, AreCut, entries_of, taps_posted}
 use Rattle.fare_service.specs.inside.Runs.{visits_to}
 use Rattle.fare_service.specs.Shares.{Worked, all_visits, IsWorkOf, IsEndOf, file_at}
 use Rattle.fare_service.proofs.GatherLemmas.{drawn_times, times_same, times_other, fewer_after, end_same, end_other}
@@ -35,7 +35,7 @@ All-unmap P f [] all = All-nil (λ x. P (f x))
 All-unmap P f (x ∷ xs) all = All-cons (λ y. P (f y)) x xs (All-head P (f x) (map f xs) all) (All-unmap P f xs (All-tail P (f x) (map f xs) all))
 
 -- each tap of a run is of its shard
-pub IsOwnRun : ℕ → Run → Type 0
+pub IsOwnRun : ℕ → PlacedRun → Type 0
 IsOwnRun shards r = All (λ p. shard_of_token p.tap.token shards ≡ r.shard) r.taps
 
 pub own_taps : (shard shards : ℕ) (placed : List PlacedTap) → All (λ p. shard_of_token p.tap.token shards ≡ shard) (of_shard shard shards placed)
@@ -46,7 +46,7 @@ own_taps shard shards placed =
 own_if_any : (shard shards : ℕ) (taps : List PlacedTap) → All (λ p. shard_of_token p.tap.token shards ≡ shard) taps → All (IsOwnRun shards) (if_any shard taps)
 unfolding IsOwnRun
 own_if_any shard shards [] all = All-nil (IsOwnRun shards)
-own_if_any shard shards (tap ∷ taps) all = All-cons (IsOwnRun shards) (run shard (tap ∷ taps)) [] all (All-nil (IsOwnRun shards))
+own_if_any shard shards (tap ∷ taps) all = All-cons (IsOwnRun shards) (placed_run shard (tap ∷ taps)) [] all (All-nil (IsOwnRun shards))
 
 own_below : (shards n : ℕ) (taps : List PlacedTap) → All (IsOwnRun shards) (runs_below shards n taps)
 own_below shards zero taps = All-nil (IsOwnRun shards)
@@ -63,21 +63,21 @@ own_runs shards place (batch ∷ batches) =
 pub IsOwnVisit : ℕ → RunVisit → Type 0
 IsOwnVisit shards v = IsOwnRun shards (run_of_visit v)
 
-own_posted : (shards : ℕ) (runs : List Run) (visits : List RunVisit) → All (IsOwnRun shards) runs → ArePosted runs visits → All (IsOwnVisit shards) visits
+own_posted : (shards : ℕ) (runs : List PlacedRun) (visits : List RunVisit) → All (IsOwnRun shards) runs → ArePostedWhole runs visits → All (IsOwnVisit shards) visits
 unfolding IsOwnVisit
 own_posted shards runs visits all posted =
-    let P : List Run → Type 0 = All (IsOwnRun shards) in
+    let P : List PlacedRun → Type 0 = All (IsOwnRun shards) in
     All-unmap (IsOwnRun shards) run_of_visit visits (subst P (sym posted) all)
 
-own_take : (shards posted : ℕ) (r : Run) → IsOwnRun shards r → IsOwnRun shards (run r.shard (take posted r.taps))
+own_take : (shards posted : ℕ) (r : PlacedRun) → IsOwnRun shards r → IsOwnRun shards (placed_run r.shard (take posted r.taps))
 unfolding IsOwnRun
 own_take shards posted r own = All-take (λ p. shard_of_token p.tap.token shards ≡ r.shard) posted r.taps own
 
-own_cut : (shards : ℕ) (runs : List Run) (visits : List RunVisit) → All (IsOwnRun shards) runs → AreCut runs visits → All (IsOwnVisit shards) visits
+own_cut : (shards : ℕ) (runs : List PlacedRun) (visits : List RunVisit) → All (IsOwnRun shards) runs → AreCut runs visits → All (IsOwnVisit shards) visits
 own_cut shards runs visits all c = made c.made
   where
     whole : All (IsOwnRun shards) (c.before ++ c.cut ∷ c.after)
-    whole = let P : List Run → Type 0 = All (IsOwnRun shards) in subst P c.all all
+    whole = let P : List PlacedRun → Type 0 = All (IsOwnRun shards) in subst P c.all all
 
     before : All (IsOwnRun shards) c.before
     before = All-front (IsOwnRun shards) c.before (c.cut ∷ c.after) whole
@@ -85,13 +85,13 @@ own_cut shards runs visits all c = made c.made
     cut : IsOwnRun shards c.cut
     cut = All-head (IsOwnRun shards) c.cut c.after (All-back (IsOwnRun shards) c.before (c.cut ∷ c.after) whole)
 
-    made : ((map run_of_visit visits ≡ c.before) ⊎ ((posted : ℕ) × (posted < length c.cut.taps) × (map run_of_visit visits ≡ c.before ++ run c.cut.shard (take posted c.cut.taps) ∷ [])))
+    made : ((map run_of_visit visits ≡ c.before) ⊎ ((posted : ℕ) × (posted < length c.cut.taps) × (map run_of_visit visits ≡ c.before ++ placed_run c.cut.shard (take posted c.cut.taps) ∷ [])))
         → All (IsOwnVisit shards) visits
     made (inl e) = own_posted shards c.before visits before e
     made (inr (posted, few, e)) =
-        own_posted shards (c.before ++ run c.cut.shard (take posted c.cut.taps) ∷ []) visits
-        (All-append (IsOwnRun shards) c.before (run c.cut.shard (take posted c.cut.taps) ∷ []) before
-        (All-cons (IsOwnRun shards) (run c.cut.shard (take posted c.cut.taps)) [] (own_take shards posted c.cut cut) (All-nil (IsOwnRun shards)))) e
+        own_posted shards (c.before ++ placed_run c.cut.shard (take posted c.cut.taps) ∷ []) visits
+        (All-append (IsOwnRun shards) c.before (placed_run c.cut.shard (take posted c.cut.taps) ∷ []) before
+        (All-cons (IsOwnRun shards) (placed_run c.cut.shard (take posted c.cut.taps)) [] (own_take shards posted c.cut cut) (All-nil (IsOwnRun shards)))) e
 
 pub own_worked : (given : Given) (w : Worked) → IsWorkOf given.shards given.uploads w → All (IsOwnVisit given.shards) w.visits
 own_worked given w is = by_end w.end is.ended
@@ -154,8 +154,8 @@ runs_taps_are : (visits : List RunVisit) → flat_map (λ v. v.taps) visits ≡ 
 runs_taps_are [] = refl
 runs_taps_are (v ∷ visits) = ap (λ ts. v.taps ++ ts) (runs_taps_are visits)
 
-posted_taps_are : (runs : List Run) (visits : List RunVisit) → ArePosted runs visits → flat_map (λ v. v.taps) visits ≡ flat_map (λ r. r.taps) runs
-posted_taps_are runs visits posted = runs_taps_are visits ∙ ap (λ rs. flat_map (λ (r : Run). r.taps) rs) posted
+posted_taps_are : (runs : List PlacedRun) (visits : List RunVisit) → ArePostedWhole runs visits → flat_map (λ v. v.taps) visits ≡ flat_map (λ r. r.taps) runs
+posted_taps_are runs visits posted = runs_taps_are visits ∙ ap (λ rs. flat_map (λ (r : PlacedRun). r.taps) rs) posted
 
 take_front : {X : Type 0} (xs ys zs : List X) → zs ≡ xs ++ ys → take (length xs) zs ≡ xs
 take_front xs ys zs e = ap (take (length xs)) e ∙ take_at xs ys (length xs) refl
@@ -165,40 +165,40 @@ record IsFront (order taps : List PlacedTap) : Type 0 where
   fewer : length taps < length order
   front : taps ≡ take (length taps) order
 
-cut_taps_are : (runs : List Run) (visits : List RunVisit) → AreCut runs visits → IsFront (flat_map (λ r. r.taps) runs) (flat_map (λ v. v.taps) visits)
+cut_taps_are : (runs : List PlacedRun) (visits : List RunVisit) → AreCut runs visits → IsFront (flat_map (λ r. r.taps) runs) (flat_map (λ v. v.taps) visits)
 cut_taps_are runs visits c = made c.made
   where
     order : flat_map (λ r. r.taps) runs ≡ flat_map (λ r. r.taps) c.before ++ (c.cut.taps ++ flat_map (λ r. r.taps) c.after)
-    order = ap (λ rs. flat_map (λ (r : Run). r.taps) rs) c.all ∙ flat_map-append (λ (r : Run). r.taps) c.before (c.cut ∷ c.after)
+    order = ap (λ rs. flat_map (λ (r : PlacedRun). r.taps) rs) c.all ∙ flat_map-append (λ (r : PlacedRun). r.taps) c.before (c.cut ∷ c.after)
 
-    made : ((map run_of_visit visits ≡ c.before) ⊎ ((posted : ℕ) × (posted < length c.cut.taps) × (map run_of_visit visits ≡ c.before ++ run c.cut.shard (take posted c.cut.taps) ∷ [])))
+    made : ((map run_of_visit visits ≡ c.before) ⊎ ((posted : ℕ) × (posted < length c.cut.taps) × (map run_of_visit visits ≡ c.before ++ placed_run c.cut.shard (take posted c.cut.taps) ∷ [])))
         → IsFront (flat_map (λ r. r.taps) runs) (flat_map (λ v. v.taps) visits)
     made (inl e) =
-        let xs = flat_map (λ (r : Run). r.taps) c.before in
+        let xs = flat_map (λ (r : PlacedRun). r.taps) c.before in
         let same : flat_map (λ v. v.taps) visits ≡ xs = posted_taps_are c.before visits e in
         let F : List PlacedTap → Type 0 = IsFront (flat_map (λ r. r.taps) runs) in
         subst F (sym same) (record {
-          fewer = omega (arith, ap length order, length-append xs (c.cut.taps ++ flat_map (λ (r : Run). r.taps) c.after), length-append c.cut.taps (flat_map (λ (r : Run). r.taps) c.after), c.some_tap);
-          front = sym (take_front xs (c.cut.taps ++ flat_map (λ (r : Run). r.taps) c.after) (flat_map (λ r. r.taps) runs) order);
+          fewer = omega (arith, ap length order, length-append xs (c.cut.taps ++ flat_map (λ (r : PlacedRun). r.taps) c.after), length-append c.cut.taps (flat_map (λ (r : PlacedRun). r.taps) c.after), c.some_tap);
+          front = sym (take_front xs (c.cut.taps ++ flat_map (λ (r : PlacedRun). r.taps) c.after) (flat_map (λ r. r.taps) runs) order);
         })
     made (inr (posted, few, e)) =
-        let before = flat_map (λ (r : Run). r.taps) c.before in
+        let before = flat_map (λ (r : PlacedRun). r.taps) c.before in
         let part : List PlacedTap = take posted c.cut.taps in
         let xs = before ++ part in
         let same : flat_map (λ v. v.taps) visits ≡ xs =
-        posted_taps_are (c.before ++ run c.cut.shard part ∷ []) visits e ∙ (flat_map-append (λ (r : Run). r.taps) c.before (run c.cut.shard part ∷ []) ∙ ap (λ ts. before ++ ts) (append-nil part)) in
+        posted_taps_are (c.before ++ placed_run c.cut.shard part ∷ []) visits e ∙ (flat_map-append (λ (r : PlacedRun). r.taps) c.before (placed_run c.cut.shard part ∷ []) ∙ ap (λ ts. before ++ ts) (append-nil part)) in
         let F : List PlacedTap → Type 0 = IsFront (flat_map (λ r. r.taps) runs) in
         let many : length part ≡ posted = length-take-le posted c.cut.taps (omega (arith, few)) in
-        let all : length (flat_map (λ r. r.taps) runs) ≡ length before + (length c.cut.taps + length (flat_map (λ (r : Run). r.taps) c.after)) =
-        omega (arith, ap length order, length-append before (c.cut.taps ++ flat_map (λ (r : Run). r.taps) c.after), length-append c.cut.taps (flat_map (λ (r : Run). r.taps) c.after)) in
+        let all : length (flat_map (λ r. r.taps) runs) ≡ length before + (length c.cut.taps + length (flat_map (λ (r : PlacedRun). r.taps) c.after)) =
+        omega (arith, ap length order, length-append before (c.cut.taps ++ flat_map (λ (r : PlacedRun). r.taps) c.after), length-append c.cut.taps (flat_map (λ (r : PlacedRun). r.taps) c.after)) in
         let split : c.cut.taps ≡ part ++ drop posted c.cut.taps = sym (take-append-drop posted c.cut.taps) in
-        let whole : flat_map (λ r. r.taps) runs ≡ xs ++ (drop posted c.cut.taps ++ flat_map (λ (r : Run). r.taps) c.after) =
-        order ∙ (ap (λ ts. before ++ (ts ++ flat_map (λ (r : Run). r.taps) c.after)) split
-        ∙ (ap (λ ts. before ++ ts) (append_assoc part (drop posted c.cut.taps) (flat_map (λ (r : Run). r.taps) c.after))
-        ∙ sym (append_assoc before part (drop posted c.cut.taps ++ flat_map (λ (r : Run). r.taps) c.after)))) in
+        let whole : flat_map (λ r. r.taps) runs ≡ xs ++ (drop posted c.cut.taps ++ flat_map (λ (r : PlacedRun). r.taps) c.after) =
+        order ∙ (ap (λ ts. before ++ (ts ++ flat_map (λ (r : PlacedRun). r.taps) c.after)) split
+        ∙ (ap (λ ts. before ++ ts) (append_assoc part (drop posted c.cut.taps) (flat_map (λ (r : PlacedRun). r.taps) c.after))
+        ∙ sym (append_assoc before part (drop posted c.cut.taps ++ flat_map (λ (r : PlacedRun). r.taps) c.after)))) in
         subst F (sym same) (record {
           fewer = omega (arith, all, many, few, length-append before part);
-          front = sym (take_front xs (drop posted c.cut.taps ++ flat_map (λ (r : Run). r.taps) c.after) (flat_map (λ r. r.taps) runs) whole);
+          front = sym (take_front xs (drop posted c.cut.taps ++ flat_map (λ (r : PlacedRun). r.taps) c.after) (flat_map (λ r. r.taps) runs) whole);
         })
 
 -- what an end tells of an upload is what its visits posted

@@ -23,7 +23,7 @@ use Rattle.fare_service.specs.Headline.{Signed, by_worker, end_of}
 use Rattle.fare_service.specs.Outcomes.{OutcomeView}
 use Rattle.tap_views.specs.Files.{AreGoodTaps, AreGoodTapsOfEach}
 use Rattle.fare_service.specs.Plain.{AreApart, HasOneReading, IsNamed, WasNotCut, unanswered, token_of_bytes, plain}
-use Rattle.fare_service.specs.Runs.{RunVisit, ArePosted, runs_of, entries_to}
+use Rattle.fare_service.specs.Runs.{RunVisit, ArePostedWhole, runs_of, entries_to}
 use Rattle.fare_service.specs.Shares.{Worked, all_visits, IsWorkOf, IsEndOf, all_works, file_at}
 use Rattle.fare_service.proofs.PlainLists.{All-split, All-flat, flat-All, All-at, mapped_at, flat_map-map, count, count_same, count_other, DoTheirs, done_alone, done_none, flat_alone, flat_none, HasOne, none_or_one}
 use Rattle.fare_service.proofs.PlainReplies.{bare, own_bare, plain_bare, plain_legal, same_replies}
@@ -75,7 +75,7 @@ each_length (file ∷ uploads) [] each = absurd each
 each_length (file ∷ uploads) (ts ∷ taps) each = ap suc (each_length uploads taps each.1)
 
 pub whole_posted : (shards : ℕ) (file : List ℕ) (batches : List (List Tap)) (rest : List ℕ) (visits : List RunVisit) (end : UploadEnd) → IsEndOf shards file batches rest visits end → WasNotCut end
-    → ArePosted (runs_of shards 0 batches) visits
+    → ArePostedWhole (runs_of shards 0 batches) visits
 whole_posted shards file batches rest visits (Posted taps) is whole = is.1
 whole_posted shards file batches rest visits (Refused taps offset fault) is whole = is.1
 whole_posted shards file batches rest visits (Cut taps) is whole = absurd whole

@@ -10,7 +10,7 @@ use Rattle.fare_service.specs.declared.upload_end.UploadEnd.TheVariants.{Posted,
 use Rattle.fare_service.specs.Headline.{end_of}
 use Rattle.fare_service.specs.Outcomes.{OutcomeView}
 use Rattle.fare_service.specs.Plain.{WasNotCut, IsPlainEnd, ArePlainEnds}
-use Rattle.fare_service.specs.Runs.{RunVisit, IsEntered, ArePosted, runs_of, taps_posted}
+use Rattle.fare_service.specs.Runs.{RunVisit, IsEntered, ArePostedWhole, runs_of, taps_posted}
 use Rattle.fare_service.specs.Shares.{Worked, IsWorkOf, IsEndOf, all_works, file_at}
 use Rattle.fare_service.proofs.PlainBooks.{drawn_by, end_told, whole_posted}
 use Rattle.fare_service.proofs.PlainLists.{All-flat, All-at}
@@ -24,7 +24,7 @@ zip_at R (x ∷ xs) [] same each = absurd (omega (arith, same))
 zip_at R (x ∷ xs) (y ∷ ys) same each = (each 0 x y refl refl, zip_at R xs ys (omega (arith, same)) (λ i a b at there. each (suc i) a b at there))
 
 -- whole runs post all taps of the batches
-all_posted : (shards : ℕ) (batches : List (List Tap)) (visits : List RunVisit) → 0 < shards → All (IsEntered shards) visits → ArePosted (runs_of shards 0 batches) visits
+all_posted : (shards : ℕ) (batches : List (List Tap)) (visits : List RunVisit) → 0 < shards → All (IsEntered shards) visits → ArePostedWhole (runs_of shards 0 batches) visits
     → taps_posted visits ≡ length (flat_map (λ batch. batch) batches)
 all_posted shards batches visits some entered posted =
     posted_taps shards (runs_of shards 0 batches) visits entered posted ∙ all_runs_taps shards 0 batches (λ token. mod-lt _ some)

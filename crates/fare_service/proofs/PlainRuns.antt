@@ -14,26 +14,26 @@ use Rattle.shard_book.specs.Keys.{same_token}
 use Rattle.fare_table.specs.Token.{bytes_of}
 use Rattle.shared_books.specs.Marks.{history_of_visits}
 use Rattle.fare_service.specs.Plain.{unanswered, token_of_bytes, IsNamed}
-use Rattle.fare_service.specs.Runs.{PlacedTap, placed_from, taps_of_placed, of_shard, Run, run, if_any, runs_below, runs_of, RunVisit, IsEntered, run_of_visit, ArePosted, entries_to}
+use Rattle.fare_service.specs.Runs.{PlacedTap, placed_from, taps_of_placed, of_shard, PlacedRun, placed_run, if_any, runs_below, runs_of, RunVisit, IsEntered, run_of_visit, ArePostedWhole, entries_to}
 use Rattle.fare_service.proofs.PlainReplies.{bare}
 use Rattle.fare_service.proofs.RunLemmas.{taps-of_shard}
 
 -- the taps of some runs to a shard
-abbrev taps_at : ℕ → List Run → List Tap
+abbrev taps_at : ℕ → List PlacedRun → List Tap
 taps_at shard runs = flat_map (λ r. taps_of_placed r.taps) (filter (λ r. r.shard == shard) runs)
 
-taps_at-append : (shard : ℕ) (xs ys : List Run) → taps_at shard (xs ++ ys) ≡ taps_at shard xs ++ taps_at shard ys
+taps_at-append : (shard : ℕ) (xs ys : List PlacedRun) → taps_at shard (xs ++ ys) ≡ taps_at shard xs ++ taps_at shard ys
 taps_at-append shard xs ys =
     ap (flat_map (λ r. taps_of_placed r.taps)) (filter-append (λ r. r.shard == shard) xs ys)
     ∙ flat_map-append (λ r. taps_of_placed r.taps) (filter (λ r. r.shard == shard) xs) (filter (λ r. r.shard == shard) ys)
 
 any_here : (shard n : ℕ) (taps : List PlacedTap) → (n == shard) ≡ true → taps_at shard (if_any n taps) ≡ taps_of_placed taps
 any_here shard n [] is = refl
-any_here shard n (tap ∷ taps) is = ap (λ b. flat_map (λ (r : Run). taps_of_placed r.taps) (cond b (run n (tap ∷ taps) ∷ []) [])) is ∙ append-nil (taps_of_placed (tap ∷ taps))
+any_here shard n (tap ∷ taps) is = ap (λ b. flat_map (λ (r : PlacedRun). taps_of_placed r.taps) (cond b (placed_run n (tap ∷ taps) ∷ []) [])) is ∙ append-nil (taps_of_placed (tap ∷ taps))
 
 any_else : (shard n : ℕ) (taps : List PlacedTap) → (n == shard) ≡ false → taps_at shard (if_any n taps) ≡ []
 any_else shard n [] is = refl
-any_else shard n (tap ∷ taps) is = ap (λ b. flat_map (λ (r : Run). taps_of_placed r.taps) (cond b (run n (tap ∷ taps) ∷ []) [])) is
+any_else shard n (tap ∷ taps) is = ap (λ b. flat_map (λ (r : PlacedRun). taps_of_placed r.taps) (cond b (placed_run n (tap ∷ taps) ∷ []) [])) is
 
 below_none : (shards shard n : ℕ) (taps : List PlacedTap) → n ≤ shard → taps_at shard (runs_below shards n taps) ≡ []
 below_none shards shard zero taps few = refl
@@ -88,7 +88,7 @@ visits_entries shards shard (visit ∷ visits) all =
         (All-head (IsEntered shards) visit visits all).fields more)
     by_test false is more = rw is more
 
-pub shard_entries : (shards shard : ℕ) (batches : List (List Tap)) (visits : List RunVisit) → shard < shards → ArePosted (runs_of shards 0 batches) visits → All (IsEntered shards) visits
+pub shard_entries : (shards shard : ℕ) (batches : List (List Tap)) (visits : List RunVisit) → shard < shards → ArePostedWhole (runs_of shards 0 batches) visits → All (IsEntered shards) visits
     → AllZip IsEntryOf (run_of shard shards (flat_map (λ batch. batch) batches)) (history_of_visits (entries_to shard visits))
 shard_entries shards shard batches visits within posted all =
     let P : List Tap → Type 0 = λ taps. AllZip IsEntryOf taps (history_of_visits (entries_to shard visits)) in

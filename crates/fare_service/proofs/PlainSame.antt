@@ -12,7 +12,7 @@ use Rattle.shard_book.specs.declared.entry.Entry.{Entry}
 use Rattle.shard_book.specs.SumsByKey.{sums_by_validator, sums_by_token}
 use Rattle.shard_book.specs.Sums.{sums}
 use Rattle.fare_service.specs.declared.upload_end.UploadEnd.{UploadEnd}
-use Rattle.fare_service.specs.Ends.{end_by}
+use Rattle.fare_service.specs.EndsOfUploads.{end_by}
 use Rattle.fare_service.specs.Plain.{HasOneReading, IsPlainEnd, ArePlainEnds, IsReportOver}
 use Rattle.tap_views.specs.Files.{IsEndAfterBatches}
 use Rattle.fare_service.specs.Text.{report}

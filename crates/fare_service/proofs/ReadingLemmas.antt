@@ -11,8 +11,8 @@ use Rattle.shard_book.specs.Entry.{reply_of}
 use Rattle.shard_book.specs.Sums.{Sums}
 use Rattle.shared_books.specs.Passes.{PassView}
 use Rattle.fare_service.specs.declared.service.working.Stop.{Stop}
-use Rattle.fare_service.specs.Runs.{Run, RunVisit, placed_from, runs_below, runs_of, AreCut, entries_of, taps_posted}
-use Rattle.fare_service.specs.inside.Runs.{WerePosted}
+use Rattle.fare_service.specs.Runs.{PlacedRun, RunVisit, placed_from, runs_below, runs_of, AreCut, entries_of, taps_posted}
+use Rattle.fare_service.specs.inside.Runs.{ArePostedOrCut}
 use Rattle.fare_service.specs.Shares.{HasVisited}
 use Rattle.fare_service.proofs.RunLemmas.{cut_early}
 use Rattle.fare_service.proofs.VisitLemmas.{taps_after}
@@ -113,7 +113,7 @@ one_batch shards place batch = append-nil (runs_below shards shards (placed_from
 pub batches_more : (shards : ℕ) (p q r : List PassView) (s t u : Sums) (done : List (List Tap)) (batch : List Tap)
     → Posts shards p q s t (runs_of shards 0 done) → Posts shards q r t u (runs_below shards shards (placed_from (0 + batches_taps done) batch)) → Posts shards p r s u (runs_of shards 0 (done ++ batch ∷ []))
 batches_more shards p q r s t u done batch before here =
-    let P : List Run → Type 0 = Posts shards p r s u in
+    let P : List PlacedRun → Type 0 = Posts shards p r s u in
     subst P (ap (λ rs. runs_of shards 0 done ++ rs) (sym (one_batch shards (0 + batches_taps done) batch)) ∙ sym (runs_of-append shards 0 done (batch ∷ [])))
     (posts_more shards p q r s t u (runs_of shards 0 done) (runs_below shards shards (placed_from (0 + batches_taps done) batch)) before here)
 
@@ -122,7 +122,7 @@ pub batches_cut : (shards : ℕ) (p q r : List PassView) (s t u : Sums) (done mo
     → Posts shards p q s t (runs_of shards 0 done) → Cuts shards q r t u (runs_below shards shards (placed_from (0 + batches_taps done) batch)) → Cuts shards p r s u (runs_of shards 0 ((done ++ batch ∷ []) ++ more))
 batches_cut shards p q r s t u done more batch before here =
     let (visits, made, cut) = posts_cut shards p q r s t u (runs_of shards 0 done) (runs_below shards shards (placed_from (0 + batches_taps done) batch)) before here in
-    let P : List Run → Type 0 = λ runs. AreCut runs visits in
+    let P : List PlacedRun → Type 0 = λ runs. AreCut runs visits in
     let first = subst P (ap (λ rs. runs_of shards 0 done ++ rs) (sym (one_batch shards (0 + batches_taps done) batch)) ∙ sym (runs_of-append shards 0 done (batch ∷ []))) cut in
     (visits, made, subst P (sym (runs_of-append shards 0 (done ++ batch ∷ []) more)) (cut_early (runs_of shards 0 (done ++ batch ∷ [])) (runs_of shards (0 + batches_taps (done ++ batch ∷ [])) more) visits first))
 
@@ -137,13 +137,13 @@ done_room file done more rest is =
     omega (arith, file_room file (done ++ more) rest is, sum_by-append (λ (b : List Tap). length b) done more)
 
 pub posted_few : (shards : ℕ) (p q : List PassView) (s t : Sums) (more : List RunVisit) (file : List ℕ) (batches : List (List Tap)) (whole : Bool)
-    → HasVisited shards p q s t more → WerePosted (runs_of shards 0 batches) whole more → 24 * batches_taps batches ≤ length file → length file < 2 ^ 64 → t.taps ≤ s.taps + 2 ^ 60
+    → HasVisited shards p q s t more → ArePostedOrCut (runs_of shards 0 batches) whole more → 24 * batches_taps batches ≤ length file → length file < 2 ^ 64 → t.taps ≤ s.taps + 2 ^ 60
 posted_few shards p q s t more file batches whole made posted room small =
     let count = counted_taps shards p q s t more made in
     let few : taps_posted more ≤ runs_taps (runs_of shards 0 batches) = no_more whole posted in
     omega (arith, count, few, runs_few shards 0 batches, room, small)
   where
-    no_more : (whole : Bool) → WerePosted (runs_of shards 0 batches) whole more → taps_posted more ≤ runs_taps (runs_of shards 0 batches)
+    no_more : (whole : Bool) → ArePostedOrCut (runs_of shards 0 batches) whole more → taps_posted more ≤ runs_taps (runs_of shards 0 batches)
     no_more true posted = omega (arith, posted_taps shards (runs_of shards 0 batches) more made.entered posted)
     no_more false posted = cut_taps shards (runs_of shards 0 batches) more made.entered posted
 
@@ -157,6 +157,6 @@ same_items file yielded left done item iterator r e step =
 -- an upload that was cut, told by an answer that is an error
 pub cut_upload : (r : Result (Option (ℕ × LayoutFault)) Stop) (shards : ℕ) (file : List ℕ) (p q : List PassView) (s t : Sums) (batches : List (List Tap)) (rest : List ℕ)
     → IsErr r → IsFile file batches rest → Cuts shards p q s t (runs_of shards 0 batches)
-    → (batches : List (List Tap)) × (rest : List ℕ) × IsFile file batches rest × ((more : List RunVisit) × HasVisited shards p q s t more × WerePosted (runs_of shards 0 batches) (is_ok r) more) × IfOk r (IsEndAfterBatches file rest)
+    → (batches : List (List Tap)) × (rest : List ℕ) × IsFile file batches rest × ((more : List RunVisit) × HasVisited shards p q s t more × ArePostedOrCut (runs_of shards 0 batches) (is_ok r) more) × IfOk r (IsEndAfterBatches file rest)
 cut_upload (Ok x) shards file p q s t batches rest err is cut = absurd (cc)
 cut_upload (Err e) shards file p q s t batches rest err is cut = (batches, rest, is, cut, tt)

@@ -14,18 +14,18 @@ use Rattle.shard_book.specs.declared.run_end.RunEnd.TheVariants.{Whole, Cut}
 use Rattle.shard_book.specs.Entry.{IsEntryOf}
 use Rattle.shard_book.specs.Sums.{Sums, sums, add_sums}
 use Rattle.shard_book.specs.Visits.{AreEntriesOf, IsVisit}
-use Rattle.shared_books.specs.Passes.{PassView, SharedBookView, IsLater, Visits}
+use Rattle.shared_books.specs.Passes.{PassView, SharedBookView, HasSeenMore, Visits}
 use Rattle.fare_service.specs.declared.service.working.Stop.{Stop}
 use Rattle.fare_service.specs.ServiceView.{ServiceView, shards_of}
 use Rattle.fare_service.specs.inside.ServiceView.{IsService, IsBookOf}
-use Rattle.fare_service.specs.Runs.{PlacedTap, placed_from, of_shard, Run, if_any, RunVisit, IsEntered, ArePosted, AreCut, entries_to}
-use Rattle.fare_service.specs.inside.Runs.{WerePosted}
+use Rattle.fare_service.specs.Runs.{PlacedTap, placed_from, of_shard, PlacedRun, if_any, RunVisit, IsEntered, ArePostedWhole, AreCut, entries_to}
+use Rattle.fare_service.specs.inside.Runs.{ArePostedOrCut}
 use Rattle.fare_service.specs.Shares.{made_visits, marks_at, made_visits_at, HasVisited}
 use Rattle.fare_service.proofs.RunLemmas.{taps-of_shard, length-of_shard, no_run, cut_none, cut_some, whole_run}
 use Rattle.fare_service.proofs.VisitLemmas.{made_none, made_by_pass, own-visits, own-later, add_none}
 
 -- an answer that is an error tells of a cut
-pub was_cut : (r : Result (Unit {0}) Stop) (runs : List Run) (visits : List RunVisit) → IsErr r → AreCut runs visits → WerePosted runs (is_ok r) visits
+pub was_cut : (r : Result (Unit {0}) Stop) (runs : List PlacedRun) (visits : List RunVisit) → IsErr r → AreCut runs visits → ArePostedOrCut runs (is_ok r) visits
 was_cut (Ok x) runs visits e c = absurd (cc)
 was_cut (Err x) runs visits e c = c
 
@@ -49,7 +49,7 @@ pub record IsVisitOf (shards shard place : ℕ) (batch : List Tap) (how : RunEnd
   pub shard_is : visit.shard ≡ shard
   pub entries_are : visit.entries ≡ entries
   pub entered : IsEntered shards visit
-  pub posted : WerePosted (if_any shard (of_shard shard shards (placed_from place batch))) (is_whole how) (visit ∷ [])
+  pub posted : ArePostedOrCut (if_any shard (of_shard shard shards (placed_from place batch))) (is_whole how) (visit ∷ [])
 
 pub visit_of : (shards shard place : ℕ) (batch : List Tap) (how : RunEnd) (entries : List Entry) → shard < shards → 0 < length (run_of shard shards batch)
     → IsVisit (run_of shard shards batch) how entries → (visit : RunVisit) × IsVisitOf shards shard place batch how entries visit
@@ -118,7 +118,7 @@ made_visit shards shard passes old new number visit totals totals' within is at 
 
 -- a pass that has only seen more
 pub made_look : (shards shard : ℕ) (passes : List PassView) (old new : PassView) (totals : Sums) → shard < length passes
-    → old ≡ get_or passes shard old → IsLater old new → HasVisited shards passes (set passes shard new) totals totals []
+    → old ≡ get_or passes shard old → HasSeenMore old new → HasVisited shards passes (set passes shard new) totals totals []
 made_look shards shard passes old new totals within is later =
     made_by_pass shards passes shard old new totals totals [] within (later.book ∙ ap (λ p. p.book) is) (later.claims ∙ ap (λ p. p.claims) is) (own-later old new later ∙ ap (λ ms. made_visits ms ++ []) (sym (marks_here passes shard old within is)))
     (λ other ne. refl) (sym (add_none totals)) (All-nil (IsEntered shards))
@@ -133,13 +133,13 @@ same_run r batch shard n shards is same = ap run_taps is ∙ ap (λ k. run_of sh
 
 -- a run without taps
 pub run_empty : (shards shard place : ℕ) (batch : List Tap) (passes : List PassView) (totals : Sums) → length (run_of shard shards batch) ≡ 0
-    → (more : List RunVisit) × HasVisited shards passes passes totals totals more × ArePosted (if_any shard (of_shard shard shards (placed_from place batch))) more
+    → (more : List RunVisit) × HasVisited shards passes passes totals totals more × ArePostedWhole (if_any shard (of_shard shard shards (placed_from place batch))) more
 run_empty shards shard place batch passes totals none =
     ([], made_none shards passes totals, sym (no_run shard (of_shard shard shards (placed_from place batch)) (length-of_shard shard shards place batch ∙ none)))
 
 -- a run of which nothing was posted, since memory was refused before its turn
 pub run_refused : (shards shard place : ℕ) (batch : List Tap) (passes : List PassView) (totals : Sums) (r : Result (Unit {0}) Stop) → 0 < length (run_of shard shards batch) → IsErr r
-    → (more : List RunVisit) × HasVisited shards passes passes totals totals more × WerePosted (if_any shard (of_shard shard shards (placed_from place batch))) (is_ok r) more
+    → (more : List RunVisit) × HasVisited shards passes passes totals totals more × ArePostedOrCut (if_any shard (of_shard shard shards (placed_from place batch))) (is_ok r) more
 run_refused shards shard place batch passes totals r some err =
     let placed = of_shard shard shards (placed_from place batch) in
     let there : 0 < length placed = omega (arith, length-of_shard shard shards place batch) in
@@ -147,8 +147,8 @@ run_refused shards shard place batch passes totals r some err =
 
 -- a run of which nothing was posted, since its book takes no more visits
 pub run_full : (shards shard place : ℕ) (batch : List Tap) (passes : List PassView) (old new : PassView) (totals : Sums) (r : Result (Unit {0}) Stop) → 0 < length (run_of shard shards batch) → IsErr r
-    → shard < length passes → old ≡ get_or passes shard old → IsLater old new
-    → (more : List RunVisit) × HasVisited shards passes (set passes shard new) totals totals more × WerePosted (if_any shard (of_shard shard shards (placed_from place batch))) (is_ok r) more
+    → shard < length passes → old ≡ get_or passes shard old → HasSeenMore old new
+    → (more : List RunVisit) × HasVisited shards passes (set passes shard new) totals totals more × ArePostedOrCut (if_any shard (of_shard shard shards (placed_from place batch))) (is_ok r) more
 run_full shards shard place batch passes old new totals r some err within is later =
     let placed = of_shard shard shards (placed_from place batch) in
     let there : 0 < length placed = omega (arith, length-of_shard shard shards place batch) in
@@ -158,7 +158,7 @@ run_full shards shard place batch passes old new totals r some err within is lat
 pub run_visited : (shards shard place : ℕ) (batch : List Tap) (passes : List PassView) (old new : PassView) (number : ℕ) (how : RunEnd) (entries : List Entry) (totals totals' : Sums)
     → 0 < length (run_of shard shards batch) → shard < shards → shard < length passes → old ≡ get_or passes shard old
     → Visits old new number entries → IsVisit (run_of shard shards batch) how entries → totals' ≡ add_sums totals (sums entries)
-    → (more : List RunVisit) × HasVisited shards passes (set passes shard new) totals totals' more × WerePosted (if_any shard (of_shard shard shards (placed_from place batch))) (is_whole how) more
+    → (more : List RunVisit) × HasVisited shards passes (set passes shard new) totals totals' more × ArePostedOrCut (if_any shard (of_shard shard shards (placed_from place batch))) (is_whole how) more
 run_visited shards shard place batch passes old new number how entries totals totals' some below within is v h counted =
     let (visit, of) = visit_of shards shard place batch how entries below some h in
     let P : List Entry → Type 0 = λ es. Visits old new number es in (

@@ -7,7 +7,7 @@ use Rattle.std.proofs.lemmas.List.{length-map}
 use Rattle.std.proofs.lemmas.List.Elements.{All-nil, All-cons}
 use Rattle.shard_book.specs.declared.entry.Entry.{Entry}
 use Rattle.shared_books.specs.declared.turns.rule.Mark.{Mark}
-use Rattle.shared_books.specs.Marks.{mark, visits_of, merged, Apart, Begins, made_at, made_from, numbered}
+use Rattle.shared_books.specs.Marks.{mark, visits_of, joined_marks, Apart, Begins, made_at, made_from, numbered}
 use Rattle.fare_service.specs.Headline.{Signed, by_worker}
 use Rattle.fare_service.specs.inside.Joining.{IsSign, AreSigns, AreJoined}
 use Rattle.fare_service.specs.Shares.{made_visits}
@@ -21,7 +21,7 @@ signed i nobody signs [] = signs
 signed i nobody [] (m ∷ marks) = sign (cond m.mine i nobody) m.visit ∷ signed i nobody [] marks
 signed i nobody (s ∷ signs) (m ∷ marks) = sign (cond m.mine i s.worker) s.entries ∷ signed i nobody signs marks
 
-pub merged-nil : (marks : List Mark) → merged marks [] ≡ marks
+pub merged-nil : (marks : List Mark) → joined_marks marks [] ≡ marks
 merged-nil [] = refl
 merged-nil (m ∷ marks) = refl
 
@@ -75,7 +75,7 @@ kept_all i nobody (s ∷ signs) [] below all = absurd all
 kept_all i nobody (s ∷ signs) (m ∷ marks) below all = (sign_kept i nobody s m m.mine refl below all.0, kept_all i nobody signs marks below all.1)
 
 -- the signs of the marks of both
-pub signs_more : (i nobody : ℕ) (signs : List Signed) (old other : List Mark) → i < nobody → AreSigns i nobody signs old → AreSigns (suc i) nobody (signed i nobody signs other) (merged old other)
+pub signs_more : (i nobody : ℕ) (signs : List Signed) (old other : List Mark) → i < nobody → AreSigns i nobody signs old → AreSigns (suc i) nobody (signed i nobody signs other) (joined_marks old other)
 signs_more i nobody [] [] other below all = signed_first i nobody other below
 signs_more i nobody [] (x ∷ old) other below all = absurd all
 signs_more i nobody (s ∷ signs) [] other below all = absurd all

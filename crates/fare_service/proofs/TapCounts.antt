@@ -10,10 +10,10 @@ use Rattle.tap_views.specs.Layout.{Tap, IsBatch, Layout, Tap1, Tap2, IsTapOf, sp
 use Rattle.tap_views.specs.Files.{IsFile}
 use Rattle.tap_views.specs.Shards.{shard_of_token}
 use Rattle.shard_book.specs.Entry.{IsEntryOf}
-use Rattle.fare_service.specs.Runs.{PlacedTap, placed_from, taps_of_placed, of_shard, Run, run, if_any, runs_below, runs_of, RunVisit, IsEntered, run_of_visit, ArePosted, AreCut, entries_of, taps_posted}
+use Rattle.fare_service.specs.Runs.{PlacedTap, placed_from, taps_of_placed, of_shard, PlacedRun, placed_run, if_any, runs_below, runs_of, RunVisit, IsEntered, run_of_visit, ArePostedWhole, AreCut, entries_of, taps_posted}
 use Rattle.fare_service.proofs.RunVisits.{AllZip-length}
 
-abbrev pub runs_taps : List Run → ℕ
+abbrev pub runs_taps : List PlacedRun → ℕ
 runs_taps runs = sum_by (λ r. length r.taps) runs
 
 abbrev pub batches_taps : List (List Tap) → ℕ
@@ -28,29 +28,29 @@ visits_taps shards (visit ∷ visits) all =
     let rest : taps_posted visits ≡ runs_taps (map run_of_visit visits) = visits_taps shards visits (All-tail (IsEntered shards) visit visits all) in
     let many : length (visit.entries ++ entries_of visits) ≡ length visit.entries + length (entries_of visits) = length-append visit.entries (entries_of visits) in
     let sum : runs_taps (run_of_visit visit ∷ map run_of_visit visits) ≡ length visit.taps + runs_taps (map run_of_visit visits) =
-    sum_by-cons (λ (r : Run). length r.taps) (run_of_visit visit) (map run_of_visit visits) in
+    sum_by-cons (λ (r : PlacedRun). length r.taps) (run_of_visit visit) (map run_of_visit visits) in
     omega arith
 
 -- whole runs post all their taps
-pub posted_taps : (shards : ℕ) (runs : List Run) (visits : List RunVisit) → All (IsEntered shards) visits → ArePosted runs visits → taps_posted visits ≡ runs_taps runs
+pub posted_taps : (shards : ℕ) (runs : List PlacedRun) (visits : List RunVisit) → All (IsEntered shards) visits → ArePostedWhole runs visits → taps_posted visits ≡ runs_taps runs
 posted_taps shards runs visits all posted = visits_taps shards visits all ∙ ap runs_taps posted
 
 -- runs up to a cut post no more
-pub cut_taps : (shards : ℕ) (runs : List Run) (visits : List RunVisit) → All (IsEntered shards) visits → AreCut runs visits → taps_posted visits ≤ runs_taps runs
+pub cut_taps : (shards : ℕ) (runs : List PlacedRun) (visits : List RunVisit) → All (IsEntered shards) visits → AreCut runs visits → taps_posted visits ≤ runs_taps runs
 cut_taps shards runs visits all c = made c.made
   where
     whole : runs_taps runs ≡ runs_taps c.before + runs_taps (c.cut ∷ c.after)
     whole = ap runs_taps c.all ∙ sum_by-append (λ r. length r.taps) c.before (c.cut ∷ c.after)
 
-    made : ((map run_of_visit visits ≡ c.before) ⊎ ((posted : ℕ) × (posted < length c.cut.taps) × (map run_of_visit visits ≡ c.before ++ run c.cut.shard (take posted c.cut.taps) ∷ [])))
+    made : ((map run_of_visit visits ≡ c.before) ⊎ ((posted : ℕ) × (posted < length c.cut.taps) × (map run_of_visit visits ≡ c.before ++ placed_run c.cut.shard (take posted c.cut.taps) ∷ [])))
         → taps_posted visits ≤ runs_taps runs
     made (inl e) = omega (arith, whole, posted_taps shards c.before visits all e)
     made (inr (posted, few, e)) =
-        let part = run c.cut.shard (take posted c.cut.taps) in
+        let part = placed_run c.cut.shard (take posted c.cut.taps) in
         let all' : taps_posted visits ≡ runs_taps (c.before ++ part ∷ []) = posted_taps shards (c.before ++ part ∷ []) visits all e in
-        let split : runs_taps (c.before ++ part ∷ []) ≡ runs_taps c.before + runs_taps (part ∷ []) = sum_by-append (λ (r : Run). length r.taps) c.before (part ∷ []) in
-        let one : runs_taps (part ∷ []) ≡ length (take posted c.cut.taps) + 0 = sum_by-cons (λ (r : Run). length r.taps) part [] in
-        let rest : runs_taps (c.cut ∷ c.after) ≡ length c.cut.taps + runs_taps c.after = sum_by-cons (λ (r : Run). length r.taps) c.cut c.after in
+        let split : runs_taps (c.before ++ part ∷ []) ≡ runs_taps c.before + runs_taps (part ∷ []) = sum_by-append (λ (r : PlacedRun). length r.taps) c.before (part ∷ []) in
+        let one : runs_taps (part ∷ []) ≡ length (take posted c.cut.taps) + 0 = sum_by-cons (λ (r : PlacedRun). length r.taps) part [] in
+        let rest : runs_taps (c.cut ∷ c.after) ≡ length c.cut.taps + runs_taps c.after = sum_by-cons (λ (r : PlacedRun). length r.taps) c.cut c.after in
         let short : length (take posted c.cut.taps) ≤ length c.cut.taps = omega (arith, length-take {A = PlacedTap}) in
         omega (arith, whole)
 
@@ -84,13 +84,13 @@ no_taps_below shards (p ∷ taps) =
 
 if_any_taps : (shard : ℕ) (taps : List PlacedTap) → runs_taps (if_any shard taps) ≡ length taps
 if_any_taps shard [] = refl
-if_any_taps shard (p ∷ taps) = sum_by-cons (λ (r : Run). length r.taps) (run shard (p ∷ taps)) [] ∙ add-zero (length (p ∷ taps))
+if_any_taps shard (p ∷ taps) = sum_by-cons (λ (r : PlacedRun). length r.taps) (placed_run shard (p ∷ taps)) [] ∙ add-zero (length (p ∷ taps))
 
 -- the runs of the first shards have the taps of those shards
 below_taps : (shards n : ℕ) (taps : List PlacedTap) → runs_taps (runs_below shards n taps) ≡ length (filter (λ p. nat_lt (shard_of_token p.tap.token shards) n) taps)
 below_taps shards zero taps = sym (ap length (no_taps_below shards taps))
 below_taps shards (suc n) taps =
-    sum_by-append (λ (r : Run). length r.taps) (runs_below shards n taps) (if_any n (of_shard n shards taps))
+    sum_by-append (λ (r : PlacedRun). length r.taps) (runs_below shards n taps) (if_any n (of_shard n shards taps))
     ∙ ap (λ k. k + runs_taps (if_any n (of_shard n shards taps))) (below_taps shards n taps)
     ∙ ap (λ k. length (filter (λ p. nat_lt (shard_of_token p.tap.token shards) n) taps) + k) (if_any_taps n (of_shard n shards taps))
     ∙ sym (split_shards shards n taps)
@@ -123,7 +123,7 @@ runs_few shards place (batch ∷ batches) =
     let rest : runs_taps (runs_of shards (place + length batch) batches) ≤ batches_taps batches = runs_few shards (place + length batch) batches in
     let both : runs_taps (runs_below shards shards (placed_from place batch) ++ runs_of shards (place + length batch) batches)
     ≡ runs_taps (runs_below shards shards (placed_from place batch)) + runs_taps (runs_of shards (place + length batch) batches) =
-    sum_by-append (λ (r : Run). length r.taps) (runs_below shards shards (placed_from place batch)) (runs_of shards (place + length batch) batches) in
+    sum_by-append (λ (r : PlacedRun). length r.taps) (runs_below shards shards (placed_from place batch)) (runs_of shards (place + length batch) batches) in
     let all : batches_taps (batch ∷ batches) ≡ length batch + batches_taps batches = sum_by-cons (λ (b : List Tap). length b) batch batches in
     omega arith
 
@@ -174,6 +174,6 @@ all_runs_taps shards place (batch ∷ batches) within =
     let rest : runs_taps (runs_of shards (place + length batch) batches) ≡ batches_taps batches = all_runs_taps shards (place + length batch) batches within in
     let both : runs_taps (runs_below shards shards (placed_from place batch) ++ runs_of shards (place + length batch) batches)
     ≡ runs_taps (runs_below shards shards (placed_from place batch)) + runs_taps (runs_of shards (place + length batch) batches) =
-    sum_by-append (λ (r : Run). length r.taps) (runs_below shards shards (placed_from place batch)) (runs_of shards (place + length batch) batches) in
+    sum_by-append (λ (r : PlacedRun). length r.taps) (runs_below shards shards (placed_from place batch)) (runs_of shards (place + length batch) batches) in
     let all : batches_taps (batch ∷ batches) ≡ length batch + batches_taps batches = sum_by-cons (λ (b : List Tap). length b) batch batches in
     omega arith

@@ -16,7 +16,7 @@ use Rattle.shard_book.specs.Entry.{reply_of}
 use Rattle.shard_book.specs.Sums.{Sums, sums, sums_of_replies, add_sums, is_paid, is_transfer, is_capped, is_stale, is_unknown}
 use Rattle.shared_books.specs.declared.turns.rule.Mark.{Mark}
 use Rattle.shared_books.specs.Marks.{mark, others}
-use Rattle.shared_books.specs.Passes.{PassView, IsLater, Visits}
+use Rattle.shared_books.specs.Passes.{PassView, HasSeenMore, Visits}
 use Rattle.fare_service.specs.Runs.{RunVisit, IsEntered, entries_to, entries_of}
 use Rattle.fare_service.specs.inside.Runs.{visits_to}
 use Rattle.fare_service.specs.Shares.{made_visits, marks_at, made_visits_at, HasVisited}
@@ -70,7 +70,7 @@ own-visits old new number visit v =
     ∙ ap (λ vs. vs ++ visit ∷ []) (own-append old.marks (others v.between) ∙ ap (λ vs. made_visits old.marks ++ vs) (own-others v.between) ∙ append-nil (made_visits old.marks))
 
 -- a pass that has only seen more
-pub own-later : (old new : PassView) → IsLater old new → made_visits new.marks ≡ made_visits old.marks ++ []
+pub own-later : (old new : PassView) → HasSeenMore old new → made_visits new.marks ≡ made_visits old.marks ++ []
 own-later old new l =
     ap made_visits l.marks ∙ own-append old.marks (others l.between) ∙ ap (λ vs. made_visits old.marks ++ vs) (own-others l.between)
 

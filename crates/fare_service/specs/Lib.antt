@@ -1,7 +1,7 @@
 pub mod Adding
 pub mod Claims
 pub mod Closing
-pub mod Ends
+pub mod EndsOfUploads
 pub mod Faults
 pub mod Headline
 pub mod Limits

@@ -20,7 +20,7 @@ use Rattle.fare_table.specs.Token.{bytes_of}
 use Rattle.shard_book.specs.declared.entry.Entry.{Entry}
 use Rattle.shard_book.specs.declared.statement.Statement.{Statement}
 use Rattle.fare_table.specs.declared.token.Token.{Token}
-use Rattle.fare_service.specs.Ends.{end_by}
+use Rattle.fare_service.specs.EndsOfUploads.{end_by}
 use Rattle.fare_service.specs.Headline.{Headline}
 use Rattle.fare_service.specs.Outcomes.{OutcomeView}
 use Rattle.fare_service.specs.Shares.{Worked}

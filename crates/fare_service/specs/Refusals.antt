@@ -2,7 +2,7 @@
 use Rattle.std.specs.Prelude.{◌≡◌, ℕ, List, length, All}
 use Rattle.fare_service.specs.declared.faults.RunFault.{RunFault}
 use Rattle.fare_service.specs.declared.faults.RunFault.TheVariants.{Workers, NoMemory, Gather}
-use Rattle.fare_service.specs.Closing.{IsFirst}
+use Rattle.fare_service.specs.Closing.{TellsFirst}
 use Rattle.fare_service.specs.Faults.{IsGatherFault}
 use Rattle.fare_service.specs.ServiceView.{ServiceView, shards_of}
 use Rattle.fare_service.specs.ShareView.{ShareView}
@@ -15,4 +15,4 @@ WasNotGathered service workers NoMemory = Unit {0}
 WasNotGathered service workers (Gather fault) =
     (shares : List ShareView) × (length shares ≡ workers) × All (IsShareOf service) shares
     × IsGatherFault (shards_of service) shares fault
-    × IsFirst service.books (length service.uploads) shares fault
+    × TellsFirst service.books (length service.uploads) shares fault

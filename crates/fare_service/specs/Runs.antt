@@ -27,27 +27,27 @@ abbrev pub of_shard : ℕ → ℕ → List PlacedTap → List PlacedTap
 of_shard shard shards placed = filter (λ p. shard_of_token p.tap.token shards == shard) placed
 
 -- taps of one shard that one turn posts
-pub record Run : Type 0 where
+pub record PlacedRun : Type 0 where
   pub shard : ℕ
   pub taps : List PlacedTap
 
 -- a run of this shard, with these taps
-abbrev pub run : ℕ → List PlacedTap → Run
-run shard taps = record { shard = shard; taps = taps }
+abbrev pub placed_run : ℕ → List PlacedTap → PlacedRun
+placed_run shard taps = record { shard = shard; taps = taps }
 
 -- the run of these taps, if there is one
-abbrev pub if_any : ℕ → List PlacedTap → List Run
+abbrev pub if_any : ℕ → List PlacedTap → List PlacedRun
 if_any shard [] = []
-if_any shard (tap ∷ taps) = run shard (tap ∷ taps) ∷ []
+if_any shard (tap ∷ taps) = placed_run shard (tap ∷ taps) ∷ []
 
 -- the runs of a batch for the first shards, by rising shard
-abbrev pub runs_below : ℕ → ℕ → List PlacedTap → List Run
+abbrev pub runs_below : ℕ → ℕ → List PlacedTap → List PlacedRun
 runs_below shards zero taps = []
 runs_below shards (suc shard) taps =
     runs_below shards shard taps ++ if_any shard (of_shard shard shards taps)
 
 -- the runs of some batches, batch by batch; the first tap has the place
-abbrev pub runs_of : ℕ → ℕ → List (List Tap) → List Run
+abbrev pub runs_of : ℕ → ℕ → List (List Tap) → List PlacedRun
 runs_of shards place [] = []
 runs_of shards place (batch ∷ batches) =
     runs_below shards shards (placed_from place batch)
@@ -65,23 +65,23 @@ pub record IsEntered (shards : ℕ) (visit : RunVisit) : Type 0 where
   pub fields : AllZip IsEntryOf (taps_of_placed visit.taps) visit.entries
 
 -- the run that a visit posted
-abbrev pub run_of_visit : RunVisit → Run
-run_of_visit visit = run visit.shard visit.taps
+abbrev pub run_of_visit : RunVisit → PlacedRun
+run_of_visit visit = placed_run visit.shard visit.taps
 
 -- the runs were posted whole, in their order
-abbrev pub ArePosted : List Run → List RunVisit → Type 0
-ArePosted runs visits = map run_of_visit visits ≡ runs
+abbrev pub ArePostedWhole : List PlacedRun → List RunVisit → Type 0
+ArePostedWhole runs visits = map run_of_visit visits ≡ runs
 
 -- the runs were posted up to a cut one: of it nothing was posted, or its first taps and not all
-pub record AreCut (runs : List Run) (visits : List RunVisit) : Type 0 where
-  pub before : List Run
-  pub cut : Run
-  pub after : List Run
+pub record AreCut (runs : List PlacedRun) (visits : List RunVisit) : Type 0 where
+  pub before : List PlacedRun
+  pub cut : PlacedRun
+  pub after : List PlacedRun
   pub all : runs ≡ before ++ cut ∷ after
   pub some_tap : 0 < length cut.taps
   pub made : (map run_of_visit visits ≡ before)
       ⊎ ((posted : ℕ) × (posted < length cut.taps)
-      × (map run_of_visit visits ≡ before ++ run cut.shard (take posted cut.taps) ∷ []))
+      × (map run_of_visit visits ≡ before ++ placed_run cut.shard (take posted cut.taps) ∷ []))
 
 -- the entries of the visits to a shard, visit by visit
 abbrev pub entries_to : ℕ → List RunVisit → List (List Entry)

@@ -16,8 +16,8 @@ use Rattle.fare_service.specs.declared.service.share.Done.{Done}
 use Rattle.fare_service.specs.Claims.{claims_of}
 use Rattle.fare_service.specs.ServiceView.{ServiceView, shards_of}
 use Rattle.fare_service.specs.ShareView.{ShareView}
-use Rattle.fare_service.specs.Runs.{RunVisit, IsEntered, ArePosted, AreCut, runs_of, entries_to}
-use Rattle.fare_service.specs.Runs.{entries_of, taps_posted}
+use Rattle.fare_service.specs.Runs.{RunVisit, IsEntered, ArePostedWhole, AreCut, runs_of}
+use Rattle.fare_service.specs.Runs.{entries_to, entries_of, taps_posted}
 
 -- the books that the passes belong to
 abbrev pub books_of : List PassView → List SharedBookView
@@ -56,9 +56,9 @@ done_of w = record { upload = w.upload; end = w.end }
 -- how an upload of these batches and this rest ended, by the visits that were made for it
 abbrev pub IsEndOf : ℕ → List ℕ → List (List Tap) → List ℕ → List RunVisit → UploadEnd → Type 0
 IsEndOf shards file batches rest visits (Posted taps) =
-    (rest ≡ []) × ArePosted (runs_of shards 0 batches) visits × (taps ≡ taps_posted visits)
+    (rest ≡ []) × ArePostedWhole (runs_of shards 0 batches) visits × (taps ≡ taps_posted visits)
 IsEndOf shards file batches rest visits (Refused taps offset fault) =
-    IsFaultAt file rest offset fault × ArePosted (runs_of shards 0 batches) visits
+    IsFaultAt file rest offset fault × ArePostedWhole (runs_of shards 0 batches) visits
     × (taps ≡ taps_posted visits)
 IsEndOf shards file batches rest visits (Cut taps) =
     AreCut (runs_of shards 0 batches) visits × (taps ≡ taps_posted visits)

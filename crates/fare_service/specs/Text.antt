@@ -6,7 +6,7 @@ use Rattle.std.specs.List.{flat_map}
 use Rattle.tap_views.specs.Names.{fault_name}
 use Rattle.shard_book.specs.Sums.{Sums}
 use Rattle.fare_table.specs.declared.token.Token.{Token}
-use Rattle.fare_texts.specs.SumLines.{token_line, validator_line}
+use Rattle.fare_texts.specs.ReportLines.{number_line, token_line, validator_line}
 use Rattle.fare_texts.specs.Counts.{totals_line}
 use Rattle.fare_service.specs.declared.upload_end.UploadEnd.{UploadEnd}
 use Rattle.fare_service.specs.declared.upload_end.UploadEnd.TheVariants.{Posted, Refused, Cut}
@@ -21,10 +21,6 @@ end_text (Refused taps offset fault) =
 end_text (Cut taps) = codes "cut " ++ decimal taps
 end_text Undrawn = codes "undrawn"
 
--- `uploads 2`: the head of a section, this word and the number of its lines
-unfoldable pub section_head : List ℕ → ℕ → List ℕ
-section_head word count = word ++ (decimal count ++ codes "\n")
-
 -- `upload 0 posted 4`
 unfoldable pub upload_line : ℕ → UploadEnd → List ℕ
 upload_line upload end =
@@ -37,16 +33,16 @@ upload_lines upload (end ∷ ends) = upload_line upload end ++ upload_lines (upl
 
 -- the uploads of a report
 abbrev pub uploads_section : List UploadEnd → List ℕ
-uploads_section ends = section_head (codes "uploads ") (length ends) ++ upload_lines 0 ends
+uploads_section ends = number_line (codes "uploads ") (length ends) ++ upload_lines 0 ends
 
 -- the validators of a report
 abbrev pub validators_section : List (ℕ × Sums) → List ℕ
 validators_section sums =
-    section_head (codes "validators ") (length sums) ++ flat_map validator_line sums
+    number_line (codes "validators ") (length sums) ++ flat_map validator_line sums
 
 -- the tokens of a report
 abbrev pub tokens_section : List (Token × Sums) → List ℕ
-tokens_section sums = section_head (codes "tokens ") (length sums) ++ flat_map token_line sums
+tokens_section sums = number_line (codes "tokens ") (length sums) ++ flat_map token_line sums
 
 -- the report: the end of each upload, the totals, the sums of each validator and those of each
 -- token

@@ -1,7 +1,7 @@
 //! How an upload ended.
 
 ghost use Rattle.std.specs.Prelude.{◌≡◌};
-ghost use Rattle.fare_service.specs.Ends.{end_by};
+ghost use Rattle.fare_service.specs.EndsOfUploads.{end_by};
 
 use tap_views::LayoutFault;
 

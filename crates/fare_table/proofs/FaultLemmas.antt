@@ -20,7 +20,7 @@ use Rattle.fare_table.specs.Classes.{classes_of, default_of, is_empty}
 use Rattle.fare_table.specs.Faults.{FaultRow, Where, top, class, a_row, are_pairs, are_texts, class_rows}
 use Rattle.fare_table.specs.Faults.{classes_in, first_row, holds, is_from, is_kind, is_mode}
 use Rattle.fare_table.specs.Faults.{is_in_bounds, is_wrong, items_of, member_at, members_at}
-use Rattle.fare_table.specs.Faults.{members_of, mode_names, needed_rows, pairs, passes}
+use Rattle.fare_table.specs.Faults.{members_of, mode_names, needed_rows, pairs, holds_of_some}
 use Rattle.fare_table.specs.Faults.{rows_of_class, texts, value_at, string_of}
 use Rattle.fare_table.specs.Members.{hold_tables, number_at, number_in, of_kind, within}
 use Rattle.fare_table.specs.Modes.{are_mode_names, modes_of, same_name, strings_from}
@@ -81,7 +81,7 @@ done (Ok a) f = refl
 done (Err e) f = refl
 
 abbrev pub fails : (Data → Bool) → Option Data → Bool
-fails test o = passes (λ value. not (test value)) o
+fails test o = holds_of_some (λ value. not (test value)) o
 
 abbrev pub needs : Option Data → (Data → Bool) → (Data → Bool) → Key → Option TableFault
 needs o kind bounds key =

@@ -31,7 +31,7 @@ use Rattle.fare_table.specs.Faults.{validators_step, zone_step, top, range, ride
 use Rattle.fare_table.specs.Faults.{classes_in, elements_in, first_at, first_fault, first_row}
 use Rattle.fare_table.specs.Faults.{is_again, is_earlier, is_from, is_kind, is_mode, is_no_zone}
 use Rattle.fare_table.specs.Faults.{is_wrong, items_of, last_at, member_at, members_at, members_of}
-use Rattle.fare_table.specs.Faults.{mode_names, needed_rows, passes, range_rows, rider_rows}
+use Rattle.fare_table.specs.Faults.{mode_names, needed_rows, holds_of_some, range_rows, rider_rows}
 use Rattle.fare_table.specs.Faults.{riders_in, rows, rows_of_range, is_token, shares_validator}
 use Rattle.fare_table.specs.Faults.{token_at, value_at, string_of}
 use Rattle.fare_table.specs.Members.{are_tables, hold_strings, number_at, of_kind}
@@ -332,7 +332,7 @@ rider_if : (o : Option (List ℕ)) (classes : Members) (name : List ℕ) (earlie
     → ((token : List ℕ) → o ≡ Some token → is_rider earlier token ≡ again token)
     → fault_in ((ok_or o Rider >>= (λ token. class_named classes name >>= by_class token))
     >>= (λ rider. with_rider earlier rider.0 rider.1 >>= f))
-    ≡ cond (is_none o || (is_none (get_member name classes) || passes again o)) (Some Rider) rest
+    ≡ cond (is_none o || (is_none (get_member name classes) || holds_of_some again o)) (Some Rider) rest
 rider_if None classes name earlier again f rest sound later are = refl
 rider_if (Some token) classes name earlier again f rest sound later are =
     assoc (class_named classes name) token (λ rider. with_rider earlier rider.0 rider.1 >>= f)
@@ -368,7 +368,7 @@ riders-told tree classes n earlier (member key (string name) more) known sound s
     (before_next tree n earlier t terms (token ∙ is) free are))
     (λ t is. are t)
     ∙ ap (λ (o : Option (List ℕ)).
-    cond (is_none o || (is_none (get_member name classes) || passes (λ t.
+    cond (is_none o || (is_none (get_member name classes) || holds_of_some (λ t.
     is_earlier (λ place. is_token t (token_at tree place)) n) o)) (Some Rider)
     (first_row tree (rider_rows (suc n) more))) (sym token)
     ∙ ap (λ (w : List ℕ).

@@ -8,7 +8,7 @@ use Rattle.std.proofs.lemmas.List.Elements.{All-head, All-tail}
 use Rattle.std.specs.BTreeMap.{is_at}
 use Rattle.std.specs.Map.{keys_of, lookup}
 use Rattle.std.specs.Ordering.{is_eq}
-use Rattle.fare_table.specs.RiderMarks.{is_marked, slot}
+use Rattle.fare_table.specs.RiderMarks.{is_marked, mark_place}
 use Rattle.fare_table.specs.Token.{token_cmp}
 use Rattle.fare_table.specs.declared.terms.Terms.{Terms}
 use Rattle.fare_table.specs.declared.token.Token.{Token}
@@ -26,10 +26,10 @@ marked-kept marks i j inside marked =
 pub marked-more : (marks : List Bool) (i : ℕ) (token : Token) → i < length marks
     → is_marked marks token ≡ true → is_marked (slice_set marks i true) token ≡ true
 marked-more marks i token inside marked =
-    rw (length-set marks i true) (marked-kept marks i (slot token (length marks)) inside marked)
+    rw (length-set marks i true) (marked-kept marks i (mark_place token (length marks)) inside marked)
 
--- the token whose slot it is has the new mark
-pub marked-new : (marks : List Bool) (i : ℕ) (token : Token) → i ≡ slot token (length marks)
+-- the token whose place it is has the new mark
+pub marked-new : (marks : List Bool) (i : ℕ) (token : Token) → i ≡ mark_place token (length marks)
     → i < length marks → is_marked (slice_set marks i true) token ≡ true
 marked-new marks i token at inside =
     rw (length-set marks i true, ← at) (get_or-set_same marks i true false inside)

@@ -32,9 +32,9 @@ pub data Where : Type 0 where
   rider : ℕ → Where
 
 -- there is a value, and the test holds of it
-abbrev pub passes : {A : Type 0} → (A → Bool) → Option A → Bool
-passes test None = false
-passes test (Some value) = test value
+abbrev pub holds_of_some : {A : Type 0} → (A → Bool) → Option A → Bool
+holds_of_some test None = false
+holds_of_some test (Some value) = test value
 
 -- ---- what stands in the text
 -- the word that the text has for a key
@@ -126,32 +126,32 @@ are_pairs (item value more) = is_some (name_pair value) && are_pairs more
 
 -- the value is of the kind that the key takes, and so are all its elements
 abbrev pub is_kind : Key → Data → Bool
-is_kind the_key.Modes value = passes are_texts (as_array value)
-is_kind the_key.Transfers value = passes are_pairs (as_array value)
-is_kind the_key.Classes value = passes hold_tables (as_table value)
+is_kind the_key.Modes value = holds_of_some are_texts (as_array value)
+is_kind the_key.Transfers value = holds_of_some are_pairs (as_array value)
+is_kind the_key.Classes value = holds_of_some hold_tables (as_table value)
 is_kind the_key.Fare value = is_some (as_integer value)
 is_kind the_key.Rides value = is_some (as_integer value)
 is_kind the_key.Ceiling value = is_some (as_integer value)
 is_kind the_key.DefaultClass value = is_some (as_str value)
-is_kind the_key.Validators value = passes are_tables (as_array value)
+is_kind the_key.Validators value = holds_of_some are_tables (as_array value)
 is_kind the_key.First value = is_some (as_integer value)
 is_kind the_key.Last value = is_some (as_integer value)
 is_kind the_key.ModeName value = is_some (as_str value)
-is_kind the_key.Riders value = passes hold_strings (as_table value)
+is_kind the_key.Riders value = holds_of_some hold_strings (as_table value)
 is_kind the_key.Zone value = is_some (as_str value)
 
 -- the value is a number from the one limit to the other
 abbrev pub is_from : ℕ → ℕ → Data → Bool
 is_from low high value =
-    passes (λ number. int_le (pos low) number && int_le number (pos high)) (as_integer value)
+    holds_of_some (λ number. int_le (pos low) number && int_le number (pos high)) (as_integer value)
 
 -- the value is within the bounds of the key; `last` is not below `first` beside it
 abbrev pub is_in_bounds : Key → Members → Data → Bool
 is_in_bounds the_key.Modes beside value =
-    passes (λ names. are_mode_names (texts names)) (as_array value)
+    holds_of_some (λ names. are_mode_names (texts names)) (as_array value)
 is_in_bounds the_key.Transfers beside value = true
 is_in_bounds the_key.Classes beside value =
-    passes (λ classes. not (is_empty classes)) (as_table value)
+    holds_of_some (λ classes. not (is_empty classes)) (as_table value)
 is_in_bounds the_key.Fare beside value = is_from 1 100_000 value
 is_in_bounds the_key.Rides beside value = is_from 1 1_000 value
 is_in_bounds the_key.Ceiling beside value = is_from 1 100_000_000 value
@@ -207,12 +207,12 @@ token_at tree place =
 
 -- the one token is the other one, where there is one
 abbrev pub is_token : List ℕ → Option (List ℕ) → Bool
-is_token token other = passes (λ o. is_eq (slice_cmp nat_cmp token o)) other
+is_token token other = holds_of_some (λ o. is_eq (slice_cmp nat_cmp token o)) other
 
 -- the key names the token that an earlier key names
 abbrev pub is_again : Members → ℕ → Bool
 is_again tree place =
-    passes (λ token. is_earlier (λ earlier. is_token token (token_at tree earlier)) place)
+    holds_of_some (λ token. is_earlier (λ earlier. is_token token (token_at tree earlier)) place)
     (token_at tree place)
 
 -- the text has no class of this name
@@ -232,15 +232,17 @@ names_no_rider (rider place) tree =
 
 -- the zone is a text that reads as no rule
 abbrev pub is_no_zone : Option Data → Bool
-is_no_zone value = passes (λ text. is_none (read_whole text)) (option_and_then as_str value)
+is_no_zone value = holds_of_some (λ text. is_none (read_whole text)) (option_and_then as_str value)
 
 -- what each fault says is wrong where the row looks
 abbrev pub is_wrong : Members → Where → TableFault → Bool
 is_wrong tree at Text = false
 is_wrong tree at (Missing key) = is_none (value_at at key tree)
-is_wrong tree at (Kind key) = passes (λ value. not (is_kind key value)) (value_at at key tree)
+is_wrong tree at (Kind key) =
+    holds_of_some (λ value. not (is_kind key value)) (value_at at key tree)
 is_wrong tree at (Range key) =
-    passes (λ value. not (is_in_bounds key (members_at at tree) value)) (value_at at key tree)
+    holds_of_some (λ value. not (is_in_bounds key (members_at at tree) value))
+    (value_at at key tree)
 is_wrong tree at Mode = names_no_mode at tree
 is_wrong tree at Overlap = shares_validator at tree
 is_wrong tree at Rider = names_no_rider at tree

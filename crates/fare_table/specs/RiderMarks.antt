@@ -1,11 +1,11 @@
--- Marks of tokens, each at the slot that the token's last bits tell.
+-- Marks of tokens, each at the place that the token's last bits tell.
 use Rattle.std.specs.Prelude.{ℕ, ◌-◌, Bool, false, List, bit_and, length, slice_index_or}
 use Rattle.fare_table.specs.declared.token.Token.{Token}
 
--- the token's slot among so many, a power of two
-abbrev pub slot : Token → ℕ → ℕ
-slot token slots = bit_and token.low (slots - 1)
+-- the place of the token's mark among so many, a power of two
+abbrev pub mark_place : Token → ℕ → ℕ
+mark_place token marks = bit_and token.low (marks - 1)
 
--- the mark at the token's slot, and false where there are no marks
+-- the token's mark, and false where there are no marks
 abbrev pub is_marked : List Bool → Token → Bool
-is_marked marks token = slice_index_or marks (slot token (length marks)) false
+is_marked marks token = slice_index_or marks (mark_place token (length marks)) false

@@ -1,7 +1,7 @@
 //! The name of an account.
 
 ghost use Rattle.std.specs.Prelude.{◌≡◌, ◌<◌, length};
-ghost use Rattle.fare_table.specs.RiderMarks.{slot};
+ghost use Rattle.fare_table.specs.RiderMarks.{mark_place};
 ghost use Rattle.fare_table.specs.Token.{Fits, bytes_of};
 
 /// The 16 bytes that name an account, ordered by these bytes.
@@ -45,13 +45,13 @@ impl Token {
         ]
     }
 
-    /// The token's slot among so many, a power of two: its last bits, which spread well, since most
-    /// tokens are random.
-    pub(crate) fn slot(self, slots: usize) -> usize
-        requires { 0 < slots }
-        ensures slot { result ≡ slot self slots }
-        ensures inside { result < slots }
+    /// The place of the token's mark among so many, a power of two: its last bits, which spread
+    /// well, since most tokens are random.
+    pub(crate) fn mark_place(self, marks: usize) -> usize
+        requires { 0 < marks }
+        ensures place { result ≡ mark_place self marks }
+        ensures inside { result < marks }
     {
-        self.low as usize & (slots - 1)
+        self.low as usize & (marks - 1)
     }
 }

@@ -16,9 +16,9 @@ last_counts t =
     ++ (codes " cents " ++ (decimal t.cents ++ codes "\n")))))
 
 -- the counts that end a line, as `taps 2 paid 1 transfers 1 capped 0 stale 0 unknown 0 cents 300`
-abbrev pub counts : Sums → List ℕ
-counts t = first_counts t ++ last_counts t
+abbrev pub counts_text : Sums → List ℕ
+counts_text t = first_counts t ++ last_counts t
 
 -- `totals taps 6 paid 3 ..`
 abbrev pub totals_line : Sums → List ℕ
-totals_line totals = codes "totals " ++ counts totals
+totals_line totals = codes "totals " ++ counts_text totals

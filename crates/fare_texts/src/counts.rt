@@ -2,7 +2,7 @@
 
 ghost use Rattle.std.specs.Prelude.{◌≡◌, ◌++◌, OnOk, string_bytes};
 ghost use Rattle.shard_book.specs.Sums.{sums_of};
-ghost use Rattle.fare_texts.specs.Counts.{counts, first_counts, last_counts, totals_line};
+ghost use Rattle.fare_texts.specs.Counts.{counts_text, first_counts, last_counts, totals_line};
 
 use shard_book::Totals;
 use std::alloc::AllocError;
@@ -21,7 +21,7 @@ pub fn write_totals(text: &mut String, totals: &Totals) -> Result<(), AllocError
 #[tactic(auto, using(crate::proofs::Parts::in_parts))]
 pub fn write_counts(text: &mut String, totals: &Totals) -> Result<(), AllocError>
     ensures { OnOk result (string_bytes text.new ≡ string_bytes text.old
-        ++ counts (sums_of totals.now)) }
+        ++ counts_text (sums_of totals.now)) }
 {
     write_first_counts(text, totals)?;
     write_last_counts(text, totals)

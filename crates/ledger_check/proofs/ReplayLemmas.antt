@@ -11,7 +11,7 @@ use Rattle.reason_texts.specs.declared.teller.Teller.{Teller}
 use Rattle.ledger_check.specs.Ledger.{AreNext, IsNext, IsPostable, token_number}
 use Rattle.ledger_check.specs.Replays.{HasRead, HasTeller, IsWanted, IsWrongAfter, StandsForOwn}
 use Rattle.ledger_check.specs.inside.Replays.{GoesOn}
-use Rattle.ledger_check.specs.inside.Taps.{IsOf, TellsTap}
+use Rattle.ledger_check.specs.inside.Taps.{IsEntryOfTap, TellsTap}
 use Rattle.ledger_check.specs.declared.replay.Replay.{Replay}
 use Rattle.ledger_check.specs.declared.tap.Tap.{Tap}
 use Rattle.ledger_check.proofs.EntryLists.{next-parts, next-push}
@@ -68,7 +68,7 @@ wrong_unread fares replay lines line read none =
     wrong fares replay lines line read (λ entry is. none _ entry _ (small_number fares read.entries entry line is) is.postable is.shown)
 
 pub tap_of_next : (fares : Fares) (earlier : List Entry) (entry : Entry) (line : List ℕ) (tap : Tap) → TellsTap fares line tap
-    → IsNext fares earlier entry line → IsOf tap entry
+    → IsNext fares earlier entry line → IsEntryOfTap tap entry
 tap_of_next fares earlier entry line tap tells is = tells _ entry _ (small_number fares earlier entry line is) is.postable is.shown
 
 -- there is no teller for the token, since it is less than the last one

@@ -21,7 +21,7 @@ use Rattle.fare_table.specs.declared.token.Token.{Token}
 use Rattle.fare_texts.specs.Moments.{IsCivilText, IsMomentText, clock_text}
 use Rattle.reason_texts.specs.Ledger.{IsReasonFields, IsLedgerLine, IsPointing, IsRideFields, entry_fields, line_head, ride_rest}
 use Rattle.ledger_check.specs.Ledger.{IsNextLine, IsNext}
-use Rattle.ledger_check.specs.inside.Taps.{IsOf}
+use Rattle.ledger_check.specs.inside.Taps.{IsEntryOfTap}
 use Rattle.ledger_check.specs.declared.tap.Tap.{Tap}
 
 abbrev date_by : ℤ → ℕ → ℕ → List ℕ

@@ -11,7 +11,7 @@ use Rattle.tap_views.specs.declared.encoder.TapFields.{TapFields}
 use Rattle.ledger_check.specs.Ledger.{AreNext, IsLedgerOf}
 use Rattle.ledger_check.specs.Struck.{AreStruck, AreTapsOfLines, HasStruck, IfUntold, tap_of_entry}
 use Rattle.ledger_check.specs.inside.Lines.{IsLine}
-use Rattle.ledger_check.specs.inside.Taps.{IsOf, TellsTap, tap_fields}
+use Rattle.ledger_check.specs.inside.Taps.{IsEntryOfTap, TellsTap, tap_fields}
 use Rattle.ledger_check.specs.inside.Verdicts.{IsTaken}
 use Rattle.ledger_check.specs.declared.checker.Checker.{Checker}
 use Rattle.ledger_check.specs.declared.checker.Verdict.{Verdict}
@@ -20,7 +20,7 @@ use Rattle.ledger_check.proofs.CheckerLemmas.{ended_at_line, took_whole}
 use Rattle.ledger_check.proofs.EntryLists.{next-parts}
 use Rattle.ledger_check.proofs.ReplayLemmas.{tap_of_next}
 
-tap_same : (tap : Tap) (entry : Entry) → IsOf tap entry → tap_of_entry entry ≡ tap_fields tap
+tap_same : (tap : Tap) (entry : Entry) → IsEntryOfTap tap entry → tap_of_entry entry ≡ tap_fields tap
 tap_same tap entry is = λ i. record { token = bytes_of (is.token i); validator = is.validator i; moment = is.moment i }
 
 none_after : (fares : Fares) (earlier after : List Entry) → AreNext fares earlier after [] → after ≡ []

@@ -15,7 +15,7 @@ use Rattle.shard_book.specs.History.{IsReplied}
 use Rattle.fare_table.specs.Token.{Fits, bytes_of}
 use Rattle.shard_book.specs.declared.entry.Entry.{Entry}
 use Rattle.fare_table.specs.declared.token.Token.{Token}
-use Rattle.reason_texts.specs.Ledger.{IsLedgerLine, IsTokenLine, reason_after}
+use Rattle.reason_texts.specs.Ledger.{IsLedgerLine, IsLedgerLineAfter, reason_after}
 use Rattle.reason_texts.specs.Tellers.{HasTold}
 use Rattle.reason_texts.specs.declared.teller.Teller.{Teller}
 use Rattle.ledger_check.specs.Ledger.{token_number}
@@ -47,10 +47,10 @@ module _ (fares : Fares) (teller after : Teller) (entries : List Entry) (tap ent
       ∙ sym (reply-follows (rules_of fares (bytes_of teller.token)) (map (tap_of fares) (own teller.token entries)) (tap_of fares entry))
       ∙ ap (λ (t : Token). reply (rules_of fares (bytes_of t)) (map (tap_of fares) (own t entries)) (tap_of fares entry)) (sym steps.token)
 
-  shows : StandsForOwn fares teller entries → IsTokenLine fares entry.token (own entry.token entries) entry line
+  shows : StandsForOwn fares teller entries → IsLedgerLineAfter fares entry.token (own entry.token entries) entry line
   shows stands =
       let is = reason_after fares teller.token (own teller.token entries) entry in
-      subst (λ (t : Token). IsTokenLine fares t (own t entries) entry line) (sym steps.token)
+      subst (λ (t : Token). IsLedgerLineAfter fares t (own t entries) entry line) (sym steps.token)
       (subst (λ (n : ℕ). IsLedgerLine fares teller.token n entry is line) (steps.counted ∙ ap (λ n. n + 1) stands.told.counted)
       (subst (λ (t : Token). IsLedgerLine fares t after.number entry is line) steps.same_token
       (subst (λ (w : Reason). IsLedgerLine fares after.token after.number entry w line) why_is steps.shown)))

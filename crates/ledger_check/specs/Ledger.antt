@@ -6,7 +6,7 @@ use Rattle.shard_book.specs.History.{IsReplied}
 use Rattle.fare_table.specs.Token.{Fits}
 use Rattle.shard_book.specs.declared.entry.Entry.{Entry}
 use Rattle.fare_table.specs.declared.token.Token.{Token}
-use Rattle.reason_texts.specs.Ledger.{IsTokenLine, head_text}
+use Rattle.reason_texts.specs.Ledger.{IsLedgerLineAfter, head_text}
 use Rattle.ledger_check.specs.Lines.{lines_of}
 
 -- a token as one number of 128 bits: tokens rise as these numbers do
@@ -22,7 +22,7 @@ pub record IsPostable (entry : Entry) : Type 0 where
 -- the line of an entry of the token, after its earlier entries: its number, and why it is answered
 -- so
 abbrev pub IsNextLine : Fares → List Entry → Entry → List ℕ → Type 0
-IsNextLine fares earlier entry line = IsTokenLine fares entry.token earlier entry line
+IsNextLine fares earlier entry line = IsLedgerLineAfter fares entry.token earlier entry line
 
 -- after the lines of the earlier entries, the ledger can go on with this entry and its line
 pub record IsNext (fares : Fares) (earlier : List Entry) (entry : Entry) (line : List ℕ)

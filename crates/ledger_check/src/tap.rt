@@ -11,7 +11,7 @@ ghost use Rattle.shard_book.specs.declared.entry.Entry.{Entry};
 ghost use Rattle.fare_table.specs.declared.token.Token.{Token};
 ghost use Rattle.reason_texts.specs.Ledger.{IsLedgerLine};
 ghost use Rattle.ledger_check.specs.Ledger.{IsPostable};
-ghost use Rattle.ledger_check.specs.inside.Taps.{IsOf, tap_fields};
+ghost use Rattle.ledger_check.specs.inside.Taps.{IsEntryOfTap, tap_fields};
 
 use crate::bytes::field;
 use crate::moment::read_moment;
@@ -74,7 +74,7 @@ pub(crate) fn read_tap(line: &[u8]) -> Option<Tap>
     ensures validator { IfSome result (λ tap. tap.validator < 2 ^ 32) }
     ensures found { (fares : Fares) (number : ℕ) (entry : Entry) (why : Reason) → number < 2 ^ 64
         → IsPostable entry → IsLedgerLine fares entry.token number entry why line.now
-        → IsSomeAnd result (λ tap. IsOf tap entry) }
+        → IsSomeAnd result (λ tap. IsEntryOfTap tap entry) }
 {
     let (digits, rest) = field(line)?;
     let token = read_token(digits)?;

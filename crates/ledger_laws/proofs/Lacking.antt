@@ -20,7 +20,7 @@ use Rattle.shard_book.specs.declared.entry.Entry.{Entry}
 use Rattle.fare_table.specs.declared.token.Token.{Token}
 use Rattle.fare_texts.specs.Moments.{IsCivilText, IsMomentText, clock_text, pad3}
 use Rattle.fare_texts.specs.StatementText.{answer_text}
-use Rattle.reason_texts.specs.Ledger.{IsReasonFields, IsLedgerLine, entry_fields, line_head, mode_field, name_or_empty, placed, ride_rest}
+use Rattle.reason_texts.specs.Ledger.{IsReasonFields, IsLedgerLine, entry_fields, line_head, mode_field, name_or_empty, place_fields, ride_rest}
 use Rattle.ledger_check.specs.Lines.{Lacks}
 use Rattle.ledger_check.proofs.LineLemmas.{has_none, lacks-append, lacks-at, lacks-tested}
 use Rattle.ledger_laws.specs.Written.{AreLetters}
@@ -163,8 +163,8 @@ fields_free fares entry letters =
     (both comma (both (free (answer_text entry.answer) (answer_lacks entry.answer))
     (both comma (both (number entry.cents) comma)))))))
 
-placed_free : (place : ℕ) (word : List ℕ) → Free word → Free (placed place word)
-unfolding placed
+placed_free : (place : ℕ) (word : List ℕ) → Free word → Free (place_fields place word)
+unfolding place_fields
 placed_free place word is = both comma (both (number (place + 1)) (both comma (both is comma)))
 
 ride_free : (charge : Charge) → Free (ride_rest charge)

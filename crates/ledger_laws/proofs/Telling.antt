@@ -12,7 +12,7 @@ use Rattle.shard_book.specs.declared.entry.Entry.{Entry}
 use Rattle.fare_table.specs.declared.token.Token.{Token}
 use Rattle.shard_book.proofs.RisingLemmas.{rising-is}
 use Rattle.shard_book.proofs.TokenLemmas.{token_cmp-total, token_cmp-ties}
-use Rattle.reason_texts.specs.Ledger.{AreLinesAfter, IsLedgerLine, head_text, reason_after}
+use Rattle.reason_texts.specs.Ledger.{AreLedgerLinesAfter, IsLedgerLine, head_text, reason_after}
 use Rattle.ledger_texts.specs.Ledger.{AreLinesOfEach, IsLedgerOver, tokens_told}
 use Rattle.ledger_check.specs.Ledger.{AreNext, IsLedgerOf, IsNextLine, IsNext, IsPostable, token_number}
 use Rattle.ledger_check.specs.Lines.{lines_of}
@@ -98,7 +98,7 @@ module _ (fares : Fares) (letters : AreLetters fares.meaning.modes) (token : Tok
       }
 
   told_token : (earlier rest : List Entry) (text : List ℕ) → IsOwn fares token (earlier ++ rest) → length (done ++ (earlier ++ rest)) ≤ 2 ^ 62
-      → AreLinesAfter fares token earlier rest text → Told fares (done ++ earlier) rest text
+      → AreLedgerLinesAfter fares token earlier rest text → Told fares (done ++ earlier) rest text
   told_token earlier [] text known few lines = told_none fares (done ++ earlier) text lines
   told_token earlier (entry ∷ rest) text known few lines =
       let line = lines.0 in

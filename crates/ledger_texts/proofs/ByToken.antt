@@ -18,7 +18,7 @@ use Rattle.fare_table.specs.declared.token.Token.{Token}
 use Rattle.shard_book.proofs.Histories.{same_token, token_eq-refl, token_eq-sym}
 use Rattle.shard_book.proofs.RisingLemmas.{rising-only}
 use Rattle.shard_book.proofs.TokenLemmas.{token_cmp-total, token_cmp-ties}
-use Rattle.reason_texts.specs.Ledger.{AreLinesAfter, AreTokenLines, IsLedgerLine, reason_after}
+use Rattle.reason_texts.specs.Ledger.{AreLedgerLinesAfter, AreLedgerLines, IsLedgerLine, reason_after}
 use Rattle.ledger_texts.specs.Ledger.{AreLinesOfEach}
 use Rattle.ledger_texts.specs.inside.Lines.{AreLinesAlong, AreUpTo, IsByToken, IsLineAfter, IsUpTo}
 use Rattle.ledger_texts.specs.inside.Lines.{NoFall, NoFallFrom}
@@ -41,7 +41,7 @@ or_twice false b = refl
 record RestOfToken (fares : Fares) (whole : List Entry) (token : Token) (before rest : List Entry)
     (text : List ℕ) : Type 0 where
   pub own_lines : List ℕ
-  pub of_own : AreLinesAfter fares token (own token before) (own token rest) own_lines
+  pub of_own : AreLedgerLinesAfter fares token (own token before) (own token rest) own_lines
   pub others : List Token
   pub rises : IsStrictlySortedBy token_cmp (token ∷ others)
   pub members : (key : Token)
@@ -71,14 +71,14 @@ module _ (fares : Fares) (whole before : List Entry) (entry : Entry) (rest : Lis
       record {
         own_lines = line ++ g.own_lines;
         of_own = subst (λ (es : List Entry).
-            AreLinesAfter fares token (own token before) es (line ++ g.own_lines))
+            AreLedgerLinesAfter fares token (own token before) es (line ++ g.own_lines))
             (sym (own_here token entry rest here)) (
               line,
               g.own_lines,
               subst (λ (t : Token).
                   IsLedgerLine fares t (length (own t before) + 1) entry
                   (reason_after fares t (own t before) entry) line) same told,
-              subst (λ (es : List Entry). AreLinesAfter fares token es (own token rest) g.own_lines)
+              subst (λ (es : List Entry). AreLedgerLinesAfter fares token es (own token rest) g.own_lines)
                   (own_push token before entry here) g.of_own,
               refl,
             );
@@ -97,7 +97,7 @@ module _ (fares : Fares) (whole before : List Entry) (entry : Entry) (rest : Lis
   -- the entry is the first of its token: all lines of its token
   all_lines : own entry.token before ≡ []
       → (g : RestOfToken fares whole entry.token (before ++ entry ∷ []) rest more)
-      → AreTokenLines fares entry.token (own entry.token whole) (line ++ g.own_lines)
+      → AreLedgerLines fares entry.token (own entry.token whole) (line ++ g.own_lines)
   all_lines none g =
       let here = token_eq-refl entry.token in
       let all : own entry.token whole ≡ entry ∷ own entry.token rest =
@@ -106,7 +106,7 @@ module _ (fares : Fares) (whole before : List Entry) (entry : Entry) (rest : Lis
       ∙ own_here entry.token entry rest here in
       let pushed : own entry.token (before ++ entry ∷ []) ≡ entry ∷ [] =
       own_push entry.token before entry here ∙ ap (λ (es : List Entry). es ++ entry ∷ []) none in
-      subst (λ (es : List Entry). AreLinesAfter fares entry.token [] es (line ++ g.own_lines))
+      subst (λ (es : List Entry). AreLedgerLinesAfter fares entry.token [] es (line ++ g.own_lines))
       (sym all) (
         line,
         g.own_lines,
@@ -114,7 +114,7 @@ module _ (fares : Fares) (whole before : List Entry) (entry : Entry) (rest : Lis
             IsLedgerLine fares entry.token (length es + 1) entry
             (reason_after fares entry.token es entry) line) none told,
         subst (λ (es : List Entry).
-            AreLinesAfter fares entry.token es (own entry.token rest) g.own_lines) pushed g.of_own,
+            AreLedgerLinesAfter fares entry.token es (own entry.token rest) g.own_lines) pushed g.of_own,
         refl,
       )
 
@@ -141,7 +141,7 @@ module _ (fares : Fares) (whole before : List Entry) (entry : Entry) (rest : Lis
       let less = up_apart token entry.token to apart in
       record {
         own_lines = [];
-        of_own = subst (λ (es : List Entry). AreLinesAfter fares token (own token before) es [])
+        of_own = subst (λ (es : List Entry). AreLedgerLinesAfter fares token (own token before) es [])
             (sym (own_not token entry rest apart ∙ none_above token entry.token rest to apart no_fall))
             refl;
         others = entry.token ∷ g.others;
@@ -213,7 +213,7 @@ each_same fares entries others [] text same none = none
 each_same fares entries others (token ∷ order) text same (lines, rest, are, each, shown) = (
   lines,
   rest,
-  subst (λ (es : List Entry). AreTokenLines fares token es lines) (same token) are,
+  subst (λ (es : List Entry). AreLedgerLines fares token es lines) (same token) are,
   each_same fares entries others order rest same each,
   shown,
 )

@@ -22,7 +22,7 @@ use Rattle.account_rule.proofs.StepLemmas.{is_live, not_known, not_later, reply_
 use Rattle.account_rule.proofs.StepLemmas.{reply_stale, reply_transfer, reply_unknown}
 use Rattle.account_rule.proofs.TapLemmas.{windows-ride, windows-same, windows-transfer}
 use Rattle.ledger_texts.specs.Explained.{but_last, earlier_windows}
-use Rattle.ledger_texts.specs.inside.Windows.{ended}
+use Rattle.ledger_texts.specs.inside.Windows.{window_ended}
 
 -- what windows show
 abbrev shown_in : TokenRules → List (List LiveTap) → List WindowView
@@ -44,7 +44,7 @@ but_last-extend joins block next (third ∷ blocks) x = refl
 -- a ride that opens a window ends the one before it
 one-window : (rules : TokenRules) (window : List LiveTap) (ride : LiveTap)
     → shown_in rules (but_last (extend (is_within rules.until) (window ∷ []) ride))
-    ≡ ended (shown_window rules window) true ride.moment
+    ≡ window_ended (shown_window rules window) true ride.moment
 unfolding but_last extend is_within shown_window
 one-window rules [] ride = refl
 one-window rules (first ∷ window) ride =
@@ -57,7 +57,7 @@ one-window rules (first ∷ window) ride =
 ended-extend : (rules : TokenRules) (blocks : List (List LiveTap)) (ride : LiveTap)
     → shown_in rules (but_last (extend (is_within rules.until) blocks ride))
     ≡ shown_in rules (but_last blocks)
-    ++ ended (shown_window rules (last_block blocks)) true ride.moment
+    ++ window_ended (shown_window rules (last_block blocks)) true ride.moment
 unfolding but_last extend last_block shown_window
 ended-extend rules [] ride = refl
 ended-extend rules (window ∷ []) ride = one-window rules window ride
@@ -67,7 +67,7 @@ ended-extend rules (window ∷ next ∷ blocks) ride =
     (ended-extend rules (next ∷ blocks) ride)
     ∙ sym (append_assoc (option_to_list (shown_window rules window)) _ _)
 
-ended-free : (window : Option WindowView) (moment : ℕ) → ended window false moment ≡ []
+ended-free : (window : Option WindowView) (moment : ℕ) → window_ended window false moment ≡ []
 ended-free None moment = refl
 ended-free (Some window) moment = refl
 
@@ -76,7 +76,7 @@ free : (rules : TokenRules) (taps : List TapIn) (tap : TapIn) → is_ride (reply
     → windows rules (taps ++ tap ∷ []) ≡ windows rules taps
     → earlier_windows rules (taps ++ tap ∷ [])
     ≡ earlier_windows rules taps
-    ++ ended (last_window rules taps) (is_ride (reply rules taps tap)) tap.moment
+    ++ window_ended (last_window rules taps) (is_ride (reply rules taps tap)) tap.moment
 unfolding earlier_windows
 free rules taps tap none same =
     rw (none, same, ended-free (last_window rules taps) tap.moment)
@@ -106,7 +106,7 @@ ride : (rules : TokenRules) (taps : List TapIn) (tap : TapIn) (mode : Mode)
     ≡ extend (is_within rules.until) (windows rules taps) (live_at tap.moment mode)
     → earlier_windows rules (taps ++ tap ∷ [])
     ≡ earlier_windows rules taps
-    ++ ended (last_window rules taps) (is_ride (reply rules taps tap)) tap.moment
+    ++ window_ended (last_window rules taps) (is_ride (reply rules taps tap)) tap.moment
 unfolding earlier_windows last_window live_at
 ride rules taps tap mode is opens =
     rw (is, opens) (ended-extend rules (windows rules taps) (live_at tap.moment mode))
@@ -114,7 +114,7 @@ ride rules taps tap mode is opens =
 known : (rules : TokenRules) (taps : List TapIn) (tap : TapIn) (mode : Mode) → tap.mode ≡ Some mode
     → earlier_windows rules (taps ++ tap ∷ [])
     ≡ earlier_windows rules taps
-    ++ ended (last_window rules taps) (is_ride (reply rules taps tap)) tap.moment
+    ++ window_ended (last_window rules taps) (is_ride (reply rules taps tap)) tap.moment
 known rules taps tap mode is = ⊎_elim
     (λ (later : is_later taps tap.moment ≡ true).
     let answered = reply_live rules taps tap mode is later in
@@ -138,12 +138,12 @@ known rules taps tap mode is = ⊎_elim
 pub earlier-push : (rules : TokenRules) (taps : List TapIn) (tap : TapIn)
     → earlier_windows rules (taps ++ tap ∷ [])
     ≡ earlier_windows rules taps
-    ++ ended (last_window rules taps) (is_ride (reply rules taps tap)) tap.moment
+    ++ window_ended (last_window rules taps) (is_ride (reply rules taps tap)) tap.moment
 earlier-push rules taps tap =
     elim tap.mode as (λ mode. tap.mode ≡ mode
     → earlier_windows rules (taps ++ tap ∷ [])
     ≡ earlier_windows rules taps
-    ++ ended (last_window rules taps) (is_ride (reply rules taps tap)) tap.moment) [
+    ++ window_ended (last_window rules taps) (is_ride (reply rules taps tap)) tap.moment) [
       | None ↦ λ none. free rules taps tap (ap is_ride (reply_unknown rules taps tap none)
           ∙ free_unknown)
           (windows-same rules taps tap (not_known taps tap none))
@@ -163,14 +163,14 @@ pub next_earlier : (rules : TokenRules) (taps : List TapIn) (tap : TapIn)
     (longer : List TapIn)
     → before ≡ earlier_windows rules taps → window ≡ last_window rules taps
     → answered ≡ reply rules taps tap → ride ≡ is_ride answered
-    → taps ++ tap ∷ [] ≡ longer → after ≡ before ++ ended window ride tap.moment
+    → taps ++ tap ∷ [] ≡ longer → after ≡ before ++ window_ended window ride tap.moment
     → after ≡ earlier_windows rules longer
 next_earlier rules taps tap before after window ride answered longer kept last replied rode more
     done =
     done
-    ∙ ap (λ (ws : List WindowView). ws ++ ended window ride tap.moment) kept
-    ∙ ap (λ (w : Option WindowView). earlier_windows rules taps ++ ended w ride tap.moment) last
-    ∙ ap (λ (b : Bool). earlier_windows rules taps ++ ended (last_window rules taps) b tap.moment)
+    ∙ ap (λ (ws : List WindowView). ws ++ window_ended window ride tap.moment) kept
+    ∙ ap (λ (w : Option WindowView). earlier_windows rules taps ++ window_ended w ride tap.moment) last
+    ∙ ap (λ (b : Bool). earlier_windows rules taps ++ window_ended (last_window rules taps) b tap.moment)
     (rode ∙ ap is_ride replied)
     ∙ sym (earlier-push rules taps tap)
     ∙ ap (λ (ts : List TapIn). earlier_windows rules ts) more

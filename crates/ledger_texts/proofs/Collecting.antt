@@ -8,7 +8,7 @@ use Rattle.shard_book.specs.Entry.{own}
 use Rattle.shard_book.specs.SumsByKey.{all_entries}
 use Rattle.shard_book.specs.declared.entry.Entry.{Entry}
 use Rattle.fare_table.specs.declared.token.Token.{Token}
-use Rattle.ledger_texts.specs.inside.Spots.{book_at, entry_in, entry_at_spot, no_entry, place_at, seen}
+use Rattle.ledger_texts.specs.inside.Spots.{book_at, entry_in, entry_at_spot, no_entry, place_at, entries_at_spots}
 use Rattle.ledger_texts.specs.declared.spot.Spot.{Spot}
 use Rattle.ledger_texts.proofs.Rising.{own_both}
 
@@ -32,20 +32,20 @@ pub spot_none : (books : List Book) (spot : Spot) → entry_in books (book_at sp
 unfolding entry_at_spot
 spot_none books spot none = ap (λ (found : Option Entry). unwrap_or found no_entry) none
 
-pub seen_more : (books : List Book) (first old new : List Spot) (one : Spot) (index i : ℕ) (book : Book) → new ≡ old ++ one ∷ [] → seen books old ≡ seen books first ++ take i book.entries
-    → book_at one ≡ index → place_at one ≡ i → slice_get books index ≡ Some book → i < length book.entries → seen books new ≡ seen books first ++ take (i + 1) book.entries
+pub seen_more : (books : List Book) (first old new : List Spot) (one : Spot) (index i : ℕ) (book : Book) → new ≡ old ++ one ∷ [] → entries_at_spots books old ≡ entries_at_spots books first ++ take i book.entries
+    → book_at one ≡ index → place_at one ≡ i → slice_get books index ≡ Some book → i < length book.entries → entries_at_spots books new ≡ entries_at_spots books first ++ take (i + 1) book.entries
 seen_more books first old new one index i book is so_far at_book at_place there within =
     let entry : Entry = get_or book.entries i no_entry in
     let at : slice_get book.entries i ≡ Some entry = slice_get-get_or book.entries i no_entry within in
-    ap (seen books) is ∙ map-append (entry_at_spot books) old (one ∷ [])
+    ap (entries_at_spots books) is ∙ map-append (entry_at_spot books) old (one ∷ [])
     ∙ ap (λ (es : List Entry). es ++ entry_at_spot books one ∷ []) so_far
-    ∙ ap (λ (e : Entry). (seen books first ++ take i book.entries) ++ e ∷ []) (spot_entry books one index i book entry at_book at_place there at)
-    ∙ append_assoc (seen books first) (take i book.entries) (entry ∷ [])
-    ∙ ap (λ (es : List Entry). seen books first ++ es) (taken_at book.entries i entry at)
+    ∙ ap (λ (e : Entry). (entries_at_spots books first ++ take i book.entries) ++ e ∷ []) (spot_entry books one index i book entry at_book at_place there at)
+    ∙ append_assoc (entries_at_spots books first) (take i book.entries) (entry ∷ [])
+    ∙ ap (λ (es : List Entry). entries_at_spots books first ++ es) (taken_at book.entries i entry at)
 
 -- the spots of one book more
-pub seen_books : (books : List Book) (old new : List Spot) (i : ℕ) (book : Book) → slice_get books i ≡ Some book → seen books old ≡ all_entries (take i books)
-    → seen books new ≡ seen books old ++ book.entries → seen books new ≡ all_entries (take (i + 1) books)
+pub seen_books : (books : List Book) (old new : List Spot) (i : ℕ) (book : Book) → slice_get books i ≡ Some book → entries_at_spots books old ≡ all_entries (take i books)
+    → entries_at_spots books new ≡ entries_at_spots books old ++ book.entries → entries_at_spots books new ≡ all_entries (take (i + 1) books)
 seen_books books old new i book at so_far is =
     let more : take i books ++ book ∷ [] ≡ take (i + 1) books = ap (λ (b : Book). take i books ++ b ∷ []) (sym (get_or_from_slice_get books i book book at)) ∙ sym (take_more books i book (slice_get_within books i book at)) in
     is ∙ ap (λ (es : List Entry). es ++ book.entries) so_far

@@ -11,7 +11,7 @@ use Rattle.fare_table.specs.Token.{token_cmp, token_eq}
 use Rattle.shard_book.specs.declared.entry.Entry.{Entry}
 use Rattle.fare_table.specs.declared.token.Token.{Token}
 use Rattle.ledger_texts.specs.inside.Lines.{IsByToken, NoFall, NoFallFrom}
-use Rattle.ledger_texts.specs.inside.Spots.{entry_at_spot, seen}
+use Rattle.ledger_texts.specs.inside.Spots.{entry_at_spot, entries_at_spots}
 use Rattle.ledger_texts.specs.declared.spot.Spot.{Spot}
 use Rattle.shard_book.proofs.Histories.{same_token}
 use Rattle.shard_book.specs.Book.{Book}
@@ -19,7 +19,7 @@ use Rattle.shard_book.specs.Book.{Book}
 abbrev pub key : List Book → Spot → Token
 key books spot = (entry_at_spot books spot).token
 
-rise_from : (books : List Book) (first : Spot) (list : List Spot) → IsSortedByKey (key books) token_cmp (first ∷ list) → NoFallFrom (key books first) (seen books list)
+rise_from : (books : List Book) (first : Spot) (list : List Spot) → IsSortedByKey (key books) token_cmp (first ∷ list) → NoFallFrom (key books first) (entries_at_spots books list)
 rise_from books first [] sorted = tt
 rise_from books first (next ∷ list) sorted = (
   sorted 0 first (omega arith) (omega arith),
@@ -28,7 +28,7 @@ rise_from books first (next ∷ list) sorted = (
       subst (λ n. is_lt (token_cmp (key books (get_or (first ∷ next ∷ list) n d)) (key books (get_or (next ∷ list) k d))) ≡ false) step (sorted (suc k) d (omega arith) (omega (arith, within)))),
 )
 
-no_fall : (books : List Book) (list : List Spot) → IsSortedByKey (key books) token_cmp list → NoFall (seen books list)
+no_fall : (books : List Book) (list : List Spot) → IsSortedByKey (key books) token_cmp list → NoFall (entries_at_spots books list)
 no_fall books [] sorted = tt
 no_fall books (first ∷ list) sorted = rise_from books first list sorted
 
@@ -41,13 +41,13 @@ abbrev is_at : List Book → Token → Spot → Bool
 is_at books token spot = token_eq (key books spot) token
 
 -- the entries of a token at spots
-own_seen : (books : List Book) (token : Token) (list : List Spot) → own token (seen books list) ≡ seen books (filter (is_at books token) list)
+own_seen : (books : List Book) (token : Token) (list : List Spot) → own token (entries_at_spots books list) ≡ entries_at_spots books (filter (is_at books token) list)
 unfolding own
 own_seen books token [] = refl
 own_seen books token (first ∷ list) = by (token_eq (key books first) token) (own_seen books token list)
   where
-    by : (b : Bool) → filter (is_of token) (seen books list) ≡ seen books (filter (is_at books token) list)
-        → cond b (entry_at_spot books first ∷ filter (is_of token) (seen books list)) (filter (is_of token) (seen books list)) ≡ seen books (cond b (first ∷ filter (is_at books token) list) (filter (is_at books token) list))
+    by : (b : Bool) → filter (is_of token) (entries_at_spots books list) ≡ entries_at_spots books (filter (is_at books token) list)
+        → cond b (entry_at_spot books first ∷ filter (is_of token) (entries_at_spots books list)) (filter (is_of token) (entries_at_spots books list)) ≡ entries_at_spots books (cond b (first ∷ filter (is_at books token) list) (filter (is_at books token) list))
     by true rest = ap (λ (es : List Entry). entry_at_spot books first ∷ es) rest
     by false rest = rest
 
@@ -76,10 +76,10 @@ kept_some books token old new one is stable =
     λ i spot. (ap (token_eq (key books spot)) (sym is) ∙ sym (tied (key books one) (key books spot))) i in
     ap (λ (p : Spot → Bool). filter p new) alike ∙ stable one ∙ ap (λ (p : Spot → Bool). filter p old) (sym alike)
 
-kept : (books : List Book) (token : Token) (old new : List Spot) → IsPermutation old new → IsStableByKey (key books) token_cmp old new → own token (seen books new) ≡ own token (seen books old)
+kept : (books : List Book) (token : Token) (old new : List Spot) → IsPermutation old new → IsStableByKey (key books) token_cmp old new → own token (entries_at_spots books new) ≡ own token (entries_at_spots books old)
 kept books token old new moved stable =
     own_seen books token new
-    ∙ ap (seen books) (by (list_any (is_at books token) old) refl)
+    ∙ ap (entries_at_spots books) (by (list_any (is_at books token) old) refl)
     ∙ sym (own_seen books token old)
   where
     by : (b : Bool) → list_any (is_at books token) old ≡ b → filter (is_at books token) new ≡ filter (is_at books token) old
@@ -91,7 +91,7 @@ kept books token old new moved stable =
         ∙ sym (none_pass (is_at books token) old none)
 
 pub sorted_by_token : (books : List Book) (old new : List Spot) → IsPermutation old new → IsSortedByKey (key books) token_cmp new → IsStableByKey (key books) token_cmp old new
-    → IsByToken (seen books old) (seen books new)
+    → IsByToken (entries_at_spots books old) (entries_at_spots books new)
 sorted_by_token books old new moved sorted stable = record {
   moved = IsPermutation-map (entry_at_spot books) old new moved;
   no_fall = no_fall books new sorted;

@@ -6,7 +6,7 @@ use Rattle.shard_book.specs.Entry.{own}
 use Rattle.shard_book.specs.SumsByKey.{all_entries, tokens}
 use Rattle.shard_book.specs.declared.entry.Entry.{Entry}
 use Rattle.fare_table.specs.declared.token.Token.{Token}
-use Rattle.reason_texts.specs.Ledger.{AreTokenLines, head_text}
+use Rattle.reason_texts.specs.Ledger.{AreLedgerLines, head_text}
 
 -- whose lines a ledger has: those of the one token that is asked for, or of all tokens of the
 -- history, rising, each once
@@ -18,7 +18,7 @@ tokens_told (Some token) history = token ∷ []
 abbrev pub AreLinesOfEach : Fares → List Entry → List Token → List ℕ → Type 0
 AreLinesOfEach fares history [] text = text ≡ []
 AreLinesOfEach fares history (token ∷ others) text =
-    (lines : List ℕ) × (rest : List ℕ) × AreTokenLines fares token (own token history) lines
+    (lines : List ℕ) × (rest : List ℕ) × AreLedgerLines fares token (own token history) lines
     × AreLinesOfEach fares history others rest × (text ≡ lines ++ rest)
 
 -- the ledger of a history: the head line once, and then the lines of each token

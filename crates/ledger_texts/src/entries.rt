@@ -5,7 +5,7 @@ ghost use Rattle.std.specs.Prelude.{slice_get};
 ghost use Rattle.shard_book.specs.Entry.{own};
 ghost use Rattle.shard_book.specs.SumsByKey.{all_entries};
 ghost use Rattle.ledger_texts.specs.inside.Lines.{IsByToken};
-ghost use Rattle.ledger_texts.specs.inside.Spots.{seen};
+ghost use Rattle.ledger_texts.specs.inside.Spots.{entries_at_spots};
 
 use crate::spot::Spot;
 use fare_table::NoMemory;
@@ -30,7 +30,8 @@ fn push_book(
 ) -> Result<(), NoMemory>
     requires { slice_get books.now index ≡ Some book.now }
     ensures { OnOk result
-        (seen books.now list.new.items ≡ seen books.now list.old.items ++ book.now.entries) }
+        (entries_at_spots books.now list.new.items
+        ≡ entries_at_spots books.now list.old.items ++ book.now.entries) }
 {
     for place in 0..book.len() {
         let spot = Spot::of(index, place)?;
@@ -41,7 +42,7 @@ fn push_book(
 
 /// The spots of the entries of all books, book by book, in eight bytes each.
 fn all_of(alloc: Global, books: &[ShardBook]) -> Result<Vec<Spot>, NoMemory>
-    ensures { IfOk result (λ list. seen books.now list.items ≡ all_entries books.now) }
+    ensures { IfOk result (λ list. entries_at_spots books.now list.items ≡ all_entries books.now) }
 {
     let mut list = Vec::with_capacity(alloc, count(books))?;
     let mut index = 0;
@@ -55,7 +56,8 @@ fn all_of(alloc: Global, books: &[ShardBook]) -> Result<Vec<Spot>, NoMemory>
 /// Puts the spots in order of their entries' tokens: those of one token stay in their order.
 fn sort(list: &mut Vec<Spot>, books: &[ShardBook]) -> Result<(), NoMemory>
     ensures { OnOk result
-        (IsByToken (seen books.now list.old.items) (seen books.now list.new.items)) }
+        (IsByToken (entries_at_spots books.now list.old.items)
+        (entries_at_spots books.now list.new.items)) }
 {
     list.sort_by_key(|spot| spot.entry(books).token)?;
     Ok(())
@@ -65,7 +67,7 @@ fn sort(list: &mut Vec<Spot>, books: &[ShardBook]) -> Result<(), NoMemory>
 /// While they are sorted they take sixteen bytes each, and eight from then on.
 pub(crate) fn by_token(alloc: Global, books: &[ShardBook]) -> Result<Vec<Spot>, NoMemory>
     ensures { IfOk result
-        (λ list. IsByToken (all_entries books.now) (seen books.now list.items)) }
+        (λ list. IsByToken (all_entries books.now) (entries_at_spots books.now list.items)) }
 {
     let mut list = all_of(alloc, books)?;
     sort(&mut list, books)?;

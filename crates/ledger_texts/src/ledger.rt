@@ -10,7 +10,7 @@ ghost use Rattle.shard_book.specs.SumsByKey.{all_entries};
 ghost use Rattle.reason_texts.specs.Ledger.{head_text};
 ghost use Rattle.ledger_texts.specs.Ledger.{IsLedgerOfBooks};
 ghost use Rattle.ledger_texts.specs.inside.Lines.{IsByToken};
-ghost use Rattle.ledger_texts.specs.inside.Spots.{seen};
+ghost use Rattle.ledger_texts.specs.inside.Spots.{entries_at_spots};
 
 use crate::entries::{by_token, own_of};
 use crate::lines::{PIECE_BYTES, pass_on, write_lines};
@@ -38,7 +38,7 @@ pub(crate) fn table_of(books: &[ShardBook]) -> &FareTable
 fn begun(alloc: Global, books: &[ShardBook]) -> Result<(String, Vec<Spot>), NoMemory>
     ensures head { IfOk result (λ begun. string_bytes begun.0 ≡ head_text) }
     ensures entries { IfOk result
-        (λ begun. IsByToken (all_entries books.now) (seen books.now begun.1.items)) }
+        (λ begun. IsByToken (all_entries books.now) (entries_at_spots books.now begun.1.items)) }
 {
     let spots = by_token(alloc, books)?;
     let mut text = String::new(alloc);

@@ -5,7 +5,7 @@ ghost use Rattle.std.specs.Io.KnownBytes.{Appends, Keeps, append_known};
 ghost use Rattle.fare_texts.specs.declared.print_fault.PrintFault.TheVariants.{Write as ForWrite};
 ghost use Rattle.ledger_texts.specs.inside.Lines.{AreLinesAlong, HasCome, IsUpTo, NoFall};
 ghost use Rattle.ledger_texts.specs.inside.Lines.{NoFallFrom};
-ghost use Rattle.ledger_texts.specs.inside.Spots.{seen};
+ghost use Rattle.ledger_texts.specs.inside.Spots.{entries_at_spots};
 ghost use Rattle.fare_table.specs.Fares.{Fares};
 ghost use Rattle.fare_table.specs.declared.token.Token.{Token};
 ghost use Rattle.shard_book.specs.declared.entry.Entry.{Entry};
@@ -69,9 +69,9 @@ fn write_pieces<W: Write>(
     out: &mut W,
 ) -> Result<(), PrintFault>
     requires clock { clock.now ≡ table.now.zone }
-    requires no_fall { NoFallFrom first (seen books.now spots.now) }
+    requires no_fall { NoFallFrom first (entries_at_spots books.now spots.now) }
     ensures lines { OnOk result ((lines : List ℕ)
-        × AreLinesAlong table.now [] (seen books.now spots.now) lines
+        × AreLinesAlong table.now [] (entries_at_spots books.now spots.now) lines
         × Appends (append_known (W.contents out.old) (string_bytes text.old))
         (append_known (W.contents out.new) (string_bytes text.new)) lines) }
     ensures fault { IfErr result (λ fault. fault ≡ ForWrite) }
@@ -100,9 +100,9 @@ fn write_some<W: Write>(
     out: &mut W,
 ) -> Result<(), PrintFault>
     requires clock { clock.now ≡ table.now.zone }
-    requires no_fall { NoFall (seen books.now spots.now) }
+    requires no_fall { NoFall (entries_at_spots books.now spots.now) }
     ensures lines { OnOk result ((lines : List ℕ)
-        × AreLinesAlong table.now [] (seen books.now spots.now) lines
+        × AreLinesAlong table.now [] (entries_at_spots books.now spots.now) lines
         × Appends (append_known (W.contents out.old) (string_bytes text.old))
         (append_known (W.contents out.new) (string_bytes text.new)) lines) }
     ensures fault { IfErr result (λ fault. fault ≡ ForWrite) }
@@ -126,9 +126,9 @@ pub(crate) fn write_lines<W: Write>(
     out: &mut W,
 ) -> Result<(), PrintFault>
     requires clock { clock.now ≡ table.now.zone }
-    requires no_fall { NoFall (seen books.now spots.now) }
+    requires no_fall { NoFall (entries_at_spots books.now spots.now) }
     ensures ok { OnOk result ((lines : List ℕ)
-        × AreLinesAlong table.now [] (seen books.now spots.now) lines
+        × AreLinesAlong table.now [] (entries_at_spots books.now spots.now) lines
         × Appends (W.contents out.old) (W.contents out.new) (string_bytes text.old ++ lines)) }
     ensures fault { IfErr result (λ fault. fault ≡ ForWrite) }
 {

@@ -27,10 +27,11 @@ agrees (Some difference) = false
 -- What follows the line of the verdict, which is legal or not: nothing, or, where it is legal and
 -- there are uploads, the line of the difference. It is well where the ledger is legal and there is
 -- no difference.
-abbrev pub IsSecond : Fares → List ℕ → Option (List TapFields) → Bool → List ℕ → Bool → Type 0
-IsSecond fares text good false rest well = (rest ≡ []) × (well ≡ false)
-IsSecond fares text None true rest well = (rest ≡ []) × (well ≡ true)
-IsSecond fares text (Some good) true rest well =
+abbrev pub IsDifferenceLine : Fares → List ℕ → Option (List TapFields) → Bool → List ℕ → Bool
+    → Type 0
+IsDifferenceLine fares text good false rest well = (rest ≡ []) × (well ≡ false)
+IsDifferenceLine fares text None true rest well = (rest ≡ []) × (well ≡ true)
+IsDifferenceLine fares text (Some good) true rest well =
     (difference : Option Difference) × IsDifferenceText difference rest
     × (well ≡ agrees difference) × IsDifferenceOf fares text good difference
 
@@ -42,7 +43,7 @@ pub record IsFinding (fares : Fares) (text : List ℕ) (good : Option (List TapF
   pub is_verdict : IsVerdict fares text verdict
   pub rest : List ℕ
   pub shown : told ≡ verdict_text verdict ++ rest
-  pub second : IsSecond fares text good (is_legal verdict) rest well
+  pub second : IsDifferenceLine fares text good (is_legal verdict) rest well
 
 -- the ledger's taps are those of the uploads in some order, if there are uploads
 abbrev pub HasGoodTaps : Option (List TapFields) → List Entry → Type 0
@@ -50,8 +51,8 @@ HasGoodTaps None entries = Unit {0}
 HasGoodTaps (Some good) entries = IsPermutation good (map tap_of_entry entries)
 
 -- the text is, whole, a ledger of legal histories, and has the taps of the uploads
-abbrev pub IsRight : Fares → List ℕ → Option (List TapFields) → Type 0
-IsRight fares text good =
+abbrev pub IsRightLedger : Fares → List ℕ → Option (List TapFields) → Type 0
+IsRightLedger fares text good =
     (entries : List Entry) × IsLedgerOf fares entries text × HasGoodTaps good entries
 
 -- what is found is well exactly where the text is right
@@ -59,4 +60,4 @@ abbrev pub FindingsDecide : Type 0
 FindingsDecide =
     (fares : Fares) (text : List ℕ) (good : Option (List TapFields)) (told : List ℕ)
     (well : Bool) → IsFinding fares text good told well
-    → (well ≡ true) ↔ IsRight fares text good
+    → (well ≡ true) ↔ IsRightLedger fares text good

@@ -9,22 +9,22 @@ use Rattle.clap.specs.declared.error.kind.ErrorKind.TheVariants.{DisplayHelp, Di
 use Rattle.program_manners.specs.Words.{files_rule, named_app, option_rule, positional_rule}
 
 -- `--table F`, which has to be given
-abbrev pub required_table_rule : Rule
-required_table_rule = record (option_rule (codes "table")) { required = true }
+abbrev pub required_table_option : Rule
+required_table_option = record (option_rule (codes "table")) { required = true }
 
 -- `--uploads FILE..`, as often as wanted
-abbrev pub uploads_rule : Rule
-uploads_rule = files_rule (codes "uploads")
+abbrev pub uploads_option : Rule
+uploads_option = files_rule (codes "uploads")
 
 -- `LEDGER`
-abbrev pub ledger_positional_rule : Rule
-ledger_positional_rule = positional_rule (codes "LEDGER") Set
+abbrev pub ledger_argument : Rule
+ledger_argument = positional_rule (codes "LEDGER") Set
 
 -- all words that the program takes
 unfoldable pub audit_program : App
 audit_program =
-    with_rule (with_rule (with_rule (named_app (codes "omny_audit")) required_table_rule)
-    uploads_rule) ledger_positional_rule
+    with_rule (with_rule (with_rule (named_app (codes "omny_audit")) required_table_option)
+    uploads_option) ledger_argument
 
 -- the words after the program's name are a command line of the program
 abbrev pub ParsesForAudit : List Text → Type 0

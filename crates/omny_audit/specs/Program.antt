@@ -69,5 +69,5 @@ IsFaultTold fault said said' failed = MatchBool (is_quiet fault) (said' ≡ said
 -- The program gave up: the fault was told, and nothing was written but where a write failed.
 pub record AuditGaveUp (fault : Fault) (said said' : Option (List ℕ)) (failed : Bool)
     (out out' : Option (List ℕ)) : Type 0 where
-  pub told : IsFaultTold fault said said' failed
+  pub line_told : IsFaultTold fault said said' failed
   pub kept : is_unwritten fault ≡ false → Keeps out out'

@@ -5,7 +5,7 @@ ghost use Rattle.clap.specs.Words.{FailsBy, all_of, app_of, fault_of, found_of, 
 ghost use Rattle.clap.specs.Words.{rows_of, rule_of};
 ghost use Rattle.omny_audit.specs.Options.{audit_asked_by, not_dash, audit_program};
 ghost use Rattle.omny_audit.specs.inside.Options.{audit_asked_of};
-ghost use Rattle.omny_audit.specs.Options.{required_table_rule};
+ghost use Rattle.omny_audit.specs.Options.{required_table_option};
 
 use clap::{Arg, ArgAction, ArgMatches, Command, Error};
 use program_manners::{files_arg, names_in, new_command, option_arg, positional_arg};
@@ -66,7 +66,7 @@ const LEDGER_HELP: &str = "The ledger, a CSV file of any length [default: standa
 
 /// `--table F`.
 fn table_arg<'a>(alloc: Global) -> Arg<'a>
-    ensures rule { rule_of result ≡ required_table_rule }
+    ensures rule { rule_of result ≡ required_table_option }
     ensures local { result.global ≡ false }
 {
     option_arg(alloc, "table", "F", TABLE_HELP).required(true)

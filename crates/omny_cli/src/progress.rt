@@ -32,7 +32,7 @@ pub(crate) struct Steps {
     /// Whether it has looked at all files.
     knows_all: bool,
     /// How many files were read before their turns.
-    early: usize,
+    ahead: usize,
     /// How many files were read when their turns came, or had been before.
     loaded: usize,
 }
@@ -46,14 +46,14 @@ impl Steps {
             has_table: false,
             found: 0,
             knows_all: true,
-            early: 0,
+            ahead: 0,
             loaded: 0,
         }
     }
 
-    /// Looked at the next file. It looks no further than the first that may not be read early.
-    pub(crate) fn look(&mut self, may_be_early: bool) {
-        if may_be_early {
+    /// Looked at the next file. It looks no further than the first that may not be read ahead.
+    pub(crate) fn look(&mut self, may_be_read_ahead: bool) {
+        if may_be_read_ahead {
             self.found = self.found.saturating_add(1);
         } else {
             self.knows_all = false;
@@ -61,19 +61,19 @@ impl Steps {
     }
 
     /// Begins to read files before their turns.
-    pub(crate) fn begin_early(&mut self) {
+    pub(crate) fn begin_ahead(&mut self) {
         self.stage = Stage::Files;
     }
 
     /// Has read one more file before its turn.
-    pub(crate) fn end_early(&mut self) {
-        self.early = self.early.saturating_add(1);
+    pub(crate) fn end_ahead(&mut self) {
+        self.ahead = self.ahead.saturating_add(1);
     }
 
     /// Begins to read files in their turns. So many were read before.
-    pub(crate) fn keep_early(&mut self, early: usize) {
+    pub(crate) fn keep_ahead(&mut self, ahead: usize) {
         self.stage = Stage::Files;
-        self.early = early;
+        self.ahead = ahead;
     }
 
     /// Begins to read a file: the table, if it comes before those that have turns.
@@ -108,7 +108,7 @@ impl Steps {
 
     /// How many files are read.
     fn read(&self) -> usize {
-        self.early.max(self.loaded)
+        self.ahead.max(self.loaded)
     }
 }
 

@@ -1,7 +1,7 @@
 //! Reads that are noted in a run's steps.
 
 use crate::ticker::Ticker;
-use fare_program::{Disk, Early, LoadFault, Source};
+use fare_program::{Disk, FileAhead, LoadFault, Source};
 use std::alloc::Global;
 use std::sync::Wait;
 
@@ -40,16 +40,16 @@ impl<'a, R: Wait> WatchedDisk<'a, R> {
 }
 
 impl<R: Disk + Wait> Disk for WatchedDisk<'_, R> {
-    fn may_be_early(&self, name: &str) -> bool {
-        let may_be_early = self.rt.may_be_early(name);
-        self.ticker.steps.lock(self.rt).look(may_be_early);
-        may_be_early
+    fn may_be_read_ahead(&self, name: &str) -> bool {
+        let may_be_read_ahead = self.rt.may_be_read_ahead(name);
+        self.ticker.steps.lock(self.rt).look(may_be_read_ahead);
+        may_be_read_ahead
     }
 
     fn read(&self, alloc: Global, name: &str) -> Result<Vec<u8>, LoadFault> {
-        self.ticker.steps.lock(self.rt).begin_early();
+        self.ticker.steps.lock(self.rt).begin_ahead();
         let bytes = self.rt.read(alloc, name)?;
-        self.ticker.steps.lock(self.rt).end_early();
+        self.ticker.steps.lock(self.rt).end_ahead();
         Ok(bytes)
     }
 }
@@ -57,9 +57,9 @@ impl<R: Disk + Wait> Disk for WatchedDisk<'_, R> {
 impl<R: Wait, S: Source + Drop> Source for Watched<'_, R, S> {
     ghost loaded = { λ w. S.loaded w.from };
 
-    fn keep_early(&mut self, early: Vec<Early>) {
-        self.ticker.steps.lock(self.rt).keep_early(early.len());
-        self.from.keep_early(early);
+    fn keep_ahead(&mut self, ahead: Vec<FileAhead>) {
+        self.ticker.steps.lock(self.rt).keep_ahead(ahead.len());
+        self.from.keep_ahead(ahead);
     }
 
     fn load(&mut self, name: &str) -> Result<Vec<u8>, LoadFault> {

@@ -36,7 +36,7 @@ use lines::lines_of;
 use places::Places;
 use std::alloc::{AllocError, Global};
 use std::io::Write;
-use table_facts::Seen;
+use table_facts::SeenValidators;
 use toml::Table;
 use upload_facts::facts_of;
 use warnings::{Told, warnings_of};
@@ -96,7 +96,7 @@ fn refuse<'a, E: Write>(
 fn add_upload<'a, E: Write>(
     rt: &HostRuntime,
     name: Name<'a>,
-    seen: &mut Seen,
+    seen: &mut SeenValidators,
     progress: &mut Progress<'_>,
     err: &mut E,
 ) -> Result<bool, Fault<'a>> {
@@ -116,7 +116,7 @@ fn add_upload<'a, E: Write>(
 fn add_uploads<'a, E: Write>(
     rt: &HostRuntime,
     names: &[Name<'a>],
-    seen: &mut Seen,
+    seen: &mut SeenValidators,
     progress: &mut Progress<'_>,
     err: &mut E,
 ) -> Result<bool, Fault<'a>> {
@@ -143,7 +143,7 @@ fn understood<'a, W: Write + Drop, E: Write>(
         Some(from) => from,
         None => Timestamp::now(rt).unwrap_or(Timestamp::UNIX_EPOCH),
     };
-    let mut seen = Seen::new(alloc);
+    let mut seen = SeenValidators::new(alloc);
     let mut progress = Progress::new(rt);
     let added = add_uploads(rt, &question.uploads, &mut seen, &mut progress, err);
     progress.end();

@@ -22,7 +22,7 @@ use Rattle.fare_service.specs.Plain.{token_of_bytes, unanswered}
 use Rattle.fare_service.proofs.PlainFields.{AreBytes}
 use Rattle.fare_service.proofs.PlainLists.{All-split}
 use Rattle.fare_service.proofs.PlainReplies.{bare}
-use Rattle.tap_parts.specs.Parts.{uploads_joined, of_part, part_of_token}
+use Rattle.tap_parts.specs.Parts.{taps_of_uploads, of_part, part_of_token}
 use Rattle.part_laws.specs.Split.{IsSplit, Part}
 use Rattle.part_laws.proofs.Merging.{part_bare_all}
 use Rattle.part_laws.proofs.SumsFit.{EntryFits}
@@ -121,12 +121,12 @@ upload_fits file taps is all =
     subst N (sym is.all) (file_fits file is.batches is.rest is.is_file all)
 
 uploads_fit : (files : List (List ℕ)) (taps : List (List Tap)) → AreGoodTapsOfEach files taps
-    → All AreBytes files → All TapFits (uploads_joined taps)
+    → All AreBytes files → All TapFits (taps_of_uploads taps)
 uploads_fit [] [] each all = All-nil TapFits
 uploads_fit [] (ts ∷ taps) each all = absurd each
 uploads_fit (file ∷ files) [] each all = absurd each
 uploads_fit (file ∷ files) (ts ∷ taps) each all =
-    All-append TapFits ts (uploads_joined taps)
+    All-append TapFits ts (taps_of_uploads taps)
     (upload_fits file ts each.0 (All-head AreBytes file files all))
     (uploads_fit files taps each.1 (All-tail AreBytes file files all))
 
@@ -141,7 +141,7 @@ module _ (fares : Fares) (uploads : List (List ℕ)) (history : List Entry) (par
     (split : IsSplit fares uploads history parts) where
   order_fits : All TapFits split.settled.order
   order_fits =
-      let taps = uploads_joined split.settled.taps in
+      let taps = taps_of_uploads split.settled.taps in
       from_map FieldsFit fields_of split.settled.order
       (All-permutation FieldsFit (map fields_of taps) (map fields_of split.settled.order)
       split.settled.canonical.moved (All-map FieldsFit fields_of taps

@@ -22,7 +22,7 @@ use Rattle.fare_service.proofs.RunVisits.{AllZip-length}
 use Rattle.fare_service.specs.Plain.{IsPlainEnd}
 use Rattle.part_reports.specs.Lines.{End, IsUploadEnd, end_line, end_lines}
 use Rattle.part_reports.specs.Reports.{HasTapNumbers, IsMerged, IsPartReport, Report, end_texts}
-use Rattle.part_reports.specs.Reports.{joined_ends, report_text, tokens_of_reports, validators_of_reports}
+use Rattle.part_reports.specs.Reports.{all_ends, report_text, tokens_of_reports, validators_of_reports}
 use Rattle.part_reports.specs.Reports.{sums_of_validator as listed_at}
 use Rattle.part_reports.proofs.Unique.{end_line_unique}
 use Rattle.part_laws.specs.Sizes.{CanBeWritten, HasSize, HaveBoundedTerms}
@@ -182,11 +182,11 @@ lines_append number (a ∷ xs) ys =
     (end_lines (number + length (a ∷ xs)) ys))
 
 texts_joined : (number : ℕ) (ends : List (List End))
-    → flat_map (λ file. file) (end_texts number ends) ≡ end_lines number (joined_ends ends)
+    → flat_map (λ file. file) (end_texts number ends) ≡ end_lines number (all_ends ends)
 texts_joined number [] = refl
 texts_joined number (some ∷ ends) =
     ap (λ (t : List ℕ). end_lines number some ++ t) (texts_joined (number + length some) ends)
-    ∙ sym (lines_append number some (joined_ends ends))
+    ∙ sym (lines_append number some (all_ends ends))
 
 module _ (differ : TextsDiffer) (risen : RisingNumbers) (uploads : List (List ℕ))
     (parts : List Part) (ends : List UploadEnd) (plain : ArePlainEnds uploads ends)
@@ -203,10 +203,10 @@ module _ (differ : TextsDiffer) (risen : RisingNumbers) (uploads : List (List �
       (recursion_from_All IsPartReport is.parts is.told.parts_fit)
       (subst Z is.told.parts_told told_parts)
 
-  same_ends : joined_ends is.ends ≡ map end_of ends
+  same_ends : all_ends is.ends ≡ map end_of ends
   same_ends =
-      ends_same 0 (joined_ends is.ends) (map end_of ends)
-      (recursion_from_All IsUploadEnd (joined_ends is.ends) is.told.ends_fit)
+      ends_same 0 (all_ends is.ends) (map end_of ends)
+      (recursion_from_All IsUploadEnd (all_ends is.ends) is.told.ends_fit)
       (ends_fit uploads ends (recursion_from_All HasSize uploads sizes) plain)
       (sym (ap (flat_map (λ file. file)) is.told.ends_told ∙ texts_joined 0 is.ends)
       ∙ told_ends ∙ lines_spelt 0 ends (plain_whole uploads ends plain))

@@ -32,7 +32,7 @@ use Rattle.tap_views.specs.Encoding.{fields_of}
 use Rattle.tap_views.specs.declared.encoder.TapFields.{TapFields}
 use Rattle.fare_service.specs.Plain.{IsPlain, unanswered, plain}
 use Rattle.tap_parts.specs.Canonical.{tap_cmp}
-use Rattle.tap_parts.specs.Parts.{uploads_joined}
+use Rattle.tap_parts.specs.Parts.{taps_of_uploads}
 use Rattle.settlement.proofs.Histories.{same_after}
 use Rattle.settlement.proofs.Own.{IsNamedBy}
 use Rattle.settlement.proofs.Same.{part_fields, sum_filter}
@@ -202,7 +202,7 @@ module _ (fares : Fares) (uploads : List (List ℕ)) (history : List Entry) (par
     (split : IsSplit fares uploads history parts) where
   pub names : All IsName split.settled.order
   names =
-      let taps = uploads_joined split.settled.taps in
+      let taps = taps_of_uploads split.settled.taps in
       let later = plain fares taps in
       let is : IsPlain fares uploads later = record {
         taps = split.settled.taps;
@@ -221,11 +221,11 @@ module _ (fares : Fares) (uploads : List (List ℕ)) (history : List Entry) (par
   part_plain number part there =
       let is = split.each number part there in
       let p : TapFields → Bool = λ f. part_of_token f.token (length parts) == number in
-      let all = map fields_of (uploads_joined split.settled.taps) in
+      let all = map fields_of (taps_of_uploads split.settled.taps) in
       let order = map fields_of split.settled.order in
       let own = of_part number (length parts) split.settled.order in
       let here = map fields_of is.settled.order in
-      let files = map fields_of (uploads_joined is.settled.taps) in
+      let files = map fields_of (taps_of_uploads is.settled.taps) in
       let sorted : IsSorted tap_cmp (map fields_of own) =
       subst (λ fs. IsSorted tap_cmp fs)
       (sym (part_fields number (length parts) split.settled.order))
@@ -235,8 +235,8 @@ module _ (fares : Fares) (uploads : List (List ℕ)) (history : List Entry) (par
       is.settled.canonical.sorted sorted
       (λ f. sum_by-IsPermutation f files here is.settled.canonical.moved
       ∙ sum_by-IsPermutation f
-      (map fields_of (of_part number (length parts) (uploads_joined split.settled.taps))) files is.its_taps
-      ∙ ap (sum_by f) (part_fields number (length parts) (uploads_joined split.settled.taps))
+      (map fields_of (of_part number (length parts) (taps_of_uploads split.settled.taps))) files is.its_taps
+      ∙ ap (sum_by f) (part_fields number (length parts) (taps_of_uploads split.settled.taps))
       ∙ sum_filter p f all
       ∙ sym (sum_by-IsPermutation (λ x. cond (p x) (f x) 0) all order split.settled.canonical.moved)
       ∙ sym (sum_filter p f order)

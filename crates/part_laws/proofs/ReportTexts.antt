@@ -13,17 +13,17 @@ use Rattle.tap_views.specs.declared.fault.LayoutFault.TheVariants.{Length, Momen
 use Rattle.fare_table.specs.declared.token.Token.{Token}
 use Rattle.shard_book.specs.Sums.{Sums}
 use Rattle.fare_texts.specs.Counts.{totals_line}
-use Rattle.fare_service.specs.Ends.{end_by}
+use Rattle.fare_service.specs.EndsOfUploads.{end_by}
 use Rattle.fare_service.specs.Plain.{ArePlainEnds, IsPlainEnd, WasNotCut}
 use Rattle.tap_views.specs.Files.{IsEndAfterBatches}
-use Rattle.fare_service.specs.Text.{report, section_head, upload_line, upload_lines}
+use Rattle.fare_service.specs.Text.{report, upload_line, upload_lines}
 use Rattle.tap_views.specs.Names.{fault_name}
 use Rattle.fare_service.specs.declared.upload_end.UploadEnd.{UploadEnd}
 use Rattle.fare_service.specs.declared.upload_end.UploadEnd.TheVariants.{Posted, Refused, Cut}
 use Rattle.fare_service.specs.declared.upload_end.UploadEnd.TheVariants.{Undrawn}
 use Rattle.fare_service.proofs.TapCounts.{file_room}
-use Rattle.fare_texts.specs.SumLines.{token_line, validator_line}
-use Rattle.part_reports.specs.Lines.{End, IsUploadEnd, end_line, end_lines, number_line}
+use Rattle.fare_texts.specs.ReportLines.{number_line, token_line, validator_line}
+use Rattle.part_reports.specs.Lines.{End, IsUploadEnd, end_line, end_lines}
 use Rattle.part_reports.specs.Reports.{Report, report_text}
 use Rattle.part_laws.specs.Sizes.{HasSize}
 
@@ -93,7 +93,6 @@ spelt h e t v vs k ts = simp append_assoc
 pub report_spelt : (ends : List UploadEnd) (totals : Sums) (validators : List (ℕ × Sums))
     (tokens : List (Token × Sums)) → AllByRecursion WasNotCut ends
     → report ends totals validators tokens ≡ report_text (told_by ends totals validators tokens)
-unfolding section_head
 report_spelt ends totals validators tokens whole =
     let sizes : length ends ≡ length (map end_of ends) = sym (length-map ends end_of) in
     let texts : List ℕ → List ℕ → List ℕ = λ heads lines. (heads ++ lines) ++ (totals_line totals

@@ -15,7 +15,7 @@ use Rattle.tap_views.specs.Files.{AreGoodTaps, AreGoodTapsOfEach}
 use Rattle.upload_parts.specs.Split.{IsSplitFile}
 use Rattle.fare_service.specs.Plain.{HasOneReading}
 use Rattle.fare_service.proofs.PlainRuns.{AllZip-append}
-use Rattle.tap_parts.specs.Parts.{uploads_joined}
+use Rattle.tap_parts.specs.Parts.{taps_of_uploads}
 use Rattle.part_laws.specs.Files.{HasNoFault}
 use Rattle.settlement.proofs.Histories.{read_fields}
 use Rattle.settlement.proofs.Same.{one_list}
@@ -27,24 +27,24 @@ all_of groups = flat_map (λ group. group) groups
 module _ (number parts : ℕ) where
   -- the fields of the part's taps
   abbrev mine : List (List Tap) → List TapFields
-  mine taps = map fields_of (of_part number parts (uploads_joined taps))
+  mine taps = map fields_of (of_part number parts (taps_of_uploads taps))
 
   mine-append : (one other : List (List Tap)) → mine (one ++ other) ≡ mine one ++ mine other
   mine-append one other =
       ap (λ taps. map fields_of (of_part number parts taps))
       (flat_map-append (λ (upload : List Tap). upload) one other)
       ∙ ap (map fields_of)
-      (filter-append (λ (tap : Tap). part_of_token tap.token parts == number) (uploads_joined one)
-      (uploads_joined other))
-      ∙ map-append fields_of (of_part number parts (uploads_joined one))
-      (of_part number parts (uploads_joined other))
+      (filter-append (λ (tap : Tap). part_of_token tap.token parts == number) (taps_of_uploads one)
+      (taps_of_uploads other))
+      ∙ map-append fields_of (of_part number parts (taps_of_uploads one))
+      (of_part number parts (taps_of_uploads other))
 
   -- some taps of the uploads, of which the files have those of the part
   record Kept (uploads files : List (List ℕ)) : Type 0 where
     pub taps : List (List Tap)
     pub each : AreGoodTapsOfEach uploads taps
     pub own : (list : List (List Tap)) → All HasOneReading files → AreGoodTapsOfEach files list
-        → IsPermutation (mine taps) (map fields_of (uploads_joined list))
+        → IsPermutation (mine taps) (map fields_of (taps_of_uploads list))
 
   kept : (groups : List (List (List ℕ))) (files : List (List ℕ))
       → AllZip (λ group file. IsSplitFile group parts number file) groups files
@@ -52,7 +52,7 @@ module _ (number parts : ℕ) where
   kept [] [] zip = record { taps = []; each = tt; own = none }
     where
       none : (list : List (List Tap)) → All HasOneReading [] → AreGoodTapsOfEach [] list
-          → IsPermutation (mine []) (map fields_of (uploads_joined list))
+          → IsPermutation (mine []) (map fields_of (taps_of_uploads list))
       none [] cuts each = IsPermutation-refl []
       none (ts ∷ list) cuts each = absurd each
   kept [] (file ∷ files) zip = absurd zip
@@ -70,7 +70,7 @@ module _ (number parts : ℕ) where
       first : (p : IsSplitFile group parts number file) (rest : Kept (all_of groups) files)
           (list : List (List Tap)) → All HasOneReading (file ∷ files)
           → AreGoodTapsOfEach (file ∷ files) list
-          → IsPermutation (mine (p.taps ++ rest.taps)) (map fields_of (uploads_joined list))
+          → IsPermutation (mine (p.taps ++ rest.taps)) (map fields_of (taps_of_uploads list))
       first p rest [] cuts each = absurd each
       first p rest (ts ∷ list) cuts each =
           let read : map fields_of ts ≡ p.list =
@@ -79,25 +79,25 @@ module _ (number parts : ℕ) where
           subst (λ fs. IsPermutation (mine p.taps) fs) (sym read) p.canonical.moved in
           let more = rest.own list (All-tail HasOneReading file files cuts) each.1 in
           let both = IsPermutation-append (mine p.taps) (map fields_of ts) (mine rest.taps)
-          (map fields_of (uploads_joined list)) here more in
-          subst (λ fs. IsPermutation fs (map fields_of (ts ++ uploads_joined list)))
+          (map fields_of (taps_of_uploads list)) here more in
+          subst (λ fs. IsPermutation fs (map fields_of (ts ++ taps_of_uploads list)))
           (sym (mine-append p.taps rest.taps))
           (subst (λ fs. IsPermutation (mine p.taps ++ mine rest.taps) fs)
-          (sym (map-append fields_of ts (uploads_joined list))) both)
+          (sym (map-append fields_of ts (taps_of_uploads list))) both)
 
   pub own_taps : (groups : List (List (List ℕ))) (files : List (List ℕ))
       → AllZip (λ group file. IsSplitFile group parts number file) groups files
       → (uploads : List (List ℕ)) → uploads ≡ all_of groups → All HasOneReading uploads
       → All HasOneReading files
       → (taps list : List (List Tap)) → AreGoodTapsOfEach uploads taps → AreGoodTapsOfEach files list
-      → IsPermutation (map fields_of (of_part number parts (uploads_joined taps)))
-      (map fields_of (uploads_joined list))
+      → IsPermutation (map fields_of (of_part number parts (taps_of_uploads taps)))
+      (map fields_of (taps_of_uploads list))
   own_taps groups files zip uploads whole cuts file_cuts taps list each is =
       let k = kept groups files zip in
       let E : List (List ℕ) → Type 0 = λ us. AreGoodTapsOfEach us k.taps in
       let same = one_list uploads k.taps taps cuts (subst E (sym whole) k.each) each in
-      subst (λ ts. IsPermutation (map fields_of (of_part number parts (uploads_joined ts)))
-      (map fields_of (uploads_joined list))) same (k.own list file_cuts is)
+      subst (λ ts. IsPermutation (map fields_of (of_part number parts (taps_of_uploads ts)))
+      (map fields_of (taps_of_uploads list))) same (k.own list file_cuts is)
 
 -- the files of a part are batches alone
 pub none_faulty : (number parts : ℕ) (groups : List (List (List ℕ))) (files : List (List ℕ))

@@ -25,17 +25,17 @@ use Rattle.shard_book.specs.SumsByKey.{entries_of_validator, sums_by_token, sums
 use Rattle.shard_book.specs.SumsByKey.{validator_of, validators}
 use Rattle.shard_book.specs.Rising.{rising}
 use Rattle.shard_book.specs.Sums.{Sums, add_all, sums, sums_of_replies}
-use Rattle.fare_service.specs.Ends.{end_by}
+use Rattle.fare_service.specs.EndsOfUploads.{end_by}
 use Rattle.tap_views.specs.Files.{AreGoodTaps, AreGoodTapsOfEach, IsEndAfterBatches}
 use Rattle.fare_service.specs.Plain.{ArePlainEnds, HasOneReading, IsPlainEnd}
 use Rattle.fare_service.specs.Plain.{IsReportOver, WasNotCut, unanswered}
 use Rattle.fare_service.specs.declared.upload_end.UploadEnd.{UploadEnd}
 use Rattle.fare_service.proofs.PlainLists.{All-split}
 use Rattle.fare_service.proofs.PlainReplies.{bare, plain_bare}
-use Rattle.tap_parts.specs.Parts.{uploads_joined}
+use Rattle.tap_parts.specs.Parts.{taps_of_uploads}
 use Rattle.part_reports.specs.Lines.{End, IsUploadEnd}
 use Rattle.part_reports.specs.Reports.{IsMerged, IsPartReport, IsWholeReport, Report, end_texts}
-use Rattle.part_reports.specs.Reports.{joined_ends, report_text, validators_of_reports}
+use Rattle.part_reports.specs.Reports.{all_ends, report_text, validators_of_reports}
 use Rattle.part_reports.specs.Reports.{sums_of_validator as listed_at}
 use Rattle.part_laws.specs.Files.{HasNoFault, ends_texts}
 use Rattle.part_laws.specs.Sizes.{HasSize}
@@ -166,7 +166,7 @@ one_end file taps end cut of is =
 
 end_taps : (files : List (List ℕ)) (taps : List (List Tap)) (ends : List UploadEnd)
     → AllByRecursion HasOneReading files → AreGoodTapsOfEach files taps → ArePlainEnds files ends
-    → sum_by (λ end. end.taps) (map end_of ends) ≡ length (uploads_joined taps)
+    → sum_by (λ end. end.taps) (map end_of ends) ≡ length (taps_of_uploads taps)
 end_taps [] [] [] cuts each plain = refl
 end_taps [] [] (end ∷ ends) cuts each plain = absurd plain
 end_taps [] (t ∷ taps) ends cuts each plain = absurd each
@@ -177,11 +177,11 @@ end_taps (file ∷ files) (t ∷ taps) (end ∷ ends) cuts each plain = omega (
   sum_by-cons (λ (e : End). e.taps) (end_of end) (map end_of ends),
   one_end file t end cuts.0 each.0 plain.0,
   end_taps files taps ends cuts.1 each.1 plain.1,
-  length-append t (uploads_joined taps),
+  length-append t (taps_of_uploads taps),
 )
 
 -- ---- the ends' files
-joined_map : (lists : List (List UploadEnd)) → joined_ends (map (map end_of) lists)
+joined_map : (lists : List (List UploadEnd)) → all_ends (map (map end_of) lists)
     ≡ map end_of (flat_map (λ some. some) lists)
 joined_map [] = refl
 joined_map (some ∷ lists) =
@@ -230,10 +230,10 @@ module _ (fares : Fares) (uploads : List (List ℕ)) (history : List Entry) (par
       telling numbers names parts report_files (recursion_from_All IsWritable parts can)
       (recursion_from_All (λ part. All HasNoFault part.files) parts none) told_parts
 
-  history_taps : (sums history).taps ≡ length (uploads_joined split.settled.taps)
+  history_taps : (sums history).taps ≡ length (taps_of_uploads split.settled.taps)
   unfolding sums_of_replies
   history_taps =
-      let taps = uploads_joined split.settled.taps in
+      let taps = taps_of_uploads split.settled.taps in
       let order = split.settled.order in
       let bares : map bare history ≡ map unanswered order =
       ap (map bare) split.settled.entries ∙ plain_bare fares [] order in
@@ -254,7 +254,7 @@ module _ (fares : Fares) (uploads : List (List ℕ)) (history : List Entry) (par
       told_by (flat_map (λ some. some) lists) (sums history) (sums_by_validator history)
       (sums_by_token history)
 
-  is_whole : IsWholeReport (joined_ends (map (map end_of) lists)) tellings.told whole
+  is_whole : IsWholeReport (all_ends (map (map end_of) lists)) tellings.told whole
   unfolding whole
   is_whole =
       let told = tellings.told in

@@ -14,7 +14,7 @@ use Rattle.shard_book.specs.Sums.{Sums, add_all, sums}
 use Rattle.fare_table.specs.Token.{token_cmp}
 use Rattle.tap_parts.specs.Parts.{of_part}
 use Rattle.settlement.specs.Settled.{IsSettledHistory}
-use Rattle.tap_parts.specs.Parts.{uploads_joined}
+use Rattle.tap_parts.specs.Parts.{taps_of_uploads}
 
 -- the files of a part, and the history that settling them makes
 pub record Part : Type 0 where
@@ -44,7 +44,7 @@ pub record IsPartOf (fares : Fares) (taps : List Tap) (number parts : ℕ) (part
   where
     pub settled : IsSettledHistory fares part.files part.history
     pub its_taps : IsPermutation (map fields_of (of_part number parts taps))
-        (map fields_of (uploads_joined settled.taps))
+        (map fields_of (taps_of_uploads settled.taps))
 
 -- each part is of the uploads, and the history is their settled one
 pub record IsSplit (fares : Fares) (uploads : List (List ℕ)) (history : List Entry)
@@ -53,7 +53,7 @@ pub record IsSplit (fares : Fares) (uploads : List (List ℕ)) (history : List E
   pub bytes : All (λ upload. All (λ byte. byte < 256) upload) uploads
   pub settled : IsSettledHistory fares uploads history
   pub each : (number : ℕ) (part : Part) → slice_get parts number ≡ Some part
-      → IsPartOf fares (uploads_joined settled.taps) number (length parts) part
+      → IsPartOf fares (taps_of_uploads settled.taps) number (length parts) part
 
 -- the list has each validator of the parts once, rising, with its sums in all parts
 pub record AreValidatorsOf (parts : List Part) (merged : List (ℕ × Sums)) : Type 0 where

@@ -19,7 +19,7 @@ ghost use Rattle.fare_service.specs.Text.{report, upload_lines};
 ghost use Rattle.fare_service.specs.declared.upload_end.UploadEnd.{UploadEnd};
 ghost use Rattle.tap_parts.specs.Parts.{part_of_token};
 ghost use Rattle.settlement.specs.Settled.{IsSettledHistory};
-ghost use Rattle.tap_parts.specs.Parts.{uploads_joined};
+ghost use Rattle.tap_parts.specs.Parts.{taps_of_uploads};
 ghost use Rattle.upload_parts.specs.Split.{IsSplitFile};
 ghost use Rattle.part_reports.specs.Reports.{IsMerged};
 ghost use Rattle.part_laws.specs.Files.{HasNoFault, ends_texts};
@@ -41,7 +41,7 @@ pub fn split_part(uploads: &[Vec<u8>], files: &[Vec<u8>])
         (map (λ file. file.items) files.now)
         → AreGoodTapsOfEach (map (λ upload. upload.items) uploads.now) taps
         → IsSettledHistory fares (map (λ file. file.items) files.now) history
-        → IsPartOf fares (uploads_joined taps) number parts
+        → IsPartOf fares (taps_of_uploads taps) number parts
         (part_with (map (λ file. file.items) files.now) history) }
 {
     one_reading_each(uploads);

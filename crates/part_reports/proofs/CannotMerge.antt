@@ -13,20 +13,20 @@ use Rattle.std.proofs.lemmas.List.Sums.{sum_by-append}
 use Rattle.fare_table.specs.Token.{token_cmp, token_eq}
 use Rattle.fare_table.specs.declared.token.Token.{Token}
 use Rattle.shard_book.specs.Sums.{Sums, add_all}
-use Rattle.fare_texts.specs.SumLines.{token_line}
+use Rattle.fare_texts.specs.ReportLines.{token_line}
 use Rattle.part_reports.specs.Lines.{End, IsUploadEnd}
-use Rattle.part_reports.specs.Reports.{IsMerged, IsPartReport, Report, end_texts, joined_ends}
+use Rattle.part_reports.specs.Reports.{IsMerged, IsPartReport, Report, end_texts, all_ends}
 use Rattle.part_reports.specs.Reports.{report_text, tokens_of_reports}
 use Rattle.part_reports.specs.TokenLines.{ShareNoToken, HaveOtherTokens, IsMergedByToken, TokenLine, lines_of_token}
 use Rattle.part_reports.specs.declared.merging.LineKind.{LineKind}
 use Rattle.part_reports.specs.declared.merging.LineKind.TheVariants.{Entries, Tokens}
 use Rattle.part_reports.specs.declared.sums.WholeSums.{WholeSums}
 use Rattle.part_reports.specs.declared.upload_ends.UploadEnds.{UploadEnds}
-use Rattle.part_reports.specs.inside.UploadEnds.{Have}
+use Rattle.part_reports.specs.inside.UploadEnds.{HaveReadEnds}
 use Rattle.part_reports.specs.inside.Fronts.{MayBePart, ToldFront}
 use Rattle.part_reports.specs.inside.Kinds.{AreTexts}
-use Rattle.part_reports.specs.inside.Parts.{AreParts, Begun, begun_text, left_text}
-use Rattle.part_reports.specs.inside.Sources.{MayFollow, Standing}
+use Rattle.part_reports.specs.inside.Parts.{AreParts, BegunReport, begun_text, left_text}
+use Rattle.part_reports.specs.inside.Standings.{MayFollow, Standing}
 use Rattle.part_reports.proofs.EndsRead.{All-behind, All-front}
 use Rattle.part_reports.proofs.FewParts.{told_may, told_of}
 use Rattle.part_reports.proofs.JoinedTokens.{StandOnce, joined_lines, once_each}
@@ -39,26 +39,26 @@ use Rattle.part_reports.proofs.TokenSums.{Sum, line_of, lines_keys, lines_length
 use Rattle.part_reports.proofs.WholeReports.{fronts_totals, lines_filtered, parts_taps}
 
 -- texts of ends determine the ends
-ends_same : (first : ℕ) (some more : List (List End)) → All IsUploadEnd (joined_ends some)
-    → All IsUploadEnd (joined_ends more) → end_texts first some ≡ end_texts first more
-    → joined_ends some ≡ joined_ends more
+ends_same : (first : ℕ) (some more : List (List End)) → All IsUploadEnd (all_ends some)
+    → All IsUploadEnd (all_ends more) → end_texts first some ≡ end_texts first more
+    → all_ends some ≡ all_ends more
 ends_same first [] [] may may_too same = refl
 ends_same first [] (ends ∷ more) may may_too same = absurd (cc)
 ends_same first (ends ∷ some) [] may may_too same = absurd (cc)
 ends_same first (a ∷ some) (b ∷ more) may may_too same =
-    let is : a ≡ b = lines_whole first a b (All-front IsUploadEnd a (joined_ends some) may)
-    (All-front IsUploadEnd b (joined_ends more) may_too) (cc) in
+    let is : a ≡ b = lines_whole first a b (All-front IsUploadEnd a (all_ends some) may)
+    (All-front IsUploadEnd b (all_ends more) may_too) (cc) in
     let tail : end_texts (first + length a) some ≡ end_texts (first + length b) more = cc in
-    let rest = ends_same (first + length a) some more (All-behind IsUploadEnd a (joined_ends some) may)
-    (All-behind IsUploadEnd b (joined_ends more) may_too)
+    let rest = ends_same (first + length a) some more (All-behind IsUploadEnd a (all_ends some) may)
+    (All-behind IsUploadEnd b (all_ends more) may_too)
     (tail ∙ ap (λ (x : List End). end_texts (first + length x) more) (sym is)) in
-    ap (λ x. x ++ joined_ends some) is ∙ ap (λ rest. b ++ rest) rest
+    ap (λ x. x ++ all_ends some) is ∙ ap (λ rest. b ++ rest) rest
 
 -- what is left of a part's report behind the head of its tokens
 abbrev part_left : Report → LineKind × List ℕ
 part_left part = (Tokens (length part.tokens), flat_map token_line part.tokens)
 
-fronts_same : (begun : List Begun) (parts : List Report) → All (λ one. MayBePart one.0) begun
+fronts_same : (begun : List BegunReport) (parts : List Report) → All (λ one. MayBePart one.0) begun
     → All IsPartReport parts → map begun_text begun ≡ map report_text parts
     → (map (λ one. one.0) begun ≡ map told_of parts) × (map left_text begun ≡ map part_left parts)
 fronts_same [] [] may fit same = (refl, refl)
@@ -68,11 +68,11 @@ fronts_same (one ∷ begun) (part ∷ parts) may fit same =
     let head : begun_text one ≡ report_text part = cc in
     let tail : map begun_text begun ≡ map report_text parts = cc in
     let first = told_unique one.0 (told_of part) one.1 (flat_map token_line part.tokens)
-    (All-head (λ (one : Begun). MayBePart one.0) one begun may)
+    (All-head (λ (one : BegunReport). MayBePart one.0) one begun may)
     (told_may part (All-head IsPartReport part parts fit)) head in
-    let rest = fronts_same begun parts (All-tail (λ (one : Begun). MayBePart one.0) one begun may)
+    let rest = fronts_same begun parts (All-tail (λ (one : BegunReport). MayBePart one.0) one begun may)
     (All-tail IsPartReport part parts fit) tail in (
-      ap (λ told. told ∷ map (λ (one : Begun). one.0) begun) first.0
+      ap (λ told. told ∷ map (λ (one : BegunReport). one.0) begun) first.0
           ∙ ap (λ more. told_of part ∷ more) rest.0,
       ap (λ (told : ToldFront). (Tokens told.tokens, one.1) ∷ map left_text begun) first.0
           ∙ ap (λ left. (Tokens (length part.tokens), left) ∷ map left_text begun) first.1
@@ -83,7 +83,7 @@ fronts_same (one ∷ begun) (part ∷ parts) may fit same =
 pub same_taps : (end_files report_files : List (List ℕ)) (text : List ℕ) (lists : List (List End))
     (ends : UploadEnds) (sums : WholeSums) (standings : List Standing)
     → IsMerged end_files report_files text → end_files ≡ end_texts 0 lists
-    → Have ends (joined_ends lists) → AreParts report_files sums standings
+    → HaveReadEnds ends (all_ends lists) → AreParts report_files sums standings
     → sums.totals.taps ≡ ends.taps
 same_taps end_files report_files text lists ends sums standings merged told have parts =
     let joined = ends_same 0 merged.ends lists merged.told.ends_fit have.each

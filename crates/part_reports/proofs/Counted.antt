@@ -2,7 +2,7 @@
 use Rattle.std.proofs.Common.{◌≡◌, ℕ, ◌<◌, ◌^◌, List, ◌++◌, Option, Some, None, Result, Ok, Err}
 use Rattle.std.proofs.Common.{sym, ap, subst, ◌∙◌, append_assoc}
 use Rattle.part_reports.specs.declared.fault.MergeFault.{MergeFault}
-use Rattle.part_reports.specs.Lines.{number_line}
+use Rattle.fare_texts.specs.ReportLines.{number_line}
 use Rattle.part_reports.specs.inside.LinesRead.{IsRead}
 use Rattle.part_reports.proofs.Unique.{number_line_unique}
 

@@ -4,7 +4,7 @@ use Rattle.std.proofs.Common.{◌∙◌, arith}
 use Rattle.std.specs.Prelude.{codes}
 use Rattle.std.specs.Fmt.{decimal}
 use Rattle.shard_book.specs.Sums.{Sums}
-use Rattle.fare_texts.specs.Counts.{counts, first_counts, last_counts}
+use Rattle.fare_texts.specs.Counts.{counts_text, first_counts, last_counts}
 use Rattle.part_reports.specs.Lines.{AreCounts}
 use Rattle.part_reports.specs.inside.Counted.{IsCounted, sums_with}
 use Rattle.part_reports.proofs.Digits.{counted_unique}
@@ -31,12 +31,12 @@ from_paid t x = codes " paid " ++ (decimal t.paid ++ from_transfers t x)
 abbrev pub from_taps : Sums → List ℕ → List ℕ
 from_taps t x = codes "taps " ++ (decimal t.taps ++ from_paid t x)
 
-pub counts_spelt : (t : Sums) (x : List ℕ) → counts t ++ x ≡ from_taps t x
+pub counts_spelt : (t : Sums) (x : List ℕ) → counts_text t ++ x ≡ from_taps t x
 unfolding first_counts last_counts
 counts_spelt t x = simp append_assoc
 
-pub counts_read : (t : Sums) → counts t ≡ from_taps t []
-counts_read t = sym (append-nil (counts t)) ∙ counts_spelt t []
+pub counts_read : (t : Sums) → counts_text t ≡ from_taps t []
+counts_read t = sym (append-nil (counts_text t)) ∙ counts_spelt t []
 
 -- two texts that are the same have the same number behind a word, and the same rest
 pub counted_step : (text other word : List ℕ) (n m : ℕ) (r s : List ℕ) → text ≡ other

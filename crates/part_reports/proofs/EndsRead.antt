@@ -12,7 +12,7 @@ use Rattle.part_reports.specs.declared.form as form
 use Rattle.part_reports.specs.declared.upload_ends.UploadEnds.{UploadEnds}
 use Rattle.part_reports.specs.Lines.{End, IsUploadEnd, end_line, end_lines}
 use Rattle.part_reports.specs.inside.UploadEnds.{end_of_upload}
-use Rattle.part_reports.specs.inside.UploadEnds.{AreEndsAdded, IsNextEnd, More}
+use Rattle.part_reports.specs.inside.UploadEnds.{AreEndsAdded, IsNextEnd, HaveMoreEnds}
 use Rattle.part_reports.specs.inside.LinesRead.{IsTold}
 use Rattle.part_reports.proofs.LinesRead.{through}
 use Rattle.part_reports.proofs.ListsWritten.{lines_more, end_lines_from}
@@ -72,7 +72,7 @@ next_no upload (Some text) after items line told fault small is same some form n
 -- these lines were read of the text, and this is left
 pub record Adding (before now : UploadEnds) (text : List ℕ) (left : Option (List ℕ)) : Type 0 where
   pub more : List End
-  pub is : More before now more
+  pub is : HaveMoreEnds before now more
   pub rest : List ℕ
   pub shown : text ≡ end_lines before.uploads more ++ rest
   pub left_is : left ≡ Some rest

@@ -13,14 +13,14 @@ use Rattle.std.proofs.lemmas.Bool.Decides.{nat_tests}
 use Rattle.std.proofs.lemmas.List.Elements.{All-head, All-map, All-push, All-tail}
 use Rattle.std.proofs.lemmas.List.Sums.{sum_by-append}
 use Rattle.shard_book.specs.Sums.{Sums, add_all, sums}
-use Rattle.fare_texts.specs.SumLines.{token_line}
+use Rattle.fare_texts.specs.ReportLines.{token_line}
 use Rattle.part_reports.specs.Lines.{IsValidatorSum}
 use Rattle.part_reports.specs.Reports.{IsPartReport, Report, report_text, sums_of_validator}
 use Rattle.part_reports.specs.declared.sums.WholeSums.{WholeSums}
 use Rattle.part_reports.specs.Texts.{AreLeft}
 use Rattle.part_reports.specs.inside.Fronts.{MayBePart, ToldFront}
-use Rattle.part_reports.specs.inside.Parts.{Begun, IsNoPart, begun_text}
-use Rattle.part_reports.specs.inside.Sources.{Standing}
+use Rattle.part_reports.specs.inside.Parts.{BegunReport, IsNoPart, begun_text}
+use Rattle.part_reports.specs.inside.Standings.{Standing}
 use Rattle.part_reports.specs.inside.Sums.{AreFew}
 use Rattle.part_reports.proofs.PartsBegun.{BegunSo}
 use Rattle.part_reports.proofs.Rising.{is_less}
@@ -169,7 +169,7 @@ parts_refused remaining items readers x before sources front within here so_far 
     let no_part = subst (λ left. IfSome left (IsNoPart before)) split_files.here none_there in
     let (part, is, shown) = part_at split_files.before split_files.file split_files.after parts may
     (sym split_files.is ∙ told) in
-    let fronts = map (λ (one : Begun). one.0) done.begun in
+    let fronts = map (λ (one : BegunReport). one.0) done.begun in
     let count : length split_files.before ≡ length done.begun =
     ap length done.shown ∙ map_length begun_text done.begun in
     let total : length files ≡ length split_files.before + suc (length split_files.after) =
@@ -177,9 +177,9 @@ parts_refused remaining items readers x before sources front within here so_far 
     (split_files.file ∷ split_files.after) in
     let size : length (fronts ++ told_of part ∷ []) ≡ length done.begun + 1 =
     length-append fronts (told_of part ∷ []) ∙ ap (λ n. n + 1)
-    (map_length (λ (one : Begun). one.0) done.begun) in
+    (map_length (λ (one : BegunReport). one.0) done.begun) in
     let all_may : All MayBePart (fronts ++ told_of part ∷ []) =
-    All-push MayBePart fronts (told_of part) (All-map MayBePart (λ (one : Begun). one.0) done.begun
+    All-push MayBePart fronts (told_of part) (All-map MayBePart (λ (one : BegunReport). one.0) done.begun
     done.may) (told_may part is) in
     no_part fronts done.counted (told_of part, flat_map token_line part.tokens)
     (map line_of part.tokens) (told_may part is) shown

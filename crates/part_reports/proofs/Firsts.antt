@@ -5,12 +5,12 @@ use Rattle.std.specs.Prelude.{◌==◌, if◌then◌else◌, IfSome}
 use Rattle.std.specs.Io.BufRead.{drop_through, take_through}
 use Rattle.shard_book.specs.Sums.{Sums}
 use Rattle.fare_table.specs.declared.token.Token.{Token}
-use Rattle.fare_texts.specs.SumLines.{token_line}
+use Rattle.fare_texts.specs.ReportLines.{token_line}
 use Rattle.part_reports.specs.TokenLines.{TokenLine, text_of}
 use Rattle.part_reports.specs.inside.Kinds.{IsSumLine, IsTextOf}
-use Rattle.part_reports.specs.inside.Sources.{IsAtLine, IsBehindOne, IsFirstLine, IsLineOfKind}
-use Rattle.part_reports.specs.inside.Sources.{IsSource, MayEnd, MayFollowAll, MayFollowHead}
-use Rattle.part_reports.specs.inside.Sources.{IsSourceAt, Standing}
+use Rattle.part_reports.specs.inside.Standings.{IsAtLine, IsBehindOne, IsFirstLine, IsLineOfKind}
+use Rattle.part_reports.specs.inside.Standings.{StandsInText, MayEnd, MayFollowAll, MayFollowToken}
+use Rattle.part_reports.specs.inside.Standings.{StandsInTextAt, Standing}
 use Rattle.part_reports.specs.declared.merging.LineKind.{LineKind}
 use Rattle.part_reports.specs.declared.merging.LineKind.TheVariants.{Tokens, Entries}
 use Rattle.part_reports.proofs.OneLine.{IsOneLine, entry_line_is_one, taken_one, token_line_is_one}
@@ -84,12 +84,12 @@ taken_none (x ∷ xs) is = absurd (some_part (x == 10) x (take_through 10 xs) is
 -- ---- the first line
 pub first_is_source : (kind : LineKind) (text : List ℕ) (at : Standing) → at.line
     ≡ take_through 10 text
-    → at.left ≡ Some (drop_through 10 text) → IsFirstLine kind at.line at.behind at.head
-    → IsSource (kind, text) at
-first_is_source kind text at taken left first = by_head at.head first
+    → at.left ≡ Some (drop_through 10 text) → IsFirstLine kind at.line at.behind at.token
+    → StandsInText (kind, text) at
+first_is_source kind text at taken left first = by_head at.token first
   where
     by_head : (head : Option Token) → IsFirstLine kind at.line at.behind head
-        → IsSourceAt (kind, text) at head
+        → StandsInTextAt (kind, text) at head
     by_head None is = record { shown = taken_none text (sym taken ∙ is.0); may = is.1 }
     by_head (Some token) is = record {
       rest = drop_through 10 text;
@@ -153,13 +153,13 @@ begins_with kind text at token here (first ∷ list) is =
 
 -- the text whose first line may not stand behind the token has no lines that may
 pub no_order : (kind : LineKind) (text : List ℕ) (at : Standing) (before : Option Token)
-    → IsSource (kind, text) at → ¬ (MayFollowHead kind before at.head) → (list : List TokenLine)
+    → StandsInText (kind, text) at → ¬ (MayFollowToken kind before at.token) → (list : List TokenLine)
     → IsTextOf (kind, text) list → IfSome before (λ token. ¬ (MayFollowAll kind token list))
 no_order kind text at None source wrong list is = tt
-no_order kind text at (Some before) source wrong list is = by_head at.head source wrong
+no_order kind text at (Some before) source wrong list is = by_head at.token source wrong
   where
-    by_head : (head : Option Token) → IsSourceAt (kind, text) at head
-        → ¬ (MayFollowHead kind (Some before) head) → ¬ (MayFollowAll kind before list)
+    by_head : (head : Option Token) → StandsInTextAt (kind, text) at head
+        → ¬ (MayFollowToken kind (Some before) head) → ¬ (MayFollowAll kind before list)
     by_head None source wrong = λ may. wrong tt
     by_head (Some token) source wrong = λ may.
         let (more, begins, rest) = begins_with kind text at token source list is in

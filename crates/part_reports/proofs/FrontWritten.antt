@@ -6,15 +6,15 @@ use Rattle.std.specs.Prelude.{flat_map}
 use Rattle.std.specs.Fmt.{decimal}
 use Rattle.std.specs.Map.Iter.{deref_pair}
 use Rattle.std.proofs.lemmas.List.Concat.{flat_map-append}
-use Rattle.fare_texts.specs.Counts.{counts, totals_line}
+use Rattle.fare_texts.specs.Counts.{counts_text, totals_line}
 use Rattle.shard_book.specs.Sums.{Sums, sums_of}
 use Rattle.shard_book.specs.declared.sums.totals.Totals.{Totals}
-use Rattle.fare_texts.specs.SumLines.{validator_line}
-use Rattle.part_reports.specs.Lines.{End, end_lines, number_line}
+use Rattle.fare_texts.specs.ReportLines.{number_line, validator_line}
+use Rattle.part_reports.specs.Lines.{End, end_lines}
 use Rattle.part_reports.specs.Reports.{front_text}
 use Rattle.part_reports.specs.declared.sums.WholeSums.{WholeSums}
 use Rattle.part_reports.specs.declared.upload_ends.UploadEnds.{UploadEnds}
-use Rattle.part_reports.specs.inside.UploadEnds.{Have}
+use Rattle.part_reports.specs.inside.UploadEnds.{HaveReadEnds}
 use denote.Ref.{Bor}
 
 -- entries of the map, as validators with their sums
@@ -25,7 +25,7 @@ shown entries = map (λ (entry : ℕ × Totals). (entry.0, sums_of entry.1)) ent
 pub shown_more : (items : List (Bor ℕ × Bor Totals)) (validator : Bor ℕ) (totals : Bor Totals)
     → flat_map validator_line (shown (map deref_pair (items ++ (validator, totals) ∷ [])))
     ≡ flat_map validator_line (shown (map deref_pair items))
-    ++ (codes "validator " ++ (decimal validator.now ++ (codes " " ++ counts (sums_of totals.now))))
+    ++ (codes "validator " ++ (decimal validator.now ++ (codes " " ++ counts_text (sums_of totals.now))))
 shown_more items validator totals =
     ap (λ entries. flat_map validator_line (shown entries))
     (map-append deref_pair items ((validator, totals) ∷ []))
@@ -41,14 +41,14 @@ pub line_written : (old now mid new : List ℕ) (items : List (Bor ℕ × Bor To
     (validator : Bor ℕ) (totals : Bor Totals)
     → now ≡ old ++ flat_map validator_line (shown (map deref_pair items))
     → mid ≡ now ++ (codes "validator " ++ (decimal validator.now ++ codes " "))
-    → new ≡ mid ++ counts (sums_of totals.now)
+    → new ≡ mid ++ counts_text (sums_of totals.now)
     → new ≡ old ++ flat_map validator_line (shown
     (map deref_pair (items ++ (validator, totals) ∷ [])))
 line_written old now mid new items validator totals first second third =
-    third ∙ ap (λ text. text ++ counts (sums_of totals.now)) (second
+    third ∙ ap (λ text. text ++ counts_text (sums_of totals.now)) (second
     ∙ ap (λ text. text ++ (codes "validator " ++ (decimal validator.now ++ codes " "))) first)
     ∙ reassoc old (flat_map validator_line (shown (map deref_pair items))) (codes "validator ")
-    (decimal validator.now) (codes " ") (counts (sums_of totals.now))
+    (decimal validator.now) (codes " ") (counts_text (sums_of totals.now))
     ∙ ap (λ text. old ++ text) (sym (shown_more items validator totals))
   where
     reassoc : (a b c d e f : List ℕ) → ((a ++ b) ++ (c ++ (d ++ e))) ++ f ≡ a
@@ -62,7 +62,7 @@ shown_length (entry ∷ entries) = let rest = shown_length entries in omega (ari
 -- the pieces of the text before the tokens
 pub front_joined : (ends : UploadEnds) (list : List End) (sums : WholeSums) (count : ℕ)
     (first with_ends whole none totals heads lines all : List ℕ)
-    → Have ends list → count ≡ length sums.validators.entries
+    → HaveReadEnds ends list → count ≡ length sums.validators.entries
     → first ≡ codes "uploads " ++ (decimal ends.uploads ++ codes "\n")
     → with_ends ≡ first ++ ends.text.items
     → none ≡ []

@@ -14,7 +14,7 @@ use Rattle.fare_table.specs.Token.{token_cmp, token_eq}
 use Rattle.fare_table.specs.declared.token.Token.{Token}
 use Rattle.part_reports.specs.TokenLines.{ShareNoToken, DoNotFall, TokenLine, lines_of_token}
 use Rattle.part_reports.specs.declared.merging.LineKind.TheVariants.{Entries}
-use Rattle.part_reports.specs.inside.Sources.{MayFollow}
+use Rattle.part_reports.specs.inside.Standings.{MayFollow}
 use Rattle.part_reports.proofs.Leasts.{same_token as tied_same, token_total}
 use Rattle.part_reports.proofs.Orders.{NotBelow, below_differs}
 use Rattle.part_reports.proofs.PermutedTokens.{eq_of, same_token}

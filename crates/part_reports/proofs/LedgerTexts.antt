@@ -9,9 +9,9 @@ use Rattle.std.proofs.lemmas.List.{append_cancel_left}
 use Rattle.reason_texts.specs.Ledger.{head_text}
 use Rattle.part_reports.specs.Ledgers.{IsPartLedger, IsMergedLedger}
 use Rattle.part_reports.specs.TokenLines.{IsMergedByToken, TokenLine, text_of}
-use Rattle.part_reports.specs.inside.Begun.{AreBegun, IsBegun, IsNoLedger}
+use Rattle.part_reports.specs.inside.BegunLedgers.{AreBegunLedgers, IsBegunLedger, IsNoLedger}
 use Rattle.part_reports.specs.inside.Kinds.{AreTexts, IsTextOf}
-use Rattle.part_reports.specs.inside.Sources.{IsSource, Standing}
+use Rattle.part_reports.specs.inside.Standings.{StandsInText, Standing}
 use Rattle.part_reports.specs.declared.merging.LineKind.{LineKind}
 use Rattle.part_reports.specs.declared.merging.LineKind.TheVariants.{Entries}
 use Rattle.part_reports.proofs.Firsts.{taken_and_left}
@@ -30,11 +30,11 @@ known P now left is holds = subst (λ now. IfSome now P) is holds
 
 pub behind_head : (file line : List ℕ) (now : Option (List ℕ)) (at : Standing)
     → line ≡ take_through 10 file → now ≡ Some (drop_through 10 file) → line ≡ head_text
-    → IfSome now (λ left. IsSource (Entries, left) at) → IsBegun file at
+    → IfSome now (λ left. StandsInText (Entries, left) at) → IsBegunLedger file at
 behind_head file line now at taken left head source = record {
   left = drop_through 10 file;
   shown = sym (taken_and_left file) ∙ ap (λ line. line ++ drop_through 10 file) (sym taken ∙ head);
-  source = known (λ left. IsSource (Entries, left) at) now (drop_through 10 file) left source;
+  stands = known (λ left. StandsInText (Entries, left) at) now (drop_through 10 file) left source;
 }
 
 pub no_head : (file line : List ℕ) → line ≡ take_through 10 file → line ≢ head_text
@@ -52,8 +52,8 @@ no_lines file now left none lines is =
 
 -- ---- several ledgers
 pub begun_push : (files : List (Option (List ℕ))) (ats : List Standing)
-    (file : Option (List ℕ)) (at : Standing) → AreBegun files ats
-    → IfSome file (λ file. IsBegun file at) → AreBegun (files ++ file ∷ []) (ats ++ at ∷ [])
+    (file : Option (List ℕ)) (at : Standing) → AreBegunLedgers files ats
+    → IfSome file (λ file. IsBegunLedger file at) → AreBegunLedgers (files ++ file ∷ []) (ats ++ at ∷ [])
 begun_push [] [] file at are is = (is, tt)
 begun_push [] (other ∷ ats) file at are is = elim are [ ]
 begun_push (other ∷ files) [] file at are is = elim are [ ]
@@ -79,10 +79,10 @@ no_ledgers (other ∷ front) back file (first ∷ files) (lines ∷ parts) same 
 record AreLefts (files : List (List ℕ)) (ats : List Standing) : Type 0 where
   lefts : List (List ℕ)
   shown : AllZip (λ file left. file ≡ head_text ++ left) files lefts
-  sources : AllZip IsSource (map (λ left. (Entries, left)) lefts) ats
+  sources : AllZip StandsInText (map (λ left. (Entries, left)) lefts) ats
 
 lefts_of : (files : List (List ℕ)) (known : List (Option (List ℕ))) (ats : List Standing)
-    → known ≡ map (λ file. Some file) files → AreBegun known ats → AreLefts files ats
+    → known ≡ map (λ file. Some file) files → AreBegunLedgers known ats → AreLefts files ats
 lefts_of [] [] [] same are = record { lefts = []; shown = tt; sources = tt }
 lefts_of [] [] (at ∷ ats) same are = elim are [ ]
 lefts_of [] (file ∷ known) ats same are = absurd (cc)
@@ -91,12 +91,12 @@ lefts_of (first ∷ files) (file ∷ knowns) [] same are = elim are [ ]
 lefts_of (first ∷ files) (file ∷ knowns) (at ∷ ats) same are =
     let is : file ≡ Some first = cc in
     let rest : knowns ≡ map (λ file. Some file) files = cc in
-    let begun : IsBegun first at = known (λ file. IsBegun file at) file first is are.0 in
+    let begun : IsBegunLedger first at = known (λ file. IsBegunLedger file at) file first is are.0 in
     let more = lefts_of files knowns ats rest are.1 in
     record {
       lefts = begun.left ∷ more.lefts;
       shown = (begun.shown, more.shown);
-      sources = (begun.source, more.sources);
+      sources = (begun.stands, more.sources);
     }
 
 texts_to : (files lefts : List (List ℕ)) (parts : List (List TokenLine))
@@ -134,8 +134,8 @@ texts_from (file ∷ files) (left ∷ lefts) (lines ∷ parts) shown are = (
 
 pub merged_whole : (files : List (List ℕ)) (known : List (Option (List ℕ)))
     (ats : List Standing) (old mid new : Option (List ℕ))
-    → known ≡ map (λ file. Some file) files → AreBegun known ats → Appends old mid head_text
-    → ((texts : List (LineKind × List ℕ)) → AllZip IsSource texts ats
+    → known ≡ map (λ file. Some file) files → AreBegunLedgers known ats → Appends old mid head_text
+    → ((texts : List (LineKind × List ℕ)) → AllZip StandsInText texts ats
     → (lists : List (List TokenLine)) × (joined : List TokenLine) × AreTexts texts lists
     × IsMergedByToken lists joined × Appends mid new (text_of joined))
     → (text : List ℕ) × IsMergedLedger files text × Appends old new text
@@ -155,8 +155,8 @@ merged_whole files known ats old mid new same are head merged =
     )
 
 pub merged_none : (files : List (List ℕ)) (known : List (Option (List ℕ)))
-    (ats : List Standing) → known ≡ map (λ file. Some file) files → AreBegun known ats
-    → ((texts : List (LineKind × List ℕ)) → AllZip IsSource texts ats
+    (ats : List Standing) → known ≡ map (λ file. Some file) files → AreBegunLedgers known ats
+    → ((texts : List (LineKind × List ℕ)) → AllZip StandsInText texts ats
     → (lists : List (List TokenLine)) (joined : List TokenLine) → AreTexts texts lists
     → ¬ (IsMergedByToken lists joined))
     → (text : List ℕ) → ¬ (IsMergedLedger files text)

@@ -14,11 +14,11 @@ use Rattle.fare_table.specs.declared.token.Token.{Token}
 use Rattle.part_reports.specs.TokenLines.{HaveOtherTokens, IsMergedByToken, TokenLine, lines_of_token}
 use Rattle.part_reports.specs.TokenLines.{text_of}
 use Rattle.part_reports.specs.inside.Kinds.{AreTexts, IsTextOf}
-use Rattle.part_reports.specs.inside.Least.{IsBelowOthers, IsLeast, IsTwin, StandsAt}
-use Rattle.part_reports.specs.inside.Sources.{IsMoved, IsMovedAt, IsSource, MayFollowHead}
-use Rattle.part_reports.specs.inside.Sources.{IsStuck, IsStuckAt}
-use Rattle.part_reports.specs.inside.Sources.{Standing, standing}
-use Rattle.part_reports.specs.declared.merging.LineSource.{LineSource}
+use Rattle.part_reports.specs.inside.Least.{IsBelowOthers, IsLeast, StandsTwice, StandsAt}
+use Rattle.part_reports.specs.inside.Standings.{IsMoved, IsMovedAt, StandsInText, MayFollowToken}
+use Rattle.part_reports.specs.inside.Standings.{IsStuck, IsStuckAt}
+use Rattle.part_reports.specs.inside.Standings.{Standing, standing}
+use Rattle.part_reports.specs.declared.merging.OrderedText.{OrderedText}
 use Rattle.part_reports.specs.declared.merging.LineKind.{LineKind}
 use Rattle.part_reports.specs.declared.merging.LineKind.TheVariants.{Entries}
 use Rattle.part_reports.proofs.Orders.{NotBelow, below_differs, below_not_below, below_then}
@@ -49,7 +49,7 @@ appends_more (Some xs) (Some ys) (Some zs) x y p q =
 -- what was written of one has other tokens than what was written of the other, and they are below
 -- the token at which the first stands
 pub record IsPast (p q : Part) : Type 0 where
-  pub below : IfSome p.at.head
+  pub below : IfSome p.at.token
       (λ head. AllByRecursion (λ line. token_cmp line.token head ≡ Less) q.done)
   pub others : AllByRecursion (λ a. AllByRecursion (λ b. a.token ≢ b.token) q.done) p.done
 
@@ -72,21 +72,21 @@ pub record IsMerging (texts : List (LineKind × List ℕ)) (ats : List Standing)
   pub past : ArePast parts
   pub joined : List TokenLine
   pub rise : Rise Entries joined
-  pub below : AllByRecursion (λ part. AreWritten part.at.head joined) parts
+  pub below : AllByRecursion (λ part. AreWritten part.at.token joined) parts
   pub same : (token : Token)
       → lines_of_token token joined ≡ lines_of_token token (flat_map (λ part. part.done) parts)
   pub written : Appends old new (text_of joined)
 
 -- ---- the beginning
-record IsBegun (texts : List (LineKind × List ℕ)) (ats : List Standing) : Type 0 where
+record IsBegunLedger (texts : List (LineKind × List ℕ)) (ats : List Standing) : Type 0 where
   parts : List Part
   of_texts : map (λ part. part.text) parts ≡ texts
   of_ats : map (λ part. part.at) parts ≡ ats
   going : AllByRecursion IsGoing parts
   nothing : AllByRecursion (λ part. part.done ≡ []) parts
 
-begun : (texts : List (LineKind × List ℕ)) (ats : List Standing) → AllZip IsSource texts ats
-    → IsBegun texts ats
+begun : (texts : List (LineKind × List ℕ)) (ats : List Standing) → AllZip StandsInText texts ats
+    → IsBegunLedger texts ats
 begun [] [] are = record { parts = []; of_texts = refl; of_ats = refl; going = tt; nothing = tt }
 begun [] (at ∷ ats) are = elim are [ ]
 begun (text ∷ texts) [] are = elim are [ ]
@@ -102,7 +102,7 @@ begun (text ∷ texts) (at ∷ ats) are =
 
 nothing_past : (p q : Part) → p.done ≡ [] → q.done ≡ [] → IsPast p q
 nothing_past p q none none_too = record {
-  below = by_head p.at.head;
+  below = by_head p.at.token;
   others = subst (λ lines. AllByRecursion
       (λ a. AllByRecursion (λ b. a.token ≢ b.token) q.done) lines) (sym none) tt;
 }
@@ -126,7 +126,7 @@ nothing_done (part ∷ parts) none =
     ∙ nothing_done parts none.1
 
 pub merging_first : (texts : List (LineKind × List ℕ)) (ats : List Standing)
-    (old : Option (List ℕ)) → AllZip IsSource texts ats → IsMerging texts ats old old
+    (old : Option (List ℕ)) → AllZip StandsInText texts ats → IsMerging texts ats old old
 merging_first texts ats old are =
     let begun = begun texts ats are in
     record {
@@ -139,8 +139,8 @@ merging_first texts ats old are =
           (each_at (λ (part : Part). part.done ≡ []) begun.parts j q begun.nothing also);
       joined = [];
       rise = tt;
-      below = each_by_place (λ (part : Part). AreWritten part.at.head []) begun.parts
-          (λ k part is. nothing_written part.at.head);
+      below = each_by_place (λ (part : Part). AreWritten part.at.token []) begun.parts
+          (λ k part is. nothing_written part.at.token);
       same = λ token. ap (lines_of_token token) (sym (nothing_done begun.parts begun.nothing));
       written = appends_nothing old;
     }
@@ -244,7 +244,7 @@ each_both P Q R (x ∷ xs) f first second =
     (f x first.0 second.0, each_both P Q R xs f first.1 second.1)
 
 -- ---- a step
-below_part : (part q : Part) (token : Token) → part.at.head ≡ Some token → IsPast part q
+below_part : (part q : Part) (token : Token) → part.at.token ≡ Some token → IsPast part q
     → AllByRecursion (λ line. token_cmp line.token token ≡ Less) q.done
 below_part part q token is past = subst (λ head. IfSome head
     (λ head. AllByRecursion (λ line. token_cmp line.token head ≡ Less) q.done)) is past.below
@@ -257,11 +257,11 @@ other_tokens token lines below =
     (λ (line : TokenLine). token ≢ line.token) lines
     (λ line less same. below_differs line.token token less (sym same)) below
 
-past_left : (part q : Part) (token : Token) (after : Standing) → part.at.head ≡ Some token
-    → IsPast part q → MayFollowHead part.text.0 (Some token) after.head
+past_left : (part q : Part) (token : Token) (after : Standing) → part.at.token ≡ Some token
+    → IsPast part q → MayFollowToken part.text.0 (Some token) after.token
     → IsPast (next_part part token after) q
 past_left part q token after is past may = record {
-  below = by_head after.head may;
+  below = by_head after.token may;
   others = each_push (λ a. AllByRecursion (λ b. a.token ≢ b.token) q.done) part.done
       (line_at part.at token) past.others (other_tokens token q.done below);
 }
@@ -269,7 +269,7 @@ past_left part q token after is past may = record {
     below : AllByRecursion (λ line. token_cmp line.token token ≡ Less) q.done
     below = below_part part q token is past
 
-    by_head : (head : Option Token) → MayFollowHead part.text.0 (Some token) head → IfSome head
+    by_head : (head : Option Token) → MayFollowToken part.text.0 (Some token) head → IfSome head
         (λ head. AllByRecursion (λ line. token_cmp line.token head ≡ Less) q.done)
     by_head None may = tt
     by_head (Some next) may =
@@ -278,12 +278,12 @@ past_left part q token after is past may = record {
         (λ line less. below_then line.token token next less
         (may_not_below part.text.0 token next may)) below
 
-past_right : (p part : Part) (token : Token) (after : Standing) → part.at.head ≡ Some token
+past_right : (p part : Part) (token : Token) (after : Standing) → part.at.token ≡ Some token
     → IsPast p part → IsPast part p
-    → IfSome p.at.head (λ head. token_cmp token head ≡ Less)
+    → IfSome p.at.token (λ head. token_cmp token head ≡ Less)
     → IsPast p (next_part part token after)
 past_right p part token after is past back less = record {
-  below = by_head p.at.head past.below less;
+  below = by_head p.at.token past.below less;
   others = each_both (λ (a : TokenLine). AllByRecursion (λ b. a.token ≢ b.token) part.done)
       (λ (a : TokenLine). token ≢ a.token)
       (λ (a : TokenLine). AllByRecursion (λ b. a.token ≢ b.token) (part.done ++ line ∷ [])) p.done
@@ -317,12 +317,12 @@ at_changed parts k i next p is = ⊎_elim
     (λ (other : i ≢ k). inr (other, sym (set_there parts k i next other) ∙ is)) (cases_eq i k)
 
 -- the token of another source is above
-above_others : (heads : List (Option Token)) (k i : ℕ) (token : Token) (head : Option Token)
-    → ((other : ℕ) (above : Token) → other ≢ k → StandsAt heads other above
-    → token_cmp token above ≡ Less) → i ≢ k → slice_get heads i ≡ Some head
+above_others : (tokens : List (Option Token)) (k i : ℕ) (token : Token) (head : Option Token)
+    → ((other : ℕ) (above : Token) → other ≢ k → StandsAt tokens other above
+    → token_cmp token above ≡ Less) → i ≢ k → slice_get tokens i ≡ Some head
     → IfSome head (λ head. token_cmp token head ≡ Less)
-above_others heads k i token None others other is = tt
-above_others heads k i token (Some above) others other is = others i above other is
+above_others tokens k i token None others other is = tt
+above_others tokens k i token (Some above) others other is = others i above other is
 
 -- ---- the merge at one of its places
 -- the part whose source stands at the place
@@ -341,35 +341,35 @@ part_at texts ats old new merging k at is =
 
 -- the source at the place, where a token stands there
 head_at : (ats : List Standing) (k : ℕ) (at : Standing) (token : Token)
-    → slice_get ats k ≡ Some at → StandsAt (map (λ at. at.head) ats) k token
-    → at.head ≡ Some token
+    → slice_get ats k ≡ Some at → StandsAt (map (λ at. at.token) ats) k token
+    → at.token ≡ Some token
 head_at ats k at token is stands =
-    one_at (map (λ (at : Standing). at.head) ats) k at.head (Some token)
-    (map_at (λ (at : Standing). at.head) ats k at is) stands
+    one_at (map (λ (at : Standing). at.token) ats) k at.token (Some token)
+    (map_at (λ (at : Standing). at.token) ats k at is) stands
 
 -- where the merge goes on at a place
-record IsNext (parts : List Part) (k : ℕ) (heads : List (Option Token)) (part : Part)
+record IsNext (parts : List Part) (k : ℕ) (tokens : List (Option Token)) (part : Part)
     (token : Token) (after : Standing) : Type 0 where
   there : slice_get parts k ≡ Some part
-  is : part.at.head ≡ Some token
-  may : MayFollowHead part.text.0 (Some token) after.head
-  others : (other : ℕ) (above : Token) → other ≢ k → StandsAt heads other above
+  is : part.at.token ≡ Some token
+  may : MayFollowToken part.text.0 (Some token) after.token
+  others : (other : ℕ) (above : Token) → other ≢ k → StandsAt tokens other above
       → token_cmp token above ≡ Less
-  heads_are : map (λ (part : Part). part.at.head) parts ≡ heads
+  heads_are : map (λ (part : Part). part.at.token) parts ≡ tokens
 
-head_above : (parts : List Part) (k : ℕ) (heads : List (Option Token)) (part : Part)
-    (token : Token) (after : Standing) → IsNext parts k heads part token after → (i : ℕ) (p : Part)
+head_above : (parts : List Part) (k : ℕ) (tokens : List (Option Token)) (part : Part)
+    (token : Token) (after : Standing) → IsNext parts k tokens part token after → (i : ℕ) (p : Part)
     → i ≢ k → slice_get parts i ≡ Some p
-    → IfSome p.at.head (λ head. token_cmp token head ≡ Less)
-head_above parts k heads part token after next i p other is =
-    above_others heads k i token p.at.head next.others other
-    (subst (λ heads. slice_get heads i ≡ Some p.at.head) next.heads_are
-    (map_at (λ (part : Part). part.at.head) parts i p is))
+    → IfSome p.at.token (λ head. token_cmp token head ≡ Less)
+head_above parts k tokens part token after next i p other is =
+    above_others tokens k i token p.at.token next.others other
+    (subst (λ tokens. slice_get tokens i ≡ Some p.at.token) next.heads_are
+    (map_at (λ (part : Part). part.at.token) parts i p is))
 
-past_next : (parts : List Part) (k : ℕ) (heads : List (Option Token)) (part : Part)
-    (token : Token) (after : Standing) → IsNext parts k heads part token after → ArePast parts
+past_next : (parts : List Part) (k : ℕ) (tokens : List (Option Token)) (part : Part)
+    (token : Token) (after : Standing) → IsNext parts k tokens part token after → ArePast parts
     → ArePast (slice_set parts k (next_part part token after))
-past_next parts k heads part token after next past i j p q other is also =
+past_next parts k tokens part token after next past i j p q other is also =
     ⊎_elim
     (λ (here : (i ≡ k) × (p ≡ now)). ⊎_elim
     (λ (here_too : (j ≡ k) × (q ≡ now)). absurd (other (here.0 ∙ sym here_too.0)))
@@ -383,7 +383,7 @@ past_next parts k heads part token after next past i j p q other is also =
     subst (λ q. IsPast p q) (sym here.1)
     (past_right p part token after next.is (past i k p part there.0 there.1 next.there)
     (past k i part p (λ e. there.0 (sym e)) next.there there.1)
-    (head_above parts k heads part token after next i p there.0 there.1)))
+    (head_above parts k tokens part token after next i p there.0 there.1)))
     (λ (there_too : (j ≢ k) × (slice_get parts j ≡ Some q)).
     past i j p q other there.1 there_too.1) (at_changed parts k j now q also))
     (at_changed parts k i now p is)
@@ -400,7 +400,7 @@ written_more (Some token) lines line below last =
 
 written_next : (kind : LineKind) (token : Token) (head : Option Token) (lines : List TokenLine)
     → AllByRecursion (λ line. NotBelow line.token token) lines
-    → MayFollowHead kind (Some token) head → AreWritten head lines
+    → MayFollowToken kind (Some token) head → AreWritten head lines
 written_next kind token None lines below may = tt
 written_next kind token (Some head) lines below may =
     each_weaker (λ (line : TokenLine). NotBelow line.token token)
@@ -409,7 +409,7 @@ written_next kind token (Some head) lines below may =
     below
 
 not_below_head : (kind : LineKind) (token : Token) (head : Option Token)
-    → MayFollowHead kind (Some token) head → IfSome head (λ head. NotBelow token head)
+    → MayFollowToken kind (Some token) head → IfSome head (λ head. NotBelow token head)
 not_below_head kind token None may = tt
 not_below_head kind token (Some head) may = may_not_below kind token head may
 
@@ -418,25 +418,25 @@ less_not_below : (token : Token) (head : Option Token)
 less_not_below token None less = tt
 less_not_below token (Some head) less = below_not_below token head less
 
-below_next : (parts : List Part) (k : ℕ) (heads : List (Option Token)) (part : Part)
+below_next : (parts : List Part) (k : ℕ) (tokens : List (Option Token)) (part : Part)
     (token : Token) (after : Standing) (joined : List TokenLine)
-    → IsNext parts k heads part token after
-    → AllByRecursion (λ part. AreWritten part.at.head joined) parts
-    → AllByRecursion (λ p. AreWritten p.at.head (joined ++ line_at part.at token ∷ []))
+    → IsNext parts k tokens part token after
+    → AllByRecursion (λ part. AreWritten part.at.token joined) parts
+    → AllByRecursion (λ p. AreWritten p.at.token (joined ++ line_at part.at token ∷ []))
     (slice_set parts k (next_part part token after))
-below_next parts k heads part token after joined next below =
-    each_by_place (λ (p : Part). AreWritten p.at.head (joined ++ line ∷ [])) (slice_set parts k now)
+below_next parts k tokens part token after joined next below =
+    each_by_place (λ (p : Part). AreWritten p.at.token (joined ++ line ∷ [])) (slice_set parts k now)
     (λ i p is. ⊎_elim
     (λ (here : (i ≡ k) × (p ≡ now)).
-    subst (λ (p : Part). AreWritten p.at.head (joined ++ line ∷ [])) (sym here.1)
-    (written_more after.head joined line
-    (written_next part.text.0 token after.head joined old next.may)
-    (not_below_head part.text.0 token after.head next.may)))
+    subst (λ (p : Part). AreWritten p.at.token (joined ++ line ∷ [])) (sym here.1)
+    (written_more after.token joined line
+    (written_next part.text.0 token after.token joined old next.may)
+    (not_below_head part.text.0 token after.token next.may)))
     (λ (there : (i ≢ k) × (slice_get parts i ≡ Some p)).
-    written_more p.at.head joined line
-    (each_at (λ (part : Part). AreWritten part.at.head joined) parts i p below there.1)
-    (less_not_below token p.at.head
-    (head_above parts k heads part token after next i p there.0 there.1)))
+    written_more p.at.token joined line
+    (each_at (λ (part : Part). AreWritten part.at.token joined) parts i p below there.1)
+    (less_not_below token p.at.token
+    (head_above parts k tokens part token after next i p there.0 there.1)))
     (at_changed parts k i now p is))
   where
     line : TokenLine
@@ -447,12 +447,12 @@ below_next parts k heads part token after joined next below =
 
     old : AllByRecursion (λ line. NotBelow line.token token) joined
     old = subst (λ head. AreWritten head joined) next.is
-        (each_at (λ (part : Part). AreWritten part.at.head joined) parts k part below next.there)
+        (each_at (λ (part : Part). AreWritten part.at.token joined) parts k part below next.there)
 
 -- the lines of a token, with a line more at the end, and in the part
 same_next : (parts : List Part) (k : ℕ) (part : Part) (token : Token) (after : Standing)
     (joined : List TokenLine) (any : Token) → slice_get parts k ≡ Some part
-    → part.at.head ≡ Some token → ArePast parts
+    → part.at.token ≡ Some token → ArePast parts
     → lines_of_token any joined ≡ lines_of_token any (flat_map (λ part. part.done) parts)
     → lines_of_token any (joined ++ line_at part.at token ∷ [])
     ≡ lines_of_token any (flat_map (λ part. part.done) (slice_set parts k (next_part part token after)))
@@ -495,10 +495,10 @@ same_next parts k part token after joined any there is past same =
         (parted.behind i q at)))))
 
 heads_of_parts : (parts : List Part)
-    → map (λ (part : Part). part.at.head) parts
-    ≡ map (λ (at : Standing). at.head) (map (λ (part : Part). part.at) parts)
+    → map (λ (part : Part). part.at.token) parts
+    ≡ map (λ (at : Standing). at.token) (map (λ (part : Part). part.at) parts)
 heads_of_parts [] = refl
-heads_of_parts (part ∷ parts) = ap (λ heads. part.at.head ∷ heads) (heads_of_parts parts)
+heads_of_parts (part ∷ parts) = ap (λ tokens. part.at.token ∷ tokens) (heads_of_parts parts)
 
 text_more : (joined : List TokenLine) (line : TokenLine)
     → text_of joined ++ line.text ≡ text_of (joined ++ line ∷ [])
@@ -508,28 +508,28 @@ text_more joined line =
 
 pub merging_next : (texts : List (LineKind × List ℕ)) (ats after : List Standing)
     (old now new : Option (List ℕ)) (k : ℕ) → IsMerging texts ats old now
-    → IsBelowOthers (map (λ at. at.head) ats) k → IsMovedAt k ats after now new
+    → IsBelowOthers (map (λ at. at.token) ats) k → IsMovedAt k ats after now new
     → IsMerging texts after old new
 merging_next texts ats after old now new k merging least moved =
     let found = part_at texts ats old now merging k moved.was moved.there in
     let part = found.part in
     let parts = merging.parts in
     let token = least.token in
-    let heads = map (λ (at : Standing). at.head) ats in
-    let is : part.at.head ≡ Some token =
-    ap (λ (at : Standing). at.head) found.is ∙ head_at ats k moved.was token moved.there least.there
+    let tokens = map (λ (at : Standing). at.token) ats in
+    let is : part.at.token ≡ Some token =
+    ap (λ (at : Standing). at.token) found.is ∙ head_at ats k moved.was token moved.there least.there
     in
     let going = each_at IsGoing parts k part merging.going found.there in
     let step : IsMoved part.at moved.is = subst (λ at. IsMoved at moved.is)
     (sym found.is) moved.step in
     let next = next_part part token moved.is in
     let line = line_at part.at token in
-    let goes : IsNext parts k heads part token moved.is = record {
+    let goes : IsNext parts k tokens part token moved.is = record {
       there = found.there;
       is = is;
       may = order_next part token moved.is going is step;
       others = least.others;
-      heads_are = heads_of_parts parts ∙ ap (map (λ (at : Standing). at.head)) merging.of_ats;
+      heads_are = heads_of_parts parts ∙ ap (map (λ (at : Standing). at.token)) merging.of_ats;
     } in
     record {
       parts = slice_set parts k next;
@@ -539,13 +539,13 @@ merging_next texts ats after old now new k merging least moved =
           ∙ ap (λ ats. slice_set ats k moved.is) merging.of_ats ∙ sym moved.moved;
       going = each_set IsGoing parts k next merging.going
           (going_next part token moved.is going is step);
-      past = past_next parts k heads part token moved.is goes merging.past;
+      past = past_next parts k tokens part token moved.is goes merging.past;
       joined = merging.joined ++ line ∷ [];
       rise = rise_push Entries merging.joined line merging.rise
           (subst (λ head. AreWritten head merging.joined) is
-          (each_at (λ (part : Part). AreWritten part.at.head merging.joined) parts k part
+          (each_at (λ (part : Part). AreWritten part.at.token merging.joined) parts k part
           merging.below found.there));
-      below = below_next parts k heads part token moved.is merging.joined goes merging.below;
+      below = below_next parts k tokens part token moved.is merging.joined goes merging.below;
       same = λ any. same_next parts k part token moved.is merging.joined any found.there is
           merging.past (merging.same any);
       written = subst (λ text. Appends old new text) (text_more merging.joined line)
@@ -555,7 +555,7 @@ merging_next texts ats after old now new k merging least moved =
 
 -- ---- the end
 texts_done : (parts : List Part) → AllByRecursion IsGoing parts
-    → AllByRecursion (λ part. part.at.head ≡ None) parts
+    → AllByRecursion (λ part. part.at.token ≡ None) parts
     → AllZip IsTextOf (map (λ part. part.text) parts) (map (λ part. part.done) parts)
 texts_done [] going none = tt
 texts_done (part ∷ parts) going none =
@@ -570,30 +570,30 @@ others_all first second others =
     (λ (a : TokenLine). All (λ b. a.token ≢ b.token) second) first
     (λ a each. All-from_recursion (λ b. a.token ≢ b.token) second each) others)
 
-no_head : (ats : List Standing) (k : ℕ) (at : Standing) → IsLeast (map (λ at. at.head) ats) None
-    → slice_get ats k ≡ Some at → at.head ≡ None
-no_head ats k at none is = by_head at.head refl
+no_head : (ats : List Standing) (k : ℕ) (at : Standing) → IsLeast (map (λ at. at.token) ats) None
+    → slice_get ats k ≡ Some at → at.token ≡ None
+no_head ats k at none is = by_head at.token refl
   where
-    by_head : (head : Option Token) → at.head ≡ head → at.head ≡ None
+    by_head : (head : Option Token) → at.token ≡ head → at.token ≡ None
     by_head None same = same
     by_head (Some token) same = absurd (none k token
-        (map_at (λ (at : Standing). at.head) ats k at is ∙ ap (λ head. Some head) same))
+        (map_at (λ (at : Standing). at.token) ats k at is ∙ ap (λ head. Some head) same))
 
 pub merging_end : (texts : List (LineKind × List ℕ)) (ats : List Standing) (old new : Option (List ℕ))
-    → IsMerging texts ats old new → IsLeast (map (λ at. at.head) ats) None
+    → IsMerging texts ats old new → IsLeast (map (λ at. at.token) ats) None
     → (lists : List (List TokenLine)) × (joined : List TokenLine) × AreTexts texts lists
     × IsMergedByToken lists joined × Appends old new (text_of joined)
 merging_end texts ats old new merging none =
     let parts = merging.parts in
     let lists = map (λ (part : Part). part.done) parts in
-    let heads : AllByRecursion (λ part. part.at.head ≡ None) parts =
-    each_by_place (λ (part : Part). part.at.head ≡ None) parts (λ k part is.
+    let tokens : AllByRecursion (λ part. part.at.token ≡ None) parts =
+    each_by_place (λ (part : Part). part.at.token ≡ None) parts (λ k part is.
     no_head ats k part.at none (subst (λ ats. slice_get ats k ≡ Some part.at) merging.of_ats
     (map_at (λ (part : Part). part.at) parts k part is))) in (
       lists,
       merging.joined,
       subst (λ texts. AllZip IsTextOf texts lists) merging.of_texts
-          (texts_done parts merging.going heads),
+          (texts_done parts merging.going tokens),
       record {
         apart = λ a b first second other is also.
             let (p, there, same) = at_map (λ (part : Part). part.done) parts a first is in
@@ -641,13 +641,13 @@ record IsListAt (lists : List (List TokenLine)) (k : ℕ) (token : Token) : Type
 
 line_at_place : (texts : List (LineKind × List ℕ)) (ats : List Standing) (old new : Option (List ℕ))
     → IsMerging texts ats old new → (k : ℕ) (token : Token)
-    → StandsAt (map (λ at. at.head) ats) k token → (lists : List (List TokenLine))
+    → StandsAt (map (λ at. at.token) ats) k token → (lists : List (List TokenLine))
     → AreTexts texts lists → IsListAt lists k token
 line_at_place texts ats old new merging k token stands lists are =
-    let (at, there, same) = at_map (λ (at : Standing). at.head) ats k (Some token) stands in
+    let (at, there, same) = at_map (λ (at : Standing). at.token) ats k (Some token) stands in
     let found = part_at texts ats old new merging k at there in
     let part = found.part in
-    let is : part.at.head ≡ Some token = ap (λ (at : Standing). at.head) found.is ∙ same in
+    let is : part.at.token ≡ Some token = ap (λ (at : Standing). at.token) found.is ∙ same in
     let going = each_at IsGoing merging.parts k part merging.going found.there in
     let (list, listed, text) = list_at merging.parts lists k part
     (subst (λ texts. AllZip IsTextOf texts lists) (sym merging.of_texts) are) found.there in
@@ -663,7 +663,7 @@ line_at_place texts ats old new merging k token stands lists are =
     }
 
 pub merging_twin : (texts : List (LineKind × List ℕ)) (ats : List Standing) (old new : Option (List ℕ))
-    → IsMerging texts ats old new → (k : ℕ) → IsTwin (map (λ at. at.head) ats) k
+    → IsMerging texts ats old new → (k : ℕ) → StandsTwice (map (λ at. at.token) ats) k
     → (lists : List (List TokenLine)) (joined : List TokenLine) → AreTexts texts lists
     → ¬ (IsMergedByToken lists joined)
 merging_twin texts ats old new merging k twin lists joined are is =
@@ -686,13 +686,13 @@ merging_twin texts ats old new merging k twin lists joined are is =
 
 pub merging_stuck : (texts : List (LineKind × List ℕ)) (ats : List Standing)
     (old new : Option (List ℕ))
-    → IsMerging texts ats old new → (k : ℕ) → IsBelowOthers (map (λ at. at.head) ats) k
+    → IsMerging texts ats old new → (k : ℕ) → IsBelowOthers (map (λ at. at.token) ats) k
     → IsStuckAt k ats → (lists : List (List TokenLine)) → ¬ (AreTexts texts lists)
 merging_stuck texts ats old new merging k least stuck lists are =
     let found = part_at texts ats old new merging k stuck.was stuck.there in
     let part = found.part in
-    let is : part.at.head ≡ Some least.token =
-    ap (λ (at : Standing). at.head) found.is
+    let is : part.at.token ≡ Some least.token =
+    ap (λ (at : Standing). at.token) found.is
     ∙ head_at ats k stuck.was least.token stuck.there least.there in
     let going = each_at IsGoing merging.parts k part merging.going found.there in
     let (list, listed, text) = list_at merging.parts lists k part
@@ -700,24 +700,24 @@ merging_stuck texts ats old new merging k least stuck lists are =
     going_stuck part least.token going is (subst IsStuck (sym found.is) stuck.stuck) list text
 
 -- ---- the tokens at which sources stand
-pub heads_are : {R : Type 0} (remaining : R → Option (List ℕ)) (sources : List (LineSource R))
-    → map (λ source. source.head) sources
-    ≡ map (λ (at : Standing). at.head) (map (standing remaining) sources)
+pub heads_are : {R : Type 0} (remaining : R → Option (List ℕ)) (sources : List (OrderedText R))
+    → map (λ source. source.token) sources
+    ≡ map (λ (at : Standing). at.token) (map (standing remaining) sources)
 heads_are remaining [] = refl
 heads_are remaining (source ∷ sources) =
-    ap (λ heads. source.head ∷ heads) (heads_are remaining sources)
+    ap (λ tokens. source.token ∷ tokens) (heads_are remaining sources)
 
-pub least_of : {R : Type 0} (remaining : R → Option (List ℕ)) (sources : List (LineSource R))
-    (heads items : List (Option Token)) (found place : Option ℕ) → heads ≡ items
-    → items ≡ map (λ source. source.head) sources → IsLeast heads found → found ≡ place
-    → IsLeast (map (λ (at : Standing). at.head) (map (standing remaining) sources)) place
-least_of remaining sources heads items found place same are least is =
-    subst (λ heads. IsLeast heads place) (same ∙ are ∙ heads_are remaining sources)
-    (subst (λ found. IsLeast heads found) is least)
+pub least_of : {R : Type 0} (remaining : R → Option (List ℕ)) (sources : List (OrderedText R))
+    (tokens items : List (Option Token)) (found place : Option ℕ) → tokens ≡ items
+    → items ≡ map (λ source. source.token) sources → IsLeast tokens found → found ≡ place
+    → IsLeast (map (λ (at : Standing). at.token) (map (standing remaining) sources)) place
+least_of remaining sources tokens items found place same are least is =
+    subst (λ tokens. IsLeast tokens place) (same ∙ are ∙ heads_are remaining sources)
+    (subst (λ found. IsLeast tokens found) is least)
 
-pub twin_of : {R : Type 0} (remaining : R → Option (List ℕ)) (sources : List (LineSource R))
-    (heads items : List (Option Token)) (place : ℕ) → heads ≡ items
-    → items ≡ map (λ source. source.head) sources → IsTwin heads place
-    → IsTwin (map (λ (at : Standing). at.head) (map (standing remaining) sources)) place
-twin_of remaining sources heads items place same are twin =
-    subst (λ heads. IsTwin heads place) (same ∙ are ∙ heads_are remaining sources) twin
+pub twin_of : {R : Type 0} (remaining : R → Option (List ℕ)) (sources : List (OrderedText R))
+    (tokens items : List (Option Token)) (place : ℕ) → tokens ≡ items
+    → items ≡ map (λ source. source.token) sources → StandsTwice tokens place
+    → StandsTwice (map (λ (at : Standing). at.token) (map (standing remaining) sources)) place
+twin_of remaining sources tokens items place same are twin =
+    subst (λ tokens. StandsTwice tokens place) (same ∙ are ∙ heads_are remaining sources) twin

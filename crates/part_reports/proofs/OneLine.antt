@@ -14,13 +14,13 @@ use Rattle.std.proofs.lemmas.List.Elements.{All-append, All-from_recursion, All-
 use Rattle.std.proofs.lemmas.List.Elements.{recursion_from_All}
 use Rattle.hex.specs.Hex.{encode_lower, encode_with, lower_digits}
 use Rattle.fare_table.specs.Token.{bytes_of}
-use Rattle.fare_texts.specs.Counts.{counts, totals_line}
+use Rattle.fare_texts.specs.Counts.{counts_text, totals_line}
 use Rattle.shard_book.specs.Sums.{Sums}
 use Rattle.fare_table.specs.declared.token.Token.{Token}
 use Rattle.part_reports.specs.Lines.{AreCounts, End, IsUploadEnd, IsNoneOrFault, IsTokenSum}
 use Rattle.part_reports.specs.Lines.{IsValidatorSum}
-use Rattle.fare_texts.specs.SumLines.{token_line, validator_line}
-use Rattle.part_reports.specs.Lines.{end_line, end_words, number_line}
+use Rattle.fare_texts.specs.ReportLines.{number_line, token_line, validator_line}
+use Rattle.part_reports.specs.Lines.{end_line, end_words}
 use Rattle.part_reports.specs.Ledgers.{IsLedgerEntryLine}
 use Rattle.part_reports.specs.TokenLines.{TokenLine}
 use Rattle.part_reports.proofs.Counts.{counts_read, taps_counted, paid_counted, transfers_counted}
@@ -197,7 +197,7 @@ end_line_is_one number end small fits =
     longer (codes "upload ") _ (tested (codes "upload ") refl) (counted number _ small
     (end_text_is_one end.taps end.fault fits.taps fits.fault))
 
-counts_are_one : (t : Sums) → AreCounts t → IsOneLine (counts t)
+counts_are_one : (t : Sums) → AreCounts t → IsOneLine (counts_text t)
 counts_are_one t fits =
     subst IsOneLine (sym (counts_read t))
     (longer (codes "taps ") _ (tested (codes "taps ") refl)

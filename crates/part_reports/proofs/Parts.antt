@@ -9,9 +9,9 @@ use Rattle.std.proofs.lemmas.List.Concat.{flat_map-append}
 use Rattle.fare_table.specs.declared.token.Token.{Token}
 use Rattle.part_reports.specs.TokenLines.{TokenLine, text_of}
 use Rattle.part_reports.specs.inside.Kinds.{AreLines, IsTextOf}
-use Rattle.part_reports.specs.inside.Sources.{IsAtEnd, IsAtLine, IsBehindOne, IsLineOfKind, IsMoved}
-use Rattle.part_reports.specs.inside.Sources.{IsSource, IsSourceAt, IsStuck, MayEnd, MayFollow}
-use Rattle.part_reports.specs.inside.Sources.{MayFollowAll, MayFollowHead, Standing}
+use Rattle.part_reports.specs.inside.Standings.{IsAtEnd, IsAtLine, IsBehindOne, IsLineOfKind, IsMoved}
+use Rattle.part_reports.specs.inside.Standings.{StandsInText, StandsInTextAt, IsStuck, MayEnd, MayFollow}
+use Rattle.part_reports.specs.inside.Standings.{MayFollowAll, MayFollowToken, Standing}
 use Rattle.part_reports.specs.declared.merging.LineKind.{LineKind}
 use Rattle.part_reports.specs.declared.merging.LineKind.TheVariants.{Tokens, Entries}
 use Rattle.part_reports.proofs.Orders.{may_follow_trans}
@@ -106,12 +106,12 @@ line_at at token = record { token = token; text = at.line }
 pub record IsGoing (part : Part) : Type 0 where
   pub kind : LineKind
   pub left : List ℕ
-  pub source : IsSource (kind, left) part.at
+  pub source : StandsInText (kind, left) part.at
   pub behind : IsBehindSo part.text.0 kind (length part.done)
   pub shown : part.text.1 ≡ text_of part.done ++ left
   pub each : AllByRecursion (IsLineOfKind part.text.0) part.done
   pub rise : Rise part.text.0 part.done
-  pub below : IfSome part.at.head
+  pub below : IfSome part.at.token
       (λ token. AllByRecursion (λ line. MayFollow part.text.0 line.token token) part.done)
 
 nothing_below : (kind : LineKind) (head : Option Token)
@@ -120,7 +120,7 @@ nothing_below : (kind : LineKind) (head : Option Token)
 nothing_below kind None = tt
 nothing_below kind (Some token) = tt
 
-pub going_first : (text : LineKind × List ℕ) (at : Standing) → IsSource text at
+pub going_first : (text : LineKind × List ℕ) (at : Standing) → StandsInText text at
     → IsGoing (record { text = text; at = at; done = [] })
 going_first text at source = record {
   kind = text.0;
@@ -130,16 +130,16 @@ going_first text at source = record {
   shown = refl;
   each = tt;
   rise = tt;
-  below = nothing_below text.0 at.head;
+  below = nothing_below text.0 at.token;
 }
 
 -- the source stands at a line, if it has a token
-pub here : (part : Part) (token : Token) → (going : IsGoing part) → part.at.head ≡ Some token
+pub here : (part : Part) (token : Token) → (going : IsGoing part) → part.at.token ≡ Some token
     → IsAtLine (going.kind, going.left) part.at token
 here part token going is =
-    subst (λ head. IsSourceAt (going.kind, going.left) part.at head) is going.source
+    subst (λ head. StandsInTextAt (going.kind, going.left) part.at head) is going.source
 
-below_here : (part : Part) (token : Token) → IsGoing part → part.at.head ≡ Some token
+below_here : (part : Part) (token : Token) → IsGoing part → part.at.token ≡ Some token
     → AllByRecursion (λ line. MayFollow part.text.0 line.token token) part.done
 below_here part token going is = subst (λ head. IfSome head
     (λ token. AllByRecursion (λ line. MayFollow part.text.0 line.token token) part.done)) is
@@ -154,7 +154,7 @@ one_text line done rest =
 
 -- what was written, with the line at which the source stands
 pub shown_here : (part : Part) (token : Token) → (going : IsGoing part)
-    → (is : part.at.head ≡ Some token) → part.text.1
+    → (is : part.at.token ≡ Some token) → part.text.1
     ≡ text_of (part.done ++ line_at part.at token ∷ []) ++ (here part token going is).rest
 shown_here part token going is =
     going.shown ∙ ap (λ text. text_of part.done ++ text) (here part token going is).shown
@@ -162,7 +162,7 @@ shown_here part token going is =
 
 next_below : (kind : LineKind) (before : Token) (head : Option Token) (lines : List TokenLine)
     → AllByRecursion (λ line. MayFollow kind line.token before) lines
-    → MayFollowHead kind (Some before) head
+    → MayFollowToken kind (Some before) head
     → IfSome head (λ token. AllByRecursion (λ line. MayFollow kind line.token token) lines)
 next_below kind before None lines below may = tt
 next_below kind before (Some token) lines below may =
@@ -170,7 +170,7 @@ next_below kind before (Some token) lines below may =
     lines (λ line first. may_follow_trans kind line.token before token first may) below
 
 itself_below : (kind : LineKind) (line : TokenLine) (head : Option Token)
-    (lines : List TokenLine) → MayFollowHead kind (Some line.token) head
+    (lines : List TokenLine) → MayFollowToken kind (Some line.token) head
     → IfSome head (λ token. AllByRecursion (λ line. MayFollow kind line.token token) lines)
     → IfSome head
     (λ token. AllByRecursion (λ line. MayFollow kind line.token token) (lines ++ line ∷ []))
@@ -179,8 +179,8 @@ itself_below kind line (Some token) lines may below =
     each_push (λ line. MayFollow kind line.token token) lines line below may
 
 head_like : (all kind : LineKind) (count : ℕ) (before : Token) (head : Option Token)
-    → IsBehindSo all kind count → MayFollowHead kind (Some before) head
-    → MayFollowHead all (Some before) head
+    → IsBehindSo all kind count → MayFollowToken kind (Some before) head
+    → MayFollowToken all (Some before) head
 head_like all kind count before None is may = tt
 head_like all kind count before (Some token) is may = like_order all kind count before token is may
 
@@ -193,16 +193,16 @@ next_part part token after = record {
 }
 
 pub order_next : (part : Part) (token : Token) (after : Standing) → IsGoing part
-    → part.at.head ≡ Some token → IsMoved part.at after
-    → MayFollowHead part.text.0 (Some token) after.head
+    → part.at.token ≡ Some token → IsMoved part.at after
+    → MayFollowToken part.text.0 (Some token) after.token
 order_next part token after going is moved =
     let at = here part token going is in
-    head_like part.text.0 part.at.behind (length part.done + 1) token after.head
+    head_like part.text.0 part.at.behind (length part.done + 1) token after.token
     (one_behind part.text.0 going.kind part.at.behind (length part.done) going.behind at.behind)
-    (subst (λ head. MayFollowHead part.at.behind head after.head) is moved.order)
+    (subst (λ head. MayFollowToken part.at.behind head after.token) is moved.order)
 
 pub going_next : (part : Part) (token : Token) (after : Standing) → IsGoing part
-    → part.at.head ≡ Some token → IsMoved part.at after → IsGoing (next_part part token after)
+    → part.at.token ≡ Some token → IsMoved part.at after → IsGoing (next_part part token after)
 going_next part token after going is moved =
     let at = here part token going is in
     let line = line_at part.at token in
@@ -213,7 +213,7 @@ going_next part token after going is moved =
     record {
       kind = part.at.behind;
       left = at.rest;
-      source = subst (λ left. IfSome left (λ text. IsSource (part.at.behind, text) after)) at.left
+      source = subst (λ left. IfSome left (λ text. StandsInText (part.at.behind, text) after)) at.left
           moved.read;
       behind = subst (λ n. IsBehindSo part.text.0 part.at.behind n)
           (sym (length_push part.done line)) behind;
@@ -221,15 +221,15 @@ going_next part token after going is moved =
       each = each_push (IsLineOfKind part.text.0) part.done line going.each
           (like_line part.text.0 going.kind (length part.done) line going.behind at.line);
       rise = rise_push part.text.0 part.done line going.rise below;
-      below = itself_below part.text.0 line after.head part.done may
-          (next_below part.text.0 token after.head part.done below may);
+      below = itself_below part.text.0 line after.token part.done may
+          (next_below part.text.0 token after.token part.done below may);
     }
 
 -- at the end the lines that were written are those of the text
-pub going_end : (part : Part) → IsGoing part → part.at.head ≡ None → IsTextOf part.text part.done
+pub going_end : (part : Part) → IsGoing part → part.at.token ≡ None → IsTextOf part.text part.done
 going_end part going is =
     let end : IsAtEnd (going.kind, going.left) =
-    subst (λ head. IsSourceAt (going.kind, going.left) part.at head) is going.source in (
+    subst (λ head. StandsInTextAt (going.kind, going.left) part.at head) is going.source in (
       lines_from part.text.0 part.done
           (all_done part.text.0 going.kind (length part.done) going.behind end.may) going.each
           going.rise,
@@ -240,7 +240,7 @@ going_end part going is =
 -- the lines of the text, whatever they are, begin with those that were written and the one at which
 -- the source stands
 pub going_line : (part : Part) (token : Token) → (going : IsGoing part)
-    → (is : part.at.head ≡ Some token) → (list : List TokenLine) → IsTextOf part.text list
+    → (is : part.at.token ≡ Some token) → (list : List TokenLine) → IsTextOf part.text list
     → (more : List TokenLine) × (list ≡ (part.done ++ line_at part.at token ∷ []) ++ more)
     × (text_of more ≡ (here part token going is).rest)
 going_line part token going is list text =
@@ -252,7 +252,7 @@ going_line part token going is list text =
     (lines_each part.text.0 list text.0) (sym text.1 ∙ shown_here part token going is)
 
 -- a source that is stuck has no such lines
-pub going_stuck : (part : Part) (token : Token) → IsGoing part → part.at.head ≡ Some token
+pub going_stuck : (part : Part) (token : Token) → IsGoing part → part.at.token ≡ Some token
     → IsStuck part.at → (list : List TokenLine) → ¬ (IsTextOf part.text list)
 going_stuck part token going is stuck list text =
     let at = here part token going is in
@@ -280,9 +280,9 @@ going_stuck part token going is stuck list text =
     rest_may part.text.0 part.at.behind (length part.done + 1) token more behind
     (rise_middle part.text.0 part.done line more rise) in
     let no : (list : List TokenLine) → IsTextOf (part.at.behind, at.rest) list
-    → IfSome part.at.head (λ token. ¬ (MayFollowAll part.at.behind token list)) =
+    → IfSome part.at.token (λ token. ¬ (MayFollowAll part.at.behind token list)) =
     subst (λ left. IfSome left
     (λ text. (list : List TokenLine) → IsTextOf (part.at.behind, text) list
-    → IfSome part.at.head (λ token. ¬ (MayFollowAll part.at.behind token list)))) at.left stuck in
+    → IfSome part.at.token (λ token. ¬ (MayFollowAll part.at.behind token list)))) at.left stuck in
     subst (λ head. IfSome head (λ token. ¬ (MayFollowAll part.at.behind token more))) is
     (no more (lines, sym rest)) may

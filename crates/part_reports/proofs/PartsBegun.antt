@@ -15,10 +15,10 @@ use Rattle.part_reports.specs.Texts.{AreLeft}
 use Rattle.part_reports.specs.TokenLines.{TokenLine}
 use Rattle.part_reports.specs.inside.Fronts.{IsFront, MayBePart, ToldFront, told_text}
 use Rattle.part_reports.specs.inside.Kinds.{IsTextOf}
-use Rattle.part_reports.specs.inside.Parts.{AreParts, Begun, IsNoPart, IsPart, begun_text}
+use Rattle.part_reports.specs.inside.Parts.{AreParts, BegunReport, IsNoPart, IsPart, begun_text}
 use Rattle.part_reports.specs.inside.Parts.{left_text}
 use Rattle.part_reports.specs.inside.LinesRead.{IsRead}
-use Rattle.part_reports.specs.inside.Sources.{IsSource, Standing}
+use Rattle.part_reports.specs.inside.Standings.{StandsInText, Standing}
 use Rattle.part_reports.specs.inside.Sums.{AreFew, AreFrontsCounted, WithFront}
 use Rattle.part_reports.proofs.TextsRead.{no_files, split}
 use Rattle.part_reports.proofs.Unique.{number_line_unique, totals_line_unique}
@@ -91,18 +91,18 @@ no_lines before (Some file) now front fault read none_there =
 pub is_part : (before after : WholeSums) (file now : Option (List ℕ)) (front : Front)
     (at : Standing)
     → FrontRead file now (Ok front) → WithFront before after front true
-    → IfSome now (λ left. IsSource (Tokens front.tokens, left) at)
+    → IfSome now (λ left. StandsInText (Tokens front.tokens, left) at)
     → IfSome file (λ file. IsPart before after file at)
 is_part before after None now front at read added stands = tt
 is_part before after (Some file) now front at read added stands =
-    let here = subst (λ now. IfSome now (λ left. IsSource (Tokens front.tokens, left) at)) read.left
+    let here = subst (λ now. IfSome now (λ left. StandsInText (Tokens front.tokens, left) at)) read.left
     stands in
     record {
       begun = (read.value, read.rest);
       may = read.may;
       shown = read.shown;
       added = λ fronts counted. added fronts read.value counted read.is;
-      stands = subst (λ n. IsSource (Tokens n, read.rest) at) read.is.tokens here;
+      stands = subst (λ n. StandsInText (Tokens n, read.rest) at) read.is.tokens here;
     }
 
 -- ---- report after report
@@ -118,14 +118,14 @@ begun_none remaining sums sources counted none files are =
     record {
       begun = [];
       shown = no_text;
-      may = All-nil (λ (one : Begun). MayBePart one.0);
+      may = All-nil (λ (one : BegunReport). MayBePart one.0);
       counted = counted;
-      stand = subst (λ sources. AllZip IsSource [] sources) (sym none) tt;
+      stand = subst (λ sources. AllZip StandsInText [] sources) (sym none) tt;
     }
 
 zip_push : (texts : List (LineKind × List ℕ)) (ats : List Standing) (text : LineKind × List ℕ)
-    (at : Standing) → AllZip IsSource texts ats → IsSource text at
-    → AllZip IsSource (texts ++ text ∷ []) (ats ++ at ∷ [])
+    (at : Standing) → AllZip StandsInText texts ats → StandsInText text at
+    → AllZip StandsInText (texts ++ text ∷ []) (ats ++ at ∷ [])
 zip_push [] [] text at all one = (one, tt)
 zip_push [] (b ∷ ats) text at all one = absurd all
 zip_push (a ∷ texts) [] text at all one = absurd all
@@ -148,13 +148,13 @@ begun_more remaining readers x before after sources all at all_is so_far part fi
           ∙ ap (λ some. some ++ parts.file ∷ []) done.shown
           ∙ ap (λ file. map begun_text done.begun ++ file ∷ []) here.shown
           ∙ sym (map-append begun_text done.begun (here.begun ∷ []));
-      may = All-push (λ (one : Begun). MayBePart one.0) done.begun here.begun done.may here.may;
+      may = All-push (λ (one : BegunReport). MayBePart one.0) done.begun here.begun done.may here.may;
       counted = subst (λ fronts. AreFrontsCounted after fronts)
-          (sym (map-append (λ (one : Begun). one.0) done.begun (here.begun ∷ [])))
+          (sym (map-append (λ (one : BegunReport). one.0) done.begun (here.begun ∷ [])))
           (here.added (map (λ one. one.0) done.begun) done.counted);
-      stand = subst (λ sources. AllZip IsSource (map left_text (done.begun ++ here.begun ∷ []))
+      stand = subst (λ sources. AllZip StandsInText (map left_text (done.begun ++ here.begun ∷ []))
           sources) (sym all_is)
-          (subst (λ texts. AllZip IsSource texts (sources ++ at ∷ []))
+          (subst (λ texts. AllZip StandsInText texts (sources ++ at ∷ []))
           (sym (map-append left_text done.begun (here.begun ∷ [])))
           (zip_push (map left_text done.begun) sources (left_text here.begun) at done.stand
           here.stands));

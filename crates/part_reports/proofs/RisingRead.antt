@@ -13,7 +13,7 @@ use Rattle.shard_book.specs.Sums.{Sums}
 use Rattle.shard_book.specs.declared.sums.ValidatorSum.{ValidatorSum}
 use Rattle.part_reports.specs.declared.fault.MergeFault.{MergeFault}
 use Rattle.part_reports.specs.Faults.{IsOfTexts}
-use Rattle.fare_texts.specs.SumLines.{validator_line}
+use Rattle.fare_texts.specs.ReportLines.{validator_line}
 use Rattle.part_reports.specs.Lines.{IsValidatorSum}
 use Rattle.part_reports.specs.inside.Fronts.{AreRising, MayFollowValidators}
 use Rattle.part_reports.specs.inside.LinesRead.{IsRead}

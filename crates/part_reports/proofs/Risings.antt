@@ -12,7 +12,7 @@ use Rattle.fare_table.specs.declared.token.Token.{Token}
 use Rattle.part_reports.specs.Ledgers.{IsLedgerEntryLine}
 use Rattle.part_reports.specs.TokenLines.{DoNotFall, TokenLine, text_of}
 use Rattle.part_reports.specs.inside.Kinds.{AreLines, IsSumLine}
-use Rattle.part_reports.specs.inside.Sources.{IsLineOfKind, MayFollow, MayFollowAll}
+use Rattle.part_reports.specs.inside.Standings.{IsLineOfKind, MayFollow, MayFollowAll}
 use Rattle.part_reports.specs.declared.merging.LineKind.{LineKind}
 use Rattle.part_reports.specs.declared.merging.LineKind.TheVariants.{Tokens, Entries}
 use Rattle.part_reports.proofs.Firsts.{line_is_some, line_unique}

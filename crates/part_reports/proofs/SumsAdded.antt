@@ -21,7 +21,7 @@ use Rattle.part_reports.specs.Reports.{sums_of_validator}
 use Rattle.part_reports.specs.declared.front.Front.{Front}
 use Rattle.part_reports.specs.declared.sums.WholeSums.{WholeSums}
 use Rattle.part_reports.specs.inside.Fronts.{IsFront, ToldFront}
-use Rattle.part_reports.specs.inside.Sums.{AreFew, AreOf, AreSmall, AreFrontsCounted, WithFront, WithOne}
+use Rattle.part_reports.specs.inside.Sums.{AreFew, AreSumsOf, AreSmall, AreFrontsCounted, WithFront, WithOne}
 use Rattle.part_reports.specs.inside.Sums.{WithValidators, or_nothing, sums_found}
 use Rattle.std.proofs.lemmas.List.Concat.{flat_map-append}
 use Rattle.std.proofs.lemmas.List.Sums.{sum_by-append}
@@ -243,11 +243,11 @@ small_front some more small q = let whole = small q in let parts = taps_joined q
 
 -- the map has the sums of the first of some validators, beside those that it had
 abbrev pub WithFirst : BTreeMap ℕ Totals → BTreeMap ℕ Totals → List ValidatorSum → Type 0
-WithFirst before now some = (list : List (ℕ × Sums)) → AreOf before list
-    → AreOf now (list ++ map validator_sum some)
+WithFirst before now some = (list : List (ℕ × Sums)) → AreSumsOf before list
+    → AreSumsOf now (list ++ map validator_sum some)
 
 pub first_none : (before : BTreeMap ℕ Totals) → WithFirst before before []
-first_none before list are = subst (λ list. AreOf before list) (sym (append-nil list)) are
+first_none before list are = subst (λ list. AreSumsOf before list) (sym (append-nil list)) are
 
 one_more : (list : List (ℕ × Sums)) (some : List ValidatorSum) (sum : ValidatorSum)
     → (list ++ map validator_sum some) ++ validator_sum sum ∷ [] ≡ list ++ map validator_sum
@@ -261,8 +261,8 @@ pub first_more : (before now after : BTreeMap ℕ Totals) (all : List ValidatorS
     → WithFirst before after (take (i + 1) all)
 first_more before now after all i sum within is so_far one list are =
     let taken : take (i + 1) all ≡ take i all ++ sum ∷ [] = taken_more all i sum within is in
-    subst (λ some. AreOf after (list ++ map validator_sum some)) (sym taken)
-    (subst (λ list. AreOf after list) (one_more list (take i all) sum)
+    subst (λ some. AreSumsOf after (list ++ map validator_sum some)) (sym taken)
+    (subst (λ list. AreSumsOf after list) (one_more list (take i all) sum)
     (one (list ++ map validator_sum (take i all)) (so_far list are)))
   where
     taken_more : (all : List ValidatorSum) (i : ℕ) (sum : ValidatorSum) → i < length all
@@ -274,7 +274,7 @@ first_more before now after all i sum within is so_far one list are =
 pub first_all : (before now : BTreeMap ℕ Totals) (all : List ValidatorSum) (i : ℕ) → length all ≤ i
     → WithFirst before now (take i all) → WithValidators before now all true
 first_all before now all i over so_far list are =
-    subst (λ some. AreOf now (list ++ map validator_sum some)) (take_all i all over)
+    subst (λ some. AreSumsOf now (list ++ map validator_sum some)) (take_all i all over)
     (so_far list are)
 
 pub first_full : (before now after : BTreeMap ℕ Totals) (all : List ValidatorSum) (i : ℕ)
@@ -343,7 +343,7 @@ front_added before after front fronts told tokens totals validators counted is =
     record {
       totals = totals ∙ ap (λ s. add_sums s (sums_of front.totals)) counted.totals
           ∙ ap (add_sums (totals_in fronts)) is.totals ∙ sym (totals_more fronts told);
-      validators = subst (λ list. AreOf after.validators list)
+      validators = subst (λ list. AreSumsOf after.validators list)
           (ap (λ more. validators_in fronts ++ more) is.validators
           ∙ sym (validators_more fronts told))
           (validators (validators_in fronts) counted.validators);

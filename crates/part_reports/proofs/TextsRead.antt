@@ -12,9 +12,9 @@ use Rattle.part_reports.specs.declared.fault.MergeFault.{MergeFault}
 use Rattle.part_reports.specs.declared.upload_ends.UploadEnds.{UploadEnds}
 use Rattle.part_reports.specs.Faults.{IsOfTexts}
 use Rattle.part_reports.specs.Lines.{End, IsUploadEnd, end_line, end_lines}
-use Rattle.part_reports.specs.Reports.{end_texts, joined_ends}
+use Rattle.part_reports.specs.Reports.{end_texts, all_ends}
 use Rattle.part_reports.specs.Texts.{AreLeft}
-use Rattle.part_reports.specs.inside.UploadEnds.{Have, AreEndsAdded, More}
+use Rattle.part_reports.specs.inside.UploadEnds.{HaveReadEnds, AreEndsAdded, HaveMoreEnds}
 use Rattle.part_reports.proofs.EndsRead.{All-behind, All-front, some_line}
 use Rattle.part_reports.proofs.Unique.{end_line_unique}
 
@@ -94,46 +94,46 @@ lines_whole number (a ∷ more) (b ∷ bs) may may_too same =
 
 -- the text behind some texts of ends is one of ends
 texts_at : (first : ℕ) (before lists : List (List End)) (file : List ℕ) (after : List (List ℕ))
-    → All IsUploadEnd (joined_ends before) → All IsUploadEnd (joined_ends lists)
+    → All IsUploadEnd (all_ends before) → All IsUploadEnd (all_ends lists)
     → end_texts first before ++ file ∷ after ≡ end_texts first lists
-    → (ends : List End) × All IsUploadEnd ends × (file ≡ end_lines (first + length (joined_ends before))
+    → (ends : List End) × All IsUploadEnd ends × (file ≡ end_lines (first + length (all_ends before))
     ends)
 texts_at first [] [] file after may may_too same = absurd (cc)
 texts_at first [] (ends ∷ lists) file after may may_too same =
     let at : first ≡ first + 0 = omega arith in
     let is : file ≡ end_lines first ends = cc in
-    (ends, All-front IsUploadEnd ends (joined_ends lists) may_too, is ∙ ap (λ k. end_lines k ends) at)
+    (ends, All-front IsUploadEnd ends (all_ends lists) may_too, is ∙ ap (λ k. end_lines k ends) at)
 texts_at first (some ∷ before) [] file after may may_too same = absurd (cc)
 texts_at first (some ∷ before) (ends ∷ lists) file after may may_too same =
     let head : end_lines first some ≡ end_lines first ends = cc in
     let is : some ≡ ends = lines_whole first some ends
-    (All-front IsUploadEnd some (joined_ends before) may)
-    (All-front IsUploadEnd ends (joined_ends lists) may_too) head in
+    (All-front IsUploadEnd some (all_ends before) may)
+    (All-front IsUploadEnd ends (all_ends lists) may_too) head in
     let tail : end_texts (first + length some) before ++ file ∷ after ≡ end_texts
     (first + length ends) lists = cc in
     let next = texts_at (first + length some) before lists file after
-    (All-behind IsUploadEnd some (joined_ends before) may)
-    (All-behind IsUploadEnd ends (joined_ends lists) may_too)
+    (All-behind IsUploadEnd some (all_ends before) may)
+    (All-behind IsUploadEnd ends (all_ends lists) may_too)
     (tail ∙ ap (λ (x : List End). end_texts (first + length x) lists) (sym is)) in
-    let at : first + length some + length (joined_ends before) ≡ first + length
-    (some ++ joined_ends before) = simp length-append (omega arith) in
+    let at : first + length some + length (all_ends before) ≡ first + length
+    (some ++ all_ends before) = simp length-append (omega arith) in
     (next.0, next.1, next.2 ∙ ap (λ k. end_lines k next.0) at)
 
 texts_more : (first : ℕ) (lists : List (List End)) (ends : List End)
     → end_texts first (lists ++ ends ∷ []) ≡ end_texts first lists ++ end_lines
-    (first + length (joined_ends lists)) ends ∷ []
+    (first + length (all_ends lists)) ends ∷ []
 texts_more first [] ends = let at : first ≡ first + 0 = omega arith in
     ap (λ k. end_lines k ends ∷ []) at
 texts_more first (some ∷ lists) ends =
-    let at : first + length some + length (joined_ends lists) ≡ first + length
-    (some ++ joined_ends lists) = simp length-append (omega arith) in
+    let at : first + length some + length (all_ends lists) ≡ first + length
+    (some ++ all_ends lists) = simp length-append (omega arith) in
     ap (λ more. end_lines first some ∷ more) (texts_more (first + length some) lists ends
     ∙ ap (λ k. end_texts (first + length some) lists ++ end_lines k ends ∷ []) at)
 
 joined_more : (lists : List (List End)) (ends : List End)
-    → joined_ends (lists ++ ends ∷ []) ≡ joined_ends lists ++ ends
+    → all_ends (lists ++ ends ∷ []) ≡ all_ends lists ++ ends
 joined_more lists ends = flat_map-append (λ (some : List End). some) lists (ends ∷ [])
-    ∙ ap (λ more. joined_ends lists ++ more) (append-nil ends)
+    ∙ ap (λ more. all_ends lists ++ more) (append-nil ends)
 
 end_lines_joined : (first : ℕ) (some more : List End)
     → end_lines first (some ++ more) ≡ end_lines first some ++ end_lines (first + length some) more
@@ -147,7 +147,7 @@ end_lines_joined first (end ∷ some) more =
     (end_lines (first + suc (length some)) more))
 
 pub have_none : (ends : UploadEnds) → ends.text.items ≡ [] → ends.uploads ≡ 0 → ends.taps ≡ 0
-    → IsTrue ends.are_posted → Have ends []
+    → IsTrue ends.are_posted → HaveReadEnds ends []
 have_none ends text uploads taps posted = record {
   text = text;
   uploads = uploads;
@@ -156,8 +156,8 @@ have_none ends text uploads taps posted = record {
   each = All-nil IsUploadEnd;
 }
 
-have_more : (before after : UploadEnds) (list more : List End) → Have before list → More before after more
-    → Have after (list ++ more)
+have_more : (before after : UploadEnds) (list more : List End) → HaveReadEnds before list → HaveMoreEnds before after more
+    → HaveReadEnds after (list ++ more)
 have_more before after list more have is =
     let sums = sum_by-append (λ (end : End). end.taps) list more in
     let taps = have.taps in
@@ -183,9 +183,9 @@ have_more before after list more have is =
 -- the texts of these readers tell ends, which were added up
 abbrev pub AreRead : {R : Type 0} → (R → Option (List ℕ)) → List R → UploadEnds → Type 0
 AreRead remaining readers ends = (files : List (List ℕ)) → AreLeft remaining readers files
-    → (lists : List (List End)) × (files ≡ end_texts 0 lists) × Have ends (joined_ends lists)
+    → (lists : List (List End)) × (files ≡ end_texts 0 lists) × HaveReadEnds ends (all_ends lists)
 
-pub read_none : {R : Type 0} (remaining : R → Option (List ℕ)) (ends : UploadEnds) → Have ends []
+pub read_none : {R : Type 0} (remaining : R → Option (List ℕ)) (ends : UploadEnds) → HaveReadEnds ends []
     → AreRead remaining [] ends
 read_none remaining ends have [] are = ([], refl, have)
 read_none remaining ends have (file ∷ files) are = absurd (cc)
@@ -204,15 +204,15 @@ read_next remaining readers x before after read added files are =
     let so_far = read parts.before parts.front_is in
     let here = subst (λ left. AreEndsAdded before after left (Ok tt)) parts.here added in
     let none : parts.after ≡ [] = no_files remaining parts.after parts.back_is in
-    let at : before.uploads ≡ 0 + length (joined_ends so_far.0) =
+    let at : before.uploads ≡ 0 + length (all_ends so_far.0) =
     omega (arith, so_far.2.uploads) in (
       so_far.0 ++ here.0 ∷ [],
       parts.is ∙ ap (λ more. parts.before ++ parts.file ∷ more) none
           ∙ ap (λ file. parts.before ++ file ∷ []) (here.2 ∙ ap (λ k. end_lines k here.0) at)
-          ∙ ap (λ some. some ++ end_lines (0 + length (joined_ends so_far.0)) here.0 ∷ []) so_far.1
+          ∙ ap (λ some. some ++ end_lines (0 + length (all_ends so_far.0)) here.0 ∷ []) so_far.1
           ∙ sym (texts_more 0 so_far.0 here.0),
-      subst (λ list. Have after list) (sym (joined_more so_far.0 here.0))
-          (have_more before after (joined_ends so_far.0) here.0 so_far.2 here.1),
+      subst (λ list. HaveReadEnds after list) (sym (joined_more so_far.0 here.0))
+          (have_more before after (all_ends so_far.0) here.0 so_far.2 here.1),
     )
 
 -- a text that tells no ends
@@ -223,7 +223,7 @@ pub read_refused : {R : Type 0} (remaining : R → Option (List ℕ)) (items rea
     → AreRead remaining readers before → AreEndsAdded before after (remaining x) (Err fault)
     → IsOfTexts fault
     → (files : List (List ℕ)) → AreLeft remaining items files → (lists : List (List End))
-    → All IsUploadEnd (joined_ends lists) → ¬ (files ≡ end_texts 0 lists)
+    → All IsUploadEnd (all_ends lists) → ¬ (files ≡ end_texts 0 lists)
 read_refused remaining items readers x before after fault front within here read added of_texts
     files are lists may told =
     let all = behind_front items readers x front within here in
@@ -234,5 +234,5 @@ read_refused remaining items readers x before after fault front within here read
     in
     let next = texts_at 0 so_far.0 lists parts.file parts.after so_far.2.each may
     (ap (λ some. some ++ parts.file ∷ parts.after) (sym so_far.1) ∙ sym parts.is ∙ told) in
-    let at : 0 + length (joined_ends so_far.0) ≡ before.uploads = omega (arith, so_far.2.uploads) in
+    let at : 0 + length (all_ends so_far.0) ≡ before.uploads = omega (arith, so_far.2.uploads) in
     no_ends next.0 next.1 (next.2 ∙ ap (λ k. end_lines k next.0) at)

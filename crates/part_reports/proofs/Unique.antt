@@ -7,13 +7,13 @@ use Rattle.std.specs.Fmt.{decimal}
 use Rattle.std.proofs.lemmas.List.{append_cancel_left}
 use Rattle.hex.specs.Hex.{encode_lower}
 use Rattle.fare_table.specs.Token.{bytes_of}
-use Rattle.fare_texts.specs.Counts.{counts, totals_line}
+use Rattle.fare_texts.specs.Counts.{counts_text, totals_line}
 use Rattle.shard_book.specs.Sums.{Sums}
 use Rattle.fare_table.specs.declared.token.Token.{Token}
 use Rattle.part_reports.specs.Lines.{AreCounts, End, IsUploadEnd, IsNoneOrFault, IsTokenSum}
 use Rattle.part_reports.specs.Lines.{IsValidatorSum}
-use Rattle.fare_texts.specs.SumLines.{token_line, validator_line}
-use Rattle.part_reports.specs.Lines.{end_line, end_words, number_line}
+use Rattle.fare_texts.specs.ReportLines.{number_line, token_line, validator_line}
+use Rattle.part_reports.specs.Lines.{end_line, end_words}
 use Rattle.part_reports.specs.Ledgers.{IsLedgerEntryLine}
 use Rattle.part_reports.specs.TokenLines.{TokenLine}
 use Rattle.part_reports.specs.inside.Counted.{IsCounted}
@@ -105,7 +105,7 @@ end_line_unique number a b x y fits fits_too is =
 
 -- the counts with a rest behind them
 counts_line_unique : (a b : Sums) (x y : List ℕ) → AreCounts a → AreCounts b
-    → counts a ++ x ≡ counts b ++ y → (a ≡ b) × (x ≡ y)
+    → counts_text a ++ x ≡ counts_text b ++ y → (a ≡ b) × (x ≡ y)
 counts_line_unique a b x y fits fits_too is =
     counts_unique a b x y fits fits_too (sym (counts_spelt a x) ∙ is ∙ counts_spelt b y)
 
@@ -113,16 +113,16 @@ pub totals_line_unique : (a b : Sums) (x y : List ℕ) → AreCounts a → AreCo
     → totals_line a ++ x ≡ totals_line b ++ y → (a ≡ b) × (x ≡ y)
 totals_line_unique a b x y fits fits_too is =
     counts_line_unique a b x y fits fits_too
-    (append_cancel_left (codes "totals ") (counts a ++ x) (counts b ++ y) is)
+    (append_cancel_left (codes "totals ") (counts_text a ++ x) (counts_text b ++ y) is)
 
 validator_counted : (sum : ℕ × Sums) (x : List ℕ) → IsValidatorSum sum
     → IsCounted (validator_line sum ++ x) (codes "validator ") sum.0
-    (codes " " ++ (counts sum.1 ++ x))
+    (codes " " ++ (counts_text sum.1 ++ x))
 validator_counted sum x fits = record {
   small = omega (arith, fits.validator);
   ends = refl;
   shown = ap (λ (t : List ℕ). codes "validator " ++ t)
-      (append_assoc (decimal sum.0) (codes " " ++ counts sum.1) x);
+      (append_assoc (decimal sum.0) (codes " " ++ counts_text sum.1) x);
 }
 
 same_pair : {A : Type 0} (a b : A × Sums) → a.0 ≡ b.0 → a.1 ≡ b.1 → a ≡ b
@@ -132,24 +132,24 @@ pub validator_line_unique : (a b : ℕ × Sums) (x y : List ℕ) → IsValidator
     → validator_line a ++ x ≡ validator_line b ++ y → (a ≡ b) × (x ≡ y)
 validator_line_unique a b x y fits fits_too is =
     let (same, one) = counted_step (validator_line a ++ x) (validator_line b ++ y)
-    (codes "validator ") a.0 b.0 (codes " " ++ (counts a.1 ++ x)) (codes " " ++ (counts b.1 ++ y))
+    (codes "validator ") a.0 b.0 (codes " " ++ (counts_text a.1 ++ x)) (codes " " ++ (counts_text b.1 ++ y))
     is (validator_counted a x fits) (validator_counted b y fits_too) in
     let (sums, rest) = counts_line_unique a.1 b.1 x y fits.counts fits_too.counts
-    (append_cancel_left (codes " ") (counts a.1 ++ x) (counts b.1 ++ y) one) in
+    (append_cancel_left (codes " ") (counts_text a.1 ++ x) (counts_text b.1 ++ y) one) in
     (same_pair a b same sums, rest)
 
 pub token_line_unique : (a b : Token × Sums) (x y : List ℕ) → IsTokenSum a → IsTokenSum b
     → token_line a ++ x ≡ token_line b ++ y → (a ≡ b) × (x ≡ y)
 token_line_unique a b x y fits fits_too is =
-    let first = append_assoc (encode_lower (bytes_of a.0)) (codes " " ++ counts a.1) x in
-    let second = append_assoc (encode_lower (bytes_of b.0)) (codes " " ++ counts b.1) y in
+    let first = append_assoc (encode_lower (bytes_of a.0)) (codes " " ++ counts_text a.1) x in
+    let second = append_assoc (encode_lower (bytes_of b.0)) (codes " " ++ counts_text b.1) y in
     let behind = append_cancel_left (codes "token ")
-    ((encode_lower (bytes_of a.0) ++ (codes " " ++ counts a.1)) ++ x)
-    ((encode_lower (bytes_of b.0) ++ (codes " " ++ counts b.1)) ++ y) is in
-    let (same, one) = token_text_unique a.0 b.0 (codes " " ++ (counts a.1 ++ x))
-    (codes " " ++ (counts b.1 ++ y)) fits.token fits_too.token (sym first ∙ behind ∙ second) in
+    ((encode_lower (bytes_of a.0) ++ (codes " " ++ counts_text a.1)) ++ x)
+    ((encode_lower (bytes_of b.0) ++ (codes " " ++ counts_text b.1)) ++ y) is in
+    let (same, one) = token_text_unique a.0 b.0 (codes " " ++ (counts_text a.1 ++ x))
+    (codes " " ++ (counts_text b.1 ++ y)) fits.token fits_too.token (sym first ∙ behind ∙ second) in
     let (sums, rest) = counts_line_unique a.1 b.1 x y fits.counts fits_too.counts
-    (append_cancel_left (codes " ") (counts a.1 ++ x) (counts b.1 ++ y) one) in
+    (append_cancel_left (codes " ") (counts_text a.1 ++ x) (counts_text b.1 ++ y) one) in
     (same_pair a b same sums, rest)
 
 -- a ledger's line determines its token

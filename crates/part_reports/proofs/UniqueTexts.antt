@@ -11,8 +11,8 @@ use Rattle.fare_texts.specs.Counts.{totals_line}
 use Rattle.reason_texts.specs.Ledger.{head_text}
 use Rattle.part_reports.specs.Ledgers.{IsLedgerEntryLine, IsPartLedger}
 use Rattle.part_reports.specs.Lines.{End, IsUploadEnd, IsTokenSum, IsValidatorSum}
-use Rattle.fare_texts.specs.SumLines.{token_line, validator_line}
-use Rattle.part_reports.specs.Lines.{end_line, end_lines, number_line}
+use Rattle.fare_texts.specs.ReportLines.{number_line, token_line, validator_line}
+use Rattle.part_reports.specs.Lines.{end_line, end_lines}
 use Rattle.part_reports.specs.Reports.{IsPartReport, Report, report_text}
 use Rattle.part_reports.specs.Reports.{HasTapNumbers}
 use Rattle.part_reports.specs.TokenLines.{TokenLine, text_of}

@@ -7,11 +7,10 @@ use Rattle.shard_book.specs.Sums.{Sums}
 use Rattle.part_reports.specs.declared.fault.MergeFault.{MergeFault}
 use Rattle.part_reports.specs.Faults.{IsOfTexts}
 use Rattle.part_reports.specs.Lines.{AreCounts, IsUploadEnd, IsValidatorSum, end_line, end_lines}
-use Rattle.fare_texts.specs.SumLines.{validator_line}
-use Rattle.part_reports.specs.Lines.{number_line}
+use Rattle.fare_texts.specs.ReportLines.{number_line, validator_line}
 use Rattle.part_reports.specs.inside.Fronts.{AreEnds, AreValidators, MayBePart, ToldFront, ends_text}
 use Rattle.part_reports.specs.inside.Fronts.{told_text, validators_text}
-use Rattle.part_reports.specs.inside.LinesRead.{IsRead, Stood}
+use Rattle.part_reports.specs.inside.LinesRead.{IsRead, BeginsWithValue}
 use Rattle.part_reports.proofs.ListsWritten.{lines_unique, end_lines_from, flat_map_from}
 use Rattle.part_reports.proofs.Unique.{end_line_unique, number_line_unique, totals_line_unique}
 use Rattle.part_reports.proofs.Unique.{validator_line_unique}
@@ -69,7 +68,7 @@ told_parts told rest = parts (number_line (codes "uploads ") (length told.ends))
 pub behind : {V : Type 0} {IsIt May : V → Type 0} {written : V → List ℕ}
     (unique : IsUnique May written) (text : List ℕ) (now : Option (List ℕ)) (value : V)
     (more : List ℕ)
-    → Stood IsIt May written text now → May value → text ≡ written value ++ more → (now ≡ Some more)
+    → BeginsWithValue IsIt May written text now → May value → text ≡ written value ++ more → (now ≡ Some more)
 behind unique text now value more stood may shown =
     let same = unique stood.value value stood.rest more stood.may may (sym stood.shown ∙ shown) in
     stood.left ∙ ap (λ rest. Some rest) same.1

@@ -20,19 +20,19 @@ use Rattle.fare_table.specs.Token.{token_cmp, token_eq}
 use Rattle.fare_table.specs.declared.token.Token.{Token}
 use Rattle.shard_book.specs.Sums.{Sums, add_all, sums, sums_of}
 use Rattle.shard_book.specs.declared.sums.totals.Totals.{Totals}
-use Rattle.fare_texts.specs.SumLines.{token_line}
+use Rattle.fare_texts.specs.ReportLines.{token_line}
 use Rattle.part_reports.specs.Lines.{End, IsTokenSum}
 use Rattle.part_reports.specs.Reports.{IsMerged, IsPartReport, Report, end_texts, front_text}
-use Rattle.part_reports.specs.Reports.{joined_ends, report_text, sums_of_validator, tokens_of_reports, validators_of_reports}
+use Rattle.part_reports.specs.Reports.{all_ends, report_text, sums_of_validator, tokens_of_reports, validators_of_reports}
 use Rattle.part_reports.specs.TokenLines.{IsMergedByToken, TokenLine, lines_of_token, text_of}
 use Rattle.part_reports.specs.declared.sums.WholeSums.{WholeSums}
 use Rattle.part_reports.specs.declared.upload_ends.UploadEnds.{UploadEnds}
-use Rattle.part_reports.specs.inside.UploadEnds.{Have}
+use Rattle.part_reports.specs.inside.UploadEnds.{HaveReadEnds}
 use Rattle.part_reports.specs.inside.Fronts.{MayBePart, ToldFront}
 use Rattle.part_reports.specs.inside.Kinds.{AreTexts, IsSumLine, IsTextOf}
-use Rattle.part_reports.specs.inside.Parts.{AreParts, Begun, begun_text, left_text}
-use Rattle.part_reports.specs.inside.Sources.{Standing}
-use Rattle.part_reports.specs.inside.Sums.{AreOf}
+use Rattle.part_reports.specs.inside.Parts.{AreParts, BegunReport, begun_text, left_text}
+use Rattle.part_reports.specs.inside.Standings.{Standing}
+use Rattle.part_reports.specs.inside.Sums.{AreSumsOf}
 use Rattle.part_reports.specs.inside.Whole.{validators_in}
 use Rattle.part_reports.proofs.FewParts.{told_of}
 use Rattle.part_reports.proofs.JoinedTokens.{StandOnce, joined_each, once_all, strictly_rise}
@@ -44,7 +44,7 @@ use Rattle.part_reports.proofs.TokenSums.{sums_same, told}
 
 -- ---- the reports of the parts
 -- the parts' reports, of what was read before their tokens and of their tokens' lines
-pub record PartsOf (begun : List Begun) (lists : List (List TokenLine)) : Type 0 where
+pub record PartsOf (begun : List BegunReport) (lists : List (List TokenLine)) : Type 0 where
   pub parts : List Report
   pub shown : map begun_text begun ≡ map report_text parts
   pub fit : All IsPartReport parts
@@ -56,7 +56,7 @@ pub record PartsOf (begun : List Begun) (lists : List (List TokenLine)) : Type 0
   pub rise : All (λ list. IsStrictlySortedBy token_cmp (map (λ line. line.token) list)) lists
   pub each : All IsSumLine (flat_map (λ list. list) lists)
 
-parts_of : (begun : List Begun) (lists : List (List TokenLine)) → All (λ one. MayBePart one.0) begun
+parts_of : (begun : List BegunReport) (lists : List (List TokenLine)) → All (λ one. MayBePart one.0) begun
     → AllZip IsTextOf (map left_text begun) lists → PartsOf begun lists
 parts_of [] [] may are = record {
   parts = [];
@@ -74,10 +74,10 @@ parts_of [] [] may are = record {
 parts_of [] (list ∷ lists) may are = absurd are
 parts_of (one ∷ begun) [] may are = absurd are
 parts_of (one ∷ begun) (list ∷ lists) may are =
-    let rest = parts_of begun lists (All-tail (λ (one : Begun). MayBePart one.0) one begun may)
+    let rest = parts_of begun lists (All-tail (λ (one : BegunReport). MayBePart one.0) one begun may)
     are.1 in
     let front = one.0 in
-    let fits = All-head (λ (one : Begun). MayBePart one.0) one begun may in
+    let fits = All-head (λ (one : BegunReport). MayBePart one.0) one begun may in
     let of_list = told list are.0.0.1 in
     let part : Report = record {
       ends = front.ends;
@@ -121,7 +121,7 @@ parts_of (one ∷ begun) (list ∷ lists) may are =
         tokens = of_list.fit;
         tokens_rise = rises;
       }) rest.fit;
-      fronts = ap (λ front. front ∷ map (λ (one : Begun). one.0) begun) same_front
+      fronts = ap (λ front. front ∷ map (λ (one : BegunReport). one.0) begun) same_front
           ∙ ap (λ more. told_of part ∷ more) rest.fronts;
       sums = of_list.sums ++ rest.sums;
       sums_are = ap (λ more. of_list.sums ++ more) rest.sums_are;
@@ -209,7 +209,7 @@ of_if true x y is = cc
 of_if false x y is = absurd (cc)
 
 pub validators_member : (validators : BTreeMap ℕ Totals) (list : List (ℕ × Sums))
-    → AreOf validators list → (q : ℕ)
+    → AreSumsOf validators list → (q : ℕ)
     → is_member (eq_by_cmp nat_cmp) (keys_of (validators_in validators)) q ≡ is_member
     (eq_by_cmp nat_cmp) (keys_of list) q
 validators_member validators list are q =
@@ -218,7 +218,7 @@ validators_member validators list are q =
     ∙ ap is_some (are q) ∙ some_if (is_member (eq_by_cmp nat_cmp) (keys_of list) q) (sums_of_validator q list)
 
 pub validators_sums : (validators : BTreeMap ℕ Totals) (list : List (ℕ × Sums))
-    → AreOf validators list
+    → AreSumsOf validators list
     → All (λ entry. get nat_cmp validators entry.0 ≡ Some entry.1) validators.entries
     → All (λ sum. sum.1 ≡ sums_of_validator sum.0 list) (validators_in validators)
 validators_sums validators list are found =
@@ -263,16 +263,16 @@ pub record Written (end_files report_files : List (List ℕ)) (posted : Type 0)
     (old new : Option (List ℕ)) : Type 0 where
   pub text : List ℕ
   pub merged : IsMerged end_files report_files text
-  pub posted_is : posted ↔ All (λ end. end.fault ≡ None) (joined_ends merged.ends)
+  pub posted_is : posted ↔ All (λ end. end.fault ≡ None) (all_ends merged.ends)
   pub appends : Appends old new text
 
 pub merged : (end_files report_files : List (List ℕ)) (lists : List (List End)) (ends : UploadEnds)
     (sums : WholeSums) (standings : List Standing) (front : List ℕ)
     (token_lists : List (List TokenLine)) (joined : List TokenLine) (old mid new : Option (List ℕ))
-    → end_files ≡ end_texts 0 lists → Have ends (joined_ends lists)
+    → end_files ≡ end_texts 0 lists → HaveReadEnds ends (all_ends lists)
     → (parts : AreParts report_files sums standings)
     → sums.totals.taps ≡ ends.taps
-    → front ≡ front_text (joined_ends lists) (sums_of sums.totals) (validators_in sums.validators)
+    → front ≡ front_text (all_ends lists) (sums_of sums.totals) (validators_in sums.validators)
     sums.tokens
     → IsStrictlySortedBy nat_cmp (keys_of sums.validators.entries)
     → All (λ entry. get nat_cmp sums.validators entry.0 ≡ Some entry.1) sums.validators.entries
@@ -285,8 +285,8 @@ merged end_files report_files lists ends sums standings front token_lists joined
     let tokens = whole_tokens token_lists joined of_parts.sums is of_parts.rise of_parts.each
     of_parts.lines of_parts.sums_fit in
     let reports = of_parts.parts in
-    let validators : AreOf sums.validators (validators_of_reports reports) =
-    subst (λ list. AreOf sums.validators list)
+    let validators : AreSumsOf sums.validators (validators_of_reports reports) =
+    subst (λ list. AreSumsOf sums.validators list)
     (ap (flat_map (λ (told : ToldFront). told.validators)) of_parts.fronts
     ∙ fronts_validators reports) parts.counted.validators in
     let totals : sums_of sums.totals ≡ add_all (map (λ (part : Report). part.totals) reports) =
@@ -297,7 +297,7 @@ merged end_files report_files lists ends sums standings front token_lists joined
     ∙ fronts_tokens reports ∙ ap length (sym of_parts.sums_are)
     ∙ sym (length_permutation of_parts.sums tokens.sums tokens.moved) in
     let whole : Report = record {
-      ends = joined_ends lists;
+      ends = all_ends lists;
       totals =
           sums_of sums.totals;
       validators = validators_in sums.validators;
@@ -335,9 +335,9 @@ merged end_files report_files lists ends sums standings front token_lists joined
       posted_is = have.posted;
       appends = subst (λ text. Appends old new text)
           (ap (λ text. text ++ text_of joined) (front_is
-          ∙ ap (front_text (joined_ends lists) (sums_of sums.totals)
+          ∙ ap (front_text (all_ends lists) (sums_of sums.totals)
           (validators_in sums.validators)) number)
-          ∙ ap (λ text. front_text (joined_ends lists) (sums_of sums.totals)
+          ∙ ap (λ text. front_text (all_ends lists) (sums_of sums.totals)
           (validators_in sums.validators) (length tokens.sums) ++ text) (ap text_of tokens.is
           ∙ lines_text tokens.sums))
           (appends_more old mid new front (text_of joined) first second);

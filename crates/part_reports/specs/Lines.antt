@@ -6,10 +6,6 @@ use Rattle.fare_table.specs.Token.{Fits}
 use Rattle.shard_book.specs.Sums.{Sums}
 use Rattle.fare_table.specs.declared.token.Token.{Token}
 
--- a word, a number and the end of the line, as `validators 3`
-abbrev pub number_line : List ℕ → ℕ → List ℕ
-number_line word number = word ++ (decimal number ++ codes "\n")
-
 -- how an upload ended: how many of its taps were posted, and, where it has a layout fault, the
 -- offset of the fault's batch and the number in the fault's name
 pub record End : Type 0 where

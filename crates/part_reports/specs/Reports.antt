@@ -10,8 +10,8 @@ use Rattle.fare_table.specs.Token.{token_cmp}
 use Rattle.fare_table.specs.declared.token.Token.{Token}
 use Rattle.fare_texts.specs.Counts.{totals_line}
 use Rattle.part_reports.specs.Lines.{End, IsUploadEnd, AreCounts, IsValidatorSum, IsTokenSum}
-use Rattle.fare_texts.specs.SumLines.{token_line, validator_line}
-use Rattle.part_reports.specs.Lines.{end_lines, number_line}
+use Rattle.fare_texts.specs.ReportLines.{number_line, token_line, validator_line}
+use Rattle.part_reports.specs.Lines.{end_lines}
 
 -- what a report tells: how each upload ended, the totals, and the sums of each validator and of
 -- each token
@@ -64,18 +64,18 @@ end_texts first [] = []
 end_texts first (ends ∷ more) = end_lines first ends ∷ end_texts (first + length ends) more
 
 -- the ends of all texts
-abbrev pub joined_ends : List (List End) → List End
-joined_ends ends = flat_map (λ some. some) ends
+abbrev pub all_ends : List (List End) → List End
+all_ends ends = flat_map (λ some. some) ends
 
 -- The texts tell how the uploads ended, and they tell reports of parts. The reports have as many
 -- taps as the uploads.
 pub record AreTold (end_files report_files : List (List ℕ)) (ends : List (List End))
     (parts : List Report) : Type 0 where
   pub ends_told : end_files ≡ end_texts 0 ends
-  pub ends_fit : All IsUploadEnd (joined_ends ends)
+  pub ends_fit : All IsUploadEnd (all_ends ends)
   pub parts_told : report_files ≡ map report_text parts
   pub parts_fit : All IsPartReport parts
-  pub taps : sum_by (λ part. part.totals.taps) parts ≡ sum_by (λ end. end.taps) (joined_ends ends)
+  pub taps : sum_by (λ part. part.totals.taps) parts ≡ sum_by (λ end. end.taps) (all_ends ends)
 
 -- the validators of all parts with their sums, part by part
 abbrev pub validators_of_reports : List Report → List (ℕ × Sums)
@@ -112,7 +112,7 @@ pub record IsMerged (end_files report_files : List (List ℕ)) (text : List ℕ)
   pub parts : List Report
   pub told : AreTold end_files report_files ends parts
   pub whole : Report
-  pub is : IsWholeReport (joined_ends ends) parts whole
+  pub is : IsWholeReport (all_ends ends) parts whole
   pub shown : text ≡ report_text whole
 
 -- there is no such text

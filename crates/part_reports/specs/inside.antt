@@ -1,12 +1,12 @@
 -- What only private functions cite. Who reads the contracts of public calls need not read it.
-pub mod Begun
+pub mod BegunLedgers
 pub mod Counted
 pub mod Fronts
 pub mod Kinds
 pub mod Least
 pub mod Parts
 pub mod LinesRead
-pub mod Sources
+pub mod Standings
 pub mod Sums
 pub mod UploadEnds
 pub mod Whole

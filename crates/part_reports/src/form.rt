@@ -6,7 +6,7 @@ ghost use Rattle.std.specs.Char.{is_ascii_digit};
 ghost use Rattle.std.specs.Fmt.{decimal};
 ghost use Rattle.std.specs.Io.BufRead.{take_through};
 ghost use Rattle.std.specs.List.{IsSplitAt, position_or_len};
-ghost use Rattle.fare_texts.specs.Counts.{counts, totals_line};
+ghost use Rattle.fare_texts.specs.Counts.{counts_text, totals_line};
 ghost use Rattle.shard_book.specs.Shown.{token_sum, validator_sum};
 ghost use Rattle.shard_book.specs.Sums.{Sums, sums_of};
 ghost use Rattle.hex.specs.Hex.{encode_lower};
@@ -15,8 +15,7 @@ ghost use Rattle.fare_table.specs.declared.token.Token.{Token as AToken};
 ghost use Rattle.part_reports.specs.Ledgers.{IsLedgerEntryLine};
 ghost use Rattle.part_reports.specs.Lines.{AreCounts, IsUploadEnd, IsNamedFault, IsTokenSum};
 ghost use Rattle.part_reports.specs.Lines.{End as EndOfUpload, IsValidatorSum, end_line, end_words};
-ghost use Rattle.fare_texts.specs.SumLines.{token_line, validator_line};
-ghost use Rattle.part_reports.specs.Lines.{number_line};
+ghost use Rattle.fare_texts.specs.ReportLines.{number_line, token_line, validator_line};
 ghost use Rattle.part_reports.specs.TokenLines.{TokenLine};
 ghost use Rattle.part_reports.specs.inside.Counted.{IsCounted, sums_with};
 ghost use Rattle.part_reports.specs.inside.UploadEnds.{end_of_upload, fault_words};
@@ -145,8 +144,8 @@ fn totals_by(
 
 /// The totals that end a line.
 fn counts_of(text: &[u8]) -> Option<Totals>
-    ensures { MatchOption result ((sums : Sums) → AreCounts sums → ¬ (text.now ≡ counts sums))
-        (λ totals. AreCounts (sums_of totals) × (text.now ≡ counts (sums_of totals))) }
+    ensures { MatchOption result ((sums : Sums) → AreCounts sums → ¬ (text.now ≡ counts_text sums))
+        (λ totals. AreCounts (sums_of totals) × (text.now ≡ counts_text (sums_of totals))) }
 {
     let (taps, text) = count(text, b"taps ")?;
     let (paid, text) = count(text, b" paid ")?;

@@ -5,12 +5,13 @@ ghost use Rattle.std.specs.Io.KnownBytes.{Appends};
 ghost use Rattle.part_reports.specs.Faults.{IsOfTaps, IsOfTexts};
 ghost use Rattle.part_reports.specs.Ledgers.{IsMergedLedger};
 ghost use Rattle.part_reports.specs.Texts.{AreLeft};
-ghost use Rattle.part_reports.specs.inside.Begun.{AreBegun, IsBegun, IsNoLedger};
-ghost use Rattle.part_reports.specs.inside.Sources.{standing};
+ghost use Rattle.part_reports.specs.inside.BegunLedgers.{AreBegunLedgers, IsBegunLedger};
+ghost use Rattle.part_reports.specs.inside.BegunLedgers.{IsNoLedger};
+ghost use Rattle.part_reports.specs.inside.Standings.{standing};
 
 use crate::fault::{MergeFault, Wrong};
 use crate::line_reader::LineReader;
-use crate::merging::{LineKind, LineSource, write_merged, write_text};
+use crate::merging::{LineKind, OrderedText, write_merged, write_text};
 use reason_texts::head_line;
 use std::alloc::Global;
 use std::io::{BufRead, Write};
@@ -20,9 +21,9 @@ fn begin_ledger<R: BufRead + Drop>(
     alloc: Global,
     from: R,
     text: usize,
-) -> Result<LineSource<R>, MergeFault>
+) -> Result<OrderedText<R>, MergeFault>
     ensures begun { IfOk result (λ source. IfSome (R.remaining from)
-        (λ file. IsBegun file (standing R.remaining source))) }
+        (λ file. IsBegunLedger file (standing R.remaining source))) }
     ensures refused { IfErr result (λ fault. IsOfTexts fault
         → IfSome (R.remaining from) IsNoLedger) }
     ensures no_taps { IfErr result (λ fault. ¬ (IsOfTaps fault)) }
@@ -30,7 +31,7 @@ fn begin_ledger<R: BufRead + Drop>(
     let mut reader = LineReader::new(alloc, from, text);
     reader.next()?;
     if reader.line() == head_line().as_bytes() {
-        LineSource::begin(reader, LineKind::Entries)
+        OrderedText::begin(reader, LineKind::Entries)
     } else {
         Err(reader.fault(Wrong::Form))
     }
@@ -40,8 +41,8 @@ fn begin_ledger<R: BufRead + Drop>(
 fn begin_ledgers<R: BufRead + Drop>(
     alloc: Global,
     ledgers: Vec<R>,
-) -> Result<Vec<LineSource<R>>, MergeFault>
-    ensures begun { IfOk result (λ sources. AreBegun (map R.remaining ledgers.items)
+) -> Result<Vec<OrderedText<R>>, MergeFault>
+    ensures begun { IfOk result (λ sources. AreBegunLedgers (map R.remaining ledgers.items)
         (map (standing R.remaining) sources.items)) }
     ensures refused { IfErr result (λ fault. IsOfTexts fault → (files : List (List ℕ))
         → AreLeft R.remaining ledgers.items files → (text : List ℕ)

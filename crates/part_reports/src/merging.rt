@@ -8,11 +8,11 @@ ghost use Rattle.std.specs.List.{AllZip};
 ghost use Rattle.part_reports.specs.Faults.{IsOfTaps, IsOfTexts};
 ghost use Rattle.part_reports.specs.TokenLines.{IsMergedByToken, TokenLine, text_of};
 ghost use Rattle.part_reports.specs.inside.Kinds.{AreTexts, IsTextOf};
-ghost use Rattle.part_reports.specs.inside.Least.{IsLeast, IsTwin};
-ghost use Rattle.part_reports.specs.inside.Sources.{IsBehindOne, IsFirstLine, IsLineOfKind};
-ghost use Rattle.part_reports.specs.inside.Sources.{IsSource};
-ghost use Rattle.part_reports.specs.inside.Sources.{MayEnd, MayFollow, MayFollowAll, MayFollowHead};
-ghost use Rattle.part_reports.specs.inside.Sources.{IsMovedAt, IsStuckAt, standing};
+ghost use Rattle.part_reports.specs.inside.Least.{IsLeast, StandsTwice};
+ghost use Rattle.part_reports.specs.inside.Standings.{IsBehindOne, IsFirstLine, IsLineOfKind};
+ghost use Rattle.part_reports.specs.inside.Standings.{MayEnd, MayFollow, MayFollowAll};
+ghost use Rattle.part_reports.specs.inside.Standings.{MayFollowToken, StandsInText};
+ghost use Rattle.part_reports.specs.inside.Standings.{IsMovedAt, IsStuckAt, standing};
 
 use crate::fault::{MergeFault, Wrong};
 use crate::form::{ledger_token_of, token_sum_of};
@@ -33,13 +33,13 @@ pub(crate) enum LineKind {
 
 /// A text whose lines are in order of tokens, at one of its lines or at its end.
 #[derive(Drop)]
-pub(crate) struct LineSource<R: BufRead + Drop> {
+pub(crate) struct OrderedText<R: BufRead + Drop> {
     /// The text.
     reader: LineReader<R>,
     /// What its lines are.
     lines: LineKind,
     /// The token of the line that was read last; none at the end.
-    head: Option<Token>,
+    token: Option<Token>,
 }
 
 /// The token of a line.
@@ -86,7 +86,7 @@ fn may_end(lines: LineKind) -> bool
 /// behind it are, and its token. Nothing where such a line may not stand there.
 fn first_of(lines: LineKind, line: &[u8]) -> Option<(LineKind, Option<Token>)>
     ensures { MatchOption result
-        ((behind : LineKind) (head : Option Token) → ¬ (IsFirstLine lines line.now behind head))
+        ((behind : LineKind) (token : Option Token) → ¬ (IsFirstLine lines line.now behind token))
         (λ told. (left : List ℕ) → line.now ≡ take_through 10 left
         → IsFirstLine lines line.now told.0 told.1) }
 {
@@ -113,29 +113,32 @@ fn may_follow(lines: LineKind, before: Token, token: Token) -> bool
 }
 
 /// The same of the tokens at which a source stood and stands.
-fn may_stand(lines: LineKind, before: Option<Token>, head: Option<Token>) -> bool
-    ensures { IsTrue result ↔ MayFollowHead lines before head }
+fn may_stand(lines: LineKind, before: Option<Token>, token: Option<Token>) -> bool
+    ensures { IsTrue result ↔ MayFollowToken lines before token }
 {
-    match (before, head) {
+    match (before, token) {
         (Some(before), Some(token)) => may_follow(lines, before, token),
         _ => true,
     }
 }
 
-impl<R: BufRead + Drop> LineSource<R> {
+impl<R: BufRead + Drop> OrderedText<R> {
     /// The text at the next line, which is the first of these lines.
-    pub(crate) fn begin(reader: LineReader<R>, lines: LineKind) -> Result<LineSource<R>, MergeFault>
+    pub(crate) fn begin(
+        reader: LineReader<R>,
+        lines: LineKind,
+    ) -> Result<OrderedText<R>, MergeFault>
         ensures begun { IfOk result (λ source. IfSome (R.remaining reader.from)
-            (λ left. IsSource (lines, left) (standing R.remaining source))) }
+            (λ left. StandsInText (lines, left) (standing R.remaining source))) }
         ensures refused { IfErr result (λ fault. IsOfTexts fault
             → IfSome (R.remaining reader.from)
             (λ left. (list : List TokenLine) → ¬ (IsTextOf (lines, left) list))) }
         ensures no_taps { IfErr result (λ fault. ¬ (IsOfTaps fault)) }
     {
-        let mut source = LineSource {
+        let mut source = OrderedText {
             reader,
             lines,
-            head: None,
+            token: None,
         };
         source.read()?;
         Ok(source)
@@ -144,49 +147,50 @@ impl<R: BufRead + Drop> LineSource<R> {
     /// Reads the next line, or the end.
     fn read(&mut self) -> Result<(), MergeFault>
         ensures read { OnOk result (IfSome (R.remaining self.old.reader.from)
-            (λ left. IsSource (self.old.lines, left) (standing R.remaining self.new))) }
+            (λ left. StandsInText (self.old.lines, left) (standing R.remaining self.new))) }
         ensures refused { IfErr result (λ fault. IsOfTexts fault
             → IfSome (R.remaining self.old.reader.from)
             (λ left. (list : List TokenLine) → ¬ (IsTextOf (self.old.lines, left) list))) }
         ensures no_taps { IfErr result (λ fault. ¬ (IsOfTaps fault)) }
     {
         self.reader.next()?;
-        let (lines, head) = self.reader.told(first_of(self.lines, self.reader.line()))?;
+        let (lines, token) = self.reader.told(first_of(self.lines, self.reader.line()))?;
         self.lines = lines;
-        self.head = head;
+        self.token = token;
         Ok(())
     }
 
     /// Goes on to the next line. Gives its token, which is not below this line's.
     fn advance(&mut self) -> Result<Option<Token>, MergeFault>
         ensures read { OnOk result (IfSome (R.remaining self.old.reader.from)
-            (λ left. IsSource (self.old.lines, left) (standing R.remaining self.new))) }
-        ensures follows { IfOk result (λ head. MayFollowHead self.old.lines self.old.head head) }
-        ensures head { IfOk result (λ head. head ≡ self.new.head) }
+            (λ left. StandsInText (self.old.lines, left) (standing R.remaining self.new))) }
+        ensures follows { IfOk result (λ token.
+            MayFollowToken self.old.lines self.old.token token) }
+        ensures token { IfOk result (λ token. token ≡ self.new.token) }
         ensures refused { IfErr result (λ fault. IsOfTexts fault
             → IfSome (R.remaining self.old.reader.from)
             (λ left. (list : List TokenLine) → IsTextOf (self.old.lines, left) list
-            → IfSome self.old.head (λ before. ¬ (MayFollowAll self.old.lines before list)))) }
+            → IfSome self.old.token (λ before. ¬ (MayFollowAll self.old.lines before list)))) }
         ensures no_taps { IfErr result (λ fault. ¬ (IsOfTaps fault)) }
     {
-        let (lines, before) = (self.lines, self.head);
+        let (lines, before) = (self.lines, self.token);
         self.read()?;
-        if may_stand(lines, before, self.head) {
-            Ok(self.head)
+        if may_stand(lines, before, self.token) {
+            Ok(self.token)
         } else {
             Err(self.reader.fault(Wrong::Order))
         }
     }
 }
 
-/// Which head is below all others; none where there is no head. Two heads that are the same token
-/// are a mistake: it gives the later of them.
-fn least(heads: &[Option<Token>]) -> Result<Option<usize>, usize>
-    ensures { MatchResult result (IsLeast heads.now) (IsTwin heads.now) }
+/// Which token is below all others; none where there is none. If one stands twice, that is a
+/// mistake: it gives the later of the two places.
+fn least(tokens: &[Option<Token>]) -> Result<Option<usize>, usize>
+    ensures { MatchResult result (IsLeast tokens.now) (StandsTwice tokens.now) }
 {
     let mut found: Option<(usize, Token)> = None;
-    for at in 0..heads.len() {
-        if let Some(token) = heads[at] {
+    for at in 0..tokens.len() {
+        if let Some(token) = tokens[at] {
             match found {
                 None => found = Some((at, token)),
                 Some((_, least)) => match least.cmp(&token) {
@@ -215,7 +219,7 @@ pub(crate) fn write_text<W: Write>(out: &mut W, text: &[u8]) -> Result<(), Merge
 }
 
 /// The fault of the text of this number.
-fn fault_in<R: BufRead + Drop>(sources: &[LineSource<R>], at: usize, wrong: Wrong) -> MergeFault
+fn fault_in<R: BufRead + Drop>(sources: &[OrderedText<R>], at: usize, wrong: Wrong) -> MergeFault
     ensures { ¬ (IsOfTaps result) }
 {
     match sources.get(at) {
@@ -225,58 +229,58 @@ fn fault_in<R: BufRead + Drop>(sources: &[LineSource<R>], at: usize, wrong: Wron
 }
 
 /// Where the texts stand.
-fn heads_of<R: BufRead + Drop>(
+fn tokens_at<R: BufRead + Drop>(
     alloc: Global,
-    sources: &[LineSource<R>],
+    sources: &[OrderedText<R>],
 ) -> Result<Vec<Option<Token>>, AllocError>
-    ensures { IfOk result (λ heads. heads.items ≡ map (λ source. source.head) sources.now) }
+    ensures { IfOk result (λ tokens. tokens.items ≡ map (λ source. source.token) sources.now) }
 {
-    sources.iter().map(|source| source.head).collect(alloc)
+    sources.iter().map(|source| source.token).collect(alloc)
 }
 
 /// Writes the line at which the text of this number stands, and goes on to the next.
 fn write_at<R: BufRead + Drop, W: Write>(
-    sources: &mut [LineSource<R>],
-    heads: &mut [Option<Token>],
+    sources: &mut [OrderedText<R>],
+    tokens: &mut [Option<Token>],
     at: usize,
     out: &mut W,
 ) -> Result<(), MergeFault>
     requires within { at < length sources.old }
-    requires heads { heads.old ≡ map (λ source. source.head) sources.old }
+    requires tokens { tokens.old ≡ map (λ source. source.token) sources.old }
     ensures moved { OnOk result (IsMovedAt at (map (standing R.remaining) sources.old)
         (map (standing R.remaining) sources.new) (W.contents out.old) (W.contents out.new)) }
-    ensures heads { OnOk result (heads.new ≡ map (λ source. source.head) sources.new) }
+    ensures tokens { OnOk result (tokens.new ≡ map (λ source. source.token) sources.new) }
     ensures refused { IfErr result (λ fault. IsOfTexts fault
         → IsStuckAt at (map (standing R.remaining) sources.old)) }
     ensures no_taps { IfErr result (λ fault. ¬ (IsOfTaps fault)) }
 {
     let source = &mut sources[at];
     write_text(out, source.reader.line())?;
-    heads[at] = source.advance()?;
+    tokens[at] = source.advance()?;
     Ok(())
 }
 
 /// Writes the lines of all texts, in order of tokens.
 pub(crate) fn write_merged<R: BufRead + Drop, W: Write>(
     alloc: Global,
-    sources: &mut [LineSource<R>],
+    sources: &mut [OrderedText<R>],
     out: &mut W,
 ) -> Result<(), MergeFault>
     ensures merged { OnOk result ((texts : List (LineKind × List ℕ))
-        → AllZip IsSource texts (map (standing R.remaining) sources.old)
+        → AllZip StandsInText texts (map (standing R.remaining) sources.old)
         → (lists : List (List TokenLine)) × (joined : List TokenLine) × AreTexts texts lists
         × IsMergedByToken lists joined
         × Appends (W.contents out.old) (W.contents out.new) (text_of joined)) }
     ensures refused { IfErr result (λ fault. IsOfTexts fault → (texts : List (LineKind × List ℕ))
-        → AllZip IsSource texts (map (standing R.remaining) sources.old)
+        → AllZip StandsInText texts (map (standing R.remaining) sources.old)
         → (lists : List (List TokenLine)) (joined : List TokenLine) → AreTexts texts lists
         → ¬ (IsMergedByToken lists joined)) }
     ensures no_taps { IfErr result (λ fault. ¬ (IsOfTaps fault)) }
 {
-    let mut heads = heads_of(alloc, sources)?;
+    let mut tokens = tokens_at(alloc, sources)?;
     for _ in 0..u64::MAX {
-        match least(&heads) {
-            Ok(Some(at)) => write_at(sources, &mut heads, at, out)?,
+        match least(&tokens) {
+            Ok(Some(at)) => write_at(sources, &mut tokens, at, out)?,
             Ok(None) => return Ok(()),
             Err(at) => return Err(fault_in(sources, at, Wrong::Twice)),
         }

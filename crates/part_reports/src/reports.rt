@@ -4,18 +4,18 @@ ghost use Rattle.std.specs.Prelude.{◌≡◌, ◌<◌, ◌≤◌, ◌^◌, ℕ,
 ghost use Rattle.std.specs.Prelude.{IfSome, IsTrue, OnOk, ◌++◌, flat_map, length, map, ◌↔◌};
 ghost use Rattle.std.specs.Io.KnownBytes.{Appends};
 ghost use Rattle.part_reports.specs.Faults.{IsOfTaps, IsOfTexts};
-ghost use Rattle.fare_texts.specs.SumLines.{validator_line};
+ghost use Rattle.fare_texts.specs.ReportLines.{validator_line};
 ghost use Rattle.part_reports.specs.Lines.{End};
 ghost use Rattle.std.specs.String.{string_bytes};
 ghost use Rattle.std.specs.BTreeMap.{IsOrdered, get};
 ghost use Rattle.std.specs.Ordering.{nat_cmp};
 ghost use Rattle.part_reports.specs.Reports.{CannotBeMerged, IsMerged, IsPartReport, Report};
-ghost use Rattle.part_reports.specs.Reports.{joined_ends};
+ghost use Rattle.part_reports.specs.Reports.{all_ends};
 ghost use Rattle.part_reports.specs.Reports.{report_text};
 ghost use Rattle.part_reports.specs.Texts.{AreLeft};
-ghost use Rattle.part_reports.specs.inside.UploadEnds.{Have};
+ghost use Rattle.part_reports.specs.inside.UploadEnds.{HaveReadEnds};
 ghost use Rattle.part_reports.specs.inside.Parts.{AreParts, IsNoPart, IsPart};
-ghost use Rattle.part_reports.specs.inside.Sources.{standing};
+ghost use Rattle.part_reports.specs.inside.Standings.{standing};
 ghost use Rattle.part_reports.specs.inside.Whole.{validators_in};
 ghost use Rattle.part_reports.specs.Reports.{front_text as text_before_tokens};
 ghost use Rattle.shard_book.specs.Sums.{sums_of};
@@ -23,7 +23,7 @@ ghost use Rattle.shard_book.specs.Sums.{sums_of};
 use crate::fault::{MergeFault, Wrong};
 use crate::front::read_front;
 use crate::line_reader::LineReader;
-use crate::merging::{LineKind, LineSource, write_merged, write_text};
+use crate::merging::{LineKind, OrderedText, write_merged, write_text};
 use crate::sums::{WholeSums, add_front, no_sums};
 use crate::upload_ends::UploadEnds;
 use crate::upload_ends::read::read_ends;
@@ -39,7 +39,7 @@ struct BegunReports<R: BufRead + Drop> {
     /// What stands before the tokens, added up.
     sums: WholeSums,
     /// Each report behind the head of its tokens.
-    sources: Vec<LineSource<R>>,
+    sources: Vec<OrderedText<R>>,
 }
 
 /// Reads the report of a part up to the line of its first token, and adds what it tells.
@@ -48,7 +48,7 @@ fn read_part<R: BufRead + Drop>(
     sums: &mut WholeSums,
     from: R,
     text: usize,
-) -> Result<LineSource<R>, MergeFault>
+) -> Result<OrderedText<R>, MergeFault>
     ensures read { IfOk result (λ source. IfSome (R.remaining from)
         (λ file. IsPart sums.old sums.new file (standing R.remaining source))) }
     ensures refused { IfErr result (λ fault. IsOfTexts fault
@@ -61,7 +61,7 @@ fn read_part<R: BufRead + Drop>(
         return Err(reader.fault(Wrong::Sums));
     }
     let left = front.tokens;
-    LineSource::begin(reader, LineKind::Tokens { left })
+    OrderedText::begin(reader, LineKind::Tokens { left })
 }
 
 /// Reads the reports of parts up to the lines of their first tokens. The first of the texts has
@@ -106,7 +106,7 @@ fn write_validators(text: &mut String, validators: &BTreeMap<u32, Totals>) -> Re
 
 /// The whole's report up to the lines of its tokens.
 fn front_text(alloc: Global, ends: &UploadEnds, sums: &WholeSums) -> Result<Vec<u8>, AllocError>
-    ensures text { IfOk result (λ text. (list : List End) → Have ends.now list
+    ensures text { IfOk result (λ text. (list : List End) → HaveReadEnds ends.now list
         → text.items ≡ text_before_tokens list (sums_of sums.now.totals)
         (validators_in sums.now.validators) sums.now.tokens) }
     ensures rise { OnOk result (IsOrdered nat_cmp sums.now.validators) }
@@ -139,7 +139,7 @@ pub fn merge<R: BufRead + Drop, W: Write>(
     ensures whole { IfOk result (λ are_posted. (end_files report_files : List (List ℕ))
         → AreLeft R.remaining ends.items end_files → AreLeft R.remaining reports.items report_files
         → (text : List ℕ) × (merged : IsMerged end_files report_files text)
-        × (IsTrue are_posted ↔ All (λ end. end.fault ≡ None) (joined_ends merged.ends))
+        × (IsTrue are_posted ↔ All (λ end. end.fault ≡ None) (all_ends merged.ends))
         × Appends (W.contents out.old) (W.contents out.new) text) }
     ensures refused { IfErr result (λ fault. IsOfTexts fault
         → (end_files report_files : List (List ℕ))

@@ -1,5 +1,5 @@
 //! Tests of the program by its public calls: readers and writers that fail, files that are read
-//! early. The command lines are in `cases/`, run over the built program.
+//! ahead. The command lines are in `cases/`, run over the built program.
 //!
 //! They stand in a crate of their own, so that the program is not proved anew with them.
 #![tactic(auto)]

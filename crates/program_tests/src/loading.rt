@@ -3,7 +3,9 @@
 
 use super::running::{NoDisk, run_over};
 use super::shelf::{Content, Shelf};
-use fare_program::{Disk, Early, Host, LOAD_LIMIT_BYTES, LoadFault, Source, load_from, read_early};
+use fare_program::{
+    Disk, FileAhead, Host, LOAD_LIMIT_BYTES, LoadFault, Source, load_from, read_ahead,
+};
 use std::alloc::Global;
 use std::io::Read;
 use std::marker::Sync;
@@ -75,7 +77,7 @@ fn loads_up_to_the_limit(rt: HostRuntime) -> Result<(), Fail> {
 /// Each file holds its own name. One is named twice, and they are also loaded in another order than
 /// that in which they were read.
 #[test]
-fn loads_each_early_file_under_its_name(rt: HostRuntime) -> Result<(), Fail> {
+fn loads_each_file_ahead_under_its_name(rt: HostRuntime) -> Result<(), Fail> {
     let [a, b, c] = ["each_a.tap", "each_b.tap", "each_c.tap"];
     for name in [a, b, c] {
         fs::write(&rt, name, name)?;
@@ -83,7 +85,7 @@ fn loads_each_early_file_under_its_name(rt: HostRuntime) -> Result<(), Fail> {
     for threads in [1, 2, 3, 16] {
         for order in [[a, b, a, c], [c, b, a, a], [b, a, c, a]] {
             let mut host = Host::new(&rt);
-            host.keep_early(read_early(&rt, rt.alloc(), &rt, &[a, b, a, c], threads));
+            host.keep_ahead(read_ahead(&rt, rt.alloc(), &rt, &[a, b, a, c], threads));
             for name in order {
                 let loaded = host.load(name)?;
                 assert_eq!(rt; loaded.as_slice(), name.as_bytes(), "by {threads}");
@@ -99,7 +101,7 @@ fn loads_each_early_file_under_its_name(rt: HostRuntime) -> Result<(), Fail> {
 /// What a file holds at first, and when its turn comes, says when it was read: here of files with a
 /// folder between them.
 #[test]
-fn reads_files_early_by_several_threads_alone(rt: HostRuntime) -> Result<(), Fail> {
+fn reads_files_ahead_by_several_threads_alone(rt: HostRuntime) -> Result<(), Fail> {
     let [a, b, c, folder] = ["early_a.tap", "early_b.tap", "early_c.tap", "early_folder"];
     fs::create_dir(&rt, folder)?;
     for (threads, seen) in [(1, "late"), (2, "soon"), (16, "soon")] {
@@ -107,7 +109,7 @@ fn reads_files_early_by_several_threads_alone(rt: HostRuntime) -> Result<(), Fai
             fs::write(&rt, name, "soon")?;
         }
         let mut host = Host::new(&rt);
-        host.keep_early(read_early(&rt, rt.alloc(), &rt, &[a, b, folder, c], threads));
+        host.keep_ahead(read_ahead(&rt, rt.alloc(), &rt, &[a, b, folder, c], threads));
         for name in [a, b, c] {
             fs::write(&rt, name, "late")?;
         }
@@ -131,7 +133,7 @@ fn reads_files_early_by_several_threads_alone(rt: HostRuntime) -> Result<(), Fai
 struct Names;
 
 impl Disk for Names {
-    fn may_be_early(&self, name: &str) -> bool {
+    fn may_be_read_ahead(&self, name: &str) -> bool {
         name != "pipe"
     }
 
@@ -145,15 +147,15 @@ impl Disk for Names {
     }
 }
 
-/// The names of what two threads read early, in the order of the list. Each has its own bytes, or
+/// The names of what two threads read ahead, in the order of the list. Each has its own bytes, or
 /// the fault that the disk tells of it.
-fn early_names<R: Threads + Sync + Abort>(
+fn ahead_names<R: Threads + Sync + Abort>(
     rt: &R,
     alloc: Global,
     names: &[&str],
 ) -> Result<String, Fail> {
     let mut text = String::new(alloc);
-    for file in read_early(rt, alloc, &Names, names, 2) {
+    for file in read_ahead(rt, alloc, &Names, names, 2) {
         write!(text, "{} ", file.name)?;
         assert!(rt; file.loaded == Names.read(alloc, file.name.as_str()));
     }
@@ -175,7 +177,7 @@ fn reads_parts_up_to_a_fault(rt: HostRuntime) -> Result<(), Fail> {
         (["pipe", "b", "c", "d"], ""),
     ];
     for (names, told) in rows {
-        let text = early_names(&rt, alloc, &names)?;
+        let text = ahead_names(&rt, alloc, &names)?;
         assert_eq!(rt; text.as_str(), told, "{names:?}");
     }
     Ok(())
@@ -183,13 +185,13 @@ fn reads_parts_up_to_a_fault(rt: HostRuntime) -> Result<(), Fail> {
 
 /// A source without files, which counts what was read before its turn.
 #[derive(Drop)]
-struct EarlyCount {
+struct AheadCount {
     files: usize,
 }
 
-impl Source for EarlyCount {
-    fn keep_early(&mut self, early: Vec<Early>) {
-        self.files = early.len();
+impl Source for AheadCount {
+    fn keep_ahead(&mut self, ahead: Vec<FileAhead>) {
+        self.files = ahead.len();
     }
 
     fn load(&mut self, _: &str) -> Result<Vec<u8>, LoadFault> {
@@ -202,10 +204,10 @@ impl Source for EarlyCount {
 }
 
 #[test]
-fn reads_files_early_for_any_number_of_workers(rt: HostRuntime) -> Result<(), Fail> {
+fn reads_files_ahead_for_any_number_of_workers(rt: HostRuntime) -> Result<(), Fail> {
     let alloc = rt.alloc();
     for workers in ["1", "2", "3", "16"] {
-        let mut source = EarlyCount { files: 0 };
+        let mut source = AheadCount { files: 0 };
         let words = ["--workers", workers, "a", "b", "c"];
         let mut out = Vec::new(alloc);
         let (status, err) = run_over(&rt, alloc, words.as_slice(), &Names, &mut source, &mut out)?;

@@ -12,7 +12,7 @@ use std::thread::Threads;
 pub(crate) struct NoDisk;
 
 impl Disk for NoDisk {
-    fn may_be_early(&self, _: &str) -> bool {
+    fn may_be_read_ahead(&self, _: &str) -> bool {
         false
     }
 

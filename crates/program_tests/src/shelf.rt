@@ -2,7 +2,7 @@
 ghost use Rattle.std.specs.Prelude.{◌≡◌, ◌++◌, ◌∷◌, [], IfOk, OnOk, Some, map, option_map};
 ghost use Rattle.std.specs.Prelude.{string_bytes};
 
-use fare_program::{Early, LoadFault, Source};
+use fare_program::{FileAhead, LoadFault, Source};
 pub use sample_table::SAMPLE;
 use std::alloc::{AllocError, Global};
 
@@ -69,7 +69,7 @@ impl Source for Shelf<'_> {
       bytes = g.bytes.items;
     }) s.given.items) };
 
-    fn keep_early(&mut self, _: Vec<Early>) {}
+    fn keep_ahead(&mut self, _: Vec<FileAhead>) {}
 
     fn load(&mut self, name: &str) -> Result<Vec<u8>, LoadFault> {
         let content = self.content(name);

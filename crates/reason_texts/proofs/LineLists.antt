@@ -7,17 +7,17 @@ use Rattle.account_rule.specs.declared.tap.TapIn.{TapIn}
 use Rattle.fare_table.specs.Fares.{Fares}
 use Rattle.shard_book.specs.declared.entry.Entry.{Entry}
 use Rattle.fare_table.specs.declared.token.Token.{Token}
-use Rattle.reason_texts.specs.Ledger.{AreLinesAfter, AreTokenLines, IsTokenLine}
+use Rattle.reason_texts.specs.Ledger.{AreLedgerLinesAfter, AreLedgerLines, IsLedgerLineAfter}
 
 lines-push : (fares : Fares) (token : Token) (earlier entries : List Entry) (entry : Entry)
     (text line : List ℕ)
-    → AreLinesAfter fares token earlier entries text
-    → IsTokenLine fares token (earlier ++ entries) entry line
-    → AreLinesAfter fares token earlier (entries ++ entry ∷ []) (text ++ line)
+    → AreLedgerLinesAfter fares token earlier entries text
+    → IsLedgerLineAfter fares token (earlier ++ entries) entry line
+    → AreLedgerLinesAfter fares token earlier (entries ++ entry ∷ []) (text ++ line)
 lines-push fares token earlier [] entry text line empty is = (
   line,
   [],
-  subst (λ (es : List Entry). IsTokenLine fares token es entry line) (append-nil earlier) is,
+  subst (λ (es : List Entry). IsLedgerLineAfter fares token es entry line) (append-nil earlier) is,
   refl,
   ap (λ t. t ++ line) empty ∙ sym (append-nil line),
 )
@@ -27,7 +27,7 @@ lines-push fares token earlier (first ∷ entries) entry text line (start, rest,
       rest ++ line,
       shown,
       lines-push fares token (earlier ++ first ∷ []) entries entry rest line are
-          (subst (λ (es : List Entry). IsTokenLine fares token es entry line)
+          (subst (λ (es : List Entry). IsLedgerLineAfter fares token es entry line)
           (sym (append_assoc earlier (first ∷ []) entries)) is),
       ap (λ t. t ++ line) whole ∙ append_assoc start rest line,
     )
@@ -46,10 +46,10 @@ more f xs place other within =
 -- the lines of the first entries, and the next one's
 pub next_lines : (fares : Fares) (token : Token) (entries : List Entry) (place : ℕ) (other : Entry)
     → place < length entries → (text line : List ℕ)
-    → AreTokenLines fares token (take place entries) text
-    → IsTokenLine fares token (take place entries) (get_or entries place other) line
-    → AreTokenLines fares token (take (place + 1) entries) (text ++ line)
+    → AreLedgerLines fares token (take place entries) text
+    → IsLedgerLineAfter fares token (take place entries) (get_or entries place other) line
+    → AreLedgerLines fares token (take (place + 1) entries) (text ++ line)
 next_lines fares token entries place other within text line are is =
-    subst (λ (es : List Entry). AreTokenLines fares token es (text ++ line))
+    subst (λ (es : List Entry). AreLedgerLines fares token es (text ++ line))
     (sym (taken entries place other within))
     (lines-push fares token [] (take place entries) (get_or entries place other) text line are is)

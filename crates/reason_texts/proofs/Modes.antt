@@ -5,7 +5,7 @@ use Rattle.fare_table.specs.Fares.{Fares}
 use Rattle.fare_table.specs.declared.mode.Mode.{Mode}
 use Rattle.account_rule.specs.Chains.{chains, ends_in_transfer, is_even}
 use Rattle.account_rule.specs.Blocks.{last_block}
-use Rattle.account_rule.specs.Kept.{State, kept_giver, kept_of}
+use Rattle.account_rule.specs.Kept.{Kept, kept_giver, kept_of}
 use Rattle.account_rule.specs.Reasons.{reason}
 use Rattle.account_rule.specs.TokenRules.{TokenRules, rules_of}
 use Rattle.account_rule.specs.Stands.{KeepsOf, Stands, giver_of}
@@ -30,7 +30,7 @@ unfolding live_at
 same-mode giver moment mode same = cc
 
 -- the account's giver is the ride that gives the transfer
-within : (rules : TokenRules) (kept : Option State) (taps : List TapIn) (tap : TapIn) (moment : ℕ)
+within : (rules : TokenRules) (kept : Option Kept) (taps : List TapIn) (tap : TapIn) (moment : ℕ)
     (mode : Mode)
     → KeepsOf rules kept taps → reason rules taps tap ≡ Transfer moment mode
     → mode.place < rules.modes

@@ -46,14 +46,14 @@ entry_fields fares entry =
     ++ (codes "," ++ (decimal entry.cents ++ codes ",")))))))
 
 -- `,1,full,`, where the ride's place in its window counts from 1
-unfoldable pub placed : ℕ → List ℕ → List ℕ
-placed place word = codes "," ++ (decimal (place + 1) ++ (codes "," ++ (word ++ codes ",")))
+unfoldable pub place_fields : ℕ → List ℕ → List ℕ
+place_fields place word = codes "," ++ (decimal (place + 1) ++ (codes "," ++ (word ++ codes ",")))
 
 -- a ride's place and what decided its cents; no place where the ride limit is reached
 abbrev pub ride_rest : Charge → List ℕ
-ride_rest (Full place cents) = placed place (codes "full")
-ride_rest (CeilingCut place cents) = placed place (codes "ceiling-cut")
-ride_rest (CeilingReached place) = placed place (codes "ceiling")
+ride_rest (Full place cents) = place_fields place (codes "full")
+ride_rest (CeilingCut place cents) = place_fields place (codes "ceiling-cut")
+ride_rest (CeilingReached place) = place_fields place (codes "ceiling")
 ride_rest RideLimitReached = codes ",,ride-limit,"
 
 -- the window's start and end, the ride's place and what decided its cents
@@ -93,19 +93,19 @@ reason_after fares token earlier entry =
     reason (rules_of fares (bytes_of token)) (map (tap_of fares) earlier) (tap_of fares entry)
 
 -- the line of the token's entry that follows the earlier ones: its number, and its reason
-abbrev pub IsTokenLine : Fares → Token → List Entry → Entry → List ℕ → Type 0
-IsTokenLine fares token earlier entry line =
+abbrev pub IsLedgerLineAfter : Fares → Token → List Entry → Entry → List ℕ → Type 0
+IsLedgerLineAfter fares token earlier entry line =
     IsLedgerLine fares token (length earlier + 1) entry (reason_after fares token earlier entry)
     line
 
 -- a line for each of the token's entries that follow the earlier ones
-abbrev pub AreLinesAfter : Fares → Token → List Entry → List Entry → List ℕ → Type 0
-AreLinesAfter fares token earlier [] text = text ≡ []
-AreLinesAfter fares token earlier (entry ∷ entries) text =
-    (line : List ℕ) × (rest : List ℕ) × IsTokenLine fares token earlier entry line
-    × AreLinesAfter fares token (earlier ++ entry ∷ []) entries rest
+abbrev pub AreLedgerLinesAfter : Fares → Token → List Entry → List Entry → List ℕ → Type 0
+AreLedgerLinesAfter fares token earlier [] text = text ≡ []
+AreLedgerLinesAfter fares token earlier (entry ∷ entries) text =
+    (line : List ℕ) × (rest : List ℕ) × IsLedgerLineAfter fares token earlier entry line
+    × AreLedgerLinesAfter fares token (earlier ++ entry ∷ []) entries rest
     × (text ≡ line ++ rest)
 
 -- a line for each of the token's entries, in order, numbered from 1
-abbrev pub AreTokenLines : Fares → Token → List Entry → List ℕ → Type 0
-AreTokenLines fares token entries text = AreLinesAfter fares token [] entries text
+abbrev pub AreLedgerLines : Fares → Token → List Entry → List ℕ → Type 0
+AreLedgerLines fares token entries text = AreLedgerLinesAfter fares token [] entries text

@@ -1,7 +1,7 @@
 //! The lines of a token in the ledger.
 
 ghost use Rattle.std.specs.Prelude.{◌≡◌, ◌++◌, OnOk, List, ℕ, codes, string_bytes};
-ghost use Rattle.reason_texts.specs.Ledger.{AreTokenLines, head_text};
+ghost use Rattle.reason_texts.specs.Ledger.{AreLedgerLines, head_text};
 
 use crate::teller::Teller;
 use fare_table::{Clock, FareTable, NoMemory};
@@ -24,7 +24,7 @@ pub fn write_token_lines(
     entries: &[Entry],
 ) -> Result<(), NoMemory>
     requires { clock.now ≡ table.now.zone }
-    ensures { OnOk result ((written : List ℕ) × AreTokenLines table.now token entries.now written
+    ensures { OnOk result ((written : List ℕ) × AreLedgerLines table.now token entries.now written
         × (string_bytes text.new ≡ string_bytes text.old ++ written)) }
 {
     let mut teller = Teller::of(token);

@@ -2,7 +2,7 @@
 //! moment that it points at.
 
 ghost use Rattle.std.specs.Prelude.{◌≡◌, ◌+◌, ◌++◌, List, ℕ, OnOk, string_bytes};
-ghost use Rattle.reason_texts.specs.Ledger.{IsReasonFields, IsPointing, IsRideFields, placed};
+ghost use Rattle.reason_texts.specs.Ledger.{IsReasonFields, IsPointing, IsRideFields, place_fields};
 ghost use Rattle.reason_texts.specs.Ledger.{ride_rest};
 
 use account_rule::{Charge, Reason};
@@ -60,9 +60,10 @@ fn write_ride_rest(text: &mut String, charge: Charge) -> Result<(), AllocError>
 }
 
 /// Appends a ride's place, counted from 1, and a word.
-#[tactic(auto, unfolding(crate::specs::Ledger::placed))]
+#[tactic(auto, unfolding(crate::specs::Ledger::place_fields))]
 fn write_placed(text: &mut String, place: u32, word: &str) -> Result<(), AllocError>
-    ensures { OnOk result (string_bytes text.new ≡ string_bytes text.old ++ placed place word.now) }
+    ensures { OnOk result (string_bytes text.new ≡ string_bytes text.old
+        ++ place_fields place word.now) }
 {
     let ride = u64::from(place) + 1;
     write!(text, ",{ride},{word},")

@@ -10,7 +10,7 @@ ghost use Rattle.fare_table.specs.Token.{bytes_of};
 ghost use Rattle.fare_table.specs.Until.{until};
 ghost use Rattle.shard_book.specs.Entry.{tap_of};
 ghost use Rattle.shard_book.specs.declared.entry.Entry.{Entry};
-ghost use Rattle.reason_texts.specs.Ledger.{IsTokenLine, reason_after};
+ghost use Rattle.reason_texts.specs.Ledger.{IsLedgerLineAfter, reason_after};
 ghost use Rattle.reason_texts.specs.Tellers.{HasTold};
 ghost use Rattle.reason_texts.specs.ReasonWords.{HasModeOf};
 
@@ -123,7 +123,7 @@ impl Teller {
 
         // After all entries that it has told.
         ensures line { OnOk result ((earlier : List Entry) → HasTold table.now self.old earlier
-            → (line : List ℕ) × IsTokenLine table.now self.old.token earlier entry.now line
+            → (line : List ℕ) × IsLedgerLineAfter table.now self.old.token earlier entry.now line
             × (string_bytes text.new ≡ string_bytes text.old ++ line)) }
         ensures told { OnOk result ((earlier : List Entry) → HasTold table.now self.old earlier
             → HasTold table.now self.new (earlier ++ entry.now ∷ [])) }

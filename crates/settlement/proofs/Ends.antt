@@ -6,7 +6,7 @@ use Rattle.tap_views.specs.Files.{AreGoodTaps}
 use Rattle.upload_facts.specs.Facts.{taps_of_batches}
 use Rattle.tap_parts.specs.Uploads.{IsUploadAdded}
 use Rattle.tap_parts.specs.declared.upload.UploadTaps.{UploadTaps}
-use Rattle.fare_service.specs.Ends.{end_by}
+use Rattle.fare_service.specs.EndsOfUploads.{end_by}
 use Rattle.fare_service.specs.Plain.{IsPlainEnd}
 use Rattle.fare_service.specs.declared.upload_end.UploadEnd.{UploadEnd}
 

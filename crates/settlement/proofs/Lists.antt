@@ -12,17 +12,17 @@ use Rattle.fare_service.specs.Plain.{IsPlainEnd}
 use Rattle.fare_service.specs.declared.upload_end.UploadEnd.{UploadEnd}
 use Rattle.fare_service.proofs.PlainRuns.{AllZip-append}
 use Rattle.settlement.specs.inside.SplitTaps.{AreInParts, in_part}
-use Rattle.tap_parts.specs.Parts.{uploads_joined}
+use Rattle.tap_parts.specs.Parts.{taps_of_uploads}
 
 -- the taps of a part in two runs of uploads
 parts_joined : (part parts : ℕ) (one other : List (List Tap))
-    → map fields_of (of_part part parts (uploads_joined (one ++ other)))
-    ≡ map fields_of (of_part part parts (uploads_joined one))
-    ++ map fields_of (of_part part parts (uploads_joined other))
+    → map fields_of (of_part part parts (taps_of_uploads (one ++ other)))
+    ≡ map fields_of (of_part part parts (taps_of_uploads one))
+    ++ map fields_of (of_part part parts (taps_of_uploads other))
 parts_joined part parts one other =
     ap (λ taps. map fields_of (of_part part parts taps))
     (flat_map-append (λ (upload : List Tap). upload) one other)
-    ∙ fields-append part parts (uploads_joined one) (uploads_joined other)
+    ∙ fields-append part parts (taps_of_uploads one) (taps_of_uploads other)
 
 -- a run of uploads, and then the next run
 pub both_split : (parts : ℕ) (one other : List (List ℕ)) (lists more : List (List (List TapFields)))
@@ -38,7 +38,7 @@ both_split parts one other lists more ends later front back = record {
   each = λ part within.
       flat_map-append (λ (list : List (List TapFields)). get_or list part []) lists more
       ∙ ap (λ taps. taps ++ in_part part more) (front.each part within)
-      ∙ ap (λ taps. map fields_of (of_part part parts (uploads_joined front.taps)) ++ taps)
+      ∙ ap (λ taps. map fields_of (of_part part parts (taps_of_uploads front.taps)) ++ taps)
       (back.each part within)
       ∙ sym (parts_joined part parts front.taps back.taps);
   ended = AllZip-append IsPlainEnd one ends other later front.ended back.ended;

@@ -23,7 +23,7 @@ use Rattle.fare_service.specs.Plain.{AreApart, HasOneReading}
 use Rattle.fare_service.specs.declared.upload_end.UploadEnd.{UploadEnd}
 use Rattle.tap_parts.specs.Canonical.{tap_cmp}
 use Rattle.settlement.specs.Settled.{IsPartFile, IsSettled}
-use Rattle.tap_parts.specs.Parts.{uploads_joined}
+use Rattle.tap_parts.specs.Parts.{taps_of_uploads}
 use Rattle.settlement.proofs.Histories.{read_fields}
 use Rattle.settlement.proofs.Same.{part_fields}
 use Rattle.tap_parts.proofs.Total.{tap_cmp_total, tap_cmp_exact}
@@ -142,7 +142,7 @@ pub all_placed : (uploads : List (List ℕ)) (ends : List UploadEnd) (files : Li
     → (i : ℕ) (ts : List Tap) → slice_get taps i ≡ Some ts → IsPlaced (length files) i ts
 all_placed uploads ends files taps cuts is each i ts there =
     let (file, at, of, cut) = file_at files taps i ts cuts each there in
-    placed (length files) i (uploads_joined is.taps) file ts cut of (is.each i file at)
+    placed (length files) i (taps_of_uploads is.taps) file ts cut of (is.each i file at)
 
 -- ---- no token has taps in two files
 in_its_part : (parts part : ℕ) (taps : List Tap) (tap : Tap)
@@ -173,7 +173,7 @@ apart uploads ends files taps cuts is each =
 -- ---- one file after the other
 later : (parts n : ℕ) (taps : List (List Tap))
     → ((i : ℕ) (ts : List Tap) → slice_get taps i ≡ Some ts → IsPlaced parts (n + i) ts)
-    → All (λ (f : TapFields). n ≤ part_of_token f.token parts) (map fields_of (uploads_joined taps))
+    → All (λ (f : TapFields). n ≤ part_of_token f.token parts) (map fields_of (taps_of_uploads taps))
 later parts n [] each = All-nil (λ (f : TapFields). n ≤ part_of_token f.token parts)
 later parts n (t ∷ taps) each =
     let P : TapFields → Type 0 = λ f. n ≤ part_of_token f.token parts in
@@ -184,13 +184,13 @@ later parts n (t ∷ taps) each =
     let next = later parts (n + 1) taps (λ i ts there.
     subst (λ k. IsPlaced parts k ts) (omega arith) (each (suc i) ts there)) in
     let rest = all_map (λ (f : TapFields). n + 1 ≤ part_of_token f.token parts) P
-    (map fields_of (uploads_joined taps)) (λ f e. omega (arith, e)) next in
-    subst Q (sym (map-append fields_of t (uploads_joined taps)))
-    (All-append P (map fields_of t) (map fields_of (uploads_joined taps)) here rest)
+    (map fields_of (taps_of_uploads taps)) (λ f e. omega (arith, e)) next in
+    subst Q (sym (map-append fields_of t (taps_of_uploads taps)))
+    (All-append P (map fields_of t) (map fields_of (taps_of_uploads taps)) here rest)
 
 pub all_rise : (parts n : ℕ) (taps : List (List Tap))
     → ((i : ℕ) (ts : List Tap) → slice_get taps i ≡ Some ts → IsPlaced parts (n + i) ts)
-    → Pairs Rises (map fields_of (uploads_joined taps))
+    → Pairs Rises (map fields_of (taps_of_uploads taps))
 all_rise parts n [] each = tt
 all_rise parts n (t ∷ taps) each =
     let Q : List TapFields → Type 0 = λ fs. Pairs Rises fs in
@@ -200,12 +200,12 @@ all_rise parts n (t ∷ taps) each =
     let here = each 0 t refl in
     let rest = all_rise parts (n + 1) taps shift in
     let behind = later parts (n + 1) taps shift in
-    let cross = all_map (IsIn parts (n + 0)) (λ f. All (Rises f) (map fields_of (uploads_joined taps)))
+    let cross = all_map (IsIn parts (n + 0)) (λ f. All (Rises f) (map fields_of (taps_of_uploads taps)))
     (map fields_of t)
     (λ f e. all_map (λ (g : TapFields). n + 1 ≤ part_of_token g.token parts) (Rises f)
-    (map fields_of (uploads_joined taps))
+    (map fields_of (taps_of_uploads taps))
     (λ g far same. absurd (let h : part_of_token f.token parts
     ≡ part_of_token g.token parts = ap (λ t. part_of_token t parts) same in
     omega (arith, e, far, h))) behind) here.0 in
-    subst Q (sym (map-append fields_of t (uploads_joined taps)))
-    (pairs_append Rises (map fields_of t) (map fields_of (uploads_joined taps)) here.1 rest cross)
+    subst Q (sym (map-append fields_of t (taps_of_uploads taps)))
+    (pairs_append Rises (map fields_of t) (map fields_of (taps_of_uploads taps)) here.1 rest cross)

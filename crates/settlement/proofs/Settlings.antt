@@ -23,7 +23,7 @@ use Rattle.fare_service.proofs.PlainReplies.{bare, plain_bare, plain_legal}
 use Rattle.settlement.specs.Alike.{DifferInUploads, HaveSameTaps}
 use Rattle.tap_parts.specs.Canonical.{tap_cmp}
 use Rattle.settlement.specs.Settled.{IsSettledHistory}
-use Rattle.tap_parts.specs.Parts.{uploads_joined}
+use Rattle.tap_parts.specs.Parts.{taps_of_uploads}
 use Rattle.settlement.specs.Twins.{HasTwin, IsInTimeOrder}
 use Rattle.settlement.proofs.Histories.{same_after}
 use Rattle.settlement.proofs.Own.{IsNamedBy}
@@ -43,18 +43,18 @@ same_history fares uploads others history again cuts other_cuts same one other =
     let there = one_list others same.other_taps other.taps other_cuts same.of_others
     other.of_uploads in
     let P : List (List Tap) → Type 0 =
-    λ ts. IsPermutation (map fields_of (uploads_joined ts)) (map fields_of (uploads_joined same.other_taps)) in
+    λ ts. IsPermutation (map fields_of (taps_of_uploads ts)) (map fields_of (taps_of_uploads same.other_taps)) in
     let Q : List (List Tap) → Type 0 =
-    λ ts. IsPermutation (map fields_of (uploads_joined one.taps)) (map fields_of (uploads_joined ts)) in
-    let moved : IsPermutation (map fields_of (uploads_joined one.taps))
-    (map fields_of (uploads_joined other.taps)) = subst Q there (subst P here same.moved) in
+    λ ts. IsPermutation (map fields_of (taps_of_uploads one.taps)) (map fields_of (taps_of_uploads ts)) in
+    let moved : IsPermutation (map fields_of (taps_of_uploads one.taps))
+    (map fields_of (taps_of_uploads other.taps)) = subst Q there (subst P here same.moved) in
     let list = same_sorted tap_cmp tap_cmp_total tap_cmp_exact (map fields_of one.order)
     (map fields_of other.order) one.canonical.sorted other.canonical.sorted
-    (λ f. sum_by-IsPermutation f (map fields_of (uploads_joined one.taps)) (map fields_of one.order)
+    (λ f. sum_by-IsPermutation f (map fields_of (taps_of_uploads one.taps)) (map fields_of one.order)
     one.canonical.moved
-    ∙ sym (sum_by-IsPermutation f (map fields_of (uploads_joined one.taps))
-    (map fields_of (uploads_joined other.taps)) moved)
-    ∙ sym (sum_by-IsPermutation f (map fields_of (uploads_joined other.taps)) (map fields_of other.order)
+    ∙ sym (sum_by-IsPermutation f (map fields_of (taps_of_uploads one.taps))
+    (map fields_of (taps_of_uploads other.taps)) moved)
+    ∙ sym (sum_by-IsPermutation f (map fields_of (taps_of_uploads other.taps)) (map fields_of other.order)
     other.canonical.moved)) in
     one.entries ∙ same_after fares [] one.order other.order list ∙ sym other.entries
 
@@ -81,7 +81,7 @@ same_reports uploads others history again text other same one two = record {
 pub some_history : (fares : Fares) (uploads : List (List ℕ)) (taps : List (List Tap))
     → AreGoodTapsOfEach uploads taps → (history : List Entry) × IsSettledHistory fares uploads history
 some_history fares uploads taps each =
-    let (order, canonical) = canonical_order (uploads_joined taps) in (
+    let (order, canonical) = canonical_order (taps_of_uploads taps) in (
       plain fares order,
       record {
         taps = taps;
@@ -115,16 +115,16 @@ zip_after fares earlier (tap ∷ taps) names = (
 
 module _ (fares : Fares) (uploads : List (List ℕ)) (cuts : All HasOneReading uploads)
     (later : List Entry) (p : IsPlain fares uploads later)
-    (zip : AreEntriesOf (uploads_joined p.taps) later) where
+    (zip : AreEntriesOf (taps_of_uploads p.taps) later) where
   -- the settled history has the fields of the taps in their order
   in_order : (history : List Entry) (is : IsSettledHistory fares uploads history)
       → AreEntriesOf is.order history
   in_order history is =
       let same = one_list uploads p.taps is.taps cuts p.each is.of_uploads in
-      let N : List (List Tap) → Type 0 = λ ts. All IsNamedBy (map fields_of (uploads_joined ts)) in
-      let names = subst N same (fields_named (uploads_joined p.taps) later zip (ap (map bare) p.entries
-      ∙ plain_bare fares [] (uploads_joined p.taps))) in
-      let moved = All-permutation IsNamedBy (map fields_of (uploads_joined is.taps))
+      let N : List (List Tap) → Type 0 = λ ts. All IsNamedBy (map fields_of (taps_of_uploads ts)) in
+      let names = subst N same (fields_named (taps_of_uploads p.taps) later zip (ap (map bare) p.entries
+      ∙ plain_bare fares [] (taps_of_uploads p.taps))) in
+      let moved = All-permutation IsNamedBy (map fields_of (taps_of_uploads is.taps))
       (map fields_of is.order) is.canonical.moved names in
       let E : List Entry → Type 0 = λ es. AreEntriesOf is.order es in
       subst E (sym is.entries) (zip_after fares [] is.order moved)

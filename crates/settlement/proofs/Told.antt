@@ -36,7 +36,7 @@ use Rattle.fare_service.proofs.PlainSums.{AllHere, RisingNumbers, RisingTokens, 
 use Rattle.fare_service.proofs.PlainSums.{same_entries, same_by_validator, same_by_token}
 use Rattle.fare_service.proofs.PlainUploads.{AllNamed, same_statement, statement_same}
 use Rattle.settlement.specs.Settled.{IsSettled}
-use Rattle.tap_parts.specs.Parts.{uploads_joined}
+use Rattle.tap_parts.specs.Parts.{taps_of_uploads}
 use Rattle.settlement.specs.SettledTexts.{HasSettledTexts}
 use Rattle.settlement.proofs.Histories.{read_fields}
 use Rattle.settlement.proofs.Own.{IsNamedBy, same_own}
@@ -127,7 +127,7 @@ module _ (parts : ℕ) (g : TapFields → ℕ) where
       → ((i : ℕ) (ts : List Tap) → slice_get lists i ≡ Some ts
       → sum_by g (map fields_of ts)
       ≡ sum_by (λ x. cond (part_of_token x.token parts == k + i) (g x) 0) fs)
-      → sum_by g (map fields_of (uploads_joined lists)) ≡ sum_by (counted k (length lists)) fs
+      → sum_by g (map fields_of (taps_of_uploads lists)) ≡ sum_by (counted k (length lists)) fs
   unfolding counted
   sum_parts fs k [] each = sym (none_summed fs)
   sum_parts fs k (ts ∷ lists) each =
@@ -136,9 +136,9 @@ module _ (parts : ℕ) (g : TapFields → ℕ) where
       each 0 ts refl ∙ ap at (let e : k + 0 ≡ k = omega arith in e) in
       let rest = sum_parts fs (k + 1) lists (λ i more there. each (suc i) more there
       ∙ ap at (let e : k + suc i ≡ k + 1 + i = omega arith in e)) in
-      ap (sum_by g) (map-append fields_of ts (uploads_joined lists))
-      ∙ summed_append g (map fields_of ts) (map fields_of (uploads_joined lists))
-      ∙ ap (λ n. n + sum_by g (map fields_of (uploads_joined lists))) here ∙ ap (λ n. at k + n) rest
+      ap (sum_by g) (map-append fields_of ts (taps_of_uploads lists))
+      ∙ summed_append g (map fields_of ts) (map fields_of (taps_of_uploads lists))
+      ∙ ap (λ n. n + sum_by g (map fields_of (taps_of_uploads lists))) here ∙ ap (λ n. at k + n) rest
       ∙ sym (both_summed (λ x. cond (part_of_token x.token parts == k) (g x) 0)
       (counted (k + 1) (length lists)) fs)
 
@@ -147,9 +147,9 @@ pub files_alike : (uploads : List (List ℕ)) (ends : List UploadEnd) (files : L
     (taps : List (List Tap)) → All HasOneReading files → (is : IsSettled uploads ends files)
     → AreGoodTapsOfEach files taps
     → length files ≡ length taps
-    → AreAlike (map fields_of (uploads_joined taps)) (map fields_of (uploads_joined is.taps))
+    → AreAlike (map fields_of (taps_of_uploads taps)) (map fields_of (taps_of_uploads is.taps))
 files_alike uploads ends files taps cuts is each number g =
-    let fs = map fields_of (uploads_joined is.taps) in
+    let fs = map fields_of (taps_of_uploads is.taps) in
     let parts = length files in
     sum_parts parts g fs 0 taps by_part
     ∙ (λ i. sum_by (λ x. counted_all parts g 0 (length taps) x (omega arith) (below x) i) fs)
@@ -161,19 +161,19 @@ files_alike uploads ends files taps cuts is each number g =
     by_part : (i : ℕ) (ts : List Tap) → slice_get taps i ≡ Some ts
         → sum_by g (map fields_of ts)
         ≡ sum_by (λ x. cond (part_of_token x.token (length files) == 0 + i) (g x) 0)
-        (map fields_of (uploads_joined is.taps))
+        (map fields_of (taps_of_uploads is.taps))
     by_part i ts there =
         let (file, at, of, cut) = file_at files taps i ts cuts each there in
         let part = is.each i file at in
         let told : ℕ → ℕ = λ p. sum_by (λ x.
         cond (part_of_token x.token (length files) == p) (g x) 0)
-        (map fields_of (uploads_joined is.taps)) in
+        (map fields_of (taps_of_uploads is.taps)) in
         ap (sum_by g) (read_fields file ts part.list cut of part.reads)
-        ∙ sum_by-IsPermutation g (map fields_of (of_part i (length files) (uploads_joined is.taps)))
+        ∙ sum_by-IsPermutation g (map fields_of (of_part i (length files) (taps_of_uploads is.taps)))
         part.list part.canonical.moved
-        ∙ ap (sum_by g) (part_fields i (length files) (uploads_joined is.taps))
+        ∙ ap (sum_by g) (part_fields i (length files) (taps_of_uploads is.taps))
         ∙ sum_filter (λ x. part_of_token x.token (length files) == i) g
-        (map fields_of (uploads_joined is.taps))
+        (map fields_of (taps_of_uploads is.taps))
         ∙ ap told (let e : i ≡ 0 + i = omega arith in e)
 
 -- ---- names
@@ -205,13 +205,13 @@ pub tells : (given : Given) (works : List (List Worked)) (outcome : OutcomeView)
     (uploads : List (List ℕ)) (ends : List UploadEnd) (later : List Entry)
     → 0 < length outcome.books → AllNamed outcome → AllHere outcome → All HasOneReading given.uploads
     → RisingNumbers → RisingTokens
-    → (is : IsPlain given.table given.uploads later) → AreEntriesOf (uploads_joined is.taps) later
+    → (is : IsPlain given.table given.uploads later) → AreEntriesOf (taps_of_uploads is.taps) later
     → IsSettled uploads ends given.uploads
     → Headline given.table given.shards given.uploads works outcome → All WasNotCut outcome.ends
     → HasSettledTexts given.table uploads ends outcome
 tells given works outcome uploads ends later some named here cuts numbers tokens is fields settled
     headline whole =
-    let (order, canonical) = canonical_order (uploads_joined settled.taps) in
+    let (order, canonical) = canonical_order (taps_of_uploads settled.taps) in
     let history = plain given.table order in
     let w : IsUncutGathering given.table given.shards given.uploads outcome later = record {
       works = works;
@@ -220,21 +220,21 @@ tells given works outcome uploads ends later some named here cuts numbers tokens
       plain_is = is;
       apart = apart uploads ends given.uploads is.taps cuts settled is.each;
     } in
-    let alike : AreAlike (map fields_of (uploads_joined is.taps)) (map fields_of order) = λ f.
+    let alike : AreAlike (map fields_of (taps_of_uploads is.taps)) (map fields_of order) = λ f.
     files_alike uploads ends given.uploads is.taps cuts settled is.each
     (each_length given.uploads is.taps is.each) f
-    ∙ sym (sum_by-IsPermutation f (map fields_of (uploads_joined settled.taps)) (map fields_of order)
+    ∙ sym (sum_by-IsPermutation f (map fields_of (taps_of_uploads settled.taps)) (map fields_of order)
     canonical.moved) in
-    let names = fields_named (uploads_joined is.taps) later fields (ap (map bare) is.entries
-    ∙ plain_bare given.table [] (uploads_joined is.taps)) in
+    let names = fields_named (taps_of_uploads is.taps) later fields (ap (map bare) is.entries
+    ∙ plain_bare given.table [] (taps_of_uploads is.taps)) in
     let placed = all_placed uploads ends given.uploads is.taps cuts settled is.each in
     let P : ℕ → List Tap → Type 0 = λ i ts. IsPlaced (length given.uploads) i ts in
     let rises = all_rise (length given.uploads) 0 is.taps (λ i ts there.
     subst (λ k. P k ts) (let e : i ≡ 0 + i = omega arith in e) (placed i ts there)) in
     let same : (token : Token) → own token later ≡ own token history = λ token.
     ap (own token) is.entries
-    ∙ same_plain given.table token (uploads_joined is.taps) order
-    (same_own token (uploads_joined is.taps) order alike names rises canonical.sorted) in
+    ∙ same_plain given.table token (taps_of_uploads is.taps) order
+    (same_own token (taps_of_uploads is.taps) order alike names rises canonical.sorted) in
     let all = all_entries outcome.books in
     let books : (token : Token) → own token all ≡ own token history =
     λ token. own_all given outcome later some named here cuts w token ∙ same token in

@@ -7,7 +7,7 @@ use Rattle.tap_views.specs.Files.{AreGoodTapsOfEach}
 use Rattle.fare_service.specs.Plain.{ArePlainEnds}
 use Rattle.fare_service.specs.Text.{uploads_section}
 use Rattle.fare_service.specs.declared.upload_end.UploadEnd.{UploadEnd}
-use Rattle.tap_parts.specs.Parts.{uploads_joined}
+use Rattle.tap_parts.specs.Parts.{taps_of_uploads}
 
 -- the good taps of the uploads are those of the others, in some order
 pub record HaveSameTaps (uploads others : List (List ℕ)) : Type 0 where
@@ -15,8 +15,8 @@ pub record HaveSameTaps (uploads others : List (List ℕ)) : Type 0 where
   pub other_taps : List (List Tap)
   pub of_uploads : AreGoodTapsOfEach uploads taps
   pub of_others : AreGoodTapsOfEach others other_taps
-  pub moved : IsPermutation (map fields_of (uploads_joined taps))
-      (map fields_of (uploads_joined other_taps))
+  pub moved : IsPermutation (map fields_of (taps_of_uploads taps))
+      (map fields_of (taps_of_uploads other_taps))
 
 -- both texts are the same after the lines of their uploads
 pub record DifferInUploads (uploads others : List (List ℕ)) (text other : List ℕ) : Type 0 where

@@ -5,7 +5,7 @@ use Rattle.tap_views.specs.Layout.{Tap}
 use Rattle.tap_views.specs.declared.encoder.TapFields.{TapFields}
 use Rattle.fare_table.specs.Fares.{Fares}
 use Rattle.shard_book.specs.declared.entry.Entry.{Entry}
-use Rattle.tap_parts.specs.Parts.{of_part, IsFileOf, uploads_joined}
+use Rattle.tap_parts.specs.Parts.{of_part, IsFileOf, taps_of_uploads}
 use Rattle.tap_views.specs.Files.{AreGoodTapsOfEach}
 use Rattle.fare_service.specs.Plain.{ArePlainEnds, plain}
 use Rattle.fare_service.specs.declared.upload_end.UploadEnd.{UploadEnd}
@@ -18,7 +18,7 @@ pub record IsSettledHistory (fares : Fares) (uploads : List (List ℕ)) (history
   pub taps : List (List Tap)
   pub of_uploads : AreGoodTapsOfEach uploads taps
   pub order : List Tap
-  pub canonical : IsCanonical (map fields_of (uploads_joined taps)) (map fields_of order)
+  pub canonical : IsCanonical (map fields_of (taps_of_uploads taps)) (map fields_of order)
   pub entries : history ≡ plain fares order
 
 -- the file is read, with no fault, as these taps in canonical order
@@ -38,4 +38,4 @@ pub record IsSettled (uploads : List (List ℕ)) (ends : List UploadEnd) (files 
   pub some_part : 1 ≤ length files
   pub few_parts : length files ≤ 65535
   pub each : (part : ℕ) (file : List ℕ) → slice_get files part ≡ Some file
-      → IsPartFile (map fields_of (of_part part (length files) (uploads_joined taps))) file
+      → IsPartFile (map fields_of (of_part part (length files) (taps_of_uploads taps))) file

@@ -9,7 +9,7 @@ use Rattle.account_rule.specs.TokenRules.{TokenRules}
 use Rattle.account_rule.specs.Stands.{Stands}
 use Rattle.shard_book.specs.declared.accounts.Accounts.{Accounts}
 use Rattle.shard_book.specs.declared.accounts.KeptAccount.{KeptAccount}
-use Rattle.shard_book.specs.inside.Accounts.{IsKept, IsKeptOrFresh, IsMade, IsPlace, StandsOn, counted, kept_at}
+use Rattle.shard_book.specs.inside.Accounts.{IsKept, IsKeptOrFresh, HasPlaceFor, IsPlace, StandsOn, counted, kept_at}
 use Rattle.shard_book.specs.Counts.{sums_of_counts}
 use Rattle.shard_book.specs.inside.Packed.{KeepPlaces, tokens_of}
 use Rattle.shard_book.specs.Sums.{sums_of_replies}
@@ -41,7 +41,7 @@ kept_in None other = other
 kept_in (Some pair) other = pair.1
 
 -- what stands at a token's place is what was kept of it, or fresh
-pub found : {old new : Accounts} {token there : Token} {place : ℕ} {here : KeptAccount} → IsMade old new token place → slice_get new.map.entries place ≡ Some (there, here) → IsKeptOrFresh (kept_at old token) here
+pub found : {old new : Accounts} {token there : Token} {place : ℕ} {here : KeptAccount} → HasPlaceFor old new token place → slice_get new.map.entries place ≡ Some (there, here) → IsKeptOrFresh (kept_at old token) here
 unfolding kept_in
 found {old} {new} {token} {there} {place} {here} made at =
     let same : made.kept ≡ here = ap (λ (o : Option (Token × KeptAccount)). kept_in o here) (sym made.at ∙ at) in
@@ -53,7 +53,7 @@ unfolding kept_at
 at_place accounts token there place kept same at is = record { kept = kept; at = at ∙ ap (λ (t : Token). Some (t, kept)) same; is = is }
 
 -- what is at its place need not be made
-pub made_before : (accounts : Accounts) (token : Token) (place : ℕ) → IsPlace accounts token place → IsMade accounts accounts token place
+pub made_before : (accounts : Accounts) (token : Token) (place : ℕ) → IsPlace accounts token place → HasPlaceFor accounts accounts token place
 made_before accounts token place there = record { kept = there.kept; at = there.at; is = subst (λ (o : Option KeptAccount). IsKeptOrFresh o there.kept) (sym there.is) refl; now = there.is }
 
 -- the last one stands behind all others
@@ -62,7 +62,7 @@ slice_get-last [] x = refl
 slice_get-last (y ∷ ys) x = slice_get-last ys x
 
 -- an account that is opened stands last
-pub made_last : (old new : Accounts) (token : Token) (place : ℕ) (fresh : KeptAccount) → place ≡ length old.map.entries → kept_at old token ≡ None → kept_at new token ≡ Some fresh → new.map.entries ≡ insert_entry token_eq old.map.entries token fresh → ((rules : TokenRules) → Stands rules fresh.account []) → sums_of_counts fresh.counts ≡ sums_of_replies [] → IsMade old new token place
+pub made_last : (old new : Accounts) (token : Token) (place : ℕ) (fresh : KeptAccount) → place ≡ length old.map.entries → kept_at old token ≡ None → kept_at new token ≡ Some fresh → new.map.entries ≡ insert_entry token_eq old.map.entries token fresh → ((rules : TokenRules) → Stands rules fresh.account []) → sums_of_counts fresh.counts ≡ sums_of_replies [] → HasPlaceFor old new token place
 unfolding kept_at
 made_last old new token place fresh at none now entries stands counts =
     let last : new.map.entries ≡ old.map.entries ++ (token, fresh) ∷ [] = entries ∙ insert_entry-new token_eq old.map token fresh none in
@@ -93,7 +93,7 @@ at_index token (e ∷ es) some =
     (cases_Bool (token_eq token e.0))
 
 -- an account that was found stands at the index of its token
-pub made_found : (old new : Accounts) (token : Token) (place : ℕ) → new.map.entries ≡ old.map.entries → is_some (kept_at old token) ≡ true → place ≡ insert_index token_eq old.map token → IsMade old new token place
+pub made_found : (old new : Accounts) (token : Token) (place : ℕ) → new.map.entries ≡ old.map.entries → is_some (kept_at old token) ≡ true → place ≡ insert_index token_eq old.map token → HasPlaceFor old new token place
 unfolding kept_at
 made_found old new token place same some index =
     let there : IsAt token old.map.entries (insert_index token_eq old.map token) = at_index token old.map.entries some in
@@ -119,14 +119,14 @@ on-same {old} {new} same = record {
 }
 
 -- and where it is kept now or is fresh
-pub on-made : {old new : Accounts} {token : Token} {place : ℕ} → IsMade old new token place → StandsOn (kept_at old token) (kept_at new token)
+pub on-made : {old new : Accounts} {token : Token} {place : ℕ} → HasPlaceFor old new token place → StandsOn (kept_at old token) (kept_at new token)
 on-made {old} {new} {token} made = record {
   kept = λ rules taps kept. subst (λ (o : Option KeptAccount). IsKept rules o taps) (sym made.now) (stands_or rules (kept_at old token) made.kept taps made.is kept);
   sums = ap counted made.now ∙ counted_or (kept_at old token) made.kept made.is;
 }
 
 -- so all stand on where one was made
-pub on-all : {old new : Accounts} {token : Token} {place : ℕ} → IsMade old new token place → ((other : Token) → token_eq token other ≡ false → kept_at new other ≡ kept_at old other) → (other : Token) → StandsOn (kept_at old other) (kept_at new other)
+pub on-all : {old new : Accounts} {token : Token} {place : ℕ} → HasPlaceFor old new token place → ((other : Token) → token_eq token other ≡ false → kept_at new other ≡ kept_at old other) → (other : Token) → StandsOn (kept_at old other) (kept_at new other)
 on-all {old} {new} {token} made others other =
     ⊎_elim
     (λ (here : token_eq token other ≡ true). subst (λ (t : Token). StandsOn (kept_at old t) (kept_at new t)) (same_token token other here) (on-made made))

@@ -10,7 +10,7 @@ ghost use Rattle.account_rule.specs.TokenRules.{TokenRules, rules_of};
 ghost use Rattle.account_rule.specs.Stands.{Stands, StandsForSome};
 ghost use Rattle.account_rule.specs.declared.tap.TapIn.{TapIn};
 ghost use Rattle.shard_book.specs.inside.Accounts.{kept_at, counted, pairs_of, IsCounting, IsKept};
-ghost use Rattle.shard_book.specs.inside.Accounts.{IsMade, IsPlace, StandsOn};
+ghost use Rattle.shard_book.specs.inside.Accounts.{HasPlaceFor, IsPlace, StandsOn};
 ghost use Rattle.shard_book.specs.inside.Counting.{AreCounted, AreSummed};
 ghost use Rattle.shard_book.specs.inside.Packed.{HasToken, KeepPlaces, tokens_of};
 ghost use Rattle.shard_book.specs.Counts.{token_counts};
@@ -86,7 +86,7 @@ impl Accounts {
     #[inline(always)]
     #[tactic(auto, unfolding(crate::specs::inside::Accounts::kept_at))]
     pub(crate) fn open(&mut self, token: Token) -> Result<u32, NoMemory>
-        ensures made { IfOk result (IsMade self.old self.new token) }
+        ensures made { IfOk result (HasPlaceFor self.old self.new token) }
         ensures others { OnOk result ((other : Token) → token_eq token other ≡ false
             → kept_at self.new other ≡ kept_at self.old other) }
         ensures counting { self.new.counting ≡ self.old.counting }
@@ -126,7 +126,7 @@ impl Accounts {
     /// where it is at `known`.
     #[inline(always)]
     fn place(&mut self, token: Token, known: u32) -> Result<u32, NoMemory>
-        ensures made { IfOk result (IsMade self.old self.new token) }
+        ensures made { IfOk result (HasPlaceFor self.old self.new token) }
         ensures others { OnOk result ((other : Token) → token_eq token other ≡ false
             → kept_at self.new other ≡ kept_at self.old other) }
         ensures counting { self.new.counting ≡ self.old.counting }

@@ -7,7 +7,7 @@ use Rattle.shared_books.specs.Marks.{mark, others, visits_of, history_of_visits}
 use Rattle.shared_books.specs.Turns.{Boxed, IsTurn}
 use Rattle.shared_books.specs.PassStates.{pass_state}
 use Rattle.shared_books.specs.inside.Steps.{Seat, HasTakenBook, given_back}
-use Rattle.shared_books.specs.inside.Views.{IsFree, SeesMore, HasBookOut, BringsVisit}
+use Rattle.shared_books.specs.inside.SeatStates.{IsFree, SeesMore, HasBookOut, BringsVisit}
 use Rattle.shared_books.proofs.MarkLists.{drop_all}
 use Rattle.shared_books.proofs.TurnSteps.{gives_turn}
 
@@ -32,7 +32,7 @@ taken_out st a b c found out free first few t comes e =
     subst P (sym is) (
       record {
         between = t.between;
-        view_is = ap (λ me. me.0) e ∙ (t.view_is ∙ ap (λ met. pass_state a.0.opened a.0.claims true (a.0.marks ++ others t.between) met) free.met);
+        state_is = ap (λ me. me.0) e ∙ (t.state_is ∙ ap (λ met. pass_state a.0.opened a.0.claims true (a.0.marks ++ others t.between) met) free.met);
         number_is = number;
         few = omega arith;
         legal = t.legal;

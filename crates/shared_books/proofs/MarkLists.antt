@@ -3,7 +3,7 @@ use Rattle.std.proofs.Common.{◌≡◌, ℕ, ◌+◌, ◌<◌, ◌≤◌, ◌�
 use Rattle.std.proofs.lemmas.List.{length-map}
 use Rattle.shard_book.specs.declared.entry.Entry.{Entry}
 use Rattle.shared_books.specs.declared.turns.rule.Mark.{Mark}
-use Rattle.shared_books.specs.Marks.{mark, others, visits_of, history_of_visits, made_from, numbered, made_at, Apart, Begins, merged}
+use Rattle.shared_books.specs.Marks.{mark, others, visits_of, history_of_visits, made_from, numbered, made_at, Apart, Begins, joined_marks}
 
 pub visits-append : (xs ys : List Mark) → visits_of (xs ++ ys) ≡ visits_of xs ++ visits_of ys
 visits-append [] ys = refl
@@ -124,7 +124,7 @@ merged_one true false le = refl
 merged_one false true le = refl
 merged_one false false le = refl
 
-pub made_at-merged : (i : ℕ) (xs ys : List Mark) → Apart xs ys → made_at i (merged xs ys) ≡ made_at i xs + made_at i ys
+pub made_at-merged : (i : ℕ) (xs ys : List Mark) → Apart xs ys → made_at i (joined_marks xs ys) ≡ made_at i xs + made_at i ys
 made_at-merged i [] ys apart = omega arith
 made_at-merged i (x ∷ xs) [] apart = omega arith
 made_at-merged zero (x ∷ xs) (y ∷ ys) apart = merged_one x.mine y.mine (apart 0)
@@ -137,11 +137,11 @@ merged_step true false p q r all xs ys le e = omega arith
 merged_step false true p q r all xs ys le e = omega arith
 merged_step false false p q r all xs ys le e = e
 
-pub length-made-merged : (n : ℕ) (xs ys : List Mark) → Apart xs ys → length (made_from n (merged xs ys)) ≡ length (made_from n xs) + length (made_from n ys)
+pub length-made-merged : (n : ℕ) (xs ys : List Mark) → Apart xs ys → length (made_from n (joined_marks xs ys)) ≡ length (made_from n xs) + length (made_from n ys)
 length-made-merged n [] ys apart = omega arith
 length-made-merged n (x ∷ xs) [] apart = omega arith
 length-made-merged n (x ∷ xs) (y ∷ ys) apart =
-    merged_step x.mine y.mine (n, x.visit) (n, x.visit) (n, y.visit) (made_from (n + 1) (merged xs ys)) (made_from (n + 1) xs) (made_from (n + 1) ys) (apart 0)
+    merged_step x.mine y.mine (n, x.visit) (n, x.visit) (n, y.visit) (made_from (n + 1) (joined_marks xs ys)) (made_from (n + 1) xs) (made_from (n + 1) ys) (apart 0)
     (length-made-merged (n + 1) xs ys (λ j. apart (suc j)))
 
 -- beginnings of one list of visits
@@ -151,7 +151,7 @@ tail_of e = ap (λ l. drop 1 l) e
 head_of : {v w : List Entry} {vs ws : List (List Entry)} → v ∷ vs ≡ w ∷ ws → v ≡ w
 head_of {v} e = ap (λ l. get_or l 0 v) e
 
-pub begins_merged : (xs ys : List Mark) (all : List (List Entry)) → Begins (visits_of xs) all → Begins (visits_of ys) all → Begins (visits_of (merged xs ys)) all
+pub begins_merged : (xs ys : List Mark) (all : List (List Entry)) → Begins (visits_of xs) all → Begins (visits_of ys) all → Begins (visits_of (joined_marks xs ys)) all
 begins_merged [] ys all a b = b
 begins_merged (x ∷ xs) [] all a b = a
 begins_merged (x ∷ xs) (y ∷ ys) all a b =

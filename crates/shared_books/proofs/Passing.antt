@@ -8,13 +8,13 @@ use Rattle.shared_books.specs.declared.turns.rule.Opening.{Opening}
 use Rattle.shared_books.specs.declared.turns.rule.Mark.{Mark}
 use Rattle.shared_books.specs.declared.turns.rule.PassState.{PassState}
 use Rattle.shared_books.specs.Claims.{all_claims}
-use Rattle.shared_books.specs.Marks.{mark, others, visits_of, history_of_visits, made_from, numbered, merged, Apart}
-use Rattle.shared_books.specs.Passes.{PassView, seen_by, book_of, IsLater, Visits, IsFull, IsJoined, HasMadeAll}
+use Rattle.shared_books.specs.Marks.{mark, others, visits_of, history_of_visits, made_from, numbered, joined_marks, Apart}
+use Rattle.shared_books.specs.Passes.{PassView, seen_by, book_of, HasSeenMore, Visits, IsFull, IsJoined, HasMadeAll}
 use Rattle.shared_books.specs.inside.Passes.{opened_of}
 use Rattle.shared_books.specs.Turns.{Boxed, book_after}
 use Rattle.shared_books.specs.PassStates.{pass_state}
 use Rattle.shared_books.specs.inside.Steps.{Seat, new_pass_state, left_pass_state, both_pass_states, HasSeen, HasEndedJoin}
-use Rattle.shared_books.specs.inside.Views.{IsFree, SeesMore, HasBookOut, FindsFull, BringsVisit, IsPass}
+use Rattle.shared_books.specs.inside.SeatStates.{IsFree, SeesMore, HasBookOut, FindsFull, BringsVisit, IsPass}
 use Rattle.shared_books.proofs.MarkLists.{visits-caught, visits-append, visits-others, length-visits, others-append, joined-snoc, made-others, made-caught, made-snoc, made_few, made_all, length-made-merged}
 use Rattle.shared_books.proofs.TurnSteps.{Closes}
 
@@ -28,39 +28,39 @@ goes_nowhere me f =
     let same : me.0.marks ≡ me.0.marks ++ [] = sym (append-nil me.0.marks) in
     record {
       between = [];
-      view_is = λ k. record { unjoined = f.unjoined k; opened = me.0.opened; claims = me.0.claims; turn = me.0.turn; marks = same k; met = me.0.met };
+      state_is = λ k. record { unjoined = f.unjoined k; opened = me.0.opened; claims = me.0.claims; turn = me.0.turn; marks = same k; met = me.0.met };
       carries = refl;
     }
 
 pub goes_on : (a b c : Seat) → SeesMore a b → SeesMore b c → SeesMore a c
 goes_on a b c g h =
     let marks : b.0.marks ++ others h.between ≡ a.0.marks ++ others (g.between ++ h.between) =
-    ap (λ v. v.marks ++ others h.between) g.view_is ∙ (append_assoc a.0.marks (others g.between) (others h.between) ∙ ap (λ ms. a.0.marks ++ ms) (sym (others-append g.between h.between))) in
+    ap (λ v. v.marks ++ others h.between) g.state_is ∙ (append_assoc a.0.marks (others g.between) (others h.between) ∙ ap (λ ms. a.0.marks ++ ms) (sym (others-append g.between h.between))) in
     record {
       between = g.between ++ h.between;
-      view_is = h.view_is ∙ (ap (λ ms. pass_state b.0.opened b.0.claims b.0.turn ms b.0.met) marks ∙ ap (λ v. pass_state v.opened v.claims v.turn (a.0.marks ++ others (g.between ++ h.between)) v.met) g.view_is);
+      state_is = h.state_is ∙ (ap (λ ms. pass_state b.0.opened b.0.claims b.0.turn ms b.0.met) marks ∙ ap (λ v. pass_state v.opened v.claims v.turn (a.0.marks ++ others (g.between ++ h.between)) v.met) g.state_is);
       carries = h.carries ∙ g.carries;
     }
 
 pub still_free : (a b : Seat) → IsFree a → SeesMore a b → IsFree b
 still_free a b f g = record {
-  unjoined = ap (λ v. v.unjoined) g.view_is;
-  turn = ap (λ v. v.turn) g.view_is ∙ f.turn;
-  met = ap (λ v. v.met) g.view_is ∙ f.met;
+  unjoined = ap (λ v. v.unjoined) g.state_is;
+  turn = ap (λ v. v.turn) g.state_is ∙ f.turn;
+  met = ap (λ v. v.met) g.state_is ∙ f.met;
   carries = g.carries ∙ f.carries;
 }
 
 pub seen_goes_on : (a : Seat) (found : ℕ) (b : Seat) → HasSeen a found b → SeesMore a b
-seen_goes_on a found b h = record { between = h.between; view_is = h.view_is; carries = h.carries }
+seen_goes_on a found b h = record { between = h.between; state_is = h.state_is; carries = h.carries }
 
 pub out_later : (a b c : Seat) (number : ℕ) (book : Book) → SeesMore a b → HasBookOut b c number book → HasBookOut a c number book
 out_later a b c number book g h =
     let marks : b.0.marks ++ others h.between ≡ a.0.marks ++ others (g.between ++ h.between) =
-    ap (λ v. v.marks ++ others h.between) g.view_is ∙ (append_assoc a.0.marks (others g.between) (others h.between) ∙ ap (λ ms. a.0.marks ++ ms) (sym (others-append g.between h.between))) in
-    let opened : b.0.opened ≡ a.0.opened = ap (λ v. v.opened) g.view_is in
+    ap (λ v. v.marks ++ others h.between) g.state_is ∙ (append_assoc a.0.marks (others g.between) (others h.between) ∙ ap (λ ms. a.0.marks ++ ms) (sym (others-append g.between h.between))) in
+    let opened : b.0.opened ≡ a.0.opened = ap (λ v. v.opened) g.state_is in
     record {
       between = g.between ++ h.between;
-      view_is = h.view_is ∙ (ap (λ ms. pass_state b.0.opened b.0.claims true ms []) marks ∙ ap (λ v. pass_state v.opened v.claims true (a.0.marks ++ others (g.between ++ h.between)) []) g.view_is);
+      state_is = h.state_is ∙ (ap (λ ms. pass_state b.0.opened b.0.claims true ms []) marks ∙ ap (λ v. pass_state v.opened v.claims true (a.0.marks ++ others (g.between ++ h.between)) []) g.state_is);
       number_is = h.number_is ∙ (ap (λ (ms : List Mark). b.0.opened.first + length ms) marks ∙ ap (λ (o : Opening). o.first + length (a.0.marks ++ others (g.between ++ h.between))) opened);
       few = h.few;
       legal = subst (λ (o : Opening). IsLegal o.book.value.table (history_of_visits (visits_of (a.0.marks ++ others (g.between ++ h.between))))) opened (subst (λ ms. IsLegal b.0.opened.book.value.table (history_of_visits (visits_of ms))) marks h.legal);
@@ -99,8 +99,8 @@ full_of n w = ⊎_elim (λ e. even n e) (λ e. absurd (odd n e)) w
 pub finds_full : (a : Seat) (found : ℕ) (b : Seat) → found ≡ 2 ^ 63 → HasSeen a found b → FindsFull a b
 finds_full a found b full h = record {
   goes_on = seen_goes_on a found b h;
-  legal = subst (λ (v : PassState). IsLegal v.opened.book.value.table (history_of_visits (visits_of v.marks))) (sym h.view_is) h.legal;
-  count = ap (λ v. v.opened.first + length v.marks) h.view_is ∙ full_of _ (subst (λ n. (n ≡ 2 * (a.0.opened.first + length (a.0.marks ++ others h.between))) ⊎ (n ≡ 2 * (a.0.opened.first + length (a.0.marks ++ others h.between)) + 1)) full h.word);
+  legal = subst (λ (v : PassState). IsLegal v.opened.book.value.table (history_of_visits (visits_of v.marks))) (sym h.state_is) h.legal;
+  count = ap (λ v. v.opened.first + length v.marks) h.state_is ∙ full_of _ (subst (λ n. (n ≡ 2 * (a.0.opened.first + length (a.0.marks ++ others h.between))) ⊎ (n ≡ 2 * (a.0.opened.first + length (a.0.marks ++ others h.between)) + 1)) full h.word);
 }
 
 pub full_later : (a b c : Seat) → SeesMore a b → FindsFull b c → FindsFull a c
@@ -110,29 +110,29 @@ full_later a b c g f = record { goes_on = goes_on a b c g f.goes_on; legal = f.l
 pub pass_goes_on : (held : ℕ) (a b : Seat) → IsPass held a → SeesMore a b → b.0.opened.first + length b.0.marks ≤ 2 ^ 62 → IsPass held b
 pass_goes_on held a b p g small = record {
   free = still_free a b p.free g;
-  held_is = p.held_is ∙ ap (λ (made : List (ℕ × List Entry)). length made) (sym (ap (λ v. made_from v.opened.first v.marks) g.view_is ∙ made-caught a.0.opened.first a.0.marks g.between));
+  held_is = p.held_is ∙ ap (λ (made : List (ℕ × List Entry)). length made) (sym (ap (λ v. made_from v.opened.first v.marks) g.state_is ∙ made-caught a.0.opened.first a.0.marks g.between));
   small = small;
 }
 
 pub pass_looks : (held : ℕ) (a : Seat) (found : ℕ) (b : Seat) → IsPass held a → HasSeen a found b → IsPass held b
 pass_looks held a found b p h = pass_goes_on held a b p (seen_goes_on a found b h)
-    (subst (λ n. n ≤ 2 ^ 62) (sym (ap (λ v. v.opened.first + length v.marks) h.view_is)) (small_of found _ h.word h.most))
+    (subst (λ n. n ≤ 2 ^ 62) (sym (ap (λ v. v.opened.first + length v.marks) h.state_is)) (small_of found _ h.word h.most))
 
-pub later_of : (home : TableId) (a b : Seat) → SeesMore a b → IsLegal b.0.opened.book.value.table (history_of_visits (visits_of b.0.marks)) → IsLater (knows home a) (knows home b)
+pub later_of : (home : TableId) (a b : Seat) → SeesMore a b → IsLegal b.0.opened.book.value.table (history_of_visits (visits_of b.0.marks)) → HasSeenMore (knows home a) (knows home b)
 later_of home a b g legal = record {
   between = g.between;
-  book = ap (λ v. opened_of home v.opened) g.view_is;
-  claims = ap (λ v. v.claims) g.view_is;
-  marks = ap (λ v. v.marks) g.view_is;
-  made = ap (λ v. made_from v.opened.first v.marks) g.view_is ∙ made-caught a.0.opened.first a.0.marks g.between;
+  book = ap (λ v. opened_of home v.opened) g.state_is;
+  claims = ap (λ v. v.claims) g.state_is;
+  marks = ap (λ v. v.marks) g.state_is;
+  made = ap (λ v. made_from v.opened.first v.marks) g.state_is ∙ made-caught a.0.opened.first a.0.marks g.between;
   legal = legal;
 }
 
-pub later_by_look : (home : TableId) (a : Seat) (found : ℕ) (b : Seat) → HasSeen a found b → IsLater (knows home a) (knows home b)
-later_by_look home a found b h = later_of home a b (seen_goes_on a found b h) (subst (λ (v : PassState). IsLegal v.opened.book.value.table (history_of_visits (visits_of v.marks))) (sym h.view_is) h.legal)
+pub later_by_look : (home : TableId) (a : Seat) (found : ℕ) (b : Seat) → HasSeen a found b → HasSeenMore (knows home a) (knows home b)
+later_by_look home a found b h = later_of home a b (seen_goes_on a found b h) (subst (λ (v : PassState). IsLegal v.opened.book.value.table (history_of_visits (visits_of v.marks))) (sym h.state_is) h.legal)
 
 pub head_is : (home : TableId) (a : Seat) (found : ℕ) (b : Seat) → HasSeen a found b → found / 2 ≡ b.0.opened.first + length (visits_of b.0.marks)
-head_is home a found b h = half_of found _ h.word ∙ (sym (ap (λ v. v.opened.first + length v.marks) h.view_is) ∙ ap (λ n. b.0.opened.first + n) (sym (length-visits b.0.marks)))
+head_is home a found b h = half_of found _ h.word ∙ (sym (ap (λ v. v.opened.first + length v.marks) h.state_is) ∙ ap (λ n. b.0.opened.first + n) (sym (length-visits b.0.marks)))
 
 pub full_pass : (home : TableId) (b : Seat) → b.0.opened.first + length b.0.marks ≡ 2 ^ 62 → IsFull (knows home b)
 full_pass home b e = record { count = ap (λ n. b.0.opened.first + n) (length-visits b.0.marks) ∙ e }
@@ -156,8 +156,8 @@ left_pass_is held a b p e = subst (λ (me : Seat). IsPass held me) (sym e) recor
 -- the book has gained a visit
 book_now : (a b : Seat) (number : ℕ) (book more : Book) (visit : List Entry) → HasBookOut a b number book → more ≡ with_entries book visit → more ≡ book_after b.0.opened (visits_of b.0.marks ++ visit ∷ [])
 book_now a b number book more visit h e =
-    let opened : b.0.opened ≡ a.0.opened = ap (λ v. v.opened) h.view_is in
-    let marks : b.0.marks ≡ a.0.marks ++ others h.between = ap (λ v. v.marks) h.view_is in
+    let opened : b.0.opened ≡ a.0.opened = ap (λ v. v.opened) h.state_is in
+    let marks : b.0.marks ≡ a.0.marks ++ others h.between = ap (λ v. v.marks) h.state_is in
     e ∙ (ap (λ x. with_entries x visit) h.book_is
     ∙ (ap (λ es. record { table = a.0.opened.book.value.table; shard = a.0.opened.book.value.shard; shards = a.0.opened.book.value.shards; entries = es }) (sym (joined-snoc (visits_of (a.0.marks ++ others h.between)) visit))
     ∙ (ap (λ o. book_after o (visits_of (a.0.marks ++ others h.between) ++ visit ∷ [])) (sym opened) ∙ ap (λ ms. book_after b.0.opened (visits_of ms ++ visit ∷ [])) (sym marks))))
@@ -170,12 +170,12 @@ legal_now a b number book more visit h e legal = subst (λ (x : Book). IsLegal x
 
 pub brings : (a b : Seat) (number : ℕ) (book more : Book) (visit : List Entry) → HasBookOut a b number book → more ≡ with_entries book visit → IsLegal more.table more.entries → BringsVisit b number more
 brings a b number book more visit h e legal =
-    let opened : b.0.opened ≡ a.0.opened = ap (λ v. v.opened) h.view_is in
-    let marks : b.0.marks ≡ a.0.marks ++ others h.between = ap (λ v. v.marks) h.view_is in
+    let opened : b.0.opened ≡ a.0.opened = ap (λ v. v.opened) h.state_is in
+    let marks : b.0.marks ≡ a.0.marks ++ others h.between = ap (λ v. v.marks) h.state_is in
     record {
       visit = visit;
-      unjoined = ap (λ v. v.unjoined) h.view_is;
-      turn = ap (λ v. v.turn) h.view_is;
+      unjoined = ap (λ v. v.unjoined) h.state_is;
+      turn = ap (λ v. v.turn) h.state_is;
       carries = h.carries;
       number_is = h.number_is ∙ (ap (λ (ms : List Mark). a.0.opened.first + length ms) (sym marks) ∙ ap (λ (o : Opening). o.first + length b.0.marks) (sym opened));
       few = h.few;
@@ -193,13 +193,13 @@ gave_back b visit = (pass_state b.0.opened b.0.claims false (b.0.marks ++ mark t
 
 pub pass_visits : (held : ℕ) (a b c : Seat) (number : ℕ) (book : Book) (visit : List Entry) → IsPass held a → HasBookOut a b number book → c ≡ gave_back b visit → IsPass (held + 1) c
 pass_visits held a b c number book visit p h e =
-    let opened : b.0.opened ≡ a.0.opened = ap (λ v. v.opened) h.view_is in
-    let marks : b.0.marks ≡ a.0.marks ++ others h.between = ap (λ v. v.marks) h.view_is in
-    let same : made_from b.0.opened.first b.0.marks ≡ made_from a.0.opened.first a.0.marks = ap (λ v. made_from v.opened.first v.marks) h.view_is ∙ made-caught a.0.opened.first a.0.marks h.between in
+    let opened : b.0.opened ≡ a.0.opened = ap (λ v. v.opened) h.state_is in
+    let marks : b.0.marks ≡ a.0.marks ++ others h.between = ap (λ v. v.marks) h.state_is in
+    let same : made_from b.0.opened.first b.0.marks ≡ made_from a.0.opened.first a.0.marks = ap (λ v. made_from v.opened.first v.marks) h.state_is ∙ made-caught a.0.opened.first a.0.marks h.between in
     let made : made_from b.0.opened.first (b.0.marks ++ mark true visit ∷ []) ≡ made_from a.0.opened.first a.0.marks ++ (b.0.opened.first + length b.0.marks, visit) ∷ [] = made-snoc b.0.opened.first b.0.marks visit ∙ ap (λ ms. ms ++ (b.0.opened.first + length b.0.marks, visit) ∷ []) same in
     let number_is : number ≡ b.0.opened.first + length b.0.marks = h.number_is ∙ (ap (λ (ms : List Mark). a.0.opened.first + length ms) (sym marks) ∙ ap (λ (o : Opening). o.first + length b.0.marks) (sym opened)) in
     subst (λ (me : Seat). IsPass (held + 1) me) (sym e) record {
-      free = record { unjoined = refl; turn = refl; met = ap (λ v. v.met) h.view_is; carries = refl };
+      free = record { unjoined = refl; turn = refl; met = ap (λ v. v.met) h.state_is; carries = refl };
       held_is = (let l = ap (λ (ms : List (ℕ × List Entry)). length ms) made in let m = length-append (made_from a.0.opened.first a.0.marks) ((b.0.opened.first + length b.0.marks, visit) ∷ []) in let was = p.held_is in omega arith);
       small = (let l = length-append b.0.marks (mark true visit ∷ []) in let f = h.few in omega arith);
     }
@@ -207,15 +207,15 @@ pass_visits held a b c number book visit p h e =
 pub visits_made : (home : TableId) (a b c : Seat) (number : ℕ) (book : Book) (visit : List Entry) → HasBookOut a b number book → c ≡ gave_back b visit
     → IsLegal b.0.opened.book.value.table (history_of_visits (visits_of b.0.marks ++ visit ∷ [])) → Visits (knows home a) (knows home c) number visit
 visits_made home a b c number book visit h e legal =
-    let opened : b.0.opened ≡ a.0.opened = ap (λ v. v.opened) h.view_is in
-    let marks : b.0.marks ≡ a.0.marks ++ others h.between = ap (λ v. v.marks) h.view_is in
-    let same : made_from b.0.opened.first b.0.marks ≡ made_from a.0.opened.first a.0.marks = ap (λ v. made_from v.opened.first v.marks) h.view_is ∙ made-caught a.0.opened.first a.0.marks h.between in
+    let opened : b.0.opened ≡ a.0.opened = ap (λ v. v.opened) h.state_is in
+    let marks : b.0.marks ≡ a.0.marks ++ others h.between = ap (λ v. v.marks) h.state_is in
+    let same : made_from b.0.opened.first b.0.marks ≡ made_from a.0.opened.first a.0.marks = ap (λ v. made_from v.opened.first v.marks) h.state_is ∙ made-caught a.0.opened.first a.0.marks h.between in
     let number_is : number ≡ b.0.opened.first + length b.0.marks = h.number_is ∙ (ap (λ (ms : List Mark). a.0.opened.first + length ms) (sym marks) ∙ ap (λ (o : Opening). o.first + length b.0.marks) (sym opened)) in
     let size : length (a.0.marks ++ others h.between) ≡ length (visits_of a.0.marks ++ h.between) = sym (length-visits (a.0.marks ++ others h.between)) ∙ ap (λ (vs : List (List Entry)). length vs) (visits-caught a.0.marks h.between) in
     record {
       between = h.between;
       book = ap (λ me. opened_of home me.0.opened) e ∙ ap (λ o. opened_of home o) opened;
-      claims = ap (λ me. me.0.claims) e ∙ ap (λ v. v.claims) h.view_is;
+      claims = ap (λ me. me.0.claims) e ∙ ap (λ v. v.claims) h.state_is;
       marks = ap (λ me. me.0.marks) e ∙ ap (λ ms. ms ++ mark true visit ∷ []) marks;
       number_is = h.number_is ∙ ap (λ n. a.0.opened.first + n) size;
       few = h.few;
@@ -226,7 +226,7 @@ visits_made home a b c number book visit h e legal =
 -- two passes meet
 pub pass_joins : (held more : ℕ) (a b met c : Seat) → IsPass held a → IsPass more b → met ≡ (both_pass_states a.0 b.0, a.1) → HasEndedJoin met c → a.0.opened.first ≡ b.0.opened.first → IsPass (held + more) c
 pass_joins held more a b met c p q e h first =
-    let now : c.0 ≡ pass_state a.0.opened (a.0.claims + b.0.claims) a.0.turn (merged a.0.marks b.0.marks) [] = h.view_is ∙ ap (λ (me : Seat). pass_state me.0.opened me.0.claims me.0.turn (merged me.0.marks me.0.met) []) e in
+    let now : c.0 ≡ pass_state a.0.opened (a.0.claims + b.0.claims) a.0.turn (joined_marks a.0.marks b.0.marks) [] = h.state_is ∙ ap (λ (me : Seat). pass_state me.0.opened me.0.claims me.0.turn (joined_marks me.0.marks me.0.met) []) e in
     let apart : Apart a.0.marks b.0.marks = subst (λ (me : Seat). Apart me.0.marks me.0.met) e h.apart in
     record {
       free = record { unjoined = ap (λ v. v.unjoined) now; turn = ap (λ v. v.turn) now ∙ p.free.turn; met = ap (λ v. v.met) now; carries = h.carries ∙ (ap (λ me. me.1) e ∙ p.free.carries) };
@@ -236,14 +236,14 @@ pass_joins held more a b met c p q e h first =
           let n = ap (λ k. length (made_from k b.0.marks)) first in
           let x = p.held_is in let y = q.held_is in omega arith);
       small = (
-          let l : c.0.opened.first + length c.0.marks ≡ a.0.opened.first + length (merged a.0.marks b.0.marks) = ap (λ (v : PassState). v.opened.first + length v.marks) now in
-          let s = ap (λ (me : Seat). me.0.opened.first + length (merged me.0.marks me.0.met)) e in
+          let l : c.0.opened.first + length c.0.marks ≡ a.0.opened.first + length (joined_marks a.0.marks b.0.marks) = ap (λ (v : PassState). v.opened.first + length v.marks) now in
+          let s = ap (λ (me : Seat). me.0.opened.first + length (joined_marks me.0.marks me.0.met)) e in
           let f = h.small in omega arith);
     }
 
 pub joined_of : (home : TableId) (a b met c : Seat) → met ≡ (both_pass_states a.0 b.0, a.1) → HasEndedJoin met c → a.0.opened.first ≡ b.0.opened.first → IsJoined (knows home a) (knows home b) (knows home c)
 joined_of home a b met c e h first =
-    let now : c.0 ≡ pass_state a.0.opened (a.0.claims + b.0.claims) a.0.turn (merged a.0.marks b.0.marks) [] = h.view_is ∙ ap (λ (me : Seat). pass_state me.0.opened me.0.claims me.0.turn (merged me.0.marks me.0.met) []) e in
+    let now : c.0 ≡ pass_state a.0.opened (a.0.claims + b.0.claims) a.0.turn (joined_marks a.0.marks b.0.marks) [] = h.state_is ∙ ap (λ (me : Seat). pass_state me.0.opened me.0.claims me.0.turn (joined_marks me.0.marks me.0.met) []) e in
     let apart : Apart a.0.marks b.0.marks = subst (λ (me : Seat). Apart me.0.marks me.0.met) e h.apart in
     record {
       book = ap (λ v. opened_of home v.opened) now;
@@ -279,9 +279,9 @@ lacks_claims home k held me word slot p c less = lt_of_not-le (λ whole. absurd 
     omega arith))
 
 -- the same, of a pass as contracts saw it before
-pub full_told : (home there : TableId) (old : PassView) (a b : Seat) → knows home a ≡ old → there ≡ home → FindsFull a b → IsLater old (knows there b) × IsFull (knows there b)
+pub full_told : (home there : TableId) (old : PassView) (a b : Seat) → knows home a ≡ old → there ≡ home → FindsFull a b → HasSeenMore old (knows there b) × IsFull (knows there b)
 full_told home there old a b is same f =
-    let P : TableId → PassView → Type 0 = λ h k. IsLater k (knows h b) × IsFull (knows h b) in
+    let P : TableId → PassView → Type 0 = λ h k. HasSeenMore k (knows h b) × IsFull (knows h b) in
     subst (λ k. P there k) is (subst (λ h. P h (knows home a)) (sym same) (later_of home a b f.goes_on f.legal, full_pass home b f.count))
 
 pub full_pass_is : (held : ℕ) (a b : Seat) → IsPass held a → FindsFull a b → IsPass held b

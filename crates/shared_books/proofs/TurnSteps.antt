@@ -17,7 +17,7 @@ use Rattle.shared_books.specs.declared.turns.rule.Mark.{Mark}
 use Rattle.shared_books.specs.declared.turns.rule.PassState.{PassState}
 use Rattle.shared_books.specs.Claims.{all_claims}
 use Rattle.shared_books.specs.Machine.{Machine, Event, taken, given, start, May, next, after, IsSchedule}
-use Rattle.shared_books.specs.Marks.{mark, others, visits_of, history_of_visits, made_at, made_from, Apart, Begins, merged}
+use Rattle.shared_books.specs.Marks.{mark, others, visits_of, history_of_visits, made_at, made_from, Apart, Begins, joined_marks}
 use Rattle.shared_books.specs.Turns.{Boxed, book_after, makers, FitsMachine, IsSpentPass, ShowsMachine, IsTurn}
 use Rattle.shared_books.specs.PassStates.{pass_state}
 use Rattle.shared_books.specs.inside.Steps.{Seat, spent_pass_state, new_pass_state, left_pass_state, both_pass_states, HasSeen, HasTriedTurn, given_back, HasEndedJoin}
@@ -130,7 +130,7 @@ looks k slots id me unjoined s r count at fits =
       },
       record {
         between = c.more;
-        view_is = refl;
+        state_is = refl;
         word = ⊎_elim (λ t. inl (t.1 ∙ ap (λ n. 2 * n) (sym c.number))) (λ t. inr (t.2 ∙ ap (λ n. 2 * n + 1) (sym c.number))) (word_of k m s sh);
         most = sh.most;
         legal = c.legal;
@@ -197,7 +197,7 @@ takes_turn k slots id me old half unjoined off even few s r count at fits = dite
             (took k m s id v marks sh at unjoined nobody_has c.all (omega arith) (λ i. made_at-caught i v.marks c.more)));
       },
       record {
-        won = λ _. record { between = c.more; view_is = refl; word = sym e ∙ (free.0 ∙ ap (λ n. 2 * n) (sym c.number)); legal = c.legal; book = b; book_is = value; carries = refl };
+        won = λ _. record { between = c.more; state_is = refl; word = sym e ∙ (free.0 ∙ ap (λ n. 2 * n) (sym c.number)); legal = c.legal; book = b; book_is = value; carries = refl };
         lost = λ ne. absurd (ne e);
       },
     ))
@@ -378,7 +378,7 @@ settles k slots id me unjoined off s r count at fits =
     let sh = r.shows in
     let f = sh.each id v at unjoined in
     let apart = apart_of k m s id v sh at in
-    let marks : List Mark = merged v.marks v.met in
+    let marks : List Mark = joined_marks v.marks v.met in
     let seen = begins_merged v.marks v.met m.visits f.seen f.met in
     let w = pass_state v.opened v.claims v.turn marks [] in (
       w,
@@ -391,7 +391,7 @@ settles k slots id me unjoined off s r count at fits =
             (seen_set k m s id v marks [] sh at unjoined seen (m.visits, refl) (λ on. absurd (true≢false (sym on ∙ off))) (λ i. (let e = made_at-merged i v.marks v.met apart in omega arith)));
       },
       record {
-        view_is = refl;
+        state_is = refl;
         apart = apart;
         begins = begins_either (visits_of v.marks) (visits_of v.met) m.visits f.seen f.met;
         small = (

@@ -33,7 +33,7 @@ pub record DrawerView : Type 0 where
 
 -- a drawer that took over what another one holds: no number is there twice, so the two had none in
 -- common
-pub record HasMet (old other new : DrawerView) : Type 0 where
+pub record IsJoinedDrawer (old other new : DrawerView) : Type 0 where
   pub drawn_from : new.drawn_from ≡ old.drawn_from
   pub claims : new.claims ≡ old.claims + other.claims
   pub drawn : new.drawn ≡ old.drawn ++ other.drawn

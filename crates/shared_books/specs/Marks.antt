@@ -47,7 +47,7 @@ abbrev pub Begins : List (List Entry) → List (List Entry) → Type 0
 Begins visits longer = (more : List (List Entry)) × (longer ≡ visits ++ more)
 
 -- the longer list, in which what either made is marked
-abbrev pub merged : List Mark → List Mark → List Mark
-merged [] ys = ys
-merged (x ∷ xs) [] = x ∷ xs
-merged (x ∷ xs) (y ∷ ys) = mark (x.mine || y.mine) x.visit ∷ merged xs ys
+abbrev pub joined_marks : List Mark → List Mark → List Mark
+joined_marks [] ys = ys
+joined_marks (x ∷ xs) [] = x ∷ xs
+joined_marks (x ∷ xs) (y ∷ ys) = mark (x.mine || y.mine) x.visit ∷ joined_marks xs ys

@@ -8,7 +8,7 @@ use Rattle.shard_book.specs.History.{IsLegal}
 use Rattle.shared_books.specs.declared.turns.rule.Mark.{Mark}
 use Rattle.shared_books.specs.Claims.{all_claims, claims_given, claims_left}
 use Rattle.shared_books.specs.Marks.{mark, others, visits_of, history_of_visits, made_from}
-use Rattle.shared_books.specs.Marks.{numbered, merged, Apart, Begins}
+use Rattle.shared_books.specs.Marks.{numbered, joined_marks, Apart, Begins}
 
 -- a shared book: which one it is, the number of its first visit, and the table, shard and shards
 -- that it was opened with. They never change
@@ -63,7 +63,7 @@ book_of o visits =
     }
 
 -- the pass has seen visits of others more, and the history that it has seen is legal
-pub record IsLater (old new : PassView) : Type 0 where
+pub record HasSeenMore (old new : PassView) : Type 0 where
   pub between : List (List Entry)
   pub book : new.book ≡ old.book
   pub claims : new.claims ≡ old.claims
@@ -92,7 +92,7 @@ pub record IsFull (pass : PassView) : Type 0 where
 pub record IsJoined (old other new : PassView) : Type 0 where
   pub book : new.book ≡ old.book
   pub claims : new.claims ≡ old.claims + other.claims
-  pub marks : new.marks ≡ merged old.marks other.marks
+  pub marks : new.marks ≡ joined_marks old.marks other.marks
   pub held : length (made_by new) ≡ length (made_by old) + length (made_by other)
   pub apart : Apart old.marks other.marks
   pub begins : Begins (seen_by old) (seen_by other) ⊎ Begins (seen_by other) (seen_by old)

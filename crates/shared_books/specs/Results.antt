@@ -9,7 +9,7 @@ use Rattle.shard_book.specs.Visits.{IsVisit}
 use Rattle.shared_books.specs.declared.turns.results.Visit.{Visit}
 use Rattle.shared_books.specs.declared.turns.results.ReadFault.{ReadFault}
 use Rattle.shared_books.specs.declared.turns.results.ReadFault.TheVariants.{Full, NoMemory}
-use Rattle.shared_books.specs.Passes.{SharedBookView, PassView, IsLater, Visits, IsFull}
+use Rattle.shared_books.specs.Passes.{SharedBookView, PassView, HasSeenMore, Visits, IsFull}
 
 -- the shared book has the number, and the table, shard and shards of the book that was handed in
 pub record IsOpenedAs (first : ℕ) (handed : Book) (o : SharedBookView) : Type 0 where
@@ -30,5 +30,5 @@ pub record MakesVisit (run : ShardRun) (old new : PassView) (replies replied : R
 -- full: the pass made no visit; for want of memory: it made an empty one, and the history is as it
 -- was
 abbrev pub IsReadFault : PassView → PassView → ReadFault → Type 0
-IsReadFault old new Full = IsLater old new × IsFull new
+IsReadFault old new Full = HasSeenMore old new × IsFull new
 IsReadFault old new NoMemory = (number : ℕ) × Visits old new number []

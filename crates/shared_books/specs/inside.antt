@@ -3,5 +3,5 @@ pub mod Drawing
 pub mod DrawerStates
 pub mod NoBook
 pub mod Passes
+pub mod SeatStates
 pub mod Steps
-pub mod Views

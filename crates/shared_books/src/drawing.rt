@@ -73,7 +73,7 @@ impl Draw {
     ghost use Rattle.std.specs.Prelude.{◌≡◌, ◌+◌, ◌≤◌, ◌<◌, ◌++◌, ◌∷◌, [], length, IfOk, IfErr};
     ghost use Rattle.std.specs.Prelude.{IfSome, IfNone, IsOkAnd};
     ghost use Rattle.shared_books.specs.Claims.{all_claims, claims_given, claims_left};
-    ghost use Rattle.shared_books.specs.Drawing.{HasAll, HasMet, IsCount};
+    ghost use Rattle.shared_books.specs.Drawing.{HasAll, IsJoinedDrawer, IsCount};
 
     /// The numbers below `numbers`, none of them drawn, and a drawer that holds none and has all
     /// claims.
@@ -147,7 +147,7 @@ impl Draw {
     pub fn join(&self, drawer: &mut Drawer, other: Drawer)
         requires belongs { drawer.old.drawn_from ≡ self.now }
         requires other { other.drawn_from ≡ self.now }
-        ensures met { HasMet drawer.old other drawer.new }
+        ensures met { IsJoinedDrawer drawer.old other drawer.new }
     {
         let Drawer { seat, held, seen } = drawer;
         let Drawer {

@@ -61,7 +61,7 @@ impl Model for Pass {
     ghost Value = { PassView };
 
     ghost use Rattle.shared_books.specs.inside.Passes.{opened_of};
-    ghost use Rattle.shared_books.specs.inside.Views.{IsPass};
+    ghost use Rattle.shared_books.specs.inside.SeatStates.{IsPass};
 
     ghost view = { λ p. record {
       book = opened_of p.seat.table_id p.seat.me.0.opened;

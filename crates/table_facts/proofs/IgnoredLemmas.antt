@@ -15,15 +15,15 @@ use Rattle.fare_table.proofs.PayLemmas.{member-here, member-later, same_bytes}
 use Rattle.fare_table.specs.Faults.{items_of, member_at, members_at, members_of}
 use Rattle.table_facts.specs.Ignored.{IsIgnored, ignored_from, ignored_in, ignored_of}
 use Rattle.table_facts.specs.Ignored.{ignored_of_classes, ignored_of_ranges, has_meaning, where_of}
-use Rattle.table_facts.specs.declared.holder.Holder.{Holder}
-use Rattle.table_facts.specs.declared.holder.Holder.TheVariants.{Top, Class, Range}
+use Rattle.table_facts.specs.declared.holder.KeyHolder.{KeyHolder}
+use Rattle.table_facts.specs.declared.holder.KeyHolder.TheVariants.{Top, Class, Range}
 
 -- ---- the keys of one table
 abbrev Told : Type 0
-Told = Holder × List ℕ
+Told = KeyHolder × List ℕ
 
 -- the key stands in the table with these keys, and has no meaning there
-pub record IsNew (holder : Holder) (keys : Members) (told : Told) : Type 0 where
+pub record IsNew (holder : KeyHolder) (keys : Members) (told : Told) : Type 0 where
   pub here : told.0 ≡ holder
   pub stands : IsSome (get_member told.1 keys)
   pub no_meaning : has_meaning holder told.1 ≡ false
@@ -44,7 +44,7 @@ stands_later key k v more some = by_same (is_eq (slice_cmp nat_cmp key k)) refl
     by_same false other = subst (λ (o : Option Data).
         IsSome o) (sym (member-later key k v more other)) some
 
-later : (h : Holder) (k : List ℕ) (v : Data) (more : Members) (x : Told) → IsNew h more x
+later : (h : KeyHolder) (k : List ℕ) (v : Data) (more : Members) (x : Told) → IsNew h more x
     → IsNew h (member k v more) x
 later h k v more x new = record {
   here = new.here;
@@ -52,7 +52,7 @@ later h k v more x new = record {
   no_meaning = new.no_meaning;
 }
 
-pub told_from : (h : Holder) (ms : Members) (found : List Told) (x : Told)
+pub told_from : (h : KeyHolder) (ms : Members) (found : List Told) (x : Told)
     → Contains (ignored_from h found ms) x → Contains found x ⊎ IsNew h ms x
 told_from h no_members found x has = inl has
 told_from h (member k v more) found x has =
@@ -94,7 +94,7 @@ told_from h (member k v more) found x has =
         Contains (ignored_from h (if b then found else found ++ (h, k) ∷ []) more) x) is has))
 
 -- a key that stands in a table, and is not its first one, stands among the others
-others : (h : Holder) (k : List ℕ) (v : Data) (more : Members) (x : Told)
+others : (h : KeyHolder) (k : List ℕ) (v : Data) (more : Members) (x : Told)
     → is_eq (slice_cmp nat_cmp x.1 k) ≡ false → IsNew h (member k v more) x → IsNew h more x
 others h k v more x other new = record {
   here = new.here;
@@ -102,7 +102,7 @@ others h k v more x other new = record {
   no_meaning = new.no_meaning;
 }
 
-pub told_to : (h : Holder) (ms : Members) (found : List Told) (x : Told) → Contains found x
+pub told_to : (h : KeyHolder) (ms : Members) (found : List Told) (x : Told) → Contains found x
     ⊎ IsNew h ms x → Contains (ignored_from h found ms) x
 told_to h no_members found x (inl has) = has
 told_to h no_members found x (inr new) = absurd (false≢true new.stands)
@@ -126,7 +126,7 @@ told_to h (member k v more) found x is =
     if_new : IsNew h (member k v more) x → (b : Bool) → is_eq (slice_cmp nat_cmp x.1 k) ≡ b
         → Contains (found ++ (h, k) ∷ []) x ⊎ IsNew h more x
     if_new new true same =
-        let it : x ≡ (h, k) = ap (λ (a : Holder). (a, x.1)) new.here
+        let it : x ≡ (h, k) = ap (λ (a : KeyHolder). (a, x.1)) new.here
         ∙ ap (λ (key : List ℕ). (h, key)) (same_bytes x.1 k same) in
         inl (subst (λ (y : Told). Contains (found ++ (h, k) ∷ []) y) (sym it)
         (Contains-push found (h, k)))
@@ -150,12 +150,12 @@ told_to h (member k v more) found x is =
 abbrev keys_in : Option Members → Members
 keys_in keys = unwrap_or keys no_members
 
-value_from : (h : Holder) (o : Option Members) (found : List Told) (x : Told)
+value_from : (h : KeyHolder) (o : Option Members) (found : List Told) (x : Told)
     → Contains (ignored_of h found o) x → Contains found x ⊎ IsNew h (keys_in o) x
 value_from h None found x has = inl has
 value_from h (Some keys) found x has = told_from h keys found x has
 
-value_to : (h : Holder) (o : Option Members) (found : List Told) (x : Told) → Contains found x
+value_to : (h : KeyHolder) (o : Option Members) (found : List Told) (x : Told) → Contains found x
     ⊎ IsNew h (keys_in o) x → Contains (ignored_of h found o) x
 value_to h None found x (inl has) = has
 value_to h None found x (inr new) = absurd (false≢true new.stands)
@@ -252,12 +252,12 @@ range_to (item value more) p found x (inr (suc n, new)) =
     (inr (n, subst (λ (q : ℕ). IsNew (Range q) (range_keys n more) x) at new))
 
 -- ---- the whole text
-as_ignored : (tree : Members) (h : Holder) (x : Told) → IsNew h (members_at (where_of h) tree) x
+as_ignored : (tree : Members) (h : KeyHolder) (x : Told) → IsNew h (members_at (where_of h) tree) x
     → IsIgnored tree x
 as_ignored tree h x new = record {
-  stands = subst (λ (g : Holder). IsSome (get_member x.1 (members_at (where_of g) tree)))
+  stands = subst (λ (g : KeyHolder). IsSome (get_member x.1 (members_at (where_of g) tree)))
       (sym new.here) new.stands;
-  no_meaning = subst (λ (g : Holder). has_meaning g x.1 ≡ false) (sym new.here) new.no_meaning;
+  no_meaning = subst (λ (g : KeyHolder). has_meaning g x.1 ≡ false) (sym new.here) new.no_meaning;
 }
 
 pub ignored_told : (tree : Members) (x : Told) → Contains (ignored_in tree) x → IsIgnored tree x

@@ -12,7 +12,7 @@ use Rattle.std.specs.declared.ops.Bound.TheVariants.{Included}
 use Rattle.tap_views.specs.Layout.{Tap, num}
 use Rattle.upload_facts.specs.Facts.{taps_of_batches}
 use Rattle.table_facts.specs.Ranges.{is_from_to}
-use Rattle.table_facts.specs.Seen.{has_tap_at, is_among}
+use Rattle.table_facts.specs.SeenValidators.{has_tap_at, is_among}
 
 -- a set has what is among its numbers
 among : (keys : List ℕ) (v : ℕ) → list_any (is_at (nat_cmp v)) keys ≡ is_among keys v

@@ -5,11 +5,11 @@ use Rattle.toml.specs.Data.{Items, no_items, item, Members, no_members, member, 
 use Rattle.toml.specs.Data.{as_table}
 use Rattle.fare_table.specs.Faults.{Where, top, class, range, items_of, members_at, members_of}
 use Rattle.fare_table.specs.Modes.{same_name}
-use Rattle.table_facts.specs.declared.holder.Holder.{Holder}
-use Rattle.table_facts.specs.declared.holder.Holder.TheVariants.{Top, Class, Range}
+use Rattle.table_facts.specs.declared.holder.KeyHolder.{KeyHolder}
+use Rattle.table_facts.specs.declared.holder.KeyHolder.TheVariants.{Top, Class, Range}
 
 -- the key has a meaning where it stands
-abbrev pub has_meaning : Holder → List ℕ → Bool
+abbrev pub has_meaning : KeyHolder → List ℕ → Bool
 has_meaning Top key =
     same_name key (codes "modes") || same_name key (codes "transfers")
     || same_name key (codes "classes") || same_name key (codes "default_class")
@@ -22,31 +22,33 @@ has_meaning (Range place) key =
     same_name key (codes "first") || same_name key (codes "last") || same_name key (codes "mode")
 
 -- the keys found, and those of the members that have no meaning there
-abbrev pub ignored_from : Holder → List (Holder × List ℕ) → Members → List (Holder × List ℕ)
+abbrev pub ignored_from : KeyHolder → List (KeyHolder × List ℕ) → Members
+    → List (KeyHolder × List ℕ)
 ignored_from holder found no_members = found
 ignored_from holder found (member key value more) =
     ignored_from holder (if has_meaning holder key then found else found ++ (holder, key) ∷ []) more
 
 -- the keys found, and those of the value, where it is a table
-abbrev pub ignored_of : Holder → List (Holder × List ℕ) → Option Members → List (Holder × List ℕ)
+abbrev pub ignored_of : KeyHolder → List (KeyHolder × List ℕ) → Option Members
+    → List (KeyHolder × List ℕ)
 ignored_of holder found None = found
 ignored_of holder found (Some keys) = ignored_from holder found keys
 
 -- the keys found, and those of the classes from this place on
-abbrev pub ignored_of_classes : ℕ → List (Holder × List ℕ) → Members → List (Holder × List ℕ)
+abbrev pub ignored_of_classes : ℕ → List (KeyHolder × List ℕ) → Members → List (KeyHolder × List ℕ)
 ignored_of_classes place found no_members = found
 ignored_of_classes place found (member name value more) =
     ignored_of_classes (suc place) (ignored_of (Class place) found (as_table value)) more
 
 -- the keys found, and those of the elements of `validators` from this place on
-abbrev pub ignored_of_ranges : ℕ → List (Holder × List ℕ) → Items → List (Holder × List ℕ)
+abbrev pub ignored_of_ranges : ℕ → List (KeyHolder × List ℕ) → Items → List (KeyHolder × List ℕ)
 ignored_of_ranges place found no_items = found
 ignored_of_ranges place found (item value more) =
     ignored_of_ranges (suc place) (ignored_of (Range place) found (as_table value)) more
 
 -- the keys of a text that have no meaning: at the top, in its classes, and in the elements of its
 -- `validators`
-abbrev pub ignored_in : Members → List (Holder × List ℕ)
+abbrev pub ignored_in : Members → List (KeyHolder × List ℕ)
 ignored_in tree =
     ignored_of_ranges 0
     (ignored_of_classes 0 (ignored_from Top [] tree)
@@ -54,12 +56,12 @@ ignored_in tree =
     (items_of (get_member (codes "validators") tree))
 
 -- where the rules of a table look for a key that stands there
-abbrev pub where_of : Holder → Where
+abbrev pub where_of : KeyHolder → Where
 where_of Top = top
 where_of (Class place) = class place
 where_of (Range place) = range place
 
 -- the text has the key where the holder says, and it has no meaning there
-pub record IsIgnored (tree : Members) (told : Holder × List ℕ) : Type 0 where
+pub record IsIgnored (tree : Members) (told : KeyHolder × List ℕ) : Type 0 where
   pub stands : IsSome (get_member told.1 (members_at (where_of told.0) tree))
   pub no_meaning : has_meaning told.0 told.1 ≡ false

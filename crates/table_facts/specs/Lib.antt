@@ -1,3 +1,3 @@
 pub mod Ignored
 pub mod Ranges
-pub mod Seen
+pub mod SeenValidators

@@ -5,22 +5,22 @@ use Rattle.std.specs.List.{list_any}
 use Rattle.std.specs.Option.{is_none, option_and_then}
 use Rattle.toml.specs.Data.{Data, Items, no_items, item, Members, get_member, as_integer, as_table}
 use Rattle.fare_table.specs.Fares.{Fares, mode_at}
-use Rattle.fare_table.specs.Faults.{items_of, passes}
+use Rattle.fare_table.specs.Faults.{items_of, holds_of_some}
 
 -- no range of the table has the validator
 abbrev pub is_in_no_range : Fares → ℕ → Bool
 is_in_no_range fares validator = is_none (mode_at fares validator)
 
 -- the number, where a validator can have it
-abbrev pub small : ℤ → Option ℕ
-small number =
+abbrev pub as_validator : ℤ → Option ℕ
+as_validator number =
     if int_le (pos 0) number && int_le number (pos 4_294_967_295) then Some (unsigned_abs number)
     else None
 
 -- the validator's number at a key
 abbrev pub validator_at : List ℕ → Members → Option ℕ
 validator_at key element =
-    option_and_then small (option_and_then as_integer (get_member key element))
+    option_and_then as_validator (option_and_then as_integer (get_member key element))
 
 -- the validator lies from the one number to the other
 abbrev pub is_from_to : ℕ → ℕ → ℕ → Bool
@@ -29,8 +29,9 @@ is_from_to first last validator = nat_le first validator && nat_le validator las
 -- the value is an element of `validators`, and no validator that was seen is one of its
 abbrev pub is_unused : List ℕ → Data → Bool
 is_unused seen value =
-    passes (λ element. passes (λ first. passes (λ last. not (list_any (is_from_to first last) seen))
-    (validator_at (codes "last") element)) (validator_at (codes "first") element)) (as_table value)
+    holds_of_some (λ element. holds_of_some (λ first. holds_of_some (λ last.
+    not (list_any (is_from_to first last) seen)) (validator_at (codes "last") element))
+    (validator_at (codes "first") element)) (as_table value)
 
 -- the places found, and those of the elements from this place on that no validator seen is in
 abbrev pub unused_from : List ℕ → ℕ → List ℕ → Items → List ℕ

@@ -5,7 +5,7 @@ ghost use Rattle.table_facts.specs.Ignored as spec;
 
 /// Where a key of the text stands.
 #[derive(Clone, Copy, Debug, PartialEq, Eq)]
-pub enum Holder {
+pub enum KeyHolder {
     /// At the top.
     Top,
     /// In the class at this place in the order of the names.
@@ -15,11 +15,11 @@ pub enum Holder {
 }
 
 /// Whether the key has a meaning where it stands.
-pub(crate) fn has_meaning(holder: Holder, key: &str) -> bool
+pub(crate) fn has_meaning(holder: KeyHolder, key: &str) -> bool
     ensures { result ≡ spec.has_meaning holder key.now }
 {
     match holder {
-        Holder::Top => {
+        KeyHolder::Top => {
             key == "modes"
                 || key == "transfers"
                 || key == "classes"
@@ -28,7 +28,7 @@ pub(crate) fn has_meaning(holder: Holder, key: &str) -> bool
                 || key == "riders"
                 || key == "zone"
         }
-        Holder::Class(_) => key == "fare" || key == "rides" || key == "ceiling",
-        Holder::Range(_) => key == "first" || key == "last" || key == "mode",
+        KeyHolder::Class(_) => key == "fare" || key == "rides" || key == "ceiling",
+        KeyHolder::Range(_) => key == "first" || key == "last" || key == "mode",
     }
 }

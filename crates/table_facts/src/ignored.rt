@@ -6,7 +6,7 @@ ghost use Rattle.toml.specs.Data.{as_table, get_member};
 ghost use Rattle.fare_table.specs.Faults.{items_of, members_of};
 ghost use Rattle.table_facts.specs.Ignored as spec;
 
-use crate::holder::{Holder, has_meaning};
+use crate::holder::{KeyHolder, has_meaning};
 use crate::toml_values::{elements_at, keys_at};
 use fare_table::NoMemory;
 use std::alloc::Global;
@@ -14,8 +14,8 @@ use toml::{Table, Value};
 
 /// Appends the keys of a table of the text that have no meaning there.
 fn add_ignored<'a>(
-    found: &mut Vec<(Holder, &'a str)>,
-    holder: Holder,
+    found: &mut Vec<(KeyHolder, &'a str)>,
+    holder: KeyHolder,
     keys: &'a Table,
 ) -> Result<(), NoMemory>
     ensures { OnOk result (map (λ k. (k.0, k.1.now)) found.new.items
@@ -33,8 +33,8 @@ fn add_ignored<'a>(
 
 /// Appends the keys of a value that have no meaning there, where the value is a table.
 fn add_ignored_of<'a>(
-    found: &mut Vec<(Holder, &'a str)>,
-    holder: Holder,
+    found: &mut Vec<(KeyHolder, &'a str)>,
+    holder: KeyHolder,
     value: &'a Value,
 ) -> Result<(), NoMemory>
     ensures { OnOk result (map (λ k. (k.0, k.1.now)) found.new.items
@@ -49,7 +49,7 @@ fn add_ignored_of<'a>(
 
 /// Appends the keys of the text's classes that have no meaning there.
 fn add_ignored_in_classes<'a>(
-    found: &mut Vec<(Holder, &'a str)>,
+    found: &mut Vec<(KeyHolder, &'a str)>,
     table: &'a Table,
 ) -> Result<(), NoMemory>
     ensures { OnOk result (map (λ k. (k.0, k.1.now)) found.new.items
@@ -60,14 +60,14 @@ fn add_ignored_in_classes<'a>(
         return Ok(());
     };
     for (place, (_name, value)) in classes.iter().enumerate() {
-        add_ignored_of(found, Holder::Class(place), value)?;
+        add_ignored_of(found, KeyHolder::Class(place), value)?;
     }
     Ok(())
 }
 
 /// Appends the keys of the text's elements of `validators` that have no meaning there.
 fn add_ignored_in_ranges<'a>(
-    found: &mut Vec<(Holder, &'a str)>,
+    found: &mut Vec<(KeyHolder, &'a str)>,
     table: &'a Table,
 ) -> Result<(), NoMemory>
     ensures { OnOk result (map (λ k. (k.0, k.1.now)) found.new.items
@@ -78,19 +78,19 @@ fn add_ignored_in_ranges<'a>(
         return Ok(());
     };
     for (place, value) in elements.iter().enumerate() {
-        add_ignored_of(found, Holder::Range(place), value)?;
+        add_ignored_of(found, KeyHolder::Range(place), value)?;
     }
     Ok(())
 }
 
 /// The keys of a text that its rules ignore, with where each stands: those at the top, then
 /// those of the classes in the order of their names, then those of the elements of `validators`.
-pub fn ignored_keys(alloc: Global, table: &Table) -> Result<Vec<(Holder, &str)>, NoMemory>
+pub fn ignored_keys(alloc: Global, table: &Table) -> Result<Vec<(KeyHolder, &str)>, NoMemory>
     ensures { IfOk result (λ v. map (λ k. (k.0, k.1.now)) v.items
         ≡ spec.ignored_in (table_view table.now)) }
 {
     let mut found = Vec::new(alloc);
-    add_ignored(&mut found, Holder::Top, table)?;
+    add_ignored(&mut found, KeyHolder::Top, table)?;
     add_ignored_in_classes(&mut found, table)?;
     add_ignored_in_ranges(&mut found, table)?;
     Ok(found)

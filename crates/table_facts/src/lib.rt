@@ -9,7 +9,7 @@ mod ranges;
 mod seen;
 mod toml_values;
 
-pub use holder::Holder;
+pub use holder::KeyHolder;
 pub use ignored::ignored_keys;
 pub use ranges::unused_ranges;
-pub use seen::Seen;
+pub use seen::SeenValidators;

@@ -4,7 +4,7 @@ ghost use Rattle.std.specs.Prelude.{◌≡◌, [], IfOk};
 ghost use Rattle.toml.specs.View.{array_view, table_view, view};
 ghost use Rattle.table_facts.specs.Ranges as spec;
 
-use crate::seen::Seen;
+use crate::seen::SeenValidators;
 use crate::toml_values::{elements_at, validator_at};
 use fare_table::NoMemory;
 use std::alloc::Global;
@@ -12,7 +12,7 @@ use toml::value::Array;
 use toml::{Table, Value};
 
 /// Whether the value is an element of `validators` that no validator seen is in.
-fn is_unused(seen: &Seen, value: &Value) -> bool
+fn is_unused(seen: &SeenValidators, value: &Value) -> bool
     ensures { result ≡ spec.is_unused seen.now (view value.now) }
 {
     let Some(element) = value.as_table() else {
@@ -28,7 +28,7 @@ fn is_unused(seen: &Seen, value: &Value) -> bool
 }
 
 /// The places of the elements that no validator seen is in.
-fn unused_of(alloc: Global, seen: &Seen, elements: &Array) -> Result<Vec<usize>, NoMemory>
+fn unused_of(alloc: Global, seen: &SeenValidators, elements: &Array) -> Result<Vec<usize>, NoMemory>
     ensures { IfOk result (λ v. v.items
         ≡ spec.unused_from seen.now 0 [] (array_view elements.now)) }
 {
@@ -42,7 +42,11 @@ fn unused_of(alloc: Global, seen: &Seen, elements: &Array) -> Result<Vec<usize>,
 }
 
 /// The places of the text's elements of `validators` that no validator seen is in.
-pub fn unused_ranges(alloc: Global, seen: &Seen, table: &Table) -> Result<Vec<usize>, NoMemory>
+pub fn unused_ranges(
+    alloc: Global,
+    seen: &SeenValidators,
+    table: &Table,
+) -> Result<Vec<usize>, NoMemory>
     ensures { IfOk result (λ v. v.items ≡ spec.unused_in seen.now (table_view table.now)) }
 {
     match elements_at(table, "validators") {

@@ -3,7 +3,7 @@
 ghost use Rattle.std.specs.Prelude.{◌≡◌, [], ℕ, ◌||◌, IfOk, OnOk};
 ghost use Rattle.std.specs.List.{filter, list_any};
 ghost use Rattle.table_facts.specs.Ranges.{is_from_to, is_in_no_range};
-ghost use Rattle.table_facts.specs.Seen.{Adds, has_tap_at, is_among};
+ghost use Rattle.table_facts.specs.SeenValidators.{AddsValidators, has_tap_at, is_among};
 
 use fare_table::{FareTable, NoMemory};
 use std::alloc::Global;
@@ -13,12 +13,12 @@ use tap_views::{Batch, batches};
 
 /// The validators of some uploads, each once, rising.
 #[derive(Drop)]
-pub struct Seen {
+pub struct SeenValidators {
     /// Their numbers.
     numbers: BTreeSet<u32>,
 }
 
-impl Model for Seen {
+impl Model for SeenValidators {
     ghost use Rattle.std.specs.Prelude.{List, ℕ};
 
     ghost Value = { List ℕ };
@@ -26,24 +26,24 @@ impl Model for Seen {
     ghost view = { λ s. s.numbers.keys };
 }
 
-impl Seen {
+impl SeenValidators {
     ghost use Rattle.std.specs.Prelude.{◌≡◌, [], IfOk, OnOk, ◌≤◌};
     ghost use Rattle.std.specs.List.{filter, list_any};
     ghost use Rattle.table_facts.specs.Ranges.{is_from_to, is_in_no_range};
-    ghost use Rattle.table_facts.specs.Seen.{Adds};
+    ghost use Rattle.table_facts.specs.SeenValidators.{AddsValidators};
 
     /// No validator yet.
-    pub fn new(alloc: Global) -> Seen
+    pub fn new(alloc: Global) -> SeenValidators
         ensures { result ≡ [] }
     {
-        Seen {
+        SeenValidators {
             numbers: BTreeSet::new(alloc),
         }
     }
 
     /// Adds the validators of an upload's taps before its first layout fault.
     pub fn add(&mut self, upload: &[u8]) -> Result<(), NoMemory>
-        ensures { OnOk result (Adds self.old upload.now self.new) }
+        ensures { OnOk result (AddsValidators self.old upload.now self.new) }
     {
         add_upload(&mut self.numbers, upload)
     }
@@ -71,7 +71,7 @@ impl Seen {
 
 /// Adds the validators of an upload's taps before its first layout fault.
 fn add_upload(numbers: &mut BTreeSet<u32>, upload: &[u8]) -> Result<(), NoMemory>
-    ensures { OnOk result (Adds numbers.old.keys upload.now numbers.new.keys) }
+    ensures { OnOk result (AddsValidators numbers.old.keys upload.now numbers.new.keys) }
 {
     for item in batches(upload) {
         match item {

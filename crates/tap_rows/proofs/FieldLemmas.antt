@@ -3,7 +3,7 @@ use Rattle.std.proofs.Common.{◌≡◌, ℕ, suc, ◌+◌, ◌-◌, ◌<◌, Li
 use Rattle.std.specs.Prelude.{codes, slice_index, MatchOption, None, Option, Some}
 use Rattle.std.proofs.Math.Seq.{get_or-append_seam}
 use Rattle.tap_rows.specs.Fields.{HasNoComma, AreFields, FieldStandsFor, FieldStandsForSome}
-use Rattle.tap_rows.specs.Tables.{IsHead}
+use Rattle.tap_rows.specs.TapTables.{IsHead}
 
 -- no comma in what follows the first byte
 behind : (x : ℕ) (xs : List ℕ) → HasNoComma (x ∷ xs) → HasNoComma xs

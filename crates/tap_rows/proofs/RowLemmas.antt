@@ -4,7 +4,7 @@ use Rattle.tap_views.specs.declared.encoder.TapFields.{TapFields}
 use Rattle.tap_rows.specs.Moments.{IsTime}
 use Rattle.tap_rows.proofs.FieldLemmas.{one_fields, one_value}
 use Rattle.tap_rows.proofs.MomentLemmas.{one_time}
-use Rattle.tap_rows.specs.Rows.{IsToken, TellsToken, TellsValidator, TellsMoment, IsRow, IsNoRow, row_text, rows_text}
+use Rattle.tap_rows.specs.Rows.{IsToken, TellsToken, TellsValidator, TellsMoment, IsTapRow, IsNoTapRow, row_text, rows_text}
 use Rattle.tap_rows.specs.declared.column.Column.{Column}
 use Rattle.tap_rows.specs.declared.column.Column.TheVariants.{Fields, Token, Validator, Moment}
 
@@ -30,7 +30,7 @@ abbrev tap_with : List ℕ → ℕ → ℕ → TapFields
 tap_with token validator moment = record { token = token; validator = validator; moment = moment }
 
 -- a line is the row of one tap at most
-pub one_row : (line : List ℕ) (tap other : TapFields) → IsRow line tap → IsRow line other → tap ≡ other
+pub one_row : (line : List ℕ) (tap other : TapFields) → IsTapRow line tap → IsTapRow line other → tap ≡ other
 one_row line tap other is also =
     let (t, v, m) = one_fields line is.token_text is.validator_text is.moment_text also.token_text also.validator_text also.moment_text is.fields also.fields in
     let token = one_token is.token_text tap.token other.token is.token (subst (λ text. TellsToken text other.token) (sym t) also.token) in
@@ -42,7 +42,7 @@ one_row line tap other is also =
     first ∙ second ∙ third
 
 -- the row of a tap is no bad row
-pub no_bad_row : (line : List ℕ) (tap : TapFields) (column : Column) → IsRow line tap → ¬ (IsNoRow line column)
+pub no_bad_row : (line : List ℕ) (tap : TapFields) (column : Column) → IsTapRow line tap → ¬ (IsNoTapRow line column)
 no_bad_row line tap Fields is bad = bad is.token_text is.validator_text is.moment_text is.fields
 no_bad_row line tap Token is bad =
     let (t, v, m) = one_fields line is.token_text is.validator_text is.moment_text bad.token_text bad.validator_text bad.moment_text is.fields bad.fields in
@@ -55,7 +55,7 @@ no_bad_row line tap Moment is bad =
     bad.wrong tap.moment (subst (λ text. TellsMoment text tap.moment) m is.moment)
 
 -- no bytes are the row of no tap
-pub not_empty : (tap : TapFields) → ¬ (IsRow [] tap)
+pub not_empty : (tap : TapFields) → ¬ (IsTapRow [] tap)
 not_empty tap is = absurd (omega (arith, simp length-append at (ap length is.fields.joined)))
 
 -- the rows of one tap more

@@ -15,9 +15,9 @@ use Rattle.tap_views.specs.Files.{IsFile}
 use Rattle.tap_views.specs.Layout.{Tap}
 use Rattle.tap_parts.specs.Parts.{IsFileOf}
 use Rattle.tap_parts.proofs.Texts.{no_text}
-use Rattle.tap_rows.specs.Rows.{IsRow, IsNoRow}
-use Rattle.tap_rows.specs.Tables.{IsHead, BeginsWithRows, IsTapTable, IsRowsFault, IsEncoded, IsOfTapTable}
-use Rattle.tap_rows.specs.inside.Tables.{IsEncodedAs, IsNextRow, IsTapTableOf}
+use Rattle.tap_rows.specs.Rows.{IsTapRow, IsNoTapRow}
+use Rattle.tap_rows.specs.TapTables.{IsHead, BeginsWithRows, IsTapTable, IsRowsFault, IsEncoded, IsOfTapTable}
+use Rattle.tap_rows.specs.inside.TapTables.{IsEncodedAs, IsNextRow, IsTapTableOf}
 use Rattle.tap_rows.specs.declared.column.Column.{Column}
 use Rattle.tap_rows.specs.declared.fault.RowsFault.{RowsFault}
 use Rattle.tap_rows.specs.declared.fault.RowsFault.TheVariants.{Head, Row, Unread, Changed, Write, NoMemory}
@@ -58,9 +58,9 @@ only_memory taps ForMemory fits refused = refl
 
 -- ---- rows
 -- one row more
-pub more_rows : (text : List ℕ) (taps : List TapFields) (left : List ℕ) (tap : TapFields) → BeginsWithRows text taps left → IsRow (first_line left) tap
+pub more_rows : (text : List ℕ) (taps : List TapFields) (left : List ℕ) (tap : TapFields) → BeginsWithRows text taps left → IsTapRow (first_line left) tap
     → BeginsWithRows text (taps ++ tap ∷ []) (drop_through 10 left)
-more_rows text [] left tap begins row = (subst (λ bytes. IsRow (first_line bytes) tap) (sym begins) row, ap (drop_through 10) begins)
+more_rows text [] left tap begins row = (subst (λ bytes. IsTapRow (first_line bytes) tap) (sym begins) row, ap (drop_through 10) begins)
 more_rows text (first ∷ taps) left tap begins row = (begins.0, more_rows (drop_through 10 text) taps left tap begins.1 row)
 
 -- how far a reader of a table has come: over the rows of these taps
@@ -108,7 +108,7 @@ reached_fault text now new number taps fault reached place next = by_fault fault
       rest = reached.left;
       rows = reached.rows;
       some = is.1;
-      place = is.0 ∙ place;
+      number_is = is.0 ∙ place;
       wrong = is.2;
     }
     by_fault Unread is = tt
@@ -119,19 +119,19 @@ reached_fault text now new number taps fault reached place next = by_fault fault
 -- ---- a table is the table of one list of taps, and has no bad row
 pub one_list : (text : List ℕ) (taps others : List TapFields) → BeginsWithRows text taps [] → BeginsWithRows text others [] → taps ≡ others
 one_list text [] [] is also = refl
-one_list text [] (tap ∷ others) is also = absurd (not_empty tap (subst (λ bytes. IsRow (first_line bytes) tap) is also.0))
-one_list text (tap ∷ taps) [] is also = absurd (not_empty tap (subst (λ bytes. IsRow (first_line bytes) tap) also is.0))
+one_list text [] (tap ∷ others) is also = absurd (not_empty tap (subst (λ bytes. IsTapRow (first_line bytes) tap) is also.0))
+one_list text (tap ∷ taps) [] is also = absurd (not_empty tap (subst (λ bytes. IsTapRow (first_line bytes) tap) also is.0))
 one_list text (tap ∷ taps) (other ∷ others) is also =
     let same = one_row (first_line text) tap other is.0 also.0 in
     let rest = one_list (drop_through 10 text) taps others is.1 also.1 in
     ap (λ t. t ∷ taps) same ∙ ap (λ ts. other ∷ ts) rest
 
 no_bad_rest : (text : List ℕ) (taps before : List TapFields) (rest : List ℕ) (column : Column) → BeginsWithRows text taps [] → BeginsWithRows text before rest
-    → ¬ (rest ≡ []) → ¬ (IsNoRow (first_line rest) column)
+    → ¬ (rest ≡ []) → ¬ (IsNoTapRow (first_line rest) column)
 no_bad_rest text [] [] rest column is also some bad = some (sym also ∙ is)
-no_bad_rest text [] (tap ∷ before) rest column is also some bad = absurd (not_empty tap (subst (λ bytes. IsRow (first_line bytes) tap) is also.0))
+no_bad_rest text [] (tap ∷ before) rest column is also some bad = absurd (not_empty tap (subst (λ bytes. IsTapRow (first_line bytes) tap) is also.0))
 no_bad_rest text (tap ∷ taps) [] rest column is also some bad =
-    no_bad_row (first_line rest) tap column (subst (λ bytes. IsRow (first_line bytes) tap) also is.0) bad
+    no_bad_row (first_line rest) tap column (subst (λ bytes. IsTapRow (first_line bytes) tap) also is.0) bad
 no_bad_rest text (tap ∷ taps) (other ∷ before) rest column is also some bad = no_bad_rest (drop_through 10 text) taps before rest column is.1 also.1 some bad
 
 -- a table is not refused by a fault of its own
@@ -213,7 +213,7 @@ pub writing_end : (text : List ℕ) (now after : Option (List ℕ)) (count numbe
     → Writing text now count pending old out → IfSome now (λ left. IsNextRow left number after (Ok None)) → IsEncodedAs pending out new → IsEncoded text old new count
 writing_end text now after count number pending old out new writing next (more, is, appended) = record {
   taps = writing.done ++ pending;
-  table = reached_end text now after number (writing.done ++ pending) writing.reached next;
+  tap_table = reached_end text now after number (writing.done ++ pending) writing.reached next;
   number = writing.number;
   file = writing.file ++ more;
   upload = two_files writing.file more writing.done pending writing.upload is;
@@ -270,7 +270,7 @@ pub same_count : (first second old new : Option (List ℕ)) (count written : ℕ
 same_count None second old new count written some same table encoded = absurd (cc)
 same_count (Some text) second old new count written some same table encoded =
     let again = subst (λ o. IfSome o (λ text. IsEncoded text old new written)) (sym same) encoded in
-    let taps = one_list (drop_through 10 text) table.taps again.taps table.table.rows again.table.rows in
+    let taps = one_list (drop_through 10 text) table.taps again.taps table.tap_table.rows again.tap_table.rows in
     omega (arith, ap length taps, table.number, again.number)
 
 pub no_change : (first second : Option (List ℕ)) (count : ℕ) (fault answer : RowsFault) → (IsOfTapTable fault → answer ≡ Changed) → (¬ (IsOfTapTable fault) → answer ≡ fault) → answer ≡ Changed
@@ -280,8 +280,8 @@ no_change (Some text) second count fault answer own other is some same table ref
     by_fault fault other (subst (λ o. IfSome o (λ text. IsRowsFault text fault)) (sym same) refused)
   where
     by_fault : (fault : RowsFault) → (¬ (IsOfTapTable fault) → answer ≡ fault) → IsRowsFault text fault → ⊥
-    by_fault Head other refused = no_fault text table.taps Head table.table tt refused
-    by_fault (Row number column) other refused = no_fault text table.taps (Row number column) table.table tt refused
+    by_fault Head other refused = no_fault text table.taps Head table.tap_table tt refused
+    by_fault (Row number column) other refused = no_fault text table.taps (Row number column) table.tap_table tt refused
     by_fault Changed other refused = refused
     by_fault Unread other refused = let e : Unread ≡ Changed = sym (other (λ x. x)) ∙ is in absurd (cc)
     by_fault Write other refused = let e : Write ≡ Changed = sym (other (λ x. x)) ∙ is in absurd (cc)

@@ -17,7 +17,7 @@ use Rattle.jiff_fmt.specs.Text.{date_text, pad2, year_text}
 use Rattle.jiff_fmt.proofs.RoundTrip.{annotations-empty, date_spec-text, field-pad2, offset-zulu}
 use Rattle.jiff_fmt.proofs.TemporalLemmas.{instant-ok}
 use Rattle.fare_texts.specs.Moments.{IsCivilText, pad3}
-use Rattle.tap_rows.specs.Moments.{HasUtcSigns, IsMoment, IsSecondText, IsUtc}
+use Rattle.tap_rows.specs.Moments.{HasUtcPunctuation, IsMoment, IsSecondText, IsUtc}
 
 -- ---- the time of day
 -- what a clock shows
@@ -94,10 +94,10 @@ abbrev dated : ℤ → ℕ → ℕ → List ℕ → List ℕ
 dated year month day time = (year_text year ++ 45 ∷ [] ++ pad2 month ++ 45 ∷ [] ++ pad2 day) ++ time
 
 -- without a fraction, and with one of three places
-marks_short : (year month day hour minute second : ℕ) → HasUtcSigns (dated (pos year) month day (84 ∷ clock hour minute second (90 ∷ [])))
+marks_short : (year month day hour minute second : ℕ) → HasUtcPunctuation (dated (pos year) month day (84 ∷ clock hour minute second (90 ∷ [])))
 marks_short year month day hour minute second = (omega arith, refl, refl, refl, refl)
 
-marks_long : (year month day hour minute second ms : ℕ) → HasUtcSigns (dated (pos year) month day (84 ∷ clock hour minute second (46 ∷ (pad3 ms ++ 90 ∷ []))))
+marks_long : (year month day hour minute second ms : ℕ) → HasUtcPunctuation (dated (pos year) month day (84 ∷ clock hour minute second (46 ∷ (pad3 ms ++ 90 ∷ []))))
 marks_long year month day hour minute second ms = (omega arith, refl, refl, refl, refl)
 
 -- ---- the two texts
@@ -112,10 +112,10 @@ civil_moment moment text early is =
     let read = three_places (ms % 1_000) (omega arith) in
     let value : (hour * 3_600 + minute * 60 + second) * 1_000_000_000 + ms % 1_000 * 1_000_000 ≡ ms * 1_000_000 = omega arith in
     let instant = instant_read is.date moment hour minute second (Some (ms % 1_000 * 1_000_000)) fraction is.day early (omega arith) (omega arith) (omega arith) read value in
-    let marks : HasUtcSigns (dated is.date.year is.date.month is.date.day (84 ∷ clock hour minute second fraction)) =
-    subst (λ (y : ℤ). HasUtcSigns (dated y is.date.month is.date.day (84 ∷ clock hour minute second fraction))) (sym year_is)
+    let marks : HasUtcPunctuation (dated is.date.year is.date.month is.date.day (84 ∷ clock hour minute second fraction)) =
+    subst (λ (y : ℤ). HasUtcPunctuation (dated y is.date.month is.date.day (84 ∷ clock hour minute second fraction))) (sym year_is)
     (marks_long year is.date.month is.date.day hour minute second (ms % 1_000)) in
-    (inr (subst (λ (t : List ℕ). IsUtc t moment) (sym is.shown) (record { marks = marks; instant = instant })), early)
+    (inr (subst (λ (t : List ℕ). IsUtc t moment) (sym is.shown) (record { punctuation = marks; instant = instant })), early)
 
 pub second_moment : (moment : ℕ) (text : List ℕ) → moment < 4_102_444_800_000 → IsSecondText moment text → IsMoment text moment
 second_moment moment text early is =
@@ -127,7 +127,7 @@ second_moment moment text early is =
     let whole = is.whole in
     let value : (hour * 3_600 + minute * 60 + second) * 1_000_000_000 + 0 ≡ ms * 1_000_000 = omega arith in
     let instant = instant_read is.date moment hour minute second None (90 ∷ []) is.day early (omega arith) (omega arith) (omega arith) no_fraction value in
-    let marks : HasUtcSigns (dated is.date.year is.date.month is.date.day (84 ∷ clock hour minute second (90 ∷ []))) =
-    subst (λ (y : ℤ). HasUtcSigns (dated y is.date.month is.date.day (84 ∷ clock hour minute second (90 ∷ [])))) (sym year_is)
+    let marks : HasUtcPunctuation (dated is.date.year is.date.month is.date.day (84 ∷ clock hour minute second (90 ∷ []))) =
+    subst (λ (y : ℤ). HasUtcPunctuation (dated y is.date.month is.date.day (84 ∷ clock hour minute second (90 ∷ [])))) (sym year_is)
     (marks_short year is.date.month is.date.day hour minute second) in
-    (inr (subst (λ (t : List ℕ). IsUtc t moment) (sym is.shown) (record { marks = marks; instant = instant })), early)
+    (inr (subst (λ (t : List ℕ). IsUtc t moment) (sym is.shown) (record { punctuation = marks; instant = instant })), early)

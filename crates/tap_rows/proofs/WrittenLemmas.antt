@@ -15,8 +15,8 @@ use Rattle.hex.proofs.HexLemmas.{decode_sized-encode_lower, IsOk-decode_sized}
 use Rattle.tap_views.specs.declared.encoder.TapFields.{TapFields}
 use Rattle.tap_rows.specs.Fields.{AreFields, FieldStandsFor}
 use Rattle.tap_rows.specs.Moments.{IsDecimal}
-use Rattle.tap_rows.specs.Rows.{IsRow, IsTapFields, row_text, rows_text}
-use Rattle.tap_rows.specs.Tables.{head, IsHead, BeginsWithRows, IsTapTable, tap_table_text}
+use Rattle.tap_rows.specs.Rows.{IsTapRow, IsTapFields, row_text, rows_text}
+use Rattle.tap_rows.specs.TapTables.{head, IsHead, BeginsWithRows, IsTapTable, tap_table_text}
 
 -- each byte is a digit or comes after them
 abbrev pub AreHigh : List ℕ → Type 0
@@ -179,7 +179,7 @@ line_unbroken tap is =
     unbroken_joined (encode_lower tap.token) (44 ∷ (decimal tap.validator ++ 44 ∷ decimal tap.moment)) (high_unbroken _ (token_high tap is))
     (omega arith, unbroken_joined (decimal tap.validator) (44 ∷ decimal tap.moment) (high_unbroken _ (decimal_high tap.validator (omega (arith, is.validator)))) (omega arith, high_unbroken _ (decimal_high tap.moment (omega (arith, is.moment)))))
 
-row_back : (tap : TapFields) → IsTapFields tap → IsRow (line_of tap) tap
+row_back : (tap : TapFields) → IsTapFields tap → IsTapRow (line_of tap) tap
 row_back tap is = record {
   token_text = encode_lower tap.token;
   validator_text = decimal tap.validator;
@@ -207,7 +207,7 @@ rows_back (tap ∷ taps) are =
     let unbroken = line_unbroken tap are.0 in
     let line : first_line (rows_text (tap ∷ taps)) ≡ line_of tap = ap first_line spelt ∙ first (line_of tap) (rows_text taps) unbroken in
     let rest : drop_through 10 (rows_text (tap ∷ taps)) ≡ rows_text taps = ap (drop_through 10) spelt ∙ dropped (line_of tap) (rows_text taps) unbroken in
-    (subst (λ text. IsRow text tap) (sym line) (row_back tap are.0), subst (λ text. BeginsWithRows text taps []) (sym rest) (rows_back taps are.1))
+    (subst (λ text. IsTapRow text tap) (sym line) (row_back tap are.0), subst (λ text. BeginsWithRows text taps []) (sym rest) (rows_back taps are.1))
 
 -- the head that is written is a head
 head_back : IsHead head

@@ -2,5 +2,5 @@ pub mod Decoded
 pub mod Fields
 pub mod Moments
 pub mod Rows
-pub mod Tables
+pub mod TapTables
 pub mod inside

@@ -15,15 +15,15 @@ pub record IsDecimal (text : List ℕ) (number : ℕ) : Type 0 where
 
 -- where `2024-03-08T17:00:00Z` has its `T`, its colons and its `Z`, this text has them too; what
 -- stands before the `Z` may be longer, as a fraction makes it
-abbrev pub HasUtcSigns : List ℕ → Type 0
-HasUtcSigns text =
+abbrev pub HasUtcPunctuation : List ℕ → Type 0
+HasUtcPunctuation text =
     (20 ≤ length text) × (slice_index text 10 ≡ 84) × (slice_index text 13 ≡ 58)
     × (slice_index text 16 ≡ 58) × (slice_index text (length text - 1) ≡ 90)
 
--- the text has these marks, and tells an instant by the grammar of RFC 3339: so many milliseconds
--- after 1970-01-01T00:00Z, and no fraction of one
+-- the text has this punctuation, and tells an instant by the grammar of RFC 3339: so many
+-- milliseconds after 1970-01-01T00:00Z, and no fraction of one
 pub record IsUtc (text : List ℕ) (number : ℕ) : Type 0 where
-  pub marks : HasUtcSigns text
+  pub punctuation : HasUtcPunctuation text
   pub instant : parse_timestamp text ≡ Ok (pos (number * 1_000_000))
 
 -- the text tells a moment in one of the two ways

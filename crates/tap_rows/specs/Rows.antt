@@ -30,7 +30,7 @@ abbrev pub TellsMoment : List ℕ → ℕ → Type 0
 TellsMoment text number = FieldStandsForSome (λ value. IsMoment value number) text
 
 -- the line is a row of this tap
-pub record IsRow (line : List ℕ) (tap : TapFields) : Type 0 where
+pub record IsTapRow (line : List ℕ) (tap : TapFields) : Type 0 where
   pub token_text : List ℕ
   pub validator_text : List ℕ
   pub moment_text : List ℕ
@@ -67,11 +67,12 @@ pub record HasNoMoment (line : List ℕ) : Type 0 where
   pub wrong : (number : ℕ) → ¬ (TellsMoment moment_text number)
 
 -- the line is a row of no tap, and this is the first column that is wrong
-abbrev pub IsNoRow : List ℕ → Column → Type 0
-IsNoRow line Fields = (token validator moment : List ℕ) → ¬ (AreFields line token validator moment)
-IsNoRow line Token = HasNoToken line
-IsNoRow line Validator = HasNoValidator line
-IsNoRow line Moment = HasNoMoment line
+abbrev pub IsNoTapRow : List ℕ → Column → Type 0
+IsNoTapRow line Fields =
+    (token validator moment : List ℕ) → ¬ (AreFields line token validator moment)
+IsNoTapRow line Token = HasNoToken line
+IsNoTapRow line Validator = HasNoValidator line
+IsNoTapRow line Moment = HasNoMoment line
 
 -- the row of a tap as it is written, with its line feed
 abbrev pub row_text : TapFields → List ℕ

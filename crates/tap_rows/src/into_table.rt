@@ -5,7 +5,7 @@ ghost use Rattle.std.specs.Prelude.{OnOk, map};
 ghost use Rattle.std.specs.Io.KnownBytes.{Appends};
 ghost use Rattle.tap_rows.specs.Decoded.{IsDecoded};
 ghost use Rattle.tap_rows.specs.Rows.{row_text, rows_text};
-ghost use Rattle.tap_rows.specs.Tables.{head};
+ghost use Rattle.tap_rows.specs.TapTables.{head};
 ghost use Rattle.tap_views.specs.Encoding.{fields_of};
 
 use crate::fault::RowsFault;

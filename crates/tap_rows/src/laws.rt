@@ -7,8 +7,8 @@ ghost use Rattle.fare_texts.specs.Moments.{IsCivilText};
 ghost use Rattle.tap_parts.specs.Parts.{IsFileOf};
 ghost use Rattle.tap_rows.specs.Decoded.{fields_in};
 ghost use Rattle.tap_rows.specs.Moments.{IsMoment, IsSecondText};
-ghost use Rattle.tap_rows.specs.Rows.{IsNoRow, IsRow, IsTapFields};
-ghost use Rattle.tap_rows.specs.Tables.{IsBadRow, IsTapTable, tap_table_text};
+ghost use Rattle.tap_rows.specs.Rows.{IsNoTapRow, IsTapRow, IsTapFields};
+ghost use Rattle.tap_rows.specs.TapTables.{IsBadRow, IsTapTable, tap_table_text};
 ghost use Rattle.tap_rows.specs.declared.column.Column.{Column};
 ghost use Rattle.tap_views.specs.Layout.{Tap, moment_limit};
 ghost use Rattle.tap_views.specs.declared.encoder.TapFields.{TapFields};
@@ -17,10 +17,10 @@ ghost use Rattle.upload_facts.specs.Facts.{IsReadAs};
 
 /// A line is the row of at most one tap, and then it is no bad row.
 pub fn one_row()
-    ensures tap { (line : List ℕ) (tap other : TapFields) → IsRow line tap → IsRow line other
+    ensures tap { (line : List ℕ) (tap other : TapFields) → IsTapRow line tap → IsTapRow line other
         → tap ≡ other }
-    ensures good { (line : List ℕ) (tap : TapFields) (column : Column) → IsRow line tap
-        → ¬ (IsNoRow line column) }
+    ensures good { (line : List ℕ) (tap : TapFields) (column : Column) → IsTapRow line tap
+        → ¬ (IsNoTapRow line column) }
 {}
 
 /// A text is the table of at most one list of taps, and then it has no bad row.

@@ -3,7 +3,7 @@
 ghost use Rattle.std.specs.Prelude.{◌≡◌, ◌<◌, ◌^◌, ◌*◌, ◌↔◌, ℕ, Ok, pos};
 ghost use Rattle.std.specs.Prelude.{IsTrue, MatchOption};
 ghost use Rattle.jiff_fmt.specs.Temporal.{parse_timestamp};
-ghost use Rattle.tap_rows.specs.Moments.{HasUtcSigns, IsDecimal, IsMoment, IsTime};
+ghost use Rattle.tap_rows.specs.Moments.{HasUtcPunctuation, IsDecimal, IsMoment, IsTime};
 
 use jiff_fmt::temporal::parse_timestamp;
 use tap_views::MOMENT_LIMIT_MS;
@@ -27,7 +27,7 @@ pub(crate) fn number_of(field: &[u8]) -> Option<u64>
 
 /// Whether a text has the marks of `2024-03-08T17:00:00Z` in their places.
 fn has_utc_marks(text: &[u8]) -> bool
-    ensures { IsTrue result ↔ HasUtcSigns text.now }
+    ensures { IsTrue result ↔ HasUtcPunctuation text.now }
 {
     text.len() >= 20
         && text[10] == b'T'

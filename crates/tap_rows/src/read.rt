@@ -5,8 +5,8 @@ ghost use Rattle.std.specs.Prelude.{IsTrue, OnOk};
 ghost use Rattle.std.specs.Prelude.{if◌then◌else◌, length, true, false};
 ghost use Rattle.std.specs.Io.BufRead.{drop_through, ends_with_byte, first_line, strip_last};
 ghost use Rattle.std.specs.Io.BufRead.{take_through};
-ghost use Rattle.tap_rows.specs.Tables.{IsHead, IsRowsFault};
-ghost use Rattle.tap_rows.specs.inside.Tables.{IsHeadFault, IsNextRow, IsTapTableOf};
+ghost use Rattle.tap_rows.specs.TapTables.{IsHead, IsRowsFault};
+ghost use Rattle.tap_rows.specs.inside.TapTables.{IsHeadFault, IsNextRow, IsTapTableOf};
 ghost use Rattle.tap_views.specs.Layout.{moment_limit};
 
 use crate::fault::RowsFault;

@@ -1,7 +1,7 @@
 //! One row: read as a tap, and written for one.
 
 ghost use Rattle.std.specs.Prelude.{ℕ, List, IfErr, IfOk, MatchOption};
-ghost use Rattle.tap_rows.specs.Rows.{IsNoRow, IsRow, IsToken, IsValidator};
+ghost use Rattle.tap_rows.specs.Rows.{IsNoTapRow, IsTapRow, IsToken, IsValidator};
 
 use crate::column::Column;
 use crate::field::{three_fields, value_of};
@@ -31,8 +31,8 @@ fn validator_in(value: &[u8]) -> Option<u32>
 
 /// The tap of a row, which is given without its line feed; else its first column that is wrong.
 pub(crate) fn tap_of(line: &[u8]) -> Result<TapFields, Column>
-    ensures row { IfOk result (IsRow line.now) }
-    ensures wrong { IfErr result (IsNoRow line.now) }
+    ensures row { IfOk result (IsTapRow line.now) }
+    ensures wrong { IfErr result (IsNoTapRow line.now) }
 {
     let Some((token, validator, moment)) = three_fields(line) else {
         return Err(Column::Fields);

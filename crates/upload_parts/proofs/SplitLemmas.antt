@@ -13,7 +13,7 @@ use Rattle.upload_facts.specs.Facts.{taps_of_batches}
 use Rattle.upload_facts.proofs.ReadingLemmas.{taps_more}
 use Rattle.tap_views.specs.Files.{AreGoodTaps, AreGoodTapsOfEach}
 use Rattle.upload_parts.specs.Split.{AreSplit, AreAllEarly}
-use Rattle.tap_parts.specs.Parts.{uploads_joined}
+use Rattle.tap_parts.specs.Parts.{taps_of_uploads}
 use Rattle.tap_parts.specs.Uploads.{IsUploadAdded}
 use Rattle.tap_parts.specs.declared.upload.UploadTaps.{UploadTaps}
 
@@ -71,6 +71,6 @@ more_split upload old new end is parts uploads split =
           is.added.each part (subst (λ n. part < n) (sym split.number) within)
           ∙ ap (λ n. get_or old part [] ++ map fields_of (of_part part n taps)) split.number
           ∙ ap (λ fields. fields ++ map fields_of (of_part part parts taps)) (split.each part within)
-          ∙ sym (fields-append part parts (uploads_joined split.taps) taps)
+          ∙ sym (fields-append part parts (taps_of_uploads split.taps) taps)
           ∙ ap (λ all. map fields_of (of_part part parts all)) (sym (taps_more split.taps taps));
     }

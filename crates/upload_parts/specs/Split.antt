@@ -5,7 +5,7 @@ use Rattle.std.specs.Prelude.{slice_index_or}
 use Rattle.tap_views.specs.Encoding.{fields_of, AreEarly}
 use Rattle.tap_views.specs.Layout.{Tap}
 use Rattle.tap_views.specs.declared.encoder.TapFields.{TapFields}
-use Rattle.tap_parts.specs.Parts.{IsFileOf, of_part, uploads_joined}
+use Rattle.tap_parts.specs.Parts.{IsFileOf, of_part, taps_of_uploads}
 use Rattle.tap_parts.specs.declared.upload.UploadTaps.{UploadTaps}
 use Rattle.upload_facts.specs.Facts.{IsReadAs, taps_of_batches}
 use Rattle.tap_parts.specs.Canonical.{IsCanonical}
@@ -23,7 +23,7 @@ pub record AreSplit (parts : ℕ) (uploads : List (List ℕ)) (lists : List (Lis
   pub of_uploads : AreGoodTapsOfEach uploads taps
   pub number : length lists ≡ parts
   pub each : (part : ℕ) → part < parts
-      → slice_index_or lists part [] ≡ map fields_of (of_part part parts (uploads_joined taps))
+      → slice_index_or lists part [] ≡ map fields_of (of_part part parts (taps_of_uploads taps))
 
 -- the file is read, with no fault, as exactly the uploads' taps that fall to the part, in canonical
 -- order
@@ -31,7 +31,7 @@ pub record IsSplitFile (uploads : List (List ℕ)) (parts part : ℕ) (file : Li
   pub taps : List (List Tap)
   pub of_uploads : AreGoodTapsOfEach uploads taps
   pub list : List TapFields
-  pub canonical : IsCanonical (map fields_of (of_part part parts (uploads_joined taps))) list
+  pub canonical : IsCanonical (map fields_of (of_part part parts (taps_of_uploads taps))) list
   pub reads : IsFileOf file list
 
 -- the taps of all parts have moments that a file can have

@@ -19,7 +19,7 @@ ends_of posted = option_map_or (λ given. given.items) posted.given posted.outco
 
 -- The files were posted as they are, and ended so. If each was posted whole, what is shown of the
 -- outcome is shown over their plain history.
-pub record IsLive (fares : Fares) (shards workers : ℕ) (files : List (List ℕ))
+pub record IsLiveRun (fares : Fares) (shards workers : ℕ) (files : List (List ℕ))
     (ends : List UploadEnd) (outcome : OutcomeView) : Type 0 where
   pub run : HasRun fares shards files workers outcome
   pub ended : ends ≡ outcome.ends
@@ -28,7 +28,7 @@ pub record IsLive (fares : Fares) (shards workers : ℕ) (files : List (List ℕ
       → ShowsPlain explain fares files token text
 
 -- the files were posted, settled where that is asked for, and ended so
-abbrev pub IsPosted : Asked → Fares → List (List ℕ) → List UploadEnd → OutcomeView → Type 0
-IsPosted asked fares files ends outcome = MatchBool asked.settle
+abbrev pub IsAskedOutcome : Asked → Fares → List (List ℕ) → List UploadEnd → OutcomeView → Type 0
+IsAskedOutcome asked fares files ends outcome = MatchBool asked.settle
     (IsOutcomeOf fares files ends outcome)
-    (IsLive fares asked.shards asked.workers files ends outcome)
+    (IsLiveRun fares asked.shards asked.workers files ends outcome)

@@ -4,7 +4,7 @@ use Rattle.std.specs.Prelude.{slice_get, Some, slice_set, sum_by}
 use Rattle.std.specs.List.{flat_map}
 use Rattle.shared_books.specs.declared.turns.rule.Mark.{Mark}
 use Rattle.shared_books.specs.Drawing.{Drawing, DrawerView}
-use Rattle.shared_books.specs.Marks.{visits_of, merged, Apart, Begins}
+use Rattle.shared_books.specs.Marks.{visits_of, joined_marks, Apart, Begins}
 use Rattle.shared_books.specs.Passes.{SharedBookView, PassView}
 use Rattle.fare_service.specs.declared.service.share.Done.{Done}
 use Rattle.fare_service.specs.declared.upload_end.UploadEnd.{UploadEnd}
@@ -16,14 +16,14 @@ use Rattle.fare_service.specs.Shares.{books_of, made_visits, marks_at, made_visi
 use Rattle.std.specs.List.{AllZip}
 
 -- the ends with those of some uploads, of which the last counts
-abbrev pub told : List UploadEnd → List Done → List UploadEnd
-told ends [] = ends
-told ends (d ∷ done) = told (slice_set ends d.upload d.end) done
+abbrev pub with_done : List UploadEnd → List Done → List UploadEnd
+with_done ends [] = ends
+with_done ends (d ∷ done) = with_done (slice_set ends d.upload d.end) done
 
 -- the ends, with those that all shares tell
-abbrev pub told_all : List UploadEnd → List ShareView → List UploadEnd
-told_all ends [] = ends
-told_all ends (share ∷ shares) = told_all (told ends share.done) shares
+abbrev pub with_all_done : List UploadEnd → List ShareView → List UploadEnd
+with_all_done ends [] = ends
+with_all_done ends (share ∷ shares) = with_all_done (with_done ends share.done) shares
 
 -- the sign of a mark, where the first i workers are joined
 pub record IsSign (i nobody : ℕ) (s : Signed) (m : Mark) : Type 0 where
@@ -37,7 +37,7 @@ AreSigns i nobody signs marks = AllZip (IsSign i nobody) signs marks
 
 -- two lists of marks that were joined
 pub record AreJoined (old other new : List Mark) : Type 0 where
-  pub marks : new ≡ merged old other
+  pub marks : new ≡ joined_marks old other
   pub apart : Apart old other
   pub begins : Begins (visits_of old) (visits_of other) ⊎ Begins (visits_of other) (visits_of old)
   pub held : length (made_visits new) ≡ length (made_visits old) + length (made_visits other)

@@ -1,10 +1,10 @@
 -- Runs: what private functions alone cite.
 use Rattle.std.specs.Prelude.{ℕ, ◌==◌, Bool, MatchBool, List, filter}
-use Rattle.fare_service.specs.Runs.{AreCut, ArePosted, Run, RunVisit}
+use Rattle.fare_service.specs.Runs.{AreCut, ArePostedWhole, PlacedRun, RunVisit}
 
 -- the runs were posted whole, or up to a cut
-abbrev pub WerePosted : List Run → Bool → List RunVisit → Type 0
-WerePosted runs whole visits = MatchBool whole (ArePosted runs visits) (AreCut runs visits)
+abbrev pub ArePostedOrCut : List PlacedRun → Bool → List RunVisit → Type 0
+ArePostedOrCut runs whole visits = MatchBool whole (ArePostedWhole runs visits) (AreCut runs visits)
 
 -- the visits to a shard
 abbrev pub visits_to : ℕ → List RunVisit → List RunVisit

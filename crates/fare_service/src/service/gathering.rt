@@ -6,13 +6,13 @@ ghost use Rattle.std.specs.List.{flat_map};
 ghost use Rattle.shard_book.specs.Sums.{sums_of};
 ghost use Rattle.shared_books.specs.Passes.{PassView};
 ghost use Rattle.fare_service.specs.Claims.{claims_at, HaveAllClaims};
-ghost use Rattle.fare_service.specs.Closing.{IsFirst};
+ghost use Rattle.fare_service.specs.Closing.{TellsFirst};
 ghost use Rattle.fare_service.specs.inside.Closing.{AreClosed, AreUnseen, IsClosedWork};
 ghost use Rattle.fare_service.specs.inside.Closing.{IsAppended, TellsMissing};
 ghost use Rattle.fare_service.specs.inside.Closing.{IsFirstMissing, IsFirstUnseen, IsMissing};
 ghost use Rattle.fare_service.specs.inside.Closing.{LacksClaims, NoneMissing};
-ghost use Rattle.fare_service.specs.inside.Joining.{AreJoinedAt, Belongs, IsJoinedOf, told};
-ghost use Rattle.fare_service.specs.inside.Joining.{told_all};
+ghost use Rattle.fare_service.specs.inside.Joining.{AreJoinedAt, Belongs, IsJoinedOf, with_done};
+ghost use Rattle.fare_service.specs.inside.Joining.{with_all_done};
 ghost use Rattle.fare_service.specs.Faults.{IsForMemory, IsGatherFault};
 ghost use Rattle.fare_service.specs.Shares.{books_of, made_visits_at};
 
@@ -30,7 +30,7 @@ use std::alloc::Global;
 /// Writes down how the uploads ended.
 fn set_ends(ends: &mut Vec<UploadEnd>, done: &[Done])
     requires { All (λ d. d.upload < length ends.old.items) done.now }
-    ensures ends { ends.new.items ≡ told ends.old.items done.now }
+    ensures ends { ends.new.items ≡ with_done ends.old.items done.now }
     ensures number { length ends.new.items ≡ length ends.old.items }
 {
     for one in done {
@@ -42,7 +42,7 @@ fn set_ends(ends: &mut Vec<UploadEnd>, done: &[Done])
 fn ends_of(alloc: Global, uploads: usize, shares: &[Share]) -> Result<Vec<UploadEnd>, NoMemory>
     requires { All (λ share. All (λ d. d.upload < uploads) share.done) shares.now }
     ensures ends { IfOk result
-        (λ r. r.items ≡ told_all (replicate uploads UploadEnd.Undrawn) shares.now) }
+        (λ r. r.items ≡ with_all_done (replicate uploads UploadEnd.Undrawn) shares.now) }
     ensures number { IfOk result (λ r. length r.items ≡ uploads) }
 {
     let mut ends = vec![in alloc; UploadEnd::Undrawn; uploads]?;
@@ -203,7 +203,7 @@ fn close_with(
     requires room { length books.items ≤ vec_capacity closed.old }
     ensures ok { OnOk result (IsClosedWork books.items shares.items closed.new.items) }
     ensures fault { IfErr result (IsGatherFault (length books.items) shares.items) }
-    ensures first { IfErr result (IsFirst books.items draw.numbers shares.items) }
+    ensures first { IfErr result (TellsFirst books.items draw.numbers shares.items) }
     ensures claims { IfErr result (λ _. HaveAllClaims (length books.items) shares.items → ⊥) }
 {
     if shares.is_empty() {
@@ -250,7 +250,7 @@ impl<'a> Service<'a> {
         ensures full { IfOk result (λ _. FullIsMade shares.items) }
         ensures fault { IfErr result (IsGatherFault (shards_of self.entry) shares.items) }
         ensures first { IfErr result
-            (IsFirst self.entry.books (length self.entry.uploads) shares.items) }
+            (TellsFirst self.entry.books (length self.entry.uploads) shares.items) }
         ensures claims { HaveAllClaims (shards_of self.entry) shares.items
             → IfErr result IsForMemory }
     {

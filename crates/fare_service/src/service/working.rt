@@ -129,7 +129,7 @@ impl<'a> Service<'a> {
     ghost use Rattle.tap_views.specs.Files.{IsFile, IsEndAfterBatches};
     ghost use Rattle.fare_service.specs.Runs.{RunVisit, if_any, of_shard, placed_from, runs_below};
     ghost use Rattle.fare_service.specs.Runs.{runs_of};
-    ghost use Rattle.fare_service.specs.inside.Runs.{WerePosted};
+    ghost use Rattle.fare_service.specs.inside.Runs.{ArePostedOrCut};
     ghost use Rattle.fare_service.specs.Shares.{HasVisited, books_of, IsShareOf, IsWorked};
     ghost use Rattle.fare_service.specs.Shares.{WentOn};
     ghost use Rattle.fare_service.specs.inside.Shares.{worked};
@@ -157,7 +157,7 @@ impl<'a> Service<'a> {
         ensures made { (place : ℕ) → (more : List RunVisit)
             × HasVisited (shards_of self.now) posting.old.passes.items posting.new.passes.items
             (sums_of posting.old.totals) (sums_of posting.new.totals) more
-            × WerePosted (if_any shard
+            × ArePostedOrCut (if_any shard
             (of_shard shard (shards_of self.now) (placed_from place batch.now)))
             (is_ok result) more }
         ensures clock { buffers.new.clock ≡ buffers.old.clock }
@@ -203,7 +203,7 @@ impl<'a> Service<'a> {
         ensures made { (place : ℕ) → (more : List RunVisit)
             × HasVisited (shards_of self.now) posting.old.passes.items posting.new.passes.items
             (sums_of posting.old.totals) (sums_of posting.new.totals) more
-            × WerePosted (runs_below (shards_of self.now) (shards_of self.now)
+            × ArePostedOrCut (runs_below (shards_of self.now) (shards_of self.now)
             (placed_from place batch.now)) (is_ok result) more }
         ensures clock { buffers.new.run.clock ≡ buffers.old.run.clock }
         ensures runs { length buffers.new.runs ≡ length buffers.old.runs }
@@ -233,7 +233,7 @@ impl<'a> Service<'a> {
             × ((more : List RunVisit) × HasVisited
             (shards_of self.now) posting.old.passes.items posting.new.passes.items
             (sums_of posting.old.totals) (sums_of posting.new.totals) more
-            × WerePosted (runs_of (shards_of self.now) 0 batches) (is_ok result) more)
+            × ArePostedOrCut (runs_of (shards_of self.now) 0 batches) (is_ok result) more)
             × IfOk result (IsEndAfterBatches file.now rest) }
         ensures clock { buffers.new.run.clock ≡ buffers.old.run.clock }
         ensures runs { length buffers.new.runs ≡ length buffers.old.runs }

@@ -4,7 +4,7 @@ ghost use Rattle.std.specs.Prelude.{◌≡◌, ℕ, ◌≤◌, List, ◌++◌, O
 ghost use Rattle.std.specs.Prelude.{vec_capacity};
 ghost use Rattle.std.specs.Io.KnownBytes.{Appends};
 ghost use Rattle.std.specs.List.{flat_map};
-ghost use Rattle.fare_texts.specs.SumLines.{token_line};
+ghost use Rattle.fare_texts.specs.ReportLines.{token_line};
 ghost use Rattle.fare_service.specs.Printed.{report_of, report_with, IsStatementOf};
 ghost use Rattle.fare_texts.specs.PrintFaults.{KeepsUnlessWrite};
 

@@ -6,10 +6,10 @@ ghost use Rattle.std.specs.Fmt.{decimal};
 ghost use Rattle.shard_book.specs.Shown.{validator_sum};
 ghost use Rattle.shard_book.specs.Sums.{sums_of};
 ghost use Rattle.std.specs.List.{flat_map};
-ghost use Rattle.fare_texts.specs.Counts.{counts, totals_line};
+ghost use Rattle.fare_texts.specs.Counts.{counts_text, totals_line};
 ghost use Rattle.fare_service.specs.Text.{report, uploads_section, validators_section};
-ghost use Rattle.fare_service.specs.Text.{section_head, upload_line, upload_lines};
-ghost use Rattle.fare_texts.specs.SumLines.{token_line, validator_line};
+ghost use Rattle.fare_service.specs.Text.{upload_line, upload_lines};
+ghost use Rattle.fare_texts.specs.ReportLines.{number_line, token_line, validator_line};
 
 use crate::upload_end::UploadEnd;
 use fare_texts::{write_counts, write_totals};
@@ -37,7 +37,6 @@ pub(crate) fn report_front(
 }
 
 /// The end of each upload.
-#[tactic(auto, using(crate::proofs::Parts::in_parts))]
 fn write_uploads(text: &mut String, ends: &[UploadEnd]) -> Result<(), AllocError>
     ensures { OnOk result
         (string_bytes text.new ≡ string_bytes text.old ++ uploads_section ends.now) }
@@ -47,10 +46,9 @@ fn write_uploads(text: &mut String, ends: &[UploadEnd]) -> Result<(), AllocError
 }
 
 /// The head of a section, as `uploads 2` of the word `uploads `.
-#[tactic(auto, unfolding(crate::specs::Text::section_head))]
 fn write_section_head(text: &mut String, word: &str, count: usize) -> Result<(), AllocError>
     ensures { OnOk result
-        (string_bytes text.new ≡ string_bytes text.old ++ section_head word.now count) }
+        (string_bytes text.new ≡ string_bytes text.old ++ number_line word.now count) }
 {
     writeln!(text, "{word}{count}")
 }

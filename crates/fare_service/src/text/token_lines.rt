@@ -9,7 +9,7 @@ ghost use Rattle.shard_book.specs.Shown.{token_sum};
 ghost use Rattle.shard_book.specs.Sums.{sums_of};
 ghost use Rattle.fare_table.specs.Token.{bytes_of};
 ghost use Rattle.fare_texts.specs.Counts.{first_counts, last_counts};
-ghost use Rattle.fare_texts.specs.SumLines.{token_line};
+ghost use Rattle.fare_texts.specs.ReportLines.{token_line};
 ghost use Rattle.fare_texts.specs.declared.print_fault.PrintFault.TheVariants.{Write as ForWrite};
 
 use crate::text::line::Line;

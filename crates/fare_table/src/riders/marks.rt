@@ -12,16 +12,17 @@ use std::alloc::Global;
 use std::collections::BTreeMap;
 use std::marker::Model;
 
-/// The least number of marks for each token. With so many, most other tokens' slots have none.
+/// The least number of marks for each token. With so many, most other tokens have none at their
+/// place.
 const MARKS_FOR_EACH: usize = 8;
 
-/// A mark for each of some tokens, at the slot that its last bits tell.
+/// A mark for each of some tokens, at the place that its last bits tell.
 ///
-/// A token whose slot has no mark is none of them. One whose slot has a mark may be, since tokens
-/// share slots: who asks looks further then. So slots that many tokens share cost time alone.
+/// A token without a mark at its place is none of them. One with a mark may be, since tokens share
+/// places: who asks looks further then. So places that many tokens share cost time alone.
 #[derive(Drop)]
 pub(crate) struct RiderMarks {
-    /// A power of two of them, so that a slot is found without a division. None where there is no
+    /// A power of two of them, so that a place is found without a division. None where there is no
     /// token.
     marks: Vec<bool>,
 }
@@ -43,17 +44,17 @@ impl RiderMarks {
     {
         let mut marks = vec![in alloc; false; marks_for(terms.len())?]?;
         for token in terms.keys() {
-            let slot = token.slot(marks.len());
-            marks[slot] = true;
+            let place = token.mark_place(marks.len());
+            marks[place] = true;
         }
         Ok(RiderMarks { marks })
     }
 
-    /// Whether the token's slot is marked.
+    /// Whether there is a mark at the token's place.
     pub(crate) fn has(&self, token: Token) -> bool
         ensures { result ≡ is_marked self.now token }
     {
-        !self.marks.is_empty() && self.marks[token.slot(self.marks.len())]
+        !self.marks.is_empty() && self.marks[token.mark_place(self.marks.len())]
     }
 }
 

@@ -10,7 +10,7 @@ use Rattle.ledger_check.specs.Ledger.{IsPostable}
 use Rattle.ledger_check.specs.declared.tap.Tap.{Tap}
 
 -- the entry is one of this tap
-pub record IsOf (tap : Tap) (entry : Entry) : Type 0 where
+pub record IsEntryOfTap (tap : Tap) (entry : Entry) : Type 0 where
   pub token : entry.token ≡ tap.token
   pub validator : entry.validator ≡ tap.validator
   pub moment : entry.moment ≡ tap.moment
@@ -19,7 +19,7 @@ pub record IsOf (tap : Tap) (entry : Entry) : Type 0 where
 abbrev pub TellsTap : Fares → List ℕ → Tap → Type 0
 TellsTap fares line tap =
     (number : ℕ) (entry : Entry) (why : Reason) → number < 2 ^ 64 → IsPostable entry
-    → IsLedgerLine fares entry.token number entry why line → IsOf tap entry
+    → IsLedgerLine fares entry.token number entry why line → IsEntryOfTap tap entry
 
 -- the tap, with the bytes of its token
 abbrev pub tap_fields : Tap → TapFields

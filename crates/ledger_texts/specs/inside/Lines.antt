@@ -7,7 +7,7 @@ use Rattle.shard_book.specs.Entry.{own}
 use Rattle.fare_table.specs.Token.{token_cmp}
 use Rattle.shard_book.specs.declared.entry.Entry.{Entry}
 use Rattle.fare_table.specs.declared.token.Token.{Token}
-use Rattle.reason_texts.specs.Ledger.{IsTokenLine}
+use Rattle.reason_texts.specs.Ledger.{IsLedgerLineAfter}
 use Rattle.reason_texts.specs.Tellers.{HasTold}
 use Rattle.reason_texts.specs.declared.teller.Teller.{Teller}
 
@@ -39,7 +39,7 @@ pub record IsByToken (entries list : List Entry) : Type 0 where
 -- the line of an entry that stands after these: the one that it has among the entries of its token
 abbrev pub IsLineAfter : Fares → List Entry → Entry → List ℕ → Type 0
 IsLineAfter fares earlier entry line =
-    IsTokenLine fares entry.token (own entry.token earlier) entry line
+    IsLedgerLineAfter fares entry.token (own entry.token earlier) entry line
 
 -- the lines of entries that stand after these
 abbrev pub AreLinesAlong : Fares → List Entry → List Entry → List ℕ → Type 0

@@ -33,5 +33,5 @@ unfoldable pub entry_at_spot : List Book → Spot → Entry
 entry_at_spot books spot = unwrap_or (entry_in books (book_at spot) (place_at spot)) no_entry
 
 -- the entries at the spots
-abbrev pub seen : List Book → List Spot → List Entry
-seen books spots = map (entry_at_spot books) spots
+abbrev pub entries_at_spots : List Book → List Spot → List Entry
+entries_at_spots books spots = map (entry_at_spot books) spots

@@ -4,7 +4,7 @@ use Rattle.std.specs.Prelude.{nat_lt}
 use Rattle.account_rule.specs.declared.window.WindowView.{WindowView}
 
 -- the window, where a ride at the moment opens another after it
-abbrev pub ended : Option WindowView → Bool → ℕ → List WindowView
-ended None ride moment = []
-ended (Some window) ride moment =
+abbrev pub window_ended : Option WindowView → Bool → ℕ → List WindowView
+window_ended None ride moment = []
+window_ended (Some window) ride moment =
     if ride && not (nat_lt moment window.until) then window ∷ [] else []

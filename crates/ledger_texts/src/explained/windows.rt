@@ -7,7 +7,7 @@ ghost use Rattle.account_rule.specs.Windows.{last_window};
 ghost use Rattle.shard_book.specs.Entry.{tap_of};
 ghost use Rattle.fare_table.specs.Token.{bytes_of};
 ghost use Rattle.ledger_texts.specs.Explained.{earlier_windows};
-ghost use Rattle.ledger_texts.specs.inside.Windows.{ended};
+ghost use Rattle.ledger_texts.specs.inside.Windows.{window_ended};
 
 use account_rule::{Answer, Reply, WindowView};
 use fare_table::{Clock, FareTable, NoMemory};
@@ -32,7 +32,7 @@ fn keep_ended(
     ride: bool,
     moment: u64,
 ) -> Result<(), NoMemory>
-    ensures { OnOk result (list.new.items ≡ list.old.items ++ ended window ride moment) }
+    ensures { OnOk result (list.new.items ≡ list.old.items ++ window_ended window ride moment) }
 {
     if let Some(window) = window {
         if ride && moment >= window.until {

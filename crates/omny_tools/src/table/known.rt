@@ -2,7 +2,7 @@
 
 use std::alloc::{AllocError, Global};
 use strsim::osa_distance;
-use table_facts::Holder;
+use table_facts::KeyHolder;
 
 /// The keys that have a meaning at the top of a text.
 const TOP: [&str; 7] = [
@@ -52,12 +52,12 @@ fn nearest_of(
 /// The key that may be meant by one that has no meaning where it stands.
 pub(super) fn nearest(
     alloc: Global,
-    holder: Holder,
+    holder: KeyHolder,
     key: &str,
 ) -> Result<Option<&'static str>, AllocError> {
     match holder {
-        Holder::Top => nearest_of(alloc, &TOP, key),
-        Holder::Class(_) => nearest_of(alloc, &CLASS, key),
-        Holder::Range(_) => nearest_of(alloc, &RANGE, key),
+        KeyHolder::Top => nearest_of(alloc, &TOP, key),
+        KeyHolder::Class(_) => nearest_of(alloc, &CLASS, key),
+        KeyHolder::Range(_) => nearest_of(alloc, &RANGE, key),
     }
 }

@@ -6,7 +6,7 @@ use super::places::Places;
 use crate::names::Name;
 use fare_table::FareTable;
 use std::alloc::{AllocError, Global};
-use table_facts::{Holder, Seen, ignored_keys, unused_ranges};
+use table_facts::{KeyHolder, SeenValidators, ignored_keys, unused_ranges};
 use toml::Table;
 
 /// A table without a fault.
@@ -36,17 +36,17 @@ fn names_of(alloc: Global, tree: &Table) -> Result<Vec<&str>, AllocError> {
 }
 
 /// The path of the table that has a key.
-fn holder_path(alloc: Global, classes: &[&str], holder: Holder) -> Result<String, AllocError> {
+fn holder_path(alloc: Global, classes: &[&str], holder: KeyHolder) -> Result<String, AllocError> {
     match holder {
-        Holder::Top => Ok(String::new(alloc)),
-        Holder::Class(place) => {
+        KeyHolder::Top => Ok(String::new(alloc)),
+        KeyHolder::Class(place) => {
             let name = match classes.get(place) {
                 Some(name) => *name,
                 None => "",
             };
             key_path(alloc, "classes", name)
         }
-        Holder::Range(place) => item_path(alloc, "validators", place),
+        KeyHolder::Range(place) => item_path(alloc, "validators", place),
     }
 }
 
@@ -71,7 +71,7 @@ fn ignored_line(
     told: &Told<'_, '_>,
     places: &Places,
     classes: &[&str],
-    ignored: (Holder, &str),
+    ignored: (KeyHolder, &str),
 ) -> Result<String, AllocError> {
     let (holder, key) = ignored;
     let path = key_path(alloc, holder_path(alloc, classes, holder)?.as_str(), key)?;
@@ -104,7 +104,7 @@ fn unused_line(
 pub(super) fn warnings_of(
     alloc: Global,
     told: &Told<'_, '_>,
-    seen: Option<&Seen>,
+    seen: Option<&SeenValidators>,
 ) -> Result<(String, usize), AllocError> {
     let mut lines = String::new(alloc);
     let Ok(ignored) = ignored_keys(alloc, told.tree) else {

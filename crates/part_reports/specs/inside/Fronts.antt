@@ -8,8 +8,8 @@ use Rattle.shard_book.specs.Shown.{validator_sum}
 use Rattle.shard_book.specs.Sums.{Sums, sums_of}
 use Rattle.shard_book.specs.declared.sums.ValidatorSum.{ValidatorSum}
 use Rattle.part_reports.specs.Lines.{End, IsUploadEnd, AreCounts, IsValidatorSum}
-use Rattle.fare_texts.specs.SumLines.{validator_line}
-use Rattle.part_reports.specs.Lines.{end_lines, number_line}
+use Rattle.fare_texts.specs.ReportLines.{number_line, validator_line}
+use Rattle.part_reports.specs.Lines.{end_lines}
 use Rattle.part_reports.specs.Reports.{front_text}
 use Rattle.part_reports.specs.declared.front.Front.{Front}
 

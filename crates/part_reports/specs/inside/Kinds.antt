@@ -4,7 +4,7 @@ use Rattle.std.specs.List.{AllZip}
 use Rattle.std.specs.List.Sorted.{IsStrictlySortedBy}
 use Rattle.fare_table.specs.Token.{token_cmp}
 use Rattle.shard_book.specs.Sums.{Sums}
-use Rattle.fare_texts.specs.SumLines.{token_line}
+use Rattle.fare_texts.specs.ReportLines.{token_line}
 use Rattle.part_reports.specs.Lines.{IsTokenSum}
 use Rattle.part_reports.specs.Ledgers.{IsLedgerEntryLine}
 use Rattle.part_reports.specs.TokenLines.{TokenLine, DoNotFall, text_of}

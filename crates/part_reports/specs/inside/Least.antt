@@ -6,24 +6,24 @@ use Rattle.fare_table.specs.declared.token.Token.{Token}
 
 -- this token stands at the place
 abbrev pub StandsAt : List (Option Token) → ℕ → Token → Type 0
-StandsAt heads place token = slice_get heads place ≡ Some (Some token)
+StandsAt tokens place token = slice_get tokens place ≡ Some (Some token)
 
 -- a token stands at the place, and a greater one, or none, at each other place
-pub record IsBelowOthers (heads : List (Option Token)) (place : ℕ) : Type 0 where
+pub record IsBelowOthers (tokens : List (Option Token)) (place : ℕ) : Type 0 where
   pub token : Token
-  pub there : StandsAt heads place token
-  pub others : (other : ℕ) (above : Token) → other ≢ place → StandsAt heads other above
+  pub there : StandsAt tokens place token
+  pub others : (other : ℕ) (above : Token) → other ≢ place → StandsAt tokens other above
       → token_cmp token above ≡ Less
 
 -- the place whose token is below all others; none where there is no token
 abbrev pub IsLeast : List (Option Token) → Option ℕ → Type 0
-IsLeast heads None = (place : ℕ) (token : Token) → ¬ (StandsAt heads place token)
-IsLeast heads (Some place) = IsBelowOthers heads place
+IsLeast tokens None = (place : ℕ) (token : Token) → ¬ (StandsAt tokens place token)
+IsLeast tokens (Some place) = IsBelowOthers tokens place
 
 -- one token stands at the place and at an earlier one
-pub record IsTwin (heads : List (Option Token)) (place : ℕ) : Type 0 where
+pub record StandsTwice (tokens : List (Option Token)) (place : ℕ) : Type 0 where
   pub token : Token
   pub earlier : ℕ
   pub before : earlier < place
-  pub there : StandsAt heads place token
-  pub first : StandsAt heads earlier token
+  pub there : StandsAt tokens place token
+  pub first : StandsAt tokens earlier token

@@ -12,7 +12,7 @@ IsTold {V = V} of MayStand written line told =
     (λ x. MayStand (of x) × (line ≡ written (of x)))
 
 -- the text begins with a value that may stand there, and this is left of it behind the value
-pub record Stood {V : Type 0} (IsIt MayStand : V → Type 0) (written : V → List ℕ)
+pub record BeginsWithValue {V : Type 0} (IsIt MayStand : V → Type 0) (written : V → List ℕ)
     (text : List ℕ) (after : Option (List ℕ)) : Type 0 where
   pub value : V
   pub is : IsIt value
@@ -26,6 +26,7 @@ pub record Stood {V : Type 0} (IsIt MayStand : V → Type 0) (written : V → Li
 abbrev pub IsRead : {T V : Type 0} → (T → V → Type 0) → (V → Type 0) → (V → List ℕ)
     → Option (List ℕ) → Option (List ℕ) → Result T MergeFault → Type 0
 IsRead IsIt MayStand written None after result = ⊤
-IsRead IsIt MayStand written (Some text) after (Ok x) = Stood (IsIt x) MayStand written text after
+IsRead IsIt MayStand written (Some text) after (Ok x) =
+    BeginsWithValue (IsIt x) MayStand written text after
 IsRead {V = V} IsIt MayStand written (Some text) after (Err fault) = IsOfTexts fault
     → (value : V) (rest : List ℕ) → MayStand value → ¬ (text ≡ written value ++ rest)

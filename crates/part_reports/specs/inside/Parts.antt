@@ -7,41 +7,41 @@ use Rattle.part_reports.specs.declared.sums.WholeSums.{WholeSums}
 use Rattle.part_reports.specs.TokenLines.{TokenLine}
 use Rattle.part_reports.specs.inside.Fronts.{MayBePart, ToldFront, told_text}
 use Rattle.part_reports.specs.inside.Kinds.{IsTextOf}
-use Rattle.part_reports.specs.inside.Sources.{IsSource, Standing}
+use Rattle.part_reports.specs.inside.Standings.{StandsInText, Standing}
 use Rattle.part_reports.specs.inside.Sums.{AreFew, AreFrontsCounted}
 
 -- what was read of a report, and what is left of it: the lines of its tokens
-abbrev pub Begun : Type 0
-Begun = ToldFront × List ℕ
+abbrev pub BegunReport : Type 0
+BegunReport = ToldFront × List ℕ
 
 -- its text
-abbrev pub begun_text : Begun → List ℕ
+abbrev pub begun_text : BegunReport → List ℕ
 begun_text begun = told_text begun.0 ++ begun.1
 
 -- the text of its tokens
-abbrev pub left_text : Begun → LineKind × List ℕ
+abbrev pub left_text : BegunReport → LineKind × List ℕ
 left_text begun = (Tokens begun.0.tokens, begun.1)
 
 -- the report was read up to its tokens, and what it tells was added
 pub record IsPart (before after : WholeSums) (file : List ℕ) (at : Standing) : Type 0 where
-  pub begun : Begun
+  pub begun : BegunReport
   pub may : MayBePart begun.0
   pub shown : file ≡ begun_text begun
   pub added : (fronts : List ToldFront) → AreFrontsCounted before fronts
       → AreFrontsCounted after (fronts ++ begun.0 ∷ [])
-  pub stands : IsSource (left_text begun) at
+  pub stands : StandsInText (left_text begun) at
 
 -- no report of a part that may be added is this text
 abbrev pub IsNoPart : WholeSums → List ℕ → Type 0
 IsNoPart before file = (fronts : List ToldFront) → AreFrontsCounted before fronts
-    → (begun : Begun) (lines : List TokenLine) → MayBePart begun.0 → file ≡ begun_text begun
+    → (begun : BegunReport) (lines : List TokenLine) → MayBePart begun.0 → file ≡ begun_text begun
     → IsTextOf (left_text begun) lines → ¬ (AreFew (fronts ++ begun.0 ∷ []))
 
 -- these reports were read up to their tokens, and what they tell was added
 pub record AreParts (files : List (List ℕ)) (sums : WholeSums) (sources : List Standing)
     : Type 0 where
-  pub begun : List Begun
+  pub begun : List BegunReport
   pub shown : files ≡ map begun_text begun
   pub may : All (λ one. MayBePart one.0) begun
   pub counted : AreFrontsCounted sums (map (λ one. one.0) begun)
-  pub stand : AllZip IsSource (map left_text begun) sources
+  pub stand : AllZip StandsInText (map left_text begun) sources

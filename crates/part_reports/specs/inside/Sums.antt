@@ -25,14 +25,14 @@ sums_found list validator =
     else None
 
 -- the map has these sums
-abbrev pub AreOf : BTreeMap ℕ Totals → List (ℕ × Sums) → Type 0
-AreOf validators list =
+abbrev pub AreSumsOf : BTreeMap ℕ Totals → List (ℕ × Sums) → Type 0
+AreSumsOf validators list =
     (q : ℕ) → option_map sums_of (get nat_cmp validators q) ≡ sums_found list q
 
 -- what these reports tell, added up
 pub record AreFrontsCounted (whole : WholeSums) (fronts : List ToldFront) : Type 0 where
   pub totals : sums_of whole.totals ≡ add_all (map (λ told. told.totals) fronts)
-  pub validators : AreOf whole.validators (flat_map (λ told. told.validators) fronts)
+  pub validators : AreSumsOf whole.validators (flat_map (λ told. told.validators) fronts)
   pub tokens : whole.tokens ≡ sum_by (λ told. told.tokens) fronts
 
 -- a list's sums, and those of nothing where there are none
@@ -43,8 +43,9 @@ or_nothing (Some some) = some
 -- a validator's sums were added; or they would be more than any run has
 abbrev pub WithOne : BTreeMap ℕ Totals → BTreeMap ℕ Totals → ValidatorSum → Bool → Type 0
 WithOne before after sum true =
-    (list : List (ℕ × Sums)) → AreOf before list → AreOf after (list ++ validator_sum sum ∷ [])
-WithOne before after sum false = (list : List (ℕ × Sums)) → AreOf before list
+    (list : List (ℕ × Sums)) → AreSumsOf before list
+    → AreSumsOf after (list ++ validator_sum sum ∷ [])
+WithOne before after sum false = (list : List (ℕ × Sums)) → AreSumsOf before list
     → 2 ^ 95 < (sums_of_validator sum.validator (list ++ validator_sum sum ∷ [])).taps
 
 -- no validator has more taps than any run has
@@ -55,8 +56,9 @@ AreSmall list = (validator : ℕ) → (sums_of_validator validator list).taps �
 abbrev pub WithValidators : BTreeMap ℕ Totals → BTreeMap ℕ Totals → List ValidatorSum → Bool
     → Type 0
 WithValidators before after added true =
-    (list : List (ℕ × Sums)) → AreOf before list → AreOf after (list ++ map validator_sum added)
-WithValidators before after added false = (list : List (ℕ × Sums)) → AreOf before list
+    (list : List (ℕ × Sums)) → AreSumsOf before list
+    → AreSumsOf after (list ++ map validator_sum added)
+WithValidators before after added false = (list : List (ℕ × Sums)) → AreSumsOf before list
     → ¬ (AreSmall (list ++ map validator_sum added))
 
 -- these reports have no more than any run has

@@ -6,7 +6,8 @@ use Rattle.part_reports.specs.declared.fault.MergeFault.{MergeFault}
 use Rattle.part_reports.specs.declared.form as form
 use Rattle.part_reports.specs.declared.upload_ends.UploadEnds.{UploadEnds}
 use Rattle.part_reports.specs.Faults.{IsOfTexts}
-use Rattle.part_reports.specs.Lines.{End, IsUploadEnd, end_line, end_lines, number_line}
+use Rattle.fare_texts.specs.ReportLines.{number_line}
+use Rattle.part_reports.specs.Lines.{End, IsUploadEnd, end_line, end_lines}
 
 -- how the upload ended
 abbrev pub end_of_upload : form.End.End → End
@@ -17,7 +18,7 @@ abbrev pub fault_words : ℕ × ℕ → List ℕ
 fault_words fault = codes " at " ++ (decimal fault.0 ++ number_line (codes " L") fault.1)
 
 -- these uploads were read
-pub record Have (ends : UploadEnds) (list : List End) : Type 0 where
+pub record HaveReadEnds (ends : UploadEnds) (list : List End) : Type 0 where
   pub text : ends.text.items ≡ end_lines 0 list
   pub uploads : ends.uploads ≡ length list
   pub taps : ends.taps ≡ sum_by (λ end. end.taps) list
@@ -44,7 +45,7 @@ IsNextEnd upload (Some text) after line (Err fault) = IsOfTexts fault
     × ((end : End) (rest : List ℕ) → IsUploadEnd end → ¬ (text ≡ end_line upload end ++ rest))
 
 -- from one number of uploads on, the lines of these were read
-pub record More (before after : UploadEnds) (more : List End) : Type 0 where
+pub record HaveMoreEnds (before after : UploadEnds) (more : List End) : Type 0 where
   pub text : after.text.items ≡ before.text.items ++ end_lines before.uploads more
   pub uploads : after.uploads ≡ before.uploads + length more
   pub taps : after.taps ≡ before.taps + sum_by (λ end. end.taps) more
@@ -57,6 +58,6 @@ abbrev pub AreEndsAdded : UploadEnds → UploadEnds → Option (List ℕ)
     → Result (Unit {0}) MergeFault → Type 0
 AreEndsAdded before after None result = ⊤
 AreEndsAdded before after (Some text) (Ok x) =
-    (more : List End) × More before after more × (text ≡ end_lines before.uploads more)
+    (more : List End) × HaveMoreEnds before after more × (text ≡ end_lines before.uploads more)
 AreEndsAdded before after (Some text) (Err fault) = IsOfTexts fault
     → (more : List End) → All IsUploadEnd more → ¬ (text ≡ end_lines before.uploads more)

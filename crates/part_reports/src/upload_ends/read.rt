@@ -3,9 +3,9 @@
 ghost use Rattle.std.specs.Prelude.{◌≡◌, ◌<◌, ℕ, List, All, IfErr, IfOk, IsSome, length};
 ghost use Rattle.part_reports.specs.Faults.{IsOfTaps, IsOfTexts};
 ghost use Rattle.part_reports.specs.Lines.{End as EndOfUpload, IsUploadEnd};
-ghost use Rattle.part_reports.specs.Reports.{end_texts, joined_ends};
+ghost use Rattle.part_reports.specs.Reports.{end_texts, all_ends};
 ghost use Rattle.part_reports.specs.Texts.{AreLeft};
-ghost use Rattle.part_reports.specs.inside.UploadEnds.{Have, AreEndsAdded, IsNextEnd};
+ghost use Rattle.part_reports.specs.inside.UploadEnds.{HaveReadEnds, AreEndsAdded, IsNextEnd};
 
 use crate::fault::MergeFault;
 use crate::form::{End, end_of};
@@ -57,10 +57,10 @@ pub(crate) fn read_ends<R: BufRead + Drop>(
 ) -> Result<UploadEnds, MergeFault>
     ensures told { IfOk result (λ ends. (files : List (List ℕ))
         → AreLeft R.remaining texts.items files → (lists : List (List EndOfUpload))
-        × (files ≡ end_texts 0 lists) × Have ends (joined_ends lists)) }
+        × (files ≡ end_texts 0 lists) × HaveReadEnds ends (all_ends lists)) }
     ensures refused { IfErr result (λ fault. IsOfTexts fault → (files : List (List ℕ))
         → AreLeft R.remaining texts.items files → (lists : List (List EndOfUpload))
-        → All IsUploadEnd (joined_ends lists) → ¬ (files ≡ end_texts 0 lists)) }
+        → All IsUploadEnd (all_ends lists) → ¬ (files ≡ end_texts 0 lists)) }
     ensures other { IfErr result (λ fault. ¬ (IsOfTaps fault)) }
 {
     let mut ends = UploadEnds::new(alloc);

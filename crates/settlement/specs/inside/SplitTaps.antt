@@ -8,7 +8,7 @@ use Rattle.tap_parts.specs.Parts.{AreAdded, of_part}
 use Rattle.tap_views.specs.Files.{AreGoodTapsOfEach}
 use Rattle.fare_service.specs.Plain.{ArePlainEnds}
 use Rattle.fare_service.specs.declared.upload_end.UploadEnd.{UploadEnd}
-use Rattle.tap_parts.specs.Parts.{uploads_joined}
+use Rattle.tap_parts.specs.Parts.{taps_of_uploads}
 
 -- the taps that a part has in several lists of parts, list after list
 abbrev pub in_part : ℕ → List (List (List TapFields)) → List TapFields
@@ -25,7 +25,7 @@ pub record AreAllAdded (uploads : List (List ℕ)) (old new : List (List TapFiel
     (ends : List UploadEnd) : Type 0 where
   pub taps : List (List Tap)
   pub of_uploads : AreGoodTapsOfEach uploads taps
-  pub added : AreAdded (uploads_joined taps) old new
+  pub added : AreAdded (taps_of_uploads taps) old new
   pub ended : ArePlainEnds uploads ends
 
 -- each of so many parts has, over all lists, exactly the uploads' good taps that fall to it, in
@@ -36,5 +36,5 @@ pub record AreInParts (parts : ℕ) (uploads : List (List ℕ)) (lists : List (L
   pub of_uploads : AreGoodTapsOfEach uploads taps
   pub number : All (λ list. length list ≡ parts) lists
   pub each : (part : ℕ) → part < parts
-      → in_part part lists ≡ map fields_of (of_part part parts (uploads_joined taps))
+      → in_part part lists ≡ map fields_of (of_part part parts (taps_of_uploads taps))
   pub ended : ArePlainEnds uploads ends

@@ -40,7 +40,7 @@ pub record IsPlace (accounts : Accounts) (token : Token) (place : ℕ) : Type 0 
   pub is : kept_at accounts token ≡ Some kept
 
 -- what is kept of the token, or was put there for it, stands at the place
-pub record IsMade (old new : Accounts) (token : Token) (place : ℕ) : Type 0 where
+pub record HasPlaceFor (old new : Accounts) (token : Token) (place : ℕ) : Type 0 where
   pub kept : KeptAccount
   pub at : slice_get new.map.entries place ≡ Some (token, kept)
   pub is : IsKeptOrFresh (kept_at old token) kept

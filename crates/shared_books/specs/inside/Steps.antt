@@ -7,8 +7,8 @@ use Rattle.shard_book.specs.History.{IsLegal}
 use Rattle.shared_books.specs.declared.turns.rule.Opening.{Opening}
 use Rattle.shared_books.specs.declared.turns.rule.Mark.{Mark}
 use Rattle.shared_books.specs.declared.turns.rule.PassState.{PassState}
-use Rattle.shared_books.specs.Marks.{mark, others, visits_of, history_of_visits, merged, Apart}
-use Rattle.shared_books.specs.Marks.{Begins}
+use Rattle.shared_books.specs.Marks.{mark, others, visits_of, history_of_visits, joined_marks}
+use Rattle.shared_books.specs.Marks.{Apart, Begins}
 use Rattle.shared_books.specs.Claims.{claims_given, claims_left}
 use Rattle.shared_books.specs.Turns.{Boxed, book_after}
 use Rattle.shared_books.specs.PassStates.{pass_state}
@@ -53,7 +53,7 @@ IsTurnWord found o marks =
 -- a look at the turn word: the pass has seen all visits that are counted
 pub record HasSeen (before : Seat) (found : ℕ) (after : Seat) : Type 0 where
   pub between : List (List Entry)
-  pub view_is : after.0 ≡ pass_state before.0.opened before.0.claims before.0.turn
+  pub state_is : after.0 ≡ pass_state before.0.opened before.0.claims before.0.turn
       (before.0.marks ++ others between) before.0.met
   pub word : IsTurnWord found before.0.opened (before.0.marks ++ others between)
   pub most : found ≤ 2 ^ 63
@@ -65,7 +65,7 @@ pub record HasSeen (before : Seat) (found : ℕ) (after : Seat) : Type 0 where
 -- is out with it
 pub record HasTakenBook (s : Step (Option Boxed)) (before after : Seat) : Type 0 where
   pub between : List (List Entry)
-  pub view_is : after.0 ≡ pass_state before.0.opened before.0.claims true
+  pub state_is : after.0 ≡ pass_state before.0.opened before.0.claims true
       (before.0.marks ++ others between) before.0.met
   pub word : s.first ≡ 2 * (before.0.opened.first + length (before.0.marks ++ others between))
   pub legal : IsLegal before.0.opened.book.value.table
@@ -94,10 +94,10 @@ given_back (v, (slot, Some b) ∷ out) = (
 
 -- the look that ends a join: the marks of both passes lie beside one another
 pub record HasEndedJoin (before after : Seat) : Type 0 where
-  pub view_is : after.0 ≡ pass_state before.0.opened before.0.claims before.0.turn
-      (merged before.0.marks before.0.met) []
+  pub state_is : after.0 ≡ pass_state before.0.opened before.0.claims before.0.turn
+      (joined_marks before.0.marks before.0.met) []
   pub apart : Apart before.0.marks before.0.met
   pub begins : Begins (visits_of before.0.marks) (visits_of before.0.met)
       ⊎ Begins (visits_of before.0.met) (visits_of before.0.marks)
-  pub small : before.0.opened.first + length (merged before.0.marks before.0.met) ≤ 2 ^ 62
+  pub small : before.0.opened.first + length (joined_marks before.0.marks before.0.met) ≤ 2 ^ 62
   pub carries : after.1 ≡ before.1

@@ -16,7 +16,8 @@ impl SharedBook {
     ghost use Rattle.shared_books.specs.Marks.{mark, history_of_visits, visits_of};
     ghost use Rattle.shared_books.specs.PassStates.{pass_state};
     ghost use Rattle.shared_books.specs.inside.Steps.{HasSeen};
-    ghost use Rattle.shared_books.specs.inside.Views.{IsFree, SeesMore, HasBookOut, BringsVisit};
+    ghost use Rattle.shared_books.specs.inside.SeatStates.{BringsVisit, HasBookOut, IsFree};
+    ghost use Rattle.shared_books.specs.inside.SeatStates.{SeesMore};
 
     /// Loads the turn word.
     pub(super) fn look(&self, seat: &mut Seat<Slot, PassState>) -> u64

@@ -18,7 +18,7 @@ impl SharedBook {
     ghost use Rattle.shard_book.specs.Visits.{window_ends_of};
     ghost use Rattle.shard_book.specs.Statement.{IsStatement};
     ghost use Rattle.shared_books.specs.Marks.{history_of_visits};
-    ghost use Rattle.shared_books.specs.Passes.{new_pass, seen_by, IsLater, Visits, IsFull};
+    ghost use Rattle.shared_books.specs.Passes.{new_pass, seen_by, HasSeenMore, Visits, IsFull};
     ghost use Rattle.shared_books.specs.Results.{MakesVisit, IsOpenedAs, IsReadFault};
 
     /// Shares a book that has no entries, and gives the first pass to it, which has all claims.
@@ -76,7 +76,7 @@ impl SharedBook {
         requires ends { ends.now ≡ window_ends_of self.now.table (run_taps run.now) }
         requires spare { length (run_taps run.now) ≤ out.old.spare }
         ensures visit { IfOk result (MakesVisit run.now pass.old pass.new out.old out.new) }
-        ensures full { IfErr result (λ _. IsLater pass.old pass.new × IsFull pass.new
+        ensures full { IfErr result (λ _. HasSeenMore pass.old pass.new × IsFull pass.new
             × (out.new ≡ out.old)) }
     {
         let Pass { seat, held, next } = pass;
@@ -118,7 +118,7 @@ impl SharedBook {
     /// How many visits are counted, `first` included. It waits for nobody.
     pub fn head(&self, pass: &mut Pass) -> u64
         requires belongs { pass.old.book ≡ self.now }
-        ensures later { IsLater pass.old pass.new }
+        ensures later { HasSeenMore pass.old pass.new }
         ensures count { result ≡ self.now.first + length (seen_by pass.new) }
     {
         self.look(&mut pass.seat) / 2

@@ -17,7 +17,7 @@ const LOOKS_BEFORE_SLEEP: u32 = 100;
 
 impl SharedBook {
     ghost use Rattle.std.specs.Prelude.{◌≡◌, IfOk, IfErr};
-    ghost use Rattle.shared_books.specs.inside.Views.{IsFree, HasBookOut, FindsFull};
+    ghost use Rattle.shared_books.specs.inside.SeatStates.{IsFree, HasBookOut, FindsFull};
 
     /// Takes the turn with the number of the visit and the book. Where nobody has visited since the
     /// pass did, the number is the expected one, and the turn word need not be looked at before.

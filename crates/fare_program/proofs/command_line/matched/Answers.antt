@@ -7,7 +7,7 @@ use Rattle.clap.specs.Walk.{is_empty}
 use Rattle.clap.specs.declared.builder.command.Command.{Command}
 use Rattle.clap.specs.declared.parser.matches.ArgMatches.{ArgMatches}
 use Rattle.clap.proofs.OnLiterals.{clap_on_literals}
-use Rattle.fare_program.specs.Options.{program, shards_rule, workers_rule}
+use Rattle.fare_program.specs.Options.{program, shards_option, workers_option}
 use Rattle.fare_program.specs.inside.Options.{HasNumber}
 use Rattle.fare_program.proofs.Defaults.{number_given}
 use Rattle.fare_program.proofs.command_line.matched.Goals as goal
@@ -63,7 +63,7 @@ only_shards (suc (suc (suc (suc (suc (suc (suc (suc (suc j))))))))) e lt same = 
 workers_given : (c : Command) (m : ArgMatches) → app_of c ≡ program → IsParsedFrom c m → HasNumber 16 (codes "workers") (rows_of (found_of m))
 unfolding program clap_on_literals
 workers_given c m same p =
-    number_given c program m 2 workers_rule 16 same p refl refl (omega arith) refl refl refl refl (omega arith) only_workers
+    number_given c program m 2 workers_option 16 same p refl refl (omega arith) refl refl refl refl (omega arith) only_workers
     (λ none. true≢false (sym (ap is_empty none)))
     (λ auto. elim auto [
       | inl h ↦ true≢false (sym (ap (bytes_eq (codes "workers")) (sym h)))
@@ -73,7 +73,7 @@ workers_given c m same p =
 shards_given : (c : Command) (m : ArgMatches) → app_of c ≡ program → IsParsedFrom c m → HasNumber 64 (codes "shards") (rows_of (found_of m))
 unfolding program clap_on_literals
 shards_given c m same p =
-    number_given c program m 3 shards_rule 64 same p refl refl (omega arith) refl refl refl refl (omega arith) only_shards
+    number_given c program m 3 shards_option 64 same p refl refl (omega arith) refl refl refl refl (omega arith) only_shards
     (λ none. true≢false (sym (ap is_empty none)))
     (λ auto. elim auto [
       | inl h ↦ true≢false (sym (ap (bytes_eq (codes "shards")) (sym h)))

@@ -1,7 +1,7 @@
 use Rattle.std.proofs.Common.{◌≡◌, ◌∙◌, ◌<◌, ◌++◌, ◌∷◌, [], Some, List, ℕ, length, map, take, arith, ap, get_or, Bor, nat_eq, ◌+◌}
 use Rattle.std.proofs.lemmas.Bool.Decides.{nat_tests}
 use Rattle.std.proofs.lemmas.List.{map-append, take_all, take_more}
-use Rattle.fare_program.proofs.Loads.{loads_push, wanted_are}
+use Rattle.fare_program.proofs.Loads.{loads_push, names_to_load_are}
 use Rattle.fare_program.proofs.program.load_files.Goals as goal
 
 pub loop-name-preserved : goal.loop-name-preserved
@@ -21,4 +21,4 @@ returns-clause-ok g c =
     let none : c.is_empty.result ≡ nat_eq (length c.args.names.now) 0 = c.is_empty.ensures in
     let some : 0 < length c.args.names.now = grind (arith, nat_tests) in
     let all : take c.loop-name.name-index c.args.names.now ≡ c.args.names.now = take_all _ c.args.names.now c.loop-name-test.false in
-    rw (← wanted_are c.args.names.now some) (rw all at c.loop-name.invariant)
+    rw (← names_to_load_are c.args.names.now some) (rw all at c.loop-name.invariant)

@@ -14,7 +14,7 @@ use Rattle.ledger_texts.specs.Explained.{IsExplainedOf, IsExplainedOver}
 use Rattle.fare_program.proofs.Explains.{explained_same}
 use Rattle.fare_program.specs.Posted.{are_posted}
 use Rattle.fare_program.specs.inside.Program.{Shows}
-use Rattle.fare_program.specs.Settling.{ReportsOver}
+use Rattle.fare_program.specs.Settling.{IsTextOver}
 use Rattle.fare_program.proofs.run.shows_plain.Goals as goal
 
 -- what was posted was whole
@@ -39,7 +39,7 @@ shown : (explain : Bool) (files : List (List ℕ)) (outcome : OutcomeView) (fare
     → IsReportOver files history (report_of outcome)
     → ((t : Token) → IsExplainedOf outcome.books t text → IsExplainedOver fares history t text)
     → ((t : Token) → IsStatementOf outcome t text → IsStatementOver fares history t text)
-    → Shows explain token outcome text → ReportsOver explain token fares files history text
+    → Shows explain token outcome text → IsTextOver explain token fares files history text
 shown explain files outcome fares history None text report explained statement shows = let R : List ℕ → Type 0 = λ t. IsReportOver files history t in subst R (sym shows) report
 shown explain files outcome fares history (Some token) text report explained statement shows =
     stated explain outcome fares history token text (explained token) (statement token) shows

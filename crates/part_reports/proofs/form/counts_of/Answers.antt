@@ -1,7 +1,7 @@
 use Rattle.std.proofs.Common.{rules, ◌≡◌, ◌++◌, ◌∙◌, ℕ, List, [], codes, true, sym, ap, subst}
 use Rattle.std.specs.Fmt.{decimal}
 use Rattle.std.proofs.lemmas.Bool.{false≢true}
-use Rattle.fare_texts.specs.Counts.{counts}
+use Rattle.fare_texts.specs.Counts.{counts_text}
 use Rattle.part_reports.specs.Lines.{AreCounts}
 use Rattle.part_reports.specs.inside.Counted.{sums_with}
 use Rattle.part_reports.proofs.Counts.{counts_read, from_taps, from_paid, from_transfers}
@@ -170,4 +170,4 @@ returns c =
     c.in_ok-paid.ensures.shown ∙ ap (λ (x : List ℕ). codes " paid " ++ (decimal s.paid ++ x)) e3 in
     let e1 : c.args.text.now ≡ from_taps s [] =
     c.in_ok-taps.ensures.shown ∙ ap (λ (x : List ℕ). codes "taps " ++ (decimal s.taps ++ x)) e2 in
-    (c.in_ok-totals.ensures.0, e1 ∙ sym (counts_read s) ∙ ap counts (sym c.in_ok-totals.ensures.1))
+    (c.in_ok-totals.ensures.0, e1 ∙ sym (counts_read s) ∙ ap counts_text (sym c.in_ok-totals.ensures.1))

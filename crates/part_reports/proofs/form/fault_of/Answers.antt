@@ -1,6 +1,6 @@
 use Rattle.std.proofs.Common.{◌≡◌, ◌∙◌, codes, true, refl, sym, arith}
 use Rattle.std.proofs.lemmas.Bool.{false≢true}
-use Rattle.part_reports.specs.Lines.{number_line}
+use Rattle.fare_texts.specs.ReportLines.{number_line}
 use Rattle.part_reports.proofs.Digits.{counted_unique}
 use Rattle.part_reports.proofs.Nones.{is_none}
 use Rattle.part_reports.proofs.form.fault_of.Goals as goal

@@ -1,5 +1,5 @@
 use Rattle.std.proofs.Common.{◌++◌, ◌∙◌, codes, refl, sym, arith}
-use Rattle.fare_texts.specs.Counts.{counts}
+use Rattle.fare_texts.specs.Counts.{counts_text}
 use Rattle.std.proofs.lemmas.List.{append_cancel_left}
 use Rattle.part_reports.proofs.Digits.{counted_unique}
 use Rattle.part_reports.proofs.Nones.{is_none}
@@ -10,7 +10,7 @@ returns-in_err-validator c =
     is_none _ _ c.from_residual-in_err-validator.result c.from_residual-in_err-validator.ensures
     (λ sum fits is.
     let (same, rest) = counted_unique c.args.line.now (codes "validator ") c.in_ok-number.number
-    sum.0 c.in_ok-number.rest.now (codes " " ++ counts sum.1) c.in_ok-number.ensures
+    sum.0 c.in_ok-number.rest.now (codes " " ++ counts_text sum.1) c.in_ok-number.ensures
     (record { small = omega (arith, fits.validator); ends = refl; shown = is }) in
     absurd (omega (arith, fits.validator, same, c.in_err-validator.ensures)))
 
@@ -19,16 +19,16 @@ returns-in_err-text c =
     is_none _ _ c.from_residual-in_err-text.result c.from_residual-in_err-text.ensures
     (λ sum fits is.
     let (same, rest) = counted_unique c.args.line.now (codes "validator ") c.in_ok-number.number
-    sum.0 c.in_ok-number.rest.now (codes " " ++ counts sum.1) c.in_ok-number.ensures
+    sum.0 c.in_ok-number.rest.now (codes " " ++ counts_text sum.1) c.in_ok-number.ensures
     (record { small = omega (arith, fits.validator); ends = refl; shown = is }) in
-    c.in_err-text.ensures (counts sum.1) rest)
+    c.in_err-text.ensures (counts_text sum.1) rest)
 
 pub returns-in_err-totals : goal.returns-in_err-totals
 returns-in_err-totals c =
     is_none _ _ c.from_residual-in_err-totals.result c.from_residual-in_err-totals.ensures
     (λ sum fits is.
     let (same, rest) = counted_unique c.args.line.now (codes "validator ") c.in_ok-number.number
-    sum.0 c.in_ok-number.rest.now (codes " " ++ counts sum.1) c.in_ok-number.ensures
+    sum.0 c.in_ok-number.rest.now (codes " " ++ counts_text sum.1) c.in_ok-number.ensures
     (record { small = omega (arith, fits.validator); ends = refl; shown = is }) in
     c.in_err-totals.ensures sum.1 fits.counts (append_cancel_left (codes " ") c.in_ok-text.text.now
-    (counts sum.1) (sym c.in_ok-text.ensures ∙ rest)))
+    (counts_text sum.1) (sym c.in_ok-text.ensures ∙ rest)))

@@ -1,5 +1,5 @@
 use Rattle.std.proofs.Common.{ℕ, ◌<◌, ◌^◌}
-use Rattle.part_reports.specs.Lines.{number_line}
+use Rattle.fare_texts.specs.ReportLines.{number_line}
 use Rattle.part_reports.proofs.LinesRead.{read_line}
 use Rattle.part_reports.proofs.OneLine.{head_is_one}
 use Rattle.part_reports.proofs.front.next_head.Goals as goal

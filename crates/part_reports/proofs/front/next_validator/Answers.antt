@@ -1,4 +1,4 @@
-use Rattle.fare_texts.specs.SumLines.{validator_line}
+use Rattle.fare_texts.specs.ReportLines.{validator_line}
 use Rattle.part_reports.specs.Lines.{IsValidatorSum}
 use Rattle.shard_book.specs.Shown.{validator_sum}
 use Rattle.part_reports.proofs.LinesRead.{read_line}

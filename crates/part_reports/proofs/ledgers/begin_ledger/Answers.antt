@@ -2,8 +2,8 @@ use Rattle.std.proofs.Common.{rules, ◌≡◌, ◌∙◌, sym, subst, ap}
 use Rattle.std.specs.Prelude.{IfSome}
 use Rattle.std.proofs.lemmas.Result.{IfErr-weaker, IfOk-weaker}
 use Rattle.reason_texts.specs.Ledger.{head_text}
-use Rattle.part_reports.specs.inside.Begun.{IsBegun, IsNoLedger}
-use Rattle.part_reports.specs.inside.Sources.{standing}
+use Rattle.part_reports.specs.inside.BegunLedgers.{IsBegunLedger, IsNoLedger}
+use Rattle.part_reports.specs.inside.Standings.{standing}
 use Rattle.part_reports.proofs.Firsts.{weaker}
 use Rattle.part_reports.proofs.LedgerTexts.{behind_head, no_head, no_lines}
 use Rattle.part_reports.proofs.ledgers.begin_ledger.Goals as goal
@@ -15,7 +15,7 @@ returns-then-eq-clause-begun g c =
     let head : c.next.new.self.line.items ≡ head_text =
     sym c.line.ensures ∙ line ∙ c.as_bytes.ensures.value ∙ c.head_line.ensures in
     IfOk-weaker c.begin.result _ _ (λ source begun.
-    subst (λ known. IfSome known (λ file. IsBegun file (standing remaining source)))
+    subst (λ known. IfSome known (λ file. IsBegunLedger file (standing remaining source)))
     (ap remaining c.new-reader.ensures.from)
     (weaker (remaining c.new-reader.result.from) _ _ (λ file read.
     behind_head file c.next.new.self.line.items (remaining c.next.new.self.from)

@@ -3,8 +3,8 @@ use Rattle.std.proofs.Common.{append-nil}
 use Rattle.std.proofs.Common.{arith, length}
 use Rattle.std.proofs.lemmas.List.{map-append, nil_from_length}
 use Rattle.std.proofs.lemmas.Result.{err_from_is_err_and}
-use Rattle.part_reports.specs.inside.Begun.{AreBegun}
-use Rattle.part_reports.specs.inside.Sources.{standing}
+use Rattle.part_reports.specs.inside.BegunLedgers.{AreBegunLedgers}
+use Rattle.part_reports.specs.inside.Standings.{standing}
 use Rattle.part_reports.proofs.LedgerTexts.{begun_push, no_ledgers}
 use Rattle.part_reports.proofs.ledgers.begin_ledgers.Goals as goal
 
@@ -13,7 +13,7 @@ loop-from-init g c = record {
   may = tt;
   ends = tt;
   all = c.into_iter-from-iterator.ensures.into_iter_gives.0;
-  begun = subst (λ sources. AreBegun [] (map (standing g.R.Read.remaining) sources))
+  begun = subst (λ sources. AreBegunLedgers [] (map (standing g.R.Read.remaining) sources))
       (sym c.new-sources.ensures.items) tt;
 }
 
@@ -46,9 +46,9 @@ loop-from-preserved g c =
       all = append_assoc c.loop-from.yielded (c.in-Some.from ∷ []) c.next.new.self.rest.items
           ∙ ap (λ left. c.loop-from.yielded ++ left) (sym c.in-Some.ensures.steps.0)
           ∙ c.loop-from.invariant.all;
-      begun = subst (λ files. AreBegun files (map (standing remaining) c.push.new.self.items))
+      begun = subst (λ files. AreBegunLedgers files (map (standing remaining) c.push.new.self.items))
           (sym (map-append remaining c.loop-from.yielded (c.in-Some.from ∷ [])))
-          (subst (λ ats. AreBegun (files ++ file ∷ []) ats) (sym items)
+          (subst (λ ats. AreBegunLedgers (files ++ file ∷ []) ats) (sym items)
           (begun_push files ats file at c.loop-from.invariant.begun
           c.in_ok-begin_ledger.ensures.begun));
     }
@@ -61,5 +61,5 @@ returns-clause-begun g c =
     sym (append-nil c.loop-from.yielded) ∙ ap (λ left. c.loop-from.yielded ++ left)
     (sym (nil_from_length rest.items none))
     ∙ c.loop-from.invariant.all in
-    subst (λ items. AreBegun (map g.R.Read.remaining items)
+    subst (λ items. AreBegunLedgers (map g.R.Read.remaining items)
     (map (standing g.R.Read.remaining) c.loop-from.sources.items)) all c.loop-from.invariant.begun

@@ -1,6 +1,6 @@
 use Rattle.std.proofs.Common.{◌≡◌, ◌++◌, map}
-use Rattle.part_reports.specs.inside.Begun.{AreBegun}
-use Rattle.part_reports.specs.inside.Sources.{standing}
+use Rattle.part_reports.specs.inside.BegunLedgers.{AreBegunLedgers}
+use Rattle.part_reports.specs.inside.Standings.{standing}
 use Rattle.part_reports.proofs.ledgers.begin_ledgers.Given as goal
 
 abbrev pub invariant-loop-from : goal.invariant-loop-from
@@ -8,6 +8,6 @@ invariant-loop-from g l = record {
   may : (goal.iterator-loop-from g).can_next l.from-iterator;
   ends : (goal.iterator-loop-from g).is_finite l.from-iterator;
   all : l.yielded ++ l.from-iterator.rest.items ≡ l.fn.ledgers.items;
-  begun : AreBegun (map g.R.Read.remaining l.yielded)
+  begun : AreBegunLedgers (map g.R.Read.remaining l.yielded)
       (map (standing g.R.Read.remaining) l.sources.items);
 }

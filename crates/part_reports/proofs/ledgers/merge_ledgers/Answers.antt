@@ -2,8 +2,8 @@ use Rattle.std.proofs.Common.{◌∙◌, map, sym, subst}
 use Rattle.std.specs.Io.KnownBytes.{Appends}
 use Rattle.std.proofs.lemmas.Result.{IfErr-weaker, err_from_is_err_and, on_ok_weaker}
 use Rattle.reason_texts.specs.Ledger.{head_text}
-use Rattle.part_reports.specs.inside.Begun.{AreBegun}
-use Rattle.part_reports.specs.inside.Sources.{standing}
+use Rattle.part_reports.specs.inside.BegunLedgers.{AreBegunLedgers}
+use Rattle.part_reports.specs.inside.Standings.{standing}
 use Rattle.part_reports.proofs.LedgerTexts.{merged_none, merged_whole}
 use Rattle.part_reports.proofs.ledgers.merge_ledgers.Goals as goal
 
@@ -18,8 +18,8 @@ returns-clause-whole g c =
     let known = map remaining c.args.ledgers.items in
     let old = g.W.Write.contents c.args.out.now in
     let mid = g.W.Write.contents c.write_text.new.out in
-    let begun : AreBegun known (map (standing remaining) c.deref_mut.result.now) =
-    subst (λ sources. AreBegun known (map (standing remaining) sources))
+    let begun : AreBegunLedgers known (map (standing remaining) c.deref_mut.result.now) =
+    subst (λ sources. AreBegunLedgers known (map (standing remaining) sources))
     (sym c.deref_mut.ensures.value) c.in_ok-sources.ensures.begun in
     let head : Appends old mid head_text =
     subst (λ bytes. Appends old mid bytes) (c.as_bytes.ensures.value ∙ c.head_line.ensures)
@@ -33,8 +33,8 @@ pub returns-clause-refused : goal.returns-clause-refused
 returns-clause-refused g c =
     let remaining = g.R.Read.remaining in
     let known = map remaining c.args.ledgers.items in
-    let begun : AreBegun known (map (standing remaining) c.deref_mut.result.now) =
-    subst (λ sources. AreBegun known (map (standing remaining) sources))
+    let begun : AreBegunLedgers known (map (standing remaining) c.deref_mut.result.now) =
+    subst (λ sources. AreBegunLedgers known (map (standing remaining) sources))
     (sym c.deref_mut.ensures.value) c.in_ok-sources.ensures.begun in
     IfErr-weaker c.write_merged.result _ _ (λ fault refused of_texts files same.
     merged_none files known (map (standing remaining) c.deref_mut.result.now) same begun

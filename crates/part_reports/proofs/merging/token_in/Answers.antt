@@ -1,7 +1,7 @@
 use Rattle.std.proofs.Common.{subst}
 use Rattle.part_reports.specs.TokenLines.{TokenLine}
 use Rattle.part_reports.specs.inside.Kinds.{IsSumLine}
-use Rattle.part_reports.specs.inside.Sources.{IsLineOfKind}
+use Rattle.part_reports.specs.inside.Standings.{IsLineOfKind}
 use Rattle.part_reports.specs.declared.merging.LineKind.{LineKind}
 use Rattle.part_reports.proofs.merging.token_in.Goals as goal
 

@@ -3,22 +3,22 @@ use Rattle.std.specs.Prelude.{slice_set}
 use Rattle.std.specs.Io.KnownBytes.{Appends}
 use Rattle.std.proofs.lemmas.Option.{slice_get-get_or}
 use Rattle.std.proofs.lemmas.Result.{err_from_is_err_and}
-use Rattle.part_reports.specs.inside.Sources.{MayFollowHead, standing}
+use Rattle.part_reports.specs.inside.Standings.{MayFollowToken, standing}
 use Rattle.part_reports.proofs.Places.{map_at, map_of_set}
 use Rattle.part_reports.proofs.merging.write_at.Goals as goal
 
-pub returns-in_err-heads-clause-refused : goal.returns-in_err-heads-clause-refused
-returns-in_err-heads-clause-refused g c =
+pub returns-in_err-tokens-clause-refused : goal.returns-in_err-tokens-clause-refused
+returns-in_err-tokens-clause-refused g c =
     let sources = c.args.sources.now in
     let at = c.args.at in
     let source = get_or sources at c.index-sources-at.result in
-    let p = err_from_is_err_and c.from_residual-in_err-heads.result
-    c.from_residual-in_err-heads.ensures.1 in
+    let p = err_from_is_err_and c.from_residual-in_err-tokens.result
+    c.from_residual-in_err-tokens.ensures.1 in
     rw (p.1, p.2) (λ of_texts. record {
       was = standing g.R.Read.remaining source;
       there = map_at (standing g.R.Read.remaining) sources at source
           (slice_get-get_or sources at c.index-sources-at.result c.requires.within);
-      stuck = c.in_err-heads.ensures.refused of_texts;
+      stuck = c.in_err-tokens.ensures.refused of_texts;
     })
 
 pub returns-clause-moved : goal.returns-clause-moved
@@ -35,19 +35,19 @@ returns-clause-moved g c =
           (slice_get-get_or sources at c.index-sources-at.result c.requires.within);
       moved = map_of_set (standing g.R.Read.remaining) sources at c.advance.new.self;
       step = record {
-        read = c.in_ok-heads.ensures.read;
-        order = subst (λ head. MayFollowHead source.lines source.head head)
-            c.in_ok-heads.ensures.head c.in_ok-heads.ensures.follows;
+        read = c.in_ok-tokens.ensures.read;
+        order = subst (λ head. MayFollowToken source.lines source.token head)
+            c.in_ok-tokens.ensures.token c.in_ok-tokens.ensures.follows;
       };
       written = subst (λ bytes. Appends old new bytes) c.line.ensures
           c.in_ok-write_text.ensures.written;
     }
 
-pub returns-clause-heads : goal.returns-clause-heads
-returns-clause-heads g c =
+pub returns-clause-tokens : goal.returns-clause-tokens
+returns-clause-tokens g c =
     let sources = c.args.sources.now in
     let at = c.args.at in
-    ap (λ heads. slice_set heads at c.in_ok-heads.field-0) c.requires.heads
-    ∙ ap (λ head. slice_set (map (λ source. source.head) sources) at head)
-    c.in_ok-heads.ensures.head
-    ∙ sym (map_of_set (λ source. source.head) sources at c.advance.new.self)
+    ap (λ tokens. slice_set tokens at c.in_ok-tokens.field-0) c.requires.tokens
+    ∙ ap (λ head. slice_set (map (λ source. source.token) sources) at head)
+    c.in_ok-tokens.ensures.token
+    ∙ sym (map_of_set (λ source. source.token) sources at c.advance.new.self)

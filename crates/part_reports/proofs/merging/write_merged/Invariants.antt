@@ -1,6 +1,6 @@
 use Rattle.std.proofs.Common.{◌≡◌, ℕ, List, map}
 use Rattle.std.specs.List.{AllZip}
-use Rattle.part_reports.specs.inside.Sources.{IsSource, standing}
+use Rattle.part_reports.specs.inside.Standings.{StandsInText, standing}
 use Rattle.part_reports.specs.declared.merging.LineKind.{LineKind}
 use Rattle.part_reports.proofs.Merges.{IsMerging}
 use Rattle.part_reports.proofs.merging.write_merged.Given as goal
@@ -8,8 +8,8 @@ use Rattle.part_reports.proofs.merging.write_merged.Given as goal
 abbrev pub invariant-loop : goal.invariant-loop
 invariant-loop g l = record {
   merging : (texts : List (LineKind × List ℕ))
-      → AllZip IsSource texts (map (standing g.R.Read.remaining) l.fn.sources)
+      → AllZip StandsInText texts (map (standing g.R.Read.remaining) l.fn.sources)
       → IsMerging texts (map (standing g.R.Read.remaining) l.sources)
       (g.W.Write.contents l.fn.out) (g.W.Write.contents l.out);
-  same : l.heads.items ≡ map (λ source. source.head) l.sources;
+  same : l.tokens.items ≡ map (λ source. source.token) l.sources;
 }

@@ -2,7 +2,7 @@ use Rattle.std.proofs.Common.{◌∙◌, map, sym, subst}
 use Rattle.std.specs.List.{AllZip}
 use Rattle.std.specs.Io.KnownBytes.{Appends}
 use Rattle.part_reports.specs.inside.Parts.{left_text}
-use Rattle.part_reports.specs.inside.Sources.{IsSource, standing}
+use Rattle.part_reports.specs.inside.Standings.{StandsInText, standing}
 use Rattle.part_reports.proofs.WholeReports.{merged}
 use Rattle.std.proofs.lemmas.Result.{err_from_is_err_and}
 use Rattle.part_reports.specs.Faults.{IsOfTexts}
@@ -21,7 +21,7 @@ returns-clause-whole g c = λ end_files report_files ends_are reports_are.
     let mid = g.W.Write.contents c.write_text.new.out in
     let new = g.W.Write.contents c.write_merged.new.out in
     let merging = c.in_ok-write_merged.ensures.merged texts
-    (subst (λ sources. AllZip IsSource texts (map (standing g.R.Read.remaining) sources))
+    (subst (λ sources. AllZip StandsInText texts (map (standing g.R.Read.remaining) sources))
     (sym c.deref_mut.ensures.value) parts.stand) in
     let first : Appends old mid c.deref.result.now = c.in_ok-write_text.ensures.written in
     let written = merged end_files report_files told.0 ends sums
@@ -57,5 +57,5 @@ returns-in_err-write_merged-clause-refused g c =
     let (lists, joined, told, is) = joined_too end_files report_files text c.in_ok-parts.parts.sums
     (map (standing g.R.Read.remaining) sources) merged parts in
     c.in_err-write_merged.ensures.refused of_texts texts
-    (subst (λ sources. AllZip IsSource texts (map (standing g.R.Read.remaining) sources))
+    (subst (λ sources. AllZip StandsInText texts (map (standing g.R.Read.remaining) sources))
     (sym c.deref_mut.ensures.value) parts.stand) lists joined told is)

@@ -2,7 +2,7 @@ use Rattle.std.proofs.Common.{Err, Ok, subst}
 use Rattle.std.proofs.lemmas.Result.{IfErr-weaker, IfOk-weaker, err_from_is_err_and}
 use Rattle.part_reports.specs.inside.Fronts.{IsFront, MayBePart, told_text}
 use Rattle.part_reports.specs.inside.LinesRead.{IsRead}
-use Rattle.part_reports.specs.inside.Sources.{standing}
+use Rattle.part_reports.specs.inside.Standings.{standing}
 use Rattle.part_reports.specs.inside.Sums.{WithFront}
 use Rattle.part_reports.proofs.PartsBegun.{is_part, no_front, no_lines, no_sums}
 use Rattle.part_reports.proofs.reports.read_part.Goals as goal

@@ -3,7 +3,7 @@ use Rattle.std.proofs.lemmas.List.{map-append, take_all}
 use Rattle.std.proofs.lemmas.Iterator.Adapters.{YieldsList-from_vec}
 use Rattle.std.proofs.lemmas.Iterator.Consumers.{YieldsList-end, YieldsList-turn}
 use Rattle.std.proofs.lemmas.Result.{err_from_is_err_and}
-use Rattle.part_reports.specs.inside.Sources.{standing}
+use Rattle.part_reports.specs.inside.Standings.{standing}
 use Rattle.part_reports.proofs.PartsBegun.{BegunSo, begun_more, begun_none}
 use Rattle.part_reports.proofs.FewParts.{parts_refused}
 use Rattle.part_reports.proofs.TextsRead.{front_more}

@@ -1,5 +1,5 @@
 use Rattle.std.proofs.Common.{◌≡◌, length, map, take}
-use Rattle.part_reports.specs.inside.Sources.{standing}
+use Rattle.part_reports.specs.inside.Standings.{standing}
 use Rattle.part_reports.proofs.PartsBegun.{BegunSo}
 use Rattle.part_reports.proofs.reports.read_parts.Given as goal
 

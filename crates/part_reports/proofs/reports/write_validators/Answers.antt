@@ -3,7 +3,7 @@ use Rattle.std.specs.Prelude.{flat_map}
 use Rattle.std.specs.String.{string_bytes}
 use Rattle.std.specs.Map.Iter.{deref_pair}
 use Rattle.std.proofs.lemmas.Map.Iter.{iter_end}
-use Rattle.fare_texts.specs.SumLines.{validator_line}
+use Rattle.fare_texts.specs.ReportLines.{validator_line}
 use Rattle.part_reports.proofs.FrontWritten.{line_written, shown}
 use Rattle.part_reports.proofs.reports.write_validators.Goals as goal
 

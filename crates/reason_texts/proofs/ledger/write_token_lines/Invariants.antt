@@ -1,5 +1,5 @@
 use Rattle.std.proofs.Common.{◌≡◌, ℕ, List, ◌++◌, string_bytes, take}
-use Rattle.reason_texts.specs.Ledger.{AreTokenLines}
+use Rattle.reason_texts.specs.Ledger.{AreLedgerLines}
 use Rattle.reason_texts.specs.Tellers.{HasTold}
 use Rattle.reason_texts.proofs.ledger.write_token_lines.Given as goal
 
@@ -9,6 +9,6 @@ invariant-loop-entry l = record {
   told : HasTold l.table l.teller (take l.entry-index l.entries);
   of : l.teller.token ≡ l.fn.token;
   written : List ℕ;
-  are : AreTokenLines l.table l.fn.token (take l.entry-index l.entries) written;
+  are : AreLedgerLines l.table l.fn.token (take l.entry-index l.entries) written;
   whole : string_bytes l.text ≡ string_bytes l.fn.text ++ written;
 }

@@ -6,7 +6,7 @@ use Rattle.tap_views.specs.declared.encoder.TapFields.{TapFields}
 use Rattle.tap_parts.specs.Parts.{of_part}
 use Rattle.settlement.specs.inside.SplitTaps.{in_part}
 use Rattle.settlement.specs.Settled.{IsPartFile}
-use Rattle.tap_parts.specs.Parts.{uploads_joined}
+use Rattle.tap_parts.specs.Parts.{taps_of_uploads}
 use Rattle.tap_parts.proofs.Early.{part_early}
 use Rattle.settlement.proofs.Early.{uploads_early}
 use Rattle.settlement.proofs.Files.{bytes_in, there_below, zip_length, zip_there}
@@ -21,7 +21,7 @@ files_by_threads-requires-clause-early g c =
     let E : List TapFields → Type 0 = λ taps. AreEarly (λ (tap : TapFields). tap.moment) taps in
     λ _ _. all_by E c.in_ok-pieces.pieces.items (λ part d there.
     let within : part < parts = omega (arith, there, pieces.number) in
-    let early = part_early part parts (uploads_joined split.taps)
+    let early = part_early part parts (taps_of_uploads split.taps)
     (uploads_early (map bytes_in c.args.uploads.items) split.taps split.of_uploads) in
     subst E (sym (get_or_default c.in_ok-pieces.pieces.items part d [] there
     ∙ pieces.each part within ∙ split.each part within)) early)
@@ -45,10 +45,10 @@ returns g c =
       each = λ part file there.
           let within : part < parts = omega (arith, number, there_below bytes part file there) in
           let here : get_or pieces part []
-          ≡ map fields_of (of_part part parts (uploads_joined split.taps)) =
+          ≡ map fields_of (of_part part parts (taps_of_uploads split.taps)) =
           c.in_ok-pieces.ensures.each part within ∙ split.each part within in
           let Q : List TapFields → Type 0 = λ taps. IsPartFile taps file in
-          let N : ℕ → Type 0 = λ n. IsPartFile (map fields_of (of_part part n (uploads_joined split.taps)))
+          let N : ℕ → Type 0 = λ n. IsPartFile (map fields_of (of_part part n (taps_of_uploads split.taps)))
           file in
           subst N number (subst Q here (zip_there IsPartFile pieces bytes [] zip part file there));
     }

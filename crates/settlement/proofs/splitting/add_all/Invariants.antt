@@ -4,7 +4,7 @@ use Rattle.tap_views.specs.Layout.{Tap}
 use Rattle.tap_parts.specs.Parts.{AreAdded}
 use Rattle.tap_views.specs.Files.{AreGoodTapsOfEach}
 use Rattle.fare_service.specs.Plain.{ArePlainEnds}
-use Rattle.tap_parts.specs.Parts.{uploads_joined}
+use Rattle.tap_parts.specs.Parts.{taps_of_uploads}
 use Rattle.settlement.proofs.splitting.add_all.Given as goal
 
 abbrev pub invariant-loop-upload : goal.invariant-loop-upload
@@ -14,6 +14,6 @@ invariant-loop-upload l = record {
   left : l.yielded ++ into_iter_items l.upload-iterator ≡ l.fn.uploads.items;
   left_len : into_iter_len l.upload-iterator ≡ length (into_iter_items l.upload-iterator);
   made : (taps : List (List Tap)) × AreGoodTapsOfEach (map (λ upload. upload.items) l.yielded) taps
-      × AreAdded (uploads_joined taps) l.fn.parts l.parts
+      × AreAdded (taps_of_uploads taps) l.fn.parts l.parts
       × ArePlainEnds (map (λ upload. upload.items) l.yielded) l.ends.items;
 }

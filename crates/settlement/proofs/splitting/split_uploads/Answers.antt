@@ -5,7 +5,7 @@ use Rattle.tap_views.specs.Encoding.{fields_of}
 use Rattle.tap_views.specs.declared.encoder.TapFields.{TapFields}
 use Rattle.tap_parts.specs.Parts.{of_part}
 use Rattle.settlement.specs.inside.SplitTaps.{AreInParts}
-use Rattle.tap_parts.specs.Parts.{uploads_joined}
+use Rattle.tap_parts.specs.Parts.{taps_of_uploads}
 use Rattle.settlement.proofs.Files.{bytes_in}
 use Rattle.settlement.proofs.splitting.split_uploads.Goals as goal
 
@@ -26,7 +26,7 @@ returns c =
           append-nil _
           ∙ all.added.each part (subst (λ n. part < n) (sym made.number) within)
           ∙ ap (λ taps. taps ++ map fields_of
-          (of_part part (length c.in_ok-list.list) (uploads_joined all.taps))) (made.empty part within)
-          ∙ ap (λ n. map fields_of (of_part part n (uploads_joined all.taps))) made.number;
+          (of_part part (length c.in_ok-list.list) (taps_of_uploads all.taps))) (made.empty part within)
+          ∙ ap (λ n. map fields_of (of_part part n (taps_of_uploads all.taps))) made.number;
       ended = all.ended;
     })

@@ -1,5 +1,5 @@
 use Rattle.std.proofs.Common.{◌≡◌, ◌++◌, ◌||◌, ℕ}
-use Rattle.table_facts.specs.Seen.{has_tap_at, is_among}
+use Rattle.table_facts.specs.SeenValidators.{has_tap_at, is_among}
 use Rattle.table_facts.proofs.seen.add_batch.Given as goal
 
 abbrev pub invariant-loop-tap : goal.invariant-loop-tap

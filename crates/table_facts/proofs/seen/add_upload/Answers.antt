@@ -5,7 +5,7 @@ use Rattle.upload_facts.specs.Facts.{taps_of_batches}
 use Rattle.upload_facts.proofs.ReadingLemmas.{same_items, read_all, read_fault, taps_more}
 use Rattle.upload_facts.proofs.ReadingLemmas.{yielded_more}
 use Rattle.table_facts.proofs.SeenLemmas.{no_tap, one_batch}
-use Rattle.table_facts.specs.Seen.{has_tap_at, is_among}
+use Rattle.table_facts.specs.SeenValidators.{has_tap_at, is_among}
 use Rattle.table_facts.proofs.seen.add_upload.Goals as goal
 
 pub loop-item-init : goal.loop-item-init

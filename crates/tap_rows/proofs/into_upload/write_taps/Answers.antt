@@ -3,7 +3,7 @@ use Rattle.std.specs.Prelude.{IfSome}
 use Rattle.std.proofs.lemmas.Result.{err_from_is_err_and}
 use Rattle.std.proofs.lemmas.Bool.Decides.{nat_tests}
 use Rattle.tap_views.specs.declared.encoder.TapFields.{TapFields}
-use Rattle.tap_rows.specs.inside.Tables.{IsEncodedAs}
+use Rattle.tap_rows.specs.inside.TapTables.{IsEncodedAs}
 use Rattle.tap_rows.proofs.TableLemmas.{Ready, weaker, next_of, reached_fault, writing_first, writing_row, writing_end, ready_written, ready_same, ready_early}
 use Rattle.tap_rows.proofs.into_upload.write_taps.Goals as goal
 use Rattle.tap_rows.proofs.into_upload.write_taps.Goals.{then-len-eq-MAX_TAPS+in_ok-write_batch-in-Some, else-len-eq-MAX_TAPS}

@@ -2,7 +2,7 @@
 use Rattle.std.proofs.Common.{List, [], ◌∷◌, ◌++◌, Some, refl, sym, ap, ◌∙◌}
 use Rattle.account_rule.specs.Replies.{ride_reply}
 use Rattle.account_rule.specs.TokenRules.{rules_of}
-use Rattle.account_rule.specs.Kept.{state_of, kept_giver, kept_of}
+use Rattle.account_rule.specs.Kept.{kept_numbers, kept_giver, kept_of}
 use Rattle.account_rule.specs.Stands.{StandsForSome, Stands}
 use Rattle.account_rule.specs.Taps.{live_at}
 use Rattle.account_rule.specs.declared.tap.TapIn.{TapIn}
@@ -122,7 +122,7 @@ take_ride-requires-clause-room c =
 is_next_ride : (c : After-to_ride) (taps : List TapIn)
     → Stands (rules_of c.args.table.now c.args.token.now) c.args.self.now taps
     → IsStep (rules_of c.args.table.now c.args.token.now) taps c.args.tap
-    (ride_reply c.take_ride.result) (Some (state_of c.take_ride.new.self))
+    (ride_reply c.take_ride.result) (Some (kept_numbers c.take_ride.new.self))
 unfolding rules_of Stands
 is_next_ride c taps stands =
     next_ride (rules_of c.args.table.now c.args.token.now) (kept_of c.args.self.now) _ _ taps

@@ -6,9 +6,9 @@ use Rattle.shard_book.specs.SumsByKey.{all_entries}
 use Rattle.fare_service.specs.declared.upload_end.UploadEnd.TheVariants.{Undrawn}
 use Rattle.fare_service.specs.declared.faults.GatherFault.{GatherFault}
 use Rattle.fare_service.specs.Claims.{HaveAllClaims}
-use Rattle.fare_service.specs.Closing.{IsFirst}
+use Rattle.fare_service.specs.Closing.{TellsFirst}
 use Rattle.fare_service.specs.Faults.{IsForMemory}
-use Rattle.fare_service.specs.inside.Joining.{told_all}
+use Rattle.fare_service.specs.inside.Joining.{with_all_done}
 use Rattle.fare_service.specs.ServiceView.{ServiceView, shards_of}
 use Rattle.fare_service.specs.ShareView.{ShareView}
 use Rattle.fare_service.specs.Shares.{IsShareOf}
@@ -35,9 +35,9 @@ added-totals-requires c =
     let S : ServiceView → Type 0 = λ h. All (IsShareOf h) c.args.shares.items in
     let all : All (IsShareOf service) c.args.shares.items = subst S (sym c.self.view_is) c.requires in
     let number : length service.uploads ≡ length c.self.inside.uploads.now = length-map c.self.inside.uploads.now (λ upload. upload.items) in
-    let told : c.in_ok-ends.ends.items ≡ told_all (replicate (length service.uploads) Undrawn) c.args.shares.items =
-    c.in_ok-ends.ensures.ends ∙ ap (told_all (replicate (length c.self.inside.uploads.now) Undrawn)) c.as_slice.ensures.value
-    ∙ ap (λ n. told_all (replicate n Undrawn) c.args.shares.items) (sym number) in
+    let told : c.in_ok-ends.ends.items ≡ with_all_done (replicate (length service.uploads) Undrawn) c.args.shares.items =
+    c.in_ok-ends.ensures.ends ∙ ap (with_all_done (replicate (length c.self.inside.uploads.now) Undrawn)) c.as_slice.ensures.value
+    ∙ ap (λ n. with_all_done (replicate n Undrawn) c.args.shares.items) (sym number) in
     let workers : map sums_of c.in_ok-workers.workers.items ≡ map (λ share. share.totals) c.args.shares.items =
     c.in_ok-workers.ensures ∙ ap (λ ss. map (λ (share : ShareView). share.totals) ss) c.as_slice-2.ensures.value in
     let same : sums (all_entries c.close_with.new.closed.items) ≡ add_all (map sums_of c.in_ok-workers.workers.items) =
@@ -55,9 +55,9 @@ invariant_of-result c =
     let S : ServiceView → Type 0 = λ h. All (IsShareOf h) c.args.shares.items in
     let all : All (IsShareOf service) c.args.shares.items = subst S (sym c.self.view_is) c.requires in
     let number : length service.uploads ≡ length c.self.inside.uploads.now = length-map c.self.inside.uploads.now (λ upload. upload.items) in
-    let told : c.in_ok-ends.ends.items ≡ told_all (replicate (length service.uploads) Undrawn) c.args.shares.items =
-    c.in_ok-ends.ensures.ends ∙ ap (told_all (replicate (length c.self.inside.uploads.now) Undrawn)) c.as_slice.ensures.value
-    ∙ ap (λ n. told_all (replicate n Undrawn) c.args.shares.items) (sym number) in
+    let told : c.in_ok-ends.ends.items ≡ with_all_done (replicate (length service.uploads) Undrawn) c.args.shares.items =
+    c.in_ok-ends.ensures.ends ∙ ap (with_all_done (replicate (length c.self.inside.uploads.now) Undrawn)) c.as_slice.ensures.value
+    ∙ ap (λ n. with_all_done (replicate n Undrawn) c.args.shares.items) (sym number) in
     let workers : map sums_of c.in_ok-workers.workers.items ≡ map (λ share. share.totals) c.args.shares.items =
     c.in_ok-workers.ensures ∙ ap (λ ss. map (λ (share : ShareView). share.totals) ss) c.as_slice-2.ensures.value in
     let same : sums (all_entries c.close_with.new.closed.items) ≡ add_all (map sums_of c.in_ok-workers.workers.items) =
@@ -73,9 +73,9 @@ returns-clause-headline c =
     let S : ServiceView → Type 0 = λ h. All (IsShareOf h) c.args.shares.items in
     let all : All (IsShareOf service) c.args.shares.items = subst S (sym c.self.view_is) c.requires in
     let number : length service.uploads ≡ length c.self.inside.uploads.now = length-map c.self.inside.uploads.now (λ upload. upload.items) in
-    let told : c.in_ok-ends.ends.items ≡ told_all (replicate (length service.uploads) Undrawn) c.args.shares.items =
-    c.in_ok-ends.ensures.ends ∙ ap (told_all (replicate (length c.self.inside.uploads.now) Undrawn)) c.as_slice.ensures.value
-    ∙ ap (λ n. told_all (replicate n Undrawn) c.args.shares.items) (sym number) in
+    let told : c.in_ok-ends.ends.items ≡ with_all_done (replicate (length service.uploads) Undrawn) c.args.shares.items =
+    c.in_ok-ends.ensures.ends ∙ ap (with_all_done (replicate (length c.self.inside.uploads.now) Undrawn)) c.as_slice.ensures.value
+    ∙ ap (λ n. with_all_done (replicate n Undrawn) c.args.shares.items) (sym number) in
     let workers : map sums_of c.in_ok-workers.workers.items ≡ map (λ share. share.totals) c.args.shares.items =
     c.in_ok-workers.ensures ∙ ap (λ ss. map (λ (share : ShareView). share.totals) ss) c.as_slice-2.ensures.value in
     let closed = c.close_with.new.closed.items in
@@ -99,9 +99,9 @@ returns-clause-undrawn c =
     let S : ServiceView → Type 0 = λ h. All (IsShareOf h) c.args.shares.items in
     let all : All (IsShareOf service) c.args.shares.items = subst S (sym c.self.view_is) c.requires in
     let number : length service.uploads ≡ length c.self.inside.uploads.now = length-map c.self.inside.uploads.now (λ upload. upload.items) in
-    let told : c.in_ok-ends.ends.items ≡ told_all (replicate (length service.uploads) Undrawn) c.args.shares.items =
-    c.in_ok-ends.ensures.ends ∙ ap (told_all (replicate (length c.self.inside.uploads.now) Undrawn)) c.as_slice.ensures.value
-    ∙ ap (λ n. told_all (replicate n Undrawn) c.args.shares.items) (sym number) in
+    let told : c.in_ok-ends.ends.items ≡ with_all_done (replicate (length service.uploads) Undrawn) c.args.shares.items =
+    c.in_ok-ends.ensures.ends ∙ ap (with_all_done (replicate (length c.self.inside.uploads.now) Undrawn)) c.as_slice.ensures.value
+    ∙ ap (λ n. with_all_done (replicate n Undrawn) c.args.shares.items) (sym number) in
     told_undrawn service c.args.shares.items all c.close_with.new.closed.items c.in_ok-close_with.ensures.ok c.in_ok-ends.ends.items told (c.in_ok-ends.ensures.number ∙ sym number)
 
 pub returns-clause-full : goal.returns-clause-full
@@ -119,9 +119,9 @@ handed_on (Err e) fault P is holds = subst P (sym is) holds
 pub returns-in_err-close_with-clause-first : goal.returns-in_err-close_with-clause-first
 returns-in_err-close_with-clause-first c =
     let fault : GatherFault = c.in_err-close_with.field-0.0 in
-    let F : ℕ → Type 0 = λ n. IsFirst c.self.inside.books.items n c.args.shares.items fault in
-    let H : ServiceView → Type 0 = λ h. IsFirst h.books (length h.uploads) c.args.shares.items fault in
-    handed_on c.from_residual-in_err-close_with.result fault (IsFirst c.args.self.books (length c.args.self.uploads) c.args.shares.items) c.from_residual-in_err-close_with.ensures.1
+    let F : ℕ → Type 0 = λ n. TellsFirst c.self.inside.books.items n c.args.shares.items fault in
+    let H : ServiceView → Type 0 = λ h. TellsFirst h.books (length h.uploads) c.args.shares.items fault in
+    handed_on c.from_residual-in_err-close_with.result fault (TellsFirst c.args.self.books (length c.args.self.uploads) c.args.shares.items) c.from_residual-in_err-close_with.ensures.1
     (subst H c.self.view_is (subst F c.self.invariant.numbers c.in_err-close_with.ensures.first))
 
 pub returns-in_err-close_with-clause-claims : goal.returns-in_err-close_with-clause-claims

@@ -3,7 +3,7 @@ use Rattle.std.specs.Prelude.{Result, IfErr}
 use Rattle.std.specs.Vec.{vec_len}
 use Rattle.shared_books.specs.Passes.{SharedBookView}
 use Rattle.fare_service.specs.declared.faults.GatherFault.{GatherFault}
-use Rattle.fare_service.specs.Closing.{IsFirst}
+use Rattle.fare_service.specs.Closing.{TellsFirst}
 use Rattle.fare_service.specs.inside.Closing.{IsClosedWork}
 use Rattle.fare_service.specs.inside.Joining.{IsJoinedOf}
 use Rattle.fare_service.proofs.CloseLemmas.{split_first, closed_none, closed_all, held_drawn, joined_whole, any_ok, no_shares, some_shares, none_there, first_missing, first_unseen, first_drawn, first_undrawn, any_err, none_whole, lacks_whole, drawer_whole}
@@ -44,7 +44,7 @@ pub returns-then-is_empty-clause-first : goal.returns-then-is_empty-clause-first
 returns-then-is_empty-clause-first c =
     let ok = c.in_default.ensures in
     let none = no_shares c.args.shares.items (sym c.args.shares.ok.0 ∙ none_there c.is_empty.result (vec_len c.args.shares) c.is_empty.ensures c.if-is_empty.true) in
-    let R : Result (Unit {0}) GatherFault → Type 0 = λ r. IfErr r (IsFirst c.args.books.items c.args.draw.numbers c.args.shares.items) in
+    let R : Result (Unit {0}) GatherFault → Type 0 = λ r. IfErr r (TellsFirst c.args.books.items c.args.draw.numbers c.args.shares.items) in
     elim c.match-finish_unseen.branch [
       | in-Ok w ↦ subst R (sym w.result-is) tt
       | in-Err-finish_unseen w ↦ subst R (sym w.result-is)

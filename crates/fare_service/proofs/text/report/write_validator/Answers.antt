@@ -2,7 +2,7 @@ use Rattle.std.proofs.Common.{string_bytes, codes}
 use Rattle.std.proofs.lemmas.Result.{on_ok_weaker}
 use Rattle.std.specs.Fmt.{decimal}
 use Rattle.shard_book.specs.Sums.{sums_of}
-use Rattle.fare_texts.specs.Counts.{counts}
+use Rattle.fare_texts.specs.Counts.{counts_text}
 use Rattle.fare_service.proofs.Parts.{in_line}
 use Rattle.fare_service.proofs.text.report.write_validator.Goals as goal
 
@@ -10,5 +10,5 @@ pub returns : goal.returns
 returns c =
     on_ok_weaker c.write_counts.result
     (in_line (string_bytes c.args.text.now) (string_bytes c.write_validator_name.new.text) (string_bytes c.write_counts.new.text) (codes "validator ")
-    (decimal c.args.sum.now.validator) (counts (sums_of c.args.sum.now.totals)) c.in_ok-write_validator_name.ensures)
+    (decimal c.args.sum.now.validator) (counts_text (sums_of c.args.sum.now.totals)) c.in_ok-write_validator_name.ensures)
     c.write_counts.ensures

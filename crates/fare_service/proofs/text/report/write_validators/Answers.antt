@@ -3,8 +3,7 @@ use Rattle.std.proofs.lemmas.List.{length-map}
 use Rattle.std.proofs.lemmas.Result.{on_ok_weaker}
 use Rattle.std.specs.List.{flat_map}
 use Rattle.shard_book.specs.Shown.{validator_sum}
-use Rattle.fare_texts.specs.SumLines.{validator_line}
-use Rattle.fare_service.specs.Text.{section_head}
+use Rattle.fare_texts.specs.ReportLines.{number_line, validator_line}
 use Rattle.fare_service.proofs.Parts.{in_parts}
 use Rattle.fare_service.proofs.text.report.write_validators.Goals as goal
 
@@ -15,8 +14,8 @@ returns c =
     on_ok_weaker c.write_validator_lines.result
     (in_parts text (string_bytes c.write_section_head.new.text)
     (string_bytes c.write_validator_lines.new.text)
-    (section_head (codes "validators ") (length list)) (flat_map validator_line list)
+    (number_line (codes "validators ") (length list)) (flat_map validator_line list)
     (c.in_ok-write_section_head.ensures
-    ∙ ap (λ (count : ℕ). text ++ section_head (codes "validators ") count)
+    ∙ ap (λ (count : ℕ). text ++ number_line (codes "validators ") count)
     (sym (length-map c.args.sums.now validator_sum))))
     c.write_validator_lines.ensures

@@ -1,7 +1,7 @@
 use Rattle.std.proofs.Common.{◌≤◌, take, vec_capacity}
 use Rattle.std.specs.Io.KnownBytes.{Appends, append_known}
 use Rattle.std.specs.List.{flat_map}
-use Rattle.fare_texts.specs.SumLines.{token_line}
+use Rattle.fare_texts.specs.ReportLines.{token_line}
 use Rattle.fare_service.proofs.text.token_lines.write_lines.Given as goal
 
 abbrev pub invariant-loop-place : goal.invariant-loop-place

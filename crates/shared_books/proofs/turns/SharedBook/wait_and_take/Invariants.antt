@@ -1,5 +1,5 @@
 use Rattle.std.proofs.Common.{◌≡◌}
-use Rattle.shared_books.specs.inside.Views.{SeesMore}
+use Rattle.shared_books.specs.inside.SeatStates.{SeesMore}
 use Rattle.shared_books.proofs.turns.SharedBook.wait_and_take.Given as goal
 
 abbrev pub invariant-loop : goal.invariant-loop

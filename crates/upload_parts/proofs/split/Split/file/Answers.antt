@@ -5,7 +5,7 @@ use Rattle.tap_views.specs.Layout.{moment_limit}
 use Rattle.tap_views.specs.declared.encoder.TapFields.{TapFields}
 use Rattle.tap_parts.specs.Parts.{IsFileOf, of_part}
 use Rattle.tap_parts.specs.Canonical.{IsCanonical}
-use Rattle.tap_parts.specs.Parts.{uploads_joined}
+use Rattle.tap_parts.specs.Parts.{taps_of_uploads}
 use Rattle.upload_parts.proofs.split.Split.file.Goals as goal
 
 pub part_file-requires : goal.part_file-requires
@@ -25,7 +25,7 @@ part_file-requires c =
 pub returns : goal.returns
 returns c = λ parts uploads split.
     let list = c.in_ok-taps.taps.items in
-    let own : List TapFields = map fields_of (of_part c.args.part parts (uploads_joined split.taps)) in
+    let own : List TapFields = map fields_of (of_part c.args.part parts (taps_of_uploads split.taps)) in
     let within : c.args.part < parts = subst (λ n. c.args.part < n) split.number c.requires in
     let same : c.part.result.now ≡ own =
     c.part.ensures ∙ ap (λ (ls : List (List TapFields)). get_or ls c.args.part [])

@@ -5,12 +5,12 @@ use Rattle.std.proofs.lemmas.Map.Iter.{iter_end, iter_turn}
 use Rattle.std.specs.Map.{keys_of}
 use Rattle.std.specs.Map.Iter.{deref}
 use Rattle.fare_table.proofs.TokenMarks.{marked-more, marked-new}
-use Rattle.fare_table.specs.RiderMarks.{is_marked, slot as slot_among}
+use Rattle.fare_table.specs.RiderMarks.{is_marked, mark_place}
 use Rattle.fare_table.specs.declared.token.Token.{Token}
 use Rattle.fare_table.proofs.riders.marks.RiderMarks.new.Goals as goal
 
-pub slot-slot-requires : goal.slot-slot-requires
-slot-slot-requires c =
+pub mark_place-place-requires : goal.mark_place-place-requires
+mark_place-place-requires c =
     let entries = c.args.terms.now.entries in
     let turn = iter_turn (deref {X = Token}) (keys_of entries) c.loop-token.yielded _ _ _ _
     (c.into_iter-token-iterator.ensures.into_iter_gives ∙ c.keys-token-items.ensures.rest)
@@ -22,22 +22,22 @@ slot-slot-requires c =
 pub loop-token-preserved : goal.loop-token-preserved
 loop-token-preserved c =
     let marks = c.loop-token.marks.items in
-    let slot = c.slot-slot.result in
+    let place = c.mark_place-place.result in
     let Old : Bor Token → Type 0 = λ token. is_marked marks token.now ≡ true in
     let New : Bor Token → Type 0 =
-    λ token. is_marked (slice_set marks slot true) token.now ≡ true in
+    λ token. is_marked (slice_set marks place true) token.now ≡ true in
     let long : c.len-in-loop-token.result ≡ length marks = omega arith in
-    let inside : slot < length marks = omega arith in
+    let inside : place < length marks = omega arith in
     record {
       marked =
           All-push New c.loop-token.yielded c.in-Some.token
-          (All-weaker Old New (λ token was. marked-more marks slot token.now inside was)
+          (All-weaker Old New (λ token was. marked-more marks place token.now inside was)
           c.loop-token.yielded c.loop-token.invariant.marked)
-          (marked-new marks slot c.in-Some.token.now (c.slot-slot.ensures.slot
-          ∙ ap (slot_among c.in-Some.token.now) long) inside);
+          (marked-new marks place c.in-Some.token.now (c.mark_place-place.ensures.place
+          ∙ ap (mark_place c.in-Some.token.now) long) inside);
       some = λ any. let some = c.loop-token.invariant.some any in
-          omega (arith, some, length-set marks slot true);
-      few = let few = c.loop-token.invariant.few in omega (arith, few, length-set marks slot true);
+          omega (arith, some, length-set marks place true);
+      few = let few = c.loop-token.invariant.few in omega (arith, few, length-set marks place true);
     }
 
 pub returns-clause-few : goal.returns-clause-few

@@ -1,4 +1,4 @@
--- Views: what private functions alone cite.
+-- The states of seats: what private functions alone cite.
 use Rattle.std.specs.Prelude.{◌≡◌, ℕ, ◌+◌, ◌^◌, ◌<◌, ◌≤◌, true, false, List, [], ◌∷◌, ◌++◌, length}
 use Rattle.std.specs.Prelude.{None}
 use Rattle.shard_book.specs.declared.entry.Entry.{Entry}
@@ -19,7 +19,7 @@ pub record IsFree (me : Seat) : Type 0 where
 -- the seat has seen visits of others more, and all else is as it was
 pub record SeesMore (before after : Seat) : Type 0 where
   pub between : List (List Entry)
-  pub view_is : after.0 ≡ pass_state before.0.opened before.0.claims before.0.turn
+  pub state_is : after.0 ≡ pass_state before.0.opened before.0.claims before.0.turn
       (before.0.marks ++ others between) before.0.met
   pub carries : after.1 ≡ before.1
 
@@ -27,7 +27,7 @@ pub record SeesMore (before after : Seat) : Type 0 where
 -- empty
 pub record HasBookOut (before after : Seat) (number : ℕ) (book : Book) : Type 0 where
   pub between : List (List Entry)
-  pub view_is : after.0 ≡ pass_state before.0.opened before.0.claims true
+  pub state_is : after.0 ≡ pass_state before.0.opened before.0.claims true
       (before.0.marks ++ others between) []
   pub number_is : number ≡ before.0.opened.first + length (before.0.marks ++ others between)
   pub few : number < 2 ^ 62

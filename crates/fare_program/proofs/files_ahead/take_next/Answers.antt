@@ -2,8 +2,8 @@ use Rattle.std.proofs.Common.{◌≡◌, ◌∙◌, ◌<◌, ◌-◌, ◌∷◌,
 use Rattle.std.proofs.lemmas.Bool.Decides.{Decides-eqb}
 use Rattle.std.proofs.lemmas.Slice.Eq.{slice_eq-Decides}
 use Rattle.std.proofs.Math.Seq.{get_or-append_seam}
-use Rattle.fare_program.specs.declared.early_files.Early.{Early}
-use Rattle.fare_program.proofs.early_files.take_next.Goals as goal
+use Rattle.fare_program.specs.declared.files_ahead.FileAhead.{FileAhead}
+use Rattle.fare_program.proofs.files_ahead.take_next.Goals as goal
 
 not_false : (b : Bool) → false ≡ not b → true ≡ b
 not_false true e = refl
@@ -12,13 +12,13 @@ not_false false e = sym e
 -- the file that was looked at is the one that was taken
 pub returns-clause-taken : goal.returns-clause-taken
 returns-clause-taken c =
-    let early = c.args.early.now.items in
+    let ahead = c.args.ahead.now.items in
     let next = c.in_ok-next.next in
     let found = c.in_ok-last.ensures.item.3 in
-    let some : 0 < vec_len c.args.early.now = rw (← c.deref.ensures.len) found.0 in
-    let seen : c.in_ok-last.field-0.now ≡ slice_index_or early (vec_len c.args.early.now - 1) next =
+    let some : 0 < vec_len c.args.ahead.now = rw (← c.deref.ensures.len) found.0 in
+    let seen : c.in_ok-last.field-0.now ≡ slice_index_or ahead (vec_len c.args.ahead.now - 1) next =
     found.1 next ∙ ap₂ (λ files n. slice_index_or files (n - 1) next) c.deref.ensures.value c.deref.ensures.len in
-    let taken : next ≡ slice_index_or early (vec_len c.args.early.now - 1) next =
+    let taken : next ≡ slice_index_or ahead (vec_len c.args.ahead.now - 1) next =
     ap (λ o. unwrap_or o next) (c.in_ok-next.ensures.value next some) in
     let name : c.as_str.result.now ≡ c.args.name.now = (slice_eq-Decides Decides-eqb _ _ true (not_false _ c.if-ne.ensures)).0 refl in
     (next, c.in_ok-next.ensures.items, ap (λ f. string_bytes f.name) (taken ∙ sym seen) ∙ sym c.as_str.ensures.value ∙ name, refl)
@@ -33,8 +33,8 @@ returns-then-ne-clause-kept c = (
   refl,
   λ before next is same.
       let found = c.in_ok-last.ensures.item.3 in
-      let size : vec_len c.args.early.now - 1 ≡ length before =
-      (let l = ap (λ (files : List Early). length files) is in let m = length-append before (next ∷ []) in omega arith) in
+      let size : vec_len c.args.ahead.now - 1 ≡ length before =
+      (let l = ap (λ (files : List FileAhead). length files) is in let m = length-append before (next ∷ []) in omega arith) in
       let seen : c.in_ok-last.field-0.now ≡ next =
       found.1 next ∙ (ap₂ (λ files n. slice_index_or files (n - 1) next) c.deref.ensures.value c.deref.ensures.len
       ∙ (ap₂ (λ files n. slice_index_or files n next) is size ∙ get_or-append_seam before next [] next)) in

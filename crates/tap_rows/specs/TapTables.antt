@@ -6,7 +6,7 @@ use Rattle.std.specs.Io.KnownBytes.{Appends}
 use Rattle.tap_views.specs.declared.encoder.TapFields.{TapFields}
 use Rattle.tap_parts.specs.Parts.{IsFileOf}
 use Rattle.tap_rows.specs.Fields.{AreFields, FieldStandsFor}
-use Rattle.tap_rows.specs.Rows.{IsRow, IsNoRow, rows_text}
+use Rattle.tap_rows.specs.Rows.{IsTapRow, IsNoTapRow, rows_text}
 use Rattle.tap_rows.specs.declared.column.Column.{Column}
 use Rattle.tap_rows.specs.declared.fault.RowsFault.{RowsFault}
 use Rattle.tap_rows.specs.declared.fault.RowsFault.TheVariants.{Head, Row, Unread, Changed, Write}
@@ -30,9 +30,9 @@ head = codes "token,validator,moment"
 abbrev pub BeginsWithRows : List ℕ → List TapFields → List ℕ → Type 0
 BeginsWithRows text [] rest = text ≡ rest
 BeginsWithRows text (tap ∷ taps) rest =
-    IsRow (first_line text) tap × BeginsWithRows (drop_through 10 text) taps rest
+    IsTapRow (first_line text) tap × BeginsWithRows (drop_through 10 text) taps rest
 
--- the text is the table of these taps: the head, then their rows, and nothing else
+-- the text is the tap table of these taps: the head, then their rows, and nothing else
 pub record IsTapTable (text : List ℕ) (taps : List TapFields) : Type 0 where
   pub head_line : IsHead (first_line text)
   pub rows : BeginsWithRows (drop_through 10 text) taps []
@@ -44,11 +44,11 @@ pub record IsBadRow (text : List ℕ) (number : ℕ) (column : Column) : Type 0 
   pub rest : List ℕ
   pub rows : BeginsWithRows (drop_through 10 text) before rest
   pub some : ¬ (rest ≡ [])
-  pub place : number ≡ length before + 2
-  pub wrong : IsNoRow (first_line rest) column
+  pub number_is : number ≡ length before + 2
+  pub wrong : IsNoTapRow (first_line rest) column
 
--- what a fault says of the table; that a read, a write or a growth of memory failed says nothing of
--- it
+-- what a fault says of the tap table; that a read, a write or a growth of memory failed says
+-- nothing of it
 abbrev pub IsRowsFault : List ℕ → RowsFault → Type 0
 IsRowsFault text Head = ¬ (IsHead (first_line text))
 IsRowsFault text (Row number column) = IsBadRow text number column
@@ -57,7 +57,7 @@ IsRowsFault text Unread = Unit {0}
 IsRowsFault text Write = Unit {0}
 IsRowsFault text NoMemory = Unit {0}
 
--- the fault is one of the table's own
+-- the fault is one of the tap table
 abbrev pub IsOfTapTable : RowsFault → Type 0
 IsOfTapTable Head = Unit {0}
 IsOfTapTable (Row number column) = Unit {0}
@@ -66,16 +66,16 @@ IsOfTapTable Unread = ⊥
 IsOfTapTable Write = ⊥
 IsOfTapTable NoMemory = ⊥
 
--- what was written behind the old bytes is an upload with no fault, of exactly the taps of the
+-- what was written behind the old bytes is an upload with no fault, of exactly the taps of the tap
 -- table, in their order
 pub record IsEncoded (text : List ℕ) (old new : Option (List ℕ)) (count : ℕ) : Type 0 where
   pub taps : List TapFields
-  pub table : IsTapTable text taps
+  pub tap_table : IsTapTable text taps
   pub number : length taps ≡ count
   pub file : List ℕ
   pub upload : IsFileOf file taps
   pub written : Appends old new file
 
--- the table that is written for these taps
+-- the tap table that is written for these taps
 abbrev pub tap_table_text : List TapFields → List ℕ
 tap_table_text taps = head ++ 10 ∷ rows_text taps

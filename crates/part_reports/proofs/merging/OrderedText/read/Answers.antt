@@ -1,9 +1,9 @@
 use Rattle.std.proofs.Common.{sym, ◌∙◌, subst}
 use Rattle.std.proofs.lemmas.Option.{MatchOption-at_none, MatchOption-at_some}
 use Rattle.std.proofs.lemmas.Result.{err_from_is_err_and}
-use Rattle.part_reports.specs.inside.Sources.{IsFirstLine}
+use Rattle.part_reports.specs.inside.Standings.{IsFirstLine}
 use Rattle.part_reports.proofs.Firsts.{first_is_source, no_text, weaker}
-use Rattle.part_reports.proofs.merging.LineSource.read.Goals as goal
+use Rattle.part_reports.proofs.merging.OrderedText.read.Goals as goal
 
 pub returns-in_err-lines-clause-refused : goal.returns-in_err-lines-clause-refused
 returns-in_err-lines-clause-refused g c =
@@ -29,8 +29,8 @@ returns-clause-read g c =
       left = g.R.Read.remaining c.next.new.self.from;
       line = c.next.new.self.line.items;
       behind = c.in_ok-lines.lines;
-      head = c.in_ok-lines.head;
+      token = c.in_ok-lines.token;
     }) read.0 read.1
-    (subst (λ line. IsFirstLine lines line c.in_ok-lines.lines c.in_ok-lines.head) c.line.ensures
+    (subst (λ line. IsFirstLine lines line c.in_ok-lines.lines c.in_ok-lines.token) c.line.ensures
     (first text (c.line.ensures ∙ read.0))))
     c.in_ok-next.ensures.line

@@ -1,30 +1,30 @@
--- Tables: what private functions alone cite.
+-- Tap tables: what private functions alone cite.
 use Rattle.std.specs.Prelude.{◌≡◌, ℕ, List, [], Some, None, Ok, Err, Result, Option, length}
 use Rattle.std.specs.Io.BufRead.{first_line, drop_through}
 use Rattle.std.specs.Io.KnownBytes.{Appends}
 use Rattle.tap_views.specs.declared.encoder.TapFields.{TapFields}
 use Rattle.tap_parts.specs.Parts.{IsFileOf}
-use Rattle.tap_rows.specs.Rows.{IsRow, IsNoRow}
+use Rattle.tap_rows.specs.Rows.{IsTapRow, IsNoTapRow}
 use Rattle.tap_rows.specs.declared.fault.RowsFault.{RowsFault}
 use Rattle.tap_rows.specs.declared.fault.RowsFault.TheVariants.{Head, Row, Unread, Changed, Write}
 use Rattle.tap_rows.specs.declared.fault.RowsFault.TheVariants.{NoMemory}
-use Rattle.tap_rows.specs.Tables.{IsHead, IsTapTable}
+use Rattle.tap_rows.specs.TapTables.{IsHead, IsTapTable}
 
 -- ---- what the private functions tell each other
--- the text is a table, and so many taps stand in it
+-- the text is a tap table, and so many taps stand in it
 pub record IsTapTableOf (text : List ℕ) (count : ℕ) : Type 0 where
   pub taps : List TapFields
-  pub table : IsTapTable text taps
+  pub tap_table : IsTapTable text taps
   pub number : length taps ≡ count
 
--- the next row of what is left of a table, which has this number, and what is left then
+-- the next row of what is left of a tap table, which has this number, and what is left then
 abbrev pub IsNextRow : List ℕ → ℕ → Option (List ℕ) → Result (Option TapFields) RowsFault → Type 0
 IsNextRow left number new (Ok None) = left ≡ []
 IsNextRow left number new (Ok (Some tap)) =
-    ¬ (left ≡ []) × IsRow (first_line left) tap × (new ≡ Some (drop_through 10 left))
+    ¬ (left ≡ []) × IsTapRow (first_line left) tap × (new ≡ Some (drop_through 10 left))
 IsNextRow left number new (Err Head) = ⊥
 IsNextRow left number new (Err (Row at column)) =
-    (at ≡ number) × ¬ (left ≡ []) × IsNoRow (first_line left) column
+    (at ≡ number) × ¬ (left ≡ []) × IsNoTapRow (first_line left) column
 IsNextRow left number new (Err Changed) = ⊥
 IsNextRow left number new (Err Unread) = Unit {0}
 IsNextRow left number new (Err Write) = Unit {0}

@@ -1,7 +1,7 @@
 //! Files that are read before they are due, several at once.
 ghost use Rattle.std.specs.Prelude.{◌≡◌, ◌<◌, ◌≤◌, ◌++◌, ◌∷◌, [], IfNone, IfSome, length};
 ghost use Rattle.std.specs.Prelude.{string_bytes};
-ghost use Rattle.fare_program.specs.inside.EarlyFiles.{IsNotNext};
+ghost use Rattle.fare_program.specs.inside.FilesAhead.{IsNotNext};
 
 use program_manners::LoadFault;
 use std::alloc::{AllocError, Global};
@@ -12,7 +12,7 @@ use std::thread::Threads;
 /// A disk: files by their names. Several threads may read them at once.
 pub trait Disk {
     /// Whether the file of this name may be read before it is due.
-    fn may_be_early(&self, name: &str) -> bool;
+    fn may_be_read_ahead(&self, name: &str) -> bool;
 
     /// All bytes of the file of this name.
     fn read(&self, alloc: Global, name: &str) -> Result<Vec<u8>, LoadFault>;
@@ -20,7 +20,7 @@ pub trait Disk {
 
 /// What came of reading a file before it is due.
 #[derive(Drop)]
-pub struct Early {
+pub struct FileAhead {
     /// The name of the file.
     pub name: String,
     /// Its bytes, or why it was not loaded.
@@ -28,27 +28,30 @@ pub struct Early {
 }
 
 /// Takes the next file of the list, which stands last there, where it has this name.
-pub(crate) fn take_next(early: &mut Vec<Early>, name: &str) -> Option<Result<Vec<u8>, LoadFault>>
-    ensures taken { IfSome result (λ loaded. (next : Early)
-        × (early.old.items ≡ early.new.items ++ next ∷ []) × (string_bytes next.name ≡ name.now)
+pub(crate) fn take_next(
+    ahead: &mut Vec<FileAhead>,
+    name: &str,
+) -> Option<Result<Vec<u8>, LoadFault>>
+    ensures taken { IfSome result (λ loaded. (next : FileAhead)
+        × (ahead.old.items ≡ ahead.new.items ++ next ∷ []) × (string_bytes next.name ≡ name.now)
         × (next.loaded ≡ loaded)) }
-    ensures kept { IfNone result ((early.new.items ≡ early.old.items)
-        × IsNotNext name.now early.old.items) }
+    ensures kept { IfNone result ((ahead.new.items ≡ ahead.old.items)
+        × IsNotNext name.now ahead.old.items) }
 {
-    if early.last()?.name.as_str() != name {
+    if ahead.last()?.name.as_str() != name {
         return None;
     }
-    let next = early.pop()?;
+    let next = ahead.pop()?;
     Some(next.loaded)
 }
 
 /// How many files may be read before they are due. The first that may not keeps all behind it
 /// waiting: they may be made while it is read.
-fn count_early<D: Disk>(disk: &D, names: &[&str]) -> usize
+fn count_ahead<D: Disk>(disk: &D, names: &[&str]) -> usize
     ensures { result ≤ length names.now }
 {
     for (count, name) in names.iter().enumerate() {
-        if !disk.may_be_early(name) {
+        if !disk.may_be_read_ahead(name) {
             return count;
         }
     }
@@ -59,7 +62,7 @@ fn count_early<D: Disk>(disk: &D, names: &[&str]) -> usize
 /// loading when it is due. Where memory was refused, nothing is kept, so that the file is read
 /// when it is due.
 fn keep(
-    part: &mut Vec<Early>,
+    part: &mut Vec<FileAhead>,
     name: String,
     loaded: Result<Vec<u8>, LoadFault>,
 ) -> Result<bool, AllocError> {
@@ -67,7 +70,7 @@ fn keep(
         return Err(AllocError);
     }
     let is_whole = loaded.is_ok();
-    part.push(Early { name, loaded })?;
+    part.push(FileAhead { name, loaded })?;
     Ok(is_whole)
 }
 
@@ -75,7 +78,7 @@ fn keep(
 fn read_one<D: Disk>(
     alloc: Global,
     disk: &D,
-    part: &mut Vec<Early>,
+    part: &mut Vec<FileAhead>,
     name: &str,
 ) -> Result<bool, AllocError> {
     let loaded = disk.read(alloc, name);
@@ -83,7 +86,7 @@ fn read_one<D: Disk>(
 }
 
 /// Reads these files, up to the first that is not whole.
-fn read_some<D: Disk>(alloc: Global, disk: &D, names: &[&str]) -> Vec<Early> {
+fn read_some<D: Disk>(alloc: Global, disk: &D, names: &[&str]) -> Vec<FileAhead> {
     let mut part = Vec::new(alloc);
     for name in names {
         if !read_one(alloc, disk, &mut part, name).unwrap_or(false) {
@@ -100,7 +103,7 @@ fn read_by_threads<R: Threads + Sync, D: Disk + Sync>(
     disk: &D,
     names: &[&str],
     threads: usize,
-) -> Result<Vec<Early>, AllocError>
+) -> Result<Vec<FileAhead>, AllocError>
     requires { 0 < threads }
 {
     let size = names.len().div_ceil(threads).max(1);
@@ -111,30 +114,30 @@ fn read_by_threads<R: Threads + Sync, D: Disk + Sync>(
         size,
         &|_, part: &[&str]| { read_some(alloc, disk, part) },
     )?;
-    let mut early = Vec::new(alloc);
+    let mut ahead = Vec::new(alloc);
     for mut part in parts {
-        early.append(&mut part)?;
+        ahead.append(&mut part)?;
     }
-    early.reverse();
-    Ok(early)
+    ahead.reverse();
+    Ok(ahead)
 }
 
 /// Reads files before they are due, by so many threads at most, and gives what came of them, the
 /// first one last. One thread reads none: it would gain nothing. Where memory is refused, fewer are
 /// read or none; where a thread is, another reads its part.
-pub fn read_early<R: Threads + Sync, D: Disk + Sync>(
+pub fn read_ahead<R: Threads + Sync, D: Disk + Sync>(
     rt: &R,
     alloc: Global,
     disk: &D,
     names: &[&str],
     threads: usize,
-) -> Vec<Early> {
+) -> Vec<FileAhead> {
     if threads < 2 {
         return Vec::new(alloc);
     }
-    let names = &names[..count_early(disk, names)];
+    let names = &names[..count_ahead(disk, names)];
     match read_by_threads(rt, alloc, disk, names, threads) {
-        Ok(early) => early,
+        Ok(ahead) => ahead,
         Err(_) => Vec::new(alloc),
     }
 }

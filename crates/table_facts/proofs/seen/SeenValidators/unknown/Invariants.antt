@@ -1,7 +1,7 @@
 use Rattle.std.proofs.Common.{◌≡◌, ◌++◌}
 use Rattle.std.specs.List.{filter}
 use Rattle.table_facts.specs.Ranges.{is_in_no_range}
-use Rattle.table_facts.proofs.seen.Seen.unknown.Given as goal
+use Rattle.table_facts.proofs.seen.SeenValidators.unknown.Given as goal
 
 -- the unknown ones of the whole are those found and those of what is left
 abbrev pub invariant-loop-number : goal.invariant-loop-number

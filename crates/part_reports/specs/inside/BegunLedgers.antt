@@ -4,18 +4,19 @@ use Rattle.std.specs.List.{AllZip}
 use Rattle.reason_texts.specs.Ledger.{head_text}
 use Rattle.part_reports.specs.Ledgers.{IsPartLedger}
 use Rattle.part_reports.specs.TokenLines.{TokenLine}
-use Rattle.part_reports.specs.inside.Sources.{IsSource, Standing}
+use Rattle.part_reports.specs.inside.Standings.{StandsInText, Standing}
 use Rattle.part_reports.specs.declared.merging.LineKind.TheVariants.{Entries}
 
--- the source stands behind the text's head line
-pub record IsBegun (file : List ℕ) (at : Standing) : Type 0 where
+-- the text stands behind its head line
+pub record IsBegunLedger (file : List ℕ) (at : Standing) : Type 0 where
   pub left : List ℕ
   pub shown : file ≡ head_text ++ left
-  pub source : IsSource (Entries, left) at
+  pub stands : StandsInText (Entries, left) at
 
--- each source does, where its text is known
-abbrev pub AreBegun : List (Option (List ℕ)) → List Standing → Type 0
-AreBegun files ats = AllZip (λ file at. IfSome file (λ file. IsBegun file at)) files ats
+-- each text does, where it is known
+abbrev pub AreBegunLedgers : List (Option (List ℕ)) → List Standing → Type 0
+AreBegunLedgers files ats =
+    AllZip (λ file at. IfSome file (λ file. IsBegunLedger file at)) files ats
 
 -- the text is no ledger
 abbrev pub IsNoLedger : List ℕ → Type 0

@@ -14,7 +14,7 @@ abbrev pub has_tap_at : List Tap → ℕ → Bool
 has_tap_at taps validator = list_any (λ tap. nat_eq validator (num tap.validator)) taps
 
 -- the validators are the old ones and those of the upload's taps before its first layout fault
-pub record Adds (old : List ℕ) (upload : List ℕ) (new : List ℕ) : Type 0 where
+pub record AddsValidators (old : List ℕ) (upload : List ℕ) (new : List ℕ) : Type 0 where
   pub batches : List (List Tap)
   pub rest : List ℕ
   pub is_file : IsFile upload batches rest

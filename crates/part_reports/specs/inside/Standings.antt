@@ -11,23 +11,23 @@ use Rattle.part_reports.specs.TokenLines.{TokenLine}
 use Rattle.part_reports.specs.inside.Kinds.{IsSumLine, IsTextOf}
 use Rattle.part_reports.specs.declared.merging.LineKind.{LineKind}
 use Rattle.part_reports.specs.declared.merging.LineKind.TheVariants.{Tokens, Entries}
-use Rattle.part_reports.specs.declared.merging.LineSource.{LineSource}
+use Rattle.part_reports.specs.declared.merging.OrderedText.{OrderedText}
 
--- where a source stands: what is left of its text behind the line that was read last, that line, of
--- which kind the lines behind it are, and its token; no token at the end
+-- where a text stands: what is left of it behind the line that was read last, that line, of which
+-- kind the lines behind it are, and its token; no token at the end
 pub record Standing : Type 0 where
   pub left : Option (List ℕ)
   pub line : List ℕ
   pub behind : LineKind
-  pub head : Option Token
+  pub token : Option Token
 
--- the same of a source, at what its reader says is left
-abbrev pub standing : {R : Type 0} → (R → Option (List ℕ)) → LineSource R → Standing
-standing remaining source = record {
-  left = remaining source.reader.from;
-  line = source.reader.line.items;
-  behind = source.lines;
-  head = source.head;
+-- the same of a text that is merged, at what its reader says is left
+abbrev pub standing : {R : Type 0} → (R → Option (List ℕ)) → OrderedText R → Standing
+standing remaining text = record {
+  left = remaining text.reader.from;
+  line = text.reader.line.items;
+  behind = text.lines;
+  token = text.token;
 }
 
 -- it is a line of this kind: a report's of a token, or a ledger's
@@ -73,32 +73,32 @@ pub record IsAtEnd (text : LineKind × List ℕ) : Type 0 where
   pub shown : text.1 ≡ []
   pub may : MayEnd text.0
 
--- the source stands at the text's first line, or the text has none
-abbrev pub IsSourceAt : LineKind × List ℕ → Standing → Option Token → Type 0
-IsSourceAt text at None = IsAtEnd text
-IsSourceAt text at (Some token) = IsAtLine text at token
+-- it stands at the text's first line, or the text has none
+abbrev pub StandsInTextAt : LineKind × List ℕ → Standing → Option Token → Type 0
+StandsInTextAt text at None = IsAtEnd text
+StandsInTextAt text at (Some token) = IsAtLine text at token
 
--- the source stands at the first line of the text, if the text has one
-abbrev pub IsSource : LineKind × List ℕ → Standing → Type 0
-IsSource text at = IsSourceAt text at at.head
+-- it stands at the first line of the text, if the text has one
+abbrev pub StandsInText : LineKind × List ℕ → Standing → Type 0
+StandsInText text at = StandsInTextAt text at at.token
 
 -- the first of the lines, if there is one, may stand behind a line of this token
 abbrev pub MayFollowAll : LineKind → Token → List TokenLine → Type 0
 MayFollowAll kind before [] = Unit {0}
 MayFollowAll kind before (line ∷ lines) = MayFollow kind before line.token
 
--- the same of the token at which a source stands
-abbrev pub MayFollowHead : LineKind → Option Token → Option Token → Type 0
-MayFollowHead kind (Some before) (Some token) = MayFollow kind before token
-MayFollowHead kind (Some before) None = Unit {0}
-MayFollowHead kind None token = Unit {0}
+-- the same of the token at which a text stands
+abbrev pub MayFollowToken : LineKind → Option Token → Option Token → Type 0
+MayFollowToken kind (Some before) (Some token) = MayFollow kind before token
+MayFollowToken kind (Some before) None = Unit {0}
+MayFollowToken kind None token = Unit {0}
 
--- a source went on to the next line, of which the token may stand behind the one before
+-- a text went on to the next line, of which the token may stand behind the one before
 pub record IsMoved (before after : Standing) : Type 0 where
-  pub read : IfSome before.left (λ left. IsSource (before.behind, left) after)
-  pub order : MayFollowHead before.behind before.head after.head
+  pub read : IfSome before.left (λ left. StandsInText (before.behind, left) after)
+  pub order : MayFollowToken before.behind before.token after.token
 
--- the source at the place went on to the next line, and the line at which it stood was written
+-- the text at the place went on to the next line, and the line at which it stood was written
 pub record IsMovedAt (at : ℕ) (before after : List Standing)
     (old new : Option (List ℕ)) : Type 0 where
   pub was : Standing
@@ -108,12 +108,12 @@ pub record IsMovedAt (at : ℕ) (before after : List Standing)
   pub step : IsMoved was is
   pub written : Appends old new was.line
 
--- what is left has no lines that may stand behind the one at which the source stands
+-- what is left has no lines that may stand behind the one at which the text stands
 abbrev pub IsStuck : Standing → Type 0
 IsStuck at = IfSome at.left (λ left. (list : List TokenLine) → IsTextOf (at.behind, left) list
-    → IfSome at.head (λ token. ¬ (MayFollowAll at.behind token list)))
+    → IfSome at.token (λ token. ¬ (MayFollowAll at.behind token list)))
 
--- the source at this place of the list is stuck
+-- the text at this place of the list is stuck
 pub record IsStuckAt (at : ℕ) (all : List Standing) : Type 0 where
   pub was : Standing
   pub there : slice_get all at ≡ Some was
