@@ -125,7 +125,7 @@ impl Accounts {
     /// The place of the token's account, which is opened where there is none. No look-up is needed
     /// where it is at `known`.
     #[inline(always)]
-    fn place(&mut self, token: Token, known: u32) -> Result<u32, NoMemory>
+    pub(crate) fn place(&mut self, token: Token, known: u32) -> Result<u32, NoMemory>
         ensures made { IfOk result (HasPlaceFor self.old self.new token) }
         ensures others { OnOk result ((other : Token) → token_eq token other ≡ false
             → kept_at self.new other ≡ kept_at self.old other) }

@@ -42,15 +42,16 @@ impl KeptAccount {
 
 impl Accounts {
     /// The place of the token's account, for `step`. If there is none, an account without taps is
-    /// opened. If memory is refused, all that is kept stays.
+    /// opened. No look-up is needed where it is at `known`. If memory is refused, all that is kept
+    /// stays.
     #[inline(always)]
-    pub(crate) fn open_early(&mut self, token: Token) -> Result<u32, NoMemory>
+    pub(crate) fn open_early(&mut self, token: Token, known: u32) -> Result<u32, NoMemory>
         ensures stays { (other : Token)
             → StandsOn (kept_at self.old other) (kept_at self.new other) }
         ensures counting { self.new.counting ≡ self.old.counting }
         ensures places { KeepPlaces (tokens_of self.old) (tokens_of self.new) }
     {
-        self.open(token)
+        self.place(token, known)
     }
 
     /// Prefetch: reads what is kept at the place, and returns the place, or `NO_PLACE`.
@@ -65,12 +66,12 @@ impl Accounts {
 
 impl ShardBook {
     /// The place of the token's account, for `post_at`. If there is none, an account without taps
-    /// is opened: the book stays as it is.
+    /// is opened: the book stays as it is. No look-up is needed where it is at `known`.
     #[inline(always)]
-    pub(crate) fn open_early(&mut self, token: Token) -> Result<u32, NoMemory>
+    pub(crate) fn open_early(&mut self, token: Token, known: u32) -> Result<u32, NoMemory>
         ensures { self.new ≡ self.old }
     {
-        self.accounts.open_early(token)
+        self.accounts.open_early(token, known)
     }
 
     /// Looks up the accounts of the next sixteen taps at each sixteenth tap.
@@ -94,11 +95,14 @@ impl ShardBook {
     fn prefetch(&mut self, ahead: &mut RunTaps, places: &mut [u32; AT_ONCE]) -> Result<(), NoMemory>
         ensures { self.new ≡ self.old }
     {
+        // Taps in canonical order mostly have the token of the tap before.
+        let mut before = places[AT_ONCE - 1];
         for place in places.iter_mut() {
             let Some(tap) = ahead.next() else {
                 break;
             };
-            *place = self.open_early(Token::of(tap.token()))?;
+            before = self.open_early(Token::of(tap.token()), before)?;
+            *place = before;
         }
         // A loop of its own, so short that all its reads wait side by side. A run of fewer taps has
         // no place behind its last.
