@@ -23,13 +23,13 @@ use Rattle.shard_book.specs.declared.entry.Entry.{Entry}
 use Rattle.shard_book.specs.declared.sums.tally.Tally.{Tally}
 use Rattle.shard_book.specs.Entry.{reply_of, own}
 use Rattle.shard_book.specs.SumsByKey.{sums_by_token, sums_by_validator, tokens, validators, all_entries}
-use Rattle.shard_book.specs.inside.ByKey.{with_key, sums_by}
+use Rattle.shard_book.specs.ByKey.{with_key, sums_by}
 use Rattle.shard_book.specs.Shown.{token_sum, validator_sum}
 use Rattle.shard_book.specs.declared.sums.TokenSum.{TokenSum}
 use Rattle.shard_book.specs.declared.sums.ValidatorSum.{ValidatorSum}
 use Rattle.fare_table.specs.declared.token.Token.{Token}
 use Rattle.shard_book.specs.Book.{Book}
-use Rattle.shard_book.specs.inside.TalliesByKey.{AreByKey, HasRoom, kept_sums}
+use Rattle.shard_book.specs.TalliesByKey.{AreByKey, HasRoom, kept_sums}
 use Rattle.shard_book.specs.Sums.{Sums, sums, sums_of_replies, add_sums}
 use Rattle.shard_book.specs.Tally.{sums_of_tally}
 use Rattle.shard_book.proofs.SumsLemmas.{sums-append, sums-taps}

@@ -8,7 +8,7 @@ use Rattle.shard_book.specs.declared.entry.Entry.{Entry}
 use Rattle.shard_book.specs.declared.sums.tally.Tally.{Tally}
 use Rattle.shard_book.specs.Book.{Book}
 use Rattle.shard_book.specs.SumsByKey.{all_entries}
-use Rattle.shard_book.specs.inside.TalliesByKey.{AreByKey, HaveRoom}
+use Rattle.shard_book.specs.TalliesByKey.{AreByKey, HaveRoom}
 use Rattle.shard_book.proofs.MergeLemmas.{parts-room, parts-by_key, parts-few}
 
 -- no chunks are of no books

@@ -15,8 +15,8 @@ use Rattle.shard_book.specs.declared.entry.Entry.{Entry}
 use Rattle.shard_book.specs.declared.sums.tally.Tally.{Tally}
 use Rattle.shard_book.specs.Book.{Book}
 use Rattle.shard_book.specs.SumsByKey.{all_entries}
-use Rattle.shard_book.specs.inside.ByKey.{with_key}
-use Rattle.shard_book.specs.inside.TalliesByKey.{AreByKey, HaveRoom, kept_sums}
+use Rattle.shard_book.specs.ByKey.{with_key}
+use Rattle.shard_book.specs.TalliesByKey.{AreByKey, HaveRoom, kept_sums}
 use Rattle.shard_book.specs.Sums.{Sums, sums, sums_of_replies, add_sums}
 use Rattle.shard_book.specs.Tally.{sums_of_tally}
 use Rattle.shard_book.proofs.ByKeyLemmas.{kept-or}

@@ -1,4 +1,5 @@
 pub mod Book
+pub mod ByKey
 pub mod Counts
 pub mod Difference
 pub mod Entry
@@ -12,6 +13,7 @@ pub mod Rising
 pub mod Shown
 pub mod Statement
 pub mod Sums
+pub mod TalliesByKey
 pub mod Tally
 pub mod Visits
 pub mod Windows

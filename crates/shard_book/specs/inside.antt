@@ -1,8 +1,6 @@
 -- What only private functions cite. Who reads the contracts of public calls need not read it.
 pub mod Accounts
 pub mod Counting
-pub mod TalliesByKey
-pub mod ByKey
 pub mod Keys
 pub mod Packed
 pub mod Places

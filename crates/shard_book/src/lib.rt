@@ -32,5 +32,6 @@ pub use statement::Statement;
 pub use sums::tally::Tally;
 pub use sums::token_sums::TokenSums;
 pub use sums::totals::Totals;
+pub use sums::validator_tallies::ValidatorTallies;
 pub use sums::{TokenSum, ValidatorSum, sums_by_validator, totals_of_entries};
 pub use token_hash::HashSeed;

@@ -4,8 +4,8 @@ ghost use Rattle.std.specs.Prelude.{◌≡◌, ◌+◌, ◌*◌, ◌<◌, ◌≤
 ghost use Rattle.std.specs.Prelude.{true, IfOk, OnOk};
 ghost use Rattle.shard_book.specs.declared.entry.Entry.{Entry};
 ghost use Rattle.shard_book.specs.SumsByKey.{all_entries};
-ghost use Rattle.shard_book.specs.inside.ByKey.{sums_by};
-ghost use Rattle.shard_book.specs.inside.TalliesByKey.{AreByKey, HasRoom, kept_sums};
+ghost use Rattle.shard_book.specs.ByKey.{sums_by};
+ghost use Rattle.shard_book.specs.TalliesByKey.{AreByKey, HasRoom, kept_sums};
 ghost use Rattle.shard_book.specs.Rising.{rising};
 ghost use Rattle.std.specs.HashMap.{get};
 ghost use Rattle.shard_book.specs.Sums.{Sums, sums_of};
@@ -44,7 +44,8 @@ pub(crate) trait SumKey: Copy + Ord + Hash + Drop {
 }
 
 /// Adds one entry to the tally of its key.
-fn add_entry<K: SumKey>(
+#[inline]
+pub(crate) fn add_entry<K: SumKey>(
     tallies: &mut HashMap<K, Tally, HashSeed>,
     entry: &Entry,
 ) -> Result<(), NoMemory>

@@ -5,7 +5,7 @@ ghost use Rattle.std.specs.Prelude.{IfOk, OnOk};
 ghost use Rattle.std.specs.HashMap.{get};
 ghost use Rattle.shard_book.specs.declared.entry.Entry.{Entry};
 ghost use Rattle.shard_book.specs.declared.sums.tally.Tally.{Tally};
-ghost use Rattle.shard_book.specs.inside.TalliesByKey.{HaveRoom, AreByKey, kept_sums};
+ghost use Rattle.shard_book.specs.TalliesByKey.{HaveRoom, AreByKey, kept_sums};
 ghost use Rattle.shard_book.specs.SumsByKey.{all_entries, validator_of};
 ghost use Rattle.shard_book.specs.Sums.{add_sums};
 ghost use Rattle.shard_book.specs.Tally.{sums_of_tally};
@@ -45,7 +45,7 @@ fn add_tally<K: SumKey>(
 }
 
 /// Adds the tallies of more entries.
-fn add_tallies<K: SumKey>(
+pub(crate) fn add_tallies<K: SumKey>(
     tallies: &mut HashMap<K, Tally, HashSeed>,
     more: &HashMap<K, Tally, HashSeed>,
 ) -> Result<(), NoMemory>

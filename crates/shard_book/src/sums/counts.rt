@@ -38,10 +38,12 @@ fn add_one(count: &mut u16) -> bool
 }
 
 impl Counts {
-    ghost use Rattle.std.specs.Prelude.{◌≡◌, ◌+◌, [], ◌∷◌, IsTrue};
+    ghost use Rattle.std.specs.Prelude.{◌≡◌, ◌+◌, [], ◌∷◌, IsTrue, IfSome};
     ghost use Rattle.shard_book.specs.Counts.{sums_of_counts};
     ghost use Rattle.shard_book.specs.Sums.{sums_of, sums_of_replies, add_sums};
     ghost use Rattle.shard_book.specs.inside.Sums.{has_taps};
+    ghost use Rattle.shard_book.specs.Tally.{sums_of_places};
+    ghost use Rattle.shard_book.specs.inside.Places.{HasFewCents};
 
     /// The counts of nothing.
     #[tactic(auto, unfolding(crate::specs::Sums::sums_of_replies))]
@@ -56,6 +58,22 @@ impl Counts {
             stale: 0,
             unknown: 0,
         }
+    }
+
+    /// Five counts, by the places of their answers, and the cents, if all of them fit.
+    pub(crate) fn of_counts(counts: [u128; 5], cents: u128) -> Option<Self>
+        requires { HasFewCents counts cents }
+        ensures { IfSome result (λ small. sums_of_counts small ≡ sums_of_places counts cents) }
+    {
+        let [paid, transfers, capped, stale, unknown] = counts;
+        Some(Counts {
+            cents: u32::try_from(cents).ok()?,
+            paid: u16::try_from(paid).ok()?,
+            transfers: u16::try_from(transfers).ok()?,
+            capped: u16::try_from(capped).ok()?,
+            stale: u16::try_from(stale).ok()?,
+            unknown: u16::try_from(unknown).ok()?,
+        })
     }
 
     /// Counts one reply more, and returns whether there was room: else the counts are right no

@@ -3,6 +3,7 @@
 ghost use Rattle.std.specs.Prelude.{◌≡◌, ◌<◌};
 ghost use Rattle.shard_book.specs.inside.Places.{count_place, HasFewCents};
 
+use crate::sums::counts::Counts;
 use crate::sums::totals::Totals;
 use account_rule::{Answer, Reply};
 
@@ -33,9 +34,10 @@ pub(crate) fn place_of(answer: Answer) -> usize
 }
 
 impl Tally {
-    ghost use Rattle.std.specs.Prelude.{◌≡◌, ◌+◌, ◌^◌, ◌<◌, ◌≤◌, [], ◌∷◌};
+    ghost use Rattle.std.specs.Prelude.{◌≡◌, ◌+◌, ◌^◌, ◌<◌, ◌≤◌, [], ◌∷◌, IfSome};
     ghost use Rattle.shard_book.specs.Sums.{sums_of, sums_of_replies, add_sums};
     ghost use Rattle.shard_book.specs.Tally.{sums_of_tally};
+    ghost use Rattle.shard_book.specs.Counts.{sums_of_counts};
 
     /// The tally of nothing.
     #[tactic(auto, unfolding(crate::specs::Sums::sums_of_replies))]
@@ -59,7 +61,7 @@ impl Tally {
     }
 
     /// Adds what another tally counts.
-    pub(crate) fn add_all(&mut self, other: &Tally)
+    pub fn add_all(&mut self, other: &Tally)
         requires { (sums_of_tally self.old).taps + (sums_of_tally other.now).taps ≤ 2 ^ 95 }
         ensures { sums_of_tally self.new
             ≡ add_sums (sums_of_tally self.old) (sums_of_tally other.now) }
@@ -82,6 +84,13 @@ impl Tally {
             ],
             cents: self.cents + other.cents,
         };
+    }
+
+    /// The tally as small counts, if it fits them.
+    pub(crate) fn small(&self) -> Option<Counts>
+        ensures { IfSome result (λ counts. sums_of_counts counts ≡ sums_of_tally self.now) }
+    {
+        Counts::of_counts(self.counts, self.cents)
     }
 
     /// The tally, added up by answer.

@@ -1,14 +1,18 @@
 //! The sums of the tokens of many books, in the little memory that the books keep of each.
 
-ghost use Rattle.std.specs.Prelude.{◌≡◌, ◌<◌, ◌≤◌, length, slice_get, Some, IfOk};
+ghost use Rattle.std.specs.Prelude.{◌≡◌, ◌<◌, ◌≤◌, ◌^◌, ◌++◌, ◌∷◌, [], length, slice_get, Some, IfOk};
+ghost use Rattle.std.specs.Prelude.{OnOk};
+ghost use Rattle.shard_book.specs.Tally.{sums_of_tally};
+ghost use Rattle.shard_book.specs.inside.Shown.{sums_in};
 ghost use Rattle.shard_book.specs.SumsByKey.{all_entries, sums_by_token};
 ghost use Rattle.shard_book.specs.Shown.{token_sum};
 
 use crate::book::ShardBook;
 use crate::sums::by_token::rising_counts;
 use crate::sums::counts::TokenCounts;
-use crate::sums::{TokenSum, added_by_token};
-use fare_table::NoMemory;
+use crate::sums::tally::Tally;
+use crate::sums::{TokenSum, added_by_token, widened_sums};
+use fare_table::{NoMemory, Token};
 use std::alloc::Global;
 use std::marker::Model;
 
@@ -19,6 +23,40 @@ pub(crate) enum SumList {
     Counted(Vec<TokenCounts>),
     /// The sums of each token over the entries.
     Added(Vec<TokenSum>),
+}
+
+impl SumList {
+    ghost use Rattle.std.specs.Prelude.{◌≡◌, map, IfOk};
+    ghost use Rattle.shard_book.specs.Shown.{token_sum};
+    ghost use Rattle.shard_book.specs.inside.Shown.{sums_in};
+
+    /// The sums in the larger form.
+    fn into_added(self, alloc: Global) -> Result<Vec<TokenSum>, NoMemory>
+        ensures { IfOk result (λ list. map token_sum list.items ≡ sums_in self) }
+    {
+        match self {
+            SumList::Counted(list) => widened_sums(alloc, &list),
+            SumList::Added(list) => Ok(list),
+        }
+    }
+}
+
+/// One list behind the other: small where both are.
+fn joined(alloc: Global, first: SumList, second: SumList) -> Result<SumList, NoMemory>
+    ensures { IfOk result (λ list. sums_in list ≡ sums_in first ++ sums_in second) }
+{
+    match (first, second) {
+        (SumList::Counted(mut list), SumList::Counted(mut more)) => {
+            list.append(&mut more)?;
+            Ok(SumList::Counted(list))
+        }
+        (first, second) => {
+            let mut list = first.into_added(alloc)?;
+            let mut more = second.into_added(alloc)?;
+            list.append(&mut more)?;
+            Ok(SumList::Added(list))
+        }
+    }
 }
 
 /// Tokens, rising, each with the totals of its entries. Contracts see the list.
@@ -51,6 +89,52 @@ impl TokenSums {
             None => SumList::Added(added_by_token(alloc, books)?),
         };
         Ok(TokenSums { list })
+    }
+
+    /// No tokens.
+    pub fn new(alloc: Global) -> Self
+        ensures { result ≡ [] }
+    {
+        TokenSums {
+            list: SumList::Counted(Vec::new(alloc)),
+        }
+    }
+
+    /// Adds a token behind the others, with what its entries come to. After want of memory the sums
+    /// are of no use.
+    pub fn push(&mut self, alloc: Global, token: Token, tally: &Tally) -> Result<(), NoMemory>
+        requires { (sums_of_tally tally.now).taps ≤ 2 ^ 95 }
+        ensures { OnOk result (self.new ≡ self.old ++ (token, sums_of_tally tally.now) ∷ []) }
+    {
+        if let Some(counts) = tally.small() {
+            if let SumList::Counted(list) = &mut self.list {
+                list.push(TokenCounts { token, counts })?;
+                return Ok(());
+            }
+        }
+        let totals = tally.totals();
+        self.push_total(alloc, TokenSum { token, totals })
+    }
+
+    /// Adds a token behind the others, in the larger form.
+    #[cold]
+    fn push_total(&mut self, alloc: Global, sum: TokenSum) -> Result<(), NoMemory>
+        ensures { OnOk result (self.new ≡ self.old ++ token_sum sum ∷ []) }
+    {
+        let kept = std::mem::replace(&mut self.list, SumList::Counted(Vec::new(alloc)));
+        let mut list = kept.into_added(alloc)?;
+        list.push(sum)?;
+        self.list = SumList::Added(list);
+        Ok(())
+    }
+
+    /// Adds more tokens behind the others. After want of memory the sums are of no use.
+    pub fn append(&mut self, alloc: Global, more: Self) -> Result<(), NoMemory>
+        ensures { OnOk result (self.new ≡ self.old ++ more) }
+    {
+        let kept = std::mem::replace(&mut self.list, SumList::Counted(Vec::new(alloc)));
+        self.list = joined(alloc, kept, more.list)?;
+        Ok(())
     }
 
     /// How many tokens there are.

@@ -1,7 +1,7 @@
 use Rattle.std.proofs.Common.{◌≤◌, ◌*◌, ◌^◌, length, sym, ap, ◌∙◌, arith}
 use Rattle.std.specs.Option.{option_copied}
 use Rattle.shard_book.specs.SumsByKey.{all_entries}
-use Rattle.shard_book.specs.inside.TalliesByKey.{HasRoom}
+use Rattle.shard_book.specs.TalliesByKey.{HasRoom}
 use Rattle.shard_book.proofs.ByKeyLemmas.{validators-none}
 use Rattle.shard_book.proofs.sums.sums_by_validator.Goals as goal
 

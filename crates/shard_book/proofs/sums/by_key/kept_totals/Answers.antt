@@ -1,6 +1,6 @@
 use Rattle.std.proofs.Common.{Option, ap, arith}
 use Rattle.shard_book.specs.declared.sums.tally.Tally.{Tally}
-use Rattle.shard_book.specs.inside.TalliesByKey.{kept_sums}
+use Rattle.shard_book.specs.TalliesByKey.{kept_sums}
 use Rattle.shard_book.specs.Places.{all_of}
 use Rattle.shard_book.proofs.ByKeyLemmas.{room-kept}
 use Rattle.shard_book.proofs.sums.by_key.kept_totals.Goals as goal

@@ -1,6 +1,6 @@
 use Rattle.std.proofs.Common.{◌≡◌, map, take, length, vec_len, vec_capacity}
 use Rattle.std.specs.HashMap.{get}
-use Rattle.shard_book.specs.inside.TalliesByKey.{kept_sums}
+use Rattle.shard_book.specs.TalliesByKey.{kept_sums}
 use Rattle.shard_book.proofs.sums.by_key.listed.Given as goal
 
 abbrev pub invariant-loop-key : goal.invariant-loop-key

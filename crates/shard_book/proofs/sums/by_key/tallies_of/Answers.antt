@@ -1,6 +1,6 @@
 use Rattle.std.proofs.Common.{◌≤◌, ◌*◌, ◌^◌, length, take, arith}
 use Rattle.shard_book.specs.SumsByKey.{all_entries}
-use Rattle.shard_book.specs.inside.TalliesByKey.{HasRoom}
+use Rattle.shard_book.specs.TalliesByKey.{HasRoom}
 use Rattle.shard_book.proofs.ByKeyLemmas.{by_key-none}
 use Rattle.shard_book.proofs.sums.by_key.tallies_of.Goals as goal
 

@@ -4,7 +4,7 @@ use Rattle.std.proofs.lemmas.List.{nil_from_length}
 use Rattle.std.specs.Vec.Iter.{into_iter_items, into_iter_len}
 use Rattle.shard_book.specs.Book.{Book}
 use Rattle.shard_book.specs.SumsByKey.{all_entries, validator_of}
-use Rattle.shard_book.specs.inside.TalliesByKey.{AreByKey}
+use Rattle.shard_book.specs.TalliesByKey.{AreByKey}
 use Rattle.shard_book.proofs.ByKeyLemmas.{by_key-none}
 use Rattle.shard_book.proofs.ChunkLemmas.{IsTallied, AreTallied, IsMerging, no-chunks, all-tallied, merging-first, merging-room, merging-more, merging-by_key}
 use Rattle.shard_book.proofs.sums.by_threads.tallies_by_four.Goals as goal

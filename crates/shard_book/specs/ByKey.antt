@@ -1,4 +1,4 @@
--- Entries and sums by key: what private functions alone cite.
+-- Entries and sums by a key of the entries.
 use Rattle.std.specs.Prelude.{Bool, List, map, filter}
 use Rattle.std.specs.declared.cmp.Ordering.{Ordering}
 use Rattle.shard_book.specs.declared.entry.Entry.{Entry}

@@ -5,7 +5,7 @@ use Rattle.std.specs.Map.{lookup}
 use Rattle.std.specs.Set.{is_member}
 use Rattle.shard_book.specs.declared.entry.Entry.{Entry}
 use Rattle.shard_book.specs.declared.sums.tally.Tally.{Tally}
-use Rattle.shard_book.specs.inside.ByKey.{with_key}
+use Rattle.shard_book.specs.ByKey.{with_key}
 use Rattle.shard_book.specs.Sums.{Sums, sums, sums_of_replies}
 use Rattle.shard_book.specs.Tally.{sums_of_tally}
 
