@@ -15,4 +15,5 @@ pub use outcome::Outcome;
 pub use service::Service;
 pub use service::share::{Done, Share};
 pub use service::working::{Gate, OpenGate};
+pub use text::printing::write_report;
 pub use upload_end::UploadEnd;

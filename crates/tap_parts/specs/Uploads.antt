@@ -3,14 +3,20 @@ use Rattle.std.specs.Prelude.{◌≡◌, ℕ, List, length}
 use Rattle.tap_views.specs.Layout.{Tap}
 use Rattle.tap_views.specs.declared.encoder.TapFields.{TapFields}
 use Rattle.upload_facts.specs.Facts.{IsReadAs, taps_of_batches}
-use Rattle.tap_parts.specs.Parts.{AreAdded}
+use Rattle.tap_parts.specs.Parts.{AreAddedBy, part_of_token}
 use Rattle.tap_parts.specs.declared.upload.UploadTaps.{UploadTaps}
 
--- the upload's taps before its first layout fault were added, each to its part: they are so many,
+-- the upload's taps before its first layout fault were added, each at its place: they are so many,
 -- and the upload ends so behind them
-pub record IsUploadAdded (upload : List ℕ) (old new : List (List TapFields)) (end : UploadTaps)
-    : Type 0 where
+pub record IsUploadAddedBy (place_of : List ℕ → ℕ) (upload : List ℕ)
+    (old new : List (List TapFields)) (end : UploadTaps) : Type 0 where
   pub batches : List (List Tap)
   pub read : IsReadAs upload batches end.fault
   pub number : end.taps ≡ length (taps_of_batches batches)
-  pub added : AreAdded (taps_of_batches batches) old new
+  pub added : AreAddedBy place_of (taps_of_batches batches) old new
+
+-- the upload's taps before its first layout fault were added, each to its part
+abbrev pub IsUploadAdded : List ℕ → List (List TapFields) → List (List TapFields) → UploadTaps
+    → Type 0
+IsUploadAdded upload old new end =
+    IsUploadAddedBy (λ token. part_of_token token (length old)) upload old new end

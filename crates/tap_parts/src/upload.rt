@@ -1,8 +1,9 @@
 //! The taps of a whole upload, added to parts.
 
-ghost use Rattle.std.specs.Prelude.{IfOk};
-ghost use Rattle.tap_parts.specs.Uploads.{IsUploadAdded};
+ghost use Rattle.std.specs.Prelude.{ℕ, ◌<◌, List, length, IfOk};
+ghost use Rattle.tap_parts.specs.Uploads.{IsUploadAddedBy};
 
+use crate::part::PartRule;
 use crate::parts::Parts;
 use std::alloc::AllocError;
 use tap_views::{LayoutFault, batches};
@@ -17,16 +18,22 @@ pub struct UploadTaps {
 }
 
 impl Parts {
-    /// Adds the upload's taps before its first layout fault, each to the part of its token, and
-    /// returns how many these are, and the fault. After an error the parts are of no use.
-    pub fn add_upload(&mut self, upload: &[u8]) -> Result<UploadTaps, AllocError>
-        ensures { IfOk result (λ added. IsUploadAdded upload.now self.old self.new added) }
+    /// Adds the upload's taps before its first layout fault, each to the part of its token by the
+    /// rule, and returns how many these are, and the fault. After an error the parts are of no use.
+    pub fn add_upload<P: PartRule>(
+        &mut self,
+        rule: &P,
+        upload: &[u8],
+    ) -> Result<UploadTaps, AllocError>
+        requires { (token : List ℕ) → P.part_of rule.now token < length self.old }
+        ensures { IfOk result (λ added.
+            IsUploadAddedBy (P.part_of rule.now) upload.now self.old self.new added) }
     {
         let mut taps = 0;
         for item in batches(upload) {
             match item {
                 Ok(batch) => {
-                    self.add(&batch)?;
+                    self.add(rule, &batch)?;
                     taps += u64::from(batch.len());
                 }
                 Err((offset, fault)) => {

@@ -1,10 +1,14 @@
 //! Printing: all memory is taken before the first byte is written.
 
 ghost use Rattle.std.specs.Prelude.{◌≡◌, ℕ, ◌≤◌, List, ◌++◌, OnOk, IfOk, IfErr, string_bytes};
-ghost use Rattle.std.specs.Prelude.{vec_capacity};
+ghost use Rattle.std.specs.Prelude.{map, vec_capacity};
 ghost use Rattle.std.specs.Io.KnownBytes.{Appends};
 ghost use Rattle.std.specs.List.{flat_map};
 ghost use Rattle.fare_texts.specs.ReportLines.{token_line};
+ghost use Rattle.shard_book.specs.Shown.{validator_sum};
+ghost use Rattle.shard_book.specs.Sums.{sums_of};
+ghost use Rattle.shard_book.specs.SumsByKey.{all_entries, sums_by_token, sums_by_validator};
+ghost use Rattle.fare_service.specs.Text.{report};
 ghost use Rattle.fare_service.specs.Printed.{report_of, report_with, IsStatementOf};
 ghost use Rattle.fare_texts.specs.PrintFaults.{KeepsUnlessWrite};
 
@@ -14,7 +18,7 @@ use crate::text::token_lines::write_lines;
 use crate::upload_end::UploadEnd;
 use fare_table::NoMemory;
 use fare_texts::{PrintFault, statement_text, write_out};
-use shard_book::{Token, TokenSums, sums_by_validator};
+use shard_book::{Token, TokenSums, Totals, ValidatorSum, sums_by_validator};
 use std::alloc::Global;
 use std::io::Write;
 use std::marker::Sync;
@@ -25,26 +29,60 @@ use tap_views::shard_of;
 /// write is little beside them.
 const PIECE_BYTES: usize = 65_536;
 
+/// The text of a report up to the lines of the tokens, with room for one of these at least.
+fn begun(
+    alloc: Global,
+    ends: &[UploadEnd],
+    totals: &Totals,
+    validators: &[ValidatorSum],
+    tokens: &TokenSums,
+) -> Result<Vec<u8>, NoMemory>
+    ensures text { IfOk result
+        (λ text. text.items ++ flat_map token_line tokens.now
+        ≡ report ends.now (sums_of totals.now) (map validator_sum validators.now) tokens.now) }
+    ensures room { IfOk result (λ text. 384 ≤ vec_capacity text) }
+{
+    let mut text = report_front(alloc, ends, totals, validators, tokens)?;
+    text.reserve(PIECE_BYTES)?;
+    Ok(text)
+}
+
+/// Writes a report: the end of each upload, the totals, the sums of each validator and those of
+/// each token, as they are given. On a fault of memory nothing was written.
+pub fn write_report<W: Write>(
+    alloc: Global,
+    ends: &[UploadEnd],
+    totals: &Totals,
+    validators: &[ValidatorSum],
+    tokens: &TokenSums,
+    out: &mut W,
+) -> Result<(), PrintFault>
+    ensures ok { OnOk result (Appends (W.contents out.old) (W.contents out.new)
+        (report ends.now (sums_of totals.now) (map validator_sum validators.now) tokens.now)) }
+    ensures fault { IfErr result (λ fault. KeepsUnlessWrite fault (out.new ≡ out.old)) }
+{
+    let Ok(mut text) = begun(alloc, ends, totals, validators, tokens) else {
+        return Err(PrintFault::NoMemory);
+    };
+    write_lines(&mut text, tokens, out)?;
+    Ok(())
+}
+
 impl Outcome {
-    /// The text of the report with these ends of uploads, up to the lines of the tokens, with room
-    /// for one of these at least, and the sums of the tokens.
-    fn begun<R: Threads + Sync>(
+    /// The sums of each validator, and those of each token.
+    fn sums<R: Threads + Sync>(
         &self,
         rt: &R,
         alloc: Global,
-        ends: &[UploadEnd],
-    ) -> Result<(Vec<u8>, TokenSums), NoMemory>
-        ensures text { IfOk result
-            (λ begun. begun.0.items ++ flat_map token_line begun.1
-            ≡ report_with ends.now self.now) }
-        ensures room { IfOk result (λ begun. 384 ≤ vec_capacity begun.0) }
+    ) -> Result<(Vec<ValidatorSum>, TokenSums), NoMemory>
+        ensures validators { IfOk result (λ sums. map validator_sum sums.0.items
+            ≡ sums_by_validator (all_entries self.now.books)) }
+        ensures tokens { IfOk result
+            (λ sums. sums.1 ≡ sums_by_token (all_entries self.now.books)) }
     {
-        let totals = self.totals();
         let validators = sums_by_validator(rt, alloc, self.books.as_slice())?;
         let tokens = TokenSums::of(alloc, self.books.as_slice())?;
-        let mut text = report_front(alloc, ends, &totals, validators.as_slice(), &tokens)?;
-        text.reserve(PIECE_BYTES)?;
-        Ok((text, tokens))
+        Ok((validators, tokens))
     }
 
     /// The text of a token's statement.
@@ -88,11 +126,11 @@ impl Outcome {
             (Appends (W.contents out.old) (W.contents out.new) (report_with ends.now self.now)) }
         ensures fault { IfErr result (λ fault. KeepsUnlessWrite fault (out.new ≡ out.old)) }
     {
-        let Ok((mut text, tokens)) = self.begun(rt, alloc, ends) else {
+        let Ok((validators, tokens)) = self.sums(rt, alloc) else {
             return Err(PrintFault::NoMemory);
         };
-        write_lines(&mut text, &tokens, out)?;
-        Ok(())
+        let totals = self.totals();
+        write_report(alloc, ends, &totals, validators.as_slice(), &tokens, out)
     }
 
     /// Writes the statement of a token: its entries in the order of its shard's book, their totals

@@ -38,18 +38,18 @@ room file (first ∷ done) more rest batch fits =
         )
 
 pub loop-item-init : goal.loop-item-init
-loop-item-init c =
+loop-item-init g c =
     let P : List Item → Type 0 = IsReading c.args.upload.now in
     record {
       may = tt;
       ends = tt;
       reading = subst P (sym c.into_iter-item-iterator.ensures.into_iter_gives)
           c.batches-item-items.ensures;
-      made = ([], refl, none_added c.args.self.now, refl);
+      made = ([], refl, none_added (g.P.PartRule.part_of c.args.rule.now) c.args.self.now, refl);
     }
 
 pub loop-item-preserved : goal.loop-item-preserved
-loop-item-preserved c =
+loop-item-preserved g c =
     let made = c.loop-item.invariant.made in
     let P : List Item → Type 0 = IsReading c.args.upload.now in
     record {
@@ -61,7 +61,7 @@ loop-item-preserved c =
       made = (
         made.0 ++ c.in-Ok.batch ∷ [],
         yielded_more c.loop-item.yielded made.0 c.in-Some.item c.in-Ok.batch made.1 c.in-Ok.is,
-        batch_added made.0 c.in-Ok.batch c.args.self.now c.loop-item.self c.add.new.self made.2
+        batch_added (g.P.PartRule.part_of c.args.rule.now) made.0 c.in-Ok.batch c.args.self.now c.loop-item.self c.add.new.self made.2
             c.in_ok-add-in-Ok.ensures,
         omega (
           arith,
@@ -74,7 +74,7 @@ loop-item-preserved c =
     }
 
 pub overflow_add-taps : goal.overflow_add-taps
-overflow_add-taps c =
+overflow_add-taps g c =
     let made = c.loop-item.invariant.made in
     let step = c.in-Some.ensures.steps ∙ ap (λ i. i ∷ c.next.new.self) c.in-Ok.is in
     let read = read_batch c.args.upload.now made.0 c.in-Ok.batch c.next.new.self
@@ -85,7 +85,7 @@ overflow_add-taps c =
     omega (arith, left.0, made.3, c.len.ensures.number)
 
 pub returns-in-Err : goal.returns-in-Err
-returns-in-Err c =
+returns-in-Err g c =
     let made = c.loop-item.invariant.made in
     let step = c.in-Some.ensures.steps ∙ ap (λ i. i ∷ c.next.new.self) c.in-Err.is in
     let read = read_fault c.args.upload.now made.0 c.in-Err.offset c.in-Err.fault c.next.new.self
@@ -99,7 +99,7 @@ returns-in-Err c =
     }
 
 pub returns : goal.returns
-returns c =
+returns g c =
     let made = c.loop-item.invariant.made in
     let P : List Item → Type 0 = IsReading c.args.upload.now in
     let read = read_all c.args.upload.now made.0

@@ -1,0 +1,217 @@
+-- The histories and the sums of taps that are posted token by token.
+use Rattle.std.proofs.Common.{◌≡◌, ◌≢◌, ℕ, suc, ◌+◌, ◌<◌, ◌≤◌, Bool, true, false, ◌||◌, List, [], ◌∷◌, ◌++◌}
+use Rattle.std.proofs.Common.{length, get_or, take, drop, map, filter, cond, refl, sym, ap, subst, ◌∙◌}
+use Rattle.std.proofs.Common.{arith, All, append-nil, inl, inr}
+use Rattle.std.specs.Prelude.{◌⊎◌}
+use Rattle.std.specs.Cmp.{IsStrictWeakOrder}
+use Rattle.std.specs.Cmp.Lexicographic.{slice_cmp}
+use Rattle.std.specs.List.Sorted.{IsSorted}
+use Rattle.std.specs.Ordering.{eq_by_cmp, is_lt, nat_cmp, ordering_reverse, ordering_then}
+use Rattle.std.specs.Set.{is_member}
+use Rattle.std.specs.declared.cmp.Ordering.{Ordering}
+use Rattle.std.specs.declared.cmp.Ordering.TheVariants.{Less, Equal, Greater}
+use Rattle.std.proofs.lemmas.Bool.{cases_lt, false≢true}
+use Rattle.std.proofs.lemmas.List.{take_more}
+use Rattle.std.proofs.lemmas.List.Elements.{All-head, All-tail, All-nil, All-cons}
+use Rattle.std.proofs.lemmas.List.Sorted.{ranks_by, sorted_far}
+use Rattle.fare_table.proofs.TokenBytes.{token-order}
+use Rattle.fare_table.specs.Fares.{Fares}
+use Rattle.fare_table.specs.Token.{token_cmp, token_eq}
+use Rattle.fare_table.specs.declared.token.Token.{Token}
+use Rattle.tap_views.specs.declared.encoder.TapFields.{TapFields}
+use Rattle.tap_parts.specs.Canonical.{tap_cmp}
+use Rattle.shard_book.specs.Entry.{is_of, own}
+use Rattle.shard_book.specs.Rising.{IsRising, rising}
+use Rattle.shard_book.specs.Sums.{Sums, sums}
+use Rattle.shard_book.specs.SumsByKey.{sums_by_token, token_of, tokens}
+use Rattle.shard_book.specs.declared.entry.Entry.{Entry}
+use Rattle.shard_book.proofs.Histories.{same_token, token_eq-refl}
+use Rattle.shard_book.proofs.RisingLemmas.{rising-only}
+use Rattle.shard_book.proofs.TokenLemmas.{token_cmp-total, token_cmp-ties}
+use Rattle.fare_service.specs.Plain.{answered}
+use Rattle.settlement.specs.Apart.{AreBelow, AreOthers}
+use Rattle.settlement.specs.Posted.{HasName, posted, posted_after, token_of_tap, unposted}
+use Rattle.settlement.proofs.Concats.{less_apart, none_of, posted_append}
+use Rattle.settlement.proofs.Same.{tap_cmp_total}
+
+-- ---- what is posted
+-- the tokens of the entries are those of the taps
+pub tokens_posted : (fares : Fares) (earlier : List Entry) (taps : List TapFields)
+    → map token_of (posted_after fares earlier taps) ≡ map token_of_tap taps
+unfolding posted_after answered
+tokens_posted fares earlier [] = refl
+tokens_posted fares earlier (tap ∷ taps) =
+    ap (λ (ts : List Token). token_of_tap tap ∷ ts)
+    (tokens_posted fares (earlier ++ answered fares earlier (unposted tap) ∷ []) taps)
+
+pub posted_length : (fares : Fares) (earlier : List Entry) (taps : List TapFields)
+    → length (posted_after fares earlier taps) ≡ length taps
+unfolding posted_after
+posted_length fares earlier [] = refl
+posted_length fares earlier (tap ∷ taps) =
+    ap suc (posted_length fares (earlier ++ answered fares earlier (unposted tap) ∷ []) taps)
+
+one_posted : (fares : Fares) (earlier : List Entry) (tap : TapFields)
+    → posted_after fares earlier (tap ∷ []) ≡ answered fares earlier (unposted tap) ∷ []
+unfolding posted_after
+one_posted fares earlier tap = refl
+
+-- one tap more
+pub posted_more : (fares : Fares) (taps : List TapFields) (i : ℕ) (tap : TapFields) → i < length taps
+    → get_or taps i tap ≡ tap
+    → posted fares (take (i + 1) taps)
+    ≡ posted fares (take i taps) ++ answered fares (posted fares (take i taps)) (unposted tap) ∷ []
+posted_more fares taps i tap inside is =
+    let done = posted fares (take i taps) in
+    ap (posted fares) (take_more taps i tap inside ∙ ap (λ (t : TapFields). take i taps ++ t ∷ []) is)
+    ∙ posted_append fares [] (take i taps) (tap ∷ [])
+    ∙ ap (λ (es : List Entry). done ++ es) (one_posted fares done tap)
+
+-- ---- the sums of one token
+pub tokens_are : (token : Token) (fares : Fares) (earlier : List Entry) (taps : List TapFields)
+    → All (λ tap. token_of_tap tap ≡ token) taps
+    → All (λ entry. entry.token ≡ token) (posted_after fares earlier taps)
+unfolding posted_after answered
+tokens_are token fares earlier [] its = All-nil (λ (e : Entry). e.token ≡ token)
+tokens_are token fares earlier (tap ∷ taps) its =
+    All-cons (λ (e : Entry). e.token ≡ token) (answered fares earlier (unposted tap)) _
+    (All-head (λ (t : TapFields). token_of_tap t ≡ token) tap taps its)
+    (tokens_are token fares (earlier ++ answered fares earlier (unposted tap) ∷ []) taps
+    (All-tail (λ (t : TapFields). token_of_tap t ≡ token) tap taps its))
+
+own_all : (token : Token) (entries : List Entry) → All (λ entry. entry.token ≡ token) entries
+    → own token entries ≡ entries
+unfolding own
+own_all token [] all = refl
+own_all token (entry ∷ entries) all =
+    let here : token_eq entry.token token ≡ true =
+    ap (λ (t : Token). token_eq t token) (All-head (λ (e : Entry). e.token ≡ token) entry entries all)
+    ∙ token_eq-refl token in
+    ap (λ b. cond b (entry ∷ filter (is_of token) entries) (filter (is_of token) entries)) here
+    ∙ ap (λ (es : List Entry). entry ∷ es)
+    (own_all token entries (All-tail (λ (e : Entry). e.token ≡ token) entry entries all))
+
+or_twice : (b : Bool) → (b || (b || false)) ≡ (b || false)
+or_twice true = refl
+or_twice false = refl
+
+among_one : (token key : Token) (entry : Entry) (entries : List Entry)
+    → All (λ entry. entry.token ≡ token) (entry ∷ entries)
+    → is_member (eq_by_cmp token_cmp) (map token_of (entry ∷ entries)) key
+    ≡ is_member (eq_by_cmp token_cmp) (token ∷ []) key
+among_one token key entry [] all =
+    ap (λ (t : Token). is_member (eq_by_cmp token_cmp) (t ∷ []) key)
+    (All-head (λ (e : Entry). e.token ≡ token) entry [] all)
+among_one token key entry (next ∷ entries) all =
+    let rest = among_one token key next entries
+    (All-tail (λ (e : Entry). e.token ≡ token) entry (next ∷ entries) all) in
+    ap (λ b. eq_by_cmp token_cmp key entry.token || b) rest
+    ∙ ap (λ (t : Token). eq_by_cmp token_cmp key t
+    || (eq_by_cmp token_cmp key token || false))
+    (All-head (λ (e : Entry). e.token ≡ token) entry (next ∷ entries) all)
+    ∙ or_twice (eq_by_cmp token_cmp key token)
+
+pub one_token : (token : Token) (entry : Entry) (entries : List Entry)
+    → All (λ entry. entry.token ≡ token) (entry ∷ entries)
+    → sums_by_token (entry ∷ entries) ≡ (token, sums (entry ∷ entries)) ∷ []
+unfolding sums_by_token tokens
+one_token token entry entries all =
+    let keys : token ∷ [] ≡ rising token_cmp (map token_of (entry ∷ entries)) =
+    rising-only token_cmp-total token_cmp-ties (map token_of (entry ∷ entries)) (token ∷ []) (record {
+      rises = (tt, tt);
+      same = λ key. sym (among_one token key entry entries all);
+    }) in
+    let row : Token → Token × Sums = λ t. (t, sums (own t (entry ∷ entries))) in
+    ap (map row) (sym keys)
+    ∙ ap (λ (es : List Entry). (token, sums es) ∷ []) (own_all token (entry ∷ entries) all)
+
+-- ---- the order of tokens
+-- the first token is not above the second
+abbrev pub IsUpTo : Token → Token → Type 0
+IsUpTo token other = is_lt (token_cmp other token) ≡ false
+
+not_greater : (a b : Token) → IsUpTo a b → token_cmp a b ≡ Greater → ⊥
+not_greater a b up greater =
+    let less : token_cmp b a ≡ Less = token_cmp-total.antisymm b a ∙ ap ordering_reverse greater in
+    false≢true (sym up ∙ ap is_lt less)
+
+-- a token that another is not above, and that is not the same, is below it
+pub up_apart : (a b : Token) → IsUpTo a b → a ≢ b → token_cmp a b ≡ Less
+up_apart a b up apart = by (token_cmp a b) refl
+  where
+    by : (o : Ordering) → token_cmp a b ≡ o → token_cmp a b ≡ Less
+    by Less less = less
+    by Equal tied = absurd (apart (token_cmp-ties a b tied))
+    by Greater greater = absurd (not_greater a b up greater)
+
+pub up_less : (a b c : Token) → IsUpTo a b → token_cmp b c ≡ Less → token_cmp a c ≡ Less
+up_less a b c up less = by (token_cmp a b) refl
+  where
+    by : (o : Ordering) → token_cmp a b ≡ o → token_cmp a c ≡ Less
+    by Less first = token_cmp-total.trans a b c first less
+    by Equal tied = ap (λ (t : Token). token_cmp t c) (token_cmp-ties a b tied) ∙ less
+    by Greater greater = absurd (not_greater a b up greater)
+
+pub less_up : (a b c : Token) → token_cmp a b ≡ Less → IsUpTo b c → token_cmp a c ≡ Less
+less_up a b c less up = by (token_cmp b c) refl
+  where
+    by : (o : Ordering) → token_cmp b c ≡ o → token_cmp a c ≡ Less
+    by Less second = token_cmp-total.trans a b c less second
+    by Equal tied = ap (λ (t : Token). token_cmp a t) (sym (token_cmp-ties b c tied)) ∙ less
+    by Greater greater = absurd (not_greater b c up greater)
+
+first_decides : (one other : Ordering) → is_lt (ordering_then one other) ≡ false → is_lt one ≡ false
+first_decides Less other not = not
+first_decides Equal other not = refl
+first_decides Greater other not = refl
+
+up_to : (a b : TapFields) → HasName a → HasName b → is_lt (tap_cmp b a) ≡ false
+    → IsUpTo (token_of_tap a) (token_of_tap b)
+up_to a b of_a of_b not =
+    let bytes : token_cmp (token_of_tap b) (token_of_tap a) ≡ slice_cmp nat_cmp b.token a.token =
+    token-order (token_of_tap b) (token_of_tap a) of_b.fits of_a.fits
+    ∙ (λ i. slice_cmp nat_cmp (of_b.named i) (of_a.named i)) in
+    ap is_lt bytes ∙ first_decides (slice_cmp nat_cmp b.token a.token) _ not
+
+-- the tokens of taps in canonical order do not fall
+pub rise_far : (taps : List TapFields) → IsSorted tap_cmp taps → All HasName taps
+    → (i j : ℕ) (d : TapFields) → i ≤ j → j < length taps
+    → IsUpTo (token_of_tap (get_or taps i d)) (token_of_tap (get_or taps j d))
+rise_far taps sorted names i j d order inside =
+    up_to (get_or taps i d) (get_or taps j d) (names i d (omega (arith, order, inside)))
+    (names j d inside)
+    (sorted_far (λ a b. is_lt (tap_cmp a b)) (ranks_by tap_cmp_total (λ (t : TapFields). t)) taps
+    sorted i j d order inside)
+
+-- ---- taps that are posted run by run
+-- the token of each of the first taps is below that of each of the others
+pub IsEdge : List TapFields → ℕ → Type 0
+IsEdge taps place =
+    (i j : ℕ) (d : TapFields) → i < place → place ≤ j → j < length taps
+    → token_cmp (token_of_tap (get_or taps i d)) (token_of_tap (get_or taps j d)) ≡ Less
+
+-- behind a run of one token there is an edge again
+pub next_edge : (taps : List TapFields) (place run : ℕ) (token : Token) → IsSorted tap_cmp taps
+    → All HasName taps → IsEdge taps place → place + run ≤ length taps
+    → ((i : ℕ) (d : TapFields) → place ≤ i → i < place + run
+    → token_of_tap (get_or taps i d) ≡ token)
+    → ((d : TapFields) → place + run < length taps
+    → token_of_tap (get_or taps (place + run) d) ≢ token)
+    → 0 < run → IsEdge taps (place + run)
+next_edge taps place run token sorted names edge within same next some =
+    λ i j d low high inside. by_place i j d low high inside (cases_lt i place)
+  where
+    by_place : (i j : ℕ) (d : TapFields) → i < place + run → place + run ≤ j → j < length taps
+        → (i < place) ⊎ (place ≤ i)
+        → token_cmp (token_of_tap (get_or taps i d)) (token_of_tap (get_or taps j d)) ≡ Less
+    by_place i j d low high inside (inl before) =
+        edge i j d before (omega (arith, high)) inside
+    by_place i j d low high inside (inr here) =
+        let after = place + run in
+        let a = token_of_tap (get_or taps i d) in
+        let b = token_of_tap (get_or taps after d) in
+        let c = token_of_tap (get_or taps j d) in
+        let fits : after < length taps = omega (arith, high, inside) in
+        let up : IsUpTo a b = rise_far taps sorted names i after d (omega (arith, low)) fits in
+        let apart : a ≢ b = λ e. next d fits (sym e ∙ same i d here low) in
+        less_up a b c (up_apart a b up apart) (rise_far taps sorted names after j d high inside)

@@ -1,0 +1,15 @@
+-- What settled taps come to.
+use Rattle.std.specs.Prelude.{◌≡◌, ◌==◌, ℕ, List}
+use Rattle.fare_table.specs.declared.token.Token.{Token}
+use Rattle.shard_book.specs.Sums.{Sums, sums}
+use Rattle.shard_book.specs.SumsByKey.{sums_by_token, validator_of}
+use Rattle.shard_book.specs.TalliesByKey.{AreByKey}
+use Rattle.shard_book.specs.Tally.{sums_of_tally}
+use Rattle.shard_book.specs.declared.entry.Entry.{Entry}
+use Rattle.settlement.specs.declared.bill.Bill.{Bill}
+
+-- the bill has the sums of these entries: by token, by validator and of all
+pub record IsBillOf (entries : List Entry) (bill : Bill) : Type 0 where
+  pub tokens : bill.tokens ≡ sums_by_token entries
+  pub validators : AreByKey ◌==◌ validator_of entries bill.validators
+  pub totals : sums_of_tally bill.totals ≡ sums entries

@@ -1,0 +1,39 @@
+-- Taps that are posted in their order, by their fields.
+use Rattle.std.specs.Prelude.{◌≡◌, List, [], ◌∷◌, ◌++◌}
+use Rattle.tap_views.specs.declared.encoder.TapFields.{TapFields}
+use Rattle.fare_table.specs.Fares.{Fares}
+use Rattle.fare_table.specs.Token.{Fits, bytes_of}
+use Rattle.fare_table.specs.declared.token.Token.{Token}
+use Rattle.account_rule.specs.declared.reply.Answer.TheVariants.{Unknown}
+use Rattle.shard_book.specs.declared.entry.Entry.{Entry}
+use Rattle.fare_service.specs.Plain.{answered, token_of_bytes}
+
+-- the token of a tap
+abbrev pub token_of_tap : TapFields → Token
+token_of_tap tap = token_of_bytes tap.token
+
+-- the fields of a tap, in an entry that has no reply yet
+abbrev pub unposted : TapFields → Entry
+unposted tap = record {
+  token = token_of_tap tap;
+  validator = tap.validator;
+  moment = tap.moment;
+  answer = Unknown;
+  cents = 0;
+}
+
+-- the entries of taps that follow earlier ones
+unfoldable pub posted_after : Fares → List Entry → List TapFields → List Entry
+posted_after fares earlier [] = []
+posted_after fares earlier (tap ∷ taps) =
+    answered fares earlier (unposted tap)
+    ∷ posted_after fares (earlier ++ answered fares earlier (unposted tap) ∷ []) taps
+
+-- the history of taps that are posted one after the other
+abbrev pub posted : Fares → List TapFields → List Entry
+posted fares taps = posted_after fares [] taps
+
+-- the 16 bytes of the tap's token name it
+pub record HasName (tap : TapFields) : Type 0 where
+  pub named : bytes_of (token_of_tap tap) ≡ tap.token
+  pub fits : Fits (token_of_tap tap)

@@ -1,0 +1,14 @@
+-- The account of a token whose taps are posted one after another.
+use Rattle.std.specs.Prelude.{List}
+use Rattle.fare_table.specs.Fares.{Fares}
+use Rattle.fare_table.specs.Token.{bytes_of}
+use Rattle.account_rule.specs.Stands.{Stands}
+use Rattle.account_rule.specs.TokenRules.{rules_of}
+use Rattle.shard_book.specs.Entry.{taps_of}
+use Rattle.shard_book.specs.declared.entry.Entry.{Entry}
+use Rattle.settlement.specs.declared.replay.Replay.{Replay}
+
+-- the account stands for the token's taps among these entries
+unfoldable pub HasPosted : Fares → Replay → List Entry → Type 0
+HasPosted fares replay entries = Stands (rules_of fares (bytes_of replay.token)) replay.account
+    (taps_of fares replay.token entries)

@@ -1,0 +1,139 @@
+//! The bill of settled taps: their sums, which each token's account gives in turn.
+
+ghost use Rattle.std.specs.Prelude.{◌≡◌, ◌<◌, ◌++◌, ◌∷◌, [], List, All, length, map, take, OnOk};
+ghost use Rattle.std.specs.Prelude.{slice_get, slice_index, ◌≢◌, ◌≤◌, Some};
+ghost use Rattle.std.specs.List.Sorted.{IsSorted};
+ghost use Rattle.fare_table.specs.declared.token.Token.{Token};
+ghost use Rattle.tap_views.specs.Encoding.{AreEarly};
+ghost use Rattle.tap_views.specs.declared.encoder.TapFields.{TapFields};
+ghost use Rattle.tap_parts.specs.Canonical.{tap_cmp};
+ghost use Rattle.shard_book.specs.SumsByKey.{token_of};
+ghost use Rattle.shard_book.specs.declared.entry.Entry.{Entry};
+ghost use Rattle.settlement.specs.Apart.{AreBelow};
+ghost use Rattle.settlement.specs.Bills.{IsBillOf};
+ghost use Rattle.settlement.specs.Posted.{posted, token_of_tap};
+ghost use Rattle.settlement.specs.inside.Billing.{HasBillRoom, HaveBillRoom};
+
+use crate::replay::Replay;
+use fare_table::{Clock, FareTable, NoMemory};
+use shard_book::{HashSeed, Tally, Token, TokenSums, ValidatorTallies};
+use std::alloc::Global;
+use tap_views::TapFields;
+
+/// What settled taps come to.
+#[derive(Drop)]
+pub struct Bill {
+    /// The tokens, rising, each with its sums.
+    pub tokens: TokenSums,
+    /// The sums by validator.
+    pub validators: ValidatorTallies,
+    /// The sums of all taps.
+    pub totals: Tally,
+}
+
+/// How many of the first taps have the token of the first one.
+fn run_length(taps: &[TapFields]) -> usize
+    requires { 0 < length taps.now }
+    ensures some { 0 < result }
+    ensures most { result ≤ length taps.now }
+    ensures same { All (λ tap. tap.token ≡ (slice_index taps.now 0).token) (take result taps.now) }
+    ensures next { (tap : TapFields) → slice_get taps.now result ≡ Some tap
+        → tap.token ≢ (slice_index taps.now 0).token }
+{
+    let token = &taps[0].token;
+    for (place, tap) in taps.iter().enumerate() {
+        if tap.token != *token {
+            return place;
+        }
+    }
+    taps.len()
+}
+
+impl Bill {
+    /// The bill of no taps. The seed serves to hash the validators' numbers.
+    pub(crate) fn new(alloc: Global, seed: HashSeed) -> Self
+        ensures { IsBillOf [] result }
+    {
+        Bill {
+            tokens: TokenSums::new(alloc),
+            validators: ValidatorTallies::new(alloc, seed),
+            totals: Tally::new(),
+        }
+    }
+
+    /// Adds the taps of one token, in canonical order. After want of memory the bill is of no use.
+    fn add_token(
+        &mut self,
+        alloc: Global,
+        table: &FareTable,
+        clock: &Clock,
+        token: Token,
+        taps: &[TapFields],
+    ) -> Result<(), NoMemory>
+        requires clock { clock.now ≡ table.now.zone }
+        requires some { 0 < length taps.now }
+        requires early { AreEarly (λ tap. tap.moment) taps.now }
+        requires its { All (λ tap. token_of_tap tap ≡ token) taps.now }
+        requires room { HasBillRoom self.old (length taps.now) }
+        ensures { OnOk result ((before : List Entry) → IsBillOf before self.old
+            → AreBelow (map token_of before) (token ∷ [])
+            → IsBillOf (before ++ posted table.now taps.now) self.new) }
+    {
+        let mut replay = Replay::of(token);
+        let mut tally = Tally::new();
+        for tap in taps {
+            let entry = replay.next(table, clock, tap)?;
+            tally.add(entry.reply());
+            self.validators.add(&entry)?;
+        }
+        self.totals.add_all(&tally);
+        self.tokens.push(alloc, token, &tally)
+    }
+
+    /// Adds taps in canonical order, whose tokens are all above those of the bill. After want of
+    /// memory the bill is of no use.
+    pub(crate) fn add(
+        &mut self,
+        alloc: Global,
+        table: &FareTable,
+        clock: &Clock,
+        taps: &[TapFields],
+    ) -> Result<(), NoMemory>
+        requires clock { clock.now ≡ table.now.zone }
+        requires early { AreEarly (λ tap. tap.moment) taps.now }
+        requires sorted { IsSorted tap_cmp taps.now }
+        requires room { HasBillRoom self.old (length taps.now) }
+        ensures { OnOk result ((before : List Entry) → IsBillOf before self.old
+            → AreBelow (map token_of before) (map token_of_tap taps.now)
+            → IsBillOf (before ++ posted table.now taps.now) self.new) }
+    {
+        let mut start = 0usize;
+        while start < taps.len() {
+            let rest = &taps[start..];
+            let length = run_length(rest);
+            let token = Token::of(&rest[0].token);
+            self.add_token(alloc, table, clock, token, &rest[..length])?;
+            start += length;
+        }
+        Ok(())
+    }
+
+    /// Adds the bill of other taps, whose tokens are all above those of this one. After want of
+    /// memory the bill is of no use.
+    pub(crate) fn append(&mut self, alloc: Global, more: Bill) -> Result<(), NoMemory>
+        requires room { HaveBillRoom self.old more }
+        ensures { OnOk result ((entries others : List Entry) → IsBillOf entries self.old
+            → IsBillOf others more → AreBelow (map token_of entries) (map token_of others)
+            → IsBillOf (entries ++ others) self.new) }
+    {
+        let Bill {
+            tokens,
+            validators,
+            totals,
+        } = more;
+        self.tokens.append(alloc, tokens)?;
+        self.validators.add_all(&validators)?;
+        self.totals.add_all(&totals);
+        Ok(())
+    }
+}

@@ -1,0 +1,87 @@
+//! The taps of one token, posted one after another by its account alone.
+
+ghost use Rattle.std.specs.Prelude.{◌≡◌, ◌<◌, List, [], ◌∷◌, ◌++◌, length, IfOk, OnOk};
+ghost use Rattle.std.specs.Option.{ForSome};
+ghost use Rattle.fare_table.specs.Fares.{Fares};
+ghost use Rattle.fare_table.specs.Until.{until};
+ghost use Rattle.shard_book.specs.Entry.{own, tap_of};
+ghost use Rattle.shard_book.specs.declared.entry.Entry.{Entry};
+ghost use Rattle.fare_service.specs.Plain.{answered};
+ghost use Rattle.settlement.specs.Posted.{token_of_tap, unposted};
+ghost use Rattle.settlement.specs.inside.Replays.{HasPosted};
+
+use account_rule::{Account, TapIn};
+use fare_table::{Clock, FareTable, NoMemory};
+use shard_book::{Entry, Token};
+use tap_views::TapFields;
+
+/// The tap, as the account rule sees it.
+fn seen(table: &FareTable, clock: &Clock, tap: &TapFields) -> Result<TapIn, NoMemory>
+    requires clock { clock.now ≡ table.now.zone }
+    requires early { tap.now.moment < 4_102_444_800_000 }
+    ensures tap { IfOk result (λ seen. seen ≡ tap_of table.now (unposted tap.now)) }
+    ensures mode { IfOk result (λ seen. ForSome seen.mode (λ mode.
+        mode.place < length table.now.meaning.modes)) }
+    ensures until { IfOk result (λ seen. seen.until ≡ until table.now seen.moment) }
+{
+    Ok(TapIn {
+        moment: tap.moment,
+        mode: table.mode_of(tap.validator),
+        until: clock.until(tap.moment)?,
+    })
+}
+
+/// A token whose taps are posted, with its account after those posted.
+#[derive(Clone, Copy)]
+pub(crate) struct Replay {
+    /// The token.
+    pub(crate) token: Token,
+    /// Its account.
+    account: Account,
+}
+
+impl Replay {
+    /// Before the first tap of the token: whatever other tokens' entries there are.
+    pub(crate) fn of(token: Token) -> Self
+        ensures token { result.token ≡ token }
+        ensures none { (fares : Fares) (earlier : List Entry) → own token earlier ≡ []
+            → HasPosted fares result earlier }
+    {
+        Replay {
+            token,
+            account: Account::fresh(),
+        }
+    }
+
+    /// Posts the token's next tap, and gives its entry.
+    #[inline(always)]
+    pub(crate) fn next(
+        &mut self,
+        table: &FareTable,
+        clock: &Clock,
+        tap: &TapFields,
+    ) -> Result<Entry, NoMemory>
+        requires clock { clock.now ≡ table.now.zone }
+        requires early { tap.now.moment < 4_102_444_800_000 }
+        requires its { token_of_tap tap.now ≡ self.old.token }
+        requires posted { (earlier : List Entry) × HasPosted table.now self.old earlier }
+        ensures entry { IfOk result (λ entry. (earlier : List Entry)
+            → HasPosted table.now self.old earlier
+            → entry ≡ answered table.now earlier (unposted tap.now)) }
+        ensures posted { IfOk result (λ entry. (earlier : List Entry)
+            → HasPosted table.now self.old earlier
+            → HasPosted table.now self.new (earlier ++ entry ∷ [])) }
+        ensures token { OnOk result (self.new.token ≡ self.old.token) }
+    {
+        let bytes = self.token.bytes();
+        let seen = seen(table, clock, tap)?;
+        let reply = self.account.step(table, &bytes, seen);
+        Ok(Entry {
+            token: self.token,
+            validator: tap.validator,
+            moment: tap.moment,
+            answer: reply.answer,
+            cents: reply.cents,
+        })
+    }
+}
