@@ -4,16 +4,16 @@ use Rattle.std.proofs.Common.{◌∙◌}
 use Rattle.tap_views.specs.declared.encoder.TapFields.{TapFields}
 use Rattle.tap_views.specs.Files.{AreGoodTaps}
 use Rattle.upload_facts.specs.Facts.{taps_of_batches}
-use Rattle.tap_parts.specs.Uploads.{IsUploadAdded}
+use Rattle.tap_parts.specs.Uploads.{IsUploadAddedBy}
 use Rattle.tap_parts.specs.declared.upload.UploadTaps.{UploadTaps}
 use Rattle.fare_service.specs.EndsOfUploads.{end_by}
 use Rattle.fare_service.specs.Plain.{IsPlainEnd}
 use Rattle.fare_service.specs.declared.upload_end.UploadEnd.{UploadEnd}
 
 -- the taps that were added are those of the upload
-pub taps_added : (upload : List ℕ) (old new : List (List TapFields)) (added : UploadTaps)
-    → (is : IsUploadAdded upload old new added) → AreGoodTaps upload (taps_of_batches is.batches)
-taps_added upload old new added is = record {
+pub taps_added : (part_of : List ℕ → ℕ) (upload : List ℕ) (old new : List (List TapFields)) (added : UploadTaps)
+    → (is : IsUploadAddedBy part_of upload old new added) → AreGoodTaps upload (taps_of_batches is.batches)
+taps_added part_of upload old new added is = record {
   batches = is.batches;
   rest = is.read.rest;
   is_file = is.read.is_file;
@@ -21,10 +21,10 @@ taps_added upload old new added is = record {
 }
 
 -- an upload whose taps are all posted ends so
-pub plain_end : (upload : List ℕ) (old new : List (List TapFields)) (added : UploadTaps)
-    (end : UploadEnd) → IsUploadAdded upload old new added
+pub plain_end : (part_of : List ℕ → ℕ) (upload : List ℕ) (old new : List (List TapFields)) (added : UploadTaps)
+    (end : UploadEnd) → IsUploadAddedBy part_of upload old new added
     → end ≡ end_by added.taps added.fault → IsPlainEnd upload end
-plain_end upload old new added end is e = record {
+plain_end part_of upload old new added end is e = record {
   batches = is.batches;
   rest = is.read.rest;
   fault = added.fault;

@@ -5,7 +5,7 @@ use Rattle.std.proofs.lemmas.List.Elements.{All-append}
 use Rattle.tap_views.specs.Encoding.{fields_of}
 use Rattle.tap_views.specs.Layout.{Tap}
 use Rattle.tap_views.specs.declared.encoder.TapFields.{TapFields}
-use Rattle.tap_parts.specs.Parts.{of_part}
+use Rattle.tap_parts.specs.Parts.{taps_at}
 use Rattle.tap_parts.proofs.Adding.{fields-append}
 use Rattle.tap_views.specs.Files.{AreGoodTaps}
 use Rattle.fare_service.specs.Plain.{IsPlainEnd}
@@ -15,21 +15,21 @@ use Rattle.settlement.specs.inside.SplitTaps.{AreInParts, in_part}
 use Rattle.tap_parts.specs.Parts.{taps_of_uploads}
 
 -- the taps of a part in two runs of uploads
-parts_joined : (part parts : ℕ) (one other : List (List Tap))
-    → map fields_of (of_part part parts (taps_of_uploads (one ++ other)))
-    ≡ map fields_of (of_part part parts (taps_of_uploads one))
-    ++ map fields_of (of_part part parts (taps_of_uploads other))
-parts_joined part parts one other =
-    ap (λ taps. map fields_of (of_part part parts taps))
+parts_joined : (part_of : List ℕ → ℕ) (part : ℕ) (one other : List (List Tap))
+    → map fields_of (taps_at part_of part (taps_of_uploads (one ++ other)))
+    ≡ map fields_of (taps_at part_of part (taps_of_uploads one))
+    ++ map fields_of (taps_at part_of part (taps_of_uploads other))
+parts_joined part_of part one other =
+    ap (λ taps. map fields_of (taps_at part_of part taps))
     (flat_map-append (λ (upload : List Tap). upload) one other)
-    ∙ fields-append part parts (taps_of_uploads one) (taps_of_uploads other)
+    ∙ fields-append part_of part (taps_of_uploads one) (taps_of_uploads other)
 
 -- a run of uploads, and then the next run
-pub both_split : (parts : ℕ) (one other : List (List ℕ)) (lists more : List (List (List TapFields)))
+pub both_split : (part_of : List ℕ → ℕ) (parts : ℕ) (one other : List (List ℕ)) (lists more : List (List (List TapFields)))
     (ends later : List UploadEnd)
-    → AreInParts parts one lists ends → AreInParts parts other more later
-    → AreInParts parts (one ++ other) (lists ++ more) (ends ++ later)
-both_split parts one other lists more ends later front back = record {
+    → AreInParts part_of parts one lists ends → AreInParts part_of parts other more later
+    → AreInParts part_of parts (one ++ other) (lists ++ more) (ends ++ later)
+both_split part_of parts one other lists more ends later front back = record {
   taps = front.taps ++ back.taps;
   of_uploads = AllZip-append AreGoodTaps one front.taps other back.taps front.of_uploads
       back.of_uploads;
@@ -38,8 +38,8 @@ both_split parts one other lists more ends later front back = record {
   each = λ part within.
       flat_map-append (λ (list : List (List TapFields)). get_or list part []) lists more
       ∙ ap (λ taps. taps ++ in_part part more) (front.each part within)
-      ∙ ap (λ taps. map fields_of (of_part part parts (taps_of_uploads front.taps)) ++ taps)
+      ∙ ap (λ taps. map fields_of (taps_at part_of part (taps_of_uploads front.taps)) ++ taps)
       (back.each part within)
-      ∙ sym (parts_joined part parts front.taps back.taps);
+      ∙ sym (parts_joined part_of part front.taps back.taps);
   ended = AllZip-append IsPlainEnd one ends other later front.ended back.ended;
 }

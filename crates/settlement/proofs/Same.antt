@@ -6,7 +6,7 @@ use Rattle.std.proofs.lemmas.List.Elements.{All-head, All-tail}
 use Rattle.std.proofs.lemmas.List.Sums.{sum_by-cons}
 use Rattle.tap_views.specs.Encoding.{fields_of}
 use Rattle.tap_views.specs.Layout.{Tap}
-use Rattle.tap_parts.specs.Parts.{part_of_token, of_part}
+use Rattle.tap_parts.specs.Parts.{taps_at}
 use Rattle.tap_views.specs.Files.{AreGoodTapsOfEach}
 use Rattle.fare_service.specs.Plain.{HasOneReading}
 
@@ -30,18 +30,18 @@ sum_filter {X} p f (x ∷ xs) = by_test (p x) refl (sum_filter p f xs)
         chosen false = omega arith
 
 -- a part, told by fields
-pub part_fields : (part parts : ℕ) (taps : List Tap)
-    → map fields_of (of_part part parts taps)
-    ≡ filter (λ f. part_of_token f.token parts == part) (map fields_of taps)
-part_fields part parts [] = refl
-part_fields part parts (tap ∷ taps) =
-    by_test (part_of_token tap.token parts == part) refl (part_fields part parts taps)
+pub part_fields : (part_of : List ℕ → ℕ) (part : ℕ) (taps : List Tap)
+    → map fields_of (taps_at part_of part taps)
+    ≡ filter (λ f. part_of f.token == part) (map fields_of taps)
+part_fields part_of part [] = refl
+part_fields part_of part (tap ∷ taps) =
+    by_test (part_of tap.token == part) refl (part_fields part_of part taps)
   where
-    by_test : (b : Bool) → (part_of_token tap.token parts == part) ≡ b
-        → map fields_of (of_part part parts taps)
-        ≡ filter (λ f. part_of_token f.token parts == part) (map fields_of taps)
-        → map fields_of (of_part part parts (tap ∷ taps))
-        ≡ filter (λ f. part_of_token f.token parts == part) (map fields_of (tap ∷ taps))
+    by_test : (b : Bool) → (part_of tap.token == part) ≡ b
+        → map fields_of (taps_at part_of part taps)
+        ≡ filter (λ f. part_of f.token == part) (map fields_of taps)
+        → map fields_of (taps_at part_of part (tap ∷ taps))
+        ≡ filter (λ f. part_of f.token == part) (map fields_of (tap ∷ taps))
     by_test true e rest = rw e (ap (λ fs. fields_of tap ∷ fs) rest)
     by_test false e rest = rw e rest
 

@@ -1,7 +1,7 @@
 -- What a run over settled files tells is what the settled history has.
 use Rattle.std.proofs.Common.{true, false, inl, inr, ◌≡◌, ℕ, zero, suc, ◌+◌, ◌<◌, ◌≤◌, ◌==◌, List}
 use Rattle.std.proofs.Common.{[], ◌∷◌, ◌++◌, length, map, cond, refl, sym, ap, subst, ◌∙◌, arith}
-use Rattle.std.proofs.Common.{Some, All, mod-lt}
+use Rattle.std.proofs.Common.{Some, All}
 use Rattle.std.specs.Prelude.{slice_get, ◌≢◌, ◌⊎◌}
 use Rattle.std.specs.List.{sum_by}
 use Rattle.std.proofs.lemmas.Bool.{cases_lt}
@@ -20,7 +20,7 @@ use Rattle.fare_table.specs.Token.{bytes_of}
 use Rattle.shard_book.specs.Visits.{AreEntriesOf}
 use Rattle.shard_book.specs.declared.entry.Entry.{Entry}
 use Rattle.fare_table.specs.declared.token.Token.{Token}
-use Rattle.tap_parts.specs.Parts.{part_of_token, of_part}
+use Rattle.tap_parts.specs.Parts.{taps_at}
 use Rattle.fare_service.specs.Headline.{Headline}
 use Rattle.fare_service.specs.Outcomes.{OutcomeView}
 use Rattle.tap_views.specs.Files.{AreGoodTapsOfEach}
@@ -82,43 +82,43 @@ at_least_next {k} {p} least other = by_order (cases_lt k p)
     by_order (inl less) = omega (arith, less)
     by_order (inr most) = absurd (other (omega (arith, least, most)))
 
-module _ (parts : ℕ) (g : TapFields → ℕ) where
+module _ (part_of : List ℕ → ℕ) (g : TapFields → ℕ) where
   -- what so many parts from k on count of a tap
   counted : ℕ → ℕ → TapFields → ℕ
   counted k zero x = 0
-  counted k (suc n) x = cond (part_of_token x.token parts == k) (g x) 0 + counted (k + 1) n x
+  counted k (suc n) x = cond (part_of x.token == k) (g x) 0 + counted (k + 1) n x
 
-  counted_none : (k n : ℕ) (x : TapFields) → part_of_token x.token parts < k → counted k n x ≡ 0
+  counted_none : (k n : ℕ) (x : TapFields) → part_of x.token < k → counted k n x ≡ 0
   unfolding counted
   counted_none k zero x below = refl
   counted_none k (suc n) x below =
       let rest = counted_none (k + 1) n x (omega (arith, below)) in
-      by_test (eqb_tells (part_of_token x.token parts) k) rest
+      by_test (eqb_tells (part_of x.token) k) rest
     where
-      by_test : Tells (part_of_token x.token parts) k → counted (k + 1) n x ≡ 0
+      by_test : Tells (part_of x.token) k → counted (k + 1) n x ≡ 0
           → counted k (suc n) x ≡ 0
       by_test (inl (e, same)) rest = absurd (omega (arith, below, same))
       by_test (inr (e, other)) rest =
-          let here : cond (part_of_token x.token parts == k) (g x) 0 ≡ 0 =
+          let here : cond (part_of x.token == k) (g x) 0 ≡ 0 =
           ap (λ b. cond b (g x) 0) e in omega (arith, here, rest)
 
-  counted_all : (k n : ℕ) (x : TapFields) → k ≤ part_of_token x.token parts
-      → part_of_token x.token parts < k + n → counted k n x ≡ g x
+  counted_all : (k n : ℕ) (x : TapFields) → k ≤ part_of x.token
+      → part_of x.token < k + n → counted k n x ≡ g x
   unfolding counted
   counted_all k zero x least below = absurd (omega (arith, least, below))
   counted_all k (suc n) x least below =
       by_test (λ next. counted_all (k + 1) n x next (omega (arith, below)))
-      (eqb_tells (part_of_token x.token parts) k)
+      (eqb_tells (part_of x.token) k)
     where
-      by_test : (k + 1 ≤ part_of_token x.token parts → counted (k + 1) n x ≡ g x)
-          → Tells (part_of_token x.token parts) k → counted k (suc n) x ≡ g x
+      by_test : (k + 1 ≤ part_of x.token → counted (k + 1) n x ≡ g x)
+          → Tells (part_of x.token) k → counted k (suc n) x ≡ g x
       by_test more (inl (e, same)) =
-          let here : cond (part_of_token x.token parts == k) (g x) 0 ≡ g x =
+          let here : cond (part_of x.token == k) (g x) 0 ≡ g x =
           ap (λ b. cond b (g x) 0) e in
           let rest = counted_none (k + 1) n x (omega (arith, same)) in
           omega (arith, here, rest)
       by_test more (inr (e, other)) =
-          let here : cond (part_of_token x.token parts == k) (g x) 0 ≡ 0 =
+          let here : cond (part_of x.token == k) (g x) 0 ≡ 0 =
           ap (λ b. cond b (g x) 0) e in
           let rest = more (at_least_next least other) in
           omega (arith, here, rest)
@@ -126,12 +126,12 @@ module _ (parts : ℕ) (g : TapFields → ℕ) where
   sum_parts : (fs : List TapFields) (k : ℕ) (lists : List (List Tap))
       → ((i : ℕ) (ts : List Tap) → slice_get lists i ≡ Some ts
       → sum_by g (map fields_of ts)
-      ≡ sum_by (λ x. cond (part_of_token x.token parts == k + i) (g x) 0) fs)
+      ≡ sum_by (λ x. cond (part_of x.token == k + i) (g x) 0) fs)
       → sum_by g (map fields_of (taps_of_uploads lists)) ≡ sum_by (counted k (length lists)) fs
   unfolding counted
   sum_parts fs k [] each = sym (none_summed fs)
   sum_parts fs k (ts ∷ lists) each =
-      let at : ℕ → ℕ = λ p. sum_by (λ x. cond (part_of_token x.token parts == p) (g x) 0) fs in
+      let at : ℕ → ℕ = λ p. sum_by (λ x. cond (part_of x.token == p) (g x) 0) fs in
       let here : sum_by g (map fields_of ts) ≡ at k =
       each 0 ts refl ∙ ap at (let e : k + 0 ≡ k = omega arith in e) in
       let rest = sum_parts fs (k + 1) lists (λ i more there. each (suc i) more there
@@ -139,7 +139,7 @@ module _ (parts : ℕ) (g : TapFields → ℕ) where
       ap (sum_by g) (map-append fields_of ts (taps_of_uploads lists))
       ∙ summed_append g (map fields_of ts) (map fields_of (taps_of_uploads lists))
       ∙ ap (λ n. n + sum_by g (map fields_of (taps_of_uploads lists))) here ∙ ap (λ n. at k + n) rest
-      ∙ sym (both_summed (λ x. cond (part_of_token x.token parts == k) (g x) 0)
+      ∙ sym (both_summed (λ x. cond (part_of x.token == k) (g x) 0)
       (counted (k + 1) (length lists)) fs)
 
 -- the taps of all files are those of the uploads
@@ -150,29 +150,27 @@ pub files_alike : (uploads : List (List ℕ)) (ends : List UploadEnd) (files : L
     → AreAlike (map fields_of (taps_of_uploads taps)) (map fields_of (taps_of_uploads is.taps))
 files_alike uploads ends files taps cuts is each number g =
     let fs = map fields_of (taps_of_uploads is.taps) in
-    let parts = length files in
-    sum_parts parts g fs 0 taps by_part
-    ∙ (λ i. sum_by (λ x. counted_all parts g 0 (length taps) x (omega arith) (below x) i) fs)
+    sum_parts is.part_of g fs 0 taps by_part
+    ∙ (λ i. sum_by (λ x. counted_all is.part_of g 0 (length taps) x (omega arith) (below x) i) fs)
   where
-    below : (x : TapFields) → part_of_token x.token (length files) < 0 + length taps
-    below x = let h : part_of_token x.token (length files) < length files = mod-lt _ is.some_part in
-        omega (arith, number, h)
+    below : (x : TapFields) → is.part_of x.token < 0 + length taps
+    below x = let h = is.within x.token in omega (arith, number, h)
 
     by_part : (i : ℕ) (ts : List Tap) → slice_get taps i ≡ Some ts
         → sum_by g (map fields_of ts)
-        ≡ sum_by (λ x. cond (part_of_token x.token (length files) == 0 + i) (g x) 0)
+        ≡ sum_by (λ x. cond (is.part_of x.token == 0 + i) (g x) 0)
         (map fields_of (taps_of_uploads is.taps))
     by_part i ts there =
         let (file, at, of, cut) = file_at files taps i ts cuts each there in
         let part = is.each i file at in
         let told : ℕ → ℕ = λ p. sum_by (λ x.
-        cond (part_of_token x.token (length files) == p) (g x) 0)
+        cond (is.part_of x.token == p) (g x) 0)
         (map fields_of (taps_of_uploads is.taps)) in
         ap (sum_by g) (read_fields file ts part.list cut of part.reads)
-        ∙ sum_by-IsPermutation g (map fields_of (of_part i (length files) (taps_of_uploads is.taps)))
+        ∙ sum_by-IsPermutation g (map fields_of (taps_at is.part_of i (taps_of_uploads is.taps)))
         part.list part.canonical.moved
-        ∙ ap (sum_by g) (part_fields i (length files) (taps_of_uploads is.taps))
-        ∙ sum_filter (λ x. part_of_token x.token (length files) == i) g
+        ∙ ap (sum_by g) (part_fields is.part_of i (taps_of_uploads is.taps))
+        ∙ sum_filter (λ x. is.part_of x.token == i) g
         (map fields_of (taps_of_uploads is.taps))
         ∙ ap told (let e : i ≡ 0 + i = omega arith in e)
 
@@ -228,8 +226,8 @@ tells given works outcome uploads ends later some named here cuts numbers tokens
     let names = fields_named (taps_of_uploads is.taps) later fields (ap (map bare) is.entries
     ∙ plain_bare given.table [] (taps_of_uploads is.taps)) in
     let placed = all_placed uploads ends given.uploads is.taps cuts settled is.each in
-    let P : ℕ → List Tap → Type 0 = λ i ts. IsPlaced (length given.uploads) i ts in
-    let rises = all_rise (length given.uploads) 0 is.taps (λ i ts there.
+    let P : ℕ → List Tap → Type 0 = λ i ts. IsPlaced settled.part_of i ts in
+    let rises = all_rise settled.part_of 0 is.taps (λ i ts there.
     subst (λ k. P k ts) (let e : i ≡ 0 + i = omega arith in e) (placed i ts there)) in
     let same : (token : Token) → own token later ≡ own token history = λ token.
     ap (own token) is.entries

@@ -1,12 +1,14 @@
 -- What uploads are settled as: the files of the parts, and the one history.
-use Rattle.std.specs.Prelude.{◌≡◌, ℕ, ◌≤◌, List, length, map, Some, slice_get}
+use Rattle.std.specs.Prelude.{◌≡◌, ℕ, ◌+◌, ◌<◌, ◌≤◌, List, [], length, map, Some}
+use Rattle.std.specs.Prelude.{slice_get, slice_index_or}
 use Rattle.tap_views.specs.Encoding.{fields_of}
 use Rattle.tap_views.specs.Layout.{Tap}
 use Rattle.tap_views.specs.declared.encoder.TapFields.{TapFields}
 use Rattle.fare_table.specs.Fares.{Fares}
 use Rattle.shard_book.specs.declared.entry.Entry.{Entry}
-use Rattle.tap_parts.specs.Parts.{of_part, IsFileOf, taps_of_uploads}
+use Rattle.tap_parts.specs.Parts.{taps_at, IsFileOf, taps_of_uploads}
 use Rattle.tap_views.specs.Files.{AreGoodTapsOfEach}
+use Rattle.tap_parts.specs.Ranges.{range_of_token}
 use Rattle.fare_service.specs.Plain.{ArePlainEnds, plain}
 use Rattle.fare_service.specs.declared.upload_end.UploadEnd.{UploadEnd}
 use Rattle.tap_parts.specs.Canonical.{IsCanonical}
@@ -27,9 +29,22 @@ pub record IsPartFile (taps : List TapFields) (file : List ℕ) : Type 0 where
   pub canonical : IsCanonical taps list
   pub reads : IsFileOf file list
 
--- Each upload ends as its bytes call for. There is a number of parts, and each part has a file
--- that is read as exactly those good taps of the uploads that fall to the part, in canonical
--- order.
+-- Each upload ends as its bytes call for. The parts are ranges of tokens, one behind the other, and
+-- each has exactly the uploads' good taps of its tokens, in the order of the uploads.
+pub record AreSplit (uploads : List (List ℕ)) (ends : List UploadEnd)
+    (parts : List (List TapFields)) : Type 0 where
+  pub ended : ArePlainEnds uploads ends
+  pub taps : List (List Tap)
+  pub of_uploads : AreGoodTapsOfEach uploads taps
+  pub bounds : List ℕ
+  pub number : length parts ≡ length bounds + 1
+  pub few_parts : length parts ≤ 65535
+  pub each : (part : ℕ) → part < length parts → slice_index_or parts part []
+      ≡ map fields_of (taps_at (range_of_token bounds) part (taps_of_uploads taps))
+
+-- Each upload ends as its bytes call for. There is a number of parts, each token falls to one of
+-- them, and each part has a file that is read as exactly those good taps of the uploads that fall
+-- to the part, in canonical order.
 pub record IsSettled (uploads : List (List ℕ)) (ends : List UploadEnd) (files : List (List ℕ))
     : Type 0 where
   pub ended : ArePlainEnds uploads ends
@@ -37,5 +52,7 @@ pub record IsSettled (uploads : List (List ℕ)) (ends : List UploadEnd) (files 
   pub of_uploads : AreGoodTapsOfEach uploads taps
   pub some_part : 1 ≤ length files
   pub few_parts : length files ≤ 65535
+  pub part_of : List ℕ → ℕ
+  pub within : (token : List ℕ) → part_of token < length files
   pub each : (part : ℕ) (file : List ℕ) → slice_get files part ≡ Some file
-      → IsPartFile (map fields_of (of_part part (length files) (taps_of_uploads taps))) file
+      → IsPartFile (map fields_of (taps_at part_of part (taps_of_uploads taps))) file

@@ -1,16 +1,18 @@
 //! Uploads, settled.
 
-ghost use Rattle.std.specs.Prelude.{◌≤◌, IfOk, map};
-ghost use Rattle.settlement.specs.Settled.{IsSettled};
+ghost use Rattle.std.specs.Prelude.{◌<◌, ◌≤◌, IfOk, length, map};
+ghost use Rattle.settlement.specs.Settled.{AreSplit, IsSettled};
 
 use crate::arranging::files_by_threads;
-use crate::pieces::pieces_of;
+use crate::pieces::{Pieces, pieces_of};
 use crate::splitting::{SplitTaps, bytes_of, split_by_threads};
 use fare_service::UploadEnd;
 use fare_table::NoMemory;
-use std::alloc::Global;
+use std::alloc::{AllocError, Global};
 use std::marker::Sync;
 use std::thread::Threads;
+use tap_parts::TokenRanges;
+use tap_views::push_sample;
 
 /// How many bytes of uploads go to one part: some 10,000 taps, so that the sort of a part stays in
 /// a processor's near cache.
@@ -39,6 +41,44 @@ fn parts_for(uploads: &[Vec<u8>]) -> u32
     (bytes_of(uploads) / BYTES_OF_PART).clamp(1, MAX_PARTS) as u32
 }
 
+/// Uploads whose taps are split into parts.
+#[derive(Drop)]
+pub struct SplitUploads {
+    /// How each upload ends.
+    pub ends: Vec<UploadEnd>,
+    /// The taps of each part. A part has the tokens of a range, so that the parts lie one behind
+    /// the other in the order of tokens.
+    pub(crate) parts: Vec<Pieces>,
+}
+
+/// The ranges of tokens into which the uploads are split: as many as there are to be parts.
+fn ranges_for(alloc: Global, uploads: &[Vec<u8>]) -> Result<TokenRanges, AllocError>
+    ensures { IfOk result (λ ranges. length ranges < 65535) }
+{
+    let mut sample = Vec::new(alloc);
+    for upload in uploads {
+        push_sample(upload.as_slice(), &mut sample)?;
+    }
+    TokenRanges::of_sample(alloc, sample, parts_for(uploads))
+}
+
+/// Splits uploads into parts by their tokens. Four threads split the taps; where one is refused,
+/// another does its work. Its one error is want of memory. The bytes of an upload are given back as
+/// soon as its taps are split.
+pub fn split<R: Threads + Sync>(
+    rt: &R,
+    alloc: Global,
+    uploads: Vec<Vec<u8>>,
+) -> Result<SplitUploads, NoMemory>
+    ensures { IfOk result (λ made. AreSplit (map (λ upload. upload.items) uploads.items)
+        made.ends.items made.parts.items) }
+{
+    let ranges = ranges_for(alloc, &uploads)?;
+    let SplitTaps { lists, ends } = split_by_threads(rt, alloc, &ranges, uploads, HALVINGS)?;
+    let parts = pieces_of(alloc, lists, ranges.len())?;
+    Ok(SplitUploads { ends, parts })
+}
+
 /// Settles uploads. Four threads split the taps by part, and four put the parts' taps into order;
 /// where one is refused, another does its work. Its one error is want of memory. The bytes of an
 /// upload are given back as soon as its taps are split, and the taps of a part as soon as its
@@ -51,9 +91,7 @@ pub fn settle<R: Threads + Sync>(
     ensures { IfOk result (λ made. IsSettled (map (λ upload. upload.items) uploads.items)
         made.ends.items (map (λ file. file.items) made.files.items)) }
 {
-    let parts = parts_for(&uploads);
-    let SplitTaps { lists, ends } = split_by_threads(rt, alloc, uploads, parts, HALVINGS)?;
-    let pieces = pieces_of(alloc, lists, parts)?;
-    let files = files_by_threads(rt, alloc, pieces, HALVINGS)?;
+    let SplitUploads { ends, parts } = split(rt, alloc, uploads)?;
+    let files = files_by_threads(rt, alloc, parts, HALVINGS)?;
     Ok(Settled { ends, files })
 }

@@ -1,7 +1,8 @@
 //! The taps of uploads, split into parts by several threads.
 
-ghost use Rattle.std.specs.Prelude.{◌≡◌, ◌≤◌, ◌++◌, length, IfOk, map};
+ghost use Rattle.std.specs.Prelude.{◌≡◌, ◌+◌, ◌<◌, ◌≤◌, ◌++◌, length, IfOk, map};
 ghost use denote.Param.Send.{IsSync};
+ghost use Rattle.tap_parts.specs.Ranges.{range_of_token};
 ghost use Rattle.settlement.specs.inside.SplitTaps.{AreAllAdded, AreInParts};
 
 use crate::memory::release;
@@ -10,7 +11,7 @@ use std::alloc::{AllocError, Global};
 use std::marker::Sync;
 use std::thread;
 use std::thread::Threads;
-use tap_parts::Parts;
+use tap_parts::{Parts, TokenRanges};
 use tap_views::TAP2_TAP_BYTES;
 
 /// The taps of uploads in parts, and how each upload ends.
@@ -36,32 +37,38 @@ pub(crate) fn bytes_of(uploads: &[Vec<u8>]) -> usize {
 /// soon as its taps are added.
 fn add_all(
     alloc: Global,
+    ranges: &TokenRanges,
     parts: &mut Parts,
     uploads: Vec<Vec<u8>>,
 ) -> Result<Vec<UploadEnd>, AllocError>
-    ensures { IfOk result (λ ends. AreAllAdded (map (λ upload. upload.items) uploads.items)
+    requires { length ranges.now < length parts.old }
+    ensures { IfOk result (λ ends. AreAllAdded (range_of_token ranges.now) (map (λ upload. upload.items) uploads.items)
         parts.old parts.new ends.items) }
 {
     let mut ends = Vec::new(alloc);
     for upload in uploads {
-        let added = parts.add_upload(upload.as_slice())?;
+        let added = parts.add_upload(ranges, upload.as_slice())?;
         ends.push(UploadEnd::by_fault(added.taps, added.fault))?;
         release(upload);
     }
     Ok(ends)
 }
 
-/// Splits the taps of the uploads into so many parts. Each part has room for half as many taps
-/// again as its share, if tokens were even.
-fn split_uploads(alloc: Global, uploads: Vec<Vec<u8>>, parts: u32) -> Result<SplitTaps, AllocError>
-    requires least { 1 ≤ parts }
-    requires most { parts ≤ 65535 }
-    ensures { IfOk result (λ split. AreInParts parts (map (λ upload. upload.items) uploads.items)
+/// Splits the taps of the uploads into parts, which are ranges of tokens. Each part has room for
+/// half as many taps again as its share, if tokens were even.
+fn split_uploads(
+    alloc: Global,
+    ranges: &TokenRanges,
+    uploads: Vec<Vec<u8>>,
+) -> Result<SplitTaps, AllocError>
+    ensures { IfOk result (λ split. AreInParts (range_of_token ranges.now)
+        (length ranges.now + 1) (map (λ upload. upload.items) uploads.items)
         split.lists.items split.ends.items) }
 {
+    let parts = ranges.len();
     let share = bytes_of(&uploads) / TAP2_TAP_BYTES / parts as usize;
     let mut list = Parts::with_room(alloc, parts, share + share / 2)?;
-    let ends = add_all(alloc, &mut list, uploads)?;
+    let ends = add_all(alloc, ranges, &mut list, uploads)?;
     let mut lists = Vec::new(alloc);
     lists.push(list)?;
     Ok(SplitTaps { lists, ends })
@@ -92,37 +99,38 @@ fn middle_of(uploads: &[Vec<u8>]) -> usize
     uploads.len()
 }
 
-/// Splits the taps of the uploads into so many parts. The uploads are halved so many times, and a
+/// Splits the taps of the uploads into ranges of tokens. The uploads are halved so many times, and a
 /// thread of its own splits each piece. Where one is refused, both halves are split one after the
 /// other.
 #[cycle(splits)]
 pub(crate) fn split_by_threads<R: Threads + Sync>(
     rt: &R,
     alloc: Global,
+    ranges: &TokenRanges,
     uploads: Vec<Vec<u8>>,
-    parts: u32,
     halvings: u32,
 ) -> Result<SplitTaps, AllocError>
-    requires least { 1 ≤ parts }
-    requires most { parts ≤ 65535 }
-    ensures { IfOk result (λ split. AreInParts parts (map (λ upload. upload.items) uploads.items)
+    ensures { IfOk result (λ split. AreInParts (range_of_token ranges.now)
+        (length ranges.now + 1) (map (λ upload. upload.items) uploads.items)
         split.lists.items split.ends.items) }
 {
     if halvings == 0 {
-        return split_uploads(alloc, uploads, parts);
+        return split_uploads(alloc, ranges, uploads);
     }
     let fewer = halvings - 1;
     let (front, back) = halves(uploads)?;
     let first = move || -> Result<SplitTaps, AllocError>
-        requires { IsSync R.row × (1 ≤ parts) × (parts ≤ 65535) }
-        ensures { IfOk result (λ split. AreInParts parts (map (λ upload. upload.items) front.items)
+        requires { IsSync R.row }
+        ensures { IfOk result (λ split. AreInParts (range_of_token ranges.now)
+            (length ranges.now + 1) (map (λ upload. upload.items) front.items)
             split.lists.items split.ends.items) }
-    { split_by_threads(rt, alloc, front, parts, fewer) };
+    { split_by_threads(rt, alloc, ranges, front, fewer) };
     let second = move || -> Result<SplitTaps, AllocError>
-        requires { IsSync R.row × (1 ≤ parts) × (parts ≤ 65535) }
-        ensures { IfOk result (λ split. AreInParts parts (map (λ upload. upload.items) back.items)
+        requires { IsSync R.row }
+        ensures { IfOk result (λ split. AreInParts (range_of_token ranges.now)
+            (length ranges.now + 1) (map (λ upload. upload.items) back.items)
             split.lists.items split.ends.items) }
-    { split_by_threads(rt, alloc, back, parts, fewer) };
+    { split_by_threads(rt, alloc, ranges, back, fewer) };
     let (split, more) = thread::join(rt, first, second);
     let mut split = split?;
     let mut more = more?;

@@ -141,7 +141,7 @@ impl<'a> Batch<'a> {
 }
 
 /// The count of a sound header.
-fn count_of(bytes: &[u8]) -> Result<u32, LayoutFault>
+pub(crate) fn count_of(bytes: &[u8]) -> Result<u32, LayoutFault>
     ensures count { IfOk result (λ count. IsHeader bytes.now count) }
     ensures fault { IfErr result (IsFault bytes.now) }
 {

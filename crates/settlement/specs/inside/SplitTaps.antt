@@ -4,7 +4,7 @@ use Rattle.std.specs.Prelude.{slice_index_or}
 use Rattle.tap_views.specs.Encoding.{fields_of}
 use Rattle.tap_views.specs.Layout.{Tap}
 use Rattle.tap_views.specs.declared.encoder.TapFields.{TapFields}
-use Rattle.tap_parts.specs.Parts.{AreAdded, of_part}
+use Rattle.tap_parts.specs.Parts.{AreAddedBy, taps_at}
 use Rattle.tap_views.specs.Files.{AreGoodTapsOfEach}
 use Rattle.fare_service.specs.Plain.{ArePlainEnds}
 use Rattle.fare_service.specs.declared.upload_end.UploadEnd.{UploadEnd}
@@ -20,21 +20,21 @@ pub record ArePiecesAdded (pieces old new : List (List TapFields)) : Type 0 wher
   pub each : (part : ℕ) → part < length old
       → slice_index_or new part [] ≡ slice_index_or old part [] ++ slice_index_or pieces part []
 
--- the taps of each upload were added, and these are the uploads' ends
-pub record AreAllAdded (uploads : List (List ℕ)) (old new : List (List TapFields))
-    (ends : List UploadEnd) : Type 0 where
+-- the taps of each upload were added, each to its part, and these are the uploads' ends
+pub record AreAllAdded (part_of : List ℕ → ℕ) (uploads : List (List ℕ))
+    (old new : List (List TapFields)) (ends : List UploadEnd) : Type 0 where
   pub taps : List (List Tap)
   pub of_uploads : AreGoodTapsOfEach uploads taps
-  pub added : AreAdded (taps_of_uploads taps) old new
+  pub added : AreAddedBy part_of (taps_of_uploads taps) old new
   pub ended : ArePlainEnds uploads ends
 
 -- each of so many parts has, over all lists, exactly the uploads' good taps that fall to it, in
 -- their order, and these are the uploads' ends
-pub record AreInParts (parts : ℕ) (uploads : List (List ℕ)) (lists : List (List (List TapFields)))
-    (ends : List UploadEnd) : Type 0 where
+pub record AreInParts (part_of : List ℕ → ℕ) (parts : ℕ) (uploads : List (List ℕ))
+    (lists : List (List (List TapFields))) (ends : List UploadEnd) : Type 0 where
   pub taps : List (List Tap)
   pub of_uploads : AreGoodTapsOfEach uploads taps
   pub number : All (λ list. length list ≡ parts) lists
   pub each : (part : ℕ) → part < parts
-      → in_part part lists ≡ map fields_of (of_part part parts (taps_of_uploads taps))
+      → in_part part lists ≡ map fields_of (taps_at part_of part (taps_of_uploads taps))
   pub ended : ArePlainEnds uploads ends

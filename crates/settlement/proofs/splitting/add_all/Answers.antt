@@ -8,7 +8,8 @@ use Rattle.fare_service.specs.Plain.{IsPlainEnd, ArePlainEnds}
 use Rattle.fare_service.proofs.PlainUploads.{each_more}
 use Rattle.fare_service.proofs.PlainRuns.{AllZip-append}
 use Rattle.tap_parts.proofs.Adding.{none_added, batch_added}
-use Rattle.tap_parts.specs.Uploads.{IsUploadAdded}
+use Rattle.tap_parts.specs.Ranges.{range_of_token}
+use Rattle.tap_parts.specs.Uploads.{IsUploadAddedBy}
 use Rattle.upload_facts.specs.Facts.{taps_of_batches}
 use Rattle.settlement.proofs.Ends.{plain_end, taps_added}
 use Rattle.settlement.proofs.splitting.add_all.Goals as goal
@@ -31,7 +32,7 @@ loop-upload-init c =
       made = (
         [],
         tt,
-        none_added c.args.parts.now,
+        none_added (range_of_token c.args.ranges.now) c.args.parts.now,
         subst (λ ends. ArePlainEnds [] ends) (sym c.new-ends.ensures.items) tt,
       );
     }
@@ -43,8 +44,8 @@ loop-upload-preserved c =
     let yielded = c.loop-upload.yielded in
     let (taps, each, added, ended) = c.loop-upload.invariant.made in
     let added_taps = c.in_ok-added.added in
-    let one : IsUploadAdded upload.items c.loop-upload.parts c.add_upload.new.self added_taps =
-    subst (λ bytes. IsUploadAdded bytes c.loop-upload.parts c.add_upload.new.self added_taps)
+    let one : IsUploadAddedBy (range_of_token c.args.ranges.now) upload.items c.loop-upload.parts c.add_upload.new.self added_taps =
+    subst (λ bytes. IsUploadAddedBy (range_of_token c.args.ranges.now) bytes c.loop-upload.parts c.add_upload.new.self added_taps)
     c.as_slice.ensures.value c.in_ok-added.ensures in
     let more = taps_of_batches one.batches in
     let end = c.by_fault.result in
@@ -61,14 +62,14 @@ loop-upload-preserved c =
       left_len = omega (arith, steps.1, c.loop-upload.invariant.left_len, ap length steps.0);
       made = (
         taps ++ more ∷ [],
-        subst T (sym all) (each_more files taps upload.items more each (taps_added upload.items
+        subst T (sym all) (each_more files taps upload.items more each (taps_added (range_of_token c.args.ranges.now) upload.items
             c.loop-upload.parts c.add_upload.new.self added_taps one)),
-        batch_added taps more c.args.parts.now c.loop-upload.parts c.add_upload.new.self added
+        batch_added (range_of_token c.args.ranges.now) taps more c.args.parts.now c.loop-upload.parts c.add_upload.new.self added
             one.added,
         subst E (sym all) (subst F (sym c.in_ok-push.ensures.items)
             (AllZip-append IsPlainEnd files c.loop-upload.ends.items (upload.items ∷ []) (end ∷ [])
             ended (
-              plain_end upload.items c.loop-upload.parts c.add_upload.new.self added_taps end one
+              plain_end (range_of_token c.args.ranges.now) upload.items c.loop-upload.parts c.add_upload.new.self added_taps end one
                   c.by_fault.ensures,
               tt,
             ))),

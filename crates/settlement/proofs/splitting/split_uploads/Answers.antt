@@ -1,9 +1,10 @@
-use Rattle.std.proofs.Common.{◌≡◌, ℕ, List, [], ◌∷◌, ◌++◌, ◌<◌, length, map, sym, ap, ◌∙◌, subst}
+use Rattle.std.proofs.Common.{◌≡◌, ℕ, List, [], ◌∷◌, ◌++◌, ◌+◌, ◌<◌, length, map, sym, ap, ◌∙◌, subst}
 use Rattle.std.proofs.Common.{append-nil}
 use Rattle.std.proofs.lemmas.List.Elements.{All-nil, All-cons}
 use Rattle.tap_views.specs.Encoding.{fields_of}
 use Rattle.tap_views.specs.declared.encoder.TapFields.{TapFields}
-use Rattle.tap_parts.specs.Parts.{of_part}
+use Rattle.tap_parts.specs.Parts.{taps_at}
+use Rattle.tap_parts.specs.Ranges.{range_of_token}
 use Rattle.settlement.specs.inside.SplitTaps.{AreInParts}
 use Rattle.tap_parts.specs.Parts.{taps_of_uploads}
 use Rattle.settlement.proofs.Files.{bytes_in}
@@ -13,20 +14,23 @@ pub returns : goal.returns
 returns c =
     let all = c.in_ok-ends.ensures in
     let made = c.in_ok-list.ensures in
-    let parts = c.args.parts in
+    let bounds = c.args.ranges.now in
+    let parts = length bounds + 1 in
+    let made_number = made.number ∙ c.len-parts.ensures in
     let list = c.add_all.new.parts in
     let P : List (List TapFields) → Type 0 = λ l. length l ≡ parts in
     let lists = c.in_ok-push.ensures.items ∙ ap (λ ls. ls ++ list ∷ []) c.new-lists.ensures.items in
-    subst (λ ls. AreInParts parts (map bytes_in c.args.uploads.items) ls c.in_ok-ends.ends.items)
+    subst (λ ls. AreInParts (range_of_token bounds) parts (map bytes_in c.args.uploads.items) ls
+    c.in_ok-ends.ends.items)
     (sym lists) (record {
       taps = all.taps;
       of_uploads = all.of_uploads;
-      number = All-cons P list [] (all.added.number ∙ made.number) (All-nil P);
+      number = All-cons P list [] (all.added.number ∙ made_number) (All-nil P);
       each = λ part within.
           append-nil _
-          ∙ all.added.each part (subst (λ n. part < n) (sym made.number) within)
+          ∙ all.added.each part (subst (λ n. part < n) (sym made_number) within)
           ∙ ap (λ taps. taps ++ map fields_of
-          (of_part part (length c.in_ok-list.list) (taps_of_uploads all.taps))) (made.empty part within)
-          ∙ ap (λ n. map fields_of (of_part part n (taps_of_uploads all.taps))) made.number;
+          (taps_at (range_of_token bounds) part (taps_of_uploads all.taps)))
+          (made.empty part (subst (λ n. part < n) (sym c.len-parts.ensures) within));
       ended = all.ended;
     })
