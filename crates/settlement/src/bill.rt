@@ -6,7 +6,7 @@ ghost use Rattle.std.specs.List.Sorted.{IsSorted};
 ghost use Rattle.fare_table.specs.declared.token.Token.{Token};
 ghost use Rattle.tap_views.specs.Encoding.{AreEarly};
 ghost use Rattle.tap_views.specs.declared.encoder.TapFields.{TapFields};
-ghost use Rattle.tap_parts.specs.Canonical.{tap_cmp};
+ghost use Rattle.tap_parts.specs.Canonical.{HasTokenBytes, tap_cmp};
 ghost use Rattle.shard_book.specs.SumsByKey.{token_of};
 ghost use Rattle.shard_book.specs.declared.entry.Entry.{Entry};
 ghost use Rattle.settlement.specs.Apart.{AreBelow};
@@ -102,6 +102,7 @@ impl Bill {
         requires clock { clock.now ≡ table.now.zone }
         requires early { AreEarly (λ tap. tap.moment) taps.now }
         requires sorted { IsSorted tap_cmp taps.now }
+        requires tokens { All HasTokenBytes taps.now }
         requires room { HasBillRoom self.old (length taps.now) }
         ensures { OnOk result ((before : List Entry) → IsBillOf before self.old
             → AreBelow (map token_of before) (map token_of_tap taps.now)

@@ -1,13 +1,19 @@
 //! Uploads, settled.
 
-ghost use Rattle.std.specs.Prelude.{◌<◌, ◌≤◌, IfOk, length, map};
-ghost use Rattle.settlement.specs.Settled.{AreSplit, IsSettled};
+ghost use Rattle.std.specs.Prelude.{◌<◌, ◌≤◌, IfOk, List, length, map};
+ghost use Rattle.fare_service.specs.Plain.{ArePlainEnds};
+ghost use Rattle.shard_book.specs.declared.entry.Entry.{Entry};
+ghost use Rattle.settlement.specs.Bills.{IsBillOf};
+ghost use Rattle.settlement.specs.Settled.{AreSplit, IsSettled, IsSettledHistory};
 
 use crate::arranging::files_by_threads;
+use crate::bill::Bill;
+use crate::billing::bill_by_threads;
 use crate::pieces::{Pieces, pieces_of};
 use crate::splitting::{SplitTaps, bytes_of, split_by_threads};
 use fare_service::UploadEnd;
-use fare_table::NoMemory;
+use fare_table::{FareTable, NoMemory};
+use shard_book::HashSeed;
 use std::alloc::{AllocError, Global};
 use std::marker::Sync;
 use std::thread::Threads;
@@ -94,4 +100,39 @@ pub fn settle<R: Threads + Sync>(
     let SplitUploads { ends, parts } = split(rt, alloc, uploads)?;
     let files = files_by_threads(rt, alloc, parts, HALVINGS)?;
     Ok(Settled { ends, files })
+}
+
+/// Uploads and their bill.
+#[derive(Drop)]
+pub struct Billed {
+    /// How each upload ends.
+    pub ends: Vec<UploadEnd>,
+    /// The bill of the uploads' good taps, in canonical order.
+    pub bill: Bill,
+}
+
+/// How often work is halved for so many workers.
+fn halvings_for(workers: u32) -> u32 {
+    if workers <= 1 { 0 } else { (workers - 1).ilog2() + 1 }
+}
+
+/// The bill of the settled history of uploads, by so many workers: account by account, with no book
+/// and no entry kept. It does not depend on the number of workers. Its one error is want of memory.
+pub fn bill<R: Threads + Sync>(
+    rt: &R,
+    alloc: Global,
+    table: &FareTable,
+    seed: HashSeed,
+    uploads: Vec<Vec<u8>>,
+    workers: u32,
+) -> Result<Billed, NoMemory>
+    ensures ended { IfOk result (λ made.
+        ArePlainEnds (map (λ upload. upload.items) uploads.items) made.ends.items) }
+    ensures billed { IfOk result (λ made. (history : List Entry)
+        × IsSettledHistory table.now (map (λ upload. upload.items) uploads.items) history
+        × IsBillOf history made.bill) }
+{
+    let SplitUploads { ends, parts } = split(rt, alloc, uploads)?;
+    let bill = bill_by_threads(rt, alloc, table, seed, parts, halvings_for(workers))?;
+    Ok(Billed { ends, bill })
 }

@@ -10,9 +10,9 @@ use Rattle.std.proofs.lemmas.Cmp.{nat_cmp_total}
 use Rattle.std.proofs.lemmas.List.Sorted.{ranks_by, sorted_far}
 use Rattle.tap_views.specs.Layout.{num}
 use Rattle.tap_views.specs.declared.encoder.TapFields.{TapFields}
-use Rattle.tap_parts.specs.Canonical.{tap_cmp}
+use Rattle.tap_parts.specs.Canonical.{HasTokenBytes, tap_cmp}
 use Rattle.tap_parts.specs.Ranges.{range_of_token}
-use Rattle.tap_parts.specs.inside.Places.{ArePlacesInOrder, HasTokenBytes}
+use Rattle.tap_parts.specs.inside.Places.{ArePlacesInOrder}
 use Rattle.tap_parts.proofs.TokenOrder.{lower_number}
 
 not_above : (x n : ℕ) → x ≤ n → nat_le x n ≡ true
