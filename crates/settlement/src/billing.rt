@@ -2,7 +2,6 @@
 
 ghost use Rattle.std.specs.Prelude.{◌≡◌, ◌+◌, ◌^◌, ◌≤◌, ◌++◌, All, List, length, map, IfOk, OnOk};
 ghost use denote.Param.Send.{IsSync};
-ghost use Rattle.tap_views.specs.Encoding.{AreEarly};
 ghost use Rattle.tap_views.specs.declared.encoder.TapFields.{TapFields};
 ghost use Rattle.tap_parts.specs.Canonical.{IsCanonical};
 ghost use Rattle.shard_book.specs.SumsByKey.{token_of};
@@ -10,7 +9,8 @@ ghost use Rattle.shard_book.specs.declared.entry.Entry.{Entry};
 ghost use Rattle.settlement.specs.Apart.{AreBelow};
 ghost use Rattle.settlement.specs.Bills.{IsBillOf};
 ghost use Rattle.settlement.specs.Posted.{posted, token_of_tap};
-ghost use Rattle.settlement.specs.inside.Billing.{HasBillRoom, ArePartsInOrder, IsBillOfParts};
+ghost use Rattle.settlement.specs.inside.Billing.{ArePartsInOrder, HasBillRoom, IsBillOfParts};
+ghost use Rattle.settlement.specs.inside.Billing.{IsSoundPart};
 
 use crate::bill::Bill;
 use crate::file::append_pieces;
@@ -22,7 +22,7 @@ use std::alloc::Global;
 use std::marker::Sync;
 use std::thread;
 use std::thread::Threads;
-use tap_parts::{arrange_into, have_token_bytes};
+use tap_parts::arrange_into;
 use tap_views::TapFields;
 
 /// Adds the taps of a part to the bill, in canonical order. The memory of the pieces is given back.
@@ -37,7 +37,7 @@ fn add_part(
     bill: &mut Bill,
 ) -> Result<(), NoMemory>
     requires clock { clock.now ≡ table.now.zone }
-    requires early { AreEarly (λ tap. tap.moment) pieces }
+    requires sound { IsSoundPart pieces }
     requires room { HasBillRoom bill.old (2 ^ 58) }
     ensures { OnOk result ((list : List TapFields) × IsCanonical pieces list
         × (length list ≤ 2 ^ 58)
@@ -48,7 +48,6 @@ fn add_part(
     append_pieces(pieces.as_slice(), taps)?;
     drop(pieces);
     arrange_into(alloc, taps, list)?;
-    have_token_bytes(list);
     bill.add(alloc, table, clock, list)
 }
 
@@ -60,7 +59,7 @@ fn bill_of(
     seed: HashSeed,
     parts: Vec<Pieces>,
 ) -> Result<Bill, NoMemory>
-    requires early { All (AreEarly (λ tap. tap.moment)) parts.items }
+    requires sound { All IsSoundPart parts.items }
     requires order { ArePartsInOrder parts.items }
     requires few { length parts.items ≤ 65535 }
     ensures { IfOk result (IsBillOfParts table.now parts.items) }
@@ -98,7 +97,7 @@ pub(crate) fn bill_by_threads<R: Threads + Sync>(
     parts: Vec<Pieces>,
     halvings: u32,
 ) -> Result<Bill, NoMemory>
-    requires early { All (AreEarly (λ tap. tap.moment)) parts.items }
+    requires sound { All IsSoundPart parts.items }
     requires order { ArePartsInOrder parts.items }
     requires few { length parts.items ≤ 65535 }
     ensures { IfOk result (IsBillOfParts table.now parts.items) }
@@ -109,12 +108,12 @@ pub(crate) fn bill_by_threads<R: Threads + Sync>(
     let fewer = halvings - 1;
     let (front, back) = halves(parts)?;
     let first = move || -> Result<Bill, NoMemory>
-        requires { IsSync R.row × All (AreEarly (λ tap. tap.moment)) front.items
+        requires { IsSync R.row × All IsSoundPart front.items
             × ArePartsInOrder front.items × (length front.items ≤ 65535) }
         ensures { IfOk result (IsBillOfParts table.now front.items) }
     { bill_by_threads(rt, alloc, table, seed, front, fewer) };
     let second = move || -> Result<Bill, NoMemory>
-        requires { IsSync R.row × All (AreEarly (λ tap. tap.moment)) back.items
+        requires { IsSync R.row × All IsSoundPart back.items
             × ArePartsInOrder back.items × (length back.items ≤ 65535) }
         ensures { IfOk result (IsBillOfParts table.now back.items) }
     { bill_by_threads(rt, alloc, table, seed, back, fewer) };

@@ -12,6 +12,7 @@ use crate::billing::bill_by_threads;
 use crate::pieces::{Pieces, pieces_of};
 use crate::splitting::{SplitTaps, bytes_of, split_by_threads};
 use fare_service::UploadEnd;
+use fare_service::laws::{one_reading_each, plain_history};
 use fare_table::{FareTable, NoMemory};
 use shard_book::HashSeed;
 use std::alloc::{AllocError, Global};
@@ -79,6 +80,9 @@ pub fn split<R: Threads + Sync>(
     ensures { IfOk result (λ made. AreSplit (map (λ upload. upload.items) uploads.items)
         made.ends.items made.parts.items) }
 {
+    // proof: uploads have one reading, and its tokens have 16 bytes
+    one_reading_each(&uploads);
+    plain_history(&uploads);
     let ranges = ranges_for(alloc, &uploads)?;
     let SplitTaps { lists, ends } = split_by_threads(rt, alloc, &ranges, uploads, HALVINGS)?;
     let parts = pieces_of(alloc, lists, ranges.len())?;

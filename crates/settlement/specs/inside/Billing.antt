@@ -3,7 +3,8 @@ use Rattle.std.specs.Prelude.{◌+◌, ◌*◌, ◌^◌, ◌≤◌, ℕ, List, [
 use Rattle.std.specs.List.{AllZip}
 use Rattle.fare_table.specs.Fares.{Fares}
 use Rattle.tap_views.specs.declared.encoder.TapFields.{TapFields}
-use Rattle.tap_parts.specs.Canonical.{IsCanonical}
+use Rattle.tap_views.specs.Encoding.{AreEarly}
+use Rattle.tap_parts.specs.Canonical.{HasTokenBytes, IsCanonical}
 use Rattle.settlement.specs.Apart.{AreBelow}
 use Rattle.settlement.specs.Posted.{posted, token_of_tap}
 use Rattle.shard_book.specs.declared.entry.Entry.{Entry}
@@ -20,6 +21,11 @@ unfoldable pub HaveBillRoom : Bill → Bill → Type 0
 HaveBillRoom bill more =
     (entries : List Entry) × (others : List Entry) × IsBillOf entries bill × IsBillOf others more
     × (length entries + length others ≤ 2 ^ 95)
+
+-- the taps of a part have moments before 2100, and tokens of 16 bytes
+pub record IsSoundPart (part : List TapFields) : Type 0 where
+  pub early : AreEarly (λ (tap : TapFields). tap.moment) part
+  pub tokens : All HasTokenBytes part
 
 -- each tap's token of an earlier part is below each of a later part
 abbrev pub ArePartsInOrder : List (List TapFields) → Type 0
