@@ -1,5 +1,7 @@
 # make run      the main job on the example data: the report of two uploads under the sample table.
-#               Where nothing is proved it is a trial build of a minute or two, and it says so
+#               If no proved program is there, a trial is built and run, and it says so
+# make trial    builds the three programs without a proof, in two to three minutes each:
+#               out/trial/NAME. Nothing is proved of them, and they are slow
 # make build    proves the program and all below it, and builds it: crates/omny_cli/out/omny_cli
 # make install  the proved program, its manual page and completions, into DESTDIR/PREFIX; PREFIX is
 #               /usr/local if not given. scripts/installed tries it
@@ -16,17 +18,20 @@
 # make cluster  3 million taps over 8 parts: on this machine, on Slurm and on Dask, with a machine
 #               lost in the middle; then what may go wrong. docs/CLUSTER.md says more
 #
-# run, build, test and wrong need the toolchain (rt, which needs Python 3), make and bash.
+# run, trial, build, test and wrong need the toolchain (rt, which needs Python 3), make and bash.
 # hostile also needs a C compiler, bench also rustc. audit needs Python 3.11. sql needs sqlite3 and
 # viewer needs chromium; cluster needs Slurm and Dask, and root for Slurm: where these are not there,
 # they say so in a line and are skipped.
 
-.PHONY: run build install test wrong hostile bench audit sql viewer cluster
+.PHONY: run trial build install test wrong hostile bench audit sql viewer cluster
 
 PREFIX ?= /usr/local
 
 run:
 	@scripts/run_example
+
+trial:
+	@scripts/build_trial
 
 build:
 	@scripts/build_program
