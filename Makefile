@@ -2,9 +2,10 @@
 #               If no proved program is there, a trial is built and run, and it says so
 # make trial    builds the three programs without a proof, in two to three minutes each:
 #               out/trial/NAME. Nothing is proved of them, and they are slow
-# make build    proves the program and all below it, and builds it: crates/omny_cli/out/omny_cli
-# make install  the proved program, its manual page and completions, into DESTDIR/PREFIX; PREFIX is
-#               /usr/local if not given. scripts/installed tries it
+# make build    proves the three programs and all crates below them, with a line for each crate, and
+#               builds the programs: crates/NAME/out/NAME. What rt says is in out/build.log
+# make install  the proved programs, their manual pages and completions, into DESTDIR/PREFIX; PREFIX
+#               is /usr/local if not given. scripts/installed tries it
 # make test     everything that must pass: what must not compile, the proofs, the tests, the wrong
 #               bodies in must-fail/, the stored runs, and then the cases of the built program and
 #               the settled week
@@ -34,7 +35,7 @@ trial:
 	@scripts/build_trial
 
 build:
-	@scripts/build_program
+	@scripts/build_programs
 
 install:
 	@scripts/install_programs "$(DESTDIR)" "$(PREFIX)"
