@@ -6,9 +6,9 @@
 #               builds the programs: crates/NAME/out/NAME. What rt says is in out/build.log
 # make install  the proved programs, their manual pages and completions, into DESTDIR/PREFIX; PREFIX
 #               is /usr/local if not given. scripts/installed tries it
-# make test     everything that must pass: what must not compile, the proofs, the tests, the wrong
-#               bodies in must-fail/, the stored runs, and then the cases of the built program and
-#               the settled week
+# make test     everything that must pass: what the documents say of the sources, what must not
+#               compile, the proofs, the tests, the wrong bodies in must-fail/, the stored runs, and
+#               then the cases of the built program and the settled week
 # make wrong    all wrong bodies, those in wrong/ too: each must be refused by the function that it
 #               changes. Some crates alone: make wrong CRATES="tap_views fare_table"
 # make hostile  memory, reads, writes, threads and the seed refused one at a time, in every place
@@ -43,6 +43,8 @@ install:
 # At most four checks at once, which take 10 GB: without RT_JOBS rt ci plans for more than they
 # take. The last line of the output is the verdict of rt ci: the cases are silent where all is well.
 test:
+	@scripts/check_documents
+	@scripts/private_definitions
 	scripts/must_not_compile
 	@scripts/version
 	@n=$$(nproc) && RT_JOBS=$${RT_JOBS:-$$((n < 4 ? n : 4))} rt ci
