@@ -43,8 +43,8 @@ end_of upload [] = Undrawn
 end_of upload (w ∷ works) = if w.upload == upload then w.end else end_of upload works
 
 -- What an outcome of files is, under a table and with so many shards, by what each worker did.
--- A field marked `follows` says again, in the subject's words, what the named fields imply. No field
--- says why an upload was cut or left undrawn: `Stopping.HaveStopped` and `StoppedWell` do.
+-- A field marked `follows` says again, in the subject's words, what the named fields imply. No
+-- field says why an upload was cut or left undrawn: see `HaveStopped` and `StoppedWell`.
 pub record Headline (fares : Fares) (shards : ℕ) (files : List (List ℕ))
     (works : List (List Worked)) (outcome : OutcomeView) : Type 0 where
   -- Each worker posted of the uploads that it drew what their bytes call for, and no upload was
