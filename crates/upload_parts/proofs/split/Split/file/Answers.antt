@@ -36,5 +36,5 @@ returns c = λ parts uploads split.
       list = list;
       canonical = subst (λ taps. IsCanonical taps list) same c.in_ok-taps.ensures;
       reads = subst (λ taps. IsFileOf c.in_ok-file.file.items taps) c.deref.ensures.value
-          c.in_ok-file.ensures;
+          c.in_ok-file.ensures.file;
     }
