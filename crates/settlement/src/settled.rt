@@ -12,9 +12,9 @@ use std::alloc::Global;
 use std::marker::Sync;
 use std::thread::Threads;
 
-/// How many bytes of uploads go to one part: some 10,000 taps, so that the sort of a part stays in
+/// How many bytes of uploads go to one part: some 20,000 taps, so that the sort of a part stays in
 /// a processor's near cache.
-const BYTES_OF_PART: usize = 280_000;
+const BYTES_OF_PART: usize = 560_000;
 
 /// The most parts, since a service takes no more uploads.
 const MAX_PARTS: usize = 65_535;
