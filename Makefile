@@ -11,6 +11,8 @@
 #               then the cases of the built program and the settled week
 # make wrong    all wrong bodies, those in wrong/ too: each must be refused by the function that it
 #               changes. Some crates alone: make wrong CRATES="tap_views fare_table"
+# make model    the turn protocol of a shared book in Spin: no worker sleeps for ever, and one at a
+#               time has the book. model/README.md says what the model has
 # make hostile  memory, reads, writes, threads and the seed refused one at a time, in every place
 # make bench    one table of speed and memory beside Rust without proofs, within ten minutes
 # make audit    the checkers of ledgers over the example, a generated week and 20 spoilt ledgers
@@ -20,11 +22,11 @@
 #               lost in the middle; then what may go wrong. docs/CLUSTER.md says more
 #
 # run, trial, build, test and wrong need the toolchain (rt, which needs Python 3), make and bash.
-# hostile also needs a C compiler, bench also rustc. audit needs Python 3.11. sql needs sqlite3 and
-# viewer needs chromium; cluster needs Slurm and Dask, and root for Slurm: where these are not there,
-# they say so in a line and are skipped.
+# model needs spin and gcc. hostile also needs a C compiler, bench also rustc. audit needs Python
+# 3.11. sql needs sqlite3 and viewer needs chromium. cluster needs Slurm and Dask, and root for
+# Slurm. If these are not there, model, sql, viewer and cluster say so in a line and are skipped.
 
-.PHONY: run trial build install test wrong hostile bench audit sql viewer cluster
+.PHONY: run trial build install test wrong model hostile bench audit sql viewer cluster
 
 PREFIX ?= /usr/local
 
@@ -55,6 +57,9 @@ test:
 
 wrong:
 	@scripts/wrong_bodies $(CRATES)
+
+model:
+	@model/run
 
 hostile:
 	@hostile/refuse
