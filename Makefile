@@ -1,13 +1,18 @@
 # make run      the main job on the example data: the report of two uploads under the sample table.
-#               Where nothing is proved it is a trial build of a minute or two, and it says so
-# make build    proves the program and all below it, and builds it: crates/omny_cli/out/omny_cli
-# make install  the proved program, its manual page and completions, into DESTDIR/PREFIX; PREFIX is
-#               /usr/local if not given. scripts/installed tries it
-# make test     everything that must pass: what must not compile, the proofs, the tests, the wrong
-#               bodies in must-fail/, the stored runs, and then the cases of the built program and
-#               the settled week
+#               If no proved program is there, a trial is built and run, and it says so
+# make trial    builds the three programs without a proof, in two to three minutes each:
+#               out/trial/NAME. Nothing is proved of them, and they are slow
+# make build    proves the three programs and all crates below them, with a line for each crate, and
+#               builds the programs: crates/NAME/out/NAME. What rt says is in out/build.log
+# make install  the proved programs, their manual pages and completions, into DESTDIR/PREFIX; PREFIX
+#               is /usr/local if not given. scripts/installed tries it
+# make test     everything that must pass: what the documents say of the sources, what must not
+#               compile, the proofs, the tests, the wrong bodies in must-fail/, the stored runs, and
+#               then the cases of the built program and the settled week
 # make wrong    all wrong bodies, those in wrong/ too: each must be refused by the function that it
 #               changes. Some crates alone: make wrong CRATES="tap_views fare_table"
+# make model    the turn protocol of a shared book in Spin: no worker sleeps for ever, and one at a
+#               time has the book. model/README.md says what the model has
 # make hostile  memory, reads, writes, threads and the seed refused one at a time, in every place
 # make bench    one table of speed and memory beside Rust without proofs, within ten minutes
 # make audit    the checkers of ledgers over the example, a generated week and 20 spoilt ledgers
@@ -16,20 +21,23 @@
 # make cluster  3 million taps over 8 parts: on this machine, on Slurm and on Dask, with a machine
 #               lost in the middle; then what may go wrong. docs/CLUSTER.md says more
 #
-# run, build, test and wrong need the toolchain (rt, which needs Python 3), make and bash.
-# hostile also needs a C compiler, bench also rustc. audit needs Python 3.11. sql needs sqlite3 and
-# viewer needs chromium; cluster needs Slurm and Dask, and root for Slurm: where these are not there,
-# they say so in a line and are skipped.
+# run, trial, build, test and wrong need the toolchain (rt, which needs Python 3), make and bash.
+# model needs spin and gcc. hostile also needs a C compiler, bench also rustc. audit needs Python
+# 3.11. sql needs sqlite3 and viewer needs chromium. cluster needs Slurm and Dask, and root for
+# Slurm. If these are not there, model, sql, viewer and cluster say so in a line and are skipped.
 
-.PHONY: run build install test wrong hostile bench audit sql viewer cluster
+.PHONY: run trial build install test wrong model hostile bench audit sql viewer cluster
 
 PREFIX ?= /usr/local
 
 run:
 	@scripts/run_example
 
+trial:
+	@scripts/build_trial
+
 build:
-	@scripts/build_program
+	@scripts/build_programs
 
 install:
 	@scripts/install_programs "$(DESTDIR)" "$(PREFIX)"
@@ -37,6 +45,8 @@ install:
 # At most four checks at once, which take 10 GB: without RT_JOBS rt ci plans for more than they
 # take. The last line of the output is the verdict of rt ci: the cases are silent where all is well.
 test:
+	@scripts/check_documents
+	@scripts/private_definitions
 	scripts/must_not_compile
 	@scripts/version
 	@n=$$(nproc) && RT_JOBS=$${RT_JOBS:-$$((n < 4 ? n : 4))} rt ci
@@ -47,6 +57,9 @@ test:
 
 wrong:
 	@scripts/wrong_bodies $(CRATES)
+
+model:
+	@model/run
 
 hostile:
 	@hostile/refuse

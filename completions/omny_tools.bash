@@ -3,34 +3,60 @@
 _omny_tools() {
     local word=${COMP_WORDS[COMP_CWORD]} before=${COMP_WORDS[COMP_CWORD - 1]} task= given ending=tap
     local words=
+    # bash splits a word at `=`, so that `--ends=F` is the words `--ends`, `=` and `F`
+    if [[ $word == = ]]; then
+        word=
+    elif [[ $before == = && $COMP_CWORD -gt 1 ]]; then
+        before=${COMP_WORDS[COMP_CWORD - 2]}
+    fi
     COMPREPLY=()
     for given in "${COMP_WORDS[@]:1:COMP_CWORD - 1}"; do
         case $given in
         encode | decode | uploads | table | split | merge | merge-ledgers) task=$given && break ;;
         esac
     done
+    # the options of the task, and the ending of its files: * is any name
     case $task in
-    '') words='encode decode uploads table split merge merge-ledgers -h --help -V --version' ;;
-    encode) words='-h --help' ending=csv ;;
-    decode) words='-h --help' ;;
-    uploads) words='--good-part --tokens -h --help' ;;
-    split) words='--parts --part-files --first -h --help' ;;
-    merge) words='--ends --reports -h --help' ending=* ;;
-    merge-ledgers) words='-h --help' ending=csv ;;
+    '') words='-V --version' ;;
+    encode | merge-ledgers) ending=csv ;;
+    uploads) words='--good-part --tokens' ;;
     table)
-        words='--strict --riders --from -h --help'
+        words='--strict --riders --from'
         [[ ${COMP_WORDS[*]:1:COMP_CWORD - 1} == *.toml* ]] || ending=toml
         ;;
+    split) words='--parts --part-files --first' ;;
+    merge) words='--ends --reports' ending='*' ;;
     esac
-    if [[ $before == --from || $before == --parts || $before == --first ]]; then
-        return
-    elif [[ -z $task || $word == -* ]]; then
+    # behind `--` there are only files
+    for given in "${COMP_WORDS[@]:1:COMP_CWORD - 1}"; do
+        [[ $given == -- ]] && before=--
+    done
+    case $before in
+    --from | --parts | --first) return ;;
+    --good-part) ending='*' ;;
+    --part-files) ending=/ ;;
+    esac
+    if [[ $word == -* && $before != -- ]]; then
+        mapfile -t COMPREPLY < <(compgen -W "$words -h --help" -- "$word")
+    elif [[ -z $task ]]; then
+        words='encode decode uploads table split merge merge-ledgers'
         mapfile -t COMPREPLY < <(compgen -W "$words" -- "$word")
     else
-        compopt -o filenames 2> /dev/null
-        mapfile -t COMPREPLY < <(compgen -f -X "!*.$ending" -- "$word"; compgen -d -- "$word")
-        [ ${#COMPREPLY[@]} -gt 0 ] || mapfile -t COMPREPLY < <(compgen -f -- "$word")
+        _omny_tools_files "$word" "$ending"
     fi
+}
+
+# The folders that begin with the word, and the files that do and have this ending; where there is
+# none with the ending, all files that begin with the word. The ending * is any name, and / is a
+# folder alone.
+_omny_tools_files() {
+    compopt -o filenames 2> /dev/null
+    case $2 in
+    '*') mapfile -t COMPREPLY < <(compgen -f -- "$1") && return ;;
+    /) mapfile -t COMPREPLY < <(compgen -d -- "$1") && return ;;
+    esac
+    mapfile -t COMPREPLY < <(compgen -f -X "!*.$2" -- "$1"; compgen -d -- "$1")
+    [ ${#COMPREPLY[@]} -gt 0 ] || mapfile -t COMPREPLY < <(compgen -f -- "$1")
 }
 
 complete -F _omny_tools omny_tools

@@ -5,6 +5,11 @@ function __omny_tools_no_task
     not __fish_seen_subcommand_from encode decode uploads table split merge merge-ledgers
 end
 
+# The fare table is not yet there: the subcommand is `table`, and no word ends in .toml.
+function __omny_tools_no_table
+    __fish_seen_subcommand_from table; and not string match -qr '\.toml$' -- (commandline -opc)
+end
+
 # Files with this ending, then folders and other files.
 function __omny_tools_files --argument-names ending
     __fish_complete_suffix (commandline -ct) $ending | string match -r ".+"
@@ -28,7 +33,8 @@ set -l table '__fish_seen_subcommand_from table'
 complete -c omny_tools -n $table -l strict -d 'Let the status be 1 where there is a warning'
 complete -c omny_tools -n $table -l riders -d 'Tell each rider with its class'
 complete -c omny_tools -n $table -l from -x -d 'Tell the changes of clocks after this moment'
-complete -c omny_tools -n $table -k -a '(__omny_tools_files .toml)'
+complete -c omny_tools -n __omny_tools_no_table -k -a '(__omny_tools_files .toml)'
+complete -c omny_tools -n "$table; and not __omny_tools_no_table" -k -a '(__omny_tools_files .tap)'
 set -l split '__fish_seen_subcommand_from split'
 complete -c omny_tools -n $split -l parts -x -d 'How many parts'
 complete -c omny_tools -n $split -l part-files -x -a '(__fish_complete_directories)' \
@@ -37,7 +43,8 @@ complete -c omny_tools -n $split -l first -x -d 'The number of the first upload'
 set -l merge '__fish_seen_subcommand_from merge'
 complete -c omny_tools -n $merge -l ends -r -d 'How the uploads ended'
 complete -c omny_tools -n $merge -l reports -r -d 'The reports of the parts'
-complete -c omny_tools -n '__fish_seen_subcommand_from merge merge-ledgers' -F
-complete -c omny_tools -n '__fish_seen_subcommand_from encode' -k -a '(__omny_tools_files .csv)'
-complete -c omny_tools -n '__fish_seen_subcommand_from decode uploads table split' -k \
+complete -c omny_tools -n $merge -F
+complete -c omny_tools -n '__fish_seen_subcommand_from encode merge-ledgers' -k \
+    -a '(__omny_tools_files .csv)'
+complete -c omny_tools -n '__fish_seen_subcommand_from decode uploads split' -k \
     -a '(__omny_tools_files .tap)'

@@ -14,8 +14,8 @@ use std::alloc::{AllocError, Global};
 const ABOUT: &str = "Charges the taps of upload files by a fare table, and reports what they cost.
 
 With --table the uploads are posted to accounts, by worker threads, and the report is printed, or
-with --token the statement of one token, or with --ledger the ledger. Without --table, or with --list, the taps are only listed,
-each as live, stale or unknown.";
+with --token the statement of one token, or with --ledger the ledger. Without --table, or with
+--list, the taps are only listed, each as live, stale or unknown.";
 
 /// What the help says last: what is printed, and the exit status.
 const NOTES: &str = "What is printed:
@@ -34,7 +34,7 @@ the fault: `upload 1 refused 2 at 64 L5` in a report, `1 refused 64 L5` in a lis
 
 Examples:
   omny_cli --table table.toml --settle a.tap b.tap
-  omny_cli --table table.toml --token 000000000000000000000000000000a1 a.tap b.tap
+  omny_cli --table table.toml --settle --token 000000000000000000000000000000a1 a.tap b.tap
   omny_cli a.tap
 
 Exit status:
@@ -57,23 +57,20 @@ const SHARDS_HELP: &str = "Over how many shards the accounts are spread, 1 to 64
 
 /// The help of `--token`.
 const TOKEN_HELP: &str =
-    "Print the statement of this token, 32 hexadecimal digits of either case, not the report";
+    "Print the statement of this token, 32 hexadecimal digits, instead of the report";
 
 /// The help of `--settle`.
-const SETTLE_HELP: &str =
-    "Post the taps of all uploads in order of token, moment and validator; needs --table";
+const SETTLE_HELP: &str = "Post all taps in order of token, moment and validator; needs --table";
 
 /// The help of `--ledger`.
-const LEDGER_HELP: &str =
-    "Print the ledger, of all tokens or of that of --token, not the report; needs --table";
+const LEDGER_HELP: &str = "Print the ledger, of all tokens or that of --token; needs --table";
 
 /// The help of `--explain`.
-const EXPLAIN_HELP: &str =
-    "Print the statement of --token with the reason of each line, the terms and all windows";
+const EXPLAIN_HELP: &str = "Print the statement of --token with reasons, the terms and all windows";
 
 /// The help of the files.
 const FILE_HELP: &str =
-    "Uploads, files of TAP1 and TAP2 batches of at most 67108864 bytes [default: standard input]";
+    "Uploads of TAP1 and TAP2 batches, at most 67108864 bytes each [default: standard input]";
 
 /// The command line, as clap reads it.
 fn command<'a>(alloc: Global) -> Result<Command<'a>, AllocError>

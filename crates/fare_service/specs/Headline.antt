@@ -43,6 +43,8 @@ end_of upload [] = Undrawn
 end_of upload (w ∷ works) = if w.upload == upload then w.end else end_of upload works
 
 -- What an outcome of files is, under a table and with so many shards, by what each worker did.
+-- A field marked `follows` says again, in the subject's words, what the named fields imply. No
+-- field says why an upload was cut or left undrawn: see `HaveStopped` and `StoppedWell`.
 pub record Headline (fares : Fares) (shards : ℕ) (files : List (List ℕ))
     (works : List (List Worked)) (outcome : OutcomeView) : Type 0 where
   -- Each worker posted of the uploads that it drew what their bytes call for, and no upload was
@@ -61,14 +63,15 @@ pub record Headline (fares : Fares) (shards : ℕ) (files : List (List ℕ))
       × (book.shards ≡ shards)) outcome.books
   -- whose history is one thread's, each worker's visits in its own order:
   pub one_thread : EachBook (λ shard book. IsOneThread shard works book.entries) outcome.books
-  -- every posted tap stands in it once,
+  -- every posted tap stands in it once (follows from `worked`, `drawn_once` and `one_thread`),
   pub stand_once : EachBook
       (λ shard book. StandOnce shard shards (all_works works) book.entries) outcome.books
   -- and each answer and charge is the account rule's for the earlier taps of the token.
   pub legal : EachBook (λ shard book. IsLegal fares book.entries) outcome.books
-  -- The totals equal the workers' sums, and the books' and the uploads'.
+  -- The totals equal the workers' sums, and the books' and the uploads'. Its fields `books` and
+  -- `uploads` follow from `each`, `workers` and the fields above.
   pub totals : AddUp works outcome
-  -- No window of any token exceeds its limits.
+  -- No window of any token exceeds its limits (follows from `legal`).
   pub limits : EachBook (λ shard book. (token : Token)
       → WindowsKeepLimits fares book.entries token) outcome.books
 

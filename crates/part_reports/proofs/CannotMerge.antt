@@ -79,6 +79,27 @@ fronts_same (one ∷ begun) (part ∷ parts) may fit same =
           ∙ ap (λ more. part_left part ∷ more) rest.1,
     )
 
+-- the taps of the reports that were read are those of the reports that the texts are
+pub reports_taps : (files : List (List ℕ)) (sums : WholeSums) (standings : List Standing)
+    (parts : List Report) → AreParts files sums standings → All IsPartReport parts
+    → files ≡ map report_text parts
+    → sums.totals.taps ≡ sum_by (λ (part : Report). part.totals.taps) parts
+reports_taps files sums standings parts read fit texts =
+    let fronts = fronts_same read.begun parts read.may fit (sym read.shown ∙ texts) in
+    let totals = read.counted.totals ∙ ap (λ fronts. add_all
+    (map (λ (told : ToldFront). told.totals) fronts)) fronts.0
+    ∙ ap add_all (fronts_totals parts) in
+    ap (λ (s : Sums). s.taps) totals ∙ parts_taps parts
+
+-- the taps of the ends that were read are those of the ends that the texts are
+pub uploads_taps : (files : List (List ℕ)) (lists others : List (List End)) (ends : UploadEnds)
+    → files ≡ end_texts 0 lists → HaveReadEnds ends (all_ends lists)
+    → All IsUploadEnd (all_ends others) → files ≡ end_texts 0 others
+    → ends.taps ≡ sum_by (λ (end : End). end.taps) (all_ends others)
+uploads_taps files lists others ends told have fit texts =
+    let joined = ends_same 0 others lists fit have.each (sym texts ∙ told) in
+    have.taps ∙ sym (ap (sum_by (λ (end : End). end.taps)) joined)
+
 -- texts that have a report of the whole have as many taps
 pub same_taps : (end_files report_files : List (List ℕ)) (text : List ℕ) (lists : List (List End))
     (ends : UploadEnds) (sums : WholeSums) (standings : List Standing)
@@ -86,15 +107,11 @@ pub same_taps : (end_files report_files : List (List ℕ)) (text : List ℕ) (li
     → HaveReadEnds ends (all_ends lists) → AreParts report_files sums standings
     → sums.totals.taps ≡ ends.taps
 same_taps end_files report_files text lists ends sums standings merged told have parts =
-    let joined = ends_same 0 merged.ends lists merged.told.ends_fit have.each
-    (sym merged.told.ends_told ∙ told) in
-    let fronts = fronts_same parts.begun merged.parts parts.may merged.told.parts_fit
-    (sym parts.shown ∙ merged.told.parts_told) in
-    let totals = parts.counted.totals ∙ ap (λ fronts. add_all
-    (map (λ (told : ToldFront). told.totals) fronts)) fronts.0
-    ∙ ap add_all (fronts_totals merged.parts) in
-    ap (λ (s : Sums). s.taps) totals ∙ parts_taps merged.parts ∙ merged.told.taps
-    ∙ ap (sum_by (λ (end : End). end.taps)) joined ∙ sym have.taps
+    reports_taps report_files sums standings merged.parts parts merged.told.parts_fit
+    merged.told.parts_told
+    ∙ merged.told.taps
+    ∙ sym (uploads_taps end_files lists merged.ends ends told have merged.told.ends_fit
+    merged.told.ends_told)
 
 -- ---- the lines of the tokens
 abbrev part_lines : List Report → List (List TokenLine)

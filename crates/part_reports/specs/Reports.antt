@@ -77,6 +77,14 @@ pub record AreTold (end_files report_files : List (List ℕ)) (ends : List (List
   pub parts_fit : All IsPartReport parts
   pub taps : sum_by (λ part. part.totals.taps) parts ≡ sum_by (λ end. end.taps) (all_ends ends)
 
+-- So many taps the reports have, and so many the uploads: whatever reports of parts, and whatever
+-- ends of uploads, these texts are.
+pub record HaveTaps (end_files report_files : List (List ℕ)) (reports uploads : ℕ) : Type 0 where
+  pub of_reports : (parts : List Report) → All IsPartReport parts
+      → report_files ≡ map report_text parts → reports ≡ sum_by (λ part. part.totals.taps) parts
+  pub of_uploads : (ends : List (List End)) → All IsUploadEnd (all_ends ends)
+      → end_files ≡ end_texts 0 ends → uploads ≡ sum_by (λ end. end.taps) (all_ends ends)
+
 -- the validators of all parts with their sums, part by part
 abbrev pub validators_of_reports : List Report → List (ℕ × Sums)
 validators_of_reports parts = flat_map (λ part. part.validators) parts

@@ -4,13 +4,14 @@ ghost use Rattle.std.specs.Prelude.{◌≡◌, ◌<◌, ◌≤◌, ◌^◌, ℕ,
 ghost use Rattle.std.specs.Prelude.{IfSome, IsTrue, OnOk, ◌++◌, flat_map, length, map, ◌↔◌};
 ghost use Rattle.std.specs.Io.KnownBytes.{Appends};
 ghost use Rattle.part_reports.specs.Faults.{IsOfTaps, IsOfTexts};
+ghost use Rattle.part_reports.specs.declared.fault.MergeFault.TheVariants.{Taps};
 ghost use Rattle.fare_texts.specs.ReportLines.{validator_line};
 ghost use Rattle.part_reports.specs.Lines.{End};
 ghost use Rattle.std.specs.String.{string_bytes};
 ghost use Rattle.std.specs.BTreeMap.{IsOrdered, get};
 ghost use Rattle.std.specs.Ordering.{nat_cmp};
 ghost use Rattle.part_reports.specs.Reports.{CannotBeMerged, IsMerged, IsPartReport, Report};
-ghost use Rattle.part_reports.specs.Reports.{all_ends};
+ghost use Rattle.part_reports.specs.Reports.{HaveTaps, all_ends};
 ghost use Rattle.part_reports.specs.Reports.{report_text};
 ghost use Rattle.part_reports.specs.Texts.{AreLeft};
 ghost use Rattle.part_reports.specs.inside.UploadEnds.{HaveReadEnds};
@@ -129,7 +130,8 @@ fn front_text(alloc: Global, ends: &UploadEnds, sums: &WholeSums) -> Result<Vec<
 
 /// Reads how the uploads ended and the reports of the parts, and writes the report of the whole:
 /// says whether no upload has a layout fault. Texts are numbered from 0, those of the ends first.
-/// Nothing was written where the reports have other taps than the uploads.
+/// If the reports have more or fewer taps than the uploads, nothing was written, and the fault has
+/// both numbers.
 pub fn merge<R: BufRead + Drop, W: Write>(
     alloc: Global,
     ends: Vec<R>,
@@ -146,6 +148,10 @@ pub fn merge<R: BufRead + Drop, W: Write>(
         → AreLeft R.remaining ends.items end_files → AreLeft R.remaining reports.items report_files
         → length report_files ≤ 2 ^ 31 → CannotBeMerged end_files report_files) }
     ensures nothing { IfErr result (λ fault. IsOfTaps fault → out.new ≡ out.old) }
+    ensures numbers { IfErr result (λ fault. (of_reports of_uploads : ℕ)
+        → fault ≡ Taps of_reports of_uploads → (end_files report_files : List (List ℕ))
+        → AreLeft R.remaining ends.items end_files → AreLeft R.remaining reports.items report_files
+        → HaveTaps end_files report_files of_reports of_uploads) }
 {
     let first = ends.len();
     let ends = read_ends(alloc, ends)?;

@@ -15,7 +15,7 @@ use tap_views::TapFields;
 fn number_of(pieces: &[PartTaps]) -> usize {
     let mut number = 0usize;
     for piece in pieces {
-        number = number.saturating_add(piece.as_slice().len());
+        number = number.saturating_add(piece.len());
     }
     number
 }
@@ -28,7 +28,7 @@ pub(crate) fn append_pieces(pieces: &[PartTaps], taps: &mut Vec<TapFields>) -> R
     taps.clear();
     taps.reserve(number_of(pieces))?;
     for piece in pieces {
-        taps.extend_from_slice(piece.as_slice())?;
+        piece.append_to(taps)?;
     }
     Ok(())
 }

@@ -1,6 +1,7 @@
 pub mod Adding
 pub mod Buckets
 pub mod Early
+pub mod FullBatches
 pub mod Places
 pub mod RangeLemmas
 pub mod Texts

@@ -67,8 +67,9 @@ impl Split {
         ensures { IfOk result (λ file. (parts : ℕ) (uploads : List (List ℕ))
             → AreSplit parts uploads self.now → IsSplitFile uploads parts part file.items) }
     {
-        let taps = arranged(alloc, self.parts.part(part))?;
-        let file = part_file(alloc, &taps)?;
+        let taps = self.parts.part(alloc, part)?;
+        let list = arranged(alloc, &taps)?;
+        let file = part_file(alloc, &list)?;
         Ok(file)
     }
 }

@@ -1,4 +1,4 @@
-use Rattle.std.proofs.Common.{◌∙◌, map, sym, subst}
+use Rattle.std.proofs.Common.{◌≡◌, ◌∙◌, map, sym, subst}
 use Rattle.std.specs.List.{AllZip}
 use Rattle.std.specs.Io.KnownBytes.{Appends}
 use Rattle.part_reports.specs.inside.Parts.{left_text}
@@ -6,7 +6,7 @@ use Rattle.part_reports.specs.inside.Standings.{StandsInText, standing}
 use Rattle.part_reports.proofs.WholeReports.{merged}
 use Rattle.std.proofs.lemmas.Result.{err_from_is_err_and}
 use Rattle.part_reports.specs.Faults.{IsOfTexts}
-use Rattle.part_reports.proofs.CannotMerge.{joined_too, same_taps}
+use Rattle.part_reports.proofs.CannotMerge.{joined_too, reports_taps, same_taps, uploads_taps}
 use Rattle.part_reports.proofs.reports.merge.Goals as goal
 
 pub returns-clause-whole : goal.returns-clause-whole
@@ -59,3 +59,20 @@ returns-in_err-write_merged-clause-refused g c =
     c.in_err-write_merged.ensures.refused of_texts texts
     (subst (λ sources. AllZip StandsInText texts (map (standing g.R.Read.remaining) sources))
     (sym c.deref_mut.ensures.value) parts.stand) lists joined told is)
+
+pub returns-then-parts-ends-clause-numbers : goal.returns-then-parts-ends-clause-numbers
+returns-then-parts-ends-clause-numbers g c =
+    λ of_reports of_uploads is end_files report_files ends_are reports_are.
+    let told = c.in_ok-ends.ensures.told end_files ends_are in
+    let read = c.in_ok-parts.ensures.read report_files reports_are in
+    let sources = c.in_ok-parts.parts.sources.items in
+    let reports_are : c.in_ok-parts.parts.sums.totals.taps ≡ of_reports = cc in
+    let uploads_are : c.in_ok-ends.ends.taps ≡ of_uploads = cc in
+    record {
+      of_reports = λ parts fit texts.
+          sym reports_are ∙ reports_taps report_files c.in_ok-parts.parts.sums
+          (map (standing g.R.Read.remaining) sources) parts read fit texts;
+      of_uploads = λ ends fit texts.
+          sym uploads_are ∙ uploads_taps end_files told.0 ends c.in_ok-ends.ends told.1 told.2 fit
+          texts;
+    }

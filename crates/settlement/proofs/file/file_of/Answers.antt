@@ -26,5 +26,5 @@ returns c =
           (c.deref.ensures.value ∙ (c.in_ok-append_pieces.ensures ∙ c.as_slice.ensures))
           c.in_ok-arrange_into.ensures;
       reads = subst (λ ts. IsFileOf c.in_ok-file.file.items ts) c.deref-2.ensures.value
-          c.in_ok-file.ensures;
+          c.in_ok-file.ensures.file;
     }

@@ -1,12 +1,13 @@
 use Rattle.std.proofs.Common.{◌≡◌, ◌<◌, ◌++◌, ◌∙◌, ◌∷◌, List, [], length, take, refl, sym, ap}
-use Rattle.std.proofs.Common.{subst, arith, append-nil, append_assoc, false, ◌==◌}
+use Rattle.std.proofs.Common.{subst, arith, append-nil, append_assoc, false, true, ◌==◌, length-append}
 use Rattle.std.proofs.lemmas.Bool.{eqb-true}
 use Rattle.std.proofs.lemmas.Bool.Decides.{nat_tests}
 use Rattle.std.proofs.lemmas.List.{take-append-drop}
 use Rattle.std.proofs.lemmas.List.Elements.{All-drop, All-same}
 use Rattle.tap_views.specs.Layout.{moment_limit}
 use Rattle.tap_views.specs.declared.encoder.TapFields.{TapFields}
-use Rattle.tap_parts.specs.Parts.{IsFileOf}
+use Rattle.tap_parts.specs.Parts.{IsFileOf, IsInFullBatches}
+use Rattle.tap_parts.proofs.FullBatches.{AreInBatches, full_size, more_batches, no_batches}
 use Rattle.tap_parts.proofs.Texts.{more_text, no_text}
 use Rattle.tap_parts.proofs.file.part_file.Goals as goal
 
@@ -17,8 +18,15 @@ nothing : (xs : List TapFields) → length xs ≡ 0 → xs ≡ []
 nothing [] e = refl
 nothing (x ∷ xs) e = absurd (omega (arith, e))
 
+all_done : (done left taps : List TapFields) → done ++ left ≡ taps → (length left == 0) ≡ true
+    → done ≡ taps
+all_done done left taps all test =
+    sym (append-nil done) ∙ ap (λ more. done ++ more) (sym (nothing left (eqb-true (length left) 0 test)))
+    ∙ all
+
 pub loop-left-init : goal.loop-left-init
-loop-left-init c = rw c.in_ok-text.ensures.items ([], no_text, refl, c.requires)
+loop-left-init c =
+    rw c.in_ok-text.ensures.items ([], no_text, refl, c.requires, no_batches (length c.args.taps.now))
 
 pub loop-left-smaller : goal.loop-left-smaller
 loop-left-smaller c =
@@ -33,26 +41,49 @@ loop-left-smaller c =
 
 pub loop-left-preserved : goal.loop-left-preserved
 loop-left-preserved c =
-    let (done, file, all, early) = c.loop-left.invariant in
+    let (done, file, all, early, batches) = c.loop-left.invariant in
+    let left = c.loop-left.left.now in
     let batch = c.split_at.result.0.now in
+    let rest = c.split_at.result.1.now in
     let (bytes, text, encoded) = c.in_ok-put_batch.ensures in
-    let joined : batch ++ c.split_at.result.1.now ≡ c.loop-left.left.now =
-    ap (λ front. front ++ c.split_at.result.1.now) c.split_at.ensures.front
-    ∙ ap (λ back. take c.min.result c.loop-left.left.now ++ back) c.split_at.ensures.back
-    ∙ take-append-drop c.min.result c.loop-left.left.now in (
+    let joined : batch ++ rest ≡ left =
+    ap (λ front. front ++ rest) c.split_at.ensures.front
+    ∙ ap (λ back. take c.min.result left ++ back) c.split_at.ensures.back
+    ∙ take-append-drop c.min.result left in
+    let test : (length left == 0) ≡ false = sym c.is_empty.ensures ∙ c.loop-left-test.true in
+    let some : 0 < length left = grind (arith, nat_tests, test) in
+    let least = c.min.ensures in
+    let back = c.split_at.ensures.back_len in
+    let both = ap length joined in
+    let parts = length-append batch rest in
+    let any : 0 < length batch = omega (arith, some, least, back, both, parts) in (
       done ++ batch,
       subst (λ items. IsFileOf items (done ++ batch)) (sym text)
           (more_text c.loop-left.text.items bytes done batch file encoded),
-      append_assoc done batch c.split_at.result.1.now ∙ ap (λ taps. done ++ taps) joined ∙ all,
-      All-same Early _ _ c.split_at.ensures.back
-          (All-drop Early c.min.result c.loop-left.left.now early),
+      append_assoc done batch rest ∙ ap (λ taps. done ++ taps) joined ∙ all,
+      All-same Early _ _ c.split_at.ensures.back (All-drop Early c.min.result left early),
+      subst (λ items. AreInBatches items (done ++ batch) (length rest)) (sym text)
+          (more_batches c.loop-left.text.items bytes done batch (length left) (length rest) batches
+          some encoded any (λ more. omega (arith, some, least, back, both, parts, more))),
     )
 
-pub returns : goal.returns
-returns c =
-    let (done, file, all, early) = c.loop-left.invariant in
-    let empty = nothing c.loop-left.left.now
-    (eqb-true (length c.loop-left.left.now) 0 (sym c.is_empty.ensures
-    ∙ c.loop-left-test.false)) in
-    subst (λ taps. IsFileOf c.loop-left.text.items taps) (sym (append-nil done)
-    ∙ ap (λ taps. done ++ taps) (sym empty) ∙ all) file
+pub returns-clause-file : goal.returns-clause-file
+returns-clause-file c =
+    let (done, file, all, early, batches) = c.loop-left.invariant in
+    subst (λ taps. IsFileOf c.loop-left.text.items taps)
+    (all_done done c.loop-left.left.now _ all (sym c.is_empty.ensures ∙ c.loop-left-test.false)) file
+
+pub returns-clause-batches : goal.returns-clause-batches
+returns-clause-batches c =
+    let (done, file, all, early, batches) = c.loop-left.invariant in
+    subst (λ taps. IsInFullBatches c.loop-left.text.items taps)
+    (all_done done c.loop-left.left.now _ all (sym c.is_empty.ensures ∙ c.loop-left-test.false))
+    batches.is
+
+pub returns-clause-size : goal.returns-clause-size
+returns-clause-size c =
+    let (done, file, all, early, batches) = c.loop-left.invariant in
+    full_size c.loop-left.text.items c.args.taps.now
+    (subst (λ taps. IsInFullBatches c.loop-left.text.items taps)
+    (all_done done c.loop-left.left.now _ all (sym c.is_empty.ensures ∙ c.loop-left-test.false))
+    batches.is)

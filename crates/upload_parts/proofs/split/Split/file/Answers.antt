@@ -15,26 +15,28 @@ part_file-requires c =
     let within : c.args.part < length lists =
     subst (λ (ls : List (List TapFields)). c.args.part < length ls) (sym c.self.view_is)
     c.requires in
-    let early : E c.part.result.now =
-    subst E (sym c.part.ensures) (c.self.invariant c.args.part [] within) in
-    let moved = c.in_ok-taps.ensures.moved in
-    subst E (sym c.deref.ensures.value)
-    (All-permutation (λ (tap : TapFields). tap.moment < moment_limit) c.part.result.now
-    c.in_ok-taps.taps.items moved early)
+    let early : E c.deref.result.now =
+    subst E (sym (c.deref.ensures.value ∙ c.in_ok-taps.ensures))
+    (c.self.invariant c.args.part [] within) in
+    let moved = c.in_ok-list.ensures.moved in
+    subst E (sym c.deref-2.ensures.value)
+    (All-permutation (λ (tap : TapFields). tap.moment < moment_limit) c.deref.result.now
+    c.in_ok-list.list.items moved early)
 
 pub returns : goal.returns
 returns c = λ parts uploads split.
-    let list = c.in_ok-taps.taps.items in
+    let list = c.in_ok-list.list.items in
     let own : List TapFields = map fields_of (of_part c.args.part parts (taps_of_uploads split.taps)) in
     let within : c.args.part < parts = subst (λ n. c.args.part < n) split.number c.requires in
-    let same : c.part.result.now ≡ own =
-    c.part.ensures ∙ ap (λ (ls : List (List TapFields)). get_or ls c.args.part [])
-    c.self.view_is ∙ split.each c.args.part within in
+    let same : c.deref.result.now ≡ own =
+    c.deref.ensures.value ∙ c.in_ok-taps.ensures
+    ∙ ap (λ (ls : List (List TapFields)). get_or ls c.args.part []) c.self.view_is
+    ∙ split.each c.args.part within in
     record {
       taps = split.taps;
       of_uploads = split.of_uploads;
       list = list;
-      canonical = subst (λ taps. IsCanonical taps list) same c.in_ok-taps.ensures;
-      reads = subst (λ taps. IsFileOf c.in_ok-file.file.items taps) c.deref.ensures.value
-          c.in_ok-file.ensures;
+      canonical = subst (λ taps. IsCanonical taps list) same c.in_ok-list.ensures;
+      reads = subst (λ taps. IsFileOf c.in_ok-file.file.items taps) c.deref-2.ensures.value
+          c.in_ok-file.ensures.file;
     }
