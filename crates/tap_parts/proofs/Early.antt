@@ -6,7 +6,7 @@ use Rattle.tap_views.specs.Encoding.{fields_of, AreEarly}
 use Rattle.tap_views.specs.Files.{IsFile}
 use Rattle.tap_views.specs.Layout.{Tap, Layout, Tap1, Tap2, IsTapOf, num, moment_limit}
 use Rattle.tap_views.specs.declared.encoder.TapFields.{TapFields}
-use Rattle.tap_parts.specs.Parts.{part_of_token, of_part}
+use Rattle.tap_parts.specs.Parts.{taps_at}
 
 abbrev pub Early : Tap → Type 0
 Early tap = num tap.moment < moment_limit
@@ -29,8 +29,8 @@ file_early file (batch ∷ batches) rest is =
     All-append Early batch (flat_map (λ (b : List Tap). b) batches)
     (batch_early one.0 batch one.1.each) (file_early back batches rest more)
 
-pub part_early : (part parts : ℕ) (taps : List Tap) → All Early taps
-    → AreEarly (λ (f : TapFields). f.moment) (map fields_of (of_part part parts taps))
-part_early part parts taps early =
-    All-map (λ (f : TapFields). f.moment < moment_limit) fields_of (of_part part parts taps)
-    (All-filter (λ (tap : Tap). part_of_token tap.token parts == part) Early taps early)
+pub part_early : (part_of : List ℕ → ℕ) (part : ℕ) (taps : List Tap) → All Early taps
+    → AreEarly (λ (f : TapFields). f.moment) (map fields_of (taps_at part_of part taps))
+part_early part_of part taps early =
+    All-map (λ (f : TapFields). f.moment < moment_limit) fields_of (taps_at part_of part taps)
+    (All-filter (λ (tap : Tap). part_of tap.token == part) Early taps early)

@@ -7,7 +7,7 @@ ghost use Rattle.upload_parts.specs.Split.{AreSplit, IsSplitEnd, IsSplitFile};
 
 use std::alloc::{AllocError, Global};
 use std::marker::Model;
-use tap_parts::{Parts, UploadTaps, arranged, part_file};
+use tap_parts::{EqualParts, Parts, UploadTaps, arranged, part_file};
 
 /// The taps of uploads, split by token into parts. Contracts see the taps of each part, in the
 /// order of the uploads.
@@ -49,7 +49,8 @@ impl Split {
         ensures end { IfOk result (λ more. IsSplitEnd upload.now more.1) }
     {
         let mut parts = self.parts;
-        let end = parts.add_upload(upload)?;
+        let rule = EqualParts::new(parts.len());
+        let end = parts.add_upload(&rule, upload)?;
         Ok((Split { parts }, end))
     }
 
