@@ -11,12 +11,14 @@
 //! | `lines`, `uploads` | the text of a listing |
 //! | `run` | a run of the service |
 //! | `settle` | taps that are put into their one order before they are posted |
+//! | `bill` | the report of settled files, account by account |
 //! | `posting` | files that are posted, settled or not, and the text that is asked for |
 //! | `output` | texts written out whole |
 //! | `fault` | why the program gives up, and the line that says so |
 //! | `program` | the whole |
 #![tactic(auto)]
 
+mod bill;
 mod command_line;
 mod fault;
 mod files_ahead;

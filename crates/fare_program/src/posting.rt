@@ -6,6 +6,7 @@ ghost use Rattle.fare_program.specs.inside.Options.{asked_of};
 ghost use Rattle.fare_program.specs.Program.{ShowsAsked, ShowsOf, ShowsStatement, ShowsWith};
 ghost use Rattle.fare_program.specs.inside.PostedFiles.{IsAskedOutcome, ends_of};
 
+use crate::bill::write_bill;
 use crate::fault::Fault;
 use crate::options::Options;
 use crate::output::flush;
@@ -153,6 +154,9 @@ pub(crate) fn charge<'a, R: Threads + Wait + RandomSource + Sync, W: Write>(
     ensures fault { IfErr result (λ fault. fault ≢ Fault.Write
         → Keeps (W.contents out.old) (W.contents out.new)) }
 {
+    if options.settle && !options.ledger && token.is_none() {
+        return write_bill(rt, alloc, &table, options.workers, files, out);
+    }
     let posted = post(rt, alloc, table, options, files)?;
     let ends = posted.ends();
     print_asked(rt, alloc, options, &posted.outcome, ends, token, out)?;

@@ -148,7 +148,7 @@ keys_joined xs ys below =
           ∙ sym (among_append xs ys key);
     })
 
-less_apart : (a b : Token) → token_cmp a b ≡ Less → token_eq b a ≡ false
+pub less_apart : (a b : Token) → token_cmp a b ≡ Less → token_eq b a ≡ false
 less_apart a b less = ⊎_elim
     (λ (same : token_eq b a ≡ true).
     let is : b ≡ a = same_token b a same in
@@ -158,7 +158,7 @@ less_apart a b less = ⊎_elim
     (λ (apart : token_eq b a ≡ false). apart)
     (cases_Bool (token_eq b a))
 
-none_of : (token : Token) (entries : List Entry)
+pub none_of : (token : Token) (entries : List Entry)
     → All (λ t. token_eq t token ≡ false) (map token_of entries) → own token entries ≡ []
 unfolding own
 none_of token [] all = refl

@@ -114,7 +114,7 @@ placed part_of part all file taps cut of is =
     let p : TapFields → Bool = λ f. part_of f.token == part in
     let P : List TapFields → Type 0 = λ fs. All (λ f. p f ≡ true) fs in
     let Q : List TapFields → Type 0 = λ fs. All (IsIn part_of part) fs × Pairs Rises fs in
-    let passes = subst P (sym (part_fields part part_of all)) (filter_passes p (map fields_of all)) in
+    let passes = subst P (sym (part_fields part_of part all)) (filter_passes p (map fields_of all)) in
     let moved = All-permutation (λ f. p f ≡ true) (map fields_of (taps_at part_of part all)) is.list
     is.canonical.moved passes in
     subst Q same (

@@ -31,7 +31,7 @@ use Rattle.fare_service.specs.Plain.{token_of_bytes}
 use Rattle.settlement.specs.Apart.{AreBelow, AreOthers}
 use Rattle.settlement.specs.Posted.{HasName, posted, posted_after, token_of_tap}
 use Rattle.settlement.specs.inside.Billing.{ArePartsInOrder}
-use Rattle.settlement.proofs.Billing.{tokens_posted}
+use Rattle.settlement.proofs.TokenRuns.{tokens_posted}
 use Rattle.settlement.proofs.Concats.{less_apart, none_of, posted_apart}
 use Rattle.settlement.proofs.Own.{IsNamedBy}
 use Rattle.settlement.proofs.Placed.{all_map}
@@ -127,7 +127,7 @@ AreTapsBelow taps others =
     All (λ (tap : TapFields). All (λ (other : TapFields).
     token_cmp (token_of_tap tap) (token_of_tap other) ≡ Less) others) taps
 
-unmapped : (P : Token → Type 0) (taps : List TapFields) → All P (map token_of_tap taps)
+pub unmapped : (P : Token → Type 0) (taps : List TapFields) → All P (map token_of_tap taps)
     → All (λ (tap : TapFields). P (token_of_tap tap)) taps
 unmapped P [] all = All-nil (λ (tap : TapFields). P (token_of_tap tap))
 unmapped P (tap ∷ taps) all =
@@ -276,14 +276,14 @@ below_all list (l ∷ lists) below =
         (All-tail (λ s. All (λ o. token_cmp s o ≡ Less)
         (map token_of_tap (flat_map (λ x. x) lists))) t tokens other))
 
+no_taps : (fares : Fares) → posted fares [] ≡ []
+unfolding posted_after
+no_taps fares = refl
+
 -- the history of lists in order is the lists' histories, one behind the other
 pub posted_each : (fares : Fares) (lists : List (List TapFields)) → ArePartsInOrder lists
     → posted fares (flat_map (λ list. list) lists) ≡ flat_map (posted fares) lists
 posted_each fares [] order = no_taps fares
-  where
-    no_taps : (fares : Fares) → posted fares [] ≡ []
-    unfolding posted_after
-    no_taps fares = refl
 posted_each fares (list ∷ lists) order =
     posted_below fares list (flat_map (λ l. l) lists) (below_all list lists order.0)
     ∙ ap (λ (es : List Entry). posted fares list ++ es) (posted_each fares lists order.1)

@@ -1,18 +1,18 @@
 //! The bill of settled taps: their sums, which each token's account gives in turn.
 
-ghost use Rattle.std.specs.Prelude.{◌≡◌, ◌<◌, ◌++◌, ◌∷◌, [], List, All, length, map, take, OnOk};
-ghost use Rattle.std.specs.Prelude.{slice_get, slice_index, ◌≢◌, ◌≤◌, Some};
+ghost use Rattle.std.specs.Prelude.{◌≡◌, ◌≢◌, ◌<◌, ◌≤◌, ◌++◌, ◌∷◌, [], ℕ, List, All, length, map};
+ghost use Rattle.std.specs.Prelude.{slice_index_or, take, IfOk, OnOk};
 ghost use Rattle.std.specs.List.Sorted.{IsSorted};
 ghost use Rattle.fare_table.specs.declared.token.Token.{Token};
 ghost use Rattle.tap_views.specs.Encoding.{AreEarly};
 ghost use Rattle.tap_views.specs.declared.encoder.TapFields.{TapFields};
 ghost use Rattle.tap_parts.specs.Canonical.{HasTokenBytes, tap_cmp};
-ghost use Rattle.shard_book.specs.SumsByKey.{token_of};
+ghost use Rattle.shard_book.specs.SumsByKey.{sums_by_token, token_of};
 ghost use Rattle.shard_book.specs.declared.entry.Entry.{Entry};
 ghost use Rattle.settlement.specs.Apart.{AreBelow};
-ghost use Rattle.settlement.specs.Bills.{IsBillOf};
+ghost use Rattle.settlement.specs.Bills.{IsBillOf, IsCountOf};
 ghost use Rattle.settlement.specs.Posted.{posted, token_of_tap};
-ghost use Rattle.settlement.specs.inside.Billing.{HasBillRoom, HaveBillRoom};
+ghost use Rattle.settlement.specs.inside.Billing.{HasBillRoom, HaveBillRoom, IsRun};
 
 use crate::replay::Replay;
 use fare_table::{Clock, FareTable, NoMemory};
@@ -31,18 +31,27 @@ pub struct Bill {
     pub totals: Tally,
 }
 
-/// How many of the first taps have the token of the first one.
-fn run_length(taps: &[TapFields]) -> usize
-    requires { 0 < length taps.now }
+/// The token of a tap.
+#[inline(always)]
+fn token_of(tap: &TapFields) -> Token
+    ensures { result ≡ token_of_tap tap.now }
+{
+    Token::of(&tap.token)
+}
+
+/// How many of the first taps have the token, which the first one has.
+fn run_length(token: Token, taps: &[TapFields]) -> usize
+    requires some { 0 < length taps.now }
+    requires first { (tap : TapFields) → token_of_tap (slice_index_or taps.now 0 tap) ≡ token }
     ensures some { 0 < result }
     ensures most { result ≤ length taps.now }
-    ensures same { All (λ tap. tap.token ≡ (slice_index taps.now 0).token) (take result taps.now) }
-    ensures next { (tap : TapFields) → slice_get taps.now result ≡ Some tap
-        → tap.token ≢ (slice_index taps.now 0).token }
+    ensures same { (i : ℕ) (tap : TapFields) → i < result
+        → token_of_tap (slice_index_or taps.now i tap) ≡ token }
+    ensures next { (tap : TapFields) → result < length taps.now
+        → token_of_tap (slice_index_or taps.now result tap) ≢ token }
 {
-    let token = &taps[0].token;
-    for (place, tap) in taps.iter().enumerate() {
-        if tap.token != *token {
+    for place in 1..taps.len() {
+        if token_of(&taps[place]) != token {
             return place;
         }
     }
@@ -75,9 +84,11 @@ impl Bill {
         requires early { AreEarly (λ tap. tap.moment) taps.now }
         requires its { All (λ tap. token_of_tap tap ≡ token) taps.now }
         requires room { HasBillRoom self.old (length taps.now) }
-        ensures { OnOk result ((before : List Entry) → IsBillOf before self.old
-            → AreBelow (map token_of before) (token ∷ [])
-            → IsBillOf (before ++ posted table.now taps.now) self.new) }
+        ensures counted { OnOk result ((before : List Entry) → IsCountOf before self.old
+            → IsCountOf (before ++ posted table.now taps.now) self.new) }
+        ensures tokens { OnOk result ((before : List Entry)
+            → self.old.tokens ≡ sums_by_token before → AreBelow (map token_of before) (token ∷ [])
+            → self.new.tokens ≡ sums_by_token (before ++ posted table.now taps.now)) }
     {
         let mut replay = Replay::of(token);
         let mut tally = Tally::new();
@@ -87,7 +98,35 @@ impl Bill {
             self.validators.add(&entry)?;
         }
         self.totals.add_all(&tally);
-        self.tokens.push(alloc, token, &tally)
+        self.tokens.push(alloc, token, &tally)?;
+        Ok(())
+    }
+
+    /// Adds the taps of the first token, and returns how many these are. The taps are in canonical
+    /// order.
+    fn add_run(
+        &mut self,
+        alloc: Global,
+        table: &FareTable,
+        clock: &Clock,
+        taps: &[TapFields],
+    ) -> Result<usize, NoMemory>
+        requires clock { clock.now ≡ table.now.zone }
+        requires some { 0 < length taps.now }
+        requires early { AreEarly (λ tap. tap.moment) taps.now }
+        requires room { HasBillRoom self.old (length taps.now) }
+        ensures run { IfOk result (λ length. IsRun taps.now length) }
+        ensures counted { IfOk result (λ length. (before : List Entry) → IsCountOf before self.old
+            → IsCountOf (before ++ posted table.now (take length taps.now)) self.new) }
+        ensures tokens { IfOk result (λ length. (before : List Entry)
+            → self.old.tokens ≡ sums_by_token before
+            → AreBelow (map token_of before) (map token_of_tap (take length taps.now))
+            → self.new.tokens ≡ sums_by_token (before ++ posted table.now (take length taps.now))) }
+    {
+        let token = token_of(&taps[0]);
+        let length = run_length(token, taps);
+        self.add_token(alloc, table, clock, token, &taps[..length])?;
+        Ok(length)
     }
 
     /// Adds taps in canonical order, whose tokens are all above those of the bill. After want of
@@ -104,17 +143,16 @@ impl Bill {
         requires sorted { IsSorted tap_cmp taps.now }
         requires tokens { All HasTokenBytes taps.now }
         requires room { HasBillRoom self.old (length taps.now) }
-        ensures { OnOk result ((before : List Entry) → IsBillOf before self.old
+        ensures counted { OnOk result ((before : List Entry) → IsCountOf before self.old
+            → IsCountOf (before ++ posted table.now taps.now) self.new) }
+        ensures tokens { OnOk result ((before : List Entry)
+            → self.old.tokens ≡ sums_by_token before
             → AreBelow (map token_of before) (map token_of_tap taps.now)
-            → IsBillOf (before ++ posted table.now taps.now) self.new) }
+            → self.new.tokens ≡ sums_by_token (before ++ posted table.now taps.now)) }
     {
         let mut start = 0usize;
         while start < taps.len() {
-            let rest = &taps[start..];
-            let length = run_length(rest);
-            let token = Token::of(&rest[0].token);
-            self.add_token(alloc, table, clock, token, &rest[..length])?;
-            start += length;
+            start += self.add_run(alloc, table, clock, &taps[start..])?;
         }
         Ok(())
     }

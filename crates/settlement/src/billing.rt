@@ -2,15 +2,8 @@
 
 ghost use Rattle.std.specs.Prelude.{◌≡◌, ◌+◌, ◌^◌, ◌≤◌, ◌++◌, All, List, length, map, IfOk, OnOk};
 ghost use denote.Param.Send.{IsSync};
-ghost use Rattle.tap_views.specs.declared.encoder.TapFields.{TapFields};
-ghost use Rattle.tap_parts.specs.Canonical.{IsCanonical};
-ghost use Rattle.shard_book.specs.SumsByKey.{token_of};
-ghost use Rattle.shard_book.specs.declared.entry.Entry.{Entry};
-ghost use Rattle.settlement.specs.Apart.{AreBelow};
-ghost use Rattle.settlement.specs.Bills.{IsBillOf};
-ghost use Rattle.settlement.specs.Posted.{posted, token_of_tap};
 ghost use Rattle.settlement.specs.inside.Billing.{ArePartsInOrder, HasBillRoom, IsBillOfParts};
-ghost use Rattle.settlement.specs.inside.Billing.{IsSoundPart};
+ghost use Rattle.settlement.specs.inside.Billing.{IsPartBilled, IsSoundPart};
 
 use crate::bill::Bill;
 use crate::file::append_pieces;
@@ -22,7 +15,7 @@ use std::alloc::Global;
 use std::marker::Sync;
 use std::thread;
 use std::thread::Threads;
-use tap_parts::arrange_into;
+use tap_parts::{arrange_into, number_of};
 use tap_views::TapFields;
 
 /// Adds the taps of a part to the bill, in canonical order. The memory of the pieces is given back.
@@ -39,16 +32,15 @@ fn add_part(
     requires clock { clock.now ≡ table.now.zone }
     requires sound { IsSoundPart pieces }
     requires room { HasBillRoom bill.old (2 ^ 58) }
-    ensures { OnOk result ((list : List TapFields) × IsCanonical pieces list
-        × (length list ≤ 2 ^ 58)
-        × ((before : List Entry) → IsBillOf before bill.old
-        → AreBelow (map token_of before) (map token_of_tap pieces)
-        → IsBillOf (before ++ posted table.now list) bill.new)) }
+    ensures { OnOk result (IsPartBilled table.now pieces bill.old bill.new) }
 {
     append_pieces(pieces.as_slice(), taps)?;
     drop(pieces);
     arrange_into(alloc, taps, list)?;
-    bill.add(alloc, table, clock, list)
+    // proof: a list has fewer than 2^58 taps
+    let _ = number_of(list);
+    bill.add(alloc, table, clock, list)?;
+    Ok(())
 }
 
 /// The bill of the parts, in their order. The memory of a part is given back as soon as its taps
@@ -110,12 +102,12 @@ pub(crate) fn bill_by_threads<R: Threads + Sync>(
     let first = move || -> Result<Bill, NoMemory>
         requires { IsSync R.row × All IsSoundPart front.items
             × ArePartsInOrder front.items × (length front.items ≤ 65535) }
-        ensures { IfOk result (IsBillOfParts table.now front.items) }
+        ensures { IfOk result (IsBillOfParts table.entry.now front.items) }
     { bill_by_threads(rt, alloc, table, seed, front, fewer) };
     let second = move || -> Result<Bill, NoMemory>
         requires { IsSync R.row × All IsSoundPart back.items
             × ArePartsInOrder back.items × (length back.items ≤ 65535) }
-        ensures { IfOk result (IsBillOfParts table.now back.items) }
+        ensures { IfOk result (IsBillOfParts table.entry.now back.items) }
     { bill_by_threads(rt, alloc, table, seed, back, fewer) };
     let (bill, more) = thread::join(rt, first, second);
     let mut bill = bill?;

@@ -1,6 +1,6 @@
 //! Uploads, settled.
 
-ghost use Rattle.std.specs.Prelude.{◌<◌, ◌≤◌, IfOk, List, length, map};
+ghost use Rattle.std.specs.Prelude.{◌<◌, ◌≤◌, ◌^◌, IfOk, List, length, map};
 ghost use Rattle.fare_service.specs.Plain.{ArePlainEnds};
 ghost use Rattle.shard_book.specs.declared.entry.Entry.{Entry};
 ghost use Rattle.settlement.specs.Bills.{IsBillOf};
@@ -122,7 +122,7 @@ fn halvings_for(workers: u32) -> u32 {
 
 /// The bill of the settled history of uploads, by so many workers: account by account, with no book
 /// and no entry kept. It does not depend on the number of workers. Its one error is want of memory.
-pub fn bill<R: Threads + Sync>(
+pub fn settled_bill<R: Threads + Sync>(
     rt: &R,
     alloc: Global,
     table: &FareTable,
@@ -134,7 +134,7 @@ pub fn bill<R: Threads + Sync>(
         ArePlainEnds (map (λ upload. upload.items) uploads.items) made.ends.items) }
     ensures billed { IfOk result (λ made. (history : List Entry)
         × IsSettledHistory table.now (map (λ upload. upload.items) uploads.items) history
-        × IsBillOf history made.bill) }
+        × IsBillOf history made.bill × (length history ≤ 2 ^ 95)) }
 {
     let SplitUploads { ends, parts } = split(rt, alloc, uploads)?;
     let bill = bill_by_threads(rt, alloc, table, seed, parts, halvings_for(workers))?;

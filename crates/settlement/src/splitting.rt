@@ -121,14 +121,14 @@ pub(crate) fn split_by_threads<R: Threads + Sync>(
     let (front, back) = halves(uploads)?;
     let first = move || -> Result<SplitTaps, AllocError>
         requires { IsSync R.row }
-        ensures { IfOk result (λ split. AreInParts (range_of_token ranges.now)
-            (length ranges.now + 1) (map (λ upload. upload.items) front.items)
+        ensures { IfOk result (λ split. AreInParts (range_of_token ranges.entry.now)
+            (length ranges.entry.now + 1) (map (λ upload. upload.items) front.items)
             split.lists.items split.ends.items) }
     { split_by_threads(rt, alloc, ranges, front, fewer) };
     let second = move || -> Result<SplitTaps, AllocError>
         requires { IsSync R.row }
-        ensures { IfOk result (λ split. AreInParts (range_of_token ranges.now)
-            (length ranges.now + 1) (map (λ upload. upload.items) back.items)
+        ensures { IfOk result (λ split. AreInParts (range_of_token ranges.entry.now)
+            (length ranges.entry.now + 1) (map (λ upload. upload.items) back.items)
             split.lists.items split.ends.items) }
     { split_by_threads(rt, alloc, ranges, back, fewer) };
     let (split, more) = thread::join(rt, first, second);

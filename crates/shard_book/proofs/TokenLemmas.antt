@@ -21,13 +21,13 @@ pub token_eq-laws : IsEquivalence token_eq
 token_eq-laws = record { refl = token_eq-refl; symm = token_eq-sym; congr = λ a b c same. ap (λ (t : Token). token_eq t c) (same_token a b same) }
 
 -- the high number is that of the first eight bytes
-high_back : (token : Token) → Fits token → from_be_bytes w64 (take 8 (bytes_of token)) ≡ token.high
+pub high_back : (token : Token) → Fits token → from_be_bytes w64 (take 8 (bytes_of token)) ≡ token.high
 unfolding bytes_of
 high_back token fits =
     ap (from_be_bytes w64) (take_at (to_be_bytes w64 token.high) (to_be_bytes w64 token.low) 8 refl) ∙ from_be_bytes-to_be_bytes_8 token.high fits.high
 
 -- the low number is that of the other eight bytes
-low_back : (token : Token) → Fits token → from_be_bytes w64 (drop 8 (bytes_of token)) ≡ token.low
+pub low_back : (token : Token) → Fits token → from_be_bytes w64 (drop 8 (bytes_of token)) ≡ token.low
 unfolding bytes_of
 low_back token fits =
     ap (from_be_bytes w64) (drop_at (to_be_bytes w64 token.high) (to_be_bytes w64 token.low) 8 refl) ∙ from_be_bytes-to_be_bytes_8 token.low fits.low

@@ -1,6 +1,6 @@
 -- Bounds that do not fall: how many are not above a number, and that a later range has later tokens.
 use Rattle.std.proofs.Common.{◌≡◌, ℕ, zero, suc, ◌+◌, ◌-◌, ◌<◌, ◌≤◌, List, [], ◌∷◌, length, get_or, filter}
-use Rattle.std.proofs.Common.{false, true, ap, ◌∙◌, arith, inl, inr}
+use Rattle.std.proofs.Common.{Bool, false, true, ap, ◌∙◌, arith, inl, inr}
 use Rattle.std.specs.Prelude.{◌⊎◌, nat_le}
 use Rattle.std.specs.List.Sorted.{IsSorted}
 use Rattle.std.specs.Ordering.{is_lt, nat_cmp}
@@ -8,6 +8,7 @@ use Rattle.std.proofs.lemmas.Bool.{cases_lt}
 use Rattle.std.proofs.lemmas.Bool.Decides.{nat_tests}
 use Rattle.std.proofs.lemmas.Cmp.{nat_cmp_total}
 use Rattle.std.proofs.lemmas.List.Sorted.{ranks_by, sorted_far}
+use Rattle.std.proofs.lemmas.List.Sums.{count_by-le-length, length-filter}
 use Rattle.tap_views.specs.Layout.{num}
 use Rattle.tap_views.specs.declared.encoder.TapFields.{TapFields}
 use Rattle.tap_parts.specs.Canonical.{HasTokenBytes, tap_cmp}
@@ -61,7 +62,7 @@ counted_at xs sorted k n within low high =
     let first = high (omega (arith, least, inside)) in omega (arith, rise, first))
 
 -- fewer bounds are not above a lesser number
-counts_rise : (xs : List ℕ) (n m : ℕ) → n ≤ m
+pub counts_rise : (xs : List ℕ) (n m : ℕ) → n ≤ m
     → length (filter (λ x. nat_le x n) xs) ≤ length (filter (λ x. nat_le x m) xs)
 counts_rise [] n m least = omega arith
 counts_rise (x ∷ xs) n m least = by_bound (cases_lt n x) (counts_rise xs n m least)
@@ -78,6 +79,14 @@ counts_rise (x ∷ xs) n m least = by_bound (cases_lt n x) (counts_rise xs n m l
         by_other (inr near) more = rw (not_above x m near) (omega (arith, more))
     by_bound (inr under) rest =
         rw (not_above x n under, not_above x m (omega (arith, under, least))) (omega (arith, rest))
+
+-- there is a range more than there are bounds
+pub range_below : (bounds token : List ℕ) → range_of_token bounds token ≤ length bounds
+range_below bounds token =
+    let p : ℕ → Bool = λ bound. nat_le bound (num token) in
+    let all = length-filter p bounds in
+    let most = count_by-le-length p bounds in
+    omega (arith, all, most)
 
 -- ranges are places in order
 pub ranges_in_order : (bounds : List ℕ)

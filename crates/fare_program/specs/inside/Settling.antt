@@ -1,9 +1,12 @@
 -- Settling: what private functions alone cite.
-use Rattle.std.specs.Prelude.{ℕ, List}
+use Rattle.std.specs.Prelude.{◌≡◌, ℕ, Bool, List}
+use Rattle.shard_book.specs.declared.entry.Entry.{Entry}
 use Rattle.fare_table.specs.Fares.{Fares}
 use Rattle.fare_service.specs.Outcomes.{OutcomeView}
-use Rattle.fare_service.specs.Plain.{ArePlainEnds}
+use Rattle.fare_program.specs.Posted.{are_posted}
+use Rattle.fare_service.specs.Plain.{ArePlainEnds, IsReportOver}
 use Rattle.fare_service.specs.declared.upload_end.UploadEnd.{UploadEnd}
+use Rattle.settlement.specs.Settled.{IsSettledHistory}
 use Rattle.settlement.specs.SettledTexts.{HasSettledTexts}
 
 -- The files ended so, and the outcome tells their settled history.
@@ -11,3 +14,14 @@ pub record IsOutcomeOf (fares : Fares) (files : List (List ℕ)) (ends : List Up
     (outcome : OutcomeView) : Type 0 where
   pub ended : ArePlainEnds files ends
   pub tells : HasSettledTexts fares files ends outcome
+
+-- The text is the report of the settled history of the files. It is well where each file ends posted
+-- whole.
+pub record ShowsBill (fares : Fares) (files : List (List ℕ)) (text : List ℕ) (well : Bool)
+    : Type 0 where
+  pub history : List Entry
+  pub is_settled : IsSettledHistory fares files history
+  pub shows : IsReportOver files history text
+  pub ends : List UploadEnd
+  pub ended : ArePlainEnds files ends
+  pub is_well : well ≡ are_posted ends

@@ -1,5 +1,6 @@
 -- What is known of a bill while more taps are posted.
-use Rattle.std.specs.Prelude.{◌+◌, ◌*◌, ◌^◌, ◌≤◌, ℕ, List, [], ◌∷◌, All, flat_map, length, map}
+use Rattle.std.specs.Prelude.{◌≡◌, ◌≢◌, ◌+◌, ◌*◌, ◌^◌, ◌<◌, ◌≤◌, ℕ, List, [], ◌∷◌, ◌++◌, All, flat_map}
+use Rattle.std.specs.Prelude.{length, map, slice_index_or}
 use Rattle.std.specs.List.{AllZip}
 use Rattle.fare_table.specs.Fares.{Fares}
 use Rattle.tap_views.specs.declared.encoder.TapFields.{TapFields}
@@ -7,20 +8,30 @@ use Rattle.tap_views.specs.Encoding.{AreEarly}
 use Rattle.tap_parts.specs.Canonical.{HasTokenBytes, IsCanonical}
 use Rattle.settlement.specs.Apart.{AreBelow}
 use Rattle.settlement.specs.Posted.{posted, token_of_tap}
+use Rattle.shard_book.specs.SumsByKey.{sums_by_token, token_of}
 use Rattle.shard_book.specs.declared.entry.Entry.{Entry}
-use Rattle.settlement.specs.Bills.{IsBillOf}
+use Rattle.settlement.specs.Bills.{IsBillOf, IsCountOf}
 use Rattle.settlement.specs.declared.bill.Bill.{Bill}
 
--- the bill is of some entries, and there is room for so many more
-unfoldable pub HasBillRoom : Bill → ℕ → Type 0
+-- the bill counts some entries, and there is room for so many more
+abbrev pub HasBillRoom : Bill → ℕ → Type 0
 HasBillRoom bill more =
-    (entries : List Entry) × IsBillOf entries bill × (length entries + more ≤ 2 ^ 95)
+    (entries : List Entry) × IsCountOf entries bill × (length entries + more ≤ 2 ^ 95)
 
--- both are bills, and there is room for the entries of both together
-unfoldable pub HaveBillRoom : Bill → Bill → Type 0
+-- both bills count some entries, and there is room for the entries of both together
+abbrev pub HaveBillRoom : Bill → Bill → Type 0
 HaveBillRoom bill more =
-    (entries : List Entry) × (others : List Entry) × IsBillOf entries bill × IsBillOf others more
-    × (length entries + length others ≤ 2 ^ 95)
+    (entries : List Entry) × (others : List Entry) × IsCountOf entries bill
+    × IsCountOf others more × (length entries + length others ≤ 2 ^ 95)
+
+-- so many of the first taps, one at least, are all that have the token of the first one
+pub record IsRun (taps : List TapFields) (run : ℕ) : Type 0 where
+  pub some : 0 < run
+  pub most : run ≤ length taps
+  pub same : (i : ℕ) (tap : TapFields) → i < run
+      → token_of_tap (slice_index_or taps i tap) ≡ token_of_tap (slice_index_or taps 0 tap)
+  pub next : (tap : TapFields) → run < length taps
+      → token_of_tap (slice_index_or taps run tap) ≢ token_of_tap (slice_index_or taps 0 tap)
 
 -- the taps of a part have moments before 2100, and tokens of 16 bytes
 pub record IsSoundPart (part : List TapFields) : Type 0 where
@@ -33,6 +44,17 @@ ArePartsInOrder [] = Unit {0}
 ArePartsInOrder (part ∷ parts) =
     All (λ later. AreBelow (map token_of_tap part) (map token_of_tap later)) parts
     × ArePartsInOrder parts
+
+-- the taps of a part were posted in canonical order and added to a bill
+pub record IsPartBilled (fares : Fares) (part : List TapFields) (old new : Bill) : Type 0 where
+  pub list : List TapFields
+  pub canonical : IsCanonical part list
+  pub few : length list ≤ 2 ^ 58
+  pub counted : (before : List Entry) → IsCountOf before old
+      → IsCountOf (before ++ posted fares list) new
+  pub tokens : (before : List Entry) → old.tokens ≡ sums_by_token before
+      → AreBelow (map token_of before) (map token_of_tap part)
+      → new.tokens ≡ sums_by_token (before ++ posted fares list)
 
 -- the bill is that of the parts' taps, each part posted in canonical order, one behind the other
 pub record IsBillOfParts (fares : Fares) (parts : List (List TapFields)) (bill : Bill)

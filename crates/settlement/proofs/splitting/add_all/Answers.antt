@@ -8,6 +8,7 @@ use Rattle.fare_service.specs.Plain.{IsPlainEnd, ArePlainEnds}
 use Rattle.fare_service.proofs.PlainUploads.{each_more}
 use Rattle.fare_service.proofs.PlainRuns.{AllZip-append}
 use Rattle.tap_parts.proofs.Adding.{none_added, batch_added}
+use Rattle.tap_parts.proofs.RangeLemmas.{range_below}
 use Rattle.tap_parts.specs.Ranges.{range_of_token}
 use Rattle.tap_parts.specs.Uploads.{IsUploadAddedBy}
 use Rattle.upload_facts.specs.Facts.{taps_of_batches}
@@ -20,6 +21,14 @@ bytes_in upload = upload.items
 nothing : (xs : List (Vec ℕ Global)) → length xs ≡ 0 → xs ≡ []
 nothing [] e = refl
 nothing (x ∷ xs) e = absurd (omega (arith, e))
+
+pub add_upload-requires : goal.add_upload-requires
+add_upload-requires c = λ token.
+    let (taps, each, added, ended) = c.loop-upload.invariant.made in
+    let below = range_below c.args.ranges.now token in
+    let as_many = added.number in
+    let room = c.requires in
+    omega (arith, below, as_many, room)
 
 pub loop-upload-init : goal.loop-upload-init
 loop-upload-init c =

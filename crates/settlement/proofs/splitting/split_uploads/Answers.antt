@@ -16,7 +16,7 @@ returns c =
     let made = c.in_ok-list.ensures in
     let bounds = c.args.ranges.now in
     let parts = length bounds + 1 in
-    let made_number = made.number ∙ c.len-parts.ensures in
+    let made_number = made.number ∙ c.len-parts.ensures.number in
     let list = c.add_all.new.parts in
     let P : List (List TapFields) → Type 0 = λ l. length l ≡ parts in
     let lists = c.in_ok-push.ensures.items ∙ ap (λ ls. ls ++ list ∷ []) c.new-lists.ensures.items in
@@ -31,6 +31,6 @@ returns c =
           ∙ all.added.each part (subst (λ n. part < n) (sym made_number) within)
           ∙ ap (λ taps. taps ++ map fields_of
           (taps_at (range_of_token bounds) part (taps_of_uploads all.taps)))
-          (made.empty part (subst (λ n. part < n) (sym c.len-parts.ensures) within));
+          (made.empty part (subst (λ n. part < n) (sym c.len-parts.ensures.number) within));
       ended = all.ended;
     })

@@ -5,18 +5,18 @@ use Rattle.std.proofs.Common.{arith, All, append-nil, inl, inr}
 use Rattle.std.specs.Prelude.{◌⊎◌}
 use Rattle.std.specs.Cmp.{IsStrictWeakOrder}
 use Rattle.std.specs.Cmp.Lexicographic.{slice_cmp}
-use Rattle.std.specs.List.Sorted.{IsSorted}
+use Rattle.std.specs.List.Sorted.{IsSorted, IsStrictlySortedBy}
 use Rattle.std.specs.Ordering.{eq_by_cmp, is_lt, nat_cmp, ordering_reverse, ordering_then}
 use Rattle.std.specs.Set.{is_member}
 use Rattle.std.specs.declared.cmp.Ordering.{Ordering}
 use Rattle.std.specs.declared.cmp.Ordering.TheVariants.{Less, Equal, Greater}
 use Rattle.std.proofs.lemmas.Bool.{cases_lt, false≢true}
-use Rattle.std.proofs.lemmas.List.{take_more}
+use Rattle.std.proofs.lemmas.List.{length-take, take_more}
 use Rattle.std.proofs.lemmas.List.Elements.{All-head, All-tail, All-nil, All-cons}
 use Rattle.std.proofs.lemmas.List.Sorted.{ranks_by, sorted_far}
 use Rattle.fare_table.proofs.TokenBytes.{token-order}
 use Rattle.fare_table.specs.Fares.{Fares}
-use Rattle.fare_table.specs.Token.{token_cmp, token_eq}
+use Rattle.fare_table.specs.Token.{Fits, bytes_of, token_cmp, token_eq}
 use Rattle.fare_table.specs.declared.token.Token.{Token}
 use Rattle.tap_views.specs.declared.encoder.TapFields.{TapFields}
 use Rattle.tap_parts.specs.Canonical.{tap_cmp}
@@ -27,12 +27,13 @@ use Rattle.shard_book.specs.SumsByKey.{sums_by_token, token_of, tokens}
 use Rattle.shard_book.specs.declared.entry.Entry.{Entry}
 use Rattle.shard_book.proofs.Histories.{same_token, token_eq-refl}
 use Rattle.shard_book.proofs.RisingLemmas.{rising-only}
-use Rattle.shard_book.proofs.TokenLemmas.{token_cmp-total, token_cmp-ties}
-use Rattle.fare_service.specs.Plain.{answered}
+use Rattle.shard_book.proofs.TokenLemmas.{high_back, low_back, token_cmp-total, token_cmp-ties}
+use Rattle.fare_service.specs.Plain.{answered, token_of_bytes}
 use Rattle.settlement.specs.Apart.{AreBelow, AreOthers}
 use Rattle.settlement.specs.Posted.{HasName, posted, posted_after, token_of_tap, unposted}
+use Rattle.settlement.proofs.Placed.{all_map}
 use Rattle.settlement.proofs.Concats.{less_apart, none_of, posted_append}
-use Rattle.settlement.proofs.Same.{tap_cmp_total}
+use Rattle.tap_parts.proofs.Total.{tap_cmp_total}
 
 -- ---- what is posted
 -- the tokens of the entries are those of the taps
@@ -111,6 +112,10 @@ among_one token key entry (next ∷ entries) all =
     (All-head (λ (e : Entry). e.token ≡ token) entry (next ∷ entries) all)
     ∙ or_twice (eq_by_cmp token_cmp key token)
 
+one_rises : (token : Token) → IsStrictlySortedBy token_cmp (token ∷ [])
+unfolding IsStrictlySortedBy
+one_rises token = (tt, tt)
+
 pub one_token : (token : Token) (entry : Entry) (entries : List Entry)
     → All (λ entry. entry.token ≡ token) (entry ∷ entries)
     → sums_by_token (entry ∷ entries) ≡ (token, sums (entry ∷ entries)) ∷ []
@@ -118,7 +123,7 @@ unfolding sums_by_token tokens
 one_token token entry entries all =
     let keys : token ∷ [] ≡ rising token_cmp (map token_of (entry ∷ entries)) =
     rising-only token_cmp-total token_cmp-ties (map token_of (entry ∷ entries)) (token ∷ []) (record {
-      rises = (tt, tt);
+      rises = one_rises token;
       same = λ key. sym (among_one token key entry entries all);
     }) in
     let row : Token → Token × Sums = λ t. (t, sums (own t (entry ∷ entries))) in
@@ -185,7 +190,7 @@ rise_far taps sorted names i j d order inside =
 
 -- ---- taps that are posted run by run
 -- the token of each of the first taps is below that of each of the others
-pub IsEdge : List TapFields → ℕ → Type 0
+abbrev pub IsEdge : List TapFields → ℕ → Type 0
 IsEdge taps place =
     (i j : ℕ) (d : TapFields) → i < place → place ≤ j → j < length taps
     → token_cmp (token_of_tap (get_or taps i d)) (token_of_tap (get_or taps j d)) ≡ Less
@@ -215,3 +220,99 @@ next_edge taps place run token sorted names edge within same next some =
         let up : IsUpTo a b = rise_far taps sorted names i after d (omega (arith, low)) fits in
         let apart : a ≢ b = λ e. next d fits (sym e ∙ same i d here low) in
         less_up a b c (up_apart a b up apart) (rise_far taps sorted names after j d high inside)
+
+pub nothing_billed : (list : List (Token × Sums)) → list ≡ [] → list ≡ sums_by_token []
+unfolding sums_by_token tokens rising
+nothing_billed list none = none
+
+-- a token that 16 bytes name
+token_back : (token : Token) → Fits token → token_of_bytes (bytes_of token) ≡ token
+token_back token fits = λ i. record { high = high_back token fits i; low = low_back token fits i }
+
+pub named_token : (tap : TapFields) (bytes : List ℕ) (token : Token) → tap.token ≡ bytes
+    → bytes_of token ≡ bytes → Fits token → token_of_tap tap ≡ token
+named_token tap bytes token same is fits =
+    ap token_of_bytes (same ∙ sym is) ∙ token_back token fits
+
+pub one_token_list : (token : Token) (entries : List Entry) → 0 < length entries
+    → All (λ entry. entry.token ≡ token) entries
+    → sums_by_token entries ≡ (token, sums entries) ∷ []
+one_token_list token [] some all = absurd (omega (arith, some))
+one_token_list token (entry ∷ entries) some all = one_token token entry entries all
+
+below_each : (tokens : List Token) (token other : Token) → other ≡ token
+    → AreBelow tokens (token ∷ []) → All (λ t. token_cmp t other ≡ Less) tokens
+below_each [] token other same below = All-nil (λ t. token_cmp t other ≡ Less)
+below_each (t ∷ tokens) token other same below =
+    All-cons (λ s. token_cmp s other ≡ Less) t tokens
+    (ap (token_cmp t) same ∙ All-head (λ o. token_cmp t o ≡ Less) token []
+    (All-head (λ s. All (λ o. token_cmp s o ≡ Less) (token ∷ [])) t tokens below))
+    (below_each tokens token other same
+    (All-tail (λ s. All (λ o. token_cmp s o ≡ Less) (token ∷ [])) t tokens below))
+
+flip_below : (tokens : List Token) (entries : List Entry)
+    → All (λ entry. All (λ t. token_cmp t entry.token ≡ Less) tokens) entries
+    → AreBelow tokens (map token_of entries)
+flip_below [] entries all = All-nil (λ s. All (λ o. token_cmp s o ≡ Less) (map token_of entries))
+flip_below (t ∷ tokens) entries all =
+    All-cons (λ s. All (λ o. token_cmp s o ≡ Less) (map token_of entries)) t tokens
+    (heads entries all) (flip_below tokens entries (tails entries all))
+  where
+    heads : (es : List Entry)
+        → All (λ entry. All (λ t. token_cmp t entry.token ≡ Less) (t ∷ tokens)) es
+        → All (λ o. token_cmp t o ≡ Less) (map token_of es)
+    heads [] each = All-nil (λ o. token_cmp t o ≡ Less)
+    heads (e ∷ es) each =
+        All-cons (λ o. token_cmp t o ≡ Less) e.token (map token_of es)
+        (All-head (λ s. token_cmp s e.token ≡ Less) t tokens
+        (All-head (λ (x : Entry). All (λ s. token_cmp s x.token ≡ Less) (t ∷ tokens)) e es each))
+        (heads es (All-tail (λ (x : Entry). All (λ s. token_cmp s x.token ≡ Less) (t ∷ tokens)) e es each))
+
+    tails : (es : List Entry)
+        → All (λ entry. All (λ t. token_cmp t entry.token ≡ Less) (t ∷ tokens)) es
+        → All (λ entry. All (λ t. token_cmp t entry.token ≡ Less) tokens) es
+    tails [] each = All-nil (λ (x : Entry). All (λ s. token_cmp s x.token ≡ Less) tokens)
+    tails (e ∷ es) each =
+        All-cons (λ (x : Entry). All (λ s. token_cmp s x.token ≡ Less) tokens) e es
+        (All-tail (λ s. token_cmp s e.token ≡ Less) t tokens
+        (All-head (λ (x : Entry). All (λ s. token_cmp s x.token ≡ Less) (t ∷ tokens)) e es each))
+        (tails es (All-tail (λ (x : Entry). All (λ s. token_cmp s x.token ≡ Less) (t ∷ tokens)) e es each))
+
+-- tokens below one are below those of entries that have it
+pub below_same : (tokens : List Token) (token : Token) (entries : List Entry)
+    → AreBelow tokens (token ∷ []) → All (λ entry. entry.token ≡ token) entries
+    → AreBelow tokens (map token_of entries)
+below_same tokens token entries below all =
+    flip_below tokens entries
+    (all_map (λ (e : Entry). e.token ≡ token)
+    (λ (e : Entry). All (λ t. token_cmp t e.token ≡ Less) tokens) entries
+    (λ e same. below_each tokens token e.token same below) all)
+
+-- tokens below those of taps are below that of the first one
+pub below_first : (tokens : List Token) (token : Token) (taps : List TapFields) → 0 < length taps
+    → ((tap : TapFields) → token_of_tap (get_or taps 0 tap) ≡ token)
+    → AreBelow tokens (map token_of_tap taps) → AreBelow tokens (token ∷ [])
+below_first tokens token [] some first below = absurd (omega (arith, some))
+below_first [] token (tap ∷ taps) some first below =
+    All-nil (λ s. All (λ o. token_cmp s o ≡ Less) (token ∷ []))
+below_first (t ∷ tokens) token (tap ∷ taps) some first below =
+    All-cons (λ s. All (λ o. token_cmp s o ≡ Less) (token ∷ [])) t tokens
+    (All-cons (λ o. token_cmp t o ≡ Less) token []
+    (ap (token_cmp t) (sym (first tap)) ∙ All-head (λ o. token_cmp t o ≡ Less) (token_of_tap tap)
+    (map token_of_tap taps)
+    (All-head (λ s. All (λ o. token_cmp s o ≡ Less) (map token_of_tap (tap ∷ taps))) t tokens below))
+    (All-nil (λ o. token_cmp t o ≡ Less)))
+    (below_first tokens token (tap ∷ taps) some first
+    (All-tail (λ s. All (λ o. token_cmp s o ≡ Less) (map token_of_tap (tap ∷ taps))) t tokens below))
+
+-- what a place past the end would be read as
+abbrev pub no_tap : TapFields
+no_tap = record { token = []; validator = 0; moment = 0 }
+
+-- the first so many taps are posted to as many entries, at most
+pub few_posted : (fares : Fares) (taps : List TapFields) (i : ℕ)
+    → (length (posted fares (take i taps)) ≤ i) × (length (posted fares (take i taps)) ≤ length taps)
+few_posted fares taps i =
+    let same = posted_length fares [] (take i taps) in
+    let short = length-take i taps in
+    (omega (arith, same, short), omega (arith, same, short))

@@ -1,0 +1,82 @@
+use Rattle.std.proofs.Common.{◌≡◌, ◌≢◌, ℕ, ◌+◌, ◌-◌, ◌<◌, ◌≤◌, List, [], ◌++◌, length, get_or, map, take, drop}
+use Rattle.std.proofs.Common.{append-nil, append_assoc, ap, sym, subst, ◌∙◌, arith, All}
+use Rattle.std.proofs.lemmas.List.{get_or-drop, length-drop, take_all}
+use Rattle.std.proofs.lemmas.List.Elements.{All-drop, All-take}
+use Rattle.std.proofs.Math.Seq.{take-add}
+use Rattle.fare_table.specs.declared.token.Token.{Token}
+use Rattle.tap_views.specs.Layout.{moment_limit}
+use Rattle.tap_views.specs.declared.encoder.TapFields.{TapFields}
+use Rattle.shard_book.specs.SumsByKey.{sums_by_token, token_of}
+use Rattle.shard_book.specs.declared.entry.Entry.{Entry}
+use Rattle.tap_parts.specs.Canonical.{HasTokenBytes}
+use Rattle.settlement.specs.Apart.{AreBelow}
+use Rattle.settlement.specs.Bills.{IsCountOf}
+use Rattle.settlement.specs.Posted.{HasName, posted, posted_after, token_of_tap}
+use Rattle.settlement.specs.inside.Billing.{IsRun}
+use Rattle.settlement.proofs.Placed.{all_map}
+use Rattle.settlement.proofs.Ranges.{has_name}
+use Rattle.settlement.proofs.Runs.{IsNextRun, edge_below, next_run, run_below}
+use Rattle.settlement.proofs.bill.Bill.add.Goals as goal
+
+pub loop-start-init : goal.loop-start-init
+unfolding posted_after
+loop-start-init c =
+    let room = c.requires.room in
+    let fits = room.2 in
+    record {
+      within = omega arith;
+      edge = λ i j d low high inside. absurd (omega (arith, low));
+      room = (room.0, room.1, omega (arith, fits));
+      counted = λ before one. subst (λ (es : List Entry). IsCountOf es c.args.self.now)
+          (sym (append-nil before)) one;
+      tokens = λ before one below. one ∙ ap sums_by_token (sym (append-nil before));
+    }
+
+pub add_run-requires-clause-early : goal.add_run-requires-clause-early
+add_run-requires-clause-early c =
+    let taps = c.args.taps.now in
+    let s = c.loop-start.start in
+    All-take (λ (tap : TapFields). tap.moment < moment_limit) (length taps - s) (drop s taps)
+    (All-drop (λ (tap : TapFields). tap.moment < moment_limit) s taps c.requires.early)
+
+pub loop-start-preserved : goal.loop-start-preserved
+loop-start-preserved c =
+    let fares = c.args.table.now in
+    let taps = c.args.taps.now in
+    let s = c.loop-start.start in
+    let inv = c.loop-start.invariant in
+    let n = c.in_ok-start.field-0 in
+    let rest = take (length taps - s) (drop s taps) in
+    let added = c.in_ok-start.ensures in
+    let names = all_map HasTokenBytes HasName taps has_name c.requires.tokens in
+    let next : IsNextRun fares taps s n = next_run fares taps s n c.requires.sorted names inv.edge inv.within added.run in
+    let done = posted fares (take s taps) in
+    let more = posted fares (take n rest) in
+    let room = inv.room in
+    let fits = room.2 in
+    record {
+      within = next.within;
+      edge = next.edge;
+      room = (room.0 ++ more, added.counted room.0 room.1, next.room room.0 fits);
+      counted = λ before one. subst (λ (es : List Entry). IsCountOf es c.add_run.new.self)
+          (append_assoc before done more ∙ ap (λ (es : List Entry). before ++ es) (sym next.whole))
+          (added.counted (before ++ done) (inv.counted before one));
+      tokens = λ before one below.
+          added.tokens (before ++ done) (inv.tokens before one below)
+          (run_below fares taps s n before inv.edge inv.within added.run below)
+          ∙ ap sums_by_token (append_assoc before done more
+          ∙ ap (λ (es : List Entry). before ++ es) (sym next.whole));
+    }
+
+pub returns-clause-counted : goal.returns-clause-counted
+returns-clause-counted c = λ before one.
+    subst (λ (ts : List TapFields). IsCountOf (before ++ posted c.args.table.now ts) c.loop-start.self)
+    (take_all c.loop-start.start c.args.taps.now c.loop-start-test.false)
+    (c.loop-start.invariant.counted before one)
+
+pub returns-clause-tokens : goal.returns-clause-tokens
+returns-clause-tokens c = λ before one below.
+    subst (λ (ts : List TapFields). c.loop-start.self.tokens
+    ≡ sums_by_token (before ++ posted c.args.table.now ts))
+    (take_all c.loop-start.start c.args.taps.now c.loop-start-test.false)
+    (c.loop-start.invariant.tokens before one below)

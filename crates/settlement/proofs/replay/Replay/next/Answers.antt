@@ -1,0 +1,63 @@
+use Rattle.std.proofs.Common.{◌≡◌, List, [], ◌∷◌, ◌++◌, cond, ap, sym, subst, ◌∙◌}
+use Rattle.account_rule.specs.Replies.{reply}
+use Rattle.account_rule.specs.Stands.{Stands, StandsForSome}
+use Rattle.account_rule.specs.TokenRules.{rules_of}
+use Rattle.account_rule.specs.declared.reply.Reply.{Reply}
+use Rattle.account_rule.specs.declared.tap.TapIn.{TapIn}
+use Rattle.fare_table.specs.Token.{bytes_of}
+use Rattle.fare_table.specs.declared.token.Token.{Token}
+use Rattle.shard_book.specs.Entry.{tap_of, taps_of}
+use Rattle.shard_book.specs.declared.entry.Entry.{Entry}
+use Rattle.shard_book.proofs.Histories.{taps-push, token_eq-refl}
+use Rattle.fare_service.specs.Plain.{answered, with_reply}
+use Rattle.settlement.specs.Posted.{unposted}
+use Rattle.settlement.specs.inside.Replays.{HasPosted}
+use Rattle.settlement.proofs.replay.Replay.next.Goals as goal
+
+pub step-reply-requires-clause-stands : goal.step-reply-requires-clause-stands
+unfolding StandsForSome HasPosted
+step-reply-requires-clause-stands c =
+    rw c.bytes-bytes.ensures
+    (taps_of c.args.table.now c.args.self.now.token c.requires.posted.0, c.requires.posted.1)
+
+pub returns-clause-entry : goal.returns-clause-entry
+unfolding HasPosted answered
+returns-clause-entry c = λ earlier posted.
+    let fares = c.args.table.now in
+    let token = c.args.self.now.token in
+    let tap = unposted c.args.tap.now in
+    let of = rules_of fares (bytes_of token) in
+    let taps = taps_of fares token earlier in
+    let replied : c.step-reply.result ≡ reply of taps (tap_of fares tap) =
+    (rw c.bytes-bytes.ensures at c.step-reply.ensures.reply) taps posted
+    ∙ ap (λ (t : TapIn). reply of taps t) c.in_ok-seen.ensures.tap in
+    let named : Entry = record {
+      token = token;
+      validator = tap.validator;
+      moment = tap.moment;
+      answer = tap.answer;
+      cents = tap.cents;
+    } in
+    ap (λ (r : Reply). with_reply named r) replied
+    ∙ ap (λ (t : Token). with_reply (record {
+      token = t;
+      validator = tap.validator;
+      moment = tap.moment;
+      answer = tap.answer;
+      cents = tap.cents;
+    }) (reply (rules_of fares (bytes_of t)) (taps_of fares t earlier) (tap_of fares tap)))
+    (sym c.requires.its)
+
+pub returns-clause-posted : goal.returns-clause-posted
+unfolding HasPosted tap_of
+returns-clause-posted c = λ earlier posted.
+    let fares = c.args.table.now in
+    let token = c.args.self.now.token in
+    let of = rules_of fares (bytes_of token) in
+    let taps = taps_of fares token earlier in
+    let longer = ap (λ (t : TapIn). taps ++ t ∷ []) c.in_ok-seen.ensures.tap
+    ∙ sym (taps-push fares token earlier _
+    ∙ ap (λ b. cond b (taps ++ tap_of fares (unposted c.args.tap.now) ∷ []) taps)
+    (token_eq-refl token)) in
+    subst (λ (ts : List TapIn). Stands of c.step-reply.new.self ts) longer
+    ((rw c.bytes-bytes.ensures at c.step-reply.ensures.stands) taps posted)

@@ -1,0 +1,15 @@
+use Rattle.std.proofs.Common.{List, map, ap, sym, subst}
+use Rattle.account_rule.specs.Stands.{Stands}
+use Rattle.account_rule.specs.TokenRules.{rules_of}
+use Rattle.account_rule.specs.declared.tap.TapIn.{TapIn}
+use Rattle.fare_table.specs.Token.{bytes_of}
+use Rattle.shard_book.specs.Entry.{tap_of, taps_of}
+use Rattle.settlement.specs.inside.Replays.{HasPosted}
+use Rattle.settlement.proofs.replay.Replay.of.Goals as goal
+
+pub returns-clause-none : goal.returns-clause-none
+unfolding HasPosted taps_of
+returns-clause-none c = λ fares earlier none.
+    let rules = rules_of fares (bytes_of c.args.token) in
+    subst (λ (ts : List TapIn). Stands rules c.fresh.result ts) (sym (ap (map (tap_of fares)) none))
+    (c.fresh.ensures.stands rules)
