@@ -10,7 +10,7 @@ use Rattle.tap_views.specs.declared.encoder.TapFields.{TapFields}
 use Rattle.tap_balance.specs.Balances.{key_cmp, key_of, left_at, copies_among}
 use Rattle.tap_balance.specs.declared.balance.TapKey.{TapKey}
 use Rattle.tap_balance.proofs.Keys.{key_exact}
-use Rattle.tap_balance.proofs.Times.{one, one_self, permutation_of_times, times_push}
+use Rattle.tap_balance.proofs.Times.{one_self, permutation_of_times, times_push}
 
 -- IsBalance, of a balance's two fields
 abbrev pub Balances : BTreeMap TapKey ℕ → Option TapFields → List TapFields → List TapFields → Type 0

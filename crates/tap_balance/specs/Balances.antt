@@ -1,5 +1,5 @@
 -- What uploads have against what somebody else has of their taps.
-use Rattle.std.specs.Prelude.{◌≡◌, ℕ, ◌+◌, ◌<◌, Bool, List, map, Option, None, Some, MatchOption}
+use Rattle.std.specs.Prelude.{◌≡◌, ℕ, ◌+◌, ◌<◌, ◌≤◌, Bool, List, map, Option, None, Some, MatchOption}
 use Rattle.std.specs.BTreeMap as tree
 use Rattle.std.specs.BTreeMap.{BTreeMap}
 use Rattle.std.specs.Cmp.Lexicographic.{slice_cmp}
@@ -53,9 +53,10 @@ IsBalance balance good struck =
     ≡ left_at balance.left (key_of tap) + copies_among tap struck)
     (λ tap. copies_among tap good < copies_among tap struck)
 
--- the others are the good taps in some order; or the told tap is more often among the ones, or
--- among the others
+-- the others are the good taps in some order; or the told tap is more often among the ones, and none
+-- is more often among the others; or it is more often among the others
 abbrev pub IsDifference : List TapFields → List TapFields → Option Difference → Type 0
 IsDifference good others None = IsPermutation good others
-IsDifference good others (Some (Missing tap)) = copies_among tap others < copies_among tap good
+IsDifference good others (Some (Missing tap)) = (copies_among tap others < copies_among tap good)
+    × ((other : TapFields) → copies_among other others ≤ copies_among other good)
 IsDifference good others (Some (Surplus tap)) = copies_among tap good < copies_among tap others

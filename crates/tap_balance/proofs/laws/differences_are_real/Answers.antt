@@ -1,4 +1,4 @@
-use Rattle.std.proofs.Common.{◌≡◌, List, Some, arith}
+use Rattle.std.proofs.Common.{List, Some, arith}
 use Rattle.std.specs.List.Sorted.{IsPermutation}
 use Rattle.tap_views.specs.declared.encoder.TapFields.{TapFields}
 use Rattle.tap_balance.specs.Balances.{IsDifference}
@@ -14,7 +14,8 @@ returns-clause-same c = λ tap other. (same_exact tap other, same_of tap other)
 differ : (good others : List TapFields) (difference : Difference)
     → IsDifference good others (Some difference) → IsPermutation good others → ⊥
 differ good others (Missing tap) is moved = let e = times_permutation tap good others moved in
-    absurd (omega (arith, is, e))
+    let less = is.0 in
+    absurd (omega (arith, less, e))
 differ good others (Surplus tap) is moved = let e = times_permutation tap good others moved in
     absurd (omega (arith, is, e))
 
