@@ -18,11 +18,15 @@
 #ifndef FULL
 #define FULL 200    /* the turn word of a book that takes no more visits; 200 is never reached */
 #endif
+#ifndef RETURNS
+#define RETURNS 0    /* how often in a run a worker may stop sleeping without a wake */
+#endif
 
 byte turn_word = 0;    /* 2k: k visits are counted. 2k + 1: a worker has the turn, too */
 bool asleep = false;
 byte sleepers = 0;
 bool parked[N];        /* what the system knows of the workers that sleep at the turn word */
+byte returns = RETURNS;    /* how often a worker may still stop sleeping without a wake */
 byte with_book = 0;    /* how many workers have the book */
 
 #if N == 2
@@ -88,7 +92,10 @@ inline rest() {
         /* The system compares and lets the worker sleep in one step.
            waiting.rt: self.table.shared.park(rt, 0, (found & 0xffff_ffff) as u32); */
         atomic { if :: turn_word == found -> parked[id] = true :: else fi }
-        !parked[id];
+        if
+        :: !parked[id]
+        :: atomic { returns > 0 && parked[id] -> returns--; parked[id] = false }
+        fi;
         /* waiting.rt: self.sleepers.fetch_sub(1, Ordering::SeqCst); */
         sleepers--;
         has_slept = true

@@ -250,13 +250,13 @@ why_transfer rules account state taps tap mode same stands known after given =
     ∙ reason_transfer rules taps (taps ++ tap ∷ []) ends)
 
 pub why_ride : (rules : TokenRules) (account : Option Kept) (taps : List TapIn) (tap : TapIn)
-    (mode : Mode) (terms : Terms) (window : Window)
-    → KeepsOf rules account taps → tap.mode ≡ Some mode → tap.until ≡ rules.until tap.moment
+    (mode : Mode) (until : ℕ) (terms : Terms) (window : Window)
+    → KeepsOf rules account taps → tap.mode ≡ Some mode → until ≡ rules.until tap.moment
     → GivesNone rules.permits account tap mode
-    → terms ≡ rules.terms → window ≡ window_at (kept_window account) tap.moment tap.until
+    → terms ≡ rules.terms → window ≡ window_at (kept_window account) tap.moment until
     → next_reason terms window ≡ reason rules taps tap
 unfolding live_at
-why_ride rules account taps tap mode terms window stands known limit none same_terms at =
+why_ride rules account taps tap mode until terms window stands known limit none same_terms at =
     let later : is_later taps tap.moment ≡ true = sym (stands.last tap.moment) ∙ none.after in
     let shown : live_tap taps tap ≡ Some (live_at tap.moment mode) =
     is_live taps tap mode known later in

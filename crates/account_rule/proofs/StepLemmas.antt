@@ -322,22 +322,21 @@ gives_none-state permits account state tap mode same after none =
     record { after = rw same (lt-ltb state.last tap.moment after); none = rw same none }
 
 -- the window to which the ride belongs has room for it
-pub room : (rules : TokenRules) (account : Option Kept) (taps : List TapIn) (tap : TapIn)
+pub room : (rules : TokenRules) (account : Option Kept) (taps : List TapIn) (start until : ℕ)
     (terms : Terms) (window : Window)
-    → KeepsOf rules account taps → window ≡ window_at (kept_window account) tap.moment tap.until
+    → KeepsOf rules account taps → window ≡ window_at (kept_window account) start until
     → terms ≡ rules.terms → AreBoundedTerms terms → IsRoomy terms window
-room rules account taps tap terms window stands at same_terms bounds =
+room rules account taps start until terms window stands at same_terms bounds =
     rw (same_terms, at, stands.window)
-    (roomy rules (last_block (windows rules taps)) tap.moment tap.until
-    (rw same_terms at bounds))
+    (roomy rules (last_block (windows rules taps)) start until (rw same_terms at bounds))
 
 pub ride : (rules : TokenRules) (account : Option Kept) (taps : List TapIn) (tap : TapIn) (mode : Mode)
-    (terms : Terms) (window counted : Window) (cents : ℕ)
+    (until : ℕ) (terms : Terms) (window counted : Window) (cents : ℕ)
     → KeepsOf rules account taps
-    → tap.mode ≡ Some mode → mode.place < rules.modes → tap.until ≡ rules.until tap.moment
+    → tap.mode ≡ Some mode → mode.place < rules.modes → until ≡ rules.until tap.moment
     → GivesNone rules.permits account tap mode
     → terms ≡ rules.terms → AreBoundedTerms terms
-    → window ≡ window_at (kept_window account) tap.moment tap.until
+    → window ≡ window_at (kept_window account) tap.moment until
     → cents ≡ charge terms window.rides → counted ≡ with_ride terms window
     → IsStep rules taps tap (ride_reply cents) (Some (record {
       last = tap.moment;
@@ -345,7 +344,7 @@ pub ride : (rules : TokenRules) (account : Option Kept) (taps : List TapIn) (tap
       terms = terms;
       window = counted;
     }))
-ride rules account taps tap mode terms window counted cents stands known listed limit none
+ride rules account taps tap mode until terms window counted cents stands known listed limit none
     same_terms bounds at cost counts =
     rw (cost, counts, same_terms)
     (ride_at rules account taps tap mode window stands known listed none.after none.none
@@ -369,49 +368,49 @@ at_fresh account start until fresh = rw fresh refl
 
 -- a ride of an account that has a window
 pub next_ride : (rules : TokenRules) (account : Option Kept) (state next : Kept) (taps : List TapIn)
-    (tap : TapIn) (mode : Mode) (cents : ℕ)
+    (tap : TapIn) (mode : Mode) (until cents : ℕ)
     → account ≡ Some state → KeepsOf rules account taps
-    → tap.mode ≡ Some mode → mode.place < rules.modes → tap.until ≡ rules.until tap.moment
+    → tap.mode ≡ Some mode → mode.place < rules.modes → until ≡ rules.until tap.moment
     → GivesNone rules.permits account tap mode
-    → cents ≡ charge state.terms (window_at (Some state.window) tap.moment tap.until).rides
+    → cents ≡ charge state.terms (window_at (Some state.window) tap.moment until).rides
     → next.last ≡ tap.moment → next.giver ≡ Some mode → next.terms ≡ state.terms
-    → next.window ≡ with_ride state.terms (window_at (Some state.window) tap.moment tap.until)
+    → next.window ≡ with_ride state.terms (window_at (Some state.window) tap.moment until)
     → IsStep rules taps tap (ride_reply cents) (Some next)
-next_ride rules account state next taps tap mode cents same stands known listed limit none cost last
+next_ride rules account state next taps tap mode until cents same stands known listed limit none cost last
     giver terms window =
     let kept = kept_terms rules account state taps same stands in
     let is_next : next ≡ record {
       last = tap.moment;
       giver = Some mode;
       terms = state.terms;
-      window = with_ride state.terms (window_at (Some state.window) tap.moment tap.until);
+      window = with_ride state.terms (window_at (Some state.window) tap.moment until);
     } =
     rw (← window, ← terms, ← giver, ← last) refl in
     subst (λ s. IsStep rules taps tap (ride_reply cents) (Some s)) (sym is_next)
-    (ride rules account taps tap mode state.terms
-    (window_at (Some state.window) tap.moment tap.until)
-    (with_ride state.terms (window_at (Some state.window) tap.moment tap.until)) cents
+    (ride rules account taps tap mode until state.terms
+    (window_at (Some state.window) tap.moment until)
+    (with_ride state.terms (window_at (Some state.window) tap.moment until)) cents
     stands known listed limit none kept.same kept.bounds
-    (at_kept account state tap.moment tap.until same) cost refl)
+    (at_kept account state tap.moment until same) cost refl)
 
 -- the first ride of an account
 pub first_ride : (rules : TokenRules) (account next : Option Kept) (taps : List TapIn) (tap : TapIn)
-    (mode : Mode) (answered : Reply)
+    (mode : Mode) (until : ℕ) (answered : Reply)
     → account ≡ None → KeepsOf rules account taps
-    → tap.mode ≡ Some mode → mode.place < rules.modes → tap.until ≡ rules.until tap.moment
+    → tap.mode ≡ Some mode → mode.place < rules.modes → until ≡ rules.until tap.moment
     → AreBoundedTerms rules.terms
-    → answered ≡ ride_reply (charge rules.terms (open_window tap.moment tap.until).rides)
+    → answered ≡ ride_reply (charge rules.terms (open_window tap.moment until).rides)
     → next ≡ Some (record {
       last = tap.moment;
       giver = Some mode;
       terms = rules.terms;
-      window = with_ride rules.terms (open_window tap.moment tap.until);
+      window = with_ride rules.terms (open_window tap.moment until);
     })
     → IsStep rules taps tap answered next
-first_ride rules account next taps tap mode answered fresh stands known listed limit bounds is_reply
+first_ride rules account next taps tap mode until answered fresh stands known listed limit bounds is_reply
     is_next =
     rw (is_reply, is_next)
-    (ride rules account taps tap mode rules.terms (open_window tap.moment tap.until)
-    (with_ride rules.terms (open_window tap.moment tap.until)) _
+    (ride rules account taps tap mode until rules.terms (open_window tap.moment until)
+    (with_ride rules.terms (open_window tap.moment until)) _
     stands known listed limit (gives_none-fresh rules.permits account tap mode fresh) refl bounds
-    (at_fresh account tap.moment tap.until fresh) refl refl)
+    (at_fresh account tap.moment until fresh) refl refl)

@@ -4,7 +4,7 @@ ghost use Rattle.std.specs.Prelude.{◌≡◌, ℕ, ◌<◌, ◌≤◌, List, []
 ghost use Rattle.std.specs.Prelude.{IfSome, Some};
 ghost use Rattle.std.specs.Option.{ForSome};
 ghost use Rattle.fare_table.specs.Terms.{AreBoundedTerms};
-ghost use Rattle.fare_table.specs.Until.{until};
+ghost use Rattle.fare_table.specs.Until.{window_end_in};
 ghost use Rattle.account_rule.specs.declared.tap.TapIn.{TapIn};
 ghost use Rattle.account_rule.specs.Replies.{reply, ride_reply};
 ghost use Rattle.account_rule.specs.TokenRules.{TokenRules, permits_of, rules_of};
@@ -19,7 +19,7 @@ mod explain;
 use crate::reply::{Answer, Reply};
 use crate::tap::TapIn;
 use crate::window::{Window, WindowView};
-use fare_table::{FareTable, Mode, Terms};
+use fare_table::{Clock, FareTable, Mode, Terms};
 
 /// For how long a ride includes a transfer, in milliseconds: two hours (MTA, free transfers), the
 /// limit included (this project's choice).
@@ -65,16 +65,18 @@ impl Account {
 
     /// Takes one more tap of the token, and returns what the rule replies to it.
     ///
-    /// The table and the token are the same in all calls on an account, the tap's mode is one of
-    /// the table's, and its `until` is the table's window end for its moment. There is no order of
-    /// moments to keep: a tap that comes too late is stale. The step takes no memory, and asks the
-    /// table for the token's terms at the first ride alone. No reply costs more than the greatest
-    /// fare of a table.
+    /// The table and the token are the same in all calls on an account, the clock is the table's,
+    /// the tap's mode is one of the table's, and its moment lies before 2100-01-01T00:00Z. There is
+    /// no order of moments to keep: a tap that comes too late is stale. The step takes no memory.
+    /// It asks the table for the token's terms at the first ride alone, and the clock for the
+    /// window's end where a ride opens a window. No reply costs more than the greatest fare of a
+    /// table.
     #[inline(always)]
-    pub fn step(&mut self, table: &FareTable, token: &[u8], tap: TapIn) -> Reply
+    pub fn step(&mut self, table: &FareTable, clock: &Clock, token: &[u8], tap: TapIn) -> Reply
+        requires clock { clock.now ≡ table.now.zone }
         requires token { length token.now ≡ 16 }
         requires mode { ForSome tap.mode (λ mode. mode.place < length table.now.meaning.modes) }
-        requires until { tap.until ≡ until table.now tap.moment }
+        requires early { tap.moment < 4_102_444_800_000 }
         requires stands { StandsForSome (rules_of table.now token.now) self.old }
 
         // Of every list for which the account stood.
@@ -89,7 +91,7 @@ impl Account {
             return Reply::free(Answer::Unknown);
         };
         if !self.has_window {
-            return self.first_ride(table, token, mode, tap);
+            return self.first_ride(table, clock, token, mode, tap.moment);
         }
         if tap.moment <= self.last {
             return Reply::free(Answer::Stale);
@@ -99,7 +101,7 @@ impl Account {
             self.giver = None;
             return Reply::free(Answer::Transfer);
         }
-        Reply::to_ride(self.take_ride(mode, tap))
+        Reply::to_ride(self.take_ride(clock, mode, tap.moment))
     }
 
     /// The last window, or `None` before the first ride: its paid rides and its cents are within
@@ -119,30 +121,40 @@ impl Account {
         }
     }
 
-    /// Takes a first live tap on the mode, which is a ride, and returns the reply to it.
+    /// Takes a first live tap at the moment, on the mode, which is a ride, and returns the reply to
+    /// it.
     ///
     /// Kept out of the step, since it runs once a token and the rest of the step at every tap.
     #[cold]
     #[inline(never)]
     #[tactic(auto, unfolding(crate::specs::Kept::kept_of, crate::specs::inside::Kept::open_window, crate::specs::TokenRules::rules_of))]
-    fn first_ride(&mut self, table: &FareTable, token: &[u8], mode: Mode, tap: TapIn) -> Reply
-        requires { length token.now ≡ 16 }
+    fn first_ride(
+        &mut self,
+        table: &FareTable,
+        clock: &Clock,
+        token: &[u8],
+        mode: Mode,
+        moment: u64,
+    ) -> Reply
+        requires token { length token.now ≡ 16 }
+        requires early { moment < 4_102_444_800_000 }
         ensures bounds { let terms = (rules_of table.now token.now).terms in AreBoundedTerms terms }
         ensures reply { let terms = (rules_of table.now token.now).terms in
-            result ≡ ride_reply (charge terms (open_window tap.moment tap.until).rides) }
+            let window = open_window moment (window_end_in clock.now moment) in
+            result ≡ ride_reply (charge terms window.rides) }
         ensures state { let terms = (rules_of table.now token.now).terms in
             kept_of self.new ≡ Some (record {
-              last = tap.moment;
+              last = moment;
               giver = Some mode;
               terms = terms;
-              window = with_ride terms (open_window tap.moment tap.until);
+              window = with_ride terms (open_window moment (window_end_in clock.now moment));
             }) }
     {
         let terms = table.terms_of(token);
-        let mut window = Window::open(tap.moment, tap.until);
+        let mut window = Window::opened(clock, moment);
         let cents = window.add_ride(terms);
         *self = Account {
-            last: tap.moment,
+            last: moment,
             has_window: true,
             giver: Some(mode),
             terms,
@@ -167,26 +179,27 @@ impl Account {
         }
     }
 
-    /// Takes a live tap on the mode as a ride, and returns what it costs.
+    /// Takes a live tap at the moment, on the mode, as a ride, and returns what it costs.
     #[tactic(auto, unfolding(crate::specs::inside::Kept::window_at))]
-    fn take_ride(&mut self, mode: Mode, tap: TapIn) -> u32
+    fn take_ride(&mut self, clock: &Clock, mode: Mode, moment: u64) -> u32
+        requires early { moment < 4_102_444_800_000 }
         requires bounds { AreBoundedTerms self.old.terms }
         requires room { IsRoomy self.old.terms
-            (window_at (Some self.old.window) tap.moment tap.until) }
+            (window_at (Some self.old.window) moment (window_end_in clock.now moment)) }
         ensures cost { result ≡ charge self.old.terms
-            (window_at (Some self.old.window) tap.moment tap.until).rides }
-        ensures last { self.new.last ≡ tap.moment }
+            (window_at (Some self.old.window) moment (window_end_in clock.now moment)).rides }
+        ensures last { self.new.last ≡ moment }
         ensures has_window { self.new.has_window ≡ self.old.has_window }
         ensures giver { self.new.giver ≡ Some mode }
         ensures terms { self.new.terms ≡ self.old.terms }
-        ensures window { self.new.window
-            ≡ with_ride self.old.terms (window_at (Some self.old.window) tap.moment tap.until) }
+        ensures window { self.new.window ≡ with_ride self.old.terms
+            (window_at (Some self.old.window) moment (window_end_in clock.now moment)) }
     {
-        if tap.moment >= self.window.until {
-            self.window = Window::open(tap.moment, tap.until);
+        if moment >= self.window.until {
+            self.window = Window::opened(clock, moment);
         }
         let cents = self.window.add_ride(self.terms);
-        self.last = tap.moment;
+        self.last = moment;
         self.giver = Some(mode);
         cents
     }

@@ -9,7 +9,4 @@ pub struct TapIn {
     pub moment: u64,
     /// The mode of the tap's validator, or `None` where the table does not know the validator.
     pub mode: Option<Mode>,
-    /// The table's end of a window that starts at `moment`, in milliseconds since
-    /// 1970-01-01T00:00Z.
-    pub until: u64,
 }

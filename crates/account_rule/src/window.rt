@@ -2,13 +2,14 @@
 
 ghost use Rattle.std.specs.Prelude.{◌≡◌, ◌+◌, ◌*◌, ◌^◌, ◌<◌, ◌≤◌};
 ghost use Rattle.fare_table.specs.Terms.{AreBoundedTerms};
+ghost use Rattle.fare_table.specs.Until.{window_end_in};
 ghost use Rattle.account_rule.specs.inside.Kept.{IsRoomy, next_reason, open_window, shown_of};
 ghost use Rattle.account_rule.specs.inside.Kept.{with_ride};
 ghost use Rattle.account_rule.specs.Reasons.{charge_by};
 ghost use Rattle.account_rule.specs.Windows.{charge};
 
 use crate::reason::{Charge, Reason};
-use fare_table::Terms;
+use fare_table::{Clock, Terms};
 
 /// A window as its owner sees it: the rides of a week, and what they cost together.
 #[derive(Clone, Copy, Debug, PartialEq, Eq)]
@@ -52,6 +53,18 @@ impl Window {
             rides: 0,
             paid: 0,
         }
+    }
+
+    /// A window with no ride yet, for a first ride at `start`, with its end by the clock.
+    ///
+    /// Kept out of its callers: a token opens a window once in seven days.
+    #[cold]
+    #[inline(never)]
+    pub(crate) fn opened(clock: &Clock, start: u64) -> Self
+        requires { start < 4_102_444_800_000 }
+        ensures { result ≡ open_window start (window_end_in clock.now start) }
+    {
+        Window::open(start, clock.window_end(start))
     }
 
     /// What its owner sees of it.

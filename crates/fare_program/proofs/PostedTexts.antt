@@ -5,11 +5,9 @@ use Rattle.fare_table.specs.Fares.{Fares}
 use Rattle.fare_table.specs.declared.token.Token.{Token}
 use Rattle.fare_service.specs.Outcomes.{OutcomeView}
 use Rattle.fare_service.specs.declared.upload_end.UploadEnd.{UploadEnd}
-use Rattle.ledger_texts.specs.Ledger.{IsLedgerOfBooks}
 use Rattle.fare_program.specs.Options.{Asked}
 use Rattle.fare_program.specs.Posted.{are_posted}
 use Rattle.fare_program.specs.Program.{ShowsAsked, ShowsLiveRun, ShowsOf}
-use Rattle.fare_program.specs.inside.Program.{Shows}
 use Rattle.fare_program.specs.Settling.{ShowsSettled}
 use Rattle.fare_program.specs.inside.Settling.{IsOutcomeOf}
 use Rattle.fare_program.specs.inside.PostedFiles.{IsLiveRun, IsAskedOutcome}
@@ -17,10 +15,6 @@ use Rattle.fare_program.proofs.Settled.{shows_settled}
 
 module _ (asked : Asked) (fares : Fares) (files : List (List ℕ)) (ends : List UploadEnd) (outcome : OutcomeView) (token : Option Token) (text : List ℕ) (well : Bool)
     (shown : ShowsOf asked token ends outcome text) (is_well : well ≡ are_posted ends) where
-  reported : (ledger : Bool) → ledger ≡ false → MatchBool ledger (IsLedgerOfBooks outcome.books token text) (Shows asked.explain token outcome text) → Shows asked.explain token outcome text
-  reported true is shows = cc
-  reported false is shows = shows
-
   shows_live : IsLiveRun fares asked.shards asked.workers files ends outcome → ShowsLiveRun asked fares files token text well
   shows_live is =
       let S : List UploadEnd → Type 0 = λ es. ShowsOf asked token es outcome text in
@@ -31,7 +25,7 @@ module _ (asked : Asked) (fares : Fares) (files : List (List ℕ)) (ends : List 
         run = is.run;
         shows = shows;
         is_well = told;
-        plain = λ ledger posted. is.plain asked.explain token text (sym told ∙ posted) (reported asked.ledger ledger shows);
+        plain = λ posted. is.plain asked token text (sym told ∙ posted) shows;
       }
 
   by_settling : (settle : Bool) → MatchBool settle (IsOutcomeOf fares files ends outcome) (IsLiveRun fares asked.shards asked.workers files ends outcome)

@@ -16,7 +16,7 @@ use Rattle.fare_service.specs.Printed.{IsStatementOf, report_with}
 use Rattle.fare_program.specs.Fault.{fault_text}
 use Rattle.fare_program.specs.Options.{Asked, lists}
 use Rattle.fare_program.specs.Posted.{are_posted}
-use Rattle.fare_program.specs.Settling.{IsTextOver, ShowsSettled}
+use Rattle.fare_program.specs.Settling.{ShowsOver, ShowsSettled}
 use Rattle.fare_program.specs.declared.fault.Fault.{Fault}
 use Rattle.fare_program.specs.declared.fault.Fault.TheVariants.{Write}
 use Rattle.ledger_texts.specs.Explained.{IsExplainedOf}
@@ -82,14 +82,14 @@ abbrev pub ShowsOf : Asked → Option Token → List UploadEnd → OutcomeView �
 ShowsOf asked token ends outcome text = MatchBool asked.ledger
     (IsLedgerOfBooks outcome.books token text) (ShowsWith asked.explain token ends outcome text)
 
--- Where no token has taps in two of the files, the text is the report over the plain history of the
--- files, or the statement of this token, explained where that is asked for. That is a function of
--- the files and the table: no schedule, no number of workers and no number of shards has a part in
--- it.
-abbrev pub ShowsPlain : Bool → Fares → List (List ℕ) → Option Token → List ℕ → Type 0
-ShowsPlain explain fares files token text =
+-- Where no token has taps in two of the files, the text is what is asked for of the plain history of
+-- the files: the report, the statement of this token, explained where that is asked for, or the
+-- ledger. That is a function of the files and the table: no schedule, no number of workers and no
+-- number of shards has a part in it.
+abbrev pub ShowsPlain : Asked → Fares → List (List ℕ) → Option Token → List ℕ → Type 0
+ShowsPlain asked fares files token text =
     (history : List Entry) (is : IsPlain fares files history) → AreApart is.taps
-    → IsTextOver explain token fares files history text
+    → ShowsOver asked token fares files history text
 
 -- the token that is asked for, if any, is that of these 32 hexadecimal digits
 abbrev pub IsTokenIn : Option (List ℕ) → Option Token → Type 0
@@ -98,16 +98,15 @@ IsTokenIn (Some digits) (Some token) = decode_sized digits 16 ≡ Ok (bytes_of t
 IsTokenIn _ _ = ⊥
 
 -- A service was run over the files as they are, and the text is what is asked for of its outcome.
--- It is well where each upload was posted whole. A report or a statement that is well is then that
--- of the plain history of the files, where no token has taps in two of them.
+-- It is well where each upload was posted whole. A text that is well is then that of the plain
+-- history of the files, where no token has taps in two of them.
 pub record ShowsLiveRun (asked : Asked) (fares : Fares) (files : List (List ℕ))
     (token : Option Token) (text : List ℕ) (well : Bool) : Type 0 where
   pub outcome : OutcomeView
   pub run : HasRun fares asked.shards files asked.workers outcome
   pub shows : ShowsOf asked token outcome.ends outcome text
   pub is_well : well ≡ are_posted outcome.ends
-  pub plain : asked.ledger ≡ false → well ≡ true
-      → ShowsPlain asked.explain fares files token text
+  pub plain : well ≡ true → ShowsPlain asked fares files token text
 
 -- The text is what is asked for of the files. Settled, it is a function of the files and the table:
 -- no schedule and no number of workers has a part in it.

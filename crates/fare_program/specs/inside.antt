@@ -4,6 +4,5 @@ pub mod Fault
 pub mod Listing
 pub mod Options
 pub mod PostedFiles
-pub mod Program
 pub mod Settling
 pub mod Uploads

@@ -351,6 +351,13 @@ pub fn main_over<
     ensures helped { ¬ Parses (map string_bytes words.now) → result ≡ 0
         → AsksForText (map string_bytes words.now) }
 
+    // Words that are no command line have status 2, if they ask for neither. Only want of memory,
+    // where the words are read, may come before it.
+    ensures wrong_words { ¬ Parses (map string_bytes words.now)
+        → (¬ AsksForText (map string_bytes words.now))
+        → (result ≡ 2) ⊎ ((result ≡ 1) × GaveUp Fault.NoMemory (E.contents err.old.writer)
+        (E.contents err.new.writer) err.new.failed (W.contents out.old) (W.contents out.new)) }
+
     // The first mistake in what is asked for is told, with status 2. Only want of memory, where the
     // words are read, may come before it.
     ensures mistaken { (first : Fault) → Parses (map string_bytes words.now)
@@ -364,12 +371,12 @@ pub fn main_over<
     ensures right { result ≡ 2 → (¬ Parses (map string_bytes words.now))
         ⊎ (is_some (mistake (asked_by (map string_bytes words.now))) ≡ true) }
 
-    // With status 1 the whole text was written, and tells of an upload that is not well; or a fault
-    // was told, and nothing was written but where a write failed.
+    // With status 1 the whole text was written, and tells of an upload that is not well, and nothing
+    // was said on `err`; or a fault was told, and nothing was written but where a write failed.
     ensures faults { result ≡ 1
         → (Parses (map string_bytes words.now)
         × Does (asked_by (map string_bytes words.now)) (S.loaded source.old) (S.loaded source.new)
-        (W.contents out.old) (W.contents out.new) false)
+        (W.contents out.old) (W.contents out.new) false × (err.new ≡ err.old))
         ⊎ ((fault : Fault) × (status_of fault ≡ 1)
         × GaveUp fault (E.contents err.old.writer) (E.contents err.new.writer) err.new.failed
         (W.contents out.old) (W.contents out.new)) }

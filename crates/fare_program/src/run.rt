@@ -1,13 +1,13 @@
 //! A run of the service over loaded uploads.
-ghost use Rattle.std.specs.Prelude.{◌≡◌, ℕ, Bool, true, List, Option, IfErr, IfOk, length, map};
+ghost use Rattle.std.specs.Prelude.{◌≡◌, ℕ, true, List, Option, IfErr, IfOk, length, map};
 ghost use Rattle.fare_table.specs.Fares.{Fares};
 ghost use Rattle.fare_table.specs.declared.token.Token.{Token};
 ghost use Rattle.fare_program.specs.Fault.{status_of};
 ghost use Rattle.fare_program.specs.inside.Fault.{IsRunFailure};
 ghost use Rattle.fare_program.specs.Posted.{are_posted, is_posted};
-ghost use Rattle.fare_program.specs.Program.{ShowsPlain};
+ghost use Rattle.fare_program.specs.Options.{Asked};
+ghost use Rattle.fare_program.specs.Program.{ShowsOf, ShowsPlain};
 ghost use Rattle.fare_service.specs.Headline.{HasRun};
-ghost use Rattle.fare_program.specs.inside.Program.{Shows};
 ghost use Rattle.fare_program.specs.inside.PostedFiles.{IsLiveRun, ends_of};
 
 use crate::fault::Fault;
@@ -46,10 +46,11 @@ pub(crate) fn outcome_of<'a, R: Threads + Wait + RandomSource + Sync>(
 /// The law that where no token has taps in two files, what is shown of an outcome is shown over the
 /// plain history of the files. Reads no tap and no entry.
 fn shows_plain(files: &[Vec<u8>], outcome: &Outcome)
-    ensures { (fares : Fares) (shards workers : ℕ) (explain : Bool) (token : Option Token)
+    ensures { (fares : Fares) (shards workers : ℕ) (asked : Asked) (token : Option Token)
         (text : List ℕ) → HasRun fares shards (map (λ f. f.items) files.now) workers outcome.now
-        → are_posted outcome.now.ends ≡ true → Shows explain token outcome.now text
-        → ShowsPlain explain fares (map (λ f. f.items) files.now) token text }
+        → are_posted outcome.now.ends ≡ true
+        → ShowsOf asked token outcome.now.ends outcome.now text
+        → ShowsPlain asked fares (map (λ f. f.items) files.now) token text }
 {
     let _ = outcome.shards();
     laws::tokens_are_named(outcome);

@@ -1,11 +1,10 @@
 //! Where windows end.
-ghost use Rattle.std.specs.Prelude.{◌≡◌, ◌<◌, pos, ◌+ℤ◌, ◌≤ℤ◌, neg_ℤ, IfOk, IsOk};
+ghost use Rattle.std.specs.Prelude.{◌≡◌, ◌<◌, pos, ◌+ℤ◌, ◌≤ℤ◌, neg_ℤ};
 ghost use Rattle.jiff.specs.Words.{epoch_day};
 ghost use Rattle.jiff.specs.ZoneView.{plain_zone};
 ghost use Rattle.fare_table.specs.Until.{IsCivilWindowEnd, IsWindowEnd, moment_nanos};
 ghost use Rattle.fare_table.specs.Until.{window_end_in};
 
-use crate::fault::NoMemory;
 use jiff::civil::{Date, DateTime};
 use jiff::tz::{Offset, TimeZone};
 use jiff::{Timestamp, ToSpan};
@@ -35,7 +34,7 @@ impl Model for Clock {
 }
 
 impl Clock {
-    ghost use Rattle.std.specs.Prelude.{◌≡◌, ◌<◌, IfOk, IsOk, option_map};
+    ghost use Rattle.std.specs.Prelude.{◌≡◌, ◌<◌, option_map};
     ghost use Rattle.fare_table.specs.inside.PosixRule.{HasRule, rule_of};
     ghost use Rattle.fare_table.specs.Until.{IsWindowEnd, window_end_in, seconds_ahead};
 
@@ -51,19 +50,18 @@ impl Clock {
     /// 1970-01-01T00:00Z; the moment lies before 2100-01-01T00:00Z. It is seven days later, or,
     /// where the table names a zone, 00:00 of the seventh civil date after the start's (the period
     /// of seven days is the MTA's, where it ends is this project's choice). A midnight that clocks
-    /// skip takes the offset before the gap, one that comes twice is the earlier. It always
-    /// answers, since it takes no memory.
+    /// skip takes the offset before the gap, one that comes twice is the earlier. It takes no
+    /// memory.
     #[inline]
-    pub fn until(&self, moment: u64) -> Result<u64, NoMemory>
+    pub fn window_end(&self, moment: u64) -> u64
         requires { moment < 4_102_444_800_000 }
-        ensures answers { IsOk result }
-        ensures value { IfOk result (λ window_end. window_end ≡ window_end_in self.now moment) }
-        ensures window_end { IfOk result (IsWindowEnd self.now moment) }
-        ensures after { IfOk result (λ window_end. moment < window_end) }
+        ensures value { result ≡ window_end_in self.now moment }
+        ensures window_end { IsWindowEnd self.now moment result }
+        ensures after { moment < result }
     {
         match &self.zone {
-            Some(zone) => Ok(civil_window_end(zone, moment)),
-            None => Ok(moment + SEVEN_DAYS_MS),
+            Some(zone) => civil_window_end(zone, moment),
+            None => moment + SEVEN_DAYS_MS,
         }
     }
 
@@ -82,7 +80,7 @@ impl Clock {
     }
 }
 
-/// The window end under a zone. Kept out of `until`, so that the few instructions of a table
+/// The window end under a zone. Kept out of `window_end`, so that the few instructions of a table
 /// without a zone stand where it is called.
 #[inline(never)]
 fn civil_window_end(zone: &TimeZone<'static>, moment: u64) -> u64

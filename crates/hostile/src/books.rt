@@ -5,12 +5,11 @@ ghost use Rattle.std.specs.Prelude.{◌≡◌, IfOk};
 use crate::sample::{UNTIL, table};
 use crate::stop::{Case, Stop, again, ended, promise, twice};
 use account_rule::Answer;
-use fare_table::Clock;
-use sample_table::{BUS, START, SUBWAY, bytes_of, tap_after};
-use shard_book::{Ends, Entry, HashSeed, Replies, RunEnd, ShardBook, Token, TokenSums};
+use sample_table::{START, SUBWAY, bytes_of, tap_after};
+use shard_book::{Entry, HashSeed, Replies, RunEnd, ShardBook, Token, TokenSums};
 use std::alloc::Global;
 use std::random::RandomSource;
-use tap_views::{Batch, Run, TapFields, encode};
+use tap_views::{Batch, TapFields, encode};
 
 /// A book without entries, the only one of its service.
 fn book<R: RandomSource>(rt: &R, alloc: Global) -> Result<ShardBook, Stop>
@@ -64,9 +63,8 @@ fn post(
     let (batch, _) = Batch::first(&bytes)?;
     let run = batch.run_of(book.shard(), book.shards());
     let clock = book.table().clock(alloc)?;
-    let ends = Ends::of(alloc, &clock, &run)?;
     out.reserve(run.len())?;
-    Ok(book.post_run(&run, &ends, out))
+    Ok(book.post_run(&clock, &run, out))
 }
 
 /// The taps that a cut run left.
@@ -128,8 +126,7 @@ fn post_tap(alloc: Global, book: &mut ShardBook, tap: &TapFields) -> Case {
     let Some(tap) = run.taps().next() else {
         return Err(Stop::Wrong("a tap is of another shard"));
     };
-    let until = clock.until(tap.moment_ms())?;
-    let reply = book.post(&tap, until)?;
+    let reply = book.post(&clock, &tap)?;
     promise(
         reply.answer == Answer::Paid && reply.cents == 300,
         "another reply",
@@ -171,31 +168,6 @@ pub(crate) fn posts<R: RandomSource>(rt: &R, alloc: Global) -> Case {
     }
     has_rides(&book, 40)?;
     ended(refused)
-}
-
-/// Both ways to the window ends of a run answer.
-fn has_ends(alloc: Global, clock: &Clock, run: &Run) -> Case {
-    let mut ends = Ends::of(alloc, clock, run)?;
-    ends.fill(clock, run)?;
-    Ok(())
-}
-
-/// `Ends::of` and `fill`. Would catch a list of ends that cannot be filled again after it was
-/// refused.
-pub(crate) fn window_ends(alloc: Global) -> Case {
-    let bytes = encode(
-        alloc,
-        &[tap_after(0xa1, SUBWAY, 0), tap_after(0xa1, BUS, 7_200_000)],
-    )?;
-    let (batch, _) = Batch::first(&bytes)?;
-    let run = batch.run_of(0, 1);
-    let clock = table(alloc)?.clock(alloc)?;
-    let mut ends = Ends::new(alloc);
-    if ends.fill(&clock, &run).is_err() {
-        promise(ends.fill(&clock, &run).is_ok(), "ends are refused again")?;
-        return ended(true);
-    }
-    twice!(has_ends(alloc, &clock, &run))
 }
 
 /// A book of the forty rides.

@@ -1,6 +1,6 @@
 //! The cases by their names.
 
-use crate::books::{cut_run, posts, statement, sums, tokens, window_ends};
+use crate::books::{cut_run, posts, statement, sums, tokens};
 use crate::service::{opening, prints_report, prints_statement, run};
 use crate::stop::{Case, Stop};
 use crate::tables::{clock, clone, encodes, read};
@@ -11,12 +11,11 @@ use std::sync::Wait;
 use std::thread::Threads;
 
 /// The cases, in the order in which they are made.
-pub(crate) const CASES: [&str; 14] = [
+pub(crate) const CASES: [&str; 13] = [
     "encode",
     "read",
     "try_clone",
     "clock",
-    "ends",
     "post",
     "post_run",
     "tokens",
@@ -39,7 +38,6 @@ pub(crate) fn made<R: Threads + Wait + RandomSource + Sync + Print>(
         "read" => read(alloc),
         "try_clone" => clone(alloc),
         "clock" => clock(alloc),
-        "ends" => window_ends(alloc),
         "post" => posts(rt, alloc),
         "post_run" => cut_run(rt, alloc),
         "tokens" => tokens(rt, alloc),

@@ -107,9 +107,9 @@ pub(crate) fn clone(alloc: Global) -> Case {
 fn tells_ends(alloc: Global, table: &FareTable) -> Case {
     let clock = table.clock(alloc)?;
     let ends = [
-        clock.until(START)?,
-        clock.until(1_709_873_999_999)?,
-        clock.until(1_730_307_600_000)?,
+        clock.window_end(START),
+        clock.window_end(1_709_873_999_999),
+        clock.window_end(1_730_307_600_000),
     ];
     promise(
         ends == [UNTIL, 1_710_388_800_000, 1_730_869_200_000],
@@ -117,7 +117,7 @@ fn tells_ends(alloc: Global, table: &FareTable) -> Case {
     )
 }
 
-/// `clock` and `until`. Would catch a rule text that means other dates than New York's, since the
+/// `clock` and `window_end`. Would catch a rule text that means other dates than New York's, since the
 /// contract leaves to `jiff` what a text means.
 pub(crate) fn clock(alloc: Global) -> Case {
     let table = table(alloc)?;

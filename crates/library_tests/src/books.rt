@@ -39,8 +39,7 @@ fn post(alloc: Global, book: &mut ShardBook, tap: TapFields) -> Result<Reply, Fa
     let Some(tap) = run.taps().next() else {
         return Err(Fail::from("the tap is of another shard"));
     };
-    let until = clock.until(tap.moment_ms())?;
-    Ok(book.post(&tap, until)?)
+    Ok(book.post(&clock, &tap)?)
 }
 
 /// A book with these taps.

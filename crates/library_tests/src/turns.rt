@@ -4,7 +4,7 @@ ghost use Rattle.std.specs.Prelude.{◌≡◌, ◌^◌, ◌≤◌, IfOk, IfSome}
 
 use crate::sample::{BUS, SAMPLE, START, SUBWAY, tap, token};
 use fare_table::{Clock, FareTable, NoMemory};
-use shard_book::{Ends, HashSeed, Lines, Replies, RunEnd, ShardBook};
+use shard_book::{HashSeed, Lines, Replies, RunEnd, ShardBook};
 use shared_books::{Missing, Pass, ReadFault, SharedBook};
 use std::alloc::Global;
 use std::process::Abort;
@@ -52,10 +52,9 @@ fn visit<R: Wait>(
     let bytes = tap_views::encode(alloc, taps).map_err(|_| NoMemory)?;
     let (batch, _) = Batch::first(&bytes).map_err(|_| NoMemory)?;
     let run = batch.run_of(0, 1);
-    let ends = Ends::of(alloc, clock, &run)?;
     let mut replies = Replies::new(alloc);
     replies.reserve(run.len())?;
-    match shared.visit(rt, pass, &run, &ends, &mut replies) {
+    match shared.visit(rt, pass, clock, &run, &mut replies) {
         Ok(visit) => Ok(Some((visit.number, visit.how))),
         Err(_) => Ok(None),
     }

@@ -1,5 +1,5 @@
 -- What a run of the program does.
-use Rattle.std.specs.Prelude.{◌≡◌, ℕ, Bool, false, List, [], ◌∷◌, ◌++◌, map, Option, None, Some}
+use Rattle.std.specs.Prelude.{◌≡◌, ◌↔◌, ℕ, Bool, true, false, List, [], ◌∷◌, ◌++◌, map, Option, None, Some}
 use Rattle.std.specs.Prelude.{MatchBool}
 use Rattle.std.specs.Io.KnownBytes.{Appends, Keeps}
 use Rattle.clap.specs.Words.{Text}
@@ -7,7 +7,7 @@ use Rattle.fare_table.specs.Fares.{Fares}
 use Rattle.fare_table.specs.Meaning.{Means}
 use Rattle.tap_balance.specs.Balances.{AreGoodFields}
 use Rattle.tap_views.specs.declared.encoder.TapFields.{TapFields}
-use Rattle.omny_audit.specs.Findings.{IsFinding}
+use Rattle.omny_audit.specs.Findings.{IsFinding, IsRightLedger}
 use Rattle.omny_audit.specs.Fault.{audit_fault_text, is_quiet, is_unwritten}
 use Rattle.omny_audit.specs.Options.{AuditAsked}
 use Rattle.program_manners.specs.Loads.{Loaded, Tells, TellsOne}
@@ -58,6 +58,8 @@ pub record Audits (asked : AuditAsked) (told told' : Option (List Loaded))
   pub loads_ledger : TellsOne after_uploads told' asked.ledger ledger
   pub text : List ℕ
   pub finding : IsFinding fares ledger (compared asked.uploads good) text well
+  -- well exactly if the text is, whole, a ledger of legal histories, with the taps of the uploads
+  pub right : (well ≡ true) ↔ IsRightLedger fares ledger (compared asked.uploads good)
   pub written : Appends out out' text
 
 -- The fault's line was told, unless a write of it failed. Where who reads the text has closed it,

@@ -1,15 +1,17 @@
 //! Texts that are written out whole.
-ghost use Rattle.std.specs.Prelude.{◌≡◌, IfErr, None, OnOk, true};
+ghost use Rattle.std.specs.Prelude.{◌≡◌, ◌↔◌, IfErr, None, OnOk, true};
 ghost use Rattle.std.specs.Io.KnownBytes.{Appends, Keeps};
-ghost use Rattle.omny_audit.specs.Fault.{is_unwritten, named_by};
+ghost use Rattle.std.specs.IoError.{error_kind};
+ghost use Rattle.omny_audit.specs.Fault.{is_quiet, is_unwritten, named_by};
 
 use crate::fault::Fault;
 use std::io;
 use std::io::{ErrorKind, Write};
 
-/// Why a write failed.
+/// Why a write failed. Nothing is told of it exactly if whoever reads the text has closed it.
 pub(crate) fn unwritten<'a>(error: &io::Error) -> Fault<'a>
     ensures unwritten { is_unwritten result ≡ true }
+    ensures quiet { (error_kind error.now ≡ ErrorKind.BrokenPipe) ↔ (is_quiet result ≡ true) }
     ensures named { named_by result ≡ None }
 {
     if error.kind() == ErrorKind::BrokenPipe {

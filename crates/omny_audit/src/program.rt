@@ -20,6 +20,7 @@ ghost use Rattle.program_manners.specs.Words.{IsRequest};
 
 use crate::audit::audit_over;
 use crate::fault::Fault;
+use crate::laws::findings_decide;
 use crate::options::Options;
 use crate::output::unwritten;
 use crate::source::Source;
@@ -121,6 +122,8 @@ fn audit<'a, S: Source, W: Write>(
     let balance = load_balance(alloc, names, source)?;
     let has_uploads = !names.is_empty();
     let mut ledger = open_ledger(options.ledger, source)?;
+    // proof: what is found is well exactly if the ledger is right
+    findings_decide();
     audit_over(
         alloc,
         &table,

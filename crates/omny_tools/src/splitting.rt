@@ -64,15 +64,16 @@ fn store(rt: &HostRuntime, path: &str, bytes: &[u8]) -> io::Result<()> {
 }
 
 /// Makes the file of this name under another name, and then gives it its own: so a file of its own
-/// name is whole.
+/// name is whole. If that fails, none is left under the other name.
 fn store_whole(rt: &HostRuntime, begun: &str, whole: &str, bytes: &[u8]) -> io::Result<()> {
-    match store(rt, begun, bytes) {
+    let made = match store(rt, begun, bytes) {
         Ok(()) => fs::rename(rt, begun, whole),
-        Err(error) => {
-            let _ = fs::remove_file(rt, begun);
-            Err(error)
-        }
+        Err(error) => Err(error),
+    };
+    if made.is_err() {
+        let _ = fs::remove_file(rt, begun);
     }
+    made
 }
 
 /// The name of a part's file.

@@ -137,12 +137,16 @@ pub(crate) fn tell<'a, W: Write + Drop>(
     Ok(is_well)
 }
 
-/// Makes a file of these bytes. One that is there already is left as it is.
+/// Makes a file of these bytes. One that is there already is left as it is. If the bytes cannot be
+/// written, no file is left.
 fn make<'a>(rt: &HostRuntime, name: Name<'a>, bytes: &[u8]) -> Result<(), Fault<'a>> {
     match fs::File::create_new(rt, name.0) {
         Ok(mut file) => match file.write_all(bytes) {
             Ok(()) => Ok(()),
-            Err(_) => Err(Fault::Write),
+            Err(_) => {
+                let _ = fs::remove_file(rt, name.0);
+                Err(Fault::Write)
+            }
         },
         Err(error) if error.kind() == ErrorKind::AlreadyExists => Err(Fault::Exists(name)),
         Err(_) => Err(Fault::Unmade(name)),

@@ -14,7 +14,7 @@ ghost use Rattle.shard_book.specs.Sums.{Sums, add_all, sums};
 ghost use Rattle.fare_table.specs.Token.{bytes_of};
 ghost use Rattle.tap_views.specs.Files.{AreGoodTapsOfEach};
 ghost use Rattle.fare_service.specs.Plain.{ArePlainEnds, HasOneReading};
-ghost use Rattle.fare_service.specs.Plain.{IsReportOver};
+ghost use Rattle.fare_service.specs.Plain.{IsReportOver, IsStatementOver};
 ghost use Rattle.fare_service.specs.Text.{report, upload_lines};
 ghost use Rattle.fare_service.specs.declared.upload_end.UploadEnd.{UploadEnd};
 ghost use Rattle.tap_parts.specs.Parts.{part_of_token};
@@ -60,14 +60,20 @@ pub fn split_files_have_no_fault(files: &[Vec<u8>])
 
 /// Uploads were split by token, and each part was settled by itself. Then a token's entries are
 /// those of its part, with the answers and charges that they have in the settled history of the
-/// uploads. The sums over all parts' entries, of each validator and of each token are those of the
-/// settled history.
+/// uploads. So the token's statement over its part is that over the settled history. The sums over
+/// all parts' entries, of each validator and of each token are those of the settled history.
 pub fn parts_have_the_whole_sums()
     ensures entries { (fares : Fares) (uploads : List (List ℕ)) (history : List Entry)
         (parts : List Part) → IsSplit fares uploads history parts
         → (token : Token) (part : Part)
         → slice_get parts (part_of_token (bytes_of token) (length parts)) ≡ Some part
         → own token part.history ≡ own token history }
+    ensures statements { (fares : Fares) (uploads : List (List ℕ)) (history : List Entry)
+        (parts : List Part) → IsSplit fares uploads history parts
+        → (token : Token) (part : Part)
+        → slice_get parts (part_of_token (bytes_of token) (length parts)) ≡ Some part
+        → (text : List ℕ) → IsStatementOver fares part.history token text
+        → IsStatementOver fares history token text }
     ensures sums { (fares : Fares) (uploads : List (List ℕ)) (history : List Entry)
         (parts : List Part) → IsSplit fares uploads history parts
         → (sums (entries_of_parts parts) ≡ sums history)

@@ -7,7 +7,6 @@ ghost use Rattle.account_rule.specs.TokenRules.{rules_of};
 ghost use Rattle.account_rule.specs.Windows.{last_window};
 ghost use Rattle.fare_table.specs.Fares.{Fares};
 ghost use Rattle.fare_table.specs.Token.{bytes_of};
-ghost use Rattle.fare_table.specs.Until.{until};
 ghost use Rattle.shard_book.specs.Entry.{tap_of};
 ghost use Rattle.shard_book.specs.declared.entry.Entry.{Entry};
 ghost use Rattle.reason_texts.specs.Ledger.{IsLedgerLineAfter, reason_after};
@@ -22,12 +21,11 @@ use tap_views::MOMENT_LIMIT_MS;
 
 /// The tap of an entry, as the account rule sees it. It takes no memory, and refuses an entry alone
 /// that no upload has: one from 2100-01-01T00:00Z on.
-fn tap_of(table: &FareTable, clock: &Clock, entry: &Entry) -> Result<TapIn, NoMemory>
-    requires { clock.now ≡ table.now.zone }
+fn tap_of(table: &FareTable, entry: &Entry) -> Result<TapIn, NoMemory>
     ensures tap { IfOk result (λ tap. tap ≡ tap_of table.now entry.now) }
     ensures mode { IfOk result (λ tap. ForSome tap.mode (λ mode.
         mode.place < length table.now.meaning.modes)) }
-    ensures until { IfOk result (λ tap. tap.until ≡ until table.now tap.moment) }
+    ensures early { IfOk result (λ tap. tap.moment < 4_102_444_800_000) }
     ensures late { OnErr result (4_102_444_800_000 ≤ entry.now.moment) }
 {
     if entry.moment >= MOMENT_LIMIT_MS {
@@ -36,7 +34,6 @@ fn tap_of(table: &FareTable, clock: &Clock, entry: &Entry) -> Result<TapIn, NoMe
     Ok(TapIn {
         moment: entry.moment,
         mode: table.mode_of(entry.validator),
-        until: clock.until(entry.moment)?,
     })
 }
 
@@ -100,9 +97,9 @@ impl Teller {
         ensures err { OnErr result (self.new ≡ self.old) }
     {
         let bytes = self.token.bytes();
-        let tap = tap_of(table, clock, entry)?;
-        let reason = self.account.explain(table, &bytes, tap);
-        self.account.step(table, &bytes, tap);
+        let tap = tap_of(table, entry)?;
+        let reason = self.account.explain(table, clock, &bytes, tap);
+        self.account.step(table, clock, &bytes, tap);
         self.number += 1;
         Ok(reason)
     }

@@ -1,8 +1,9 @@
 -- The taps of one token, in two lists that have the same taps and are in order within each token.
 use Rattle.std.proofs.Common.{◌≡◌, List, [], ◌∷◌, map, filter, cond, Bool, true, false, refl, sym}
-use Rattle.std.proofs.Common.{ap, ◌∙◌, All}
+use Rattle.std.proofs.Common.{ap, ◌∙◌, All, arith}
 use Rattle.std.specs.List.Sorted.{IsSorted}
 use Rattle.std.specs.Ordering.{is_lt}
+use Rattle.std.proofs.lemmas.Bool.Decides.{nat_tests}
 use Rattle.std.proofs.lemmas.List.Kept.{IsSortedBy-filter}
 use Rattle.std.proofs.lemmas.List.Sorted.{ranks_by}
 use Rattle.std.proofs.lemmas.List.Elements.{All-head, All-tail, All-nil, All-cons}
@@ -11,6 +12,7 @@ use Rattle.tap_views.specs.Layout.{Tap}
 use Rattle.tap_views.specs.declared.encoder.TapFields.{TapFields}
 use Rattle.fare_table.specs.declared.token.Token.{Token}
 use Rattle.shard_book.specs.Entry.{is_of, own}
+use Rattle.shard_book.specs.declared.entry.Entry.{Entry}
 use Rattle.shard_book.specs.Keys.{same_token}
 use Rattle.fare_table.specs.Token.{bytes_of, token_eq}
 use Rattle.fare_service.specs.Plain.{token_of_bytes, unanswered}
@@ -26,13 +28,16 @@ use Rattle.settlement.proofs.Unique.{AreAlike, same_sorted}
 abbrev pub IsNamedBy : TapFields → Type 0
 IsNamedBy f = bytes_of (token_of_bytes f.token) ≡ f.token
 
+pub own_entry : (entry : Entry) → is_of entry.token entry ≡ true
+own_entry entry = grind (arith, nat_tests)
+
 -- whether the fields are of the token
-abbrev of_token : Token → TapFields → Bool
+abbrev pub of_token : Token → TapFields → Bool
 of_token token f = token_eq (token_of_bytes f.token) token
 
 -- both are named, and of one token
-one_token : (token : Token) (f g : TapFields) → IsNamedBy f → IsNamedBy g → of_token token f ≡ true
-    → of_token token g ≡ true → f.token ≡ g.token
+pub one_token : (token : Token) (f g : TapFields) → IsNamedBy f → IsNamedBy g
+    → of_token token f ≡ true → of_token token g ≡ true → f.token ≡ g.token
 one_token token f g named other is is_too =
     let here : token_of_bytes f.token ≡ token = same_token (token_of_bytes f.token) token is in
     let there : token_of_bytes g.token ≡ token = same_token (token_of_bytes g.token) token is_too in

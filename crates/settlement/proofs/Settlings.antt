@@ -116,18 +116,33 @@ zip_after fares earlier (tap ∷ taps) names = (
 module _ (fares : Fares) (uploads : List (List ℕ)) (cuts : All HasOneReading uploads)
     (later : List Entry) (p : IsPlain fares uploads later)
     (zip : AreEntriesOf (taps_of_uploads p.taps) later) where
-  -- the settled history has the fields of the taps in their order
-  in_order : (history : List Entry) (is : IsSettledHistory fares uploads history)
-      → AreEntriesOf is.order history
-  in_order history is =
+  -- the bytes of the taps' tokens name them
+  pub named_order : (history : List Entry) (is : IsSettledHistory fares uploads history)
+      → All IsNamedBy (map fields_of is.order)
+  named_order history is =
       let same = one_list uploads p.taps is.taps cuts p.each is.of_uploads in
       let N : List (List Tap) → Type 0 = λ ts. All IsNamedBy (map fields_of (taps_of_uploads ts)) in
       let names = subst N same (fields_named (taps_of_uploads p.taps) later zip (ap (map bare) p.entries
       ∙ plain_bare fares [] (taps_of_uploads p.taps))) in
-      let moved = All-permutation IsNamedBy (map fields_of (taps_of_uploads is.taps))
-      (map fields_of is.order) is.canonical.moved names in
+      All-permutation IsNamedBy (map fields_of (taps_of_uploads is.taps)) (map fields_of is.order)
+      is.canonical.moved names
+
+  -- the settled history has the fields of the taps in their order
+  in_order : (history : List Entry) (is : IsSettledHistory fares uploads history)
+      → AreEntriesOf is.order history
+  in_order history is =
       let E : List Entry → Type 0 = λ es. AreEntriesOf is.order es in
-      subst E (sym is.entries) (zip_after fares [] is.order moved)
+      subst E (sym is.entries) (zip_after fares [] is.order (named_order history is))
+
+  pub each_once : (history : List Entry) (taps : List (List Tap))
+      → IsSettledHistory fares uploads history → AreGoodTapsOfEach uploads taps
+      → (order : List Tap) × AreEntriesOf order history
+      × IsPermutation (map fields_of (taps_of_uploads taps)) (map fields_of order)
+  each_once history taps is each =
+      let here = one_list uploads taps is.taps cuts each is.of_uploads in
+      let P : List (List Tap) → Type 0 =
+      λ ts. IsPermutation (map fields_of (taps_of_uploads ts)) (map fields_of is.order) in
+      (is.order, in_order history is, subst P (sym here) is.canonical.moved)
 
   pub time_order : (history : List Entry) → IsSettledHistory fares uploads history
       → IsInTimeOrder history

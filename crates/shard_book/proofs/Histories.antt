@@ -7,7 +7,6 @@ use Rattle.std.proofs.lemmas.Bool.{cases_Bool}
 use Rattle.std.proofs.lemmas.Bool.Decides.{nat_tests}
 use Rattle.std.proofs.lemmas.List.Elements.{filter-append}
 use Rattle.fare_table.specs.Fares.{Fares, mode_at}
-use Rattle.fare_table.specs.Until.{until}
 use Rattle.fare_table.specs.declared.mode.Mode.{Mode}
 use Rattle.account_rule.specs.declared.tap.TapIn.{TapIn}
 use Rattle.account_rule.specs.TokenRules.{rules_of}
@@ -96,16 +95,14 @@ kept-same table accounts after entries kept others = λ token.
     subst (λ (a : Option KeptAccount). IsKept (rules_of table (bytes_of token)) a (taps_of table token entries)) (sym (others token)) (kept token)
 
 -- the tap that the account rule is given is the entry's
-pub tap_of-post : (table : Fares) (entry : Entry) (mode : Option Mode) (limit : ℕ)
+pub tap_of-post : (table : Fares) (entry : Entry) (mode : Option Mode)
     → option_map (λ m. m.place) mode ≡ mode_at table entry.validator
-    → limit ≡ until table entry.moment
-    → tap_of table entry ≡ record { moment = entry.moment; mode = mode; until = limit }
+    → tap_of table entry ≡ record { moment = entry.moment; mode = mode }
 unfolding tap_of
-tap_of-post table entry mode limit is_mode is_limit =
-    sym (ap (λ (m : Option Mode). tap_in entry.moment m limit) (mode_at_place mode _ is_mode) ∙ ap (λ (l : ℕ). tap_in entry.moment (option_map mode_of_place (mode_at table entry.validator)) l) is_limit)
+tap_of-post table entry mode is_mode = sym (ap (λ (m : Option Mode). tap_in entry.moment m) (mode_at_place mode _ is_mode))
   where
-    tap_in : ℕ → Option Mode → ℕ → TapIn
-    tap_in moment m l = record { moment = moment; mode = m; until = l }
+    tap_in : ℕ → Option Mode → TapIn
+    tap_in moment m = record { moment = moment; mode = m }
 
 -- a history without entries is legal
 pub legal-none : (table : Fares) → IsLegal table []

@@ -5,7 +5,6 @@ use Rattle.std.specs.Option.{option_map}
 use Rattle.std.proofs.lemmas.List.Elements.{All-nil, All-push}
 use Rattle.tap_views.specs.Shards.{shard_of_token}
 use Rattle.fare_table.specs.Fares.{Fares, mode_at}
-use Rattle.fare_table.specs.Until.{until}
 use Rattle.fare_table.specs.declared.mode.Mode.{Mode}
 use Rattle.account_rule.specs.declared.tap.TapIn.{TapIn}
 use Rattle.account_rule.specs.Replies.{reply}
@@ -68,24 +67,23 @@ sound-push {table} {shard} {shards} {accounts} {after} {entries} {items} entry p
     })
 
 -- one tap was posted: what the account's step tells makes the book sound again
-pub sound-post : {table : Fares} {shard shards : ℕ} {accounts after : Accounts} {entries items : List Entry} (entry : Entry) (mode : Option Mode) (limit : ℕ)
+pub sound-post : {table : Fares} {shard shards : ℕ} {accounts after : Accounts} {entries items : List Entry} (entry : Entry) (mode : Option Mode)
     → items ≡ entries ++ entry ∷ []
     → IsSound table shard shards accounts entries
     → shard_of_token (bytes_of entry.token) shards ≡ shard
     → Fits entry.token
     → option_map (λ m. m.place) mode ≡ mode_at table entry.validator
-    → limit ≡ until table entry.moment
     → ((taps : List TapIn) → IsKept (rules_of table (bytes_of entry.token)) (kept_at accounts entry.token) taps
-    → reply_of entry ≡ reply (rules_of table (bytes_of entry.token)) taps (record { moment = entry.moment; mode = mode; until = limit }))
+    → reply_of entry ≡ reply (rules_of table (bytes_of entry.token)) taps (record { moment = entry.moment; mode = mode }))
     → ((taps : List TapIn) → IsKept (rules_of table (bytes_of entry.token)) (kept_at accounts entry.token) taps
-    → IsKept (rules_of table (bytes_of entry.token)) (kept_at after entry.token) (taps ++ record { moment = entry.moment; mode = mode; until = limit } ∷ []))
+    → IsKept (rules_of table (bytes_of entry.token)) (kept_at after entry.token) (taps ++ record { moment = entry.moment; mode = mode } ∷ []))
     → (IsCounting after → counted (kept_at after entry.token) ≡ add_sums (counted (kept_at accounts entry.token)) (sums_of_replies (reply_of entry ∷ [])))
     → (IsCounting after → IsCounting accounts)
     → ((other : Token) → token_eq entry.token other ≡ false → kept_at after other ≡ kept_at accounts other)
     → IsSound table shard shards after items
 unfolding AreKept IsReplied
-sound-post {table} {shard} {shards} {accounts} {after} {entries} {items} entry mode limit pushed sound here fits is_mode is_limit by_rule stands added counting others =
-    let tap_is : tap_of table entry ≡ record { moment = entry.moment; mode = mode; until = limit } = tap_of-post table entry mode limit is_mode is_limit in
+sound-post {table} {shard} {shards} {accounts} {after} {entries} {items} entry mode pushed sound here fits is_mode by_rule stands added counting others =
+    let tap_is : tap_of table entry ≡ record { moment = entry.moment; mode = mode } = tap_of-post table entry mode is_mode in
     sound-push entry pushed sound here fits
     (by_rule _ (sound.kept entry.token) ∙ ap (λ (tap : TapIn). reply (rules_of table (bytes_of entry.token)) (taps_of table entry.token entries) tap) (sym tap_is))
     (subst (λ (tap : TapIn). IsKept (rules_of table (bytes_of entry.token)) (kept_at after entry.token) (taps_of table entry.token entries ++ tap ∷ [])) (sym tap_is) (stands _ (sound.kept entry.token)))

@@ -1,9 +1,8 @@
 -- What contracts see of a book.
 use Rattle.std.specs.Prelude.{◌≡◌, ℕ, List, [], ◌∷◌, ◌++◌, All, slice_get, Some}
-use Rattle.tap_views.specs.Layout.{Tap, num}
+use Rattle.tap_views.specs.Layout.{Tap}
 use Rattle.tap_views.specs.Shards.{shard_of_token}
 use Rattle.fare_table.specs.Fares.{Fares}
-use Rattle.fare_table.specs.Until.{until}
 use Rattle.account_rule.specs.declared.reply.Reply.{Reply}
 use Rattle.shard_book.specs.declared.entry.Entry.{Entry}
 use Rattle.shard_book.specs.Entry.{IsEntryOf, reply_of}
@@ -33,10 +32,6 @@ with_entries book more =
       shards = book.shards;
       entries = book.entries ++ more;
     }
-
--- the end of a window that would start at the tap
-abbrev pub window_end_of : Fares → Tap → ℕ
-window_end_of table tap = until table (num tap.moment)
 
 -- exactly one entry was appended: of the tap, with the reply
 pub record PostsTap (book after : Book) (tap : Tap) (reply : Reply) : Type 0 where

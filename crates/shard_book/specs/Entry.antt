@@ -2,7 +2,6 @@
 use Rattle.std.specs.Prelude.{◌≡◌, ℕ, Bool, List, All, option_map, map, filter, ◌==◌}
 use Rattle.tap_views.specs.Layout.{Tap, num}
 use Rattle.fare_table.specs.Fares.{Fares, mode_at}
-use Rattle.fare_table.specs.Until.{until}
 use Rattle.fare_table.specs.declared.mode.Mode.{Mode}
 use Rattle.account_rule.specs.declared.reply.Reply.{Reply}
 use Rattle.account_rule.specs.declared.tap.TapIn.{TapIn}
@@ -40,13 +39,11 @@ own token entries = filter (is_of token) entries
 abbrev pub mode_of_place : ℕ → Mode
 mode_of_place place = record { place = place }
 
--- the entry as the account rule sees it: the validator's mode and the end of a window are the
--- table's
+-- the entry as the account rule sees it: the validator's mode is the table's
 unfoldable pub tap_of : Fares → Entry → TapIn
 tap_of table entry = record {
   moment = entry.moment;
   mode = option_map mode_of_place (mode_at table entry.validator);
-  until = until table entry.moment;
 }
 
 -- the token's taps, in history order

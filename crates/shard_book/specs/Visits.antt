@@ -1,9 +1,7 @@
 -- What one turn appends to a history.
 use Rattle.std.specs.Prelude.{◌≡◌, ℕ, ◌+◌, ◌<◌, List, ◌++◌, length, take, map}
 use Rattle.std.specs.List.{AllZip}
-use Rattle.tap_views.specs.Layout.{Tap, num}
-use Rattle.fare_table.specs.Fares.{Fares}
-use Rattle.fare_table.specs.Until.{until}
+use Rattle.tap_views.specs.Layout.{Tap}
 use Rattle.shard_book.specs.declared.entry.Entry.{Entry}
 use Rattle.shard_book.specs.declared.run_end.RunEnd.{RunEnd}
 use Rattle.shard_book.specs.declared.run_end.RunEnd.TheVariants.{Whole, Cut}
@@ -29,11 +27,3 @@ pub record PostsRun (taps : List Tap) (how : RunEnd) (book after : Book)
   pub appended : after ≡ with_entries book visit
   pub items : replied.items ≡ replies.items ++ map reply_of visit
   pub spare : replied.spare + length visit ≡ replies.spare
-
--- the ends of windows that would start at the taps
-abbrev pub window_ends_by : (ℕ → ℕ) → List Tap → List ℕ
-window_ends_by window_end taps = map (λ tap. window_end (num tap.moment)) taps
-
--- the same under a table
-abbrev pub window_ends_of : Fares → List Tap → List ℕ
-window_ends_of table taps = window_ends_by (until table) taps

@@ -4,7 +4,6 @@ ghost use Rattle.std.specs.Prelude.{◌≡◌, ◌<◌, ◌≤◌, List, [], ◌
 ghost use Rattle.std.specs.Prelude.{IfNone, IfSome, OnOk, OnErr, None, Some, true, false, IsTrue};
 ghost use Rattle.std.specs.Prelude.{slice_get};
 ghost use Rattle.std.specs.Option.{ForSome};
-ghost use Rattle.fare_table.specs.Until.{until};
 ghost use Rattle.account_rule.specs.Replies.{reply};
 ghost use Rattle.account_rule.specs.TokenRules.{TokenRules, rules_of};
 ghost use Rattle.account_rule.specs.Stands.{Stands, StandsForSome};
@@ -22,7 +21,7 @@ ghost use Rattle.fare_table.specs.declared.token.Token.{Token};
 use crate::sums::counts::{Counts, TokenCounts};
 use crate::token_hash::HashSeed;
 use account_rule::{Account, Reply, TapIn};
-use fare_table::{FareTable, NoMemory, Token};
+use fare_table::{Clock, FareTable, NoMemory, Token};
 use indexmap::IndexMap;
 use indexmap::map::Entry as MapEntry;
 use std::alloc::Global;
@@ -148,12 +147,14 @@ impl Accounts {
     pub(crate) fn step(
         &mut self,
         table: &FareTable,
+        clock: &Clock,
         token: Token,
         tap: TapIn,
         known: u32,
     ) -> Result<(u32, Reply), NoMemory>
+        requires clock { clock.now ≡ table.now.zone }
         requires mode { ForSome tap.mode (λ mode. mode.place < length table.now.meaning.modes) }
-        requires until { tap.until ≡ until table.now tap.moment }
+        requires early { tap.moment < 4_102_444_800_000 }
         requires kept { (taps : List TapIn)
             × IsKept (rules_of table.now (bytes_of token)) (kept_at self.old token) taps }
 
@@ -178,7 +179,7 @@ impl Accounts {
     {
         let place = self.place(token, known)?;
         let (_, kept) = self.map.pair_mut(place as usize);
-        let reply = kept.account.step(table, &token.bytes(), tap);
+        let reply = kept.account.step(table, clock, &token.bytes(), tap);
         let was_counted = kept.counts.add(reply);
         self.counting = self.counting & was_counted;
         Ok((place, reply))

@@ -9,7 +9,7 @@ ghost use Rattle.shard_book.specs.inside.Counting.{AddsSums};
 ghost use Rattle.shard_book.specs.Counts.{token_counts};
 ghost use Rattle.shard_book.specs.Entry.{TokensFit, taps_of};
 ghost use Rattle.fare_table.specs.Token.{bytes_of};
-ghost use Rattle.shard_book.specs.Book.{AreOfShard, PostsTap, window_end_of};
+ghost use Rattle.shard_book.specs.Book.{AreOfShard, PostsTap};
 ghost use Rattle.shard_book.specs.History.{IsLegal};
 
 use crate::accounts::Accounts;
@@ -19,7 +19,7 @@ use crate::prefetch::NO_PLACE;
 use crate::sums::counts::TokenCounts;
 use crate::token_hash::HashSeed;
 use account_rule::{Account, Reply, TapIn};
-use fare_table::{FareTable, NoMemory, Token};
+use fare_table::{Clock, FareTable, NoMemory, Token};
 use std::alloc::Global;
 use std::marker::Model;
 use tap_views::TapView;
@@ -85,17 +85,17 @@ impl ShardBook {
 
     /// Posts one tap: the account rule answers it, and one entry is appended to the history.
     ///
-    /// `until` is the table's end of a window that starts at the tap. On want of memory the book
-    /// stays as it was: all room is taken first. A book has room for fewer than 2^32 accounts, and
-    /// tells want of memory for what is beyond.
-    pub fn post(&mut self, tap: &TapView, until: u64) -> Result<Reply, NoMemory>
+    /// The clock is the table's. On want of memory the book stays as it was: all room is taken
+    /// first. A book has room for fewer than 2^32 accounts, and tells want of memory for what is
+    /// beyond.
+    pub fn post(&mut self, clock: &Clock, tap: &TapView) -> Result<Reply, NoMemory>
         requires here { shard_of_token tap.now.token self.old.shards ≡ self.old.shard }
-        requires until { until ≡ window_end_of self.old.table tap.now }
+        requires clock { clock.now ≡ self.old.table.zone }
         ensures ok { IfOk result (λ reply. PostsTap self.old self.new tap.now reply) }
         ensures err { OnErr result (self.new ≡ self.old) }
         ensures legal { IsLegal self.new.table self.new.entries }
     {
-        self.post_at(tap, until, NO_PLACE)
+        self.post_at(clock, tap, NO_PLACE)
     }
 
     /// Posts one tap as `post` does. Where its token's account is at the known place, no look-up is
@@ -103,12 +103,12 @@ impl ShardBook {
     #[inline(always)]
     pub(crate) fn post_at(
         &mut self,
+        clock: &Clock,
         tap: &TapView,
-        until: u64,
         known: u32,
     ) -> Result<Reply, NoMemory>
         requires here { shard_of_token tap.now.token self.old.shards ≡ self.old.shard }
-        requires until { until ≡ window_end_of self.old.table tap.now }
+        requires clock { clock.now ≡ self.old.table.zone }
         ensures ok { IfOk result (λ reply. PostsTap self.old self.new tap.now reply) }
         ensures err { OnErr result (self.new ≡ self.old) }
         ensures legal { IsLegal self.new.table self.new.entries }
@@ -118,12 +118,8 @@ impl ShardBook {
         let validator = tap.validator_number();
         let moment = tap.moment_ms();
         let mode = self.table.mode_of(validator);
-        let tap_in = TapIn {
-            moment,
-            mode,
-            until,
-        };
-        let (place, reply) = self.accounts.step(&self.table, token, tap_in, known)?;
+        let tap_in = TapIn { moment, mode };
+        let (place, reply) = self.accounts.step(&self.table, clock, token, tap_in, known)?;
         let packed = PackedEntry::of(place, validator, moment, reply);
         self.history.push_reserved(packed);
         Ok(reply)

@@ -7,7 +7,6 @@
 mod accounts;
 mod book;
 mod difference;
-mod ends;
 mod entry;
 pub mod laws;
 mod lines;
@@ -22,7 +21,6 @@ mod token_hash;
 
 pub use book::ShardBook;
 pub use difference::first_difference;
-pub use ends::Ends;
 pub use entry::Entry;
 pub use fare_table::Token;
 pub use lines::Lines;

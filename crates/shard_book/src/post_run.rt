@@ -3,26 +3,25 @@
 ghost use Rattle.std.specs.Prelude.{◌≡◌, ◌≤◌, length};
 ghost use Rattle.tap_views.specs.Shards.{run_taps};
 ghost use Rattle.shard_book.specs.History.{IsLegal};
-ghost use Rattle.shard_book.specs.Visits.{PostsRun, window_ends_of};
+ghost use Rattle.shard_book.specs.Visits.{PostsRun};
 
 use crate::book::ShardBook;
-use crate::ends::Ends;
 use crate::prefetch::{AT_ONCE, NO_PLACE};
 use crate::replies::Replies;
 use crate::run_end::RunEnd;
+use fare_table::Clock;
 use tap_views::Run;
 
 impl ShardBook {
     /// Posts the taps of a run in their order and appends their replies to `out`, up to the first
     /// want of memory.
     ///
-    /// `ends` are the table's window ends for the run's taps, and `out` has room for a reply to
-    /// each.
+    /// The clock is the table's, and `out` has room for a reply to each tap.
     #[inline(always)]
-    pub fn post_run(&mut self, run: &Run, ends: &Ends, out: &mut Replies) -> RunEnd
+    pub fn post_run(&mut self, clock: &Clock, run: &Run, out: &mut Replies) -> RunEnd
         requires shard { run.now.shard ≡ self.old.shard }
         requires shards { run.now.shards ≡ self.old.shards }
-        requires ends { ends.now ≡ window_ends_of self.old.table (run_taps run.now) }
+        requires clock { clock.now ≡ self.old.table.zone }
         requires room { length (run_taps run.now) ≤ out.old.spare }
         ensures posts { PostsRun (run_taps run.now) result self.old self.new out.old out.new }
         ensures legal { IsLegal self.new.table self.new.entries }
@@ -32,15 +31,15 @@ impl ShardBook {
         if run.is_empty() {
             return RunEnd::Whole;
         }
-        self.post_taps(run, ends, out)
+        self.post_taps(clock, run, out)
     }
 
     /// Posts a run that has taps, as `post_run` does.
     #[inline(never)]
-    fn post_taps(&mut self, run: &Run, ends: &Ends, out: &mut Replies) -> RunEnd
+    fn post_taps(&mut self, clock: &Clock, run: &Run, out: &mut Replies) -> RunEnd
         requires shard { run.now.shard ≡ self.old.shard }
         requires shards { run.now.shards ≡ self.old.shards }
-        requires ends { ends.now ≡ window_ends_of self.old.table (run_taps run.now) }
+        requires clock { clock.now ≡ self.old.table.zone }
         requires room { length (run_taps run.now) ≤ out.old.spare }
         requires legal { IsLegal self.old.table self.old.entries }
         ensures posts { PostsRun (run_taps run.now) result self.old self.new out.old out.new }
@@ -57,7 +56,7 @@ impl ShardBook {
             {
                 return RunEnd::Cut { posted };
             }
-            match self.post_at(&tap, ends.at(posted), places[slot]) {
+            match self.post_at(clock, &tap, places[slot]) {
                 Ok(reply) => out.push(reply),
                 Err(_) => return RunEnd::Cut { posted },
             }

@@ -1,13 +1,16 @@
 -- What a balance is after one tap more, and what it tells.
 use Rattle.std.proofs.Common.{◌≡◌, ℕ, ◌+◌, ◌<◌, Bool, true, false, List, [], ◌∷◌, ◌++◌, cond}
 use Rattle.std.proofs.Common.{Option, Some, None, is_some, refl, sym, ap, subst, ◌∙◌, arith}
+use Rattle.std.proofs.Common.{append_assoc}
+use Rattle.std.proofs.lemmas.List.Sums.{sum_by-append, sum_by-cons}
 use Rattle.std.specs.Prelude.{IfSome, MatchOption}
 use Rattle.std.specs.BTreeMap.{BTreeMap}
 use Rattle.std.specs.Option.{unwrap_or}
 use Rattle.std.specs.List.Sorted.{IsPermutation}
-use Rattle.std.specs.Ordering.{is_eq}
+use Rattle.std.specs.Ordering.{is_eq, is_lt}
 use Rattle.tap_views.specs.declared.encoder.TapFields.{TapFields}
 use Rattle.tap_balance.specs.Balances.{key_cmp, key_of, left_at, copies_among}
+use Rattle.tap_balance.specs.Balances.{IsFirstMissing, IsFirstSurplus}
 use Rattle.tap_balance.specs.declared.balance.TapKey.{TapKey}
 use Rattle.tap_balance.proofs.Keys.{key_exact}
 use Rattle.tap_balance.proofs.Times.{one, one_self, permutation_of_times, times_push}
@@ -17,12 +20,16 @@ abbrev pub Balances : BTreeMap TapKey ℕ → Option TapFields → List TapField
 Balances left surplus good struck =
     MatchOption surplus ((tap : TapFields)
     → copies_among tap good ≡ left_at left (key_of tap) + copies_among tap struck)
-    (λ tap. copies_among tap good < copies_among tap struck)
+    (IsFirstSurplus good struck)
 
 -- in the one map one more is left of the tap than in the other
 abbrev pub HasOneMore : BTreeMap TapKey ℕ → BTreeMap TapKey ℕ → TapKey → Type 0
 HasOneMore more less key =
     (other : TapKey) → left_at more other ≡ left_at less other + cond (is_eq (key_cmp key other)) 1 0
+
+nowhere : (before after : List TapFields) (tap : TapFields) → [] ≡ before ++ tap ∷ after → ⊥
+nowhere [] after tap is = absurd cc
+nowhere (other ∷ before) after tap is = absurd cc
 
 pub added : (old new : BTreeMap TapKey ℕ) (surplus : Option TapFields) (good : List TapFields)
     (tap : TapFields) → HasOneMore new old (key_of tap)
@@ -32,7 +39,7 @@ added old new None good tap more is = λ t.
     let here = more (key_of t) in
     let before = is t in
     omega (arith, push, here, before)
-added old new (Some s) good tap more is = absurd (omega (arith, is))
+added old new (Some s) good tap more is = absurd (nowhere is.before is.after s is.stands)
 
 pub struck_out : (old new : BTreeMap TapKey ℕ) (good struck : List TapFields) (tap : TapFields)
     → HasOneMore old new (key_of tap)
@@ -45,18 +52,40 @@ struck_out old new good struck tap more is = λ t.
 
 pub none_left : (left : BTreeMap TapKey ℕ) (good struck : List TapFields) (tap : TapFields)
     → left_at left (key_of tap) ≡ 0
-    → Balances left None good struck → copies_among tap good < copies_among tap (struck ++ tap ∷ [])
+    → Balances left None good struck → IsFirstSurplus good (struck ++ tap ∷ []) tap
 none_left left good struck tap none is =
     let push = times_push tap struck tap in
     let self = one_self tap in
-    let before = is tap in
-    omega (arith, push, self, before, none)
+    let here = is tap in
+    record {
+      before = struck;
+      after = [];
+      stands = refl;
+      none_before = λ other. let e = is other in omega (arith, e);
+      more = omega (arith, push, self, here, none);
+    }
 
 pub still_more : (left new : BTreeMap TapKey ℕ) (good struck : List TapFields) (tap s : TapFields)
     → Balances left (Some s) good struck → Balances new (Some s) good (struck ++ tap ∷ [])
-still_more left new good struck tap s is =
-    let push = times_push s struck tap in
-    omega (arith, push, is)
+still_more left new good struck tap s is = record {
+  before = is.before;
+  after = is.after ++ tap ∷ [];
+  stands = ap (λ (ts : List TapFields). ts ++ tap ∷ []) is.stands
+      ∙ append_assoc is.before (s ∷ is.after) (tap ∷ []);
+  none_before = is.none_before;
+  more = is.more;
+}
+
+-- the first surplus tap is more often among all of the others
+pub surplus_is_more : (good others : List TapFields) (tap : TapFields)
+    → IsFirstSurplus good others tap → copies_among tap good < copies_among tap others
+surplus_is_more good others tap is =
+    let whole = ap (copies_among tap) is.stands in
+    let cut = sum_by-append (one tap) is.before (tap ∷ is.after) in
+    let next = sum_by-cons (one tap) tap is.after in
+    let push = times_push tap is.before tap in
+    let more = is.more in
+    omega (arith, whole, cut, next, push, more)
 
 pub all_struck : (left : BTreeMap TapKey ℕ) (good struck : List TapFields)
     → ((key : TapKey) → left_at left key ≡ 0)
@@ -65,13 +94,21 @@ all_struck left good struck none is =
     permutation_of_times good struck (λ t.
     let here = none (key_of t) in let before = is t in omega (arith, here, before))
 
+-- the first key of which some are left is that of the first missing tap
 pub some_left : (left : BTreeMap TapKey ℕ) (good struck : List TapFields) (tap : TapFields)
     (key : TapKey) → key_of tap ≡ key → 0 < left_at left key
-    → Balances left None good struck → copies_among tap struck < copies_among tap good
-some_left left good struck tap key same some is =
+    → ((other : TapKey) → 0 < left_at left other → is_lt (key_cmp other key) ≡ false)
+    → Balances left None good struck → IsFirstMissing good struck tap
+some_left left good struck tap key same some first is =
     let here = subst (λ (k : TapKey). 0 < left_at left k) (sym same) some in
-    let before = is tap in
-    omega (arith, here, before)
+    let told = is tap in
+    record {
+      fewer = omega (arith, here, told);
+      first = λ other less. let e = is other in
+          subst (λ (k : TapKey). is_lt (key_cmp (key_of other) k) ≡ false) (sym same)
+          (first (key_of other) (omega (arith, less, e)));
+      no_surplus = λ other. let e = is other in omega (arith, e);
+    }
 
 pub unfound : (left : BTreeMap TapKey ℕ) (surplus : Option TapFields) (good struck : List TapFields)
     → is_some surplus ≡ false

@@ -1,3 +1,4 @@
 mod Keys
+mod Firsts
 mod Times
 mod Balanced

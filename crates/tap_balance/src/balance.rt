@@ -3,7 +3,7 @@
 ghost use Rattle.std.specs.Prelude.{◌≡◌, ◌+◌, ◌<◌, ◌++◌, ◌∷◌, [], ℕ};
 ghost use Rattle.std.specs.Prelude.{List, IfNone, IfSome, OnOk};
 ghost use Rattle.std.specs.Prelude.{if◌then◌else◌, false, map, true};
-ghost use Rattle.std.specs.Ordering.{is_eq};
+ghost use Rattle.std.specs.Ordering.{is_eq, is_lt};
 ghost use Rattle.tap_views.specs.Encoding.{fields_of};
 ghost use Rattle.tap_views.specs.declared.encoder.TapFields.{TapFields};
 ghost use Rattle.tap_balance.specs.Balances.{AreGoodFields, IsBalance, IsDifference, key_cmp};
@@ -25,12 +25,14 @@ struct TapKey {
     validator: u32,
 }
 
-/// A tap that one side has more often than the other.
+/// A tap that one side has more often than the other. If there are several, it is the first that is
+/// surplus, else the first that is missing.
 #[derive(Clone, Copy, Debug, PartialEq, Eq)]
 pub enum Difference {
-    /// The uploads have it more often.
+    /// The uploads have it more often: the first such one by token, moment and validator, where
+    /// none is surplus.
     Missing(TapFields),
-    /// The other side has it more often.
+    /// The other side has it more often: the first that was struck out once too often.
     Surplus(TapFields),
 }
 
@@ -93,6 +95,8 @@ fn take_one(left: &mut BTreeMap<TapKey, u64>, key: TapKey) -> bool
 /// The first key of whose tap some are left.
 fn first_left(left: &BTreeMap<TapKey, u64>) -> Option<TapKey>
     ensures found { IfSome result (λ key. 0 < left_at left.now key) }
+    ensures first { IfSome result (λ key. (other : TapKey) → 0 < left_at left.now other
+        → is_lt (key_cmp other key) ≡ false) }
     ensures none { IfNone result ((key : TapKey) → left_at left.now key ≡ 0) }
 {
     for (key, count) in left {

@@ -7,9 +7,8 @@ use Rattle.fare_service.specs.Outcomes.{OutcomeView}
 use Rattle.fare_service.specs.declared.upload_end.UploadEnd.{UploadEnd}
 use Rattle.fare_program.specs.Options.{Asked}
 use Rattle.fare_program.specs.Posted.{are_posted}
-use Rattle.fare_program.specs.Program.{ShowsPlain}
+use Rattle.fare_program.specs.Program.{ShowsOf, ShowsPlain}
 use Rattle.fare_service.specs.Headline.{HasRun}
-use Rattle.fare_program.specs.inside.Program.{Shows}
 use Rattle.fare_program.specs.inside.Settling.{IsOutcomeOf}
 use Rattle.fare_program.specs.declared.posting.Posted.{Posted}
 
@@ -23,9 +22,9 @@ pub record IsLiveRun (fares : Fares) (shards workers : ℕ) (files : List (List 
     (ends : List UploadEnd) (outcome : OutcomeView) : Type 0 where
   pub run : HasRun fares shards files workers outcome
   pub ended : ends ≡ outcome.ends
-  pub plain : (explain : Bool) (token : Option Token) (text : List ℕ)
-      → are_posted outcome.ends ≡ true → Shows explain token outcome text
-      → ShowsPlain explain fares files token text
+  pub plain : (asked : Asked) (token : Option Token) (text : List ℕ)
+      → are_posted outcome.ends ≡ true → ShowsOf asked token outcome.ends outcome text
+      → ShowsPlain asked fares files token text
 
 -- the files were posted, settled where that is asked for, and ended so
 abbrev pub IsAskedOutcome : Asked → Fares → List (List ℕ) → List UploadEnd → OutcomeView → Type 0

@@ -9,7 +9,7 @@ use crate::service::Service;
 use crate::service::share::{Done, Posting, Share};
 use crate::upload_end::UploadEnd;
 use fare_table::{Clock, NoMemory};
-use shard_book::{Ends, Replies, RunEnd, Tally, Totals};
+use shard_book::{Replies, RunEnd, Tally, Totals};
 use shared_books::{Drawer, Full};
 use std::alloc::Global;
 use std::sync::Wait;
@@ -50,15 +50,13 @@ impl Gate for OpenGate {
     fn after(&self, _: u32) {}
 }
 
-/// What a worker makes once: its clock, and the buffers that it keeps from run to run.
+/// What a worker makes once: its clock, and the buffer that it keeps from run to run.
 #[derive(Drop)]
 pub(crate) struct RunBuffers {
     /// The clock of the table's zone.
     pub(crate) clock: Clock,
     /// The replies to a run.
     pub(crate) replies: Replies,
-    /// The ends of windows that would start at the taps of a run.
-    pub(crate) ends: Ends,
 }
 
 /// What a worker makes once: the runs that it fills for each batch, and what it keeps from run to
@@ -137,8 +135,7 @@ impl<'a> Service<'a> {
     ghost use Rattle.fare_service.specs.Stopping.{SomeFull, StoppedWell, WasCut};
     ghost use Rattle.fare_service.specs.inside.Stopping.{TellsFull, TellsMemory};
 
-    /// Posts a run of the batch, if it has a tap. Memory is taken, and window ends are made, before
-    /// the turn.
+    /// Posts a run of the batch, if it has a tap. Memory for its replies is taken before the turn.
     fn post_run<'b, R: Wait>(
         &self,
         rt: &R,
@@ -173,12 +170,11 @@ impl<'a> Service<'a> {
         }
         buffers.replies.clear();
         buffers.replies.reserve(len)?;
-        buffers.ends.fill(&buffers.clock, &run)?;
         let visit = self.books[shard as usize].visit(
             rt,
             &mut posting.passes[shard as usize],
+            &buffers.clock,
             &run,
-            &buffers.ends,
             &mut buffers.replies,
         )?;
         count(&mut posting.totals, &buffers.replies);
@@ -355,7 +351,6 @@ impl<'a> Service<'a> {
         let run = RunBuffers {
             clock,
             replies: Replies::new(alloc),
-            ends: Ends::new(alloc),
         };
         let mut buffers = Buffers { runs, run };
         let Share {

@@ -6,6 +6,9 @@ use std::collections::BTreeMap;
 use toml_parser::text::{skip_blank, skip_ws};
 use toml_parser::{Key, ParseError, dotted_key, quoted, starts_string, unquoted};
 
+/// The mark that may stand before the first line. An editor does not show it.
+const BYTE_ORDER_MARK: &str = "\u{feff}";
+
 /// Where the keys and the values of a text stand, by their whole paths.
 #[derive(Drop)]
 pub(super) struct Places {
@@ -263,7 +266,7 @@ impl Reader {
 
     /// The whole text.
     fn document(&mut self, text: &str) -> Result<(), Stop> {
-        let mut rest = match text.strip_prefix("\u{feff}") {
+        let mut rest = match text.strip_prefix(BYTE_ORDER_MARK) {
             Some(rest) => rest,
             None => text,
         };
@@ -312,13 +315,17 @@ impl Places {
         }
     }
 
-    /// The line and the column of an offset in the text, both from 1. A column counts letters.
+    /// The line and the column of an offset in the text, both from 1. A column counts letters; a
+    /// byte order mark is none.
     pub(super) fn line_and_column(&self, text: &str, offset: usize) -> (usize, usize) {
         let line = self.lines.partition_point(|start| *start <= offset);
-        let start = match self.lines.get(line.saturating_sub(1)) {
+        let mut start = match self.lines.get(line.saturating_sub(1)) {
             Some(start) => *start,
             None => 0,
         };
+        if start == 0 && text.starts_with(BYTE_ORDER_MARK) {
+            start = BYTE_ORDER_MARK.len();
+        }
         let mut column = 1usize;
         if let Some(front) = text.as_bytes().get(start..offset) {
             for byte in front {

@@ -4,8 +4,8 @@ use super::results::{Full, ReadFault, Readout, Visit};
 use super::rule::{Opening, PassState, Slot, TurnRule};
 use super::{Pass, SharedBook};
 use atomic_table::Table;
-use fare_table::NoMemory;
-use shard_book::{Ends, Replies, ShardBook, Token};
+use fare_table::{Clock, NoMemory};
+use shard_book::{Replies, ShardBook, Token};
 use std::alloc::Global;
 use std::snapshot::Snapshot;
 use std::sync::Wait;
@@ -15,7 +15,6 @@ use tap_views::Run;
 impl SharedBook {
     ghost use Rattle.std.specs.Prelude.{◌≡◌, ◌+◌, ◌^◌, ◌≤◌, [], length, IfOk, IfErr};
     ghost use Rattle.tap_views.specs.Shards.{run_taps};
-    ghost use Rattle.shard_book.specs.Visits.{window_ends_of};
     ghost use Rattle.shard_book.specs.Statement.{IsStatement};
     ghost use Rattle.shared_books.specs.Marks.{history_of_visits};
     ghost use Rattle.shared_books.specs.Passes.{new_pass, seen_by, HasSeenMore, Visits, IsFull};
@@ -60,20 +59,20 @@ impl SharedBook {
         ))
     }
 
-    /// Waits for the turn, posts the run, and gives the turn back. The window ends are made before
-    /// the turn. `Full` where `2^62` visits are counted: nothing changes then.
+    /// Waits for the turn, posts the run, and gives the turn back. The clock is the table's. `Full`
+    /// where `2^62` visits are counted: nothing changes then.
     pub fn visit<R: Wait>(
         &self,
         rt: &R,
         pass: &mut Pass,
+        clock: &Clock,
         run: &Run,
-        ends: &Ends,
         out: &mut Replies,
     ) -> Result<Visit, Full>
         requires belongs { pass.old.book ≡ self.now }
         requires shard { run.now.shard ≡ self.now.shard }
         requires shards { run.now.shards ≡ self.now.shards }
-        requires ends { ends.now ≡ window_ends_of self.now.table (run_taps run.now) }
+        requires clock { clock.now ≡ self.now.table.zone }
         requires spare { length (run_taps run.now) ≤ out.old.spare }
         ensures visit { IfOk result (MakesVisit run.now pass.old pass.new out.old out.new) }
         ensures full { IfErr result (λ _. HasSeenMore pass.old pass.new × IsFull pass.new
@@ -81,7 +80,7 @@ impl SharedBook {
     {
         let Pass { seat, held, next } = pass;
         let (number, mut book) = self.take(rt, seat, *next)?;
-        let how = book.post_run(run, ends, out);
+        let how = book.post_run(clock, run, out);
         self.give(seat, number, book);
         *held += 1;
         *next = number + 1;

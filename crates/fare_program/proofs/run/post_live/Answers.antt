@@ -13,7 +13,7 @@ returns-clause-live g c =
     record {
       run = subst R value run;
       ended = refl;
-      plain = λ explain token text posted shows.
-          let P : List (Vec ℕ Global) → Type 0 = λ fs. ShowsPlain explain c.args.table (map (λ f. f.items) fs) token text in
-          subst P value (c.shows_plain.ensures _ _ _ explain token text run posted shows);
+      plain = λ asked token text posted shows.
+          let P : List (Vec ℕ Global) → Type 0 = λ fs. ShowsPlain asked c.args.table (map (λ f. f.items) fs) token text in
+          subst P value (c.shows_plain.ensures _ _ _ asked token text run posted shows);
     }

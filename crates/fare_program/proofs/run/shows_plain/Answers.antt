@@ -8,12 +8,17 @@ use Rattle.fare_service.specs.Plain.{IsReportOver, IsStatementOver, IsUncutGathe
 use Rattle.fare_service.specs.Printed.{IsStatementOf, report_of}
 use Rattle.fare_service.specs.declared.upload_end.UploadEnd.{UploadEnd}
 use Rattle.fare_service.specs.declared.upload_end.UploadEnd.TheVariants.{Posted, Refused, Cut, Undrawn}
-use Rattle.std.specs.Prelude.{MatchBool}
+use Rattle.std.specs.Prelude.{MatchBool, slice_get}
+use Rattle.shard_book.specs.Book.{Book}
 use Rattle.fare_service.proofs.PlainSums.{own_all}
 use Rattle.ledger_texts.specs.Explained.{IsExplainedOf, IsExplainedOver}
 use Rattle.fare_program.proofs.Explains.{explained_same}
 use Rattle.fare_program.specs.Posted.{are_posted}
-use Rattle.fare_program.specs.inside.Program.{Shows}
+use Rattle.ledger_texts.specs.Ledger.{IsLedgerOfBooks, IsLedgerOver}
+use Rattle.fare_program.specs.Options.{Asked}
+use Rattle.fare_program.specs.Program.{ShowsOf, ShowsWith}
+use Rattle.fare_program.specs.Settling.{ShowsOver}
+use Rattle.fare_program.proofs.Ledgers.{ledger_same}
 use Rattle.fare_program.specs.Settling.{IsTextOver}
 use Rattle.fare_program.proofs.run.shows_plain.Goals as goal
 
@@ -39,13 +44,22 @@ shown : (explain : Bool) (files : List (List ℕ)) (outcome : OutcomeView) (fare
     → IsReportOver files history (report_of outcome)
     → ((t : Token) → IsExplainedOf outcome.books t text → IsExplainedOver fares history t text)
     → ((t : Token) → IsStatementOf outcome t text → IsStatementOver fares history t text)
-    → Shows explain token outcome text → IsTextOver explain token fares files history text
+    → ShowsWith explain token outcome.ends outcome text → IsTextOver explain token fares files history text
 shown explain files outcome fares history None text report explained statement shows = let R : List ℕ → Type 0 = λ t. IsReportOver files history t in subst R (sym shows) report
 shown explain files outcome fares history (Some token) text report explained statement shows =
     stated explain outcome fares history token text (explained token) (statement token) shows
 
+-- the ledger, or what is shown without it
+asked_for : (ledger : Bool) (explain : Bool) (files : List (List ℕ)) (outcome : OutcomeView) (fares : Fares) (history : List Entry) (token : Option Token) (text : List ℕ)
+    → (IsLedgerOfBooks outcome.books token text → IsLedgerOver fares history token text)
+    → (ShowsWith explain token outcome.ends outcome text → IsTextOver explain token fares files history text)
+    → MatchBool ledger (IsLedgerOfBooks outcome.books token text) (ShowsWith explain token outcome.ends outcome text)
+    → MatchBool ledger (IsLedgerOver fares history token text) (IsTextOver explain token fares files history text)
+asked_for true explain files outcome fares history token text ledger other shows = ledger shows
+asked_for false explain files outcome fares history token text ledger other shows = other shows
+
 pub returns : goal.returns
-returns c = λ fares shards workers explain token text run posted shows history is apart.
+returns c = λ fares shards workers asked token text run posted shows history is apart.
     let files = map (λ (f : Vec ℕ Global). f.items) c.args.files.now in
     let outcome = c.args.outcome.now in
     let whole : IsUncutGathering fares shards files outcome history = record {
@@ -57,6 +71,9 @@ returns c = λ fares shards workers explain token text run posted shows history 
     } in
     let some : 0 < length outcome.books = omega (arith, c.shards.ensures.some, c.shards.ensures.number) in
     let same = own_all (record { table = fares; shards = shards; uploads = files }) outcome history some c.tokens_are_named.ensures.named c.tokens_are_named.ensures.here c.one_reading_each.ensures whole in
-    shown explain files outcome fares history token text (c.report_is_plain.ensures fares shards history whole)
-    (λ t. explained_same fares outcome history t text (same t) (λ book there. (whole.headline.books 0 book there).0))
-    (λ t. (c.statements_are_plain.ensures.texts fares shards history whole t text).0) shows
+    let table = λ (book : Book) (there : slice_get outcome.books 0 ≡ Some book). (whole.headline.books 0 book there).0 in
+    asked_for asked.ledger asked.explain files outcome fares history token text
+    (ledger_same fares outcome history token text same table)
+    (shown asked.explain files outcome fares history token text (c.report_is_plain.ensures fares shards history whole)
+    (λ t. explained_same fares outcome history t text (same t) table)
+    (λ t. (c.statements_are_plain.ensures.texts fares shards history whole t text).0)) shows

@@ -18,6 +18,7 @@ returns-clause-ok g c =
     let names = c.as_slice-names.ensures.value in
     let same = compared_is c.as_slice-names.result.now loaded.1 _ (ap not c.is_empty-has_uploads.ensures)
     ∙ ap (λ (ns : List (Bor (List ℕ))). compared (map (λ n. n.now) ns) loaded.1) names in
+    let found = subst (λ (good : Option (List TapFields)). IsFinding c.in_ok-table.table told.0 good finding.0 well) same finding.1 in
     record {
       after_table = _;
       after_uploads = _;
@@ -30,7 +31,8 @@ returns-clause-ok g c =
       ledger = told.0;
       loads_ledger = opened _ _ _ _ told.0 c.in_ok-ledger.ensures.ok told.1;
       text = finding.0;
-      finding = subst (λ (good : Option (List TapFields)). IsFinding c.in_ok-table.table told.0 good finding.0 well) same finding.1;
+      finding = found;
+      right = c.findings_decide.ensures _ _ _ _ _ found;
       written = finding.2;
     })
     c.audit_over.ensures.told

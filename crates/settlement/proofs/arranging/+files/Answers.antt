@@ -1,4 +1,4 @@
-use Rattle.std.proofs.Common.{IfOk, ℕ, List, map, ◌++◌, sym, ap, ◌∙◌, subst}
+use Rattle.std.proofs.Common.{IfOk, map, ◌++◌, sym, ap, ◌∙◌, subst}
 use Rattle.std.specs.List.{AllZip}
 use Rattle.std.proofs.lemmas.List.{map-append}
 use Rattle.settlement.specs.Settled.{IsPartFile}

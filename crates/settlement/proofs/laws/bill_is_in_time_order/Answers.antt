@@ -1,5 +1,6 @@
-use Rattle.std.proofs.Common.{ℕ, List, Vec, Global, map}
-use Rattle.settlement.proofs.Settlings.{legal_history, some_history, stale, time_order}
+use Rattle.std.proofs.Common.{ℕ, List, ◌∷◌, ◌++◌, Vec, Global, map}
+use Rattle.settlement.proofs.Settlings.{each_once, legal_history, some_history, stale, time_order}
+use Rattle.settlement.proofs.Twins.{twin_is_stale}
 use Rattle.settlement.proofs.laws.bill_is_in_time_order.Goals as goal
 
 abbrev bytes_in : Vec ℕ Global → List ℕ
@@ -25,3 +26,14 @@ returns-clause-stale c = λ fares before after entry is answer.
     let (later, plain) = c.plain_history.ensures.some fares in
     stale fares (map bytes_in c.args.uploads.now) c.one_reading_each.ensures later plain
     (c.plain_history.ensures.fields fares later plain) before entry after is answer
+
+pub returns-clause-once : goal.returns-clause-once
+returns-clause-once c = λ fares history taps is each.
+    let (later, plain) = c.plain_history.ensures.some fares in
+    each_once fares (map bytes_in c.args.uploads.now) c.one_reading_each.ensures later plain
+    (c.plain_history.ensures.fields fares later plain) history taps is each
+
+pub returns-clause-twins : goal.returns-clause-twins
+returns-clause-twins c = λ fares before after entry is twin known.
+    twin_is_stale fares before entry after
+    (legal_history fares (map bytes_in c.args.uploads.now) (before ++ entry ∷ after) is) twin known

@@ -1,28 +1,39 @@
-use Rattle.std.proofs.Common.{◌≡◌, ◌<◌, ℕ, All, List, Option, sym, ap, subst, arith, rules}
+use Rattle.std.proofs.Common.{◌≡◌, ◌<◌, ◌++◌, ◌∷◌, [], ℕ, All, List, Option}
+use Rattle.std.proofs.Common.{ap, sym, subst, ◌∙◌, append_assoc, append-nil, arith, rules}
 use Rattle.std.specs.BTreeMap.{is_at}
 use Rattle.std.specs.Map.Iter.{deref_pair}
 use Rattle.std.specs.Option.{unwrap_or}
-use Rattle.std.proofs.lemmas.List.Elements.{All-cons, All-nil}
+use Rattle.std.proofs.lemmas.List.Elements.{All-nil, All-push}
 use Rattle.std.proofs.lemmas.Map.Entries.{All-lookup}
 use Rattle.std.proofs.lemmas.Map.Iter.{btree_map_turn}
 use Rattle.tap_balance.specs.Balances.{key_cmp}
 use Rattle.tap_balance.specs.declared.balance.TapKey.{TapKey}
 use Rattle.tap_balance.proofs.Balanced.{zero_or_none}
+use Rattle.tap_balance.proofs.Firsts.{Zero, none_before}
 use Rattle.tap_balance.proofs.Keys.{key_cmp_total}
 use Rattle.tap_balance.proofs.balance.first_left.Goals as goal
 
-abbrev Zero : TapKey × ℕ → Type 0
-Zero e = e.1 ≡ 0
-
-pub loop-key-preserved : goal.loop-key-preserved
-loop-key-preserved c = record {
+pub loop-key-init : goal.loop-key-init
+loop-key-init c = record {
   may = tt;
   ends = tt;
-  zero = λ rest. c.loop-key.invariant.zero
-      (subst (All Zero) (sym c.in-Some.ensures.steps)
-      (All-cons Zero (c.in-Some.key.now, c.in-Some.count.now) c.next.new.self
-      (omega (arith, c.if-count-gt0.false)) rest));
+  zero = ([], search rules, All-nil Zero);
 }
+
+pub loop-key-preserved : goal.loop-key-preserved
+loop-key-preserved c =
+    let zero = c.loop-key.invariant.zero in
+    let entry : TapKey × ℕ = (c.in-Some.key.now, c.in-Some.count.now) in
+    record {
+      may = tt;
+      ends = tt;
+      zero = (
+        zero.0 ++ entry ∷ [],
+        zero.1 ∙ ap (λ (left : List (TapKey × ℕ)). zero.0 ++ left) c.in-Some.ensures.steps
+            ∙ sym (append_assoc zero.0 (entry ∷ []) c.next.new.self),
+        All-push Zero zero.0 entry zero.2 (omega (arith, c.if-count-gt0.false)),
+      );
+    }
 
 pub returns-then-count-gt0-clause-found : goal.returns-then-count-gt0-clause-found
 returns-then-count-gt0-clause-found c =
@@ -32,7 +43,18 @@ returns-then-count-gt0-clause-found c =
     key_cmp_total c.args.left.now (search rules) (search rules) in
     subst (λ (o : Option ℕ). 0 < unwrap_or o 0) (sym turn.1) c.if-count-gt0.true
 
+pub returns-then-count-gt0-clause-first : goal.returns-then-count-gt0-clause-first
+returns-then-count-gt0-clause-first c = λ other some.
+    let zero = c.loop-key.invariant.zero in
+    let entry : TapKey × ℕ = (c.in-Some.key.now, c.in-Some.count.now) in
+    none_before c.args.left.now zero.0 entry c.next.new.self
+    (zero.1 ∙ ap (λ (left : List (TapKey × ℕ)). zero.0 ++ left) c.in-Some.ensures.steps)
+    (search rules) zero.2 other some
+
 pub returns-clause-none : goal.returns-clause-none
 returns-clause-none c = λ key.
-    zero_or_none _ (All-lookup (λ (n : ℕ). n ≡ 0) (is_at (key_cmp key)) c.args.left.now.entries
-    (c.loop-key.invariant.zero (subst (All Zero) (sym c.in-None.ensures.steps.0) (All-nil Zero))))
+    let zero = c.loop-key.invariant.zero in
+    let all : All Zero c.args.left.now.entries = subst (All Zero)
+    (sym (append-nil zero.0) ∙ sym (zero.1 ∙ ap (λ (left : List (TapKey × ℕ)). zero.0 ++ left) c.in-None.ensures.steps.0))
+    zero.2 in
+    zero_or_none _ (All-lookup (λ (n : ℕ). n ≡ 0) (is_at (key_cmp key)) c.args.left.now.entries all)

@@ -1,4 +1,4 @@
-use Rattle.std.proofs.Common.{◌≡◌, ℕ, ◌+◌, sym, arith, rules}
+use Rattle.std.proofs.Common.{◌≡◌, ◌+◌, sym, arith, rules}
 use Rattle.tap_balance.proofs.Balanced.{one_more}
 use Rattle.tap_balance.proofs.balance.put_one.Goals as goal
 

@@ -1,4 +1,4 @@
-use Rattle.std.proofs.Common.{◌≡◌, ℕ, ◌+◌, ◌-◌, Option, sym, ap, arith, rules}
+use Rattle.std.proofs.Common.{◌≡◌, ℕ, ◌-◌, Option, sym, ap, arith, rules}
 use Rattle.std.specs.Option.{unwrap_or}
 use Rattle.tap_balance.specs.Balances.{left_at}
 use Rattle.tap_balance.proofs.Balanced.{one_fewer}

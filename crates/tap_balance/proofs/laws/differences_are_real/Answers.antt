@@ -1,9 +1,10 @@
-use Rattle.std.proofs.Common.{◌≡◌, List, Some, arith}
+use Rattle.std.proofs.Common.{List, Some, arith}
 use Rattle.std.specs.List.Sorted.{IsPermutation}
 use Rattle.tap_views.specs.declared.encoder.TapFields.{TapFields}
 use Rattle.tap_balance.specs.Balances.{IsDifference}
 use Rattle.tap_balance.specs.declared.balance.Difference.{Difference}
 use Rattle.tap_balance.specs.declared.balance.Difference.TheVariants.{Missing, Surplus}
+use Rattle.tap_balance.proofs.Balanced.{surplus_is_more}
 use Rattle.tap_balance.proofs.Keys.{same_exact, same_of}
 use Rattle.tap_balance.proofs.Times.{times_permutation}
 use Rattle.tap_balance.proofs.laws.differences_are_real.Goals as goal
@@ -14,9 +15,11 @@ returns-clause-same c = λ tap other. (same_exact tap other, same_of tap other)
 differ : (good others : List TapFields) (difference : Difference)
     → IsDifference good others (Some difference) → IsPermutation good others → ⊥
 differ good others (Missing tap) is moved = let e = times_permutation tap good others moved in
-    absurd (omega (arith, is, e))
+    let fewer = is.fewer in
+    absurd (omega (arith, fewer, e))
 differ good others (Surplus tap) is moved = let e = times_permutation tap good others moved in
-    absurd (omega (arith, is, e))
+    let more = surplus_is_more good others tap is in
+    absurd (omega (arith, more, e))
 
 pub returns-clause-apart : goal.returns-clause-apart
 returns-clause-apart c = differ

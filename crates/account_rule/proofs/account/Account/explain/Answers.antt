@@ -1,5 +1,6 @@
 -- Each way out is one of the rule's four kinds of reason.
-use Rattle.std.proofs.Common.{refl, sym, ◌∙◌}
+use Rattle.std.proofs.Common.{ap, refl, sym, ◌∙◌}
+use Rattle.fare_table.specs.Until.{window_end_in}
 use Rattle.account_rule.specs.Kept.{kept_giver, kept_of}
 use Rattle.account_rule.specs.TokenRules.{rules_of}
 use Rattle.account_rule.specs.Stands.{Stands, StandsForSome}
@@ -18,20 +19,19 @@ pub next_reason-requires-clause-room : goal.next_reason-requires-clause-room
 unfolding StandsForSome Stands rules_of
 next_reason-requires-clause-room c =
     room (rules_of c.args.table.now c.args.token.now) (kept_of c.args.self.now) c.requires.stands.0
-    c.args.tap _ _ c.requires.stands.1
-    (c.open.ensures ∙ at_fresh _ c.args.tap.moment c.args.tap.until
-    (kept-fresh _ c.if-not-self.true)) c.terms_of.ensures.terms c.terms_of.ensures.bounds
+    _ _ _ _ c.requires.stands.1
+    (c.opened.ensures ∙ at_fresh _ _ _ (kept-fresh _ c.if-not-self.true)) c.terms_of.ensures.terms c.terms_of.ensures.bounds
 
 pub returns-then-not-self : goal.returns-then-not-self
 unfolding Stands rules_of
 returns-then-not-self c =
     λ taps stands. c.next_reason.ensures
     ∙ why_ride (rules_of c.args.table.now c.args.token.now) (kept_of c.args.self.now) taps
-    c.args.tap c.in-Some.mode _ _ stands c.in-Some.is c.requires.until
+    c.args.tap c.in-Some.mode _ _ _ stands c.in-Some.is
+    (ap (λ zone. window_end_in zone c.args.tap.moment) c.requires.clock)
     (gives_none-fresh _ _ c.args.tap c.in-Some.mode (kept-fresh _ c.if-not-self.true))
     c.terms_of.ensures.terms
-    (c.open.ensures ∙ at_fresh _ c.args.tap.moment c.args.tap.until
-    (kept-fresh _ c.if-not-self.true))
+    (c.opened.ensures ∙ at_fresh _ _ _ (kept-fresh _ c.if-not-self.true))
 
 -- a tap that is not later
 
@@ -71,9 +71,8 @@ next_reason-requires-2-clause-room c =
     let kept = kept_terms _ (kept_of c.args.self.now) _ c.requires.stands.0
     (kept-open _ c.if-not-self.false) c.requires.stands.1 in
     room (rules_of c.args.table.now c.args.token.now) (kept_of c.args.self.now) c.requires.stands.0
-    c.args.tap _ _ c.requires.stands.1
-    (c.window_at.ensures
-    ∙ at_kept _ _ c.args.tap.moment c.args.tap.until (kept-open _ c.if-not-self.false))
+    _ _ _ _ c.requires.stands.1
+    (c.window_at.ensures ∙ at_kept _ _ _ _ (kept-open _ c.if-not-self.false))
     kept.same kept.bounds
 
 pub returns : goal.returns
@@ -81,9 +80,9 @@ unfolding rules_of Stands
 returns c =
     λ taps stands. c.next_reason-2.ensures
     ∙ why_ride (rules_of c.args.table.now c.args.token.now) (kept_of c.args.self.now) taps
-    c.args.tap c.in-Some.mode _ _ stands c.in-Some.is c.requires.until
+    c.args.tap c.in-Some.mode _ _ _ stands c.in-Some.is
+    (ap (λ zone. window_end_in zone c.args.tap.moment) c.requires.clock)
     (gives_none-state _ _ _ c.args.tap _ (kept-open _ c.if-not-self.false) c.if-tap-self.false
     (sym c.gives_transfer.ensures ∙ c.if-gives_transfer.false))
     (kept_terms _ (kept_of c.args.self.now) _ taps (kept-open _ c.if-not-self.false) stands).same
-    (c.window_at.ensures
-    ∙ at_kept _ _ c.args.tap.moment c.args.tap.until (kept-open _ c.if-not-self.false))
+    (c.window_at.ensures ∙ at_kept _ _ _ _ (kept-open _ c.if-not-self.false))

@@ -1,5 +1,6 @@
 -- Each way out of the step is one of the rule's four cases: unknown, stale, transfer, ride.
 use Rattle.std.proofs.Common.{List, [], ◌∷◌, ◌++◌, Some, refl, sym, ap, ◌∙◌}
+use Rattle.fare_table.specs.Until.{window_end_in}
 use Rattle.account_rule.specs.Replies.{ride_reply}
 use Rattle.account_rule.specs.TokenRules.{rules_of}
 use Rattle.account_rule.specs.Kept.{kept_numbers, kept_giver, kept_of}
@@ -36,8 +37,9 @@ is_first_ride : (c : After-first_ride) (taps : List TapIn)
 unfolding rules_of Stands
 is_first_ride c taps stands =
     first_ride (rules_of c.args.table.now c.args.token.now) (kept_of c.args.self.now) _ taps
-    c.args.tap c.in-Some.mode _ (kept-fresh _ c.if-not-self.true) stands c.in-Some.is
-    (c.requires.mode _ c.in-Some.is) c.requires.until c.first_ride.ensures.bounds
+    c.args.tap c.in-Some.mode _ _ (kept-fresh _ c.if-not-self.true) stands c.in-Some.is
+    (c.requires.mode _ c.in-Some.is)
+    (ap (λ zone. window_end_in zone c.args.tap.moment) c.requires.clock) c.first_ride.ensures.bounds
     c.first_ride.ensures.reply c.first_ride.ensures.state
 
 pub returns-then-not-self-clause-reply : goal.returns-then-not-self-clause-reply
@@ -115,8 +117,7 @@ take_ride-requires-clause-room c =
     let kept = kept_terms _ (kept_of c.args.self.now) _ c.requires.stands.0
     (kept-open _ c.if-not-self.false) c.requires.stands.1 in
     room (rules_of c.args.table.now c.args.token.now) (kept_of c.args.self.now) c.requires.stands.0
-    c.args.tap _ _ c.requires.stands.1
-    (at_kept _ _ c.args.tap.moment c.args.tap.until (kept-open _ c.if-not-self.false)) kept.same
+    _ _ _ _ c.requires.stands.1 (at_kept _ _ _ _ (kept-open _ c.if-not-self.false)) kept.same
     kept.bounds
 
 is_next_ride : (c : After-to_ride) (taps : List TapIn)
@@ -126,8 +127,9 @@ is_next_ride : (c : After-to_ride) (taps : List TapIn)
 unfolding rules_of Stands
 is_next_ride c taps stands =
     next_ride (rules_of c.args.table.now c.args.token.now) (kept_of c.args.self.now) _ _ taps
-    c.args.tap c.in-Some.mode _ (kept-open _ c.if-not-self.false) stands c.in-Some.is
-    (c.requires.mode _ c.in-Some.is) c.requires.until
+    c.args.tap c.in-Some.mode _ _ (kept-open _ c.if-not-self.false) stands c.in-Some.is
+    (c.requires.mode _ c.in-Some.is)
+    (ap (λ zone. window_end_in zone c.args.tap.moment) c.requires.clock)
     (gives_none-state _ _ _ c.args.tap _ (kept-open _ c.if-not-self.false) c.if-tap-self.false
     (sym c.gives_transfer.ensures ∙ c.if-gives_transfer.false))
     c.take_ride.ensures.cost c.take_ride.ensures.last c.take_ride.ensures.giver

@@ -2,12 +2,11 @@ use Rattle.std.proofs.Common.{◌≡◌, ◌<◌, List, inr, refl, ◌++◌, len
 use Rattle.std.proofs.lemmas.List.{length-map}
 use Rattle.tap_views.specs.Layout.{Tap}
 use Rattle.tap_views.specs.Shards.{run_of, run_taps}
-use Rattle.fare_table.specs.Until.{window_end_in}
 use Rattle.shard_book.specs.declared.run_end.RunEnd.{RunEnd}
 use Rattle.shard_book.specs.declared.run_end.RunEnd.TheVariants.{Whole, Cut}
 use Rattle.shard_book.specs.Entry.{reply_of}
 use Rattle.shard_book.specs.Sums.{sums_of, sums_of_replies, add_sums}
-use Rattle.shard_book.specs.Visits.{IsVisit, window_ends_by}
+use Rattle.shard_book.specs.Visits.{IsVisit}
 use Rattle.shared_books.specs.Passes.{PassView}
 use Rattle.fare_service.specs.declared.service.working.Stop.TheVariants.{Memory}
 use Rattle.fare_service.specs.ServiceView.{shards_of}
@@ -29,13 +28,6 @@ returns-in_err-reserve-clause-made g c =
     λ place. run_refused (shards_of c.args.self.now) c.args.shard place c.args.batch.now c.args.posting.now.passes.items (sums_of c.args.posting.now.totals)
     c.from_residual.result some c.from_residual.ensures.0
 
-pub returns-in_err-fill-clause-made : goal.returns-in_err-fill-clause-made
-returns-in_err-fill-clause-made g c =
-    let same = same_run c.run-run.result c.args.batch.now c.args.shard (length c.args.runs.now) (shards_of c.args.self.now) c.run-run.ensures c.requires.shards in
-    let some : 0 < length (run_of c.args.shard (shards_of c.args.self.now) c.args.batch.now) = omega (arith, ap length same, c.len-len.ensures.number) in
-    λ place. run_refused (shards_of c.args.self.now) c.args.shard place c.args.batch.now c.args.posting.now.passes.items (sums_of c.args.posting.now.totals)
-    c.from_residual-in_err-fill.result some c.from_residual-in_err-fill.ensures.0
-
 pub visit-requires-clause-shard : goal.visit-requires-clause-shard
 visit-requires-clause-shard g c =
     let count = ap shards_of c.self.view_is in
@@ -49,12 +41,11 @@ visit-requires-clause-shards g c =
     let book = book_at _ c.args.shard c.index.result.now c.self.invariant (omega (arith, c.requires.shard, count)) c.index.ensures in
     ap (λ r. r.shards) c.run-run.ensures ∙ (c.requires.shards ∙ (sym count ∙ sym book.of_shards))
 
-pub visit-requires-clause-ends : goal.visit-requires-clause-ends
-visit-requires-clause-ends g c =
+pub visit-requires-clause-clock : goal.visit-requires-clause-clock
+visit-requires-clause-clock g c =
     let count = ap shards_of c.self.view_is in
     let book = book_at _ c.args.shard c.index.result.now c.self.invariant (omega (arith, c.requires.shard, count)) c.index.ensures in
-    let zone = c.requires.clock ∙ (sym (ap (λ h. h.table.zone) c.self.view_is) ∙ sym (ap (λ t. t.zone) book.its_table)) in
-    c.in_ok-fill.ensures.ok ∙ ap (λ z. window_ends_by (window_end_in z) (run_taps c.run-run.result)) zone
+    c.requires.clock ∙ (sym (ap (λ h. h.table.zone) c.self.view_is) ∙ sym (ap (λ t. t.zone) book.its_table))
 
 pub returns-in_err-visit-clause-made : goal.returns-in_err-visit-clause-made
 returns-in_err-visit-clause-made g c =
@@ -123,9 +114,6 @@ returns-then-len-eq0-clause-full g c = tells_ok tt _ _ (λ h. h)
 
 pub returns-in_err-reserve-clause-full : goal.returns-in_err-reserve-clause-full
 returns-in_err-reserve-clause-full g c = tells_refused c.from_residual.result _ _ (the_error c.from_residual.result Memory c.from_residual.ensures.1) (λ h. h)
-
-pub returns-in_err-fill-clause-full : goal.returns-in_err-fill-clause-full
-returns-in_err-fill-clause-full g c = tells_refused c.from_residual-in_err-fill.result _ _ (the_error c.from_residual-in_err-fill.result Memory c.from_residual-in_err-fill.ensures.1) (λ h. h)
 
 pub returns-in_err-visit-clause-full : goal.returns-in_err-visit-clause-full
 returns-in_err-visit-clause-full g c =

@@ -1,7 +1,5 @@
 use Rattle.std.proofs.Common.{Result, Ok, Err, OnErr, refl, ◌≡◌, ℕ, List, [], ◌∷◌, ◌++◌, Some, slice_get, subst, sym, ap, ◌∙◌, arith}
-use Rattle.tap_views.specs.Layout.{num}
 use Rattle.fare_table.specs.Fares.{Fares}
-use Rattle.fare_table.specs.Until.{until}
 use Rattle.shard_book.specs.Book.{Book, with_entries}
 use Rattle.tap_views.specs.Shards.{shard_of_token}
 use Rattle.shard_book.specs.declared.entry.Entry.{Entry}
@@ -63,13 +61,12 @@ sound c =
     let tap = c.args.tap.now in
     let view : book_of c.self.inside.table c.self.inside.shard c.self.inside.shards (history_of (tokens_of c.self.inside.accounts) c.self.inside.history.items) ≡ c.args.self.now = c.self.view_is in
     let token : bytes_of c.of-token.result ≡ tap.token = c.of-token.ensures.bytes ∙ c.token.ensures.bytes in
-    sound-post (entry_of_post c) c.mode_of-mode.result c.args.until
+    sound-post (entry_of_post c) c.mode_of-mode.result
     (pushed c)
     c.self.invariant.sound
     (ap (λ (bytes : List ℕ). shard_of_token bytes c.self.inside.shards) token ∙ ap (λ (b : Book). shard_of_token tap.token b.shards) view ∙ c.requires.here ∙ sym (ap (λ (b : Book). b.shard) view))
     c.of-token.ensures.fits
     c.mode_of-mode.ensures.mode
-    (c.requires.until ∙ sym (ap (λ (b : Book). until b.table (num tap.moment)) view) ∙ sym (ap (λ (m : ℕ). until c.self.inside.table m) c.moment_ms-moment.ensures.number))
     c.in_ok-place.ensures.reply
     c.in_ok-place.ensures.kept
     c.in_ok-place.ensures.counted

@@ -1,4 +1,4 @@
-use Rattle.std.proofs.Common.{◌≡◌, ℕ, List, [], ◌++◌, ◌∷◌, map, Ok, Err, ap, ◌∙◌, sym}
+use Rattle.std.proofs.Common.{List, [], ◌++◌, ◌∷◌, map, Err, ap, ◌∙◌, sym}
 use Rattle.std.proofs.Common.{refl, subst, append_assoc, append-nil}
 use Rattle.std.proofs.lemmas.List.{map-append}
 use Rattle.tap_views.specs.Encoding.{fields_of}

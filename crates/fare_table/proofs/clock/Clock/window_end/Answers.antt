@@ -7,7 +7,7 @@ use Rattle.fare_table.proofs.UntilLemmas.{civil_window_end-is}
 use Rattle.fare_table.specs.PosixRule.{posix_rule}
 use Rattle.fare_table.specs.inside.PosixRule.{HasRule, rule_of}
 use Rattle.fare_table.specs.Until.{IsCivilWindowEnd, window_end_in}
-use Rattle.fare_table.proofs.clock.Clock.until.Goals as goal
+use Rattle.fare_table.proofs.clock.Clock.window_end.Goals as goal
 
 by_rule : (zone : TimeZone) (start window_end : ℕ) → IsSome (posix_rule zone)
     → IsCivilWindowEnd zone start window_end → window_end ≡ window_end_in (posix_rule zone) start

@@ -1,0 +1,2 @@
+pub mod Bills
+pub mod TapSets
