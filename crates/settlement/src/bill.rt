@@ -93,7 +93,7 @@ impl Bill {
         let mut replay = Replay::of(token);
         let mut tally = Tally::new();
         for tap in taps {
-            let entry = replay.next(table, clock, tap)?;
+            let entry = replay.next(table, clock, tap);
             tally.add(entry.reply());
             self.validators.add(&entry)?;
         }

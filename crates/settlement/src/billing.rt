@@ -1,13 +1,11 @@
 //! The bill of all parts, made by several threads.
 
 ghost use Rattle.std.specs.Prelude.{◌≡◌, ◌+◌, ◌^◌, ◌≤◌, ◌++◌, All, List, length, map, IfOk, OnOk};
-ghost use denote.Param.Send.{IsSync};
 ghost use Rattle.settlement.specs.inside.Billing.{ArePartsInOrder, HasBillRoom, IsBillOfParts};
 ghost use Rattle.settlement.specs.inside.Billing.{IsPartBilled, IsSoundPart};
 
 use crate::bill::Bill;
 use crate::file::append_pieces;
-use crate::memory::release;
 use crate::pieces::Pieces;
 use fare_table::{Clock, FareTable, NoMemory};
 use shard_book::HashSeed;
@@ -18,24 +16,22 @@ use std::thread::Threads;
 use tap_parts::{arrange_into, number_of};
 use tap_views::TapFields;
 
-/// Adds the taps of a part to the bill, in canonical order. The memory of the pieces is given back.
-/// `taps` and `list` are room to work in.
+/// Adds the taps of a part to the bill, in canonical order. `taps` and `list` are room to work in.
 fn add_part(
     alloc: Global,
     table: &FareTable,
     clock: &Clock,
     taps: &mut Vec<TapFields>,
     list: &mut Vec<TapFields>,
-    pieces: Pieces,
+    pieces: &Pieces,
     bill: &mut Bill,
 ) -> Result<(), NoMemory>
     requires clock { clock.now ≡ table.now.zone }
-    requires sound { IsSoundPart pieces }
+    requires sound { IsSoundPart pieces.now }
     requires room { HasBillRoom bill.old (2 ^ 58) }
-    ensures { OnOk result (IsPartBilled table.now pieces bill.old bill.new) }
+    ensures { OnOk result (IsPartBilled table.now pieces.now bill.old bill.new) }
 {
     append_pieces(pieces.as_slice(), taps)?;
-    drop(pieces);
     arrange_into(alloc, taps, list)?;
     // proof: a list has fewer than 2^58 taps
     let _ = number_of(list);
@@ -43,18 +39,17 @@ fn add_part(
     Ok(())
 }
 
-/// The bill of the parts, in their order. The memory of a part is given back as soon as its taps
-/// lie in one list.
+/// The bill of the parts, in their order.
 fn bill_of(
     alloc: Global,
     table: &FareTable,
     seed: HashSeed,
-    parts: Vec<Pieces>,
+    parts: &[Pieces],
 ) -> Result<Bill, NoMemory>
-    requires sound { All IsSoundPart parts.items }
-    requires order { ArePartsInOrder parts.items }
-    requires few { length parts.items ≤ 65535 }
-    ensures { IfOk result (IsBillOfParts table.now parts.items) }
+    requires sound { All IsSoundPart parts.now }
+    requires order { ArePartsInOrder parts.now }
+    requires few { length parts.now ≤ 65535 }
+    ensures { IfOk result (IsBillOfParts table.now parts.now) }
 {
     let clock = table.clock(alloc)?;
     let mut taps = Vec::new(alloc);
@@ -63,55 +58,35 @@ fn bill_of(
     for pieces in parts {
         add_part(alloc, table, &clock, &mut taps, &mut list, pieces, &mut bill)?;
     }
-    release(taps);
-    release(list);
     Ok(bill)
 }
 
-/// The first half of the parts, and the others.
-fn halves(parts: Vec<Pieces>) -> Result<(Vec<Pieces>, Vec<Pieces>), NoMemory>
-    ensures parts { IfOk result (λ halves. parts.items ≡ halves.0.items ++ halves.1.items) }
-{
-    let mut front = parts;
-    let middle = front.len() / 2;
-    let back = front.split_off(middle)?;
-    Ok((front, back))
-}
-
-/// The bill of the parts, in their order. The parts are halved so many times, and the bill of each
-/// piece is made by a thread of its own. Where one is refused, both are made one after the other.
-#[cycle(bills)]
+/// The bill of the parts, in their order. So many workers make the bill of a run of parts each;
+/// where a thread is refused, another does its work.
 pub(crate) fn bill_by_threads<R: Threads + Sync>(
     rt: &R,
     alloc: Global,
     table: &FareTable,
     seed: HashSeed,
-    parts: Vec<Pieces>,
-    halvings: u32,
+    parts: &[Pieces],
+    workers: u32,
 ) -> Result<Bill, NoMemory>
-    requires sound { All IsSoundPart parts.items }
-    requires order { ArePartsInOrder parts.items }
-    requires few { length parts.items ≤ 65535 }
-    ensures { IfOk result (IsBillOfParts table.now parts.items) }
+    requires sound { All IsSoundPart parts.now }
+    requires order { ArePartsInOrder parts.now }
+    requires few { length parts.now ≤ 65535 }
+    ensures { IfOk result (IsBillOfParts table.now parts.now) }
 {
-    if halvings == 0 {
-        return bill_of(alloc, table, seed, parts);
+    let size = parts.len().div_ceil(workers.max(1) as usize).max(1);
+    let bills = thread::map_chunks(
+        rt,
+        alloc,
+        parts,
+        size,
+        &|_start, chunk: &[Pieces]| { bill_of(alloc, table, seed, chunk) },
+    )?;
+    let mut bill = Bill::new(alloc, seed);
+    for more in bills {
+        bill.append(alloc, more?)?;
     }
-    let fewer = halvings - 1;
-    let (front, back) = halves(parts)?;
-    let first = move || -> Result<Bill, NoMemory>
-        requires { IsSync R.row × All IsSoundPart front.items
-            × ArePartsInOrder front.items × (length front.items ≤ 65535) }
-        ensures { IfOk result (IsBillOfParts table.entry.now front.items) }
-    { bill_by_threads(rt, alloc, table, seed, front, fewer) };
-    let second = move || -> Result<Bill, NoMemory>
-        requires { IsSync R.row × All IsSoundPart back.items
-            × ArePartsInOrder back.items × (length back.items ≤ 65535) }
-        ensures { IfOk result (IsBillOfParts table.entry.now back.items) }
-    { bill_by_threads(rt, alloc, table, seed, back, fewer) };
-    let (bill, more) = thread::join(rt, first, second);
-    let mut bill = bill?;
-    let more = more?;
-    bill.append(alloc, more)?;
     Ok(bill)
 }

@@ -1,9 +1,8 @@
 //! The taps of one token, posted one after another by its account alone.
 
-ghost use Rattle.std.specs.Prelude.{◌≡◌, ◌<◌, List, [], ◌∷◌, ◌++◌, length, IfOk, OnOk};
+ghost use Rattle.std.specs.Prelude.{◌≡◌, ◌<◌, List, [], ◌∷◌, ◌++◌, length};
 ghost use Rattle.std.specs.Option.{ForSome};
 ghost use Rattle.fare_table.specs.Fares.{Fares};
-ghost use Rattle.fare_table.specs.Until.{until};
 ghost use Rattle.shard_book.specs.Entry.{own, tap_of};
 ghost use Rattle.shard_book.specs.declared.entry.Entry.{Entry};
 ghost use Rattle.fare_service.specs.Plain.{answered};
@@ -11,24 +10,21 @@ ghost use Rattle.settlement.specs.Posted.{token_of_tap, unposted};
 ghost use Rattle.settlement.specs.inside.Replays.{HasPosted};
 
 use account_rule::{Account, TapIn};
-use fare_table::{Clock, FareTable, NoMemory};
+use fare_table::{Clock, FareTable};
 use shard_book::{Entry, Token};
 use tap_views::TapFields;
 
 /// The tap, as the account rule sees it.
-fn seen(table: &FareTable, clock: &Clock, tap: &TapFields) -> Result<TapIn, NoMemory>
-    requires clock { clock.now ≡ table.now.zone }
-    requires early { tap.now.moment < 4_102_444_800_000 }
-    ensures tap { IfOk result (λ seen. seen ≡ tap_of table.now (unposted tap.now)) }
-    ensures mode { IfOk result (λ seen. ForSome seen.mode (λ mode.
-        mode.place < length table.now.meaning.modes)) }
-    ensures until { IfOk result (λ seen. seen.until ≡ until table.now seen.moment) }
+#[inline(always)]
+fn seen(table: &FareTable, tap: &TapFields) -> TapIn
+    ensures tap { result ≡ tap_of table.now (unposted tap.now) }
+    ensures mode { ForSome result.mode (λ mode. mode.place < length table.now.meaning.modes) }
+    ensures moment { result.moment ≡ tap.now.moment }
 {
-    Ok(TapIn {
+    TapIn {
         moment: tap.moment,
         mode: table.mode_of(tap.validator),
-        until: clock.until(tap.moment)?,
-    })
+    }
 }
 
 /// A token whose taps are posted, with its account after those posted.
@@ -60,28 +56,26 @@ impl Replay {
         table: &FareTable,
         clock: &Clock,
         tap: &TapFields,
-    ) -> Result<Entry, NoMemory>
+    ) -> Entry
         requires clock { clock.now ≡ table.now.zone }
         requires early { tap.now.moment < 4_102_444_800_000 }
         requires its { token_of_tap tap.now ≡ self.old.token }
         requires posted { (earlier : List Entry) × HasPosted table.now self.old earlier }
-        ensures entry { IfOk result (λ entry. (earlier : List Entry)
-            → HasPosted table.now self.old earlier
-            → entry ≡ answered table.now earlier (unposted tap.now)) }
-        ensures posted { IfOk result (λ entry. (earlier : List Entry)
-            → HasPosted table.now self.old earlier
-            → HasPosted table.now self.new (earlier ++ entry ∷ [])) }
-        ensures token { OnOk result (self.new.token ≡ self.old.token) }
+        ensures entry { (earlier : List Entry) → HasPosted table.now self.old earlier
+            → result ≡ answered table.now earlier (unposted tap.now) }
+        ensures posted { (earlier : List Entry) → HasPosted table.now self.old earlier
+            → HasPosted table.now self.new (earlier ++ result ∷ []) }
+        ensures token { self.new.token ≡ self.old.token }
     {
         let bytes = self.token.bytes();
-        let seen = seen(table, clock, tap)?;
-        let reply = self.account.step(table, &bytes, seen);
-        Ok(Entry {
+        let seen = seen(table, tap);
+        let reply = self.account.step(table, clock, &bytes, seen);
+        Entry {
             token: self.token,
             validator: tap.validator,
             moment: tap.moment,
             answer: reply.answer,
             cents: reply.cents,
-        })
+        }
     }
 }

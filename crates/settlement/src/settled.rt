@@ -115,11 +115,6 @@ pub struct Billed {
     pub bill: Bill,
 }
 
-/// How often work is halved for so many workers.
-fn halvings_for(workers: u32) -> u32 {
-    if workers <= 1 { 0 } else { (workers - 1).ilog2() + 1 }
-}
-
 /// The bill of the settled history of uploads, by so many workers: account by account, with no book
 /// and no entry kept. It does not depend on the number of workers. Its one error is want of memory.
 pub fn settled_bill<R: Threads + Sync>(
@@ -137,6 +132,6 @@ pub fn settled_bill<R: Threads + Sync>(
         × IsBillOf history made.bill × (length history ≤ 2 ^ 95)) }
 {
     let SplitUploads { ends, parts } = split(rt, alloc, uploads)?;
-    let bill = bill_by_threads(rt, alloc, table, seed, parts, halvings_for(workers))?;
+    let bill = bill_by_threads(rt, alloc, table, seed, &parts, workers)?;
     Ok(Billed { ends, bill })
 }

@@ -72,15 +72,15 @@ loop-tap-preserved c =
     let inside = c.loop-tap-test.true in
     let done = posted fares (take i taps) in
     let tap = get_or taps i no_tap in
-    let entry = c.in_ok-entry.entry in
-    let is : entry ≡ answered fares done (unposted tap) = c.in_ok-entry.ensures.entry done inv.stands in
+    let entry = c.next-entry.result in
+    let is : entry ≡ answered fares done (unposted tap) = c.next-entry.ensures.entry done inv.stands in
     let more : posted fares (take (i + 1) taps) ≡ done ++ entry ∷ [] =
     posted_more fares taps i tap inside (get_or_default taps i tap no_tap inside)
     ∙ ap (λ (e : Entry). done ++ e ∷ []) (sym is) in
     record {
-      token = c.in_ok-entry.ensures.token ∙ inv.token;
-      stands = subst (λ (es : List Entry). HasPosted fares c.next.new.self es) (sym more)
-          (c.in_ok-entry.ensures.posted done inv.stands);
+      token = c.next-entry.ensures.token ∙ inv.token;
+      stands = subst (λ (es : List Entry). HasPosted fares c.next-entry.new.self es) (sym more)
+          (c.next-entry.ensures.posted done inv.stands);
       tally = c.add.ensures
           ∙ ap (λ (s : Sums). add_sums s (sums_of_replies (c.reply.result ∷ []))) inv.tally
           ∙ ap (λ (r : Reply). add_sums (sums done) (sums_of_replies (r ∷ []))) c.reply.ensures

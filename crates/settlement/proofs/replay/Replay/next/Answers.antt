@@ -30,7 +30,7 @@ returns-clause-entry c = λ earlier posted.
     let taps = taps_of fares token earlier in
     let replied : c.step-reply.result ≡ reply of taps (tap_of fares tap) =
     (rw c.bytes-bytes.ensures at c.step-reply.ensures.reply) taps posted
-    ∙ ap (λ (t : TapIn). reply of taps t) c.in_ok-seen.ensures.tap in
+    ∙ ap (λ (t : TapIn). reply of taps t) c.seen-seen.ensures.tap in
     let named : Entry = record {
       token = token;
       validator = tap.validator;
@@ -55,7 +55,7 @@ returns-clause-posted c = λ earlier posted.
     let token = c.args.self.now.token in
     let of = rules_of fares (bytes_of token) in
     let taps = taps_of fares token earlier in
-    let longer = ap (λ (t : TapIn). taps ++ t ∷ []) c.in_ok-seen.ensures.tap
+    let longer = ap (λ (t : TapIn). taps ++ t ∷ []) c.seen-seen.ensures.tap
     ∙ sym (taps-push fares token earlier _
     ∙ ap (λ b. cond b (taps ++ tap_of fares (unposted c.args.tap.now) ∷ []) taps)
     (token_eq-refl token)) in
