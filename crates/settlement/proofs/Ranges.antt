@@ -240,7 +240,7 @@ posted_below fares taps others below =
     (subst (λ tokens. AreBelow tokens (map token_of_tap others))
     (sym (tokens_posted fares [] taps)) below))
 
-below_all : (list : List TapFields) (lists : List (List TapFields))
+pub below_all : (list : List TapFields) (lists : List (List TapFields))
     → All (λ later. AreTokensBelow list later) lists
     → AreTokensBelow list (flat_map (λ l. l) lists)
 below_all list [] below = none_below (map token_of_tap list)

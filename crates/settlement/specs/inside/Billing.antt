@@ -53,7 +53,7 @@ pub record IsPartBilled (fares : Fares) (part : List TapFields) (old new : Bill)
   pub counted : (before : List Entry) → IsCountOf before old
       → IsCountOf (before ++ posted fares list) new
   pub tokens : (before : List Entry) → old.tokens ≡ sums_by_token before
-      → AreBelow (map token_of before) (map token_of_tap part)
+      → AreBelow (map token_of before) (map token_of_tap list)
       → new.tokens ≡ sums_by_token (before ++ posted fares list)
 
 -- the bill is that of the parts' taps, each part posted in canonical order, one behind the other
