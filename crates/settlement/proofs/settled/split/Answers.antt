@@ -4,6 +4,8 @@ use Rattle.tap_views.specs.Encoding.{fields_of}
 use Rattle.tap_views.specs.Layout.{Tap}
 use Rattle.tap_views.specs.declared.encoder.TapFields.{TapFields}
 use Rattle.fare_table.specs.Fares.{Fares}
+use Rattle.fare_service.specs.Plain.{HasOneReading}
+use Rattle.tap_views.specs.Files.{AreGoodTapsOfEach}
 use Rattle.fare_service.proofs.PlainReplies.{bare, plain_bare}
 use Rattle.tap_parts.specs.Canonical.{HasTokenBytes}
 use Rattle.tap_parts.specs.Parts.{taps_of_uploads}
@@ -34,14 +36,17 @@ returns g c =
     let inside = c.in_ok-lists.ensures in
     let pieces = c.in_ok-parts.ensures in
     let bounds = c.in_ok-ranges.ranges in
-    let uploads = map bytes_in c.args.uploads.items in
+    let before = map bytes_in c.deref-2.result.now in
     let (later, plain) = c.plain_history.ensures.some some_fares in
     let names = fields_named (taps_of_uploads plain.taps) later
     (c.plain_history.ensures.fields some_fares later plain)
     (ap (map bare) plain.entries ∙ plain_bare some_fares [] (taps_of_uploads plain.taps)) in
-    let same = one_list uploads plain.taps inside.taps c.one_reading_each.ensures plain.each
-    inside.of_uploads in
-    let number = pieces.number ∙ c.len-parts.ensures.number in
+    let one_reading = subst (λ us. All HasOneReading (map bytes_in us))
+    (c.deref.ensures.value ∙ sym c.deref-2.ensures.value) c.one_reading_each.ensures in
+    let of_uploads = subst (λ us. AreGoodTapsOfEach (map bytes_in us) inside.taps)
+    (sym c.deref-2.ensures.value) inside.of_uploads in
+    let same = one_list before plain.taps inside.taps one_reading plain.each of_uploads in
+    let number = pieces.number ∙ c.len.ensures.number in
     let few = c.in_ok-ranges.ensures in
     record {
       ended = inside.ended;
