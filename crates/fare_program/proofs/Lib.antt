@@ -1,4 +1,5 @@
 pub mod Appends
+pub mod Billed
 pub mod Defaults
 pub mod Going
 pub mod LastMoments
