@@ -1,0 +1,7 @@
+pub mod Beside
+pub mod Keys
+pub mod Merging
+pub mod Nones
+pub mod Readings
+pub mod Sorted
+pub mod Sums
