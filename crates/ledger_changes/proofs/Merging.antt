@@ -216,10 +216,11 @@ up_behind row rows is = rise_all row rows is.2
 past_first : (key : Key) (row : Row) (rows : List Row) → key_cmp key row.key ≡ Less
     → Begin (Some row) rows → AllByRecursion (λ later. Lt key later.key) rows
 past_first key row rows less is =
-    subst (AllByRecursion (λ later. Lt key later.key)) (sym is.1)
-    (lt_le key row.key row.key less (le_same row.key),
-    all_map (λ later up. lt_le key row.key later.key less up) is.0
-    (rise_all row is.0 (subst Rise is.1 is.2)))
+    subst (AllByRecursion (λ later. Lt key later.key)) (sym is.1) (
+      lt_le key row.key row.key less (le_same row.key),
+      all_map (λ later up. lt_le key row.key later.key less up) is.0
+          (rise_all row is.0 (subst Rise is.1 is.2)),
+    )
   where
     le_same : (k : Key) → Le k k
     le_same k = one_of (is_lt (key_cmp k k)) refl
@@ -459,36 +460,36 @@ pub going_next : (old0 new0 : Standing) (out0 : Option (List ℕ)) (old new : St
     → IsGoing old0 new0 out0 old' new' out' counted
 going_next old0 new0 out0 old new out removed old' new' out' counted h k b a going sides some is_b is_a
     moved_old moved_new written count = record {
-  known_old = λ known. (moved_old (going.known_old known)).known;
-  known_new = λ known. (moved_new (going.known_new known)).known;
-  olds = λ known rows has.
-      let rest = going.olds known rows has in
-      rest_moved old old' h (subst (λ (b : Option Row). IsMoved old old' (rows_in b)) is_b
-      (moved_old (going.known_old known))) rest.0 rest.1;
-  news = λ known rows has.
-      let rest = going.news known rows has in
-      rest_moved new new' k (subst (λ (a : Option Row). IsMoved new new' (rows_in a)) is_a
-      (moved_new (going.known_new known))) rest.0 rest.1;
-  text = λ known also.
-      let text = going.text known also in
-      let to_old = moved_old (going.known_old known) in
-      let to_new = moved_new (going.known_new also) in
-      record {
-        done = text.done ++ corrections_lines (changes_of b a);
-        appends = appends_more out0 out out' text.done (corrections_lines (changes_of b a))
-            text.appends written;
-        whole = λ olds news pairs has_olds has_news paired.
-            let before_olds : HasRows old (rows_in b ++ olds) = (to_old.rows olds).0 has_olds in
-            let before_news : HasRows new (rows_in a ++ news) = (to_new.rows news).0 has_news in
-            let pairing = pairing_of (next_sides old.row new.row) sides olds news
+      known_old = λ known. (moved_old (going.known_old known)).known;
+      known_new = λ known. (moved_new (going.known_new known)).known;
+      olds = λ known rows has.
+          let rest = going.olds known rows has in
+          rest_moved old old' h (subst (λ (b : Option Row). IsMoved old old' (rows_in b)) is_b
+          (moved_old (going.known_old known))) rest.0 rest.1;
+      news = λ known rows has.
+          let rest = going.news known rows has in
+          rest_moved new new' k (subst (λ (a : Option Row). IsMoved new new' (rows_in a)) is_a
+          (moved_new (going.known_new known))) rest.0 rest.1;
+      text = λ known also.
+          let text = going.text known also in
+          let to_old = moved_old (going.known_old known) in
+          let to_new = moved_new (going.known_new also) in
+          record {
+            done = text.done ++ corrections_lines (changes_of b a);
+            appends = appends_more out0 out out' text.done (corrections_lines (changes_of b a))
+                text.appends written;
+            whole = λ olds news pairs has_olds has_news paired.
+                let before_olds : HasRows old (rows_in b ++ olds) = (to_old.rows olds).0 has_olds in
+                let before_news : HasRows new (rows_in a ++ news) = (to_new.rows news).0 has_news in
+                let pairing = pairing_of (next_sides old.row new.row) sides olds news
                 (first_of old.row new.row olds news some) before_olds before_news in
-            whole_more old0 new0 text.done removed counted b a pairing.pair pairs
-            pairing.first.listed count
-            (text.whole (rows_in b ++ olds) (rows_in a ++ news) (pairing.pair ∷ pairs) before_olds
-            before_news
-            (paired_more b a pairing.pair olds news pairs pairing.first paired));
-      };
-}
+                whole_more old0 new0 text.done removed counted b a pairing.pair pairs
+                pairing.first.listed count
+                (text.whole (rows_in b ++ olds) (rows_in a ++ news) (pairing.pair ∷ pairs) before_olds
+                before_news
+                (paired_more b a pairing.pair olds news pairs pairing.first paired));
+          };
+    }
   where
     pairing_of : (s : Bool × Bool) → (h, k) ≡ s → (olds news : List Row)
         → First old.row new.row s olds news → HasRows old (rows_in b ++ olds)

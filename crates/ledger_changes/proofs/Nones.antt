@@ -6,4 +6,3 @@ pub is_none : {T : Type 0} (P : Type 0) (Q : T → Type 0) (result : Option T) �
     → MatchOption result P Q
 is_none {T} P Q result none holds =
     subst (λ (r : Option T). MatchOption r P Q) (sym none) holds
-

@@ -127,12 +127,12 @@ pub begins : (text : List ℕ) (next : Option Row) (after : Option (List ℕ))
 begins text next after head read = record {
   known = known (drop_through 10 text) next after read;
   rows = λ rows. (
-      λ has. record {
-        head = head;
-        lines = from_rows (drop_through 10 text) next after rows read has;
-        sorted = rise_rows next after rows has;
-      },
-      λ is. to_rows (drop_through 10 text) next after rows read is.lines is.sorted,
+    λ has. record {
+      head = head;
+      lines = from_rows (drop_through 10 text) next after rows read has;
+      sorted = rise_rows next after rows has;
+    },
+    λ is. to_rows (drop_through 10 text) next after rows read is.lines is.sorted,
   );
 }
 
@@ -163,16 +163,16 @@ pub moves : (row : Row) (left : List ℕ) (before after : Option (List ℕ)) (ne
 moves row left before after next is read may = record {
   known = known left next after read;
   rows = λ rows. (
-      λ has. record {
-        more = rows;
-        shown = refl;
-        text = left;
-        is = is;
-        lines = from_rows left next after rows read has;
-        sorted = rise_behind row next after rows may has;
-      },
-      λ has. to_rows left next after rows read (lines_behind row left before rows is has)
-          (rise_tail row rows has.sorted),
+    λ has. record {
+      more = rows;
+      shown = refl;
+      text = left;
+      is = is;
+      lines = from_rows left next after rows read has;
+      sorted = rise_behind row next after rows may has;
+    },
+    λ has. to_rows left next after rows read (lines_behind row left before rows is has)
+        (rise_tail row rows has.sorted),
   );
 }
 

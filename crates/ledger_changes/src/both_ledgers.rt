@@ -21,7 +21,8 @@ use std::cmp::Ordering;
 use std::io::{BufRead, Write};
 
 /// The head line of corrections.
-const HEAD_LINE: &[u8] = b"token,moment,validator,change,answer_before,cents_before,reason_before,answer_after,cents_after,reason_after,cents_change\n";
+const HEAD_LINE: &[u8] =
+    b"token,moment,validator,change,answer_before,cents_before,reason_before,answer_after,cents_after,reason_after,cents_change\n";
 
 /// Which of two ledgers have the next row, at these rows of theirs: both do where the keys are the
 /// same. Nothing where both have ended.
@@ -44,11 +45,7 @@ fn next_sides(old: &Option<LedgerRow>, new: &Option<LedgerRow>) -> Option<(bool,
 
 /// The number of removed lines, with this change among them. No ledger has so many lines that
 /// there is none.
-fn count_removed(
-    removed: u64,
-    before: &Option<LedgerRow>,
-    after: &Option<LedgerRow>,
-) -> Option<u64>
+fn count_removed(removed: u64, before: &Option<LedgerRow>, after: &Option<LedgerRow>) -> Option<u64>
     ensures { IfSome result (λ counted. counted
         ≡ removed + removed_in (changes_of (row_in before.now) (row_in after.now))) }
 {

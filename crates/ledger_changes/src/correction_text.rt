@@ -106,9 +106,9 @@ fn correction_line(
     after: &Option<LedgerRow>,
 ) -> Result<Vec<u8>, AllocError>
     ensures { IfOk result (λ line. line.items ≡ correction_line (record {
-        key = key_of row.now;
-        before = option_map charge_of before.now;
-        after = option_map charge_of after.now;
+      key = key_of row.now;
+      before = option_map charge_of before.now;
+      after = option_map charge_of after.now;
     })) }
 {
     let mut line = Vec::new(alloc);

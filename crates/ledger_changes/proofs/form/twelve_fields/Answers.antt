@@ -17,5 +17,20 @@ returns-in-Some c = λ twelve.
     let eleven = ap length c.in_ok-reason.ensures in
     let more = ap length c.in-Some.ensures in
     let some = length-slice_split (λ byte. byte == 44) c.in-Some._more.now in
-    omega (arith, twelve, one, two, three, four, five, six, seven, eight, nine, ten, eleven, more,
-    some)
+    omega (
+      arith,
+      twelve,
+      one,
+      two,
+      three,
+      four,
+      five,
+      six,
+      seven,
+      eight,
+      nine,
+      ten,
+      eleven,
+      more,
+      some,
+    )
