@@ -1,8 +1,8 @@
 -- Two ledgers that are read side by side.
-use Rattle.std.proofs.Common.{◌≡◌, ◌<◌, ◌≤◌, ◌+◌, ◌↔◌, ℕ, zero, suc, List, [], ◌∷◌, ◌++◌, Option, Some, None, Bool}
-use Rattle.std.proofs.Common.{true, false, not, cond, refl, sym, ap, subst, ◌∙◌, arith, length, length-append, append_assoc}
-use Rattle.std.proofs.Common.{append-nil, filter, flat_map, All, get_or}
-use Rattle.std.specs.Prelude.{if◌then◌else◌, ⊤}
+use Rattle.std.proofs.Common.{◌≡◌, ◌<◌, ◌≤◌, ◌+◌, ℕ, zero, suc, List, [], ◌∷◌, ◌++◌, Option, Some, None, Bool}
+use Rattle.std.proofs.Common.{true, false, refl, sym, ap, subst, ◌∙◌, arith, length, length-append, append_assoc}
+use Rattle.std.proofs.Common.{append-nil, filter, flat_map, get_or}
+use Rattle.std.specs.Prelude.{⊤}
 use Rattle.std.specs.Io.KnownBytes.{Appends}
 use Rattle.std.specs.List.{AllByRecursion}
 use Rattle.std.specs.List.Sorted.{IsSorted}
@@ -12,7 +12,7 @@ use Rattle.std.specs.declared.cmp.Ordering.TheVariants.{Less, Equal, Greater}
 use Rattle.std.proofs.lemmas.List.Concat.{flat_map-append}
 use Rattle.std.proofs.lemmas.List.Elements.{All-from_recursion, filter-append}
 use Rattle.std.proofs.lemmas.List.Sorted.{ranks_by}
-use Rattle.ledger_changes.specs.Changes.{AreCorrections, AreSideBySide, IsSomeLine, Pair, UseUp, UsesUp}
+use Rattle.ledger_changes.specs.Changes.{AreSideBySide, IsSomeLine, Pair, UseUp, UsesUp}
 use Rattle.ledger_changes.specs.Changes.{afters, befores, is_changed, row_of}
 use Rattle.ledger_changes.specs.Rows.{Charge, Key, Row, key_cmp}
 use Rattle.ledger_changes.specs.Ledgers.{IsSettledLedger}
@@ -22,7 +22,7 @@ use Rattle.ledger_changes.specs.inside.LedgerRows.{rows_in}
 use Rattle.ledger_changes.specs.inside.Standings.{HasRows, HasRowsAt, IsKnown, IsMoved, Standing, StandsBefore}
 use Rattle.ledger_changes.specs.inside.Written.{AreWritten, changes_of, next_sides, pairs_of, sides_by, taken_if}
 use Rattle.ledger_changes.proofs.Keys.{key_cmp_total, same_key}
-use Rattle.ledger_changes.proofs.Sorted.{NotBelow, Rise, rise_all}
+use Rattle.ledger_changes.proofs.Sorted.{Rise, rise_all}
 
 -- ---- keys
 abbrev pub Le : Key → Key → Type 0

@@ -1,18 +1,17 @@
 -- A ledger goes on from row to row.
-use Rattle.std.proofs.Common.{◌≡◌, ◌<◌, ◌^◌, ◌↔◌, ℕ, List, [], ◌∷◌, ◌++◌, Option, Some, None, Bool, true, false}
+use Rattle.std.proofs.Common.{◌≡◌, ℕ, List, [], ◌∷◌, ◌++◌, Option, Some, None, Bool, true, false}
 use Rattle.std.proofs.Common.{refl, sym, ap, subst, ◌∙◌, arith, length, length-append, codes, ◌==◌}
 use Rattle.std.specs.Prelude.{if◌then◌else◌}
-use Rattle.std.specs.Fmt.{decimal}
 use Rattle.std.specs.Io.BufRead.{drop_through, take_through}
 use Rattle.std.proofs.lemmas.Fmt.{decimal_injective}
 use Rattle.std.proofs.lemmas.List.{append_cancel_right}
 use Rattle.ledger_changes.specs.Ledgers.{AreRowLines, IsRowLine, IsSettledLedger, fields_of}
 use Rattle.reason_texts.specs.Ledger.{head_text}
-use Rattle.ledger_changes.specs.Rows.{Charge, Key, Row, key_cmp}
+use Rattle.ledger_changes.specs.Rows.{Row}
 use Rattle.ledger_changes.specs.inside.LedgerRows.{rows_in}
 use Rattle.ledger_changes.specs.inside.Standings.{HasRowsAt, IsAtRow, IsKnown, IsMoved, MayFollow}
-use Rattle.ledger_changes.specs.inside.Standings.{ReadsRow, StandsBefore, Standing}
-use Rattle.ledger_changes.proofs.Sorted.{Rise, rise_all, rise_head, rise_more, rise_none, rise_one, rise_tail}
+use Rattle.ledger_changes.specs.inside.Standings.{ReadsRow, StandsBefore}
+use Rattle.ledger_changes.proofs.Sorted.{Rise, rise_head, rise_more, rise_none, rise_one, rise_tail}
 
 -- ---- one line
 not_nothing : (front : List ℕ) → [] ≡ front ++ codes "\n" → ⊥

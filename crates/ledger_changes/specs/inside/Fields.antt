@@ -1,7 +1,5 @@
 -- The fields of a line, as the code has them.
-use Rattle.std.specs.Prelude.{◌≡◌, ◌<◌, ◌^◌, ℕ, List, [], ◌∷◌, ◌++◌, codes}
-use Rattle.std.specs.Fmt.{decimal}
-use Rattle.ledger_changes.specs.Ledgers.{fields_of}
+use Rattle.std.specs.Prelude.{ℕ, List, [], ◌∷◌}
 use Rattle.ledger_changes.specs.Rows.{Row}
 use Rattle.ledger_changes.specs.declared.form.LineFields.{LineFields}
 use Rattle.ledger_changes.specs.declared.form.RowFields.{RowFields}

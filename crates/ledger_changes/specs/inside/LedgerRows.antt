@@ -1,6 +1,5 @@
 -- A line of a ledger, as the code has it.
-use Rattle.std.specs.Prelude.{◌≡◌, List, [], ◌∷◌, Option, Some, None}
-use Rattle.std.specs.Option.{option_map}
+use Rattle.std.specs.Prelude.{List, [], ◌∷◌, Option, Some, None}
 use Rattle.ledger_changes.specs.Rows.{Charge, Key, Row}
 use Rattle.ledger_changes.specs.declared.row.LedgerRow.{LedgerRow}
 

@@ -6,7 +6,7 @@ use Rattle.std.specs.Option.{option_map}
 use Rattle.std.specs.Ordering.{is_lt}
 use Rattle.ledger_changes.specs.Ledgers.{AreRowLines, IsRowLine}
 use Rattle.ledger_changes.specs.Rows.{Row, key_cmp}
-use Rattle.ledger_changes.specs.inside.LedgerRows.{row_of, rows_in}
+use Rattle.ledger_changes.specs.inside.LedgerRows.{row_of}
 use Rattle.ledger_changes.specs.declared.ledger_rows.LedgerRows.{LedgerRows}
 
 -- where a ledger stands: the row that was read last, if it has not ended, and what is left behind

@@ -1,12 +1,12 @@
 -- What one step of both ledgers writes.
-use Rattle.std.specs.Prelude.{◌≡◌, ℕ, ◌+◌, Bool, true, false, List, [], ◌∷◌, ◌++◌, Option, Some}
+use Rattle.std.specs.Prelude.{◌≡◌, ℕ, Bool, true, false, List, [], ◌∷◌, Option, Some}
 use Rattle.std.specs.Prelude.{None, filter, if◌then◌else◌}
 use Rattle.std.specs.Io.KnownBytes.{Appends}
 use Rattle.std.specs.Option.{option_map}
 use Rattle.std.specs.declared.cmp.Ordering.{Ordering}
 use Rattle.std.specs.declared.cmp.Ordering.TheVariants.{Less, Equal, Greater}
 use Rattle.ledger_changes.specs.Changes.{AreCorrections, Pair, is_changed}
-use Rattle.ledger_changes.specs.Rows.{Charge, Row, key_cmp}
+use Rattle.ledger_changes.specs.Rows.{Row, key_cmp}
 use Rattle.ledger_changes.specs.Texts.{corrections_lines, removed_in}
 use Rattle.ledger_changes.specs.inside.LedgerRows.{row_of}
 use Rattle.ledger_changes.specs.inside.Standings.{HasRows, Standing}
