@@ -1,5 +1,6 @@
 pub mod Beside
 pub mod Keys
+pub mod Listed
 pub mod Merging
 pub mod Nones
 pub mod Readings

@@ -1,6 +1,6 @@
 -- What changed from one bill to the next.
 use Rattle.std.specs.Prelude.{◌≡◌, ◌+◌, ℕ, Bool, true, false, not, List, [], ◌∷◌, All, filter, flat_map}
-use Rattle.std.specs.Prelude.{Option, None, Some, ⊤, sum_by}
+use Rattle.std.specs.Prelude.{Option, None, Some, ⊤, sum_by, Contains, ◌⊎◌}
 use Rattle.std.specs.List.Sorted.{IsSorted}
 use Rattle.ledger_changes.specs.Rows.{Charge, Key, Row, is_same_charge, key_cmp}
 
@@ -62,6 +62,10 @@ pub record AreCorrections (old new : List Row) (changes : List Pair) : Type 0 wh
   pub pairs : List Pair
   pub beside : AreSideBySide old new pairs
   pub listed : changes ≡ filter is_changed pairs
+
+-- the lines of the pair are charged the same, or the pair is a correction
+abbrev pub IsSameOrListed : List Pair → Pair → Type 0
+IsSameOrListed changes pair = (pair.before ≡ pair.after) ⊎ Contains changes pair
 
 -- what a weight gives a side of a pair
 abbrev pub weight_of : (Key → Charge → ℕ) → Key → Option Charge → ℕ

@@ -1,7 +1,8 @@
 //! Laws of corrections.
 
-ghost use Rattle.std.specs.Prelude.{◌≡◌, List};
-ghost use Rattle.ledger_changes.specs.Changes.{AddUp, AreCorrections, AreSideBySide, Pair};
+ghost use Rattle.std.specs.Prelude.{◌≡◌, List, All};
+ghost use Rattle.ledger_changes.specs.Changes.{AddUp, AreCorrections, AreSideBySide};
+ghost use Rattle.ledger_changes.specs.Changes.{IsSameOrListed, Pair};
 ghost use Rattle.ledger_changes.specs.Rows.{Row};
 
 /// Corrections add up: the change of every sum over lines is the sum of the lines' changes.
@@ -16,4 +17,10 @@ pub fn one_list_of_corrections()
         → AreSideBySide old new others → pairs ≡ others }
     ensures changes { (old new : List Row) (changes others : List Pair)
         → AreCorrections old new changes → AreCorrections old new others → changes ≡ others }
+{}
+
+/// What no correction names is charged the same by both bills.
+pub fn others_are_charged_alike()
+    ensures { (old new : List Row) (pairs changes : List Pair) → AreSideBySide old new pairs
+        → AreCorrections old new changes → All (IsSameOrListed changes) pairs }
 {}
