@@ -33,8 +33,7 @@ on the standard error.";
 const OLD_HELP: &str = "The ledger of the bill that was issued; - stands for standard input";
 
 /// The help of the new ledger.
-const NEW_HELP: &str =
-    "The ledger of the bill that takes its place; - stands for standard input";
+const NEW_HELP: &str = "The ledger of the bill that takes its place; - stands for standard input";
 
 /// The two ledgers that corrections lead from and to.
 #[derive(Drop)]
@@ -86,9 +85,7 @@ fn fault_of<'a, W: Write + Drop>(
         CorrectionsFault::Form(bill, number) => {
             Fault::Line(words.name_of(bill), number, Wrong::Form)
         }
-        CorrectionsFault::Order(bill, number) => {
-            Fault::Unsettled(words.name_of(bill), number)
-        }
+        CorrectionsFault::Order(bill, number) => { Fault::Unsettled(words.name_of(bill), number) }
         CorrectionsFault::Unread(bill) => Fault::Unread(words.name_of(bill)),
         CorrectionsFault::Write => out.failed(),
         CorrectionsFault::NoMemory => Fault::NoMemory,
