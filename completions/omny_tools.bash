@@ -12,13 +12,15 @@ _omny_tools() {
     COMPREPLY=()
     for given in "${COMP_WORDS[@]:1:COMP_CWORD - 1}"; do
         case $given in
-        encode | decode | uploads | table | split | merge | merge-ledgers) task=$given && break ;;
+        encode | decode | uploads | table | split | merge | merge-ledgers | corrections)
+            task=$given && break
+            ;;
         esac
     done
     # the options of the task, and the ending of its files: * is any name
     case $task in
     '') words='-V --version' ;;
-    encode | merge-ledgers) ending=csv ;;
+    encode | merge-ledgers | corrections) ending=csv ;;
     uploads) words='--good-part --tokens' ;;
     table)
         words='--strict --riders --from'
@@ -39,7 +41,7 @@ _omny_tools() {
     if [[ $word == -* && $before != -- ]]; then
         mapfile -t COMPREPLY < <(compgen -W "$words -h --help" -- "$word")
     elif [[ -z $task ]]; then
-        words='encode decode uploads table split merge merge-ledgers'
+        words='encode decode uploads table split merge merge-ledgers corrections'
         mapfile -t COMPREPLY < <(compgen -W "$words" -- "$word")
     else
         _omny_tools_files "$word" "$ending"

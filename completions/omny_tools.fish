@@ -2,7 +2,8 @@
 
 # The subcommand that is not yet there.
 function __omny_tools_no_task
-    not __fish_seen_subcommand_from encode decode uploads table split merge merge-ledgers
+    not __fish_seen_subcommand_from encode decode uploads table split merge merge-ledgers \
+        corrections
 end
 
 # The fare table is not yet there: the subcommand is `table`, and no word ends in .toml.
@@ -24,6 +25,7 @@ complete -c omny_tools -n $no_task -a table -d 'Tell a fare table as it is under
 complete -c omny_tools -n $no_task -a split -d 'Split uploads by token into parts'
 complete -c omny_tools -n $no_task -a merge -d 'Merge the reports of parts'
 complete -c omny_tools -n $no_task -a merge-ledgers -d 'Merge the ledgers of parts'
+complete -c omny_tools -n $no_task -a corrections -d 'Write what a later ledger charges otherwise'
 complete -c omny_tools -n $no_task -s V -l version -d 'Print the version'
 complete -c omny_tools -s h -l help -d 'Print help'
 set -l uploads '__fish_seen_subcommand_from uploads'
@@ -44,7 +46,7 @@ set -l merge '__fish_seen_subcommand_from merge'
 complete -c omny_tools -n $merge -l ends -r -d 'How the uploads ended'
 complete -c omny_tools -n $merge -l reports -r -d 'The reports of the parts'
 complete -c omny_tools -n $merge -F
-complete -c omny_tools -n '__fish_seen_subcommand_from encode merge-ledgers' -k \
+complete -c omny_tools -n '__fish_seen_subcommand_from encode merge-ledgers corrections' -k \
     -a '(__omny_tools_files .csv)'
 complete -c omny_tools -n '__fish_seen_subcommand_from decode uploads split' -k \
     -a '(__omny_tools_files .tap)'

@@ -35,6 +35,8 @@ pub(crate) enum Fault<'a> {
     Unmade(Name<'a>),
     /// The line of this number, in this text of a part, is wrong.
     Line(Name<'a>, u64, Wrong),
+    /// The line of this number, in this ledger, belongs before the line before it.
+    Unsettled(Name<'a>, u64),
     /// The reports of the parts have other taps than the uploads.
     Taps(u128, u128),
     /// The file of this part, in this folder, could not be made.
@@ -153,6 +155,12 @@ impl fmt::Display for Fault<'_> {
             Fault::Line(name, number, wrong) => {
                 let wrong = WrongLine(*wrong);
                 write!(f, "fault: {name} line {number}: {wrong}")
+            }
+            Fault::Unsettled(name, number) => {
+                write!(
+                    f,
+                    "fault: {name} line {number}: out of order; is the ledger settled?"
+                )
             }
             Fault::Taps(reports, uploads) => {
                 write!(

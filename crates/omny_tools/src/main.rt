@@ -14,12 +14,14 @@
 //! | `splitting` | `split` |
 //! | `merging` | `merge` and `merge-ledgers` |
 //! | `part_words` | the command lines of `split`, `merge` and `merge-ledgers` |
+//! | `correcting` | `corrections` |
 //! | `table` | `table` |
 //! | `tasks` | the whole, from the words to the status |
 #![tactic(auto)]
 
 mod coding;
 mod common_tokens;
+mod correcting;
 mod fault;
 mod input;
 mod layout;

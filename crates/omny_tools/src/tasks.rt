@@ -3,6 +3,7 @@
 ghost use Rattle.std.specs.Prelude.{◌≡◌};
 
 use crate::coding::{decode, encode};
+use crate::correcting::correct;
 use crate::fault::{Fault, say};
 use crate::merging::{merge, merge_ledgers};
 use crate::names::Escaped;
@@ -96,6 +97,10 @@ fn perform<'a, W: Write + Drop, E: Write>(
             merge_ledgers(rt, names, out)?;
             Ok(true)
         }
+        Task::Corrections(words) => {
+            correct(rt, words, out, err)?;
+            Ok(true)
+        }
         Task::NotOneUpload | Task::InputTwice => Ok(false),
         Task::NoMoment | Task::Nothing => Ok(false),
     }
@@ -104,7 +109,7 @@ fn perform<'a, W: Write + Drop, E: Write>(
 /// Does what is asked for, and brings what is written through.
 fn finish<'a, E: Write>(rt: &HostRuntime, task: &Task<'a>, err: &mut E) -> Result<bool, Fault<'a>> {
     let progress = match task {
-        Task::Merge(_) | Task::MergeLedgers(_) => Progress::beside_text(rt),
+        Task::Merge(_) | Task::MergeLedgers(_) | Task::Corrections(_) => Progress::beside_text(rt),
         _ => Progress::hidden(rt),
     };
     let mut out = Output::new(rt.alloc(), Watching::new(io::writer(rt), progress))?;

@@ -1,5 +1,6 @@
 //! The command line.
 
+use crate::correcting::{CorrectionsWords, corrections_command, corrections_words};
 use crate::merging::MergeWords;
 use crate::names::Name;
 use crate::part_words::{
@@ -117,9 +118,11 @@ pub(crate) enum Task<'a> {
     Merge(MergeWords<'a>),
     /// Merge the ledgers of parts.
     MergeLedgers(Vec<Name<'a>>),
+    /// Write the corrections from one ledger to another.
+    Corrections(CorrectionsWords<'a>),
     /// A good part is asked for, and not one upload.
     NotOneUpload,
-    /// Texts that are read side by side are to be merged, and two of them are standard input.
+    /// Two texts that are to be read side by side are standard input.
     InputTwice,
     /// What is to be a moment is none.
     NoMoment,
@@ -184,6 +187,7 @@ fn command<'a>(alloc: Global) -> Result<Command<'a>, AllocError> {
     let split = split_command(alloc)?;
     let merge = merge_command(alloc)?;
     let merge_ledgers = merge_ledgers_command(alloc)?;
+    let corrections = corrections_command(alloc)?;
     new_command(alloc, "omny_tools", ABOUT, STATUS)
         .subcommand_required(true)
         .arg_required_else_help(true)
@@ -193,7 +197,8 @@ fn command<'a>(alloc: Global) -> Result<Command<'a>, AllocError> {
         .subcommand(table)?
         .subcommand(split)?
         .subcommand(merge)?
-        .subcommand(merge_ledgers)
+        .subcommand(merge_ledgers)?
+        .subcommand(corrections)
 }
 
 /// The names at an argument.
@@ -277,6 +282,14 @@ fn merge_ledgers_task<'a>(names: Vec<Name<'a>>) -> Task<'a> {
     Task::MergeLedgers(names)
 }
 
+/// What `corrections` is asked for.
+fn corrections_task<'a>(words: CorrectionsWords<'a>) -> Task<'a> {
+    if words.old.is_input() && words.new.is_input() {
+        return Task::InputTwice;
+    }
+    Task::Corrections(words)
+}
+
 /// What the words ask for; else clap's error, which may be a call for help.
 pub(crate) fn task_of<'a>(alloc: Global, words: &'a [String]) -> Result<Task<'a>, Error> {
     let matches = command(alloc)?.try_get_matches_from(words)?;
@@ -303,6 +316,9 @@ pub(crate) fn task_of<'a>(alloc: Global, words: &'a [String]) -> Result<Task<'a>
     }
     if name == "merge-ledgers" {
         return Ok(merge_ledgers_task(merge_ledgers_words(alloc, matches)?));
+    }
+    if name == "corrections" {
+        return Ok(corrections_task(corrections_words(matches)));
     }
     Ok(uploads_task(alloc, matches)?)
 }

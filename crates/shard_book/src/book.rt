@@ -119,7 +119,9 @@ impl ShardBook {
         let moment = tap.moment_ms();
         let mode = self.table.mode_of(validator);
         let tap_in = TapIn { moment, mode };
-        let (place, reply) = self.accounts.step(&self.table, clock, token, tap_in, known)?;
+        let (place, reply) = self
+            .accounts
+            .step(&self.table, clock, token, tap_in, known)?;
         let packed = PackedEntry::of(place, validator, moment, reply);
         self.history.push_reserved(packed);
         Ok(reply)

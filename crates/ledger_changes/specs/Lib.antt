@@ -1,0 +1,6 @@
+pub mod Changes
+pub mod Faults
+pub mod Ledgers
+pub mod Rows
+pub mod Texts
+pub mod inside

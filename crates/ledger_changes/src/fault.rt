@@ -1,0 +1,49 @@
+//! Why corrections are given up.
+
+use std::alloc::{AllocError, AllocFailed};
+
+/// One of the two bills.
+#[derive(Clone, Copy, Debug, PartialEq, Eq)]
+pub enum Bill {
+    /// The bill that was issued.
+    Old,
+    /// The bill that takes its place.
+    New,
+}
+
+/// Why corrections are given up.
+#[derive(Clone, Copy, Debug, PartialEq, Eq)]
+pub enum CorrectionsFault {
+    /// In this bill's ledger the line of this number, from 1, is no line of a ledger.
+    Form(Bill, u64),
+    /// In this bill's ledger the line of this number, from 1, belongs before the line before it.
+    Order(Bill, u64),
+    /// A read of this bill's ledger failed.
+    Unread(Bill),
+    /// A write failed.
+    Write,
+    /// A growth of memory was refused.
+    NoMemory,
+}
+
+impl From<AllocError> for CorrectionsFault {
+    ghost use Rattle.std.specs.Prelude.{◌≡◌};
+    ghost use Rattle.ledger_changes.specs.declared.fault.CorrectionsFault.TheVariants.{NoMemory};
+
+    ghost from_gives = { λ _ fault. fault ≡ NoMemory };
+
+    fn from(_refused: AllocError) -> CorrectionsFault {
+        CorrectionsFault::NoMemory
+    }
+}
+
+impl<T: Drop> From<AllocFailed<T>> for CorrectionsFault {
+    ghost use Rattle.std.specs.Prelude.{◌≡◌};
+    ghost use Rattle.ledger_changes.specs.declared.fault.CorrectionsFault.TheVariants.{NoMemory};
+
+    ghost from_gives = { λ _ fault. fault ≡ NoMemory };
+
+    fn from(_refused: AllocFailed<T>) -> CorrectionsFault {
+        CorrectionsFault::NoMemory
+    }
+}

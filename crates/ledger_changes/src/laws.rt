@@ -1,0 +1,26 @@
+//! Laws of corrections.
+
+ghost use Rattle.std.specs.Prelude.{◌≡◌, List, All};
+ghost use Rattle.ledger_changes.specs.Changes.{AddUp, AreCorrections, AreSideBySide};
+ghost use Rattle.ledger_changes.specs.Changes.{IsSameOrListed, Pair};
+ghost use Rattle.ledger_changes.specs.Rows.{Row};
+
+/// Corrections add up: the change of every sum over lines is the sum of the lines' changes.
+pub fn corrections_add_up()
+    ensures { (old new : List Row) (changes : List Pair) → AreCorrections old new changes
+        → AddUp old new changes }
+{}
+
+/// Two bills stand side by side in one way only. So they have one list of corrections.
+pub fn one_list_of_corrections()
+    ensures pairs { (old new : List Row) (pairs others : List Pair) → AreSideBySide old new pairs
+        → AreSideBySide old new others → pairs ≡ others }
+    ensures changes { (old new : List Row) (changes others : List Pair)
+        → AreCorrections old new changes → AreCorrections old new others → changes ≡ others }
+{}
+
+/// What no correction names is charged the same by both bills.
+pub fn others_are_charged_alike()
+    ensures { (old new : List Row) (pairs changes : List Pair) → AreSideBySide old new pairs
+        → AreCorrections old new changes → All (IsSameOrListed changes) pairs }
+{}

@@ -1,0 +1,14 @@
+//! Corrections: what is charged otherwise by the bill that takes the place of another, line by
+//! line.
+#![tactic(auto)]
+
+mod both_ledgers;
+mod correction_text;
+mod fault;
+mod form;
+pub mod laws;
+mod ledger_rows;
+mod row;
+
+pub use both_ledgers::corrections;
+pub use fault::{Bill, CorrectionsFault};

@@ -1,0 +1,114 @@
+//! `corrections`.
+
+use crate::fault::Fault;
+use crate::input::open_in_pieces;
+use crate::names::Name;
+use crate::output::Output;
+use crate::words::subcommand;
+use clap::{ArgAction, ArgMatches, Command};
+use ledger_changes::{Bill, CorrectionsFault};
+use part_reports::Wrong;
+use program_manners::positional_arg;
+use std::alloc::{AllocError, Global};
+use std::io::Write;
+
+/// What the exit status of `corrections` says.
+const CORRECTIONS_STATUS: &str = "Exit status:
+  0  the corrections are written, also where there is none
+  1  a text is no settled ledger, or could not be read or written, as a line `fault: ..` on the
+     standard error tells; what was written is not the corrections
+  2  the command line is wrong";
+
+/// What `corrections` does.
+const CORRECTIONS_ABOUT: &str =
+    "Writes what the bill of the ledger NEW charges otherwise than that of OLD, line by line.
+
+Both are ledgers of omny_cli --settle. A line of the one and a line of the other with the same
+token, moment and validator stand beside each other. A line is written, as CSV, for each that only
+one ledger has, and for each whose answer, cents or reason differ. The ledgers are read as it is
+written, so they may be larger than memory. If OLD has lines that NEW has not, their number is told
+on the standard error.";
+
+/// The help of the old ledger.
+const OLD_HELP: &str = "The ledger of the bill that was issued; - stands for standard input";
+
+/// The help of the new ledger.
+const NEW_HELP: &str = "The ledger of the bill that takes its place; - stands for standard input";
+
+/// The two ledgers that corrections lead from and to.
+#[derive(Drop)]
+pub(crate) struct CorrectionsWords<'a> {
+    /// The ledger of the bill that was issued.
+    pub(crate) old: Name<'a>,
+    /// The ledger of the bill that takes its place.
+    pub(crate) new: Name<'a>,
+}
+
+impl<'a> CorrectionsWords<'a> {
+    /// The name of a bill's ledger.
+    fn name_of(&self, bill: Bill) -> Name<'a> {
+        match bill {
+            Bill::Old => self.old,
+            Bill::New => self.new,
+        }
+    }
+}
+
+/// `corrections OLD NEW`
+pub(crate) fn corrections_command<'a>(alloc: Global) -> Result<Command<'a>, AllocError> {
+    let old = positional_arg(alloc, "OLD", ArgAction::Set, OLD_HELP).required(true);
+    let new = positional_arg(alloc, "NEW", ArgAction::Set, NEW_HELP).required(true);
+    subcommand(alloc, "corrections", CORRECTIONS_ABOUT, CORRECTIONS_STATUS)
+        .arg(old)?
+        .arg(new)
+}
+
+/// What `corrections` is asked for.
+pub(crate) fn corrections_words<'a>(matches: &ArgMatches<'a>) -> CorrectionsWords<'a> {
+    CorrectionsWords {
+        old: matches
+            .get_str("OLD")
+            .map_or(Name::input(), |word| Name(word)),
+        new: matches
+            .get_str("NEW")
+            .map_or(Name::input(), |word| Name(word)),
+    }
+}
+
+/// Why the corrections were not written.
+fn fault_of<'a, W: Write + Drop>(
+    words: &CorrectionsWords<'a>,
+    fault: CorrectionsFault,
+    out: &Output<W>,
+) -> Fault<'a> {
+    match fault {
+        CorrectionsFault::Form(bill, number) => {
+            Fault::Line(words.name_of(bill), number, Wrong::Form)
+        }
+        CorrectionsFault::Order(bill, number) => { Fault::Unsettled(words.name_of(bill), number) }
+        CorrectionsFault::Unread(bill) => Fault::Unread(words.name_of(bill)),
+        CorrectionsFault::Write => out.failed(),
+        CorrectionsFault::NoMemory => Fault::NoMemory,
+    }
+}
+
+/// Writes the corrections from the old ledger to the new one. Where lines are removed, tells how
+/// many on `err`.
+pub(crate) fn correct<'a, W: Write + Drop, E: Write>(
+    rt: &HostRuntime,
+    words: &CorrectionsWords<'a>,
+    out: &mut Output<W>,
+    err: &mut E,
+) -> Result<(), Fault<'a>> {
+    let old = open_in_pieces(rt, words.old)?;
+    let new = open_in_pieces(rt, words.new)?;
+    let removed = match ledger_changes::corrections(rt.alloc(), old, new, out) {
+        Ok(removed) => removed,
+        Err(fault) => return Err(fault_of(words, fault, out)),
+    };
+    if removed > 0 {
+        let (old, new) = (words.old, words.new);
+        let _ = write!(err, "warning: {new}: missing lines of {old}: {removed}\n");
+    }
+    Ok(())
+}
