@@ -24,7 +24,7 @@ use Rattle.shard_book.specs.declared.entry.Entry.{Entry}
 use Rattle.fare_service.specs.Plain.{answered, plain, plain_after, unanswered}
 use Rattle.fare_service.specs.declared.upload_end.UploadEnd.{UploadEnd}
 use Rattle.settlement.specs.Bills.{IsBillOf}
-use Rattle.settlement.specs.Posted.{posted, posted_after, token_of_tap}
+use Rattle.settlement.specs.inside.Posted.{posted, posted_after, token_of_tap}
 use Rattle.settlement.specs.Settled.{AreSplit, IsSettledHistory}
 use Rattle.settlement.specs.declared.bill.Bill.{Bill}
 use Rattle.settlement.specs.inside.Billing.{ArePartsInOrder, IsBillOfParts, IsSoundPart}

@@ -23,7 +23,8 @@ use Rattle.shard_book.specs.declared.entry.Entry.{Entry}
 use Rattle.shard_book.specs.declared.sums.tally.Tally.{Tally}
 use Rattle.shard_book.specs.Entry.{reply_of, own}
 use Rattle.shard_book.specs.SumsByKey.{sums_by_token, sums_by_validator, tokens, validators, all_entries}
-use Rattle.shard_book.specs.ByKey.{with_key, sums_by}
+use Rattle.shard_book.specs.ByKey.{with_key}
+use Rattle.shard_book.specs.inside.SumsBy.{sums_by}
 use Rattle.shard_book.specs.Shown.{token_sum, validator_sum}
 use Rattle.shard_book.specs.declared.sums.TokenSum.{TokenSum}
 use Rattle.shard_book.specs.declared.sums.ValidatorSum.{ValidatorSum}

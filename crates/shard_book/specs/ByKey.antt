@@ -1,16 +1,7 @@
--- Entries and sums by a key of the entries.
-use Rattle.std.specs.Prelude.{Bool, List, map, filter}
-use Rattle.std.specs.declared.cmp.Ordering.{Ordering}
+-- Entries by a key of theirs.
+use Rattle.std.specs.Prelude.{Bool, List, filter}
 use Rattle.shard_book.specs.declared.entry.Entry.{Entry}
-use Rattle.shard_book.specs.Rising.{rising}
-use Rattle.shard_book.specs.Sums.{Sums, sums}
 
 -- the entries with the key, in order
 unfoldable pub with_key : {K : Type 0} → (K → K → Bool) → (Entry → K) → K → List Entry → List Entry
 with_key eq key_of key entries = filter (λ entry. eq (key_of entry) key) entries
-
--- the keys of the entries, rising, each with the sums of its entries
-unfoldable pub sums_by : {K : Type 0} → (K → K → Ordering) → (K → K → Bool) → (Entry → K)
-    → List Entry → List (K × Sums)
-sums_by cmp eq key_of entries =
-    map (λ key. (key, sums (with_key eq key_of key entries))) (rising cmp (map key_of entries))

@@ -7,4 +7,5 @@ pub mod Places
 pub mod Shown
 pub mod Sound
 pub mod Sums
+pub mod SumsBy
 pub mod Visits

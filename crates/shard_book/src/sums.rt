@@ -112,7 +112,7 @@ pub fn totals_of_entries(entries: &[Entry]) -> Totals
 
 /// The validators of the books, rising, each with the totals of its entries: one scan a book, and a
 /// sort of the validators. Of many entries, threads go over a quarter of the books each.
-#[tactic(auto, unfolding(crate::specs::ByKey::sums_by, crate::specs::ByKey::with_key, crate::specs::SumsByKey::sums_by_validator, crate::specs::SumsByKey::validators, crate::specs::SumsByKey::entries_of_validator))]
+#[tactic(auto, unfolding(crate::specs::inside::SumsBy::sums_by, crate::specs::ByKey::with_key, crate::specs::SumsByKey::sums_by_validator, crate::specs::SumsByKey::validators, crate::specs::SumsByKey::entries_of_validator))]
 pub fn sums_by_validator<R: Threads + Sync>(
     rt: &R,
     alloc: Global,
@@ -144,7 +144,7 @@ pub(crate) fn sums_by_token(alloc: Global, books: &[ShardBook]) -> Result<Vec<To
 }
 
 /// The same, added up entry by entry.
-#[tactic(auto, unfolding(crate::specs::ByKey::sums_by, crate::specs::ByKey::with_key, crate::specs::SumsByKey::sums_by_token, crate::specs::SumsByKey::tokens, crate::specs::Entry::own))]
+#[tactic(auto, unfolding(crate::specs::inside::SumsBy::sums_by, crate::specs::ByKey::with_key, crate::specs::SumsByKey::sums_by_token, crate::specs::SumsByKey::tokens, crate::specs::Entry::own))]
 pub(crate) fn added_by_token(alloc: Global, books: &[ShardBook]) -> Result<Vec<TokenSum>, NoMemory>
     requires { length books.now ≤ 64 }
     ensures { IfOk result (λ list.
@@ -187,7 +187,7 @@ impl ShardBook {
 
     /// The validators of the history, rising, each with the totals of its entries: one scan of
     /// the history, and a sort of the validators.
-    #[tactic(auto, unfolding(crate::specs::ByKey::sums_by, crate::specs::ByKey::with_key, crate::specs::SumsByKey::sums_by_validator, crate::specs::SumsByKey::validators, crate::specs::SumsByKey::entries_of_validator))]
+    #[tactic(auto, unfolding(crate::specs::inside::SumsBy::sums_by, crate::specs::ByKey::with_key, crate::specs::SumsByKey::sums_by_validator, crate::specs::SumsByKey::validators, crate::specs::SumsByKey::entries_of_validator))]
     pub fn by_validator(&self, alloc: Global) -> Result<Vec<ValidatorSum>, NoMemory>
         ensures { IfOk result (λ list.
             map validator_sum list.items ≡ sums_by_validator self.now.entries) }

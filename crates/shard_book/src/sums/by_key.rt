@@ -4,7 +4,7 @@ ghost use Rattle.std.specs.Prelude.{◌≡◌, ◌+◌, ◌*◌, ◌<◌, ◌≤
 ghost use Rattle.std.specs.Prelude.{true, IfOk, OnOk};
 ghost use Rattle.shard_book.specs.declared.entry.Entry.{Entry};
 ghost use Rattle.shard_book.specs.SumsByKey.{all_entries};
-ghost use Rattle.shard_book.specs.ByKey.{sums_by};
+ghost use Rattle.shard_book.specs.inside.SumsBy.{sums_by};
 ghost use Rattle.shard_book.specs.TalliesByKey.{AreByKey, HasRoom, kept_sums};
 ghost use Rattle.shard_book.specs.Rising.{rising};
 ghost use Rattle.std.specs.HashMap.{get};

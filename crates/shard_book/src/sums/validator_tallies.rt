@@ -67,7 +67,7 @@ impl ValidatorTallies {
     }
 
     /// The validators, rising, each with the totals of its entries.
-    #[tactic(auto, unfolding(crate::specs::ByKey::sums_by, crate::specs::ByKey::with_key, crate::specs::SumsByKey::sums_by_validator, crate::specs::SumsByKey::validators, crate::specs::SumsByKey::entries_of_validator))]
+    #[tactic(auto, unfolding(crate::specs::inside::SumsBy::sums_by, crate::specs::ByKey::with_key, crate::specs::SumsByKey::sums_by_validator, crate::specs::SumsByKey::validators, crate::specs::SumsByKey::entries_of_validator))]
     pub fn sums(&self, alloc: Global) -> Result<Vec<ValidatorSum>, NoMemory>
         requires { HasRoom ◌==◌ validator_of self.now 0 }
         ensures { IfOk result (λ list. (entries : List Entry)

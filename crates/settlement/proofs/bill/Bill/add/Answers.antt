@@ -9,9 +9,9 @@ use Rattle.tap_views.specs.declared.encoder.TapFields.{TapFields}
 use Rattle.shard_book.specs.SumsByKey.{sums_by_token, token_of}
 use Rattle.shard_book.specs.declared.entry.Entry.{Entry}
 use Rattle.tap_parts.specs.Canonical.{HasTokenBytes}
-use Rattle.settlement.specs.Apart.{AreBelow}
+use Rattle.settlement.specs.inside.Apart.{AreBelow}
 use Rattle.settlement.specs.Bills.{IsCountOf}
-use Rattle.settlement.specs.Posted.{HasName, posted, posted_after, token_of_tap}
+use Rattle.settlement.specs.inside.Posted.{HasName, posted, posted_after, token_of_tap}
 use Rattle.settlement.specs.inside.Billing.{IsRun}
 use Rattle.settlement.proofs.Placed.{all_map}
 use Rattle.settlement.proofs.Ranges.{has_name}
