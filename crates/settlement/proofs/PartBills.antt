@@ -1,12 +1,11 @@
 -- Bills of parts, and of chunks of parts, one behind the other.
 use Rattle.std.proofs.Common.{◌≡◌, ℕ, suc, ◌+◌, ◌*◌, ◌/◌, ◌%◌, min, ◌<◌, ◌≤◌, ◌^◌, List, [], ◌∷◌, ◌++◌}
-use Rattle.std.proofs.Common.{length, get_or, map, flat_map, take, drop, refl, sym, ap, subst, ◌∙◌, arith, All}
+use Rattle.std.proofs.Common.{length, map, flat_map, take, drop, refl, sym, ap, subst, ◌∙◌, arith, All}
 use Rattle.std.proofs.Common.{append-nil, append_assoc, length-append, drop-drop}
 use Rattle.std.specs.Prelude.{Result, Ok, IfOk, slice_index_or}
-use Rattle.std.specs.List.{AllZip}
 use Rattle.std.specs.declared.cmp.Ordering.TheVariants.{Less}
 use Rattle.std.proofs.lemmas.Grind.{div_ceil_times}
-use Rattle.std.proofs.lemmas.List.{drop_all, length-take, map-append, nil_from_length, take-append-drop}
+use Rattle.std.proofs.lemmas.List.{drop_all, map-append, take-append-drop}
 use Rattle.std.proofs.lemmas.List.Concat.{flat_map-append}
 use Rattle.std.proofs.lemmas.List.Elements.{All-append, All-cons, All-head, All-nil, All-tail}
 use Rattle.fare_table.specs.Fares.{Fares}

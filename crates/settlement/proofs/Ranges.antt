@@ -1,12 +1,12 @@
 -- Parts that are ranges of tokens: their histories, one behind the other, are that of all taps.
-use Rattle.std.proofs.Common.{◌≡◌, ℕ, zero, suc, ◌+◌, ◌<◌, ◌≤◌, false, List, [], ◌∷◌, ◌++◌}
+use Rattle.std.proofs.Common.{◌≡◌, ℕ, zero, suc, ◌<◌, ◌≤◌, false, List, [], ◌∷◌, ◌++◌}
 use Rattle.std.proofs.Common.{length, get_or, map, flat_map, refl, sym, ap, subst, ◌∙◌, arith, All}
-use Rattle.std.proofs.Common.{append-nil, inl, inr, w64, take, drop, ◌^◌}
+use Rattle.std.proofs.Common.{inl, inr, w64, take, drop, ◌^◌}
 use Rattle.std.specs.Prelude.{◌⊎◌}
 use Rattle.std.specs.Cmp.Lexicographic.{slice_cmp}
 use Rattle.std.specs.Int.{byte_at, bytes_high_first, from_be_bytes, to_be_bytes}
 use Rattle.std.specs.List.{AllZip}
-use Rattle.std.specs.Ordering.{is_lt, nat_cmp, ordering_reverse}
+use Rattle.std.specs.Ordering.{nat_cmp, ordering_reverse}
 use Rattle.std.specs.declared.cmp.Ordering.TheVariants.{Less, Greater}
 use Rattle.std.proofs.lemmas.Bool.{cases_lt}
 use Rattle.std.proofs.lemmas.Cmp.{nat_list_cmp_total}
@@ -15,7 +15,7 @@ use Rattle.std.proofs.lemmas.List.Elements.{All-append, All-cons, All-head, All-
 use Rattle.std.proofs.lemmas.List.Sorted.{All-permutation}
 use Rattle.fare_table.proofs.TokenBytes.{back_byte, front_byte, token-order, two_numbers}
 use Rattle.fare_table.specs.Fares.{Fares}
-use Rattle.fare_table.specs.Token.{Fits, bytes_of, token_cmp, token_eq}
+use Rattle.fare_table.specs.Token.{bytes_of, token_cmp, token_eq}
 use Rattle.fare_table.specs.declared.token.Token.{Token}
 use Rattle.tap_views.specs.Layout.{num}
 use Rattle.tap_views.specs.declared.encoder.TapFields.{TapFields}
@@ -23,7 +23,6 @@ use Rattle.tap_parts.specs.Canonical.{HasTokenBytes, IsCanonical}
 use Rattle.tap_parts.specs.Ranges.{range_of_token}
 use Rattle.tap_parts.proofs.RangeLemmas.{counts_rise}
 use Rattle.tap_parts.proofs.TokenOrder.{number_order}
-use Rattle.shard_book.specs.Entry.{own}
 use Rattle.shard_book.specs.SumsByKey.{token_of}
 use Rattle.shard_book.specs.declared.entry.Entry.{Entry}
 use Rattle.shard_book.proofs.Histories.{token_eq-sym}

@@ -1,9 +1,8 @@
 -- The histories and the sums of taps that are posted token by token.
 use Rattle.std.proofs.Common.{◌≡◌, ◌≢◌, ℕ, suc, ◌+◌, ◌<◌, ◌≤◌, Bool, true, false, ◌||◌, List, [], ◌∷◌, ◌++◌}
-use Rattle.std.proofs.Common.{length, get_or, take, drop, map, filter, cond, refl, sym, ap, subst, ◌∙◌}
-use Rattle.std.proofs.Common.{arith, All, append-nil, inl, inr}
+use Rattle.std.proofs.Common.{length, get_or, take, map, filter, cond, refl, sym, ap, ◌∙◌}
+use Rattle.std.proofs.Common.{arith, All, inl, inr}
 use Rattle.std.specs.Prelude.{◌⊎◌}
-use Rattle.std.specs.Cmp.{IsStrictWeakOrder}
 use Rattle.std.specs.Cmp.Lexicographic.{slice_cmp}
 use Rattle.std.specs.List.Sorted.{IsSorted, IsStrictlySortedBy}
 use Rattle.std.specs.Ordering.{eq_by_cmp, is_lt, nat_cmp, ordering_reverse, ordering_then}
@@ -21,18 +20,18 @@ use Rattle.fare_table.specs.declared.token.Token.{Token}
 use Rattle.tap_views.specs.declared.encoder.TapFields.{TapFields}
 use Rattle.tap_parts.specs.Canonical.{tap_cmp}
 use Rattle.shard_book.specs.Entry.{is_of, own}
-use Rattle.shard_book.specs.Rising.{IsRising, rising}
+use Rattle.shard_book.specs.Rising.{rising}
 use Rattle.shard_book.specs.Sums.{Sums, sums}
 use Rattle.shard_book.specs.SumsByKey.{sums_by_token, token_of, tokens}
 use Rattle.shard_book.specs.declared.entry.Entry.{Entry}
-use Rattle.shard_book.proofs.Histories.{same_token, token_eq-refl}
+use Rattle.shard_book.proofs.Histories.{token_eq-refl}
 use Rattle.shard_book.proofs.RisingLemmas.{rising-only}
 use Rattle.shard_book.proofs.TokenLemmas.{high_back, low_back, token_cmp-total, token_cmp-ties}
 use Rattle.fare_service.specs.Plain.{answered, token_of_bytes}
-use Rattle.settlement.specs.inside.Apart.{AreBelow, AreOthers}
+use Rattle.settlement.specs.inside.Apart.{AreBelow}
 use Rattle.settlement.specs.inside.Posted.{HasName, posted, posted_after, token_of_tap, unposted}
 use Rattle.settlement.proofs.Placed.{all_map}
-use Rattle.settlement.proofs.Concats.{less_apart, none_of, posted_append}
+use Rattle.settlement.proofs.Concats.{posted_append}
 use Rattle.tap_parts.proofs.Total.{tap_cmp_total}
 
 -- ---- what is posted

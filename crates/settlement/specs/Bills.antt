@@ -1,7 +1,6 @@
 -- What settled taps come to.
-use Rattle.std.specs.Prelude.{◌≡◌, ◌==◌, ℕ, List}
-use Rattle.fare_table.specs.declared.token.Token.{Token}
-use Rattle.shard_book.specs.Sums.{Sums, sums}
+use Rattle.std.specs.Prelude.{◌≡◌, ◌==◌, List}
+use Rattle.shard_book.specs.Sums.{sums}
 use Rattle.shard_book.specs.SumsByKey.{sums_by_token, validator_of}
 use Rattle.shard_book.specs.TalliesByKey.{AreByKey}
 use Rattle.shard_book.specs.Tally.{sums_of_tally}

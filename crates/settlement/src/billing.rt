@@ -56,7 +56,9 @@ fn bill_of(
     let mut list = Vec::new(alloc);
     let mut bill = Bill::new(alloc, seed);
     for pieces in parts {
-        add_part(alloc, table, &clock, &mut taps, &mut list, pieces, &mut bill)?;
+        add_part(
+            alloc, table, &clock, &mut taps, &mut list, pieces, &mut bill,
+        )?;
     }
     Ok(bill)
 }

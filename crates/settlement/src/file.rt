@@ -22,7 +22,10 @@ fn number_of(pieces: &[PartTaps]) -> usize {
 
 /// Writes the taps of all pieces into `taps`, in place of what was there. All room is asked for at
 /// once.
-pub(crate) fn append_pieces(pieces: &[PartTaps], taps: &mut Vec<TapFields>) -> Result<(), AllocError>
+pub(crate) fn append_pieces(
+    pieces: &[PartTaps],
+    taps: &mut Vec<TapFields>,
+) -> Result<(), AllocError>
     ensures { OnOk result (taps.new.items ≡ flat_map (λ piece. piece) pieces.now) }
 {
     taps.clear();

@@ -51,12 +51,7 @@ impl Replay {
 
     /// Posts the token's next tap, and gives its entry.
     #[inline(always)]
-    pub(crate) fn next(
-        &mut self,
-        table: &FareTable,
-        clock: &Clock,
-        tap: &TapFields,
-    ) -> Entry
+    pub(crate) fn next(&mut self, table: &FareTable, clock: &Clock, tap: &TapFields) -> Entry
         requires clock { clock.now ≡ table.now.zone }
         requires early { tap.now.moment < 4_102_444_800_000 }
         requires its { token_of_tap tap.now ≡ self.old.token }

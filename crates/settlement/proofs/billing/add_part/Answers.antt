@@ -1,4 +1,4 @@
-use Rattle.std.proofs.Common.{◌≡◌, ◌<◌, ◌≤◌, ◌^◌, List, [], ◌++◌, All, length, map, flat_map, ap, arith, subst, sym, ◌∙◌}
+use Rattle.std.proofs.Common.{◌≡◌, ◌<◌, List, ◌++◌, All, length, map, ap, arith, subst, sym, ◌∙◌}
 use Rattle.std.proofs.lemmas.List.Sorted.{All-permutation}
 use Rattle.tap_views.specs.Encoding.{AreEarly}
 use Rattle.tap_views.specs.Layout.{moment_limit}
@@ -38,8 +38,12 @@ returns c =
       canonical = subst (λ ts. IsCanonical ts list)
           (c.deref.ensures.value ∙ (c.in_ok-append_pieces.ensures ∙ c.as_slice.ensures))
           c.in_ok-arrange_into.ensures;
-      few = omega (arith, c.number_of.ensures.few, c.number_of.ensures.value,
-          ap length c.deref-2.ensures.value);
+      few = omega (
+        arith,
+        c.number_of.ensures.few,
+        c.number_of.ensures.value,
+        ap length c.deref-2.ensures.value,
+      );
       counted = subst (λ ts. (before : List Entry) → IsCountOf before c.args.bill.now
           → IsCountOf (before ++ posted c.args.table.now ts) c.add.new.self) c.deref-3.ensures.value
           c.in_ok-add.ensures.counted;

@@ -1,13 +1,11 @@
-use Rattle.std.proofs.Common.{◌≡◌, ◌+◌, ◌*◌, ◌/◌, ◌%◌, min, ◌<◌, ◌≤◌, List, [], ◌∷◌, length, take, drop, refl, sym, ap, subst, ◌∙◌, arith, All, rules}
-use Rattle.std.specs.Prelude.{slice_index_or, IfOk, Result}
+use Rattle.std.proofs.Common.{◌<◌, List, [], ◌∷◌, length, drop, refl, sym, ap, subst, ◌∙◌, arith, All, rules}
+use Rattle.std.specs.Prelude.{slice_index_or, IfOk}
 use Rattle.std.proofs.lemmas.List.{nil_from_length}
 use Rattle.std.proofs.lemmas.List.Elements.{All-drop, All-take}
-use Rattle.std.specs.Vec.Iter.{into_iter_items, into_iter_len}
-use Rattle.fare_table.specs.declared.fault.NoMemory.{NoMemory}
+use Rattle.std.specs.Vec.Iter.{into_iter_items}
 use Rattle.tap_views.specs.declared.encoder.TapFields.{TapFields}
 use Rattle.settlement.specs.inside.Billing.{ArePartsInOrder, IsBillOfParts, IsSoundPart}
-use Rattle.settlement.specs.declared.bill.Bill.{Bill}
-use Rattle.settlement.proofs.PartBills.{AreBilled, IsJoining, all_billed, joining_done, joining_more, joining_room}
+use Rattle.settlement.proofs.PartBills.{IsJoining, all_billed, joining_done, joining_more, joining_room}
 use Rattle.settlement.proofs.PartBills.{no_parts, order_drop, order_take}
 use Rattle.settlement.proofs.billing.bill_by_threads.Goals as goal
 
@@ -41,9 +39,11 @@ loop-more-init g c =
 pub append-requires : goal.append-requires
 append-requires g c =
     let rest = into_iter_items c.next.new.self in
-    record { room = joining_room c.args.table.now c.args.parts.now c.loop-more.bill c.in_ok-more.field-0 rest
-    (subst (λ rs. IsJoining c.args.table.now c.args.parts.now c.loop-more.bill rs) (c.in-Some.ensures.steps.0 ∙ ap (λ r. r ∷ rest) c.in_ok-more.was) c.loop-more.invariant.joining)
-    c.requires.few; }
+    record {
+      room = joining_room c.args.table.now c.args.parts.now c.loop-more.bill c.in_ok-more.field-0 rest
+          (subst (λ rs. IsJoining c.args.table.now c.args.parts.now c.loop-more.bill rs) (c.in-Some.ensures.steps.0 ∙ ap (λ r. r ∷ rest) c.in_ok-more.was) c.loop-more.invariant.joining)
+          c.requires.few;
+    }
 
 pub loop-more-preserved : goal.loop-more-preserved
 loop-more-preserved g c =

@@ -1,8 +1,5 @@
-use Rattle.std.proofs.Common.{◌≡◌, ℕ, ◌<◌, List, [], All, length, map, sym, ap, ◌∙◌, subst, arith, None}
-use Rattle.std.proofs.lemmas.List.Elements.{All-map}
+use Rattle.std.proofs.Common.{◌<◌, [], All, map, sym, ap, ◌∙◌, subst, arith, None}
 use Rattle.tap_views.specs.Encoding.{fields_of}
-use Rattle.tap_views.specs.Layout.{Tap}
-use Rattle.tap_views.specs.declared.encoder.TapFields.{TapFields}
 use Rattle.fare_table.specs.Fares.{Fares}
 use Rattle.fare_service.specs.Plain.{HasOneReading}
 use Rattle.tap_views.specs.Files.{AreGoodTapsOfEach}

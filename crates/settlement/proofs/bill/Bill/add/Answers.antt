@@ -1,21 +1,17 @@
-use Rattle.std.proofs.Common.{◌≡◌, ◌≢◌, ℕ, ◌+◌, ◌-◌, ◌<◌, ◌≤◌, List, [], ◌++◌, length, get_or, map, take, drop}
-use Rattle.std.proofs.Common.{append-nil, append_assoc, ap, sym, subst, ◌∙◌, arith, All}
-use Rattle.std.proofs.lemmas.List.{get_or-drop, length-drop, take_all}
+use Rattle.std.proofs.Common.{◌≡◌, ◌-◌, ◌<◌, List, ◌++◌, length, take, drop}
+use Rattle.std.proofs.Common.{append-nil, append_assoc, ap, sym, subst, ◌∙◌, arith}
+use Rattle.std.proofs.lemmas.List.{take_all}
 use Rattle.std.proofs.lemmas.List.Elements.{All-drop, All-take}
-use Rattle.std.proofs.Math.Seq.{take-add}
-use Rattle.fare_table.specs.declared.token.Token.{Token}
 use Rattle.tap_views.specs.Layout.{moment_limit}
 use Rattle.tap_views.specs.declared.encoder.TapFields.{TapFields}
-use Rattle.shard_book.specs.SumsByKey.{sums_by_token, token_of}
+use Rattle.shard_book.specs.SumsByKey.{sums_by_token}
 use Rattle.shard_book.specs.declared.entry.Entry.{Entry}
 use Rattle.tap_parts.specs.Canonical.{HasTokenBytes}
-use Rattle.settlement.specs.inside.Apart.{AreBelow}
 use Rattle.settlement.specs.Bills.{IsCountOf}
-use Rattle.settlement.specs.inside.Posted.{HasName, posted, posted_after, token_of_tap}
-use Rattle.settlement.specs.inside.Billing.{IsRun}
+use Rattle.settlement.specs.inside.Posted.{HasName, posted, posted_after}
 use Rattle.settlement.proofs.Placed.{all_map}
 use Rattle.settlement.proofs.Ranges.{has_name}
-use Rattle.settlement.proofs.Runs.{IsNextRun, edge_below, next_run, run_below}
+use Rattle.settlement.proofs.Runs.{IsNextRun, next_run, run_below}
 use Rattle.settlement.proofs.bill.Bill.add.Goals as goal
 
 pub loop-start-init : goal.loop-start-init

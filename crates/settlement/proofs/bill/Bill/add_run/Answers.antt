@@ -1,6 +1,5 @@
-use Rattle.std.proofs.Common.{◌≡◌, ℕ, ◌<◌, ap, arith, get_or, length, map, sym, take, ◌∙◌}
+use Rattle.std.proofs.Common.{◌<◌, ap, arith, map, take, ◌∙◌}
 use Rattle.std.proofs.lemmas.List.{get_or-take, length-take-le}
-use Rattle.tap_views.specs.declared.encoder.TapFields.{TapFields}
 use Rattle.shard_book.specs.SumsByKey.{token_of}
 use Rattle.settlement.specs.inside.Posted.{token_of_tap}
 use Rattle.settlement.proofs.TokenRuns.{below_first}

@@ -1,12 +1,11 @@
-use Rattle.std.proofs.Common.{◌≡◌, ◌==◌, ℕ, ◌+◌, ◌≤◌, List, [], ◌∷◌, ◌++◌, length, get_or, map, take}
-use Rattle.std.proofs.Common.{append-nil, append_assoc, ap, sym, subst, ◌∙◌, arith, refl, All, length-append}
+use Rattle.std.proofs.Common.{◌≡◌, ◌==◌, ◌+◌, List, [], ◌∷◌, ◌++◌, length, get_or, map, take}
+use Rattle.std.proofs.Common.{append-nil, append_assoc, ap, sym, subst, ◌∙◌, arith, refl, length-append}
 use Rattle.std.proofs.lemmas.List.{get_or_default, take_all}
 use Rattle.std.proofs.lemmas.List.Elements.{All-take}
-use Rattle.fare_table.specs.Fares.{Fares}
 use Rattle.fare_table.specs.declared.token.Token.{Token}
 use Rattle.tap_views.specs.declared.encoder.TapFields.{TapFields}
 use Rattle.account_rule.specs.declared.reply.Reply.{Reply}
-use Rattle.shard_book.specs.Entry.{own, reply_of}
+use Rattle.shard_book.specs.Entry.{own}
 use Rattle.shard_book.specs.Sums.{Sums, add_sums, sums, sums_of_replies}
 use Rattle.shard_book.specs.SumsByKey.{sums_by_token, token_of, validator_of}
 use Rattle.shard_book.specs.TalliesByKey.{AreByKey, HasRoom}

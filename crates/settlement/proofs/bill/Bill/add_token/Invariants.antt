@@ -1,4 +1,4 @@
-use Rattle.std.proofs.Common.{◌≡◌, ◌==◌, ℕ, ◌+◌, ◌≤◌, ◌^◌, List, ◌++◌, length, take}
+use Rattle.std.proofs.Common.{◌≡◌, ◌==◌, List, ◌++◌, take}
 use Rattle.shard_book.specs.Sums.{sums}
 use Rattle.shard_book.specs.SumsByKey.{validator_of}
 use Rattle.shard_book.specs.TalliesByKey.{AreByKey}
