@@ -3,10 +3,9 @@ use Rattle.std.proofs.Common.{◌≡◌, ℕ, List, Bool, true, false, Option, N
 use Rattle.std.specs.Prelude.{MatchBool, is_some}
 use Rattle.fare_table.specs.Fares.{Fares}
 use Rattle.fare_table.specs.declared.token.Token.{Token}
-use Rattle.shard_book.specs.declared.entry.Entry.{Entry}
 use Rattle.fare_program.specs.Options.{Asked}
 use Rattle.fare_program.specs.Program.{ShowsAsked, ShowsLiveRun}
-use Rattle.fare_program.specs.Settling.{IsTextOver, ShowsOver, ShowsSettled}
+use Rattle.fare_program.specs.Settling.{IsTextOver, ShowsSettled}
 use Rattle.fare_program.specs.inside.Settling.{ShowsBill}
 use Rattle.ledger_texts.specs.Ledger.{IsLedgerOver}
 

@@ -1,5 +1,5 @@
 -- What a run of the program does.
-use Rattle.std.specs.Prelude.{◌≡◌, ◌≢◌, ℕ, Bool, true, false, List, [], ◌∷◌, map, Option}
+use Rattle.std.specs.Prelude.{◌≡◌, ◌≢◌, ℕ, Bool, true, List, [], ◌∷◌, map, Option}
 use Rattle.std.specs.Prelude.{None, Some, Ok, MatchBool}
 use Rattle.std.specs.Io.KnownBytes.{Appends, Keeps}
 use Rattle.hex.specs.Hex.{decode_sized}

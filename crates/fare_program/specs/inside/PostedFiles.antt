@@ -1,5 +1,5 @@
 -- Posted files: what private functions alone cite.
-use Rattle.std.specs.Prelude.{◌≡◌, ℕ, Bool, true, List, Option, MatchBool}
+use Rattle.std.specs.Prelude.{◌≡◌, ℕ, true, List, Option, MatchBool}
 use Rattle.std.specs.Option.{option_map_or}
 use Rattle.fare_table.specs.Fares.{Fares}
 use Rattle.fare_table.specs.declared.token.Token.{Token}

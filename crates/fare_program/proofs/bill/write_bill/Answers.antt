@@ -1,14 +1,12 @@
-use Rattle.std.proofs.Common.{◌≡◌, ◌==◌, ◌+◌, ◌≤◌, ℕ, List, length, map, ap, sym, subst, ◌∙◌, arith}
+use Rattle.std.proofs.Common.{◌≡◌, ℕ, List, map, ap, ◌∙◌, arith}
 use Rattle.std.proofs.KnownBytes.{Appends-kept}
 use Rattle.shard_book.specs.Sums.{Sums, sums, sums_of}
 use Rattle.shard_book.specs.Shown.{validator_sum}
 use Rattle.shard_book.specs.SumsByKey.{sums_by_token, sums_by_validator}
 use Rattle.shard_book.specs.TalliesByKey.{HasRoom}
 use Rattle.shard_book.proofs.SumsLemmas.{sums-taps}
-use Rattle.fare_service.specs.Plain.{IsReportOver}
 use Rattle.fare_service.specs.Text.{report}
 use Rattle.fare_program.specs.Posted.{are_posted}
-use Rattle.fare_program.specs.inside.Settling.{ShowsBill}
 use Rattle.fare_program.proofs.bill.write_bill.Goals as goal
 
 pub totals-totals-requires : goal.totals-totals-requires

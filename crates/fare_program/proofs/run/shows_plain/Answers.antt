@@ -15,9 +15,7 @@ use Rattle.ledger_texts.specs.Explained.{IsExplainedOf, IsExplainedOver}
 use Rattle.fare_program.proofs.Explains.{explained_same}
 use Rattle.fare_program.specs.Posted.{are_posted}
 use Rattle.ledger_texts.specs.Ledger.{IsLedgerOfBooks, IsLedgerOver}
-use Rattle.fare_program.specs.Options.{Asked}
-use Rattle.fare_program.specs.Program.{ShowsOf, ShowsWith}
-use Rattle.fare_program.specs.Settling.{ShowsOver}
+use Rattle.fare_program.specs.Program.{ShowsWith}
 use Rattle.fare_program.proofs.Ledgers.{ledger_same}
 use Rattle.fare_program.specs.Settling.{IsTextOver}
 use Rattle.fare_program.proofs.run.shows_plain.Goals as goal
