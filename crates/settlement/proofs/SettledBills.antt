@@ -23,7 +23,8 @@ use Rattle.fare_service.specs.Plain.{answered, plain_after, unanswered}
 use Rattle.fare_service.specs.declared.upload_end.UploadEnd.{UploadEnd}
 use Rattle.settlement.specs.Bills.{IsBillOf}
 use Rattle.settlement.specs.inside.Posted.{posted, posted_after}
-use Rattle.settlement.specs.Settled.{AreSplit, IsSettledHistory}
+use Rattle.settlement.specs.Settled.{IsSettledHistory}
+use Rattle.settlement.specs.inside.SplitUploads.{AreSplit}
 use Rattle.settlement.specs.declared.bill.Bill.{Bill}
 use Rattle.settlement.specs.inside.Billing.{ArePartsInOrder, IsBillOfParts, IsSoundPart}
 use Rattle.settlement.proofs.Early.{uploads_early}

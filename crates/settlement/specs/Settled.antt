@@ -1,6 +1,5 @@
 -- What uploads are settled as: the files of the parts, and the one history.
-use Rattle.std.specs.Prelude.{◌≡◌, ℕ, ◌+◌, ◌<◌, ◌≤◌, List, [], All, length, map, Some}
-use Rattle.std.specs.Prelude.{slice_get, slice_index_or}
+use Rattle.std.specs.Prelude.{◌≡◌, ℕ, ◌<◌, ◌≤◌, List, length, map, slice_get, Some}
 use Rattle.tap_views.specs.Encoding.{fields_of}
 use Rattle.tap_views.specs.Layout.{Tap}
 use Rattle.tap_views.specs.declared.encoder.TapFields.{TapFields}
@@ -8,10 +7,9 @@ use Rattle.fare_table.specs.Fares.{Fares}
 use Rattle.shard_book.specs.declared.entry.Entry.{Entry}
 use Rattle.tap_parts.specs.Parts.{taps_at, IsFileOf, taps_of_uploads}
 use Rattle.tap_views.specs.Files.{AreGoodTapsOfEach}
-use Rattle.tap_parts.specs.Ranges.{range_of_token}
 use Rattle.fare_service.specs.Plain.{ArePlainEnds, plain}
 use Rattle.fare_service.specs.declared.upload_end.UploadEnd.{UploadEnd}
-use Rattle.tap_parts.specs.Canonical.{HasTokenBytes, IsCanonical}
+use Rattle.tap_parts.specs.Canonical.{IsCanonical}
 
 -- The settled history of uploads under a table: all good taps of the uploads, in canonical order,
 -- each with the reply of the account rule for the earlier taps of its token.
@@ -28,21 +26,6 @@ pub record IsPartFile (taps : List TapFields) (file : List ℕ) : Type 0 where
   pub list : List TapFields
   pub canonical : IsCanonical taps list
   pub reads : IsFileOf file list
-
--- Each upload ends as its bytes call for. The parts are ranges of tokens, one behind the other, and
--- each has exactly the uploads' good taps of its tokens, in the order of the uploads. A token has
--- 16 bytes.
-pub record AreSplit (uploads : List (List ℕ)) (ends : List UploadEnd)
-    (parts : List (List TapFields)) : Type 0 where
-  pub ended : ArePlainEnds uploads ends
-  pub taps : List (List Tap)
-  pub of_uploads : AreGoodTapsOfEach uploads taps
-  pub bounds : List ℕ
-  pub number : length parts ≡ length bounds + 1
-  pub few_parts : length parts ≤ 65535
-  pub tokens : All HasTokenBytes (map fields_of (taps_of_uploads taps))
-  pub each : (part : ℕ) → part < length parts → slice_index_or parts part []
-      ≡ map fields_of (taps_at (range_of_token bounds) part (taps_of_uploads taps))
 
 -- Each upload ends as its bytes call for. There is a number of parts, each token falls to one of
 -- them, and each part has a file that is read as exactly those good taps of the uploads that fall

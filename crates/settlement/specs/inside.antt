@@ -4,3 +4,4 @@ pub mod Billing
 pub mod Posted
 pub mod Replays
 pub mod SplitTaps
+pub mod SplitUploads

@@ -4,7 +4,8 @@ ghost use Rattle.std.specs.Prelude.{◌<◌, ◌≤◌, ◌^◌, IfOk, List, len
 ghost use Rattle.fare_service.specs.Plain.{ArePlainEnds};
 ghost use Rattle.shard_book.specs.declared.entry.Entry.{Entry};
 ghost use Rattle.settlement.specs.Bills.{IsBillOf};
-ghost use Rattle.settlement.specs.Settled.{AreSplit, IsSettled, IsSettledHistory};
+ghost use Rattle.settlement.specs.Settled.{IsSettled, IsSettledHistory};
+ghost use Rattle.settlement.specs.inside.SplitUploads.{AreSplit};
 
 use crate::arranging::files_by_threads;
 use crate::bill::Bill;
@@ -50,12 +51,12 @@ fn parts_for(uploads: &[Vec<u8>]) -> u32
 
 /// Uploads whose taps are split into parts.
 #[derive(Drop)]
-pub struct SplitUploads {
+struct SplitUploads {
     /// How each upload ends.
-    pub ends: Vec<UploadEnd>,
+    ends: Vec<UploadEnd>,
     /// The taps of each part. A part has the tokens of a range, so that the parts lie one behind
     /// the other in the order of tokens.
-    pub(crate) parts: Vec<Pieces>,
+    parts: Vec<Pieces>,
 }
 
 /// The ranges of tokens into which the uploads are split: as many as there are to be parts.
@@ -72,7 +73,7 @@ fn ranges_for(alloc: Global, uploads: &[Vec<u8>]) -> Result<TokenRanges, AllocEr
 /// Splits uploads into parts by their tokens. Four threads split the taps; where one is refused,
 /// another does its work. Its one error is want of memory. The bytes of an upload are given back as
 /// soon as its taps are split.
-pub fn split<R: Threads + Sync>(
+fn split<R: Threads + Sync>(
     rt: &R,
     alloc: Global,
     uploads: Vec<Vec<u8>>,
