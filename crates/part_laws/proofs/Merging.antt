@@ -228,7 +228,7 @@ module _ (fares : Fares) (uploads : List (List ℕ)) (history : List Entry) (par
       let files = map fields_of (taps_of_uploads is.settled.taps) in
       let sorted : IsSorted tap_cmp (map fields_of own) =
       subst (λ fs. IsSorted tap_cmp fs)
-      (sym (part_fields number (length parts) split.settled.order))
+      (sym (part_fields (λ token. part_of_token token (length parts)) number split.settled.order))
       (IsSortedBy-filter (λ a b. is_lt (tap_cmp a b))
       (ranks_by tap_cmp_total (λ (t : TapFields). t)) p order split.settled.canonical.sorted) in
       let same = same_sorted tap_cmp tap_cmp_total tap_cmp_exact here (map fields_of own)
@@ -236,11 +236,11 @@ module _ (fares : Fares) (uploads : List (List ℕ)) (history : List Entry) (par
       (λ f. sum_by-IsPermutation f files here is.settled.canonical.moved
       ∙ sum_by-IsPermutation f
       (map fields_of (of_part number (length parts) (taps_of_uploads split.settled.taps))) files is.its_taps
-      ∙ ap (sum_by f) (part_fields number (length parts) (taps_of_uploads split.settled.taps))
+      ∙ ap (sum_by f) (part_fields (λ token. part_of_token token (length parts)) number (taps_of_uploads split.settled.taps))
       ∙ sum_filter p f all
       ∙ sym (sum_by-IsPermutation (λ x. cond (p x) (f x) 0) all order split.settled.canonical.moved)
       ∙ sym (sum_filter p f order)
-      ∙ ap (sum_by f) (sym (part_fields number (length parts) split.settled.order))) in
+      ∙ ap (sum_by f) (sym (part_fields (λ token. part_of_token token (length parts)) number split.settled.order))) in
       is.settled.entries ∙ same_after fares [] is.settled.order own same
 
   pub part_bare_all : (number : ℕ) (part : Part) → slice_get parts number ≡ Some part
