@@ -10,7 +10,7 @@ use Rattle.tap_parts.specs.Parts.{of_part, part_of_token}
 use Rattle.tap_parts.proofs.Adding.{fields-append}
 use Rattle.tap_parts.proofs.Early.{Early, file_early, part_early}
 use Rattle.tap_views.proofs.ReadingLemmas.{each_more, taps_more}
-use Rattle.tap_views.specs.Files.{AreGoodTaps, AreGoodTapsOfEach, taps_of_batches}
+use Rattle.tap_views.specs.Files.{AreGoodTaps, taps_of_batches}
 use Rattle.tap_parts.specs.Split.{AreSplit, AreAllEarly}
 use Rattle.tap_parts.specs.Parts.{taps_of_uploads}
 use Rattle.tap_parts.specs.Parts.{part_by, parts_of}
