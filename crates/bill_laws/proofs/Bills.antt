@@ -29,7 +29,7 @@ use Rattle.shard_book.specs.Entry.{is_at, is_of, own, reply_of, tap_of, taps_of}
 use Rattle.shard_book.specs.Sums.{is_capped, is_paid, is_transfer, sums, sums_of_replies}
 use Rattle.shard_book.specs.SumsByKey.{entries_of_validator}
 use Rattle.shard_book.specs.declared.entry.Entry.{Entry}
-use Rattle.fare_service.specs.Plain.{answered}
+use Rattle.shard_book.specs.Plain.{answered}
 use Rattle.fare_service.proofs.PlainLists.{filter-filter}
 use Rattle.fare_service.proofs.PlainRuns.{AllZip-append}
 use Rattle.tap_parts.specs.Parts.{taps_of_uploads}

@@ -12,7 +12,7 @@ use Rattle.account_rule.specs.TokenRules.{rules_of}
 use Rattle.account_rule.specs.declared.tap.TapIn.{TapIn}
 use Rattle.shard_book.specs.Entry.{is_of, tap_of, taps_of}
 use Rattle.shard_book.specs.declared.entry.Entry.{Entry}
-use Rattle.fare_service.specs.Plain.{answered, plain_after, unanswered, with_reply}
+use Rattle.shard_book.specs.Plain.{answered, plain_after, unanswered, with_reply}
 use Rattle.shard_book.proofs.Histories.{taps-push}
 use Rattle.settlement.proofs.Histories.{entry_of}
 use Rattle.settlement.proofs.Own.{own_entry}

@@ -21,7 +21,7 @@ use Rattle.shard_book.specs.Entry.{is_of, own, tap_of, taps_of}
 use Rattle.shard_book.specs.Keys.{same_token}
 use Rattle.shard_book.specs.declared.entry.Entry.{Entry}
 use Rattle.shard_book.proofs.Histories.{taps-push}
-use Rattle.fare_service.specs.Plain.{answered, token_of_bytes, with_reply}
+use Rattle.shard_book.specs.Plain.{answered, token_of_bytes, with_reply}
 use Rattle.tap_views.specs.Files.{HasOneReading}
 use Rattle.fare_service.proofs.PlacedVisits.{filter_none}
 use Rattle.tap_parts.specs.Canonical.{tap_cmp}

@@ -6,7 +6,7 @@ use Rattle.tap_views.specs.Layout.{Tap}
 use Rattle.tap_views.specs.declared.encoder.TapFields.{TapFields}
 use Rattle.fare_table.specs.Token.{token_eq}
 use Rattle.fare_table.specs.declared.token.Token.{Token}
-use Rattle.fare_service.specs.Plain.{token_of_bytes}
+use Rattle.shard_book.specs.Plain.{token_of_bytes}
 use Rattle.tap_parts.specs.Parts.{taps_of_uploads}
 
 -- the token, the validator and the moment of each tap, upload after upload

@@ -26,7 +26,6 @@ pub mod PlainBooks
 pub mod PlainEnds
 pub mod PlainFields
 pub mod PlainLists
-pub mod PlainReplies
 pub mod PlainRuns
 pub mod PlainSame
 pub mod PlainSums

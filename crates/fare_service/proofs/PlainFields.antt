@@ -13,7 +13,8 @@ use Rattle.tap_views.specs.Files.{IsFile, AreGoodTaps, AreGoodTapsOfEach}
 use Rattle.shard_book.specs.declared.entry.Entry.{Entry}
 use Rattle.fare_table.specs.Token.{bytes_of}
 use Rattle.shard_book.specs.Visits.{AreEntriesOf}
-use Rattle.fare_service.specs.Plain.{IsPlain, answered, unanswered, plain_after, token_of_bytes}
+use Rattle.fare_service.specs.Plain.{IsPlain}
+use Rattle.shard_book.specs.Plain.{answered, unanswered, plain_after, token_of_bytes}
 use Rattle.fare_service.proofs.PlainLists.{All-split}
 use Rattle.fare_service.proofs.PlainRuns.{IsName}
 

@@ -13,9 +13,9 @@ use Rattle.shard_book.specs.Entry.{IsEntryOf, is_of, own}
 use Rattle.shard_book.specs.Keys.{same_token}
 use Rattle.fare_table.specs.Token.{bytes_of}
 use Rattle.shared_books.specs.Marks.{history_of_visits}
-use Rattle.fare_service.specs.Plain.{unanswered, token_of_bytes, IsNamed}
+use Rattle.shard_book.specs.Plain.{unanswered, token_of_bytes, IsNamed}
 use Rattle.fare_service.specs.Runs.{PlacedTap, placed_from, taps_of_placed, of_shard, PlacedRun, placed_run, if_any, runs_below, runs_of, RunVisit, IsEntered, run_of_visit, ArePostedWhole, entries_to}
-use Rattle.fare_service.proofs.PlainReplies.{bare}
+use Rattle.shard_book.proofs.PlainReplies.{bare}
 use Rattle.fare_service.proofs.RunLemmas.{taps-of_shard}
 
 -- the taps of some runs to a shard

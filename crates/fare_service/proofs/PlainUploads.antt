@@ -20,12 +20,13 @@ use Rattle.fare_table.specs.Token.{bytes_of}
 use Rattle.fare_service.specs.Outcomes.{OutcomeView}
 use Rattle.tap_views.proofs.ReadingLemmas.{one_list}
 use Rattle.tap_views.specs.Files.{AreGoodTapsOfEach, HasOneReading}
-use Rattle.fare_service.specs.Plain.{IsNamed, IsPlain, IsUncutGathering, IsStatementOver, plain}
+use Rattle.shard_book.specs.Plain.{IsNamed, plain}
+use Rattle.fare_service.specs.Plain.{IsPlain, IsUncutGathering, IsStatementOver}
 use Rattle.fare_service.specs.Printed.{IsStatementOf}
 use Rattle.fare_texts.specs.StatementText.{IsStatementText}
 use Rattle.fare_service.proofs.HeadlineLemmas.{gathered_of}
 use Rattle.fare_service.proofs.PlainBooks.{Stands, own_plain}
-use Rattle.fare_service.proofs.PlainReplies.{plain_legal}
+use Rattle.shard_book.proofs.PlainReplies.{plain_legal}
 use Rattle.fare_service.proofs.GatheredWork.{Given}
 
 pub one_plain : (fares : Fares) (files : List (List ℕ)) (history other : List Entry) → All HasOneReading files → IsPlain fares files history → IsPlain fares files other → history ≡ other

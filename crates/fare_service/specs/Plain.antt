@@ -1,22 +1,16 @@
 -- The plain history of uploads: the taps of all batches before each upload's first fault, uploads
 -- in order, each with the account rule's reply. It has no shards, no visits and no workers.
-use Rattle.std.specs.Int.{from_be_bytes, w64}
 use Rattle.std.specs.List.{flat_map, AllZip}
-use Rattle.std.specs.Prelude.{◌≡◌, ℕ, List, [], ◌∷◌, ◌++◌, length, take, drop, slice_get, Option}
+use Rattle.std.specs.Prelude.{◌≡◌, ℕ, List, length, slice_get, Option}
 use Rattle.std.specs.Prelude.{Some, All, Contains}
 use Rattle.tap_views.specs.Files.{IsFile, AreGoodTapsOfEach, IsEndAfterBatches}
-use Rattle.tap_views.specs.Layout.{Tap, num}
+use Rattle.tap_views.specs.Layout.{Tap}
 use Rattle.tap_views.specs.declared.fault.LayoutFault.{LayoutFault}
 use Rattle.fare_table.specs.Fares.{Fares}
-use Rattle.account_rule.specs.Replies.{reply}
-use Rattle.account_rule.specs.TokenRules.{rules_of}
-use Rattle.account_rule.specs.declared.reply.Answer.TheVariants.{Unknown}
-use Rattle.account_rule.specs.declared.reply.Reply.{Reply}
-use Rattle.shard_book.specs.Entry.{tap_of, taps_of}
+use Rattle.shard_book.specs.Plain.{plain}
 use Rattle.shard_book.specs.SumsByKey.{sums_by_validator, sums_by_token}
 use Rattle.shard_book.specs.Statement.{IsStatement}
 use Rattle.shard_book.specs.Sums.{sums}
-use Rattle.fare_table.specs.Token.{bytes_of}
 use Rattle.shard_book.specs.declared.entry.Entry.{Entry}
 use Rattle.shard_book.specs.declared.statement.Statement.{Statement}
 use Rattle.fare_table.specs.declared.token.Token.{Token}
@@ -29,50 +23,6 @@ use Rattle.fare_service.specs.Text.{report}
 use Rattle.fare_service.specs.declared.upload_end.UploadEnd.TheVariants.{Posted, Refused, Cut}
 use Rattle.fare_service.specs.declared.upload_end.UploadEnd.TheVariants.{Undrawn}
 use Rattle.fare_service.specs.declared.upload_end.UploadEnd.{UploadEnd}
-
--- the token that 16 bytes name: its numbers are those of the first eight bytes and of the others
-abbrev pub token_of_bytes : List ℕ → Token
-token_of_bytes bytes =
-    record { high = from_be_bytes w64 (take 8 bytes); low = from_be_bytes w64 (drop 8 bytes) }
-
--- the fields of a tap, in an entry that has no reply yet
-abbrev pub unanswered : Tap → Entry
-unanswered tap =
-    record {
-      token = token_of_bytes tap.token;
-      validator = num tap.validator;
-      moment = num tap.moment;
-      answer = Unknown;
-      cents = 0;
-    }
-
--- the entry with another answer and other cents
-abbrev pub with_reply : Entry → Reply → Entry
-with_reply entry replied =
-    record {
-      token = entry.token;
-      validator = entry.validator;
-      moment = entry.moment;
-      answer = replied.answer;
-      cents = replied.cents;
-    }
-
--- the entry with the reply of the account rule after the earlier taps of its token
-unfoldable pub answered : Fares → List Entry → Entry → Entry
-answered fares earlier entry =
-    with_reply entry (reply (rules_of fares (bytes_of entry.token))
-    (taps_of fares entry.token earlier) (tap_of fares entry))
-
--- the entries of taps that follow earlier ones
-unfoldable pub plain_after : Fares → List Entry → List Tap → List Entry
-plain_after fares earlier [] = []
-plain_after fares earlier (tap ∷ taps) =
-    answered fares earlier (unanswered tap)
-    ∷ plain_after fares (earlier ++ answered fares earlier (unanswered tap) ∷ []) taps
-
--- the history of taps that are posted one after the other
-abbrev pub plain : Fares → List Tap → List Entry
-plain fares taps = plain_after fares [] taps
 
 -- the history is the plain one of the uploads: their taps before each first layout fault, posted
 -- one after the other under the table, without shards or workers
@@ -87,10 +37,6 @@ AreApart taps =
     (first second : ℕ) (ones others : List Tap) (tap other : Tap) → slice_get taps first ≡ Some ones
     → slice_get taps second ≡ Some others
     → Contains ones tap → Contains others other → tap.token ≡ other.token → first ≡ second
-
--- the entry's token is the one that its bytes name
-abbrev pub IsNamed : Entry → Type 0
-IsNamed entry = entry.token ≡ token_of_bytes (bytes_of entry.token)
 
 -- all batches before the upload's first fault were posted whole
 abbrev pub WasNotCut : UploadEnd → Type 0

@@ -19,7 +19,7 @@ use Rattle.account_rule.specs.declared.tap.TapIn.{TapIn}
 use Rattle.account_rule.proofs.FareLemmas.{free-few, ride-few}
 use Rattle.shard_book.specs.declared.entry.Entry.{Entry}
 use Rattle.shard_book.specs.Entry.{tap_of, taps_of}
-use Rattle.fare_service.specs.Plain.{answered, plain_after, unanswered}
+use Rattle.shard_book.specs.Plain.{answered, plain_after, unanswered}
 use Rattle.part_laws.specs.Sizes.{HaveBoundedTerms}
 use Rattle.part_laws.specs.Split.{IsSplit, Part}
 use Rattle.part_laws.proofs.SumsFit.{CostsFew}

@@ -18,10 +18,10 @@ use Rattle.tap_views.specs.declared.encoder.TapFields.{TapFields}
 use Rattle.fare_table.specs.Fares.{Fares}
 use Rattle.fare_table.specs.Token.{Fits}
 use Rattle.shard_book.specs.declared.entry.Entry.{Entry}
-use Rattle.fare_service.specs.Plain.{token_of_bytes, unanswered}
+use Rattle.shard_book.specs.Plain.{token_of_bytes, unanswered}
 use Rattle.fare_service.proofs.PlainFields.{AreBytes}
 use Rattle.fare_service.proofs.PlainLists.{All-split}
-use Rattle.fare_service.proofs.PlainReplies.{bare}
+use Rattle.shard_book.proofs.PlainReplies.{bare}
 use Rattle.tap_parts.specs.Parts.{taps_of_uploads, of_part, part_of_token}
 use Rattle.part_laws.specs.Split.{IsSplit, Part}
 use Rattle.part_laws.proofs.Merging.{part_bare_all}

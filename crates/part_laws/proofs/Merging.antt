@@ -30,7 +30,8 @@ use Rattle.std.proofs.lemmas.List.Kept.{IsSortedBy-filter}
 use Rattle.std.proofs.lemmas.List.Sorted.{All-permutation, ranks_by}
 use Rattle.tap_views.specs.Encoding.{fields_of}
 use Rattle.tap_views.specs.declared.encoder.TapFields.{TapFields}
-use Rattle.fare_service.specs.Plain.{IsPlain, unanswered, plain}
+use Rattle.fare_service.specs.Plain.{IsPlain}
+use Rattle.shard_book.specs.Plain.{unanswered, plain}
 use Rattle.tap_parts.specs.Canonical.{tap_cmp}
 use Rattle.tap_parts.specs.Parts.{taps_of_uploads}
 use Rattle.settlement.proofs.Histories.{same_after}
@@ -41,7 +42,7 @@ use Rattle.tap_parts.proofs.Total.{tap_cmp_total, tap_cmp_exact}
 use Rattle.settlement.proofs.Unique.{same_sorted}
 use Rattle.fare_service.proofs.PlainFields.{plain_fields}
 use Rattle.fare_service.proofs.PlainLists.{flat_alone, mapped_at, same_elements, filter-filter}
-use Rattle.fare_service.proofs.PlainReplies.{bare, own_bare, plain_bare}
+use Rattle.shard_book.proofs.PlainReplies.{bare, own_bare, plain_bare}
 use Rattle.tap_parts.specs.Parts.{part_of_token, of_part}
 use Rattle.part_laws.specs.Split.{Part, IsSplit, entries_of_parts}
 

@@ -23,8 +23,8 @@ use Rattle.shard_book.specs.SumsByKey.{tokens, sums_by_token, token_of}
 use Rattle.shard_book.specs.Rising.{rising}
 use Rattle.shard_book.specs.Sums.{Sums, sums}
 use Rattle.fare_table.specs.Token.{bytes_of, token_cmp}
-use Rattle.fare_service.specs.Plain.{unanswered}
-use Rattle.fare_service.proofs.PlainReplies.{bare}
+use Rattle.shard_book.specs.Plain.{unanswered}
+use Rattle.shard_book.proofs.PlainReplies.{bare}
 use Rattle.tap_parts.specs.Parts.{part_of_token, of_part}
 use Rattle.part_laws.specs.Split.{Part, IsSplit, entries_of_parts, pairs_of_parts}
 use Rattle.part_laws.proofs.Merging.{IsName, RisingTokens, same_entries, own_all, own_there, names}

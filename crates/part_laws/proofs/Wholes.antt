@@ -28,10 +28,11 @@ use Rattle.shard_book.specs.Sums.{Sums, add_all, sums, sums_of_replies}
 use Rattle.fare_service.specs.EndsOfUploads.{end_by}
 use Rattle.tap_views.specs.Files.{AreGoodTaps, AreGoodTapsOfEach, IsEndAfterBatches, HasOneReading}
 use Rattle.fare_service.specs.Plain.{ArePlainEnds, IsPlainEnd}
-use Rattle.fare_service.specs.Plain.{IsReportOver, WasNotCut, unanswered}
+use Rattle.fare_service.specs.Plain.{IsReportOver, WasNotCut}
+use Rattle.shard_book.specs.Plain.{unanswered}
 use Rattle.fare_service.specs.declared.upload_end.UploadEnd.{UploadEnd}
 use Rattle.fare_service.proofs.PlainLists.{All-split}
-use Rattle.fare_service.proofs.PlainReplies.{bare, plain_bare}
+use Rattle.shard_book.proofs.PlainReplies.{bare, plain_bare}
 use Rattle.tap_parts.specs.Parts.{taps_of_uploads}
 use Rattle.part_reports.specs.Lines.{End, IsUploadEnd}
 use Rattle.part_reports.specs.Reports.{IsMerged, IsPartReport, IsWholeReport, Report, end_texts}

@@ -15,7 +15,7 @@ use Rattle.shard_book.specs.Entry.{is_of, own}
 use Rattle.shard_book.specs.declared.entry.Entry.{Entry}
 use Rattle.shard_book.specs.Keys.{same_token}
 use Rattle.fare_table.specs.Token.{bytes_of, token_eq}
-use Rattle.fare_service.specs.Plain.{token_of_bytes, unanswered}
+use Rattle.shard_book.specs.Plain.{token_of_bytes, unanswered}
 use Rattle.tap_parts.specs.Canonical.{tap_cmp}
 use Rattle.settlement.proofs.Histories.{entry_of}
 use Rattle.settlement.proofs.Placed.{Pairs, NotLess, Rises}

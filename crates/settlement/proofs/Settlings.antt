@@ -15,11 +15,12 @@ use Rattle.fare_table.specs.Token.{bytes_of}
 use Rattle.shard_book.specs.Visits.{AreEntriesOf}
 use Rattle.shard_book.specs.declared.entry.Entry.{Entry}
 use Rattle.tap_views.specs.Files.{AreGoodTapsOfEach, HasOneReading}
-use Rattle.fare_service.specs.Plain.{IsPlain, IsReportOver, plain}
-use Rattle.fare_service.specs.Plain.{plain_after, answered, unanswered}
+use Rattle.fare_service.specs.Plain.{IsPlain, IsReportOver}
+use Rattle.shard_book.specs.Plain.{plain}
+use Rattle.shard_book.specs.Plain.{plain_after, answered, unanswered}
 use Rattle.fare_service.specs.Text.{report, validators_section, tokens_section}
 use Rattle.fare_texts.specs.Counts.{totals_line}
-use Rattle.fare_service.proofs.PlainReplies.{bare, plain_bare, plain_legal}
+use Rattle.shard_book.proofs.PlainReplies.{bare, plain_bare, plain_legal}
 use Rattle.settlement.specs.Alike.{DifferInUploads, HaveSameTaps}
 use Rattle.tap_parts.specs.Canonical.{tap_cmp}
 use Rattle.settlement.specs.Settled.{IsSettledHistory}

@@ -25,13 +25,14 @@ use Rattle.fare_service.specs.Headline.{Headline}
 use Rattle.fare_service.specs.Outcomes.{OutcomeView}
 use Rattle.tap_views.specs.Files.{AreGoodTapsOfEach, HasOneReading}
 use Rattle.fare_service.specs.Plain.{IsPlain, IsStatementOver}
-use Rattle.fare_service.specs.Plain.{IsUncutGathering, WasNotCut, plain, unanswered}
+use Rattle.fare_service.specs.Plain.{IsUncutGathering, WasNotCut}
+use Rattle.shard_book.specs.Plain.{plain, unanswered}
 use Rattle.fare_service.specs.Shares.{Worked}
 use Rattle.fare_service.specs.Text.{report}
 use Rattle.fare_service.specs.declared.upload_end.UploadEnd.{UploadEnd}
 use Rattle.fare_service.proofs.GatheredWork.{Given}
 use Rattle.fare_service.proofs.PlainBooks.{each_length}
-use Rattle.fare_service.proofs.PlainReplies.{bare, own_bare, plain_bare, plain_legal, same_replies}
+use Rattle.shard_book.proofs.PlainReplies.{bare, own_bare, plain_bare, plain_legal, same_replies}
 use Rattle.fare_service.proofs.PlainSums.{AllHere, RisingNumbers, RisingTokens, own_all, same_sums}
 use Rattle.fare_service.proofs.PlainSums.{same_entries, same_by_validator, same_by_token}
 use Rattle.fare_service.proofs.PlainUploads.{AllNamed, same_statement, statement_same}

@@ -6,6 +6,7 @@ pub mod Histories
 pub mod HistoryLemmas
 pub mod MergeLemmas
 pub mod PackedLemmas
+pub mod PlainReplies
 pub mod RisingLemmas
 pub mod RunLemmas
 pub mod SoundLemmas

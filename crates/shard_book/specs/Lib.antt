@@ -8,6 +8,7 @@ pub mod SumsByKey
 pub mod History
 pub mod Keys
 pub mod Places
+pub mod Plain
 pub mod Replies
 pub mod Rising
 pub mod Shown

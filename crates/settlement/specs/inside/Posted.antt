@@ -6,7 +6,7 @@ use Rattle.fare_table.specs.Token.{Fits, bytes_of}
 use Rattle.fare_table.specs.declared.token.Token.{Token}
 use Rattle.account_rule.specs.declared.reply.Answer.TheVariants.{Unknown}
 use Rattle.shard_book.specs.declared.entry.Entry.{Entry}
-use Rattle.fare_service.specs.Plain.{answered, token_of_bytes}
+use Rattle.shard_book.specs.Plain.{answered, token_of_bytes}
 
 -- the token of a tap
 abbrev pub token_of_tap : TapFields → Token

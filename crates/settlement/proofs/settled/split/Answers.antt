@@ -2,7 +2,7 @@ use Rattle.std.proofs.Common.{◌<◌, [], All, map, sym, ap, ◌∙◌, subst, 
 use Rattle.tap_views.specs.Encoding.{fields_of}
 use Rattle.fare_table.specs.Fares.{Fares}
 use Rattle.tap_views.specs.Files.{AreGoodTapsOfEach, HasOneReading}
-use Rattle.fare_service.proofs.PlainReplies.{bare, plain_bare}
+use Rattle.shard_book.proofs.PlainReplies.{bare, plain_bare}
 use Rattle.tap_parts.specs.Canonical.{HasTokenBytes}
 use Rattle.tap_parts.specs.Parts.{taps_of_uploads}
 use Rattle.settlement.proofs.Files.{bytes_in}

@@ -10,7 +10,7 @@ use Rattle.shard_book.specs.Entry.{TokensFit}
 use Rattle.fare_table.specs.Token.{Fits, bytes_of}
 use Rattle.shard_book.specs.declared.entry.Entry.{Entry}
 use Rattle.fare_table.specs.declared.token.Token.{Token}
-use Rattle.fare_service.specs.Plain.{IsNamed, token_of_bytes}
+use Rattle.shard_book.specs.Plain.{IsNamed, token_of_bytes}
 use Rattle.fare_service.proofs.laws.schedules.tokens_are_named.Goals as goal
 
 abbrev pair : ℕ → ℕ → Token

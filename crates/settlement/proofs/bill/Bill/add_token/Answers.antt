@@ -13,7 +13,7 @@ use Rattle.shard_book.specs.Tally.{sums_of_tally}
 use Rattle.shard_book.specs.declared.entry.Entry.{Entry}
 use Rattle.shard_book.specs.declared.sums.tally.Tally.{Tally}
 use Rattle.shard_book.proofs.SumsLemmas.{sums-append, sums-taps}
-use Rattle.fare_service.specs.Plain.{answered}
+use Rattle.shard_book.specs.Plain.{answered}
 use Rattle.settlement.specs.Bills.{IsCountOf}
 use Rattle.settlement.specs.inside.Posted.{posted, posted_after, token_of_tap, unposted}
 use Rattle.settlement.specs.inside.Replays.{HasPosted}

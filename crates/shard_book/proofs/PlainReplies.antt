@@ -15,7 +15,7 @@ use Rattle.shard_book.specs.Entry.{is_of, own, tap_of, taps_of}
 use Rattle.shard_book.specs.History.{IsReplied, IsLegal}
 use Rattle.shard_book.specs.Keys.{same_token}
 use Rattle.fare_table.specs.Token.{bytes_of}
-use Rattle.fare_service.specs.Plain.{with_reply, answered, unanswered, plain_after, plain}
+use Rattle.shard_book.specs.Plain.{with_reply, answered, unanswered, plain_after, plain}
 
 -- an entry without its reply
 abbrev pub bare : Entry → Entry
