@@ -2,7 +2,6 @@ pub mod Fault
 pub mod Lines
 pub mod Listing
 pub mod Options
-pub mod Posted
 pub mod Program
 pub mod Settling
 pub mod Uploads

@@ -3,13 +3,14 @@ use Rattle.std.specs.Prelude.{◌≡◌, ℕ, Bool, List, Option, None, Some, Ma
 use Rattle.fare_table.specs.Fares.{Fares}
 use Rattle.shard_book.specs.declared.entry.Entry.{Entry}
 use Rattle.fare_table.specs.declared.token.Token.{Token}
-use Rattle.fare_service.specs.Plain.{ArePlainEnds, IsReportOver, IsStatementOver}
-use Rattle.fare_service.specs.declared.upload_end.UploadEnd.{UploadEnd}
+use Rattle.report_texts.specs.UploadEnds.{ArePlainEnds}
+use Rattle.report_texts.specs.OverHistory.{IsReportOver, IsStatementOver}
+use Rattle.report_texts.specs.declared.upload_end.UploadEnd.{UploadEnd}
 use Rattle.ledger_texts.specs.Explained.{IsExplainedOver}
 use Rattle.ledger_texts.specs.Ledger.{IsLedgerOver}
 use Rattle.settlement.specs.Settled.{IsSettledHistory}
 use Rattle.fare_program.specs.Options.{Asked}
-use Rattle.fare_program.specs.Posted.{are_posted}
+use Rattle.report_texts.specs.UploadEnds.{are_posted}
 
 -- the text is the report over this history of the files, or the statement of this token, explained
 -- where that is asked for

@@ -4,7 +4,7 @@ ghost use Rattle.fare_table.specs.Fares.{Fares};
 ghost use Rattle.fare_table.specs.declared.token.Token.{Token};
 ghost use Rattle.fare_program.specs.Fault.{status_of};
 ghost use Rattle.fare_program.specs.inside.Fault.{IsRunFailure};
-ghost use Rattle.fare_program.specs.Posted.{are_posted, is_posted};
+ghost use Rattle.report_texts.specs.UploadEnds.{are_posted, is_posted};
 ghost use Rattle.fare_program.specs.Options.{Asked};
 ghost use Rattle.fare_program.specs.Program.{ShowsOf, ShowsPlain};
 ghost use Rattle.fare_service.specs.Headline.{HasRun};

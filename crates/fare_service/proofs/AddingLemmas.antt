@@ -17,9 +17,10 @@ use Rattle.shard_book.specs.Sums.{Sums, sums, sums_of, sums_of_replies, add_sums
 use Rattle.shared_books.specs.Drawing.{NoneTwice}
 use Rattle.shared_books.specs.Marks.{history_of_visits}
 use Rattle.fare_table.specs.Fares.{Fares}
-use Rattle.fare_service.specs.declared.upload_end.UploadEnd.{UploadEnd}
-use Rattle.fare_service.specs.declared.upload_end.UploadEnd.TheVariants.{Posted, Refused, Cut, Undrawn}
-use Rattle.fare_service.specs.Adding.{taps_told, AddUp}
+use Rattle.report_texts.specs.declared.upload_end.UploadEnd.{UploadEnd}
+use Rattle.report_texts.specs.declared.upload_end.UploadEnd.TheVariants.{Posted, Refused, Cut, Undrawn}
+use Rattle.report_texts.specs.UploadEnds.{taps_told}
+use Rattle.fare_service.specs.Adding.{AddUp}
 use Rattle.shard_book.specs.Sums.{add_all}
 use Rattle.fare_service.specs.Headline.{Signed, end_of}
 use Rattle.fare_service.specs.inside.Closing.{IsClosedWork}

@@ -14,9 +14,9 @@ use Rattle.shard_book.specs.Sums.{Sums, sums}
 use Rattle.shared_books.specs.declared.turns.rule.Mark.{Mark}
 use Rattle.shared_books.specs.Passes.{PassView, SharedBookView, seen_by}
 use Rattle.fare_service.specs.declared.service.share.Done.{Done}
-use Rattle.fare_service.specs.declared.upload_end.UploadEnd.{UploadEnd}
-use Rattle.fare_service.specs.declared.upload_end.UploadEnd.TheVariants.{Posted, Refused, Cut, Undrawn}
-use Rattle.fare_service.specs.Adding.{taps_told}
+use Rattle.report_texts.specs.declared.upload_end.UploadEnd.{UploadEnd}
+use Rattle.report_texts.specs.declared.upload_end.UploadEnd.TheVariants.{Posted, Refused, Cut, Undrawn}
+use Rattle.report_texts.specs.UploadEnds.{taps_told}
 use Rattle.fare_service.specs.Claims.{left_share}
 use Rattle.fare_service.specs.Closing.{IsHistoryOf}
 use Rattle.fare_service.specs.Faults.{visits_held}

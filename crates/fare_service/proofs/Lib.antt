@@ -9,7 +9,6 @@ pub mod GatheredWork
 pub mod HeadlineLemmas
 pub mod JoinLemmas
 pub mod OrderLemmas
-pub mod Parts
 pub mod PlaceLemmas
 pub mod PlacedVisits
 pub mod PlacingLemmas

@@ -11,8 +11,8 @@ use Rattle.tap_views.specs.Files.{IsFile}
 use Rattle.tap_views.specs.Shards.{shard_of_token}
 use Rattle.shard_book.specs.Entry.{IsEntryOf}
 use Rattle.shared_books.specs.Drawing.{NoneTwice}
-use Rattle.fare_service.specs.declared.upload_end.UploadEnd.{UploadEnd}
-use Rattle.fare_service.specs.declared.upload_end.UploadEnd.TheVariants.{Posted, Refused, Cut, Undrawn}
+use Rattle.report_texts.specs.declared.upload_end.UploadEnd.{UploadEnd}
+use Rattle.report_texts.specs.declared.upload_end.UploadEnd.TheVariants.{Posted, Refused, Cut, Undrawn}
 use Rattle.fare_service.specs.Headline.{end_of}
 use Rattle.fare_service.specs.Placing.{posted_of, in_posting_order, WerePostedOf}
 use Rattle.fare_service.specs.Runs.{PlacedTap, placed_from, taps_of_placed, of_shard, PlacedRun, placed_run, if_any, runs_below, runs_of, RunVisit, IsEntered, run_of_visit, ArePostedWhole, AreCut, entries_of, taps_posted}

@@ -11,11 +11,12 @@ use Rattle.tap_views.specs.declared.fault.LayoutFault.TheVariants.{Short, Magic,
 use Rattle.shard_book.specs.declared.entry.Entry.{Entry}
 use Rattle.shard_book.specs.SumsByKey.{sums_by_validator, sums_by_token}
 use Rattle.shard_book.specs.Sums.{sums}
-use Rattle.fare_service.specs.declared.upload_end.UploadEnd.{UploadEnd}
-use Rattle.fare_service.specs.EndsOfUploads.{end_by}
-use Rattle.fare_service.specs.Plain.{IsPlainEnd, ArePlainEnds, IsReportOver}
+use Rattle.report_texts.specs.declared.upload_end.UploadEnd.{UploadEnd}
+use Rattle.report_texts.specs.UploadEnds.{end_by}
+use Rattle.report_texts.specs.UploadEnds.{IsPlainEnd, ArePlainEnds}
+use Rattle.report_texts.specs.OverHistory.{IsReportOver}
 use Rattle.tap_views.specs.Files.{IsEndAfterBatches, HasOneReading}
-use Rattle.fare_service.specs.Text.{report}
+use Rattle.report_texts.specs.Report.{report}
 
 -- faults of one row of the table are the same
 same_row : (bytes : List ℕ) (fault other : LayoutFault) → fault_order fault ≡ fault_order other → Row fault bytes → Row other bytes → fault ≡ other

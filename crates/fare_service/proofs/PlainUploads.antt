@@ -1,5 +1,5 @@
 -- The plain history of uploads is there, and there is one; and what laws on it stand on.
-use Rattle.std.specs.Prelude.{ℕ, ◌≡◌, ◌↔◌, ◌<◌, List, [], ◌∷◌, ◌++◌, length, map, All, Some, slice_get}
+use Rattle.std.specs.Prelude.{ℕ, ◌≡◌, ◌↔◌, ◌<◌, List, [], ◌∷◌, length, map, All, Some, slice_get}
 use Rattle.std.specs.List.{flat_map}
 use Rattle.std.proofs.Common.{refl, sym, ◌∙◌, ap, subst, arith, get_or, mod-lt}
 use Rattle.std.proofs.lemmas.Option.{slice_get-get_or}
@@ -21,7 +21,8 @@ use Rattle.fare_service.specs.Outcomes.{OutcomeView}
 use Rattle.tap_views.proofs.ReadingLemmas.{one_list}
 use Rattle.tap_views.specs.Files.{AreGoodTapsOfEach, HasOneReading}
 use Rattle.shard_book.specs.Plain.{IsNamed, plain}
-use Rattle.fare_service.specs.Plain.{IsPlain, IsUncutGathering, IsStatementOver}
+use Rattle.fare_service.specs.Plain.{IsPlain, IsUncutGathering}
+use Rattle.report_texts.specs.OverHistory.{IsStatementOver}
 use Rattle.fare_service.specs.Printed.{IsStatementOf}
 use Rattle.fare_texts.specs.StatementText.{IsStatementText}
 use Rattle.fare_service.proofs.HeadlineLemmas.{gathered_of}

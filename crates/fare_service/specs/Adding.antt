@@ -1,19 +1,10 @@
 -- Totals that add up: over the books, over the workers and, of taps, over the uploads.
 use Rattle.std.specs.Prelude.{◌≡◌, ℕ, List, map, sum_by}
 use Rattle.shard_book.specs.Sums.{Sums, sums, add_all}
-use Rattle.fare_service.specs.declared.upload_end.UploadEnd.{UploadEnd}
-use Rattle.fare_service.specs.declared.upload_end.UploadEnd.TheVariants.{Posted, Refused, Cut}
-use Rattle.fare_service.specs.declared.upload_end.UploadEnd.TheVariants.{Undrawn}
+use Rattle.report_texts.specs.UploadEnds.{taps_told}
 use Rattle.fare_service.specs.Outcomes.{OutcomeView}
 use Rattle.fare_service.specs.Runs.{entries_of}
 use Rattle.fare_service.specs.Shares.{Worked, all_visits}
-
--- how many taps of an upload were posted, as its end tells
-abbrev pub taps_told : UploadEnd → ℕ
-taps_told (Posted taps) = taps
-taps_told (Refused taps offset fault) = taps
-taps_told (Cut taps) = taps
-taps_told Undrawn = 0
 
 -- Each worker's totals are those of its replies. The totals are the sum of the workers', and of the
 -- books', and their taps are those that the uploads' ends tell.

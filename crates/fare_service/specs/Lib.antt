@@ -1,7 +1,6 @@
 pub mod Adding
 pub mod Claims
 pub mod Closing
-pub mod EndsOfUploads
 pub mod Faults
 pub mod Headline
 pub mod Limits
@@ -15,5 +14,4 @@ pub mod ServiceView
 pub mod ShareView
 pub mod Shares
 pub mod Stopping
-pub mod Text
 pub mod inside

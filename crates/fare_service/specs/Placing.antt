@@ -7,9 +7,9 @@ use Rattle.tap_views.specs.Files.{IsFile, IsFaultAt}
 use Rattle.tap_views.specs.Shards.{shard_of_token}
 use Rattle.shard_book.specs.declared.entry.Entry.{Entry}
 use Rattle.shard_book.specs.Entry.{IsEntryOf}
-use Rattle.fare_service.specs.declared.upload_end.UploadEnd.{UploadEnd}
-use Rattle.fare_service.specs.declared.upload_end.UploadEnd.TheVariants.{Posted, Refused, Cut}
-use Rattle.fare_service.specs.declared.upload_end.UploadEnd.TheVariants.{Undrawn}
+use Rattle.report_texts.specs.declared.upload_end.UploadEnd.{UploadEnd}
+use Rattle.report_texts.specs.declared.upload_end.UploadEnd.TheVariants.{Posted, Refused, Cut}
+use Rattle.report_texts.specs.declared.upload_end.UploadEnd.TheVariants.{Undrawn}
 use Rattle.fare_service.specs.Runs.{PlacedTap, placed_from, of_shard, runs_of}
 use Rattle.fare_service.specs.Shares.{Worked, all_visits}
 

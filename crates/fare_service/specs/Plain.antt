@@ -1,28 +1,18 @@
 -- The plain history of uploads: the taps of all batches before each upload's first fault, uploads
 -- in order, each with the account rule's reply. It has no shards, no visits and no workers.
-use Rattle.std.specs.List.{flat_map, AllZip}
-use Rattle.std.specs.Prelude.{◌≡◌, ℕ, List, length, slice_get, Option}
-use Rattle.std.specs.Prelude.{Some, All, Contains}
-use Rattle.tap_views.specs.Files.{IsFile, AreGoodTapsOfEach, IsEndAfterBatches}
+use Rattle.std.specs.List.{flat_map}
+use Rattle.std.specs.Prelude.{◌≡◌, ℕ, List, slice_get, Some, All, Contains}
+use Rattle.tap_views.specs.Files.{AreGoodTapsOfEach}
 use Rattle.tap_views.specs.Layout.{Tap}
-use Rattle.tap_views.specs.declared.fault.LayoutFault.{LayoutFault}
 use Rattle.fare_table.specs.Fares.{Fares}
 use Rattle.shard_book.specs.Plain.{plain}
-use Rattle.shard_book.specs.SumsByKey.{sums_by_validator, sums_by_token}
-use Rattle.shard_book.specs.Statement.{IsStatement}
-use Rattle.shard_book.specs.Sums.{sums}
 use Rattle.shard_book.specs.declared.entry.Entry.{Entry}
-use Rattle.shard_book.specs.declared.statement.Statement.{Statement}
-use Rattle.fare_table.specs.declared.token.Token.{Token}
-use Rattle.fare_service.specs.EndsOfUploads.{end_by}
+use Rattle.report_texts.specs.declared.upload_end.UploadEnd.TheVariants.{Posted, Refused, Cut}
+use Rattle.report_texts.specs.declared.upload_end.UploadEnd.TheVariants.{Undrawn}
+use Rattle.report_texts.specs.declared.upload_end.UploadEnd.{UploadEnd}
 use Rattle.fare_service.specs.Headline.{Headline}
 use Rattle.fare_service.specs.Outcomes.{OutcomeView}
 use Rattle.fare_service.specs.Shares.{Worked}
-use Rattle.fare_texts.specs.StatementText.{IsStatementText}
-use Rattle.fare_service.specs.Text.{report}
-use Rattle.fare_service.specs.declared.upload_end.UploadEnd.TheVariants.{Posted, Refused, Cut}
-use Rattle.fare_service.specs.declared.upload_end.UploadEnd.TheVariants.{Undrawn}
-use Rattle.fare_service.specs.declared.upload_end.UploadEnd.{UploadEnd}
 
 -- the history is the plain one of the uploads: their taps before each first layout fault, posted
 -- one after the other under the table, without shards or workers
@@ -54,31 +44,3 @@ pub record IsUncutGathering (fares : Fares) (shards : ℕ) (uploads : List (List
   pub whole : All WasNotCut outcome.ends
   pub plain_is : IsPlain fares uploads history
   pub apart : AreApart plain_is.taps
-
--- How an upload of these bytes ends where all batches before its first fault are posted: with the
--- number of their taps, and the fault, if there is one.
-pub record IsPlainEnd (file : List ℕ) (end : UploadEnd) : Type 0 where
-  pub batches : List (List Tap)
-  pub rest : List ℕ
-  pub fault : Option (ℕ × LayoutFault)
-  pub is_file : IsFile file batches rest
-  pub is_fault : IsEndAfterBatches file rest fault
-  pub ended : end ≡ end_by (length (flat_map (λ batch. batch) batches)) fault
-
--- each upload ended as its bytes call for
-abbrev pub ArePlainEnds : List (List ℕ) → List UploadEnd → Type 0
-ArePlainEnds uploads ends = AllZip IsPlainEnd uploads ends
-
--- the text of a token's statement over a history
-pub record IsStatementOver (fares : Fares) (history : List Entry) (token : Token) (text : List ℕ)
-    : Type 0 where
-  pub statement : Statement
-  pub of_history : IsStatement fares history token statement
-  pub shown : IsStatementText fares statement text
-
--- the text of a report over a history of uploads
-pub record IsReportOver (uploads : List (List ℕ)) (history : List Entry) (text : List ℕ)
-    : Type 0 where
-  pub ends : List UploadEnd
-  pub of_uploads : ArePlainEnds uploads ends
-  pub shown : text ≡ report ends (sums history) (sums_by_validator history) (sums_by_token history)

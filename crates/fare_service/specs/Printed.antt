@@ -8,10 +8,10 @@ use Rattle.shard_book.specs.SumsByKey.{all_entries, sums_by_validator, sums_by_t
 use Rattle.shard_book.specs.Statement.{IsStatement}
 use Rattle.shard_book.specs.Sums.{sums}
 use Rattle.fare_table.specs.Token.{bytes_of}
-use Rattle.fare_service.specs.declared.upload_end.UploadEnd.{UploadEnd}
+use Rattle.report_texts.specs.declared.upload_end.UploadEnd.{UploadEnd}
 use Rattle.fare_service.specs.Outcomes.{OutcomeView}
 use Rattle.fare_texts.specs.StatementText.{IsStatementText}
-use Rattle.fare_service.specs.Text.{report}
+use Rattle.report_texts.specs.Report.{report}
 
 -- the report of an outcome with these ends of uploads: the ends, and the sums of all entries of its
 -- books

@@ -5,15 +5,13 @@
 mod faults;
 pub mod laws;
 mod outcome;
+mod printing;
 mod service;
-mod text;
-mod upload_end;
 
 pub use fare_texts::PrintFault;
 pub use faults::{GatherFault, OpenFault, RunFault};
 pub use outcome::Outcome;
+pub use report_texts::UploadEnd;
 pub use service::Service;
 pub use service::share::{Done, Share};
 pub use service::working::{Gate, OpenGate};
-pub use text::printing::write_report;
-pub use upload_end::UploadEnd;

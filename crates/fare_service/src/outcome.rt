@@ -1,6 +1,6 @@
 //! What was gathered: the books, the end of each upload and the totals of each worker.
 
-use crate::upload_end::UploadEnd;
+use report_texts::UploadEnd;
 use shard_book::{ShardBook, Totals};
 use std::marker::Model;
 

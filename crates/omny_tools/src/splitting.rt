@@ -5,6 +5,7 @@ use crate::input::load_upload;
 use crate::names::Name;
 use crate::output::Output;
 use crate::progress::Progress;
+use report_texts::{UploadEnd, write_upload};
 use std::alloc::{AllocError, Global};
 use std::io::Write;
 use std::{fs, io};
@@ -27,15 +28,8 @@ pub(crate) struct SplitWords<'a> {
 }
 
 /// Appends the line that says how the upload of this number ends, as a report has it.
-fn push_end(text: &mut String, upload: u128, end: &UploadTaps) -> Result<(), AllocError> {
-    let taps = end.taps;
-    match end.fault {
-        None => write!(text, "upload {upload} posted {taps}\n"),
-        Some((offset, fault)) => {
-            let name = fault.name();
-            write!(text, "upload {upload} refused {taps} at {offset} {name}\n")
-        }
-    }
+fn push_end(text: &mut String, upload: u64, end: &UploadTaps) -> Result<(), AllocError> {
+    write_upload(text, upload, &UploadEnd::by_fault(end.taps, end.fault))
 }
 
 /// Splits the uploads, and appends a line for each to `ends`.
@@ -51,7 +45,8 @@ fn split_all<'a>(
         let upload = load_upload(rt, *name)?;
         let (more, end) = split.with(&upload)?;
         split = more;
-        push_end(ends, u128::from(words.first) + number as u128, &end)?;
+        let upload = u64::from(words.first).saturating_add(number as u64);
+        push_end(ends, upload, &end)?;
     }
     Ok(split)
 }

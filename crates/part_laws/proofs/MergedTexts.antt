@@ -6,7 +6,7 @@ use Rattle.std.specs.List.Sorted.{IsPermutation}
 use Rattle.std.specs.Map.{keys_of}
 use Rattle.std.specs.Ordering.{eq_by_cmp, nat_cmp}
 use Rattle.std.specs.Set.{is_member}
-use Rattle.std.proofs.Common.{refl, sym, ◌∙◌, ap, subst, arith, append_assoc}
+use Rattle.std.proofs.Common.{refl, sym, ◌∙◌, ap, subst, arith}
 use Rattle.std.proofs.lemmas.List.{length-map}
 use Rattle.std.proofs.lemmas.List.Elements.{All-cons, All-head, All-nil, All-tail}
 use Rattle.std.proofs.lemmas.List.Elements.{All-from_recursion, All-weaker, recursion_from_All}
@@ -15,16 +15,17 @@ use Rattle.fare_table.specs.declared.token.Token.{Token}
 use Rattle.shard_book.specs.declared.entry.Entry.{Entry}
 use Rattle.shard_book.specs.SumsByKey.{sums_by_token, sums_by_validator}
 use Rattle.shard_book.specs.Sums.{Sums, add_all, sums}
-use Rattle.fare_service.specs.Plain.{ArePlainEnds, IsReportOver}
-use Rattle.fare_service.specs.Text.{report, upload_lines}
-use Rattle.fare_service.specs.declared.upload_end.UploadEnd.{UploadEnd}
+use Rattle.report_texts.specs.UploadEnds.{ArePlainEnds}
+use Rattle.report_texts.specs.OverHistory.{IsReportOver}
+use Rattle.report_texts.specs.Report.{report, upload_lines}
+use Rattle.report_texts.specs.declared.upload_end.UploadEnd.{UploadEnd}
 use Rattle.fare_service.proofs.RunVisits.{AllZip-length}
-use Rattle.fare_service.specs.Plain.{IsPlainEnd}
-use Rattle.part_reports.specs.Lines.{End, IsUploadEnd, end_line, end_lines}
+use Rattle.report_texts.specs.UploadEnds.{IsPlainEnd}
+use Rattle.report_texts.specs.Numbers.{IsUploadEnd}
 use Rattle.part_reports.specs.Reports.{HasTapNumbers, IsMerged, IsPartReport, Report, end_texts}
 use Rattle.part_reports.specs.Reports.{all_ends, report_text, tokens_of_reports, validators_of_reports}
 use Rattle.part_reports.specs.Reports.{sums_of_validator as listed_at}
-use Rattle.part_reports.proofs.Unique.{end_line_unique}
+use Rattle.part_reports.proofs.TextsRead.{end_lines_joined, lines_whole}
 use Rattle.part_laws.specs.Sizes.{CanBeWritten, HasSize, HaveBoundedTerms}
 use Rattle.part_laws.specs.Split.{AreTokensOf, AreValidatorsOf, IsSplit, Part, pairs_of_parts}
 use Rattle.part_laws.specs.Split.{sums_at}
@@ -32,7 +33,7 @@ use Rattle.part_laws.proofs.CentsFit.{entries_few}
 use Rattle.part_laws.proofs.FieldsFit.{entries_fit}
 use Rattle.part_laws.proofs.Merging.{RisingNumbers}
 use Rattle.part_laws.proofs.PartSums.{by_validator, listed_parts, members}
-use Rattle.part_laws.proofs.ReportTexts.{end_of, ends_fit, lines_spelt, plain_whole, report_spelt}
+use Rattle.part_laws.proofs.ReportTexts.{end_of, ends_fit, same_lines, same_text}
 use Rattle.part_laws.proofs.ReportTexts.{told_by}
 use Rattle.part_laws.proofs.SumsFit.{CanBeSummed, CostsFew, EntryFits, summed}
 
@@ -116,9 +117,8 @@ module _ (differ : TextsDiffer) where
       let same : own_told part over.ends ≡ told =
       differ (own_told part over.ends) told (own_can_be_told part over.ends can over.of_uploads)
       (can_be_told told is)
-      (sym (over.shown ∙ report_spelt over.ends (sums part.history)
-      (sums_by_validator part.history) (sums_by_token part.history)
-      (plain_whole part.files over.ends over.of_uploads))) in
+      (sym (over.shown ∙ same_text over.ends (sums part.history)
+      (sums_by_validator part.history) (sums_by_token part.history))) in
       record {
         totals = ap (λ (r : Report). r.totals) (sym same);
         validators = ap (λ (r : Report). r.validators) (sym same);
@@ -160,33 +160,12 @@ tokens_told (p ∷ parts) (t ∷ told) tell =
     λ i. tell.0.tokens i ++ tokens_told parts told tell.1 i
 
 -- ---- the ends of the uploads
-ends_same : (number : ℕ) (xs ys : List End) → AllByRecursion IsUploadEnd xs → AllByRecursion IsUploadEnd ys
-    → end_lines number xs ≡ end_lines number ys → xs ≡ ys
-ends_same number [] [] fit fit_too e = refl
-ends_same number [] (b ∷ ys) fit fit_too e = absurd (cc)
-ends_same number (a ∷ xs) [] fit fit_too e = absurd (cc)
-ends_same number (a ∷ xs) (b ∷ ys) fit fit_too e =
-    let (same, rest) = end_line_unique number a b (end_lines (number + 1) xs)
-    (end_lines (number + 1) ys) fit.0 fit_too.0 e in
-    λ i. same i ∷ ends_same (number + 1) xs ys fit.1 fit_too.1 rest i
-
-lines_append : (number : ℕ) (xs ys : List End)
-    → end_lines number (xs ++ ys) ≡ end_lines number xs ++ end_lines (number + length xs) ys
-lines_append number [] ys =
-    ap (λ n. end_lines n ys) (let e : number ≡ number + 0 = omega arith in e)
-lines_append number (a ∷ xs) ys =
-    let place : number + 1 + length xs ≡ number + length (a ∷ xs) = omega arith in
-    ap (λ (t : List ℕ). end_line number a ++ t) (lines_append (number + 1) xs ys
-    ∙ ap (λ n. end_lines (number + 1) xs ++ end_lines n ys) place)
-    ∙ sym (append_assoc (end_line number a) (end_lines (number + 1) xs)
-    (end_lines (number + length (a ∷ xs)) ys))
-
-texts_joined : (number : ℕ) (ends : List (List End))
-    → flat_map (λ file. file) (end_texts number ends) ≡ end_lines number (all_ends ends)
+texts_joined : (number : ℕ) (ends : List (List UploadEnd))
+    → flat_map (λ file. file) (end_texts number ends) ≡ upload_lines number (all_ends ends)
 texts_joined number [] = refl
 texts_joined number (some ∷ ends) =
-    ap (λ (t : List ℕ). end_lines number some ++ t) (texts_joined (number + length some) ends)
-    ∙ sym (lines_append number some (all_ends ends))
+    ap (λ (t : List ℕ). upload_lines number some ++ t) (texts_joined (number + length some) ends)
+    ∙ sym (end_lines_joined number some (all_ends ends))
 
 module _ (differ : TextsDiffer) (risen : RisingNumbers) (uploads : List (List ℕ))
     (parts : List Part) (ends : List UploadEnd) (plain : ArePlainEnds uploads ends)
@@ -205,11 +184,11 @@ module _ (differ : TextsDiffer) (risen : RisingNumbers) (uploads : List (List �
 
   same_ends : all_ends is.ends ≡ map end_of ends
   same_ends =
-      ends_same 0 (all_ends is.ends) (map end_of ends)
-      (recursion_from_All IsUploadEnd (all_ends is.ends) is.told.ends_fit)
-      (ends_fit uploads ends (recursion_from_All HasSize uploads sizes) plain)
+      lines_whole 0 (all_ends is.ends) (map end_of ends) is.told.ends_fit
+      (All-from_recursion IsUploadEnd (map end_of ends)
+      (ends_fit uploads ends (recursion_from_All HasSize uploads sizes) plain))
       (sym (ap (flat_map (λ file. file)) is.told.ends_told ∙ texts_joined 0 is.ends)
-      ∙ told_ends ∙ lines_spelt 0 ends (plain_whole uploads ends plain))
+      ∙ told_ends ∙ same_lines 0 ends)
 
   pub are_tokens : AreTokensOf parts is.whole.tokens
   are_tokens = record {
@@ -246,5 +225,5 @@ module _ (differ : TextsDiffer) (risen : RisingNumbers) (uploads : List (List �
         tokens = is.whole.tokens;
       } in
       is.shown ∙ ap report_text whole
-      ∙ sym (report_spelt ends (add_all (map (λ part. sums part.history) parts))
-      is.whole.validators is.whole.tokens (plain_whole uploads ends plain))
+      ∙ sym (same_text ends (add_all (map (λ part. sums part.history) parts))
+      is.whole.validators is.whole.tokens)

@@ -23,7 +23,7 @@ use Rattle.shard_book.specs.SumsByKey.{validator_of, validators}
 use Rattle.shard_book.specs.Rising.{rising}
 use Rattle.shard_book.specs.Sums.{is_capped, is_paid, is_stale, is_transfer, is_unknown, sums}
 use Rattle.shard_book.specs.Sums.{Sums, sums_of_replies}
-use Rattle.part_reports.specs.Lines.{AreCounts, IsTokenSum, IsValidatorSum}
+use Rattle.report_texts.specs.Numbers.{AreCounts, IsTokenSum, IsValidatorSum}
 use Rattle.part_laws.proofs.Tokens.{all_rising}
 
 -- the sums of the history can be those of taps, in 64 bits

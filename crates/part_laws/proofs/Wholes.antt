@@ -1,6 +1,6 @@
 -- The files of parts that were split can be merged.
 use Rattle.std.specs.Prelude.{◌≡◌, ℕ, ◌+◌, List, [], ◌∷◌, ◌++◌, length, map, flat_map, All}
-use Rattle.std.specs.Prelude.{Option, Some, None, sum_by}
+use Rattle.std.specs.Prelude.{Option, Some, None, sum_by, true}
 use Rattle.std.specs.List.{AllByRecursion, AllZip}
 use Rattle.std.specs.List.Sorted.{IsPermutation, IsStrictlySortedBy}
 use Rattle.std.specs.Map.{keys_of}
@@ -25,27 +25,26 @@ use Rattle.shard_book.specs.SumsByKey.{entries_of_validator, sums_by_token, sums
 use Rattle.shard_book.specs.SumsByKey.{validator_of, validators}
 use Rattle.shard_book.specs.Rising.{rising}
 use Rattle.shard_book.specs.Sums.{Sums, add_all, sums, sums_of_replies}
-use Rattle.fare_service.specs.EndsOfUploads.{end_by}
-use Rattle.tap_views.specs.Files.{AreGoodTaps, AreGoodTapsOfEach, IsEndAfterBatches, HasOneReading}
-use Rattle.fare_service.specs.Plain.{ArePlainEnds, IsPlainEnd}
-use Rattle.fare_service.specs.Plain.{IsReportOver, WasNotCut}
+use Rattle.report_texts.specs.UploadEnds.{end_by, is_posted, taps_told}
+use Rattle.tap_views.specs.Files.{AreGoodTaps, AreGoodTapsOfEach, HasOneReading, IsEndAfterBatches}
+use Rattle.report_texts.specs.UploadEnds.{ArePlainEnds, IsPlainEnd}
+use Rattle.report_texts.specs.OverHistory.{IsReportOver}
 use Rattle.shard_book.specs.Plain.{unanswered}
-use Rattle.fare_service.specs.declared.upload_end.UploadEnd.{UploadEnd}
-use Rattle.fare_service.proofs.PlainLists.{All-split}
+use Rattle.report_texts.specs.declared.upload_end.UploadEnd.{UploadEnd}
 use Rattle.shard_book.proofs.PlainReplies.{bare, plain_bare}
 use Rattle.tap_parts.specs.Parts.{taps_of_uploads}
-use Rattle.part_reports.specs.Lines.{End, IsUploadEnd}
+use Rattle.report_texts.specs.Numbers.{IsUploadEnd}
 use Rattle.part_reports.specs.Reports.{IsMerged, IsPartReport, IsWholeReport, Report, end_texts}
 use Rattle.part_reports.specs.Reports.{all_ends, report_text, validators_of_reports}
 use Rattle.part_reports.specs.Reports.{sums_of_validator as listed_at}
-use Rattle.part_laws.specs.Files.{HasNoFault, ends_texts}
+use Rattle.part_laws.specs.Files.{HasNoFault}
 use Rattle.part_laws.specs.Sizes.{HasSize}
 use Rattle.part_laws.specs.Split.{IsSplit, Part, entries_of_parts}
 use Rattle.part_laws.proofs.MergedTexts.{IsWritable, TellsOf, own_can_be_told, own_told}
 use Rattle.part_laws.proofs.MergedTexts.{tokens_told, totals_told, validators_told}
 use Rattle.part_laws.proofs.Merging.{RisingNumbers, RisingTokens, own_all, same_entries}
 use Rattle.part_laws.proofs.PartSums.{keys-map as number_keys, listed_parts, members}
-use Rattle.part_laws.proofs.ReportTexts.{end_of, ends_fit, lines_spelt, plain_whole, report_spelt}
+use Rattle.part_laws.proofs.ReportTexts.{end_of, ends_fit, same_lines, same_text}
 use Rattle.part_laws.proofs.ReportTexts.{told_by}
 use Rattle.part_laws.proofs.TokenMoves.{pairs_moved}
 use Rattle.part_laws.proofs.Tokens.{keys-map as name_keys}
@@ -53,20 +52,20 @@ use Rattle.part_laws.proofs.Validators.{SumsAdd, at_history, merged_totals}
 
 -- ---- the ends of a part's files, none of which has a fault
 no_fault : (file rest : List ℕ) (taps : ℕ) (fault : Option (ℕ × LayoutFault))
-    → IsEndAfterBatches file rest fault → rest ≡ [] → (end_of (end_by taps fault)).fault ≡ None
+    → IsEndAfterBatches file rest fault → rest ≡ [] → is_posted (end_of (end_by taps fault)) ≡ true
 no_fault file rest taps None is empty = refl
 no_fault file rest taps (Some (offset, fault)) is empty =
     absurd (omega (arith, is.some_byte, ap length empty))
 
 end_posted : (file : List ℕ) (end : UploadEnd) → HasNoFault file → IsPlainEnd file end
-    → (end_of end).fault ≡ None
+    → is_posted (end_of end) ≡ true
 end_posted file end none is =
-    subst (λ e. (end_of e).fault ≡ None) (sym is.ended)
+    subst (λ e. is_posted (end_of e) ≡ true) (sym is.ended)
     (no_fault file is.rest (length (flat_map (λ batch. batch) is.batches)) is.fault is.is_fault
     (none is.batches is.rest is.is_file))
 
 ends_posted : (files : List (List ℕ)) (ends : List UploadEnd) → AllByRecursion HasNoFault files
-    → ArePlainEnds files ends → AllByRecursion (λ end. end.fault ≡ None) (map end_of ends)
+    → ArePlainEnds files ends → AllByRecursion (λ end. is_posted end ≡ true) (map end_of ends)
 ends_posted [] [] none plain = tt
 ends_posted [] (end ∷ ends) none plain = absurd plain
 ends_posted (file ∷ files) [] none plain = absurd plain
@@ -106,7 +105,7 @@ module _ (numbers : RisingNumbers) (names : RisingTokens) where
       record {
         number = told.number;
         ends = told.ends;
-        posted = All-from_recursion (λ end. end.fault ≡ None) (map end_of ends)
+        posted = All-from_recursion (λ end. is_posted end ≡ true) (map end_of ends)
             (ends_posted part.files ends (recursion_from_All HasNoFault part.files none) plain);
         totals = told.totals;
         validators_number = told.validators_number;
@@ -129,8 +128,8 @@ module _ (numbers : RisingNumbers) (names : RisingTokens) where
       let rest = telling parts files can.1 none.1 over.1 in
       let here = over.0 in
       let shown : file ≡ report_text (own_told p here.ends) =
-      here.shown ∙ report_spelt here.ends (sums p.history) (sums_by_validator p.history)
-      (sums_by_token p.history) (plain_whole p.files here.ends here.of_uploads) in
+      here.shown ∙ same_text here.ends (sums p.history) (sums_by_validator p.history)
+      (sums_by_token p.history) in
       let tells : TellsOf p (own_told p here.ends) =
       record { totals = refl; validators = refl; tokens = refl } in
       record {
@@ -153,21 +152,21 @@ told_taps (p ∷ parts) (t ∷ told) tell =
     ∙ (λ i. (tell.0.totals i).taps + told_taps parts told tell.1 i)
 
 all_posted : (taps : ℕ) (fault : Option (ℕ × LayoutFault))
-    → (end_of (end_by taps fault)).taps ≡ taps
+    → taps_told (end_of (end_by taps fault)) ≡ taps
 all_posted taps None = refl
 all_posted taps (Some (offset, fault)) = refl
 
 one_end : (file : List ℕ) (taps : List Tap) (end : UploadEnd) → HasOneReading file
-    → AreGoodTaps file taps → IsPlainEnd file end → (end_of end).taps ≡ length taps
+    → AreGoodTaps file taps → IsPlainEnd file end → taps_told (end_of end) ≡ length taps
 one_end file taps end cut of is =
     let same = cut of.batches is.batches of.rest is.rest of.is_file is.is_file in
-    ap (λ e. (end_of e).taps) is.ended
+    ap (λ e. taps_told (end_of e)) is.ended
     ∙ all_posted (length (flat_map (λ batch. batch) is.batches)) is.fault
     ∙ sym (ap length (of.all ∙ ap (flat_map (λ (batch : List Tap). batch)) same.0))
 
 end_taps : (files : List (List ℕ)) (taps : List (List Tap)) (ends : List UploadEnd)
     → AllByRecursion HasOneReading files → AreGoodTapsOfEach files taps → ArePlainEnds files ends
-    → sum_by (λ end. end.taps) (map end_of ends) ≡ length (taps_of_uploads taps)
+    → sum_by taps_told (map end_of ends) ≡ length (taps_of_uploads taps)
 end_taps [] [] [] cuts each plain = refl
 end_taps [] [] (end ∷ ends) cuts each plain = absurd plain
 end_taps [] (t ∷ taps) ends cuts each plain = absurd each
@@ -175,7 +174,7 @@ end_taps (file ∷ files) [] ends cuts each plain = absurd each
 end_taps (file ∷ files) (t ∷ taps) [] cuts each plain = absurd plain
 end_taps (file ∷ files) (t ∷ taps) (end ∷ ends) cuts each plain = omega (
   arith,
-  sum_by-cons (λ (e : End). e.taps) (end_of end) (map end_of ends),
+  sum_by-cons taps_told (end_of end) (map end_of ends),
   one_end file t end cuts.0 each.0 plain.0,
   end_taps files taps ends cuts.1 each.1 plain.1,
   length-append t (taps_of_uploads taps),
@@ -186,20 +185,18 @@ joined_map : (lists : List (List UploadEnd)) → all_ends (map (map end_of) list
     ≡ map end_of (flat_map (λ some. some) lists)
 joined_map [] = refl
 joined_map (some ∷ lists) =
-    ap (λ (ends : List End). map end_of some ++ ends) (joined_map lists)
+    ap (λ (ends : List UploadEnd). map end_of some ++ ends) (joined_map lists)
     ∙ sym (map-append end_of some (flat_map (λ more. more) lists))
 
-texts_spelt : (first : ℕ) (lists : List (List UploadEnd))
-    → All WasNotCut (flat_map (λ some. some) lists)
-    → ends_texts first lists ≡ end_texts first (map (map end_of) lists)
-texts_spelt first [] whole = refl
-texts_spelt first (some ∷ lists) whole =
-    let (here, behind) = All-split WasNotCut some (flat_map (λ more. more) lists) whole in
+same_texts : (first : ℕ) (lists : List (List UploadEnd))
+    → end_texts first lists ≡ end_texts first (map (map end_of) lists)
+same_texts first [] = refl
+same_texts first (some ∷ lists) =
     let place : first + length some ≡ first + length (map end_of some) =
     ap (λ n. first + n) (sym (length-map some end_of)) in
-    let rest = texts_spelt (first + length some) lists behind
+    let rest = same_texts (first + length some) lists
     ∙ ap (λ n. end_texts n (map (map end_of) lists)) place in
-    λ i. lines_spelt first some (recursion_from_All WasNotCut some here) i ∷ rest i
+    λ i. same_lines first some i ∷ rest i
 
 member_validators : RisingNumbers → (entries : List Entry) (v : ℕ)
     → is_member (eq_by_cmp nat_cmp) (keys_of (sums_by_validator entries)) v
@@ -282,10 +279,10 @@ module _ (fares : Fares) (uploads : List (List ℕ)) (history : List Entry) (par
         tokens_rise = names_rise names history;
       }
 
-  pub is_merged : IsMerged (ends_texts 0 lists) report_files (report_text whole)
+  pub is_merged : IsMerged (end_texts 0 lists) report_files (report_text whole)
   is_merged =
       let all = flat_map (λ some. some) lists in
-      let E : List End → Type 0 = All IsUploadEnd in
+      let E : List UploadEnd → Type 0 = All IsUploadEnd in
       let taps = ap (λ (s : Sums). s.taps)
       (merged_totals fares uploads history parts split law numbers) in
       let counted = end_taps uploads split.settled.taps all
@@ -294,15 +291,14 @@ module _ (fares : Fares) (uploads : List (List ℕ)) (history : List Entry) (par
         ends = map (map end_of) lists;
         parts = tellings.told;
         told = record {
-          ends_told = texts_spelt 0 lists
-              (All-from_recursion WasNotCut all (plain_whole uploads all plain));
+          ends_told = same_texts 0 lists;
           ends_fit = subst E (sym (joined_map lists))
               (All-from_recursion IsUploadEnd (map end_of all)
               (ends_fit uploads all (recursion_from_All HasSize uploads sizes) plain));
           parts_told = tellings.are;
           parts_fit = tellings.fit;
           taps = told_taps parts tellings.told tellings.tell ∙ taps ∙ history_taps ∙ sym counted
-              ∙ ap (sum_by (λ (end : End). end.taps)) (sym (joined_map lists));
+              ∙ ap (sum_by taps_told) (sym (joined_map lists));
         };
         whole = whole;
         is = is_whole;

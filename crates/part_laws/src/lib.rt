@@ -13,16 +13,16 @@ ghost use Rattle.shard_book.specs.SumsByKey.{sums_by_token, sums_by_validator};
 ghost use Rattle.shard_book.specs.Sums.{Sums, add_all, sums};
 ghost use Rattle.fare_table.specs.Token.{bytes_of};
 ghost use Rattle.tap_views.specs.Files.{AreGoodTapsOfEach, HasOneReading};
-ghost use Rattle.fare_service.specs.Plain.{ArePlainEnds};
-ghost use Rattle.fare_service.specs.Plain.{IsReportOver, IsStatementOver};
-ghost use Rattle.fare_service.specs.Text.{report, upload_lines};
-ghost use Rattle.fare_service.specs.declared.upload_end.UploadEnd.{UploadEnd};
+ghost use Rattle.report_texts.specs.UploadEnds.{ArePlainEnds};
+ghost use Rattle.report_texts.specs.OverHistory.{IsReportOver, IsStatementOver};
+ghost use Rattle.report_texts.specs.Report.{report, upload_lines};
+ghost use Rattle.report_texts.specs.declared.upload_end.UploadEnd.{UploadEnd};
 ghost use Rattle.tap_parts.specs.Parts.{part_of_token};
 ghost use Rattle.settlement.specs.Settled.{IsSettledHistory};
 ghost use Rattle.tap_parts.specs.Parts.{taps_of_uploads};
 ghost use Rattle.tap_parts.specs.Split.{IsSplitFile};
-ghost use Rattle.part_reports.specs.Reports.{IsMerged};
-ghost use Rattle.part_laws.specs.Files.{HasNoFault, ends_texts};
+ghost use Rattle.part_reports.specs.Reports.{IsMerged, end_texts};
+ghost use Rattle.part_laws.specs.Files.{HasNoFault};
 ghost use Rattle.part_laws.specs.Sizes.{CanBeWritten, HasSize, HaveBoundedTerms};
 ghost use Rattle.part_laws.specs.Split.{AreTokensOf, AreValidatorsOf, IsPartOf, IsSplit, Part};
 ghost use Rattle.part_laws.specs.Split.{entries_of_parts, part_with};
@@ -144,7 +144,7 @@ pub fn merged_text()
 
 /// Each part's files have no layout fault, and its report file is the report of its settled
 /// history. Each of the ends' files has the lines of the next uploads. Such files can be merged. An
-/// upload is read in one way: `fare_service::laws::one_reading_each` says so of any bytes.
+/// upload is read in one way: `tap_views::laws::one_reading_each` says so of any bytes.
 pub fn can_be_merged()
     ensures { (fares : Fares) (uploads : List (List ℕ)) (history : List Entry)
         (parts : List Part) → IsSplit fares uploads history parts
@@ -154,7 +154,7 @@ pub fn can_be_merged()
         → All (λ part. All HasNoFault part.files) parts
         → (report_files : List (List ℕ))
         → AllZip (λ part file. IsReportOver part.files part.history file) parts report_files
-        → (text : List ℕ) × IsMerged (ends_texts 0 lists) report_files text }
+        → (text : List ℕ) × IsMerged (end_texts 0 lists) report_files text }
 {
     sums_add_up();
     one_rising_list();

@@ -14,7 +14,7 @@ use Rattle.fare_table.specs.Token.{token_cmp, token_eq}
 use Rattle.fare_table.specs.declared.token.Token.{Token}
 use Rattle.shard_book.specs.Sums.{Sums, add_all}
 use Rattle.fare_texts.specs.ReportLines.{token_line}
-use Rattle.part_reports.specs.Lines.{End, IsUploadEnd}
+use Rattle.report_texts.specs.Numbers.{IsUploadEnd}
 use Rattle.part_reports.specs.Reports.{IsMerged, IsPartReport, Report, end_texts, all_ends}
 use Rattle.part_reports.specs.Reports.{report_text, tokens_of_reports}
 use Rattle.part_reports.specs.TokenLines.{ShareNoToken, HaveOtherTokens, IsMergedByToken, TokenLine, lines_of_token}
@@ -27,6 +27,7 @@ use Rattle.part_reports.specs.inside.Fronts.{MayBePart, ToldFront}
 use Rattle.part_reports.specs.inside.Kinds.{AreTexts}
 use Rattle.part_reports.specs.inside.Parts.{AreParts, BegunReport, begun_text, left_text}
 use Rattle.part_reports.specs.inside.Standings.{MayFollow, Standing}
+use Rattle.part_reports.proofs.WholeFronts.{whole_text}
 use Rattle.part_reports.proofs.EndsRead.{All-behind, All-front}
 use Rattle.part_reports.proofs.FewParts.{told_may, told_of}
 use Rattle.part_reports.proofs.JoinedTokens.{StandOnce, joined_lines, once_each}
@@ -37,9 +38,11 @@ use Rattle.part_reports.proofs.Risings.{Rise, falls_from}
 use Rattle.part_reports.proofs.TextsRead.{lines_whole}
 use Rattle.part_reports.proofs.TokenSums.{Sum, line_of, lines_keys, lines_length, lines_stand}
 use Rattle.part_reports.proofs.WholeReports.{fronts_totals, lines_filtered, parts_taps}
+use Rattle.report_texts.specs.UploadEnds.{taps_told}
+use Rattle.report_texts.specs.declared.upload_end.UploadEnd.{UploadEnd}
 
 -- texts of ends determine the ends
-ends_same : (first : ℕ) (some more : List (List End)) → All IsUploadEnd (all_ends some)
+ends_same : (first : ℕ) (some more : List (List UploadEnd)) → All IsUploadEnd (all_ends some)
     → All IsUploadEnd (all_ends more) → end_texts first some ≡ end_texts first more
     → all_ends some ≡ all_ends more
 ends_same first [] [] may may_too same = refl
@@ -51,7 +54,7 @@ ends_same first (a ∷ some) (b ∷ more) may may_too same =
     let tail : end_texts (first + length a) some ≡ end_texts (first + length b) more = cc in
     let rest = ends_same (first + length a) some more (All-behind IsUploadEnd a (all_ends some) may)
     (All-behind IsUploadEnd b (all_ends more) may_too)
-    (tail ∙ ap (λ (x : List End). end_texts (first + length x) more) (sym is)) in
+    (tail ∙ ap (λ (x : List UploadEnd). end_texts (first + length x) more) (sym is)) in
     ap (λ x. x ++ all_ends some) is ∙ ap (λ rest. b ++ rest) rest
 
 -- what is left of a part's report behind the head of its tokens
@@ -69,7 +72,8 @@ fronts_same (one ∷ begun) (part ∷ parts) may fit same =
     let tail : map begun_text begun ≡ map report_text parts = cc in
     let first = told_unique one.0 (told_of part) one.1 (flat_map token_line part.tokens)
     (All-head (λ (one : BegunReport). MayBePart one.0) one begun may)
-    (told_may part (All-head IsPartReport part parts fit)) head in
+    (told_may part (All-head IsPartReport part parts fit))
+    (head ∙ sym (whole_text part.ends part.totals part.validators part.tokens)) in
     let rest = fronts_same begun parts (All-tail (λ (one : BegunReport). MayBePart one.0) one begun may)
     (All-tail IsPartReport part parts fit) tail in (
       ap (λ told. told ∷ map (λ (one : BegunReport). one.0) begun) first.0
@@ -92,16 +96,16 @@ reports_taps files sums standings parts read fit texts =
     ap (λ (s : Sums). s.taps) totals ∙ parts_taps parts
 
 -- the taps of the ends that were read are those of the ends that the texts are
-pub uploads_taps : (files : List (List ℕ)) (lists others : List (List End)) (ends : UploadEnds)
+pub uploads_taps : (files : List (List ℕ)) (lists others : List (List UploadEnd)) (ends : UploadEnds)
     → files ≡ end_texts 0 lists → HaveReadEnds ends (all_ends lists)
     → All IsUploadEnd (all_ends others) → files ≡ end_texts 0 others
-    → ends.taps ≡ sum_by (λ (end : End). end.taps) (all_ends others)
+    → ends.taps ≡ sum_by taps_told (all_ends others)
 uploads_taps files lists others ends told have fit texts =
     let joined = ends_same 0 others lists fit have.each (sym texts ∙ told) in
-    have.taps ∙ sym (ap (sum_by (λ (end : End). end.taps)) joined)
+    have.taps ∙ sym (ap (sum_by taps_told) joined)
 
 -- texts that have a report of the whole have as many taps
-pub same_taps : (end_files report_files : List (List ℕ)) (text : List ℕ) (lists : List (List End))
+pub same_taps : (end_files report_files : List (List ℕ)) (text : List ℕ) (lists : List (List UploadEnd))
     (ends : UploadEnds) (sums : WholeSums) (standings : List Standing)
     → IsMerged end_files report_files text → end_files ≡ end_texts 0 lists
     → HaveReadEnds ends (all_ends lists) → AreParts report_files sums standings

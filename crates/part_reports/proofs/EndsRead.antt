@@ -7,17 +7,24 @@ use Rattle.std.specs.Prelude.{All, IfSome, IsTrue, ◌↔◌}
 use Rattle.std.specs.Io.BufRead.{take_through, drop_through}
 use Rattle.std.proofs.lemmas.List.Elements.{All-head, All-tail, All-cons, All-nil, All-push}
 use Rattle.std.proofs.lemmas.List.Sums.{sum_by-append}
+use Rattle.std.specs.Prelude.{codes}
+use Rattle.std.specs.Fmt.{decimal}
+use Rattle.report_texts.specs.inside.EndWords.{end_words}
+use Rattle.report_texts.proofs.EndTexts.{line_words}
 use Rattle.part_reports.specs.declared.fault.MergeFault.{MergeFault}
-use Rattle.part_reports.specs.declared.form as form
 use Rattle.part_reports.specs.declared.upload_ends.UploadEnds.{UploadEnds}
-use Rattle.part_reports.specs.Lines.{End, IsUploadEnd, end_line, end_lines}
-use Rattle.part_reports.specs.inside.UploadEnds.{end_of_upload}
+use Rattle.report_texts.specs.Numbers.{IsUploadEnd}
 use Rattle.part_reports.specs.inside.UploadEnds.{AreEndsAdded, IsNextEnd, HaveMoreEnds}
 use Rattle.part_reports.specs.inside.LinesRead.{IsTold}
 use Rattle.part_reports.proofs.LinesRead.{through}
 use Rattle.part_reports.proofs.ListsWritten.{lines_more, end_lines_from}
 use Rattle.part_reports.proofs.OneLine.{end_line_is_one, taken_one}
 use Rattle.part_reports.proofs.Unique.{end_line_unique}
+use Rattle.report_texts.specs.Report.{upload_line}
+use Rattle.report_texts.specs.Report.{upload_lines}
+use Rattle.report_texts.specs.UploadEnds.{is_posted}
+use Rattle.report_texts.specs.UploadEnds.{taps_told}
+use Rattle.report_texts.specs.declared.upload_end.UploadEnd.{UploadEnd}
 
 never_empty : (same : Bool) (x : ℕ) (front : List ℕ) → ¬ ((if same then x ∷ [] else x ∷ front) ≡ [])
 never_empty true x front is = absurd (cc)
@@ -38,13 +45,13 @@ next_over upload None after items line over = tt
 next_over upload (Some text) after items line over = no_line text (sym line.0 ∙ over)
 
 pub next_told : (upload : ℕ) (text after : Option (List ℕ)) (items line : List ℕ)
-    (told : Option form.End.End) (end : form.End.End)
-    → IsLine text after items → line ≡ items → IsTold end_of_upload IsUploadEnd (end_line upload) line told
+    (told : Option UploadEnd) (end : UploadEnd)
+    → IsLine text after items → line ≡ items → IsTold (λ (end : UploadEnd). end) IsUploadEnd (upload_line upload) line told
     → told ≡ Some end
     → IsNextEnd upload text after items (Ok (Some end))
 next_told upload None after items line told end is same form some = tt
 next_told upload (Some text) after items line told end is same form some =
-    let here = subst (λ told. IsTold end_of_upload IsUploadEnd (end_line upload) line told) some form in
+    let here = subst (λ told. IsTold (λ (end : UploadEnd). end) IsUploadEnd (upload_line upload) line told) some form in
     record {
       may = here.0;
       line_is = sym same ∙ here.1;
@@ -55,26 +62,26 @@ next_told upload (Some text) after items line told end is same form some =
     }
 
 pub next_no : (upload : ℕ) (text after : Option (List ℕ)) (items line : List ℕ)
-    (told : Option form.End.End) (fault : MergeFault) → upload < 2 ^ 64
+    (told : Option UploadEnd) (fault : MergeFault) → upload < 2 ^ 64
     → IsLine text after items → line ≡ items → ¬ (items ≡ [])
-    → IsTold end_of_upload IsUploadEnd (end_line upload) line told → told ≡ None
+    → IsTold (λ (end : UploadEnd). end) IsUploadEnd (upload_line upload) line told → told ≡ None
     → IsNextEnd upload text after items (Err fault)
 next_no upload None after items line told fault small is same some form none = tt
 next_no upload (Some text) after items line told fault small is same some form none =
-    let here = subst (λ told. IsTold end_of_upload IsUploadEnd (end_line upload) line told) none form in
+    let here = subst (λ told. IsTold (λ (end : UploadEnd). end) IsUploadEnd (upload_line upload) line told) none form in
     λ _. (
       λ over. some (is.0 ∙ ap (take_through 10) over),
       λ end rest may shown. here end may (same ∙ is.0 ∙ ap (take_through 10) shown
-          ∙ taken_one (end_line upload end) rest (end_line_is_one upload end small may)),
+          ∙ taken_one (upload_line upload end) rest (end_line_is_one upload end small may)),
     )
 
 -- ---- the lines of one text
 -- these lines were read of the text, and this is left
 pub record Adding (before now : UploadEnds) (text : List ℕ) (left : Option (List ℕ)) : Type 0 where
-  pub more : List End
+  pub more : List UploadEnd
   pub is : HaveMoreEnds before now more
   pub rest : List ℕ
-  pub shown : text ≡ end_lines before.uploads more ++ rest
+  pub shown : text ≡ upload_lines before.uploads more ++ rest
   pub left_is : left ≡ Some rest
 
 abbrev pub AddingSome : UploadEnds → UploadEnds → Option (List ℕ) → Option (List ℕ) → Type 0
@@ -88,7 +95,7 @@ adding_first ends (Some text) = record {
     text = sym (append-nil ends.text.items);
     uploads = omega arith;
     taps = omega arith;
-    posted = (λ yes. (yes, All-nil (λ (end : End). end.fault ≡ None)), λ both. both.0);
+    posted = (λ yes. (yes, All-nil (λ (end : UploadEnd). IsTrue (is_posted end))), λ both. both.0);
     each = All-nil IsUploadEnd;
   };
   rest = text;
@@ -109,22 +116,22 @@ All-last : {X : Type 0} (P : X → Type 0) (xs : List X) (y : X) → All P (xs +
 All-last P [] y all = All-head P y [] all
 All-last P (x ∷ xs) y all = All-last P xs y (All-tail P x (xs ++ y ∷ []) all)
 
-end_lines_more : (first : ℕ) (ends : List End) (end : End)
-    → end_lines first (ends ++ end ∷ []) ≡ end_lines first ends ++ end_line (first + length ends)
+end_lines_more : (first : ℕ) (ends : List UploadEnd) (end : UploadEnd)
+    → upload_lines first (ends ++ end ∷ []) ≡ upload_lines first ends ++ upload_line (first + length ends)
     end
 end_lines_more first ends end = end_lines_from first (ends ++ end ∷ [])
-    ∙ lines_more end_line first ends end ∙ ap (λ text. text ++ end_line (first + length ends) end)
+    ∙ lines_more upload_line first ends end ∙ ap (λ text. text ++ upload_line (first + length ends) end)
     (sym (end_lines_from first ends))
 
 -- what adding a line did
-pub record OneAdded (now after : UploadEnds) (line : List ℕ) (end : form.End.End) : Type 0 where
+pub record OneAdded (now after : UploadEnds) (line : List ℕ) (end : UploadEnd) : Type 0 where
   pub text : after.text.items ≡ now.text.items ++ line
   pub uploads : after.uploads ≡ now.uploads + 1
-  pub taps : after.taps ≡ now.taps + end.taps
-  pub posted : IsTrue after.are_posted ↔ (IsTrue now.are_posted × (end.fault ≡ None))
+  pub taps : after.taps ≡ now.taps + taps_told end
+  pub posted : IsTrue after.are_posted ↔ (IsTrue now.are_posted × (IsTrue (is_posted end)))
 
 pub adding_more : (before now after : UploadEnds) (text left then_left : Option (List ℕ))
-    (line items : List ℕ) (end : form.End.End) → line ≡ items
+    (line items : List ℕ) (end : UploadEnd) → line ≡ items
     → AddingSome before now text left → IsNextEnd now.uploads left then_left items (Ok (Some end))
     → OneAdded now after line end
     → AddingSome before after text then_left
@@ -132,21 +139,21 @@ adding_more before now after None left then_left line items end same adding next
 adding_more before now after (Some text) left then_left line items end same adding next one =
     let here = subst (λ left. IsNextEnd now.uploads left then_left items (Ok (Some end)))
     adding.left_is next in
-    let told = end_of_upload end in
+    let told = end in
     let number : now.uploads ≡ before.uploads + length adding.more = adding.is.uploads in
-    let line_is : line ≡ end_line (before.uploads + length adding.more) told =
-    same ∙ here.line_is ∙ ap (λ k. end_line k told) number in
-    let sums = sum_by-append (λ (end : End). end.taps) adding.more (told ∷ []) in
+    let line_is : line ≡ upload_line (before.uploads + length adding.more) told =
+    same ∙ here.line_is ∙ ap (λ k. upload_line k told) number in
+    let sums = sum_by-append taps_told adding.more (told ∷ []) in
     let taps = adding.is.taps in
     let one_taps = one.taps in
     record {
       more = adding.more ++ told ∷ [];
       is = record {
         text = one.text ∙ ap (λ text. text ++ line) adding.is.text
-            ∙ ap (λ line. (before.text.items ++ end_lines before.uploads adding.more) ++ line)
+            ∙ ap (λ line. (before.text.items ++ upload_lines before.uploads adding.more) ++ line)
             line_is
-            ∙ append_assoc before.text.items (end_lines before.uploads adding.more)
-            (end_line (before.uploads + length adding.more) told)
+            ∙ append_assoc before.text.items (upload_lines before.uploads adding.more)
+            (upload_line (before.uploads + length adding.more) told)
             ∙ ap (λ text. before.text.items ++ text)
             (sym (end_lines_more before.uploads adding.more told));
         uploads = simp length-append (omega (arith, one.uploads, number));
@@ -154,25 +161,25 @@ adding_more before now after (Some text) left then_left line items end same addi
         posted = (
           λ yes. let both = one.posted.0 yes in let so_far = adding.is.posted.0 both.0 in (
             so_far.0,
-            All-push (λ (end : End). end.fault ≡ None) adding.more told so_far.1
+            All-push (λ (end : UploadEnd). IsTrue (is_posted end)) adding.more told so_far.1
                 both.1,
           ),
           λ both. one.posted.1 (
             adding.is.posted.1 (
               both.0,
-              All-front (λ (end : End). end.fault ≡ None) adding.more
+              All-front (λ (end : UploadEnd). IsTrue (is_posted end)) adding.more
                   (told ∷ []) both.1,
             ),
-            All-last (λ (end : End). end.fault ≡ None) adding.more told both.1,
+            All-last (λ (end : UploadEnd). IsTrue (is_posted end)) adding.more told both.1,
           ),
         );
         each = All-push IsUploadEnd adding.more told adding.is.each here.may;
       };
       rest = here.rest;
-      shown = adding.shown ∙ ap (λ text. end_lines before.uploads adding.more ++ text) (here.shown
-          ∙ ap (λ k. end_line k told ++ here.rest) number)
-          ∙ sym (append_assoc (end_lines before.uploads adding.more)
-          (end_line (before.uploads + length adding.more) told) here.rest)
+      shown = adding.shown ∙ ap (λ text. upload_lines before.uploads adding.more ++ text) (here.shown
+          ∙ ap (λ k. upload_line k told ++ here.rest) number)
+          ∙ sym (append_assoc (upload_lines before.uploads adding.more)
+          (upload_line (before.uploads + length adding.more) told) here.rest)
           ∙ ap (λ text. text ++ here.rest) (sym (end_lines_more before.uploads adding.more told));
       left_is = here.left;
     }
@@ -187,35 +194,37 @@ adding_done before now (Some text) left then_left items adding next =
       adding.more,
       adding.is,
       adding.shown ∙ ap
-          (λ rest. end_lines before.uploads adding.more ++ rest) over
-          ∙ append-nil (end_lines before.uploads adding.more),
+          (λ rest. upload_lines before.uploads adding.more ++ rest) over
+          ∙ append-nil (upload_lines before.uploads adding.more),
     )
 
-pub some_line : (number : ℕ) (end : End) (rest : List ℕ) → ¬ ([] ≡ end_line number end ++ rest)
-some_line number end rest is = absurd (cc)
+pub some_line : (number : ℕ) (end : UploadEnd) (rest : List ℕ) → ¬ ([] ≡ upload_line number end ++ rest)
+some_line number end rest is =
+    let words : [] ≡ (codes "upload " ++ (decimal number ++ end_words end)) ++ rest =
+    is ∙ ap (λ (t : List ℕ). t ++ rest) (line_words number end) in absurd (cc)
 
 -- two lists of lines, the first of which has a rest with which it may be the second
-pub lines_rest : (number : ℕ) (done ends : List End) (rest : List ℕ) → All IsUploadEnd done
+pub lines_rest : (number : ℕ) (done ends : List UploadEnd) (rest : List ℕ) → All IsUploadEnd done
     → All IsUploadEnd ends
-    → end_lines number done ++ rest ≡ end_lines number ends
-    → ¬ (rest ≡ []) → ((end : End) (more : List ℕ) → IsUploadEnd end
-    → ¬ (rest ≡ end_line (number + length done) end ++ more)) → ⊥
+    → upload_lines number done ++ rest ≡ upload_lines number ends
+    → ¬ (rest ≡ []) → ((end : UploadEnd) (more : List ℕ) → IsUploadEnd end
+    → ¬ (rest ≡ upload_line (number + length done) end ++ more)) → ⊥
 lines_rest number [] [] rest may may_too same some absent_end = some same
 lines_rest number [] (end ∷ ends) rest may may_too same some absent_end =
     let at : number ≡ number + 0 = omega arith in
-    absent_end end (end_lines (number + 1) ends) (All-head IsUploadEnd end ends may_too) (same
-    ∙ ap (λ k. end_line k end ++ end_lines (number + 1) ends) at)
+    absent_end end (upload_lines (number + 1) ends) (All-head IsUploadEnd end ends may_too) (same
+    ∙ ap (λ k. upload_line k end ++ upload_lines (number + 1) ends) at)
 lines_rest number (a ∷ done) [] rest may may_too same some absent_end =
-    some_line number a (end_lines (number + 1) done ++ rest) (sym same
-    ∙ append_assoc (end_line number a) (end_lines (number + 1) done) rest)
+    some_line number a (upload_lines (number + 1) done ++ rest) (sym same
+    ∙ append_assoc (upload_line number a) (upload_lines (number + 1) done) rest)
 lines_rest number (a ∷ done) (end ∷ ends) rest may may_too same some absent_end =
-    let first = end_line_unique number a end (end_lines (number + 1) done ++ rest)
-    (end_lines (number + 1) ends) (All-head IsUploadEnd a done may) (All-head IsUploadEnd end ends may_too)
-    (sym (append_assoc (end_line number a) (end_lines (number + 1) done) rest) ∙ same) in
+    let first = end_line_unique number a end (upload_lines (number + 1) done ++ rest)
+    (upload_lines (number + 1) ends) (All-head IsUploadEnd a done may) (All-head IsUploadEnd end ends may_too)
+    (sym (append_assoc (upload_line number a) (upload_lines (number + 1) done) rest) ∙ same) in
     let at : number + 1 + length done ≡ number + suc (length done) = omega arith in
     lines_rest (number + 1) done ends rest (All-tail IsUploadEnd a done may)
     (All-tail IsUploadEnd end ends may_too) first.1 some
-    (λ end more may is. absent_end end more may (is ∙ ap (λ k. end_line k end ++ more) at))
+    (λ end more may is. absent_end end more may (is ∙ ap (λ k. upload_line k end ++ more) at))
 
 pub adding_refused : (before now after : UploadEnds) (text left then_left : Option (List ℕ))
     (items : List ℕ) (fault : MergeFault)
@@ -229,4 +238,4 @@ adding_refused before now after (Some text) left then_left items fault adding ne
     lines_rest before.uploads adding.more ends adding.rest adding.is.each may (sym adding.shown
     ∙ shown) here.0
     (λ end more may is. here.1 end more may (is
-    ∙ ap (λ k. end_line k end ++ more) (sym adding.is.uploads)))
+    ∙ ap (λ k. upload_line k end ++ more) (sym adding.is.uploads)))

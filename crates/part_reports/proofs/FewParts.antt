@@ -14,7 +14,7 @@ use Rattle.std.proofs.lemmas.List.Elements.{All-head, All-map, All-push, All-tai
 use Rattle.std.proofs.lemmas.List.Sums.{sum_by-append}
 use Rattle.shard_book.specs.Sums.{Sums, add_all, sums}
 use Rattle.fare_texts.specs.ReportLines.{token_line}
-use Rattle.part_reports.specs.Lines.{IsValidatorSum}
+use Rattle.report_texts.specs.Numbers.{IsValidatorSum}
 use Rattle.part_reports.specs.Reports.{IsPartReport, Report, report_text, sums_of_validator}
 use Rattle.part_reports.specs.declared.sums.WholeSums.{WholeSums}
 use Rattle.part_reports.specs.Texts.{AreLeft}
@@ -22,6 +22,7 @@ use Rattle.part_reports.specs.inside.Fronts.{MayBePart, ToldFront}
 use Rattle.part_reports.specs.inside.Parts.{BegunReport, IsNoPart, begun_text}
 use Rattle.part_reports.specs.inside.Standings.{Standing}
 use Rattle.part_reports.specs.inside.Sums.{AreFew}
+use Rattle.part_reports.proofs.WholeFronts.{whole_text}
 use Rattle.part_reports.proofs.PartsBegun.{BegunSo}
 use Rattle.part_reports.proofs.Rising.{is_less}
 use Rattle.part_reports.proofs.SumsAdded.{taps_joined, taps_nothing}
@@ -182,6 +183,7 @@ parts_refused remaining items readers x before sources front within here so_far 
     All-push MayBePart fronts (told_of part) (All-map MayBePart (λ (one : BegunReport). one.0) done.begun
     done.may) (told_may part is) in
     no_part fronts done.counted (told_of part, flat_map token_line part.tokens)
-    (map line_of part.tokens) (told_may part is) shown
+    (map line_of part.tokens) (told_may part is)
+    (shown ∙ sym (whole_text part.ends part.totals part.validators part.tokens))
     (lines_stand part.tokens is.tokens is.tokens_rise)
     (few (fronts ++ told_of part ∷ []) all_may (omega (arith, count, total, size, short)))

@@ -10,12 +10,13 @@ use Rattle.fare_texts.specs.Counts.{counts_text, totals_line}
 use Rattle.shard_book.specs.Sums.{Sums, sums_of}
 use Rattle.shard_book.specs.declared.sums.totals.Totals.{Totals}
 use Rattle.fare_texts.specs.ReportLines.{number_line, validator_line}
-use Rattle.part_reports.specs.Lines.{End, end_lines}
-use Rattle.part_reports.specs.Reports.{front_text}
+use Rattle.part_reports.specs.inside.Fronts.{front_text}
 use Rattle.part_reports.specs.declared.sums.WholeSums.{WholeSums}
 use Rattle.part_reports.specs.declared.upload_ends.UploadEnds.{UploadEnds}
 use Rattle.part_reports.specs.inside.UploadEnds.{HaveReadEnds}
 use denote.Ref.{Bor}
+use Rattle.report_texts.specs.Report.{upload_lines}
+use Rattle.report_texts.specs.declared.upload_end.UploadEnd.{UploadEnd}
 
 -- entries of the map, as validators with their sums
 abbrev pub shown : List (ℕ × Totals) → List (ℕ × Sums)
@@ -36,31 +37,25 @@ shown_more items validator totals =
     ∙ ap (λ line. flat_map validator_line (shown (map deref_pair items)) ++ line)
     (append-nil (validator_line (validator.now, sums_of totals.now)))
 
--- a validator's line, written in two pieces
-pub line_written : (old now mid new : List ℕ) (items : List (Bor ℕ × Bor Totals))
+-- a validator's line more
+pub line_written : (old now new : List ℕ) (items : List (Bor ℕ × Bor Totals))
     (validator : Bor ℕ) (totals : Bor Totals)
     → now ≡ old ++ flat_map validator_line (shown (map deref_pair items))
-    → mid ≡ now ++ (codes "validator " ++ (decimal validator.now ++ codes " "))
-    → new ≡ mid ++ counts_text (sums_of totals.now)
+    → new ≡ now ++ validator_line (validator.now, sums_of totals.now)
     → new ≡ old ++ flat_map validator_line (shown
     (map deref_pair (items ++ (validator, totals) ∷ [])))
-line_written old now mid new items validator totals first second third =
-    third ∙ ap (λ text. text ++ counts_text (sums_of totals.now)) (second
-    ∙ ap (λ text. text ++ (codes "validator " ++ (decimal validator.now ++ codes " "))) first)
-    ∙ reassoc old (flat_map validator_line (shown (map deref_pair items))) (codes "validator ")
-    (decimal validator.now) (codes " ") (counts_text (sums_of totals.now))
+line_written old now new items validator totals first second =
+    let line = validator_line (validator.now, sums_of totals.now) in
+    second ∙ ap (λ text. text ++ line) first
+    ∙ append_assoc old (flat_map validator_line (shown (map deref_pair items))) line
     ∙ ap (λ text. old ++ text) (sym (shown_more items validator totals))
-  where
-    reassoc : (a b c d e f : List ℕ) → ((a ++ b) ++ (c ++ (d ++ e))) ++ f ≡ a
-        ++ (b ++ (c ++ (d ++ (e ++ f))))
-    reassoc a b c d e f = simp append_assoc
 
 shown_length : (entries : List (ℕ × Totals)) → length (shown entries) ≡ length entries
 shown_length [] = refl
 shown_length (entry ∷ entries) = let rest = shown_length entries in omega (arith, rest)
 
 -- the pieces of the text before the tokens
-pub front_joined : (ends : UploadEnds) (list : List End) (sums : WholeSums) (count : ℕ)
+pub front_joined : (ends : UploadEnds) (list : List UploadEnd) (sums : WholeSums) (count : ℕ)
     (first with_ends whole none totals heads lines all : List ℕ)
     → HaveReadEnds ends list → count ≡ length sums.validators.entries
     → first ≡ codes "uploads " ++ (decimal ends.uploads ++ codes "\n")
@@ -75,7 +70,7 @@ pub front_joined : (ends : UploadEnds) (list : List End) (sums : WholeSums) (cou
 front_joined ends list sums count first with_ends whole none totals heads lines all have number p1
     p2 p3 p4 p5 p6 p7 p8 =
     let h = number_line (codes "uploads ") (length list) in
-    let e = end_lines 0 list in
+    let e = upload_lines 0 list in
     let t = totals_line (sums_of sums.totals) in
     let v = number_line (codes "validators ") (length (shown sums.validators.entries)) in
     let f = flat_map validator_line (shown sums.validators.entries) in
@@ -92,6 +87,6 @@ front_joined ends list sums count first with_ends whole none totals heads lines 
     p8 ∙ ap (λ text. text ++ all) ends_is ∙ ap (λ text. (h ++ e) ++ text) all_is
     ∙ reassoc h e t v f k
   where
-    reassoc : (h e t v f k : List ℕ) → (h ++ e) ++ (((t ++ v) ++ f) ++ k) ≡ h
-        ++ (e ++ (t ++ (v ++ (f ++ k))))
+    reassoc : (h e t v f k : List ℕ) → (h ++ e) ++ (((t ++ v) ++ f) ++ k)
+        ≡ (h ++ e) ++ (t ++ ((v ++ f) ++ k))
     reassoc h e t v f k = simp append_assoc

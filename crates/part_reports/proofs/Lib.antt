@@ -1,8 +1,5 @@
 pub mod CannotMerge
 pub mod Counted
-pub mod Counts
-pub mod Digits
-pub mod EndTexts
 pub mod EndsRead
 pub mod FewParts
 pub mod Firsts
@@ -14,7 +11,6 @@ pub mod LedgerTexts
 pub mod LinesRead
 pub mod ListsWritten
 pub mod Merges
-pub mod Nones
 pub mod OneLine
 pub mod Orders
 pub mod Parts
@@ -27,7 +23,6 @@ pub mod Risings
 pub mod SumsAdded
 pub mod TextsRead
 pub mod TokenSums
-pub mod Tokens
 pub mod Unique
 pub mod UniqueTexts
 pub mod WholeFronts

@@ -3,17 +3,19 @@ use Rattle.std.proofs.Common.{◌≡◌, ℕ, suc, ◌+◌, ◌<◌, List, [], �
 use Rattle.std.proofs.Common.{◌∙◌, arith, append_assoc, append-nil}
 use Rattle.std.specs.Prelude.{All, flat_map}
 use Rattle.std.proofs.lemmas.List.Elements.{All-head, All-tail}
-use Rattle.part_reports.specs.Lines.{End, end_line, end_lines}
+use Rattle.report_texts.specs.Report.{upload_line}
+use Rattle.report_texts.specs.Report.{upload_lines}
+use Rattle.report_texts.specs.declared.upload_end.UploadEnd.{UploadEnd}
 
 -- the items' lines, the first of which has this number
 abbrev pub lines_from : {V : Type 0} → (ℕ → V → List ℕ) → ℕ → List V → List ℕ
 lines_from show number [] = []
 lines_from show number (value ∷ more) = show number value ++ lines_from show (number + 1) more
 
-pub end_lines_from : (number : ℕ) (ends : List End)
-    → end_lines number ends ≡ lines_from end_line number ends
+pub end_lines_from : (number : ℕ) (ends : List UploadEnd)
+    → upload_lines number ends ≡ lines_from upload_line number ends
 end_lines_from number [] = refl
-end_lines_from number (end ∷ ends) = ap (λ text. end_line number end ++ text)
+end_lines_from number (end ∷ ends) = ap (λ text. upload_line number end ++ text)
     (end_lines_from (number + 1) ends)
 
 pub flat_map_from : {V : Type 0} (show : V → List ℕ) (number : ℕ) (values : List V)

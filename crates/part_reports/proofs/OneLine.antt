@@ -1,7 +1,7 @@
 -- Each line that is written is one line: its line feed stands last, and no other is in it.
 use Rattle.std.proofs.Common.{◌≡◌, ℕ, suc, ◌/◌, ◌%◌, ◌<◌, ◌^◌, Bool, true, false, not, List, []}
 use Rattle.std.proofs.Common.{◌∷◌, ◌++◌, length, length-append, append_assoc, refl, sym, ap, subst}
-use Rattle.std.proofs.Common.{◌∙◌, arith, Some, None, Option, zero, ◌&&◌, get_or}
+use Rattle.std.proofs.Common.{◌∙◌, arith, zero, ◌&&◌, get_or}
 use Rattle.std.specs.Prelude.{All, codes, ◌==◌}
 use Rattle.std.specs.Char.{is_ascii_digit}
 use Rattle.std.specs.Fmt.{decimal}
@@ -17,16 +17,20 @@ use Rattle.fare_table.specs.Token.{bytes_of}
 use Rattle.fare_texts.specs.Counts.{counts_text, totals_line}
 use Rattle.shard_book.specs.Sums.{Sums}
 use Rattle.fare_table.specs.declared.token.Token.{Token}
-use Rattle.part_reports.specs.Lines.{AreCounts, End, IsUploadEnd, IsNoneOrFault, IsTokenSum}
-use Rattle.part_reports.specs.Lines.{IsValidatorSum}
+use Rattle.report_texts.specs.Numbers.{AreCounts, IsUploadEnd, IsTokenSum}
+use Rattle.report_texts.specs.Numbers.{IsValidatorSum}
 use Rattle.fare_texts.specs.ReportLines.{number_line, token_line, validator_line}
-use Rattle.part_reports.specs.Lines.{end_line, end_words}
+use Rattle.report_texts.specs.inside.EndWords.{end_words, fault_number}
+use Rattle.report_texts.specs.declared.upload_end.UploadEnd.TheVariants.{Posted, Refused, Cut, Undrawn}
+use Rattle.report_texts.proofs.EndTexts.{line_words, refused_spelt, small_number}
 use Rattle.part_reports.specs.Ledgers.{IsLedgerEntryLine}
 use Rattle.part_reports.specs.TokenLines.{TokenLine}
-use Rattle.part_reports.proofs.Counts.{counts_read, taps_counted, paid_counted, transfers_counted}
-use Rattle.part_reports.proofs.Counts.{capped_counted, stale_counted, unknown_counted}
-use Rattle.part_reports.proofs.Counts.{cents_counted}
-use Rattle.part_reports.proofs.Digits.{and_left, and_right, decimal_digits}
+use Rattle.report_texts.proofs.Counts.{counts_read, taps_counted, paid_counted, transfers_counted}
+use Rattle.report_texts.proofs.Counts.{capped_counted, stale_counted, unknown_counted}
+use Rattle.report_texts.proofs.Counts.{cents_counted}
+use Rattle.report_texts.proofs.Digits.{and_left, and_right, decimal_digits}
+use Rattle.report_texts.specs.Report.{upload_line}
+use Rattle.report_texts.specs.declared.upload_end.UploadEnd.{UploadEnd}
 
 -- bytes with no line feed, and a line feed behind them
 pub record IsOneLine (line : List ℕ) : Type 0 where
@@ -181,21 +185,24 @@ head_is_one word number none small =
     longer word _ (recursion_from_All (λ byte. ¬ (byte ≡ 10)) word none)
     (counted number _ small over)
 
-end_text_is_one : (taps : ℕ) (fault : Option (ℕ × ℕ)) → taps < 2 ^ 64 → IsNoneOrFault fault
-    → IsOneLine (end_words taps fault)
-end_text_is_one taps None small fits =
-    longer (codes " posted ") _ (tested (codes " posted ") refl) (counted taps _ small over)
-end_text_is_one taps (Some fault) small fits =
-    longer (codes " refused ") _ (tested (codes " refused ") refl) (counted taps _ small
-    (longer (codes " at ") _ (tested (codes " at ") refl) (counted fault.0 _ fits.offset
+end_text_is_one : (end : UploadEnd) → IsUploadEnd end → IsOneLine (end_words end)
+end_text_is_one (Posted taps) fits =
+    longer (codes " posted ") _ (tested (codes " posted ") refl) (counted taps _ fits over)
+end_text_is_one (Refused taps offset fault) fits =
+    subst IsOneLine (sym (refused_spelt taps offset fault))
+    (longer (codes " refused ") _ (tested (codes " refused ") refl) (counted taps _ fits.0
+    (longer (codes " at ") _ (tested (codes " at ") refl) (counted offset _ fits.1
     (longer (codes " L") _ (tested (codes " L") refl)
-    (counted fault.1 _ (omega (arith, fits.most)) over)))))
+    (counted (fault_number fault) _ (small_number fault) over))))))
+end_text_is_one (Cut taps) fits = absurd fits
+end_text_is_one Undrawn fits = absurd fits
 
-pub end_line_is_one : (number : ℕ) (end : End) → number < 2 ^ 64 → IsUploadEnd end
-    → IsOneLine (end_line number end)
+pub end_line_is_one : (number : ℕ) (end : UploadEnd) → number < 2 ^ 64 → IsUploadEnd end
+    → IsOneLine (upload_line number end)
 end_line_is_one number end small fits =
-    longer (codes "upload ") _ (tested (codes "upload ") refl) (counted number _ small
-    (end_text_is_one end.taps end.fault fits.taps fits.fault))
+    subst IsOneLine (sym (line_words number end))
+    (longer (codes "upload ") _ (tested (codes "upload ") refl) (counted number _ small
+    (end_text_is_one end fits)))
 
 counts_are_one : (t : Sums) → AreCounts t → IsOneLine (counts_text t)
 counts_are_one t fits =

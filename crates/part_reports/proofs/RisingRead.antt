@@ -14,7 +14,7 @@ use Rattle.shard_book.specs.declared.sums.ValidatorSum.{ValidatorSum}
 use Rattle.part_reports.specs.declared.fault.MergeFault.{MergeFault}
 use Rattle.part_reports.specs.Faults.{IsOfTexts}
 use Rattle.fare_texts.specs.ReportLines.{validator_line}
-use Rattle.part_reports.specs.Lines.{IsValidatorSum}
+use Rattle.report_texts.specs.Numbers.{IsValidatorSum}
 use Rattle.part_reports.specs.inside.Fronts.{AreRising, MayFollowValidators}
 use Rattle.part_reports.specs.inside.LinesRead.{IsRead}
 use Rattle.part_reports.proofs.ListsWritten.{Next, lines_from, lines_begin, flat_map_from}

@@ -1,5 +1,5 @@
 -- Reading text after text.
-use Rattle.std.proofs.Common.{◌≡◌, ℕ, suc, ◌+◌, ◌<◌, List, [], ◌∷◌, ◌++◌, Option, Some, None}
+use Rattle.std.proofs.Common.{◌≡◌, ℕ, suc, ◌+◌, ◌<◌, List, [], ◌∷◌, ◌++◌, Option, Some}
 use Rattle.std.proofs.Common.{length, get_or, take, drop, Ok, Err, refl, sym, ap, subst, ◌∙◌, arith}
 use Rattle.std.proofs.Common.{append_assoc, length-append}
 use Rattle.std.proofs.lemmas.List.{append-nil, take-append-drop}
@@ -11,12 +11,17 @@ use Rattle.std.proofs.lemmas.List.Sums.{sum_by-append}
 use Rattle.part_reports.specs.declared.fault.MergeFault.{MergeFault}
 use Rattle.part_reports.specs.declared.upload_ends.UploadEnds.{UploadEnds}
 use Rattle.part_reports.specs.Faults.{IsOfTexts}
-use Rattle.part_reports.specs.Lines.{End, IsUploadEnd, end_line, end_lines}
+use Rattle.report_texts.specs.Numbers.{IsUploadEnd}
 use Rattle.part_reports.specs.Reports.{end_texts, all_ends}
 use Rattle.part_reports.specs.Texts.{AreLeft}
 use Rattle.part_reports.specs.inside.UploadEnds.{HaveReadEnds, AreEndsAdded, HaveMoreEnds}
 use Rattle.part_reports.proofs.EndsRead.{All-behind, All-front, some_line}
 use Rattle.part_reports.proofs.Unique.{end_line_unique}
+use Rattle.report_texts.specs.Report.{upload_line}
+use Rattle.report_texts.specs.Report.{upload_lines}
+use Rattle.report_texts.specs.UploadEnds.{is_posted}
+use Rattle.report_texts.specs.UploadEnds.{taps_told}
+use Rattle.report_texts.specs.declared.upload_end.UploadEnd.{UploadEnd}
 
 pub record Split {R : Type 0} (remaining : R → Option (List ℕ)) (front : List R) (x : R)
     (back : List R) (files : List (List ℕ)) : Type 0 where
@@ -78,34 +83,34 @@ front_more items front x is within here =
     ∙ sym (take-suc items (length front) x within) ∙ ap (λ k. take k items) (sym size)
 
 -- ---- ends
-pub lines_whole : (number : ℕ) (a b : List End) → All IsUploadEnd a → All IsUploadEnd b
-    → end_lines number a ≡ end_lines number b → a ≡ b
+pub lines_whole : (number : ℕ) (a b : List UploadEnd) → All IsUploadEnd a → All IsUploadEnd b
+    → upload_lines number a ≡ upload_lines number b → a ≡ b
 lines_whole number [] [] may may_too same = refl
 lines_whole number [] (b ∷ bs) may may_too same =
-    absurd (some_line number b (end_lines (number + 1) bs) same)
+    absurd (some_line number b (upload_lines (number + 1) bs) same)
 lines_whole number (a ∷ more) [] may may_too same =
-    absurd (some_line number a (end_lines (number + 1) more) (sym same))
+    absurd (some_line number a (upload_lines (number + 1) more) (sym same))
 lines_whole number (a ∷ more) (b ∷ bs) may may_too same =
-    let first = end_line_unique number a b (end_lines (number + 1) more) (end_lines (number + 1) bs)
+    let first = end_line_unique number a b (upload_lines (number + 1) more) (upload_lines (number + 1) bs)
     (All-head IsUploadEnd a more may) (All-head IsUploadEnd b bs may_too) same in
     let rest = lines_whole (number + 1) more bs (All-tail IsUploadEnd a more may)
     (All-tail IsUploadEnd b bs may_too) first.1 in
     ap (λ x. x ∷ more) first.0 ∙ ap (λ xs. b ∷ xs) rest
 
 -- the text behind some texts of ends is one of ends
-texts_at : (first : ℕ) (before lists : List (List End)) (file : List ℕ) (after : List (List ℕ))
+texts_at : (first : ℕ) (before lists : List (List UploadEnd)) (file : List ℕ) (after : List (List ℕ))
     → All IsUploadEnd (all_ends before) → All IsUploadEnd (all_ends lists)
     → end_texts first before ++ file ∷ after ≡ end_texts first lists
-    → (ends : List End) × All IsUploadEnd ends × (file ≡ end_lines (first + length (all_ends before))
+    → (ends : List UploadEnd) × All IsUploadEnd ends × (file ≡ upload_lines (first + length (all_ends before))
     ends)
 texts_at first [] [] file after may may_too same = absurd (cc)
 texts_at first [] (ends ∷ lists) file after may may_too same =
     let at : first ≡ first + 0 = omega arith in
-    let is : file ≡ end_lines first ends = cc in
-    (ends, All-front IsUploadEnd ends (all_ends lists) may_too, is ∙ ap (λ k. end_lines k ends) at)
+    let is : file ≡ upload_lines first ends = cc in
+    (ends, All-front IsUploadEnd ends (all_ends lists) may_too, is ∙ ap (λ k. upload_lines k ends) at)
 texts_at first (some ∷ before) [] file after may may_too same = absurd (cc)
 texts_at first (some ∷ before) (ends ∷ lists) file after may may_too same =
-    let head : end_lines first some ≡ end_lines first ends = cc in
+    let head : upload_lines first some ≡ upload_lines first ends = cc in
     let is : some ≡ ends = lines_whole first some ends
     (All-front IsUploadEnd some (all_ends before) may)
     (All-front IsUploadEnd ends (all_ends lists) may_too) head in
@@ -114,37 +119,37 @@ texts_at first (some ∷ before) (ends ∷ lists) file after may may_too same =
     let next = texts_at (first + length some) before lists file after
     (All-behind IsUploadEnd some (all_ends before) may)
     (All-behind IsUploadEnd ends (all_ends lists) may_too)
-    (tail ∙ ap (λ (x : List End). end_texts (first + length x) lists) (sym is)) in
+    (tail ∙ ap (λ (x : List UploadEnd). end_texts (first + length x) lists) (sym is)) in
     let at : first + length some + length (all_ends before) ≡ first + length
     (some ++ all_ends before) = simp length-append (omega arith) in
-    (next.0, next.1, next.2 ∙ ap (λ k. end_lines k next.0) at)
+    (next.0, next.1, next.2 ∙ ap (λ k. upload_lines k next.0) at)
 
-texts_more : (first : ℕ) (lists : List (List End)) (ends : List End)
-    → end_texts first (lists ++ ends ∷ []) ≡ end_texts first lists ++ end_lines
+texts_more : (first : ℕ) (lists : List (List UploadEnd)) (ends : List UploadEnd)
+    → end_texts first (lists ++ ends ∷ []) ≡ end_texts first lists ++ upload_lines
     (first + length (all_ends lists)) ends ∷ []
 texts_more first [] ends = let at : first ≡ first + 0 = omega arith in
-    ap (λ k. end_lines k ends ∷ []) at
+    ap (λ k. upload_lines k ends ∷ []) at
 texts_more first (some ∷ lists) ends =
     let at : first + length some + length (all_ends lists) ≡ first + length
     (some ++ all_ends lists) = simp length-append (omega arith) in
-    ap (λ more. end_lines first some ∷ more) (texts_more (first + length some) lists ends
-    ∙ ap (λ k. end_texts (first + length some) lists ++ end_lines k ends ∷ []) at)
+    ap (λ more. upload_lines first some ∷ more) (texts_more (first + length some) lists ends
+    ∙ ap (λ k. end_texts (first + length some) lists ++ upload_lines k ends ∷ []) at)
 
-joined_more : (lists : List (List End)) (ends : List End)
+joined_more : (lists : List (List UploadEnd)) (ends : List UploadEnd)
     → all_ends (lists ++ ends ∷ []) ≡ all_ends lists ++ ends
-joined_more lists ends = flat_map-append (λ (some : List End). some) lists (ends ∷ [])
+joined_more lists ends = flat_map-append (λ (some : List UploadEnd). some) lists (ends ∷ [])
     ∙ ap (λ more. all_ends lists ++ more) (append-nil ends)
 
-end_lines_joined : (first : ℕ) (some more : List End)
-    → end_lines first (some ++ more) ≡ end_lines first some ++ end_lines (first + length some) more
+pub end_lines_joined : (first : ℕ) (some more : List UploadEnd)
+    → upload_lines first (some ++ more) ≡ upload_lines first some ++ upload_lines (first + length some) more
 end_lines_joined first [] more = let at : first ≡ first + 0 = omega arith in
-    ap (λ k. end_lines k more) at
+    ap (λ k. upload_lines k more) at
 end_lines_joined first (end ∷ some) more =
     let at : first + 1 + length some ≡ first + suc (length some) = omega arith in
-    ap (λ text. end_line first end ++ text) (end_lines_joined (first + 1) some more
-    ∙ ap (λ k. end_lines (first + 1) some ++ end_lines k more) at)
-    ∙ sym (append_assoc (end_line first end) (end_lines (first + 1) some)
-    (end_lines (first + suc (length some)) more))
+    ap (λ text. upload_line first end ++ text) (end_lines_joined (first + 1) some more
+    ∙ ap (λ k. upload_lines (first + 1) some ++ upload_lines k more) at)
+    ∙ sym (append_assoc (upload_line first end) (upload_lines (first + 1) some)
+    (upload_lines (first + suc (length some)) more))
 
 pub have_none : (ends : UploadEnds) → ends.text.items ≡ [] → ends.uploads ≡ 0 → ends.taps ≡ 0
     → IsTrue ends.are_posted → HaveReadEnds ends []
@@ -152,29 +157,29 @@ have_none ends text uploads taps posted = record {
   text = text;
   uploads = uploads;
   taps = taps;
-  posted = (λ _. All-nil (λ (end : End). end.fault ≡ None), λ _. posted);
+  posted = (λ _. All-nil (λ (end : UploadEnd). IsTrue (is_posted end)), λ _. posted);
   each = All-nil IsUploadEnd;
 }
 
-have_more : (before after : UploadEnds) (list more : List End) → HaveReadEnds before list → HaveMoreEnds before after more
+have_more : (before after : UploadEnds) (list more : List UploadEnd) → HaveReadEnds before list → HaveMoreEnds before after more
     → HaveReadEnds after (list ++ more)
 have_more before after list more have is =
-    let sums = sum_by-append (λ (end : End). end.taps) list more in
+    let sums = sum_by-append taps_told list more in
     let taps = have.taps in
     let more_taps = is.taps in
     let at : before.uploads ≡ 0 + length list = omega (arith, have.uploads) in
     record {
-      text = is.text ∙ ap (λ text. text ++ end_lines before.uploads more) have.text
-          ∙ ap (λ k. end_lines 0 list ++ end_lines k more) at ∙ sym (end_lines_joined 0 list more);
+      text = is.text ∙ ap (λ text. text ++ upload_lines before.uploads more) have.text
+          ∙ ap (λ k. upload_lines 0 list ++ upload_lines k more) at ∙ sym (end_lines_joined 0 list more);
       uploads = simp length-append (omega (arith, have.uploads, is.uploads));
       taps = omega (arith, sums, taps, more_taps);
       posted = (
-        λ yes. let both = is.posted.0 yes in All-append (λ (end : End). end.fault ≡ None) list more
+        λ yes. let both = is.posted.0 yes in All-append (λ (end : UploadEnd). IsTrue (is_posted end)) list more
             (have.posted.0 both.0) both.1,
         λ all. is.posted.1 (
-          have.posted.1 (All-front (λ (end : End). end.fault ≡ None) list more
+          have.posted.1 (All-front (λ (end : UploadEnd). IsTrue (is_posted end)) list more
               all),
-          All-behind (λ (end : End). end.fault ≡ None) list more all,
+          All-behind (λ (end : UploadEnd). IsTrue (is_posted end)) list more all,
         ),
       );
       each = All-append IsUploadEnd list more have.each is.each;
@@ -183,7 +188,7 @@ have_more before after list more have is =
 -- the texts of these readers tell ends, which were added up
 abbrev pub AreRead : {R : Type 0} → (R → Option (List ℕ)) → List R → UploadEnds → Type 0
 AreRead remaining readers ends = (files : List (List ℕ)) → AreLeft remaining readers files
-    → (lists : List (List End)) × (files ≡ end_texts 0 lists) × HaveReadEnds ends (all_ends lists)
+    → (lists : List (List UploadEnd)) × (files ≡ end_texts 0 lists) × HaveReadEnds ends (all_ends lists)
 
 pub read_none : {R : Type 0} (remaining : R → Option (List ℕ)) (ends : UploadEnds) → HaveReadEnds ends []
     → AreRead remaining [] ends
@@ -208,8 +213,8 @@ read_next remaining readers x before after read added files are =
     omega (arith, so_far.2.uploads) in (
       so_far.0 ++ here.0 ∷ [],
       parts.is ∙ ap (λ more. parts.before ++ parts.file ∷ more) none
-          ∙ ap (λ file. parts.before ++ file ∷ []) (here.2 ∙ ap (λ k. end_lines k here.0) at)
-          ∙ ap (λ some. some ++ end_lines (0 + length (all_ends so_far.0)) here.0 ∷ []) so_far.1
+          ∙ ap (λ file. parts.before ++ file ∷ []) (here.2 ∙ ap (λ k. upload_lines k here.0) at)
+          ∙ ap (λ some. some ++ upload_lines (0 + length (all_ends so_far.0)) here.0 ∷ []) so_far.1
           ∙ sym (texts_more 0 so_far.0 here.0),
       subst (λ list. HaveReadEnds after list) (sym (joined_more so_far.0 here.0))
           (have_more before after (all_ends so_far.0) here.0 so_far.2 here.1),
@@ -222,7 +227,7 @@ pub read_refused : {R : Type 0} (remaining : R → Option (List ℕ)) (items rea
     → x ≡ get_or items (length readers) x
     → AreRead remaining readers before → AreEndsAdded before after (remaining x) (Err fault)
     → IsOfTexts fault
-    → (files : List (List ℕ)) → AreLeft remaining items files → (lists : List (List End))
+    → (files : List (List ℕ)) → AreLeft remaining items files → (lists : List (List UploadEnd))
     → All IsUploadEnd (all_ends lists) → ¬ (files ≡ end_texts 0 lists)
 read_refused remaining items readers x before after fault front within here read added of_texts
     files are lists may told =
@@ -235,4 +240,4 @@ read_refused remaining items readers x before after fault front within here read
     let next = texts_at 0 so_far.0 lists parts.file parts.after so_far.2.each may
     (ap (λ some. some ++ parts.file ∷ parts.after) (sym so_far.1) ∙ sym parts.is ∙ told) in
     let at : 0 + length (all_ends so_far.0) ≡ before.uploads = omega (arith, so_far.2.uploads) in
-    no_ends next.0 next.1 (next.2 ∙ ap (λ k. end_lines k next.0) at)
+    no_ends next.0 next.1 (next.2 ∙ ap (λ k. upload_lines k next.0) at)

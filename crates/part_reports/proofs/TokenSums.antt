@@ -8,7 +8,7 @@ use Rattle.fare_table.specs.Token.{token_cmp}
 use Rattle.fare_table.specs.declared.token.Token.{Token}
 use Rattle.shard_book.specs.Sums.{Sums}
 use Rattle.fare_texts.specs.ReportLines.{token_line}
-use Rattle.part_reports.specs.Lines.{IsTokenSum}
+use Rattle.report_texts.specs.Numbers.{IsTokenSum}
 use Rattle.part_reports.specs.TokenLines.{TokenLine, text_of}
 use Rattle.part_reports.specs.inside.Kinds.{IsSumLine, IsTextOf}
 use Rattle.part_reports.specs.declared.merging.LineKind.TheVariants.{Tokens}

@@ -1,6 +1,6 @@
 -- What a line writes is determined by the line: two lines of one form, with any rests behind them,
 -- that are the same text write the same, and have the same rest.
-use Rattle.std.proofs.Common.{◌≡◌, ◌∙◌, ℕ, ◌<◌, ◌^◌, List, ◌++◌, Option, Some, None, append_assoc}
+use Rattle.std.proofs.Common.{◌≡◌, ◌∙◌, ℕ, ◌<◌, ◌^◌, List, ◌++◌, append_assoc}
 use Rattle.std.proofs.Common.{refl, sym, ap, arith, get_or}
 use Rattle.std.specs.Prelude.{codes}
 use Rattle.std.specs.Fmt.{decimal}
@@ -10,16 +10,24 @@ use Rattle.fare_table.specs.Token.{bytes_of}
 use Rattle.fare_texts.specs.Counts.{counts_text, totals_line}
 use Rattle.shard_book.specs.Sums.{Sums}
 use Rattle.fare_table.specs.declared.token.Token.{Token}
-use Rattle.part_reports.specs.Lines.{AreCounts, End, IsUploadEnd, IsNoneOrFault, IsTokenSum}
-use Rattle.part_reports.specs.Lines.{IsValidatorSum}
+use Rattle.report_texts.specs.Numbers.{AreCounts, IsUploadEnd, IsTokenSum}
+use Rattle.report_texts.specs.Numbers.{IsValidatorSum}
 use Rattle.fare_texts.specs.ReportLines.{number_line, token_line, validator_line}
-use Rattle.part_reports.specs.Lines.{end_line, end_words}
+use Rattle.tap_views.specs.declared.fault.LayoutFault.{LayoutFault}
+use Rattle.tap_views.specs.declared.fault.LayoutFault.TheVariants.{Short, Magic, Flags, TooMany, Length, Moment}
+use Rattle.report_texts.specs.Numbers.{IsNameAlone}
+use Rattle.report_texts.specs.inside.EndWords.{end_words, fault_number, fault_words}
+use Rattle.report_texts.specs.declared.upload_end.UploadEnd.{UploadEnd}
+use Rattle.report_texts.specs.declared.upload_end.UploadEnd.TheVariants.{Posted, Refused, Cut, Undrawn}
+use Rattle.report_texts.proofs.EndTexts.{line_words, refused_spelt, small_number}
+use Rattle.std.specs.Prelude.{◌==◌, if◌then◌else◌}
 use Rattle.part_reports.specs.Ledgers.{IsLedgerEntryLine}
 use Rattle.part_reports.specs.TokenLines.{TokenLine}
-use Rattle.part_reports.specs.inside.Counted.{IsCounted}
-use Rattle.part_reports.proofs.Counts.{counted_step, counts_spelt, counts_unique}
+use Rattle.report_texts.specs.inside.Counted.{IsCounted}
+use Rattle.report_texts.proofs.Counts.{counted_step, counts_spelt, counts_unique}
 use Rattle.part_reports.proofs.OneLine.{entry_line_is_one, one_line_unique}
-use Rattle.part_reports.proofs.Tokens.{token_text_unique}
+use Rattle.report_texts.proofs.Tokens.{token_text_unique}
+use Rattle.report_texts.specs.Report.{upload_line}
 
 head_counted : (word : List ℕ) (n : ℕ) (x : List ℕ) → n < 2 ^ 64
     → IsCounted (number_line word n ++ x) word n (codes "\n" ++ x)
@@ -39,69 +47,99 @@ number_line_unique word n m x y small small_too is =
     (same, append_cancel_left (codes "\n") x y rest)
 
 -- ` refused N` before ` at OFFSET L5`
-refused_counted : (taps : ℕ) (fault : ℕ × ℕ) (x : List ℕ) → taps < 2 ^ 64
-    → IsCounted (end_words taps (Some fault) ++ x) (codes " refused ") taps
-    (codes " at " ++ (decimal fault.0 ++ (number_line (codes " L") fault.1 ++ x)))
-refused_counted taps fault x small = record {
+refused_counted : (taps offset : ℕ) (fault : LayoutFault) (x : List ℕ) → taps < 2 ^ 64
+    → IsCounted ((codes " refused " ++ (decimal taps ++ fault_words offset fault)) ++ x)
+    (codes " refused ") taps (fault_words offset fault ++ x)
+refused_counted taps offset fault x small = record {
   small = small;
   ends = refl;
-  shown = simp append_assoc;
+  shown = ap (λ (t : List ℕ). codes " refused " ++ t)
+      (append_assoc (decimal taps) (fault_words offset fault) x);
 }
 
-at_counted : (offset : ℕ) (x : List ℕ) (number : ℕ) → offset < 2 ^ 64
-    → IsCounted (codes " at " ++ (decimal offset ++ (number_line (codes " L") number ++ x)))
-    (codes " at ") offset (number_line (codes " L") number ++ x)
-at_counted offset x number small = record { small = small; ends = refl; shown = refl }
+at_counted : (offset : ℕ) (fault : LayoutFault) (x : List ℕ) → offset < 2 ^ 64
+    → IsCounted (fault_words offset fault ++ x) (codes " at ") offset
+    (number_line (codes " L") (fault_number fault) ++ x)
+at_counted offset fault x small = record {
+  small = small;
+  ends = refl;
+  shown = ap (λ (t : List ℕ). codes " at " ++ t)
+      (append_assoc (decimal offset) (number_line (codes " L") (fault_number fault)) x);
+}
 
-posted_not_refused : (a b : ℕ) (fault : ℕ × ℕ) (x y : List ℕ)
-    → ¬ (end_words a None ++ x ≡ end_words b (Some fault) ++ y)
-posted_not_refused a b fault x y is =
+-- the fault whose name has this number
+named_by : ℕ → LayoutFault
+named_by number = if number == 1 then Short 0
+    else (if number == 2 then Magic
+    else (if number == 3 then Flags
+    else (if number == 4 then TooMany 0
+    else (if number == 5 then Length 0 0 else Moment 0))))
+
+named_back : (fault : LayoutFault) → IsNameAlone fault → named_by (fault_number fault) ≡ fault
+unfolding named_by
+named_back (Short have) alone = ap (λ n. Short n) (sym alone)
+named_back Magic alone = refl
+named_back Flags alone = refl
+named_back (TooMany count) alone = ap (λ n. TooMany n) (sym alone)
+named_back (Length want have) alone =
+    ap (λ n. Length n 0) (sym alone.0) ∙ ap (λ n. Length want n) (sym alone.1)
+named_back (Moment index) alone = ap (λ n. Moment n) (sym alone)
+
+same_fault : (a b : LayoutFault) → IsNameAlone a → IsNameAlone b → fault_number a ≡ fault_number b
+    → a ≡ b
+same_fault a b alone alone_too same =
+    sym (named_back a alone) ∙ ap named_by same ∙ named_back b alone_too
+
+posted_not_refused : (a b offset : ℕ) (fault : LayoutFault) (x y : List ℕ)
+    → ¬ (end_words (Posted a) ++ x ≡ end_words (Refused b offset fault) ++ y)
+posted_not_refused a b offset fault x y is =
     let second : 112 ≡ 114 = ap (λ (t : List ℕ). get_or t 1 0) is in absurd (omega (arith, second))
 
-same_fault : (a b : ℕ × ℕ) → a.0 ≡ b.0 → a.1 ≡ b.1 → Some a ≡ Some b
-same_fault a b first second = λ i. Some (first i, second i)
+end_text_unique : (a b : UploadEnd) (x y : List ℕ) → IsUploadEnd a → IsUploadEnd b
+    → end_words a ++ x ≡ end_words b ++ y → (a ≡ b) × (x ≡ y)
+end_text_unique (Posted a) (Posted b) x y fits fits_too is =
+    let (same, rest) = number_line_unique (codes " posted ") a b x y fits fits_too is in
+    (ap (λ n. Posted n) same, rest)
+end_text_unique (Posted a) (Refused b other_offset other) x y fits fits_too is =
+    absurd (posted_not_refused a b other_offset other x y is)
+end_text_unique (Refused a offset fault) (Posted b) x y fits fits_too is =
+    absurd (posted_not_refused b a offset fault y x (sym is))
+end_text_unique (Refused a offset fault) (Refused b other_offset other) x y fits fits_too is =
+    let spelt = ap (λ (t : List ℕ). t ++ x) (sym (refused_spelt a offset fault)) ∙ is
+    ∙ ap (λ (t : List ℕ). t ++ y) (refused_spelt b other_offset other) in
+    let (taps, one) = counted_step
+    ((codes " refused " ++ (decimal a ++ fault_words offset fault)) ++ x)
+    ((codes " refused " ++ (decimal b ++ fault_words other_offset other)) ++ y) (codes " refused ")
+    a b (fault_words offset fault ++ x) (fault_words other_offset other ++ y) spelt
+    (refused_counted a offset fault x fits.0) (refused_counted b other_offset other y fits_too.0) in
+    let (at, two) = counted_step (fault_words offset fault ++ x)
+    (fault_words other_offset other ++ y) (codes " at ") offset other_offset
+    (number_line (codes " L") (fault_number fault) ++ x)
+    (number_line (codes " L") (fault_number other) ++ y) one (at_counted offset fault x fits.1)
+    (at_counted other_offset other y fits_too.1) in
+    let (number, rest) = number_line_unique (codes " L") (fault_number fault) (fault_number other) x
+    y (small_number fault) (small_number other) two in
+    let same = same_fault fault other fits.2 fits_too.2 number in
+    (λ i. Refused (taps i) (at i) (same i), rest)
+end_text_unique (Cut a) b x y fits fits_too is = absurd fits
+end_text_unique Undrawn b x y fits fits_too is = absurd fits
+end_text_unique (Posted a) (Cut b) x y fits fits_too is = absurd fits_too
+end_text_unique (Posted a) Undrawn x y fits fits_too is = absurd fits_too
+end_text_unique (Refused a offset fault) (Cut b) x y fits fits_too is = absurd fits_too
+end_text_unique (Refused a offset fault) Undrawn x y fits fits_too is = absurd fits_too
 
-end_text_unique : (a b : ℕ) (fault other : Option (ℕ × ℕ)) (x y : List ℕ) → a < 2 ^ 64 → b < 2 ^ 64
-    → IsNoneOrFault fault → IsNoneOrFault other → end_words a fault ++ x ≡ end_words b other ++ y
-    → (a ≡ b) × (fault ≡ other) × (x ≡ y)
-end_text_unique a b None None x y small small_too fits fits_too is =
-    let (same, rest) = number_line_unique (codes " posted ") a b x y small small_too is in
-    (same, refl, rest)
-end_text_unique a b None (Some other) x y small small_too fits fits_too is =
-    absurd (posted_not_refused a b other x y is)
-end_text_unique a b (Some fault) None x y small small_too fits fits_too is =
-    absurd (posted_not_refused b a fault y x (sym is))
-end_text_unique a b (Some fault) (Some other) x y small small_too fits fits_too is =
-    let (same, one) = counted_step (end_words a (Some fault) ++ x) (end_words b (Some other) ++ y)
-    (codes " refused ") a b (codes " at " ++ (decimal fault.0
-    ++ (number_line (codes " L") fault.1 ++ x)))
-    (codes " at " ++ (decimal other.0 ++ (number_line (codes " L") other.1 ++ y))) is
-    (refused_counted a fault x small) (refused_counted b other y small_too) in
-    let (offset, two) = counted_step (codes " at "
-    ++ (decimal fault.0 ++ (number_line (codes " L") fault.1 ++ x)))
-    (codes " at " ++ (decimal other.0 ++ (number_line (codes " L") other.1 ++ y))) (codes " at ")
-    fault.0 other.0 (number_line (codes " L") fault.1 ++ x) (number_line (codes " L") other.1 ++ y) one
-    (at_counted fault.0 x fault.1 fits.offset) (at_counted other.0 y other.1 fits_too.offset) in
-    let (number, rest) = number_line_unique (codes " L") fault.1 other.1 x y
-    (omega (arith, fits.most)) (omega (arith, fits_too.most)) two in
-    (same, same_fault fault other offset number, rest)
-
-same_end : (a b : End) → a.taps ≡ b.taps → a.fault ≡ b.fault → a ≡ b
-same_end a b taps fault = λ i. record { taps = taps i; fault = fault i }
-
-pub end_line_unique : (number : ℕ) (a b : End) (x y : List ℕ) → IsUploadEnd a → IsUploadEnd b
-    → end_line number a ++ x ≡ end_line number b ++ y → (a ≡ b) × (x ≡ y)
+pub end_line_unique : (number : ℕ) (a b : UploadEnd) (x y : List ℕ) → IsUploadEnd a → IsUploadEnd b
+    → upload_line number a ++ x ≡ upload_line number b ++ y → (a ≡ b) × (x ≡ y)
 end_line_unique number a b x y fits fits_too is =
-    let first = append_assoc (decimal number) (end_words a.taps a.fault) x in
-    let second = append_assoc (decimal number) (end_words b.taps b.fault) y in
-    let behind = append_cancel_left (codes "upload ")
-    ((decimal number ++ end_words a.taps a.fault) ++ x)
-    ((decimal number ++ end_words b.taps b.fault) ++ y) is in
-    let texts = append_cancel_left (decimal number) (end_words a.taps a.fault ++ x)
-    (end_words b.taps b.fault ++ y) (sym first ∙ behind ∙ second) in
-    let (taps, fault, rest) = end_text_unique a.taps b.taps a.fault b.fault x y fits.taps
-    fits_too.taps fits.fault fits_too.fault texts in
-    (same_end a b taps fault, rest)
+    let words = ap (λ (t : List ℕ). t ++ x) (sym (line_words number a)) ∙ is
+    ∙ ap (λ (t : List ℕ). t ++ y) (line_words number b) in
+    let first = append_assoc (decimal number) (end_words a) x in
+    let second = append_assoc (decimal number) (end_words b) y in
+    let behind = append_cancel_left (codes "upload ") ((decimal number ++ end_words a) ++ x)
+    ((decimal number ++ end_words b) ++ y) words in
+    let texts = append_cancel_left (decimal number) (end_words a ++ x) (end_words b ++ y)
+    (sym first ∙ behind ∙ second) in
+    end_text_unique a b x y fits fits_too texts
 
 -- the counts with a rest behind them
 counts_line_unique : (a b : Sums) (x y : List ℕ) → AreCounts a → AreCounts b

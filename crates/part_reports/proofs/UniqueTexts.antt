@@ -10,15 +10,17 @@ use Rattle.fare_table.specs.Token.{bytes_of}
 use Rattle.fare_texts.specs.Counts.{totals_line}
 use Rattle.reason_texts.specs.Ledger.{head_text}
 use Rattle.part_reports.specs.Ledgers.{IsLedgerEntryLine, IsPartLedger}
-use Rattle.part_reports.specs.Lines.{End, IsUploadEnd, IsTokenSum, IsValidatorSum}
+use Rattle.report_texts.specs.Numbers.{IsUploadEnd, IsTokenSum, IsValidatorSum}
 use Rattle.fare_texts.specs.ReportLines.{number_line, token_line, validator_line}
-use Rattle.part_reports.specs.Lines.{end_line, end_lines}
 use Rattle.part_reports.specs.Reports.{IsPartReport, Report, report_text}
 use Rattle.part_reports.specs.Reports.{HasTapNumbers}
 use Rattle.part_reports.specs.TokenLines.{TokenLine, text_of}
-use Rattle.part_reports.proofs.Tokens.{token_digits}
+use Rattle.report_texts.proofs.Tokens.{token_digits}
 use Rattle.part_reports.proofs.Unique.{end_line_unique, entry_line_unique, number_line_unique}
 use Rattle.part_reports.proofs.Unique.{token_line_unique, totals_line_unique, validator_line_unique}
+use Rattle.report_texts.specs.Report.{upload_line}
+use Rattle.report_texts.specs.Report.{upload_lines}
+use Rattle.report_texts.specs.declared.upload_end.UploadEnd.{UploadEnd}
 
 -- lines of one form, as many in both texts
 pub lines_unique : {V : Type 0} (printed : V → List ℕ) (Legal : V → Type 0)
@@ -41,34 +43,34 @@ lines_unique {V} printed Legal unique (a ∷ ps) (b ∷ qs) x y size fit fit_too
     let (rest, over) = lines_unique printed Legal unique ps qs x y sizes fit.1 fit_too.1 more in
     (λ i. same i ∷ rest i, over)
 
-pub ends_unique : (number : ℕ) (ps qs : List End) (x y : List ℕ) → length ps ≡ length qs
+pub ends_unique : (number : ℕ) (ps qs : List UploadEnd) (x y : List ℕ) → length ps ≡ length qs
     → AllByRecursion IsUploadEnd ps → AllByRecursion IsUploadEnd qs
-    → end_lines number ps ++ x ≡ end_lines number qs ++ y → (ps ≡ qs) × (x ≡ y)
+    → upload_lines number ps ++ x ≡ upload_lines number qs ++ y → (ps ≡ qs) × (x ≡ y)
 ends_unique number [] [] x y size fit fit_too is = (refl, is)
 ends_unique number [] (b ∷ qs) x y size fit fit_too is = absurd (omega (arith, size))
 ends_unique number (a ∷ ps) [] x y size fit fit_too is = absurd (omega (arith, size))
 ends_unique number (a ∷ ps) (b ∷ qs) x y size fit fit_too is =
-    let first = append_assoc (end_line number a) (end_lines (number + 1) ps) x in
-    let second = append_assoc (end_line number b) (end_lines (number + 1) qs) y in
-    let (same, more) = end_line_unique number a b (end_lines (number + 1) ps ++ x)
-    (end_lines (number + 1) qs ++ y) fit.0 fit_too.0 (sym first ∙ is ∙ second) in
+    let first = append_assoc (upload_line number a) (upload_lines (number + 1) ps) x in
+    let second = append_assoc (upload_line number b) (upload_lines (number + 1) qs) y in
+    let (same, more) = end_line_unique number a b (upload_lines (number + 1) ps ++ x)
+    (upload_lines (number + 1) qs ++ y) fit.0 fit_too.0 (sym first ∙ is ∙ second) in
     let sizes : length ps ≡ length qs = omega (arith, size) in
     let (rest, over) = ends_unique (number + 1) ps qs x y sizes fit.1 fit_too.1 more in
     (λ i. same i ∷ rest i, over)
 
-spelt : (a b c d e f t : List ℕ) → (a ++ (b ++ (c ++ (d ++ (e ++ f))))) ++ t
+spelt : (a b c d e f t : List ℕ) → (a ++ b) ++ (c ++ ((d ++ e) ++ (f ++ t)))
     ≡ a ++ (b ++ (c ++ (d ++ (e ++ (f ++ t)))))
 spelt a b c d e f t = simp append_assoc
 
 -- the report's text, line behind line
 text_spelt : (report : Report) → report_text report
-    ≡ number_line (codes "uploads ") (length report.ends) ++ (end_lines 0 report.ends
+    ≡ number_line (codes "uploads ") (length report.ends) ++ (upload_lines 0 report.ends
     ++ (totals_line report.totals ++ (number_line (codes "validators ") (length report.validators)
     ++ (flat_map validator_line report.validators
     ++ (number_line (codes "tokens ") (length report.tokens)
     ++ flat_map token_line report.tokens)))))
 text_spelt report =
-    spelt (number_line (codes "uploads ") (length report.ends)) (end_lines 0 report.ends)
+    spelt (number_line (codes "uploads ") (length report.ends)) (upload_lines 0 report.ends)
     (totals_line report.totals) (number_line (codes "validators ") (length report.validators))
     (flat_map validator_line report.validators)
     (number_line (codes "tokens ") (length report.tokens)) (flat_map token_line report.tokens)

@@ -4,9 +4,14 @@ use Rattle.std.proofs.Common.{length, refl, sym, ap, subst, ◌∙◌, append_as
 use Rattle.std.specs.Prelude.{flat_map}
 use Rattle.fare_texts.specs.Counts.{totals_line}
 use Rattle.shard_book.specs.Sums.{Sums}
+use Rattle.fare_table.specs.declared.token.Token.{Token}
+use Rattle.fare_texts.specs.ReportLines.{token_line}
+use Rattle.part_reports.specs.inside.Fronts.{front_text}
+use Rattle.report_texts.specs.Report.{report}
+use Rattle.report_texts.specs.declared.upload_end.UploadEnd.{UploadEnd}
 use Rattle.part_reports.specs.declared.fault.MergeFault.{MergeFault}
 use Rattle.part_reports.specs.Faults.{IsOfTexts}
-use Rattle.part_reports.specs.Lines.{AreCounts, IsUploadEnd, IsValidatorSum, end_line, end_lines}
+use Rattle.report_texts.specs.Numbers.{AreCounts, IsUploadEnd, IsValidatorSum}
 use Rattle.fare_texts.specs.ReportLines.{number_line, validator_line}
 use Rattle.part_reports.specs.inside.Fronts.{AreEnds, AreValidators, MayBePart, ToldFront, ends_text}
 use Rattle.part_reports.specs.inside.Fronts.{told_text, validators_text}
@@ -14,6 +19,8 @@ use Rattle.part_reports.specs.inside.LinesRead.{IsRead, BeginsWithValue}
 use Rattle.part_reports.proofs.ListsWritten.{lines_unique, end_lines_from, flat_map_from}
 use Rattle.part_reports.proofs.Unique.{end_line_unique, number_line_unique, totals_line_unique}
 use Rattle.part_reports.proofs.Unique.{validator_line_unique}
+use Rattle.report_texts.specs.Report.{upload_line}
+use Rattle.report_texts.specs.Report.{upload_lines}
 
 -- what is written determines the value and what is behind it
 abbrev pub IsUnique : {V : Type 0} → (V → Type 0) → (V → List ℕ) → Type 0
@@ -22,11 +29,11 @@ IsUnique {V = V} May written = (a b : V) (x y : List ℕ) → May a → May b
 
 pub ends_unique : IsUnique AreEnds ends_text
 ends_unique a b x y may may_too same =
-    let head = number_line_unique (codes "uploads ") (length a) (length b) (end_lines 0 a ++ x)
-    (end_lines 0 b ++ y) may.few may_too.few
-    (sym (append_assoc (number_line (codes "uploads ") (length a)) (end_lines 0 a) x) ∙ same
-    ∙ append_assoc (number_line (codes "uploads ") (length b)) (end_lines 0 b) y) in
-    lines_unique IsUploadEnd end_line end_line_unique 0 a b x y may.are.each may_too.are.each head.0
+    let head = number_line_unique (codes "uploads ") (length a) (length b) (upload_lines 0 a ++ x)
+    (upload_lines 0 b ++ y) may.few may_too.few
+    (sym (append_assoc (number_line (codes "uploads ") (length a)) (upload_lines 0 a) x) ∙ same
+    ∙ append_assoc (number_line (codes "uploads ") (length b)) (upload_lines 0 b) y) in
+    lines_unique IsUploadEnd upload_line end_line_unique 0 a b x y may.are.each may_too.are.each head.0
     (ap (λ text. text ++ x) (sym (end_lines_from 0 a)) ∙ head.1
     ∙ ap (λ text. text ++ y) (end_lines_from 0 b))
 
@@ -42,7 +49,7 @@ validators_unique a b x y may may_too same =
     (ap (λ text. text ++ x) (sym (flat_map_from validator_line 0 a)) ∙ head.1
     ∙ ap (λ text. text ++ y) (flat_map_from validator_line 0 b))
 
-parts : (h e t v f k rest : List ℕ) → (h ++ (e ++ (t ++ (v ++ (f ++ k))))) ++ rest ≡ (h ++ e)
+parts : (h e t v f k rest : List ℕ) → ((h ++ e) ++ (t ++ ((v ++ f) ++ k))) ++ rest ≡ (h ++ e)
     ++ (t ++ ((v ++ f) ++ (k ++ rest)))
 parts h e t v f k rest = simp append_assoc
 
@@ -60,9 +67,23 @@ behind_totals told rest = validators_text told.validators ++ (tokens_text told.t
 pub told_parts : (told : ToldFront) (rest : List ℕ)
     → told_text told ++ rest ≡ ends_text told.ends ++ behind_ends told rest
 told_parts told rest = parts (number_line (codes "uploads ") (length told.ends))
-    (end_lines 0 told.ends) (totals_line told.totals)
+    (upload_lines 0 told.ends) (totals_line told.totals)
     (number_line (codes "validators ") (length told.validators))
     (flat_map validator_line told.validators) (tokens_text told.tokens) rest
+
+joined_texts : (h e t v f k ts : List ℕ) → ((h ++ e) ++ (t ++ ((v ++ f) ++ k))) ++ ts
+    ≡ (h ++ e) ++ (t ++ ((v ++ f) ++ (k ++ ts)))
+joined_texts h e t v f k ts = simp append_assoc
+
+-- a report's text is the text before its tokens' lines, and these lines
+pub whole_text : (ends : List UploadEnd) (totals : Sums) (validators : List (ℕ × Sums))
+    (tokens : List (Token × Sums))
+    → front_text ends totals validators (length tokens) ++ flat_map token_line tokens
+    ≡ report ends totals validators tokens
+whole_text ends totals validators tokens =
+    joined_texts (number_line (codes "uploads ") (length ends)) (upload_lines 0 ends)
+    (totals_line totals) (number_line (codes "validators ") (length validators))
+    (flat_map validator_line validators) (tokens_text (length tokens)) (flat_map token_line tokens)
 
 -- behind a part that was read, what is left is what is behind it
 pub behind : {V : Type 0} {IsIt May : V → Type 0} {written : V → List ℕ}

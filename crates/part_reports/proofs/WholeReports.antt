@@ -21,8 +21,9 @@ use Rattle.fare_table.specs.declared.token.Token.{Token}
 use Rattle.shard_book.specs.Sums.{Sums, add_all, sums, sums_of}
 use Rattle.shard_book.specs.declared.sums.totals.Totals.{Totals}
 use Rattle.fare_texts.specs.ReportLines.{token_line}
-use Rattle.part_reports.specs.Lines.{End, IsTokenSum}
-use Rattle.part_reports.specs.Reports.{IsMerged, IsPartReport, Report, end_texts, front_text}
+use Rattle.report_texts.specs.Numbers.{IsTokenSum}
+use Rattle.part_reports.specs.Reports.{IsMerged, IsPartReport, Report, end_texts}
+use Rattle.part_reports.specs.inside.Fronts.{front_text}
 use Rattle.part_reports.specs.Reports.{all_ends, report_text, sums_of_validator, tokens_of_reports, validators_of_reports}
 use Rattle.part_reports.specs.TokenLines.{IsMergedByToken, TokenLine, lines_of_token, text_of}
 use Rattle.part_reports.specs.declared.sums.WholeSums.{WholeSums}
@@ -34,6 +35,7 @@ use Rattle.part_reports.specs.inside.Parts.{AreParts, BegunReport, begun_text, l
 use Rattle.part_reports.specs.inside.Standings.{Standing}
 use Rattle.part_reports.specs.inside.Sums.{AreSumsOf}
 use Rattle.part_reports.specs.inside.Whole.{validators_in}
+use Rattle.part_reports.proofs.WholeFronts.{whole_text}
 use Rattle.part_reports.proofs.FewParts.{told_of}
 use Rattle.part_reports.proofs.JoinedTokens.{StandOnce, joined_each, once_all, strictly_rise}
 use Rattle.part_reports.proofs.Merges.{appends_more}
@@ -41,6 +43,8 @@ use Rattle.part_reports.proofs.SumsAdded.{taps_nothing}
 use Rattle.part_reports.proofs.PermutedTokens.{of_token, permuted}
 use Rattle.part_reports.proofs.TokenSums.{Sum, line_of, lines_keys, lines_length, lines_text}
 use Rattle.part_reports.proofs.TokenSums.{sums_same, told}
+use Rattle.report_texts.specs.UploadEnds.{is_posted}
+use Rattle.report_texts.specs.declared.upload_end.UploadEnd.{UploadEnd}
 
 -- ---- the reports of the parts
 -- the parts' reports, of what was read before their tokens and of their tokens' lines
@@ -97,7 +101,7 @@ parts_of (one ∷ begun) (list ∷ lists) may are =
     let shown : begun_text one ≡ report_text part =
     ap (λ n. front_text front.ends front.totals front.validators n ++ one.1) number
     ∙ ap (λ text. front_text front.ends front.totals front.validators (length of_list.sums) ++ text)
-    text in
+    text ∙ whole_text front.ends front.totals front.validators of_list.sums in
     let same_front : front ≡ told_of part = λ i. record {
       ends = front.ends;
       totals =
@@ -263,10 +267,10 @@ pub record Written (end_files report_files : List (List ℕ)) (posted : Type 0)
     (old new : Option (List ℕ)) : Type 0 where
   pub text : List ℕ
   pub merged : IsMerged end_files report_files text
-  pub posted_is : posted ↔ All (λ end. end.fault ≡ None) (all_ends merged.ends)
+  pub posted_is : posted ↔ All (λ end. IsTrue (is_posted end)) (all_ends merged.ends)
   pub appends : Appends old new text
 
-pub merged : (end_files report_files : List (List ℕ)) (lists : List (List End)) (ends : UploadEnds)
+pub merged : (end_files report_files : List (List ℕ)) (lists : List (List UploadEnd)) (ends : UploadEnds)
     (sums : WholeSums) (standings : List Standing) (front : List ℕ)
     (token_lists : List (List TokenLine)) (joined : List TokenLine) (old mid new : Option (List ℕ))
     → end_files ≡ end_texts 0 lists → HaveReadEnds ends (all_ends lists)
@@ -339,6 +343,8 @@ merged end_files report_files lists ends sums standings front token_lists joined
           (validators_in sums.validators)) number)
           ∙ ap (λ text. front_text (all_ends lists) (sums_of sums.totals)
           (validators_in sums.validators) (length tokens.sums) ++ text) (ap text_of tokens.is
-          ∙ lines_text tokens.sums))
+          ∙ lines_text tokens.sums)
+          ∙ whole_text (all_ends lists) (sums_of sums.totals) (validators_in sums.validators)
+          tokens.sums)
           (appends_more old mid new front (text_of joined) first second);
     }

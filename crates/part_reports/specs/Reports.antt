@@ -1,6 +1,6 @@
 -- Reports of parts, and the report of the whole that they are merged into.
-use Rattle.std.specs.Prelude.{◌≡◌, ℕ, ◌+◌, ◌<◌, ◌^◌, List, [], ◌∷◌, ◌++◌, codes}
-use Rattle.std.specs.Prelude.{All, ◌==◌, filter, length, map, flat_map, sum_by, None}
+use Rattle.std.specs.Prelude.{◌≡◌, ℕ, ◌+◌, ◌<◌, ◌^◌, List, [], ◌∷◌, All, IsTrue, ◌==◌, filter}
+use Rattle.std.specs.Prelude.{length, map, flat_map, sum_by}
 use Rattle.std.specs.List.Sorted.{IsPermutation, IsStrictlySortedBy}
 use Rattle.std.specs.Map.{keys_of}
 use Rattle.std.specs.Ordering.{eq_by_cmp, nat_cmp}
@@ -8,31 +8,22 @@ use Rattle.std.specs.Set.{is_member}
 use Rattle.shard_book.specs.Sums.{Sums, add_all}
 use Rattle.fare_table.specs.Token.{token_cmp}
 use Rattle.fare_table.specs.declared.token.Token.{Token}
-use Rattle.fare_texts.specs.Counts.{totals_line}
-use Rattle.part_reports.specs.Lines.{End, IsUploadEnd, AreCounts, IsValidatorSum, IsTokenSum}
-use Rattle.fare_texts.specs.ReportLines.{number_line, token_line, validator_line}
-use Rattle.part_reports.specs.Lines.{end_lines}
+use Rattle.report_texts.specs.Numbers.{IsUploadEnd, AreCounts, IsValidatorSum, IsTokenSum}
+use Rattle.report_texts.specs.Report.{report, upload_lines}
+use Rattle.report_texts.specs.UploadEnds.{is_posted, taps_told}
+use Rattle.report_texts.specs.declared.upload_end.UploadEnd.{UploadEnd}
 
 -- what a report tells: how each upload ended, the totals, and the sums of each validator and of
 -- each token
 pub record Report : Type 0 where
-  pub ends : List End
+  pub ends : List UploadEnd
   pub totals : Sums
   pub validators : List (ℕ × Sums)
   pub tokens : List (Token × Sums)
 
--- the report's text, up to the lines of its tokens
-abbrev pub front_text : List End → Sums → List (ℕ × Sums) → ℕ → List ℕ
-front_text ends totals validators tokens =
-    number_line (codes "uploads ") (length ends) ++ (end_lines 0 ends ++ (totals_line totals
-    ++ (number_line (codes "validators ") (length validators)
-    ++ (flat_map validator_line validators ++ number_line (codes "tokens ") tokens))))
-
 -- the report's text
 abbrev pub report_text : Report → List ℕ
-report_text report =
-    front_text report.ends report.totals report.validators (length report.tokens)
-    ++ flat_map token_line report.tokens
+report_text told = report told.ends told.totals told.validators told.tokens
 
 -- the numbers of the report's lines can be those of taps, with any ends, and in any order
 pub record HasTapNumbers (report : Report) : Type 0 where
@@ -49,7 +40,7 @@ pub record HasTapNumbers (report : Report) : Type 0 where
 pub record IsPartReport (report : Report) : Type 0 where
   pub number : length report.ends < 2 ^ 64
   pub ends : All IsUploadEnd report.ends
-  pub posted : All (λ end. end.fault ≡ None) report.ends
+  pub posted : All (λ end. IsTrue (is_posted end)) report.ends
   pub totals : AreCounts report.totals
   pub validators_number : length report.validators < 2 ^ 64
   pub validators : All IsValidatorSum report.validators
@@ -59,31 +50,31 @@ pub record IsPartReport (report : Report) : Type 0 where
   pub tokens_rise : IsStrictlySortedBy token_cmp (keys_of report.tokens)
 
 -- the texts of the uploads' ends: in each text the lines of the next uploads
-abbrev pub end_texts : ℕ → List (List End) → List (List ℕ)
+abbrev pub end_texts : ℕ → List (List UploadEnd) → List (List ℕ)
 end_texts first [] = []
-end_texts first (ends ∷ more) = end_lines first ends ∷ end_texts (first + length ends) more
+end_texts first (ends ∷ more) = upload_lines first ends ∷ end_texts (first + length ends) more
 
 -- the ends of all texts
-abbrev pub all_ends : List (List End) → List End
+abbrev pub all_ends : List (List UploadEnd) → List UploadEnd
 all_ends ends = flat_map (λ some. some) ends
 
 -- The texts tell how the uploads ended, and they tell reports of parts. The reports have as many
 -- taps as the uploads.
-pub record AreTold (end_files report_files : List (List ℕ)) (ends : List (List End))
+pub record AreTold (end_files report_files : List (List ℕ)) (ends : List (List UploadEnd))
     (parts : List Report) : Type 0 where
   pub ends_told : end_files ≡ end_texts 0 ends
   pub ends_fit : All IsUploadEnd (all_ends ends)
   pub parts_told : report_files ≡ map report_text parts
   pub parts_fit : All IsPartReport parts
-  pub taps : sum_by (λ part. part.totals.taps) parts ≡ sum_by (λ end. end.taps) (all_ends ends)
+  pub taps : sum_by (λ part. part.totals.taps) parts ≡ sum_by taps_told (all_ends ends)
 
 -- So many taps the reports have, and so many the uploads: whatever reports of parts, and whatever
 -- ends of uploads, these texts are.
 pub record HaveTaps (end_files report_files : List (List ℕ)) (reports uploads : ℕ) : Type 0 where
   pub of_reports : (parts : List Report) → All IsPartReport parts
       → report_files ≡ map report_text parts → reports ≡ sum_by (λ part. part.totals.taps) parts
-  pub of_uploads : (ends : List (List End)) → All IsUploadEnd (all_ends ends)
-      → end_files ≡ end_texts 0 ends → uploads ≡ sum_by (λ end. end.taps) (all_ends ends)
+  pub of_uploads : (ends : List (List UploadEnd)) → All IsUploadEnd (all_ends ends)
+      → end_files ≡ end_texts 0 ends → uploads ≡ sum_by taps_told (all_ends ends)
 
 -- the validators of all parts with their sums, part by part
 abbrev pub validators_of_reports : List Report → List (ℕ × Sums)
@@ -101,7 +92,8 @@ sums_of_validator validator list =
 -- The whole's report: the ends of the uploads, the totals of all parts added up, each validator of
 -- the parts once with its sums in all of them, and the tokens of all parts. Validators rise and
 -- tokens rise, so no token is in two parts.
-pub record IsWholeReport (uploads : List End) (parts : List Report) (whole : Report) : Type 0 where
+pub record IsWholeReport (uploads : List UploadEnd) (parts : List Report) (whole : Report)
+    : Type 0 where
   pub ends : whole.ends ≡ uploads
   pub totals : whole.totals ≡ add_all (map (λ part. part.totals) parts)
   pub validators_rise : IsStrictlySortedBy nat_cmp (keys_of whole.validators)
@@ -116,7 +108,7 @@ pub record IsWholeReport (uploads : List End) (parts : List Report) (whole : Rep
 -- the text is the report of the whole, of the parts whose reports these texts are and of the
 -- uploads whose ends these texts tell
 pub record IsMerged (end_files report_files : List (List ℕ)) (text : List ℕ) : Type 0 where
-  pub ends : List (List End)
+  pub ends : List (List UploadEnd)
   pub parts : List Report
   pub told : AreTold end_files report_files ends parts
   pub whole : Report

@@ -1,6 +1,5 @@
 -- What only private functions cite. Who reads the contracts of public calls need not read it.
 pub mod BegunLedgers
-pub mod Counted
 pub mod Fronts
 pub mod Kinds
 pub mod Least

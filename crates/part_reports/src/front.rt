@@ -5,10 +5,9 @@ ghost use Rattle.fare_texts.specs.Counts.{totals_line};
 ghost use Rattle.shard_book.specs.Shown.{validator_sum};
 ghost use Rattle.shard_book.specs.Sums.{sums_of};
 ghost use Rattle.part_reports.specs.Faults.{IsOfTaps};
-ghost use Rattle.part_reports.specs.Lines.{AreCounts, IsUploadEnd, IsValidatorSum};
+ghost use Rattle.report_texts.specs.Numbers.{AreCounts, IsUploadEnd, IsValidatorSum};
 ghost use Rattle.fare_texts.specs.ReportLines.{number_line, validator_line};
-ghost use Rattle.part_reports.specs.Lines.{end_line, end_lines};
-ghost use Rattle.part_reports.specs.inside.UploadEnds.{end_of_upload};
+ghost use Rattle.report_texts.specs.Report.{upload_line, upload_lines};
 ghost use Rattle.part_reports.specs.inside.Fronts.{AreEnds, AreSoManyPosted, AreRising, AreSums};
 ghost use Rattle.part_reports.specs.inside.Fronts.{AreValidators, IsFront, MayBePart};
 ghost use Rattle.part_reports.specs.inside.Fronts.{MayFollowValidators};
@@ -16,8 +15,8 @@ ghost use Rattle.part_reports.specs.inside.Fronts.{ends_text, told_text, validat
 ghost use Rattle.part_reports.specs.inside.LinesRead.{IsRead};
 
 use crate::fault::{MergeFault, Wrong};
-use crate::form::{End, end_of, head_of, totals_of, validator_sum_of};
 use crate::line_reader::LineReader;
+use report_texts::{UploadEnd, end_of, head_of, totals_of, validator_sum_of};
 use shard_book::{Totals, ValidatorSum};
 use std::alloc::Global;
 use std::io::BufRead;
@@ -45,8 +44,11 @@ fn next_head<R: BufRead + Drop>(reader: &mut LineReader<R>, word: &[u8]) -> Resu
 }
 
 /// Reads the line of an upload's end.
-fn next_end<R: BufRead + Drop>(reader: &mut LineReader<R>, upload: u64) -> Result<End, MergeFault>
-    ensures read { IsRead (λ end told. end_of_upload end ≡ told) IsUploadEnd (end_line upload)
+fn next_end<R: BufRead + Drop>(
+    reader: &mut LineReader<R>,
+    upload: u64,
+) -> Result<UploadEnd, MergeFault>
+    ensures read { IsRead (λ end told. end ≡ told) IsUploadEnd (upload_line upload)
         (R.remaining reader.old.from) (R.remaining reader.new.from) result }
     ensures other { IfErr result (λ fault. ¬ (IsOfTaps fault)) }
 {
@@ -79,13 +81,13 @@ fn read_posted<R: BufRead + Drop>(
     reader: &mut LineReader<R>,
     uploads: u64,
 ) -> Result<(), MergeFault>
-    ensures read { IsRead (λ _ _. Unit {0}) (AreSoManyPosted uploads) (end_lines 0)
+    ensures read { IsRead (λ _ _. Unit {0}) (AreSoManyPosted uploads) (upload_lines 0)
         (R.remaining reader.old.from) (R.remaining reader.new.from) result }
     ensures other { IfErr result (λ fault. ¬ (IsOfTaps fault)) }
 {
     for upload in 0..uploads {
         let end = next_end(reader, upload)?;
-        if end.fault.is_some() {
+        if !end.is_posted() {
             return Err(reader.fault(Wrong::NotPosted));
         }
     }

@@ -7,9 +7,9 @@
 #![tactic(auto)]
 
 mod fault;
-mod form;
 mod front;
 pub mod laws;
+mod ledger_line;
 mod ledgers;
 mod line_reader;
 mod merging;

@@ -15,8 +15,9 @@ ghost use Rattle.part_reports.specs.inside.Standings.{MayFollowToken, StandsInTe
 ghost use Rattle.part_reports.specs.inside.Standings.{IsMovedAt, IsStuckAt, standing};
 
 use crate::fault::{MergeFault, Wrong};
-use crate::form::{ledger_token_of, token_sum_of};
+use crate::ledger_line::ledger_token_of;
 use crate::line_reader::LineReader;
+use report_texts::token_sum_of;
 use shard_book::Token;
 use std::alloc::{AllocError, Global};
 use std::cmp::Ordering;

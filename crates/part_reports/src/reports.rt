@@ -1,12 +1,13 @@
 //! Reports of parts, merged.
 
-ghost use Rattle.std.specs.Prelude.{◌≡◌, ◌<◌, ◌≤◌, ◌^◌, ℕ, List, Some, None, All, IfErr, IfOk};
+ghost use Rattle.std.specs.Prelude.{◌≡◌, ◌<◌, ◌≤◌, ◌^◌, ℕ, List, Some, All, IfErr, IfOk};
 ghost use Rattle.std.specs.Prelude.{IfSome, IsTrue, OnOk, ◌++◌, flat_map, length, map, ◌↔◌};
 ghost use Rattle.std.specs.Io.KnownBytes.{Appends};
 ghost use Rattle.part_reports.specs.Faults.{IsOfTaps, IsOfTexts};
 ghost use Rattle.part_reports.specs.declared.fault.MergeFault.TheVariants.{Taps};
 ghost use Rattle.fare_texts.specs.ReportLines.{validator_line};
-ghost use Rattle.part_reports.specs.Lines.{End};
+ghost use Rattle.report_texts.specs.UploadEnds.{is_posted};
+ghost use Rattle.report_texts.specs.declared.upload_end.UploadEnd.{UploadEnd};
 ghost use Rattle.std.specs.String.{string_bytes};
 ghost use Rattle.std.specs.BTreeMap.{IsOrdered, get};
 ghost use Rattle.std.specs.Ordering.{nat_cmp};
@@ -18,7 +19,7 @@ ghost use Rattle.part_reports.specs.inside.UploadEnds.{HaveReadEnds};
 ghost use Rattle.part_reports.specs.inside.Parts.{AreParts, IsNoPart, IsPart};
 ghost use Rattle.part_reports.specs.inside.Standings.{standing};
 ghost use Rattle.part_reports.specs.inside.Whole.{validators_in};
-ghost use Rattle.part_reports.specs.Reports.{front_text as text_before_tokens};
+ghost use Rattle.part_reports.specs.inside.Fronts.{front_text as text_before_tokens};
 ghost use Rattle.shard_book.specs.Sums.{sums_of};
 
 use crate::fault::{MergeFault, Wrong};
@@ -28,8 +29,9 @@ use crate::merging::{LineKind, OrderedText, write_merged, write_text};
 use crate::sums::{WholeSums, add_front, no_sums};
 use crate::upload_ends::UploadEnds;
 use crate::upload_ends::read::read_ends;
-use fare_texts::{write_counts, write_totals};
-use shard_book::Totals;
+use fare_texts::write_totals;
+use report_texts::{write_section_head, write_validator};
+use shard_book::{Totals, ValidatorSum};
 use std::alloc::{AllocError, Global};
 use std::collections::BTreeMap;
 use std::io::{BufRead, Write};
@@ -99,31 +101,31 @@ fn write_validators(text: &mut String, validators: &BTreeMap<u32, Totals>) -> Re
         validators.now.entries }
 {
     for (validator, totals) in validators.iter() {
-        write!(text, "validator {validator} ")?;
-        write_counts(text, totals)?;
+        let validator = *validator;
+        let totals = *totals;
+        write_validator(text, &ValidatorSum { validator, totals })?;
     }
     Ok(())
 }
 
 /// The whole's report up to the lines of its tokens.
 fn front_text(alloc: Global, ends: &UploadEnds, sums: &WholeSums) -> Result<Vec<u8>, AllocError>
-    ensures text { IfOk result (λ text. (list : List End) → HaveReadEnds ends.now list
+    ensures text { IfOk result (λ text. (list : List UploadEnd) → HaveReadEnds ends.now list
         → text.items ≡ text_before_tokens list (sums_of sums.now.totals)
         (validators_in sums.now.validators) sums.now.tokens) }
     ensures rise { OnOk result (IsOrdered nat_cmp sums.now.validators) }
     ensures found { OnOk result (All (λ entry. get nat_cmp sums.now.validators entry.0
         ≡ Some entry.1) sums.now.validators.entries) }
 {
-    let uploads = ends.uploads;
-    let mut text = format!(in alloc; "uploads {uploads}\n")?.into_bytes();
+    let mut head = String::new(alloc);
+    write_section_head(&mut head, "uploads ", ends.uploads as u128)?;
+    let mut text = head.into_bytes();
     text.extend_from_slice(&ends.text)?;
-    let validators = sums.validators.len();
     let mut lines = String::new(alloc);
     write_totals(&mut lines, &sums.totals)?;
-    write!(lines, "validators {validators}\n")?;
+    write_section_head(&mut lines, "validators ", sums.validators.len() as u128)?;
     write_validators(&mut lines, &sums.validators)?;
-    let tokens = sums.tokens;
-    write!(lines, "tokens {tokens}\n")?;
+    write_section_head(&mut lines, "tokens ", sums.tokens)?;
     text.extend_from_slice(lines.as_bytes())?;
     Ok(text)
 }
@@ -141,7 +143,7 @@ pub fn merge<R: BufRead + Drop, W: Write>(
     ensures whole { IfOk result (λ are_posted. (end_files report_files : List (List ℕ))
         → AreLeft R.remaining ends.items end_files → AreLeft R.remaining reports.items report_files
         → (text : List ℕ) × (merged : IsMerged end_files report_files text)
-        × (IsTrue are_posted ↔ All (λ end. end.fault ≡ None) (all_ends merged.ends))
+        × (IsTrue are_posted ↔ All (λ end. IsTrue (is_posted end)) (all_ends merged.ends))
         × Appends (W.contents out.old) (W.contents out.new) text) }
     ensures refused { IfErr result (λ fault. IsOfTexts fault
         → (end_files report_files : List (List ℕ))

@@ -1,11 +1,12 @@
 //! How the uploads of the whole ended.
 
-ghost use Rattle.std.specs.Prelude.{◌≡◌, ◌+◌, ◌*◌, ◌<◌, ◌≤◌, ◌↔◌, [], ◌++◌, None, IsTrue, OnOk};
+ghost use Rattle.std.specs.Prelude.{◌≡◌, ◌+◌, ◌*◌, ◌<◌, ◌≤◌, ◌↔◌, [], ◌++◌, IsTrue, OnOk};
 ghost use Rattle.std.specs.Prelude.{length, vec_len};
+ghost use Rattle.report_texts.specs.UploadEnds.{is_posted, taps_told};
 
 pub(crate) mod read;
 
-use crate::form::End;
+use report_texts::UploadEnd;
 use std::alloc::{AllocError, Global};
 
 /// How the uploads of the whole ended.
@@ -40,18 +41,18 @@ impl UploadEnds {
     }
 
     /// Adds the line of an upload's end.
-    pub(crate) fn add(&mut self, line: &[u8], end: End) -> Result<(), AllocError>
+    pub(crate) fn add(&mut self, line: &[u8], end: UploadEnd) -> Result<(), AllocError>
         requires { 0 < length line.now }
         ensures text { OnOk result (self.new.text.items ≡ self.old.text.items ++ line.now) }
         ensures uploads { OnOk result (self.new.uploads ≡ self.old.uploads + 1) }
-        ensures taps { OnOk result (self.new.taps ≡ self.old.taps + end.taps) }
+        ensures taps { OnOk result (self.new.taps ≡ self.old.taps + taps_told end) }
         ensures posted { OnOk result (IsTrue self.new.are_posted
-            ↔ (IsTrue self.old.are_posted × (end.fault ≡ None))) }
+            ↔ (IsTrue self.old.are_posted × IsTrue (is_posted end))) }
     {
         self.text.extend_from_slice(line)?;
         self.uploads += 1;
-        self.taps += u128::from(end.taps);
-        self.are_posted = self.are_posted && end.fault.is_none();
+        self.taps += u128::from(end.taps());
+        self.are_posted = self.are_posted && end.is_posted();
         Ok(())
     }
 }

@@ -2,7 +2,8 @@
 
 ghost use Rattle.std.specs.Prelude.{◌≡◌, All, IfOk, List, map};
 ghost use Rattle.shard_book.specs.declared.entry.Entry.{Entry};
-ghost use Rattle.fare_service.specs.Plain.{AreApart, IsPlain, IsReportOver, WasNotCut};
+ghost use Rattle.fare_service.specs.Plain.{AreApart, IsPlain, WasNotCut};
+ghost use Rattle.report_texts.specs.OverHistory.{IsReportOver};
 ghost use Rattle.fare_service.specs.Printed.{report_of};
 ghost use Rattle.fare_service.specs.Shares.{IsShareOf};
 

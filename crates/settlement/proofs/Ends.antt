@@ -5,9 +5,9 @@ use Rattle.tap_views.specs.declared.encoder.TapFields.{TapFields}
 use Rattle.tap_views.specs.Files.{AreGoodTaps, taps_of_batches}
 use Rattle.tap_parts.specs.Uploads.{IsUploadAddedBy}
 use Rattle.tap_parts.specs.declared.upload.UploadTaps.{UploadTaps}
-use Rattle.fare_service.specs.EndsOfUploads.{end_by}
-use Rattle.fare_service.specs.Plain.{IsPlainEnd}
-use Rattle.fare_service.specs.declared.upload_end.UploadEnd.{UploadEnd}
+use Rattle.report_texts.specs.UploadEnds.{end_by}
+use Rattle.report_texts.specs.UploadEnds.{IsPlainEnd}
+use Rattle.report_texts.specs.declared.upload_end.UploadEnd.{UploadEnd}
 
 -- the taps that were added are those of the upload
 pub taps_added : (part_of : List ℕ → ℕ) (upload : List ℕ) (old new : List (List TapFields)) (added : UploadTaps)

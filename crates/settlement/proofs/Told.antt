@@ -24,12 +24,13 @@ use Rattle.tap_parts.specs.Parts.{taps_at}
 use Rattle.fare_service.specs.Headline.{Headline}
 use Rattle.fare_service.specs.Outcomes.{OutcomeView}
 use Rattle.tap_views.specs.Files.{AreGoodTapsOfEach, HasOneReading}
-use Rattle.fare_service.specs.Plain.{IsPlain, IsStatementOver}
+use Rattle.fare_service.specs.Plain.{IsPlain}
+use Rattle.report_texts.specs.OverHistory.{IsStatementOver}
 use Rattle.fare_service.specs.Plain.{IsUncutGathering, WasNotCut}
 use Rattle.shard_book.specs.Plain.{plain, unanswered}
 use Rattle.fare_service.specs.Shares.{Worked}
-use Rattle.fare_service.specs.Text.{report}
-use Rattle.fare_service.specs.declared.upload_end.UploadEnd.{UploadEnd}
+use Rattle.report_texts.specs.Report.{report}
+use Rattle.report_texts.specs.declared.upload_end.UploadEnd.{UploadEnd}
 use Rattle.fare_service.proofs.GatheredWork.{Given}
 use Rattle.fare_service.proofs.PlainBooks.{each_length}
 use Rattle.shard_book.proofs.PlainReplies.{bare, own_bare, plain_bare, plain_legal, same_replies}

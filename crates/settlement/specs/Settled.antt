@@ -7,9 +7,9 @@ use Rattle.fare_table.specs.Fares.{Fares}
 use Rattle.shard_book.specs.declared.entry.Entry.{Entry}
 use Rattle.tap_parts.specs.Parts.{taps_at, taps_of_uploads}
 use Rattle.tap_views.specs.Files.{AreGoodTapsOfEach, IsFileOf}
-use Rattle.fare_service.specs.Plain.{ArePlainEnds}
+use Rattle.report_texts.specs.UploadEnds.{ArePlainEnds}
 use Rattle.shard_book.specs.Plain.{plain}
-use Rattle.fare_service.specs.declared.upload_end.UploadEnd.{UploadEnd}
+use Rattle.report_texts.specs.declared.upload_end.UploadEnd.{UploadEnd}
 use Rattle.tap_parts.specs.Canonical.{IsCanonical}
 
 -- The settled history of uploads under a table: all good taps of the uploads, in canonical order,

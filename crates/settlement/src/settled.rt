@@ -1,7 +1,7 @@
 //! Uploads, settled.
 
 ghost use Rattle.std.specs.Prelude.{◌<◌, ◌≤◌, ◌^◌, IfOk, List, length, map};
-ghost use Rattle.fare_service.specs.Plain.{ArePlainEnds};
+ghost use Rattle.report_texts.specs.UploadEnds.{ArePlainEnds};
 ghost use Rattle.shard_book.specs.declared.entry.Entry.{Entry};
 ghost use Rattle.settlement.specs.Bills.{IsBillOf};
 ghost use Rattle.settlement.specs.Settled.{IsSettled, IsSettledHistory};

@@ -39,7 +39,7 @@ use Rattle.ledger_texts.specs.Explained.{AreEarlierLines, AreExplainedAfter, Are
 use Rattle.ledger_texts.specs.Explained.{IsExplained, IsExplainedLine, IsExplainedWindow}
 use Rattle.ledger_texts.specs.Explained.{IsLastLine, earlier_windows, terms_line}
 use Rattle.ledger_texts.specs.Ledger.{AreLinesOfEach, IsLedgerOver, tokens_told}
-use Rattle.fare_service.specs.Plain.{IsStatementOver}
+use Rattle.report_texts.specs.OverHistory.{IsStatementOver}
 use Rattle.ledger_check.proofs.SameLines.{line_same, moment_same}
 
 -- two pieces, one behind the other

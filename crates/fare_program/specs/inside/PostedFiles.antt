@@ -4,9 +4,9 @@ use Rattle.std.specs.Option.{option_map_or}
 use Rattle.fare_table.specs.Fares.{Fares}
 use Rattle.fare_table.specs.declared.token.Token.{Token}
 use Rattle.fare_service.specs.Outcomes.{OutcomeView}
-use Rattle.fare_service.specs.declared.upload_end.UploadEnd.{UploadEnd}
+use Rattle.report_texts.specs.declared.upload_end.UploadEnd.{UploadEnd}
 use Rattle.fare_program.specs.Options.{Asked}
-use Rattle.fare_program.specs.Posted.{are_posted}
+use Rattle.report_texts.specs.UploadEnds.{are_posted}
 use Rattle.fare_program.specs.Program.{ShowsOf, ShowsPlain}
 use Rattle.fare_service.specs.Headline.{HasRun}
 use Rattle.fare_program.specs.inside.Settling.{IsOutcomeOf}

@@ -3,9 +3,10 @@ use Rattle.std.specs.Prelude.{◌≡◌, ℕ, Bool, List}
 use Rattle.shard_book.specs.declared.entry.Entry.{Entry}
 use Rattle.fare_table.specs.Fares.{Fares}
 use Rattle.fare_service.specs.Outcomes.{OutcomeView}
-use Rattle.fare_program.specs.Posted.{are_posted}
-use Rattle.fare_service.specs.Plain.{ArePlainEnds, IsReportOver}
-use Rattle.fare_service.specs.declared.upload_end.UploadEnd.{UploadEnd}
+use Rattle.report_texts.specs.UploadEnds.{are_posted}
+use Rattle.report_texts.specs.UploadEnds.{ArePlainEnds}
+use Rattle.report_texts.specs.OverHistory.{IsReportOver}
+use Rattle.report_texts.specs.declared.upload_end.UploadEnd.{UploadEnd}
 use Rattle.settlement.specs.Settled.{IsSettledHistory}
 use Rattle.settlement.specs.SettledTexts.{HasSettledTexts}
 

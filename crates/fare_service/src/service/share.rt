@@ -2,7 +2,7 @@
 
 ghost use Rattle.std.specs.Prelude.{◌≡◌};
 
-use crate::upload_end::UploadEnd;
+use report_texts::UploadEnd;
 use shard_book::Totals;
 use shared_books::{Drawer, Pass};
 use std::marker::Model;

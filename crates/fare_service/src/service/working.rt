@@ -7,8 +7,8 @@ ghost use Rattle.shard_book.specs.Sums.{sums_of, sums_of_replies, add_sums};
 
 use crate::service::Service;
 use crate::service::share::{Done, Posting, Share};
-use crate::upload_end::UploadEnd;
 use fare_table::{Clock, NoMemory};
+use report_texts::UploadEnd;
 use shard_book::{Replies, RunEnd, Tally, Totals};
 use shared_books::{Drawer, Full};
 use std::alloc::Global;

@@ -2,7 +2,7 @@ use Rattle.std.proofs.Common.{ℕ, List, ap, ◌∙◌}
 use Rattle.fare_table.specs.declared.token.Token.{Token}
 use Rattle.shard_book.specs.SumsByKey.{sums_by_validator}
 use Rattle.shard_book.specs.Sums.{Sums, sums}
-use Rattle.fare_service.specs.Text.{report}
+use Rattle.report_texts.specs.Report.{report}
 use Rattle.part_laws.proofs.merged_report.Goals as goal
 
 pub returns : goal.returns

@@ -7,7 +7,7 @@ use Rattle.account_rule.specs.Windows.{last_window}
 use Rattle.shard_book.specs.Entry.{own, tap_of, taps_of}
 use Rattle.shard_book.specs.Sums.{sums}
 use Rattle.shard_book.specs.declared.entry.Entry.{Entry}
-use Rattle.fare_service.specs.Plain.{IsStatementOver}
+use Rattle.report_texts.specs.OverHistory.{IsStatementOver}
 use Rattle.part_laws.proofs.Merging.{merged, own_there}
 use Rattle.part_laws.proofs.parts_have_the_whole_sums.Goals as goal
 

@@ -1,32 +1,34 @@
 -- What stands in a part's report before the lines of its tokens.
-use Rattle.std.specs.Prelude.{◌≡◌, ℕ, ◌<◌, ◌^◌, List, [], ◌∷◌, ◌++◌, codes, All, None, length, map}
-use Rattle.std.specs.Prelude.{flat_map}
+use Rattle.std.specs.Prelude.{◌≡◌, ℕ, ◌<◌, ◌^◌, List, [], ◌∷◌, ◌++◌, codes, All, IsTrue, length}
+use Rattle.std.specs.Prelude.{map}
 use Rattle.std.specs.List.Sorted.{IsStrictlySortedBy}
 use Rattle.std.specs.Map.{keys_of}
 use Rattle.std.specs.Ordering.{nat_cmp}
 use Rattle.shard_book.specs.Shown.{validator_sum}
 use Rattle.shard_book.specs.Sums.{Sums, sums_of}
 use Rattle.shard_book.specs.declared.sums.ValidatorSum.{ValidatorSum}
-use Rattle.part_reports.specs.Lines.{End, IsUploadEnd, AreCounts, IsValidatorSum}
-use Rattle.fare_texts.specs.ReportLines.{number_line, validator_line}
-use Rattle.part_reports.specs.Lines.{end_lines}
-use Rattle.part_reports.specs.Reports.{front_text}
+use Rattle.report_texts.specs.Numbers.{IsUploadEnd, AreCounts, IsValidatorSum}
+use Rattle.fare_texts.specs.Counts.{totals_line}
+use Rattle.fare_texts.specs.ReportLines.{number_line}
+use Rattle.report_texts.specs.Report.{uploads_section, validators_section}
+use Rattle.report_texts.specs.UploadEnds.{is_posted}
+use Rattle.report_texts.specs.declared.upload_end.UploadEnd.{UploadEnd}
 use Rattle.part_reports.specs.declared.front.Front.{Front}
 
 -- so many uploads ended so, and each was posted
-pub record AreSoManyPosted (count : ℕ) (ends : List End) : Type 0 where
+pub record AreSoManyPosted (count : ℕ) (ends : List UploadEnd) : Type 0 where
   pub number : length ends ≡ count
   pub each : All IsUploadEnd ends
-  pub posted : All (λ end. end.fault ≡ None) ends
+  pub posted : All (λ end. IsTrue (is_posted end)) ends
 
 -- uploads ended so, each was posted, and their number has 64 bits
-pub record AreEnds (ends : List End) : Type 0 where
+pub record AreEnds (ends : List UploadEnd) : Type 0 where
   pub few : length ends < 2 ^ 64
   pub are : AreSoManyPosted (length ends) ends
 
 -- the line of their number, and their lines
-abbrev pub ends_text : List End → List ℕ
-ends_text ends = number_line (codes "uploads ") (length ends) ++ end_lines 0 ends
+abbrev pub ends_text : List UploadEnd → List ℕ
+ends_text = uploads_section
 
 -- so many validators, which rise
 pub record AreRising (count : ℕ) (validators : List (ℕ × Sums)) : Type 0 where
@@ -41,8 +43,7 @@ pub record AreValidators (validators : List (ℕ × Sums)) : Type 0 where
 
 -- the line of their number, and their lines
 abbrev pub validators_text : List (ℕ × Sums) → List ℕ
-validators_text validators =
-    number_line (codes "validators ") (length validators) ++ flat_map validator_line validators
+validators_text = validators_section
 
 -- the validator is above the last of these
 abbrev pub MayFollowValidators : List (ℕ × Sums) → ℕ → Type 0
@@ -54,9 +55,15 @@ MayFollowValidators (sum ∷ (next ∷ more)) validator = MayFollowValidators (n
 abbrev pub AreSums : List ValidatorSum → List (ℕ × Sums) → Type 0
 AreSums sums validators = map validator_sum sums ≡ validators
 
+-- the text of a report up to the lines of its tokens
+abbrev pub front_text : List UploadEnd → Sums → List (ℕ × Sums) → ℕ → List ℕ
+front_text ends totals validators tokens =
+    uploads_section ends ++ (totals_line totals
+    ++ (validators_section validators ++ number_line (codes "tokens ") tokens))
+
 -- a report up to the lines of its tokens
 pub record ToldFront : Type 0 where
-  pub ends : List End
+  pub ends : List UploadEnd
   pub totals : Sums
   pub validators : List (ℕ × Sums)
   pub tokens : ℕ

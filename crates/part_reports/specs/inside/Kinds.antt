@@ -5,7 +5,7 @@ use Rattle.std.specs.List.Sorted.{IsStrictlySortedBy}
 use Rattle.fare_table.specs.Token.{token_cmp}
 use Rattle.shard_book.specs.Sums.{Sums}
 use Rattle.fare_texts.specs.ReportLines.{token_line}
-use Rattle.part_reports.specs.Lines.{IsTokenSum}
+use Rattle.report_texts.specs.Numbers.{IsTokenSum}
 use Rattle.part_reports.specs.Ledgers.{IsLedgerEntryLine}
 use Rattle.part_reports.specs.TokenLines.{TokenLine, DoNotFall, text_of}
 use Rattle.part_reports.specs.declared.merging.LineKind.{LineKind}

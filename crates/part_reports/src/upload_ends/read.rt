@@ -2,15 +2,16 @@
 
 ghost use Rattle.std.specs.Prelude.{◌≡◌, ◌<◌, ℕ, List, All, IfErr, IfOk, IsSome, length};
 ghost use Rattle.part_reports.specs.Faults.{IsOfTaps, IsOfTexts};
-ghost use Rattle.part_reports.specs.Lines.{End as EndOfUpload, IsUploadEnd};
+ghost use Rattle.report_texts.specs.Numbers.{IsUploadEnd};
+ghost use Rattle.report_texts.specs.declared.upload_end.UploadEnd.{UploadEnd as AnEnd};
 ghost use Rattle.part_reports.specs.Reports.{end_texts, all_ends};
 ghost use Rattle.part_reports.specs.Texts.{AreLeft};
 ghost use Rattle.part_reports.specs.inside.UploadEnds.{HaveReadEnds, AreEndsAdded, IsNextEnd};
 
 use crate::fault::MergeFault;
-use crate::form::{End, end_of};
 use crate::line_reader::LineReader;
 use crate::upload_ends::UploadEnds;
+use report_texts::{UploadEnd, end_of};
 use std::alloc::Global;
 use std::io::BufRead;
 
@@ -18,7 +19,7 @@ use std::io::BufRead;
 fn next_end<R: BufRead + Drop>(
     lines: &mut LineReader<R>,
     upload: u64,
-) -> Result<Option<End>, MergeFault>
+) -> Result<Option<UploadEnd>, MergeFault>
     ensures next { IsNextEnd upload (R.remaining lines.old.from) (R.remaining lines.new.from)
         lines.new.line.items result }
     ensures some { IfOk result (λ end. IsSome end → 0 < length lines.new.line.items) }
@@ -56,10 +57,10 @@ pub(crate) fn read_ends<R: BufRead + Drop>(
     texts: Vec<R>,
 ) -> Result<UploadEnds, MergeFault>
     ensures told { IfOk result (λ ends. (files : List (List ℕ))
-        → AreLeft R.remaining texts.items files → (lists : List (List EndOfUpload))
+        → AreLeft R.remaining texts.items files → (lists : List (List AnEnd))
         × (files ≡ end_texts 0 lists) × HaveReadEnds ends (all_ends lists)) }
     ensures refused { IfErr result (λ fault. IsOfTexts fault → (files : List (List ℕ))
-        → AreLeft R.remaining texts.items files → (lists : List (List EndOfUpload))
+        → AreLeft R.remaining texts.items files → (lists : List (List AnEnd))
         → All IsUploadEnd (all_ends lists) → ¬ (files ≡ end_texts 0 lists)) }
     ensures other { IfErr result (λ fault. ¬ (IsOfTaps fault)) }
 {

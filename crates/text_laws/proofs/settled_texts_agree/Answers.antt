@@ -7,7 +7,7 @@ use Rattle.shard_book.specs.Entry.{own}
 use Rattle.shard_book.specs.declared.entry.Entry.{Entry}
 use Rattle.ledger_texts.specs.Explained.{IsExplainedOver}
 use Rattle.ledger_texts.specs.Ledger.{IsLedgerOver}
-use Rattle.fare_service.specs.Plain.{IsStatementOver}
+use Rattle.report_texts.specs.OverHistory.{IsStatementOver}
 use Rattle.fare_program.specs.Settling.{IsTextOver}
 use Rattle.settlement.specs.Alike.{DifferInUploads}
 use Rattle.settlement.specs.Settled.{IsSettledHistory}

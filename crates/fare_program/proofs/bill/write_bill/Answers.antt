@@ -5,8 +5,8 @@ use Rattle.shard_book.specs.Shown.{validator_sum}
 use Rattle.shard_book.specs.SumsByKey.{sums_by_token, sums_by_validator}
 use Rattle.shard_book.specs.TalliesByKey.{HasRoom}
 use Rattle.shard_book.proofs.SumsLemmas.{sums-taps}
-use Rattle.fare_service.specs.Text.{report}
-use Rattle.fare_program.specs.Posted.{are_posted}
+use Rattle.report_texts.specs.Report.{report}
+use Rattle.report_texts.specs.UploadEnds.{are_posted}
 use Rattle.fare_program.proofs.bill.write_bill.Goals as goal
 
 pub totals-totals-requires : goal.totals-totals-requires

@@ -2,9 +2,9 @@ use Rattle.std.proofs.Common.{◌∙◌, ℕ, List, ap, map, subst}
 use Rattle.std.specs.Io.KnownBytes.{Appends}
 use Rattle.std.proofs.lemmas.Result.{IfOk-weaker}
 use Rattle.std.proofs.KnownBytes.{Appends-kept}
-use Rattle.fare_service.specs.declared.upload_end.UploadEnd.{UploadEnd}
+use Rattle.report_texts.specs.declared.upload_end.UploadEnd.{UploadEnd}
 use Rattle.fare_program.specs.inside.Options.{asked_of}
-use Rattle.fare_program.specs.Posted.{are_posted}
+use Rattle.report_texts.specs.UploadEnds.{are_posted}
 use Rattle.fare_program.specs.Program.{ShowsAsked, ShowsOf}
 use Rattle.fare_program.specs.inside.Settling.{ShowsBill}
 use Rattle.fare_program.proofs.Billed.{no_token, shows_bill}

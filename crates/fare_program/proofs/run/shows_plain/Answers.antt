@@ -4,16 +4,17 @@ use Rattle.fare_table.specs.Fares.{Fares}
 use Rattle.shard_book.specs.declared.entry.Entry.{Entry}
 use Rattle.fare_table.specs.declared.token.Token.{Token}
 use Rattle.fare_service.specs.Outcomes.{OutcomeView}
-use Rattle.fare_service.specs.Plain.{IsReportOver, IsStatementOver, IsUncutGathering, WasNotCut}
+use Rattle.report_texts.specs.OverHistory.{IsReportOver, IsStatementOver}
+use Rattle.fare_service.specs.Plain.{IsUncutGathering, WasNotCut}
 use Rattle.fare_service.specs.Printed.{IsStatementOf, report_of}
-use Rattle.fare_service.specs.declared.upload_end.UploadEnd.{UploadEnd}
-use Rattle.fare_service.specs.declared.upload_end.UploadEnd.TheVariants.{Posted, Refused, Cut, Undrawn}
+use Rattle.report_texts.specs.declared.upload_end.UploadEnd.{UploadEnd}
+use Rattle.report_texts.specs.declared.upload_end.UploadEnd.TheVariants.{Posted, Refused, Cut, Undrawn}
 use Rattle.std.specs.Prelude.{MatchBool, slice_get}
 use Rattle.shard_book.specs.Book.{Book}
 use Rattle.fare_service.proofs.PlainSums.{own_all}
 use Rattle.ledger_texts.specs.Explained.{IsExplainedOf, IsExplainedOver}
 use Rattle.fare_program.proofs.Explains.{explained_same}
-use Rattle.fare_program.specs.Posted.{are_posted}
+use Rattle.report_texts.specs.UploadEnds.{are_posted}
 use Rattle.ledger_texts.specs.Ledger.{IsLedgerOfBooks, IsLedgerOver}
 use Rattle.fare_program.specs.Program.{ShowsWith}
 use Rattle.fare_program.proofs.Ledgers.{ledger_same}

@@ -1,4 +1,4 @@
-use Rattle.part_reports.specs.Lines.{AreCounts}
+use Rattle.report_texts.specs.Numbers.{AreCounts}
 use Rattle.fare_texts.specs.Counts.{totals_line}
 use Rattle.shard_book.specs.Sums.{sums_of}
 use Rattle.part_reports.proofs.LinesRead.{read_line}

@@ -1,5 +1,5 @@
 use Rattle.fare_texts.specs.ReportLines.{validator_line}
-use Rattle.part_reports.specs.Lines.{IsValidatorSum}
+use Rattle.report_texts.specs.Numbers.{IsValidatorSum}
 use Rattle.shard_book.specs.Shown.{validator_sum}
 use Rattle.part_reports.proofs.LinesRead.{read_line}
 use Rattle.part_reports.proofs.OneLine.{validator_line_is_one}

@@ -13,14 +13,14 @@ returns-in_err-end-clause-read g c =
     c.in_err-end.field-0.0 c.loop-upload-test.true c.loop-upload.invariant
     c.in_err-end.ensures.read)
 
-pub returns-then-is_some-clause-read : goal.returns-then-is_some-clause-read
-returns-then-is_some-clause-read g c =
+pub returns-then-not-is_posted-clause-read : goal.returns-then-not-is_posted-clause-read
+returns-then-not-is_posted-clause-read g c =
     let old = g.R.Read.remaining c.args.reader.now.from in
     let now = g.R.Read.remaining c.loop-upload.reader.from in
     let new = g.R.Read.remaining c.next_end.new.reader.from in
     posted_not c.args.uploads c.loop-upload.upload old now new c.in_ok-end.end c.fault.result
     c.loop-upload-test.true c.loop-upload.invariant c.in_ok-end.ensures.read
-    (sym c.is_some.ensures ∙ c.if-is_some.true)
+    (sym c.is_posted.ensures ∙ c.if-not-is_posted.true)
 
 pub loop-upload-preserved : goal.loop-upload-preserved
 loop-upload-preserved g c =
@@ -28,4 +28,4 @@ loop-upload-preserved g c =
     let now = g.R.Read.remaining c.loop-upload.reader.from in
     let new = g.R.Read.remaining c.next_end.new.reader.from in
     posted_more c.loop-upload.upload old now new c.in_ok-end.end c.loop-upload.invariant
-    c.in_ok-end.ensures.read (sym c.is_some.ensures ∙ c.if-is_some.false)
+    c.in_ok-end.ensures.read (sym c.is_posted.ensures ∙ c.if-not-is_posted.false)

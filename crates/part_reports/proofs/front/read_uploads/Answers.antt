@@ -1,11 +1,12 @@
 use Rattle.std.proofs.Common.{List, codes, length}
 use Rattle.std.proofs.lemmas.Result.{err_from_is_err_and}
-use Rattle.part_reports.specs.Lines.{End, end_lines}
 use Rattle.part_reports.specs.inside.Fronts.{AreSoManyPosted, AreEnds}
 use Rattle.part_reports.proofs.Counted.{Counting, counted, counted_no_head}
 use Rattle.part_reports.proofs.front.read_uploads.Goals as goal
+use Rattle.report_texts.specs.Report.{upload_lines}
+use Rattle.report_texts.specs.declared.upload_end.UploadEnd.{UploadEnd}
 
-counting : Counting AreSoManyPosted AreEnds (λ (ends : List End). length ends)
+counting : Counting AreSoManyPosted AreEnds (λ (ends : List UploadEnd). length ends)
 counting = record {
   few = λ ends is. is.few;
   are = λ ends is. is.are;
@@ -19,7 +20,7 @@ returns-in_err-uploads-clause-read g c =
     let now = g.R.Read.remaining c.next_head.new.reader.from in
     let p = err_from_is_err_and c.from_residual.result c.from_residual.ensures.1 in
     rw (p.1, p.2) (counted_no_head {T = Unit {0}} (λ _ _. Unit {0}) AreSoManyPosted AreEnds
-    (λ (ends : List End). length ends) (codes "uploads ") (end_lines 0) counting old now now
+    (λ (ends : List UploadEnd). length ends) (codes "uploads ") (upload_lines 0) counting old now now
     c.in_err-uploads.field-0.0 c.in_err-uploads.ensures.read)
 
 pub returns-clause-read : goal.returns-clause-read
@@ -27,6 +28,6 @@ returns-clause-read g c =
     let old = g.R.Read.remaining c.args.reader.now.from in
     let now = g.R.Read.remaining c.next_head.new.reader.from in
     let after = g.R.Read.remaining c.read_posted.new.reader.from in
-    counted {T = Unit {0}} (λ _ _. Unit {0}) AreSoManyPosted AreEnds (λ (ends : List End). length ends)
-    (codes "uploads ") (end_lines 0) counting old now after c.in_ok-uploads.uploads
+    counted {T = Unit {0}} (λ _ _. Unit {0}) AreSoManyPosted AreEnds (λ (ends : List UploadEnd). length ends)
+    (codes "uploads ") (upload_lines 0) counting old now after c.in_ok-uploads.uploads
     c.read_posted.result c.in_ok-uploads.ensures.read c.read_posted.ensures.read

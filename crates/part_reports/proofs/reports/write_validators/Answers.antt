@@ -10,9 +10,9 @@ use Rattle.part_reports.proofs.reports.write_validators.Goals as goal
 pub loop-validator-preserved : goal.loop-validator-preserved
 loop-validator-preserved c =
     line_written (string_bytes c.args.text.now) (string_bytes c.loop-validator.text)
-    (string_bytes c.write.new.self) (string_bytes c.write_counts.new.text)
+    (string_bytes c.write_validator.new.text)
     c.loop-validator.yielded c.in-Some.validator c.in-Some.totals c.loop-validator.invariant
-    c.in_ok-write.ensures.bytes c.in_ok-write_counts.ensures
+    c.in_ok-write_validator.ensures
 
 pub returns-clause-text : goal.returns-clause-text
 returns-clause-text c =

@@ -2,9 +2,9 @@ use Rattle.std.proofs.Common.{◌≡◌, refl, ℕ, List, [], ◌∷◌, ◌++�
 use Rattle.std.proofs.Common.{◌∙◌, subst, arith, append_assoc, append-nil}
 use Rattle.std.proofs.lemmas.List.{map-append}
 use Rattle.std.specs.Vec.Iter.{into_iter_items}
-use Rattle.fare_service.specs.declared.upload_end.UploadEnd.{UploadEnd}
+use Rattle.report_texts.specs.declared.upload_end.UploadEnd.{UploadEnd}
 use Rattle.tap_views.specs.Files.{AreGoodTapsOfEach, taps_of_batches}
-use Rattle.fare_service.specs.Plain.{IsPlainEnd, ArePlainEnds}
+use Rattle.report_texts.specs.UploadEnds.{IsPlainEnd, ArePlainEnds}
 use Rattle.tap_views.proofs.ReadingLemmas.{each_more}
 use Rattle.fare_service.proofs.PlainRuns.{AllZip-append}
 use Rattle.tap_parts.proofs.Adding.{none_added, batch_added}

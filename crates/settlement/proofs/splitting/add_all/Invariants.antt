@@ -4,7 +4,7 @@ use Rattle.tap_views.specs.Layout.{Tap}
 use Rattle.tap_parts.specs.Parts.{AreAddedBy}
 use Rattle.tap_parts.specs.Ranges.{range_of_token}
 use Rattle.tap_views.specs.Files.{AreGoodTapsOfEach}
-use Rattle.fare_service.specs.Plain.{ArePlainEnds}
+use Rattle.report_texts.specs.UploadEnds.{ArePlainEnds}
 use Rattle.tap_parts.specs.Parts.{taps_of_uploads}
 use Rattle.settlement.proofs.splitting.add_all.Given as goal
 

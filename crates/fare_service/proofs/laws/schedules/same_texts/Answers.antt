@@ -1,6 +1,6 @@
 use Rattle.std.proofs.Common.{◌≡◌, List, ℕ, Vec, Global, map, sym, subst}
 use Rattle.shard_book.specs.declared.entry.Entry.{Entry}
-use Rattle.fare_service.specs.Plain.{IsReportOver, IsStatementOver}
+use Rattle.report_texts.specs.OverHistory.{IsReportOver, IsStatementOver}
 use Rattle.fare_service.specs.Printed.{report_of}
 use Rattle.fare_service.proofs.PlainSame.{one_report}
 use Rattle.fare_service.proofs.laws.schedules.same_texts.Goals as goal

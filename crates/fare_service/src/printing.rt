@@ -1,0 +1,107 @@
+//! Prints the report and the statements of an outcome. All memory is taken before the first byte
+//! is written.
+
+ghost use Rattle.std.specs.Prelude.{◌≡◌, ℕ, List, OnOk, IfOk, IfErr, string_bytes};
+ghost use Rattle.std.specs.Prelude.{map};
+ghost use Rattle.std.specs.Io.KnownBytes.{Appends};
+ghost use Rattle.shard_book.specs.Shown.{validator_sum};
+ghost use Rattle.shard_book.specs.SumsByKey.{all_entries, sums_by_token, sums_by_validator};
+ghost use Rattle.fare_service.specs.Printed.{report_of, report_with, IsStatementOf};
+ghost use Rattle.fare_texts.specs.PrintFaults.{KeepsUnlessWrite};
+
+use crate::outcome::Outcome;
+use fare_table::NoMemory;
+use fare_texts::{PrintFault, statement_text, write_out};
+use report_texts::{UploadEnd, write_report};
+use shard_book::{Token, TokenSums, ValidatorSum, sums_by_validator};
+use std::alloc::Global;
+use std::io::Write;
+use std::marker::Sync;
+use std::thread::Threads;
+use tap_views::shard_of;
+
+impl Outcome {
+    /// The sums of each validator, and those of each token.
+    fn sums<R: Threads + Sync>(
+        &self,
+        rt: &R,
+        alloc: Global,
+    ) -> Result<(Vec<ValidatorSum>, TokenSums), NoMemory>
+        ensures validators { IfOk result (λ sums. map validator_sum sums.0.items
+            ≡ sums_by_validator (all_entries self.now.books)) }
+        ensures tokens { IfOk result
+            (λ sums. sums.1 ≡ sums_by_token (all_entries self.now.books)) }
+    {
+        let validators = sums_by_validator(rt, alloc, self.books.as_slice())?;
+        let tokens = TokenSums::of(alloc, self.books.as_slice())?;
+        Ok((validators, tokens))
+    }
+
+    /// The text of a token's statement.
+    fn statement(&self, alloc: Global, token: &Token) -> Result<String, NoMemory>
+        ensures { IfOk result (λ text. IsStatementOf self.now token.now (string_bytes text)) }
+    {
+        let bytes = token.bytes();
+        let book = self.book(shard_of(&bytes, self.shards()));
+        let statement = book.statement(alloc, token)?;
+        let text = statement_text(alloc, book.table(), &statement)?;
+        Ok(text)
+    }
+
+    /// Writes the report: the end of each upload, the totals of all books, the sums of each
+    /// validator, by rising validator, and those of each token, by rising token. Of many entries,
+    /// threads sum up a quarter of the books each; where one is refused, another does its part. On
+    /// a fault of memory nothing was written.
+    pub fn write_report<R: Threads + Sync, W: Write>(
+        &self,
+        rt: &R,
+        alloc: Global,
+        out: &mut W,
+    ) -> Result<(), PrintFault>
+        ensures ok { OnOk result
+            (Appends (W.contents out.old) (W.contents out.new) (report_of self.now)) }
+        ensures fault { IfErr result (λ fault. KeepsUnlessWrite fault (out.new ≡ out.old)) }
+    {
+        self.write_report_with(rt, alloc, self.ends.as_slice(), out)
+    }
+
+    /// Writes the report as `write_report` does, with these ends of uploads in place of the
+    /// outcome's own: of the uploads that were given, where others were made of them and posted.
+    pub fn write_report_with<R: Threads + Sync, W: Write>(
+        &self,
+        rt: &R,
+        alloc: Global,
+        ends: &[UploadEnd],
+        out: &mut W,
+    ) -> Result<(), PrintFault>
+        ensures ok { OnOk result
+            (Appends (W.contents out.old) (W.contents out.new) (report_with ends.now self.now)) }
+        ensures fault { IfErr result (λ fault. KeepsUnlessWrite fault (out.new ≡ out.old)) }
+    {
+        let Ok((validators, tokens)) = self.sums(rt, alloc) else {
+            return Err(PrintFault::NoMemory);
+        };
+        let totals = self.totals();
+        write_report(alloc, ends, &totals, validators.as_slice(), &tokens, out)
+    }
+
+    /// Writes the statement of a token: its entries in the order of its shard's book, their totals
+    /// and its last window. A token without entries has a statement of no entries. On a fault of
+    /// memory nothing was written.
+    pub fn write_statement<W: Write>(
+        &self,
+        alloc: Global,
+        token: &Token,
+        out: &mut W,
+    ) -> Result<(), PrintFault>
+        ensures ok { OnOk result ((text : List ℕ) × IsStatementOf self.now token.now text
+            × Appends (W.contents out.old) (W.contents out.new) text) }
+        ensures fault { IfErr result (λ fault. KeepsUnlessWrite fault (out.new ≡ out.old)) }
+    {
+        let Ok(text) = self.statement(alloc, token) else {
+            return Err(PrintFault::NoMemory);
+        };
+        write_out(text.as_bytes(), out)?;
+        Ok(())
+    }
+}

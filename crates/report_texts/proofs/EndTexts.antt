@@ -1,0 +1,64 @@
+-- How an upload ended, at the end of its line.
+use Rattle.std.proofs.Common.{◌≡◌, ℕ, ◌<◌, ◌^◌, ◌++◌, ◌+◌, ◌∷◌, [], List, refl, sym, ap, ◌∙◌, append_assoc, arith, codes}
+use Rattle.std.specs.Fmt.{decimal}
+use Rattle.std.proofs.lemmas.Fmt.{decimal_digit}
+use Rattle.tap_views.specs.Names.{fault_name}
+use Rattle.tap_views.specs.declared.fault.LayoutFault.{LayoutFault}
+use Rattle.tap_views.specs.declared.fault.LayoutFault.TheVariants.{Short, Magic, Flags, TooMany, Length, Moment}
+use Rattle.fare_texts.specs.ReportLines.{number_line}
+use Rattle.report_texts.specs.Numbers.{IsUploadEnd}
+use Rattle.report_texts.specs.Report.{upload_line}
+use Rattle.report_texts.specs.inside.Counted.{BeginsWithNoDigit}
+use Rattle.report_texts.specs.inside.EndWords.{end_words, fault_number, fault_words}
+use Rattle.report_texts.specs.declared.upload_end.UploadEnd.{UploadEnd}
+use Rattle.report_texts.specs.declared.upload_end.UploadEnd.TheVariants.{Posted, Refused, Cut, Undrawn}
+
+pub end_begins : (end : UploadEnd) → BeginsWithNoDigit (end_words end)
+end_begins end = refl
+
+pub line_words : (number : ℕ) (end : UploadEnd)
+    → upload_line number end ≡ codes "upload " ++ (decimal number ++ end_words end)
+unfolding upload_line
+line_words number end = refl
+
+named_by : (digit : ℕ) → digit < 10 → codes "L" ++ (48 + digit) ∷ [] ≡ codes "L" ++ decimal digit
+named_by digit one = ap (λ (t : List ℕ). codes "L" ++ t) (sym (decimal_digit digit one))
+
+name_spelt : (fault : LayoutFault) → fault_name fault ≡ codes "L" ++ decimal (fault_number fault)
+name_spelt (Short have) = named_by 1 (omega arith)
+name_spelt Magic = named_by 2 (omega arith)
+name_spelt Flags = named_by 3 (omega arith)
+name_spelt (TooMany count) = named_by 4 (omega arith)
+name_spelt (Length want have) = named_by 5 (omega arith)
+name_spelt (Moment index) = named_by 6 (omega arith)
+
+-- the end of a refused upload, number behind number
+pub refused_spelt : (taps offset : ℕ) (fault : LayoutFault)
+    → end_words (Refused taps offset fault) ≡ codes " refused " ++ (decimal taps ++ fault_words offset fault)
+refused_spelt taps offset fault =
+    let named = ap (λ (t : List ℕ). decimal offset ++ (codes " " ++ (t ++ codes "\n")))
+    (name_spelt fault) in
+    let behind = append_assoc (decimal offset) (codes " " ++ fault_name fault) (codes "\n")
+    ∙ named in
+    ap (λ (t : List ℕ). codes " refused " ++ t) (append_assoc (decimal taps) (codes " at "
+    ++ (decimal offset ++ (codes " " ++ fault_name fault))) (codes "\n")
+    ∙ ap (λ (t : List ℕ). decimal taps ++ (codes " at " ++ t)) behind)
+
+pub small_number : (fault : LayoutFault) → fault_number fault < 2 ^ 64
+small_number (Short have) = omega arith
+small_number Magic = omega arith
+small_number Flags = omega arith
+small_number (TooMany count) = omega arith
+small_number (Length want have) = omega arith
+small_number (Moment index) = omega arith
+
+-- a text that tells of no posted upload, nor of a refused one, tells of no end
+pub no_end : (text : List ℕ) (end : UploadEnd) → IsUploadEnd end
+    → ((taps : ℕ) → taps < 2 ^ 64 → ¬ (text ≡ number_line (codes " posted ") taps))
+    → ((taps offset : ℕ) (fault : LayoutFault) → taps < 2 ^ 64 → offset < 2 ^ 64
+    → ¬ (text ≡ end_words (Refused taps offset fault))) → text ≡ end_words end → ⊥
+no_end text (Posted taps) fits posted refused is = posted taps fits is
+no_end text (Refused taps offset fault) fits posted refused is =
+    refused taps offset fault fits.0 fits.1 is
+no_end text (Cut taps) fits posted refused is = absurd fits
+no_end text Undrawn fits posted refused is = absurd fits

@@ -1,0 +1,6 @@
+pub mod Counts
+pub mod Digits
+pub mod EndTexts
+pub mod Nones
+pub mod Parts
+pub mod Tokens

@@ -1,0 +1,52 @@
+-- The text of the report, as a list of bytes. Each line ends with one line feed, numbers are
+-- decimal, and tokens are hexadecimal digits in lower case.
+use Rattle.std.specs.Prelude.{ℕ, ◌+◌, List, [], ◌∷◌, ◌++◌, length, codes}
+use Rattle.std.specs.Fmt.{decimal}
+use Rattle.std.specs.List.{flat_map}
+use Rattle.tap_views.specs.Names.{fault_name}
+use Rattle.shard_book.specs.Sums.{Sums}
+use Rattle.fare_table.specs.declared.token.Token.{Token}
+use Rattle.fare_texts.specs.ReportLines.{number_line, token_line, validator_line}
+use Rattle.fare_texts.specs.Counts.{totals_line}
+use Rattle.report_texts.specs.declared.upload_end.UploadEnd.{UploadEnd}
+use Rattle.report_texts.specs.declared.upload_end.UploadEnd.TheVariants.{Posted, Refused, Cut}
+use Rattle.report_texts.specs.declared.upload_end.UploadEnd.TheVariants.{Undrawn}
+
+-- the end of an upload, as `refused 2 at 64 L5`
+abbrev pub end_text : UploadEnd → List ℕ
+end_text (Posted taps) = codes "posted " ++ decimal taps
+end_text (Refused taps offset fault) =
+    codes "refused " ++ (decimal taps
+    ++ (codes " at " ++ (decimal offset ++ (codes " " ++ fault_name fault))))
+end_text (Cut taps) = codes "cut " ++ decimal taps
+end_text Undrawn = codes "undrawn"
+
+-- `upload 0 posted 4`
+unfoldable pub upload_line : ℕ → UploadEnd → List ℕ
+upload_line upload end =
+    codes "upload " ++ (decimal upload ++ (codes " " ++ (end_text end ++ codes "\n")))
+
+-- a line for each upload, the first of which has the number `upload`
+abbrev pub upload_lines : ℕ → List UploadEnd → List ℕ
+upload_lines upload [] = []
+upload_lines upload (end ∷ ends) = upload_line upload end ++ upload_lines (upload + 1) ends
+
+-- the uploads of a report
+abbrev pub uploads_section : List UploadEnd → List ℕ
+uploads_section ends = number_line (codes "uploads ") (length ends) ++ upload_lines 0 ends
+
+-- the validators of a report
+abbrev pub validators_section : List (ℕ × Sums) → List ℕ
+validators_section sums =
+    number_line (codes "validators ") (length sums) ++ flat_map validator_line sums
+
+-- the tokens of a report
+abbrev pub tokens_section : List (Token × Sums) → List ℕ
+tokens_section sums = number_line (codes "tokens ") (length sums) ++ flat_map token_line sums
+
+-- the report: the end of each upload, the totals, the sums of each validator and those of each
+-- token
+abbrev pub report : List UploadEnd → Sums → List (ℕ × Sums) → List (Token × Sums) → List ℕ
+report ends totals validators tokens =
+    uploads_section ends
+    ++ (totals_line totals ++ (validators_section validators ++ tokens_section tokens))

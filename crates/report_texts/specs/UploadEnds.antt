@@ -1,0 +1,45 @@
+-- How uploads ended, and how those end whose batches before their first faults were all posted
+-- whole.
+use Rattle.std.specs.Prelude.{◌≡◌, ℕ, Bool, true, false, List, length, Option, Some, None}
+use Rattle.std.specs.List.{flat_map, list_all, AllZip}
+use Rattle.tap_views.specs.Files.{IsFile, IsEndAfterBatches}
+use Rattle.tap_views.specs.Layout.{Tap}
+use Rattle.tap_views.specs.declared.fault.LayoutFault.{LayoutFault}
+use Rattle.report_texts.specs.declared.upload_end.UploadEnd.{UploadEnd}
+use Rattle.report_texts.specs.declared.upload_end.UploadEnd.TheVariants.{Posted, Refused, Cut}
+use Rattle.report_texts.specs.declared.upload_end.UploadEnd.TheVariants.{Undrawn}
+
+-- how many taps of an upload were posted, as its end tells
+abbrev pub taps_told : UploadEnd → ℕ
+taps_told (Posted taps) = taps
+taps_told (Refused taps offset fault) = taps
+taps_told (Cut taps) = taps
+taps_told Undrawn = 0
+
+-- whether the upload was posted whole
+abbrev pub is_posted : UploadEnd → Bool
+is_posted (Posted taps) = true
+is_posted _ = false
+
+-- each upload was posted whole
+abbrev pub are_posted : List UploadEnd → Bool
+are_posted = list_all is_posted
+
+-- how an upload ends: after so many taps, by this layout fault, if there is one
+abbrev pub end_by : ℕ → Option (ℕ × LayoutFault) → UploadEnd
+end_by taps None = Posted taps
+end_by taps (Some (offset, fault)) = Refused taps offset fault
+
+-- How an upload of these bytes ends where all batches before its first fault are posted: with the
+-- number of their taps, and the fault, if there is one.
+pub record IsPlainEnd (file : List ℕ) (end : UploadEnd) : Type 0 where
+  pub batches : List (List Tap)
+  pub rest : List ℕ
+  pub fault : Option (ℕ × LayoutFault)
+  pub is_file : IsFile file batches rest
+  pub is_fault : IsEndAfterBatches file rest fault
+  pub ended : end ≡ end_by (length (flat_map (λ batch. batch) batches)) fault
+
+-- each upload ended as its bytes call for
+abbrev pub ArePlainEnds : List (List ℕ) → List UploadEnd → Type 0
+ArePlainEnds uploads ends = AllZip IsPlainEnd uploads ends

@@ -1,0 +1,16 @@
+//! The text of a report: how it is written, and how its lines are read.
+#![tactic(auto)]
+
+mod front;
+mod line;
+mod printing;
+mod reading;
+mod token_lines;
+mod upload_end;
+
+pub use front::{write_section_head, write_upload, write_validator};
+pub use printing::write_report;
+pub use reading::{
+    after_word, end_of, head_of, token_before, token_sum_of, totals_of, validator_sum_of,
+};
+pub use upload_end::UploadEnd;

@@ -1,0 +1,124 @@
+//! The part of the report that has a line for each token: of many tokens, it is most of the text.
+
+ghost use Rattle.std.specs.Prelude.{◌≡◌, ◌+◌, ◌≤◌, [], ◌++◌, OnOk, IfErr, length, codes, vec_len};
+ghost use Rattle.std.specs.Prelude.{vec_capacity};
+ghost use Rattle.std.specs.Io.KnownBytes.{Appends, Keeps, append_known};
+ghost use Rattle.std.specs.List.{flat_map};
+ghost use Rattle.hex.specs.Hex.{encode_lower};
+ghost use Rattle.shard_book.specs.Shown.{token_sum};
+ghost use Rattle.shard_book.specs.Sums.{sums_of};
+ghost use Rattle.fare_table.specs.Token.{bytes_of};
+ghost use Rattle.fare_texts.specs.Counts.{first_counts, last_counts};
+ghost use Rattle.fare_texts.specs.ReportLines.{token_line};
+ghost use Rattle.fare_texts.specs.declared.print_fault.PrintFault.TheVariants.{Write as ForWrite};
+
+use crate::line::Line;
+use fare_texts::{PrintFault, write_out};
+use shard_book::{Token, TokenSum, TokenSums, Totals};
+use std::io::Write;
+
+/// Writes out what waits in the text where it leaves too little room.
+fn make_room<W: Write>(text: &mut Vec<u8>, needed: usize, out: &mut W) -> Result<(), PrintFault>
+    requires { needed ≤ vec_capacity text.old }
+    ensures kept { OnOk result
+        (Keeps (append_known (W.contents out.old) text.old.items)
+        (append_known (W.contents out.new) text.new.items)) }
+    ensures room { OnOk result (vec_len text.new + needed ≤ vec_capacity text.new) }
+    ensures capacity { vec_capacity text.new ≡ vec_capacity text.old }
+    ensures fault { IfErr result (λ fault. fault ≡ ForWrite) }
+{
+    if needed <= text.capacity() - text.len() {
+        return Ok(());
+    }
+    write_out(text.as_slice(), out)?;
+    text.clear();
+    Ok(())
+}
+
+/// Appends a line to the text, of which what stood there may go out first. No memory is taken.
+fn push_line<W: Write>(text: &mut Vec<u8>, line: &Line, out: &mut W) -> Result<(), PrintFault>
+    requires { 384 ≤ vec_capacity text.old }
+    ensures ok { OnOk result (Appends (append_known (W.contents out.old) text.old.items)
+        (append_known (W.contents out.new) text.new.items) line.now) }
+    ensures capacity { vec_capacity text.old ≤ vec_capacity text.new }
+    ensures fault { IfErr result (λ fault. fault ≡ ForWrite) }
+{
+    let bytes = line.bytes();
+    make_room(text, bytes.len(), out)?;
+    let Ok(()) = text.extend_from_slice(bytes) else {
+        unreachable!();
+    };
+    Ok(())
+}
+
+/// Writes the text and a line for each token, in pieces as large as the text's room. No memory is
+/// taken.
+pub(crate) fn write_lines<W: Write>(
+    text: &mut Vec<u8>,
+    sums: &TokenSums,
+    out: &mut W,
+) -> Result<(), PrintFault>
+    requires { 384 ≤ vec_capacity text.old }
+    ensures ok { OnOk result (Appends (W.contents out.old) (W.contents out.new)
+        (text.old.items ++ flat_map token_line sums.now)) }
+    ensures fault { IfErr result (λ fault. fault ≡ ForWrite) }
+{
+    let mut line = Line::new();
+    for place in 0..sums.len() {
+        let sum = sums.get(place);
+        make_line(&mut line, &sum);
+        push_line(text, &line, out)?;
+    }
+    write_out(text.as_slice(), out)?;
+    Ok(())
+}
+
+/// Makes the line of a token in place of the one before.
+#[inline(always)]
+fn make_line(line: &mut Line, sum: &TokenSum)
+    ensures { line.new ≡ token_line (token_sum sum.now) }
+{
+    line.clear();
+    put_other_counts(line, &sum.totals);
+    put_live_counts(line, &sum.totals);
+    put_name(line, sum.token);
+}
+
+/// Puts ` stale 0 unknown 0 cents 300` and the end of the line.
+#[inline(always)]
+#[tactic(auto, unfolding(fare_texts::specs::Counts::last_counts))]
+fn put_other_counts(line: &mut Line, totals: &Totals)
+    requires { line.old ≡ [] }
+    ensures put { line.new ≡ last_counts (sums_of totals.now) }
+    ensures short { length line.new ≤ 144 }
+{
+    line.put(b"\n");
+    line.put_count(b" cents ", totals.cents);
+    line.put_count(b" unknown ", totals.unknown);
+    line.put_count(b" stale ", totals.stale);
+}
+
+/// Puts `taps 2 paid 1 transfers 1 capped 0` before what the line has.
+#[inline(always)]
+fn put_live_counts(line: &mut Line, totals: &Totals)
+    requires { length line.old ≤ 144 }
+    ensures put { line.new ≡ first_counts (sums_of totals.now) ++ line.old }
+    ensures short { length line.new ≤ 334 }
+{
+    line.put_count(b" capped ", totals.capped);
+    line.put_count(b" transfers ", totals.transfers);
+    line.put_count(b" paid ", totals.paid);
+    line.put_count(b"taps ", totals.taps);
+}
+
+/// Puts the token's name before what the line has.
+#[inline(always)]
+fn put_name(line: &mut Line, token: Token)
+    requires { length line.old ≤ 334 }
+    ensures { line.new ≡ codes "token "
+        ++ (encode_lower (bytes_of token) ++ (codes " " ++ line.old)) }
+{
+    line.put(b" ");
+    line.put_digits(&token.bytes());
+    line.put(b"token ");
+}

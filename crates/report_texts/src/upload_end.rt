@@ -1,0 +1,95 @@
+//! How an upload ended, and how a report tells it.
+
+ghost use Rattle.std.specs.Prelude.{◌≡◌, Some};
+ghost use Rattle.report_texts.specs.UploadEnds.{end_by, is_posted, taps_told};
+
+use std::fmt;
+use tap_views::LayoutFault;
+
+/// How an upload ended. `taps` counts what was posted of it.
+#[derive(Clone, Copy, Debug, PartialEq, Eq)]
+pub enum UploadEnd {
+    /// The upload has no layout fault, and all its batches were posted whole.
+    Posted {
+        /// How many taps were posted.
+        taps: u64,
+    },
+    /// All batches before the upload's first layout fault were posted whole. The fault's batch
+    /// begins `offset` bytes into the upload.
+    Refused {
+        /// How many taps were posted.
+        taps: u64,
+        /// The offset of the batch with the fault, in bytes.
+        offset: u64,
+        /// The layout fault.
+        fault: LayoutFault,
+    },
+    /// Want of memory, or a shard that takes no more visits, ended it: a beginning of the taps
+    /// before its first layout fault was posted, and not all of them.
+    Cut {
+        /// How many taps were posted.
+        taps: u64,
+    },
+    /// No share drew it.
+    Undrawn,
+}
+
+impl UploadEnd {
+    /// The end of an upload of which all taps before its layout fault, if it has one, were posted:
+    /// so many taps. A fault comes with the offset of its batch, in bytes.
+    pub fn by_fault(taps: u64, found: Option<(u64, LayoutFault)>) -> UploadEnd
+        ensures { result ≡ end_by taps found }
+    {
+        match found {
+            None => UploadEnd::Posted { taps },
+            Some((offset, fault)) => UploadEnd::Refused {
+                taps,
+                offset,
+                fault,
+            },
+        }
+    }
+}
+
+impl UploadEnd {
+    /// How many taps were posted; 0 where no share drew the upload.
+    pub fn taps(&self) -> u64
+        ensures { result ≡ taps_told self.now }
+    {
+        match self {
+            UploadEnd::Posted { taps } => *taps,
+            UploadEnd::Refused { taps, .. } => *taps,
+            UploadEnd::Cut { taps } => *taps,
+            UploadEnd::Undrawn => 0,
+        }
+    }
+
+    /// Whether the upload was posted whole.
+    pub fn is_posted(&self) -> bool
+        ensures { result ≡ is_posted self.now }
+    {
+        matches!(self, UploadEnd::Posted { .. })
+    }
+}
+
+impl fmt::Display for UploadEnd {
+    ghost use Rattle.report_texts.specs.Report.{end_text};
+
+    ghost output = { λ end. Some (end_text end) };
+
+    fn fmt<W: fmt::Write>(&self, f: &mut fmt::Formatter<W>) -> fmt::Result {
+        match self {
+            UploadEnd::Posted { taps } => write!(f, "posted {taps}"),
+            UploadEnd::Refused {
+                taps,
+                offset,
+                fault,
+            } => {
+                let name = fault.name();
+                write!(f, "refused {taps} at {offset} {name}")
+            }
+            UploadEnd::Cut { taps } => write!(f, "cut {taps}"),
+            UploadEnd::Undrawn => f.write_str("undrawn"),
+        }
+    }
+}
