@@ -9,4 +9,5 @@ mod lines;
 mod spot;
 
 pub use explained::write_explained;
-pub use ledger::write_ledger;
+pub use ledger::{LINE_ROOM_BYTES, head_with_room, write_ledger};
+pub use lines::{PIECE_BYTES, go_on_to, pass_on, pass_piece};
