@@ -2,7 +2,6 @@
 use Rattle.std.proofs.Common.{◌≡◌, ℕ, List, [], ◌++◌, Some, None, refl, sym, ap, subst, ◌∙◌}
 use Rattle.std.proofs.Common.{append-nil}
 use Rattle.std.specs.Prelude.{slice_get}
-use Rattle.std.proofs.lemmas.List.Sorted.{IsPermutation-refl}
 use Rattle.fare_table.specs.Fares.{Fares}
 use Rattle.shard_book.specs.Book.{Book}
 use Rattle.shard_book.specs.Entry.{own}
@@ -10,8 +9,8 @@ use Rattle.shard_book.specs.SumsByKey.{all_entries, tokens}
 use Rattle.shard_book.specs.declared.entry.Entry.{Entry}
 use Rattle.fare_table.specs.declared.token.Token.{Token}
 use Rattle.reason_texts.specs.Ledger.{AreLedgerLines, head_text}
-use Rattle.ledger_texts.specs.Ledger.{AreLinesOfEach, IsLedgerOfBooks, IsLedgerOver}
-use Rattle.ledger_texts.specs.Lines.{AreLinesAlong, NoFall}
+use Rattle.ledger_texts.specs.Ledger.{AreLinesOfEach, IsLedgerOfBooks}
+use Rattle.ledger_texts.specs.Lines.{AreLinesAlong}
 use Rattle.ledger_texts.specs.inside.ByToken.{IsByToken}
 use Rattle.ledger_texts.proofs.ByToken.{every_token}
 
@@ -54,16 +53,3 @@ ledger_of_one books first fares token entries head lines text there table is_own
         whole = shown ∙ ap (λ h. h ++ lines) is_head;
       };
     }
-
--- the lines of entries whose tokens do not fall are their ledger
-pub ledger_along : (fares : Fares) (history : List Entry) (text : List ℕ) → NoFall history
-    → AreLinesAlong fares [] history text → IsLedgerOver fares history None (head_text ++ text)
-ledger_along fares history text no_fall along = record {
-  lines = text;
-  of_each = every_token fares history history text (record {
-    moved = IsPermutation-refl history;
-    no_fall = no_fall;
-    kept = λ token. refl;
-  }) along;
-  whole = refl;
-}
