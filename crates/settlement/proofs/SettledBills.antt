@@ -22,7 +22,7 @@ use Rattle.shard_book.specs.declared.entry.Entry.{Entry}
 use Rattle.fare_service.specs.Plain.{answered, plain_after, unanswered}
 use Rattle.fare_service.specs.declared.upload_end.UploadEnd.{UploadEnd}
 use Rattle.settlement.specs.Bills.{IsBillOf}
-use Rattle.settlement.specs.inside.Posted.{posted, posted_after}
+use Rattle.settlement.specs.Posted.{posted, posted_after}
 use Rattle.settlement.specs.Settled.{IsSettledHistory}
 use Rattle.settlement.specs.inside.SplitUploads.{AreSplit}
 use Rattle.settlement.specs.declared.bill.Bill.{Bill}

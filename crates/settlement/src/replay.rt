@@ -6,7 +6,7 @@ ghost use Rattle.fare_table.specs.Fares.{Fares};
 ghost use Rattle.shard_book.specs.Entry.{own, tap_of};
 ghost use Rattle.shard_book.specs.declared.entry.Entry.{Entry};
 ghost use Rattle.fare_service.specs.Plain.{answered};
-ghost use Rattle.settlement.specs.inside.Posted.{token_of_tap, unposted};
+ghost use Rattle.settlement.specs.Posted.{token_of_tap, unposted};
 ghost use Rattle.settlement.specs.inside.Replays.{HasPosted};
 
 use account_rule::{Account, TapIn};

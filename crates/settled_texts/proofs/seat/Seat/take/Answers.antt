@@ -1,0 +1,1 @@
+use Rattle.settled_texts.proofs.seat.Seat.take.Goals as goal
