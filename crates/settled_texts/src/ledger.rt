@@ -83,7 +83,16 @@ pub fn write_settled_ledger<R: Threads + Sync, W: Write>(
     let mut text = head_with_room(alloc, STRIDE_ROOM_BYTES)?;
     let mut seats = seats_of(alloc, workers)?;
     let mut teller = Teller::of(least_token());
-    write_lists(rt, &mut text, table, &clock, &mut teller, &mut seats, lists, out)?;
+    write_lists(
+        rt,
+        &mut text,
+        table,
+        &clock,
+        &mut teller,
+        &mut seats,
+        lists,
+        out,
+    )?;
     pass_on(&mut text, out)?;
     Ok(())
 }

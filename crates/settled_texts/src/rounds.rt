@@ -45,7 +45,13 @@ fn sit<R: Threads + Sync>(
         rt,
         seats,
         threads,
-        &|place: usize, seat: &mut Seat| { seat.take(table, clock, round, place) },
+        &|place: usize, seat: &mut Seat|
+            requires { (clock.now ≡ table.now.zone)
+                × All (λ list. IsSoundList list.items) round.now }
+            ensures { (list : List TapFields)
+                → slice_get (map (λ list. list.items) round.entry.now) place ≡ Some list
+                → HasSat table.entry.now list seat.new }
+        { seat.take(table, clock, round, place) },
     );
 }
 

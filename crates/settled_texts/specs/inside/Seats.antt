@@ -1,5 +1,5 @@
 -- What a thread makes of a list of taps. Private functions alone cite this.
-use Rattle.std.specs.Prelude.{◌≡◌, ◌≤◌, ℕ, true, List, [], length, flat_map, string_bytes}
+use Rattle.std.specs.Prelude.{◌≡◌, ◌≤◌, true, List, [], length, string_bytes}
 use Rattle.fare_table.specs.Fares.{Fares}
 use Rattle.fare_table.specs.declared.token.Token.{Token}
 use Rattle.tap_views.specs.Encoding.{AreEarly}

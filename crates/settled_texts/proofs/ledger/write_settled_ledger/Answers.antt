@@ -1,13 +1,10 @@
 -- The lines of the taps stand behind the head line, and no token falls.
-use Rattle.std.proofs.Common.{ℕ, List, [], ◌++◌, string_bytes, sym, ap, subst, ◌∙◌, flat_map, Vec, Global}
+use Rattle.std.proofs.Common.{ℕ, List, [], ◌++◌, string_bytes, subst, ◌∙◌}
 use Rattle.std.specs.Io.KnownBytes.{Appends}
-use Rattle.fare_table.specs.declared.token.Token.{Token}
-use Rattle.tap_views.specs.declared.encoder.TapFields.{TapFields}
 use Rattle.reason_texts.specs.Ledger.{head_text}
 use Rattle.ledger_texts.proofs.Along.{ledger_along}
 use Rattle.ledger_texts.proofs.Writing.{come_first, last_out}
 use Rattle.settlement.specs.Posted.{posted}
-use Rattle.settled_texts.specs.inside.Telling.{NoTapFallsFrom}
 use Rattle.settled_texts.proofs.Joined.{joined}
 use Rattle.settled_texts.proofs.Rows.{canonical_falls, posted_falls}
 use Rattle.settled_texts.proofs.ledger.write_settled_ledger.Goals as goal

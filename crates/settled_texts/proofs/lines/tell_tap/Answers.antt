@@ -1,8 +1,7 @@
 -- The teller goes on to the tap's token, and posts the tap.
-use Rattle.std.proofs.Common.{List, sym, subst, ◌∙◌}
+use Rattle.std.proofs.Common.{sym, subst, ◌∙◌}
 use Rattle.fare_table.specs.declared.token.Token.{Token}
 use Rattle.shard_book.specs.Entry.{own}
-use Rattle.shard_book.specs.declared.entry.Entry.{Entry}
 use Rattle.ledger_texts.specs.Lines.{IsUpTo}
 use Rattle.settled_texts.proofs.Tellings.{one_told}
 use Rattle.settled_texts.proofs.lines.tell_tap.Goals as goal

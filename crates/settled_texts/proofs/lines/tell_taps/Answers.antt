@@ -1,9 +1,7 @@
 -- Each round tells one tap more.
-use Rattle.std.proofs.Common.{◌≡◌, ◌+◌, List, [], ◌∷◌, ◌++◌, drop, get_or, take, string_bytes}
+use Rattle.std.proofs.Common.{List, [], ◌∷◌, ◌++◌, take, string_bytes}
 use Rattle.std.proofs.Common.{refl, sym, ap, subst, ◌∙◌, append_assoc, append-nil, arith}
-use Rattle.std.proofs.lemmas.List.Elements.{All-get_or}
 use Rattle.tap_views.specs.declared.encoder.TapFields.{TapFields}
-use Rattle.shard_book.specs.declared.entry.Entry.{Entry}
 use Rattle.settlement.specs.Posted.{posted_after}
 use Rattle.settled_texts.specs.inside.Telling.{AreTold, last_token}
 use Rattle.settled_texts.proofs.Tellings.{fall_here, last_append, none_told, taken, told_append}
@@ -11,8 +9,11 @@ use Rattle.settled_texts.proofs.lines.tell_taps.Goals as goal
 
 pub loop-tap-init : goal.loop-tap-init
 loop-tap-init c = record {
-  told = λ earlier come. ([], none_told c.args.table.now earlier c.args.teller.now come,
-      sym (append-nil (string_bytes c.args.text.now)));
+  told = λ earlier come. (
+    [],
+    none_told c.args.table.now earlier c.args.teller.now come,
+    sym (append-nil (string_bytes c.args.text.now)),
+  );
   token = refl;
   few = omega arith;
 }
@@ -25,9 +26,10 @@ tell_tap-requires-clause-up c =
 pub tell_tap-requires-clause-come : goal.tell_tap-requires-clause-come
 tell_tap-requires-clause-come c =
     let earlier = c.requires.come.0 in
-    let done = take c.loop-tap.tap-index c.args.taps.now in
-    (earlier ++ posted_after c.args.table.now earlier done,
-      (c.loop-tap.invariant.told earlier c.requires.come.1).1.come)
+    let done = take c.loop-tap.tap-index c.args.taps.now in (
+      earlier ++ posted_after c.args.table.now earlier done,
+      (c.loop-tap.invariant.told earlier c.requires.come.1).1.come,
+    )
 
 pub loop-tap-preserved : goal.loop-tap-preserved
 loop-tap-preserved c =

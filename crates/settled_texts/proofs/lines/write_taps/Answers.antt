@@ -1,5 +1,5 @@
 -- Each round tells a stride more.
-use Rattle.std.proofs.Common.{◌≡◌, ◌<◌, ◌+◌, ◌++◌, ◌==◌, false, true, List, [], length, take}
+use Rattle.std.proofs.Common.{◌≡◌, ◌<◌, ◌++◌, ◌==◌, false, true, List, [], length}
 use Rattle.std.proofs.Common.{string_bytes, refl, sym, ap, subst, ◌∙◌, append_assoc, append-nil}
 use Rattle.std.proofs.Common.{arith, length-append}
 use Rattle.std.specs.Io.KnownBytes.{append_known}
@@ -11,7 +11,6 @@ use Rattle.std.proofs.lemmas.List.Elements.{All-drop, All-same, All-take}
 use Rattle.fare_table.specs.declared.token.Token.{Token}
 use Rattle.tap_views.specs.Layout.{moment_limit}
 use Rattle.tap_views.specs.declared.encoder.TapFields.{TapFields}
-use Rattle.shard_book.specs.declared.entry.Entry.{Entry}
 use Rattle.ledger_texts.proofs.Writing.{grown}
 use Rattle.settlement.specs.Posted.{posted_after}
 use Rattle.settled_texts.specs.inside.Telling.{AreTold, last_token}
@@ -27,8 +26,11 @@ loop-rest-init g c = record {
   done = [];
   whole = refl;
   early = c.requires.early;
-  told = λ earlier come. ([], none_told c.args.table.now earlier c.args.teller.now come,
-      Appends-nil (append_known (g.W.Write.contents c.args.out.now) (string_bytes c.args.text.now)));
+  told = λ earlier come. (
+    [],
+    none_told c.args.table.now earlier c.args.teller.now come,
+    Appends-nil (append_known (g.W.Write.contents c.args.out.now) (string_bytes c.args.text.now)),
+  );
   token = refl;
   few = omega arith;
 }
@@ -59,9 +61,10 @@ tell_taps-requires-clause-no_fall g c =
 
 pub tell_taps-requires-clause-come : goal.tell_taps-requires-clause-come
 tell_taps-requires-clause-come g c =
-    let earlier = c.requires.come.0 in
-    (earlier ++ posted_after c.args.table.now earlier c.loop-rest.invariant.done,
-      (c.loop-rest.invariant.told earlier c.requires.come.1).1.come)
+    let earlier = c.requires.come.0 in (
+      earlier ++ posted_after c.args.table.now earlier c.loop-rest.invariant.done,
+      (c.loop-rest.invariant.told earlier c.requires.come.1).1.come,
+    )
 
 pub tell_taps-requires-clause-room : goal.tell_taps-requires-clause-room
 tell_taps-requires-clause-room g c =

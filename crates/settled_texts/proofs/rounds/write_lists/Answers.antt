@@ -31,8 +31,11 @@ loop-rest-init g c = record {
   done = [];
   whole = refl;
   early = c.requires.early;
-  told = λ earlier come. ([], none_told c.args.table.now earlier c.args.teller.now come,
-      Appends-nil (append_known (g.W.Write.contents c.args.out.now) (string_bytes c.args.text.now)));
+  told = λ earlier come. (
+    [],
+    none_told c.args.table.now earlier c.args.teller.now come,
+    Appends-nil (append_known (g.W.Write.contents c.args.out.now) (string_bytes c.args.text.now)),
+  );
   token = refl;
   few = omega arith;
 }
@@ -61,9 +64,10 @@ write_round-requires-clause-no_fall g c κs within =
 
 pub write_round-requires-clause-come : goal.write_round-requires-clause-come
 write_round-requires-clause-come g c κs within =
-    let earlier = c.requires.come.0 in
-    (earlier ++ posted_after c.args.table.now earlier (joined c.loop-rest.invariant.done),
-      (c.loop-rest.invariant.told earlier c.requires.come.1).1.come)
+    let earlier = c.requires.come.0 in (
+      earlier ++ posted_after c.args.table.now earlier (joined c.loop-rest.invariant.done),
+      (c.loop-rest.invariant.told earlier c.requires.come.1).1.come,
+    )
 
 pub write_round-requires-clause-room : goal.write_round-requires-clause-room
 write_round-requires-clause-room g c κs within =

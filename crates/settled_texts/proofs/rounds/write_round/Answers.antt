@@ -1,6 +1,6 @@
 -- Each turn writes one list more.
-use Rattle.std.proofs.Common.{◌≡◌, ◌+◌, List, [], ◌++◌, Some, drop, get_or, length, map, take}
-use Rattle.std.proofs.Common.{string_bytes, refl, sym, ap, subst, ◌∙◌, append_assoc, arith}
+use Rattle.std.proofs.Common.{◌≡◌, ◌+◌, List, [], ◌++◌, Some, drop, get_or, length, take}
+use Rattle.std.proofs.Common.{string_bytes, refl, sym, ap, subst, ◌∙◌, arith}
 use Rattle.std.proofs.Common.{length-append, option_map, Vec, Global}
 use Rattle.std.specs.Io.KnownBytes.{append_known}
 use Rattle.std.proofs.KnownBytes.{Appends-nil, Appends-trans}
@@ -9,7 +9,6 @@ use Rattle.std.proofs.lemmas.List.Elements.{All-same}
 use Rattle.std.proofs.lemmas.Option.{slice_get-get_or, slice_get-map}
 use Rattle.fare_table.specs.declared.token.Token.{Token}
 use Rattle.tap_views.specs.declared.encoder.TapFields.{TapFields}
-use Rattle.shard_book.specs.declared.entry.Entry.{Entry}
 use Rattle.settlement.specs.Posted.{posted_after}
 use Rattle.settled_texts.specs.inside.Seats.{HasSat}
 use Rattle.settled_texts.specs.inside.Telling.{AreTold, NoTapFallsFrom, last_token}
@@ -24,8 +23,11 @@ sit-requires-clause-sound g c κs within = λ place other inside.
 
 pub loop-place-init : goal.loop-place-init
 loop-place-init g c = record {
-  told = λ earlier come. ([], none_told c.args.table.now earlier c.args.teller.now come,
-      Appends-nil (append_known (g.W.Write.contents c.args.out.now) (string_bytes c.args.text.now)));
+  told = λ earlier come. (
+    [],
+    none_told c.args.table.now earlier c.args.teller.now come,
+    Appends-nil (append_known (g.W.Write.contents c.args.out.now) (string_bytes c.args.text.now)),
+  );
   token = refl;
   few = omega arith;
 }
@@ -51,9 +53,10 @@ write_list-requires-clause-no_fall g c =
 pub write_list-requires-clause-come : goal.write_list-requires-clause-come
 write_list-requires-clause-come g c =
     let earlier = c.requires.come.0 in
-    let done = joined (take c.loop-place.place c.args.round.now) in
-    (earlier ++ posted_after c.args.table.now earlier done,
-      (c.loop-place.invariant.told earlier c.requires.come.1).1.come)
+    let done = joined (take c.loop-place.place c.args.round.now) in (
+      earlier ++ posted_after c.args.table.now earlier done,
+      (c.loop-place.invariant.told earlier c.requires.come.1).1.come,
+    )
 
 pub write_list-requires-clause-room : goal.write_list-requires-clause-room
 write_list-requires-clause-room g c =

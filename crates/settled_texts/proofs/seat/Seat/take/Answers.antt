@@ -1,1 +1,0 @@
-use Rattle.settled_texts.proofs.seat.Seat.take.Goals as goal

@@ -3,7 +3,6 @@ use Rattle.std.proofs.Common.{◌≡◌, ℕ, List, [], ◌++◌, sym, ap, subst
 use Rattle.shard_book.specs.Entry.{own}
 use Rattle.fare_table.specs.declared.token.Token.{Token}
 use Rattle.ledger_texts.specs.Lines.{AreUpTo, IsUpTo}
-use Rattle.ledger_texts.proofs.Rising.{up_itself}
 use Rattle.ledger_texts.proofs.Writing.{come_first}
 use Rattle.settled_texts.specs.inside.Telling.{AreTold, NoTapFallsFrom}
 use Rattle.settled_texts.proofs.Tellings.{come_fresh, fall_first, last_first}
