@@ -8,5 +8,5 @@ mod ledger;
 mod lines;
 mod spot;
 
-pub use explained::write_explained;
-pub use ledger::write_ledger;
+pub use explained::{write_explained, write_explained_of};
+pub use ledger::{write_ledger, write_ledger_of};
