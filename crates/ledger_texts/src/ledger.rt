@@ -6,9 +6,11 @@ ghost use Rattle.std.specs.Prelude.{slice_get, string_bytes};
 ghost use Rattle.std.specs.Io.KnownBytes.{Appends};
 ghost use Rattle.fare_texts.specs.PrintFaults.{KeepsUnlessWrite};
 ghost use Rattle.shard_book.specs.Book.{Book};
+ghost use Rattle.shard_book.specs.Entry.{own};
 ghost use Rattle.shard_book.specs.SumsByKey.{all_entries};
+ghost use Rattle.shard_book.specs.declared.entry.Entry.{Entry};
 ghost use Rattle.reason_texts.specs.Ledger.{head_text};
-ghost use Rattle.ledger_texts.specs.Ledger.{IsLedgerOfBooks};
+ghost use Rattle.ledger_texts.specs.Ledger.{IsLedgerOfBooks, IsLedgerOver};
 ghost use Rattle.ledger_texts.specs.inside.ByToken.{IsByToken};
 ghost use Rattle.ledger_texts.specs.inside.Spots.{entries_at_spots};
 
@@ -18,7 +20,7 @@ use crate::spot::Spot;
 use fare_table::{FareTable, NoMemory};
 use fare_texts::PrintFault;
 use reason_texts::{head_line, write_token_lines};
-use shard_book::{ShardBook, Token};
+use shard_book::{Entry, ShardBook, Token};
 use std::alloc::Global;
 use std::io::Write;
 
@@ -70,17 +72,51 @@ fn write_all<W: Write>(alloc: Global, books: &[ShardBook], out: &mut W) -> Resul
     Ok(())
 }
 
+/// The ledger of a token that has these entries.
+fn token_text(
+    alloc: Global,
+    table: &FareTable,
+    token: Token,
+    entries: &[Entry],
+) -> Result<String, NoMemory>
+    ensures { IfOk result (λ text. (history : List Entry) → own token history ≡ entries.now
+        → IsLedgerOver table.now history (Some token) (string_bytes text)) }
+{
+    let clock = table.clock(alloc)?;
+    let mut text = String::new(alloc);
+    text.push_str(head_line())?;
+    write_token_lines(&mut text, table, &clock, token, entries)?;
+    Ok(text)
+}
+
+/// Writes the ledger of a token that has these entries under the table, as `write_ledger` does of
+/// books.
+pub fn write_ledger_of<W: Write>(
+    alloc: Global,
+    table: &FareTable,
+    token: Token,
+    entries: &[Entry],
+    out: &mut W,
+) -> Result<(), PrintFault>
+    ensures ok { OnOk result ((text : List ℕ)
+        × ((history : List Entry) → own token history ≡ entries.now
+        → IsLedgerOver table.now history (Some token) text)
+        × Appends (W.contents out.old) (W.contents out.new) text) }
+    ensures fault { IfErr result (λ fault. KeepsUnlessWrite fault (out.new ≡ out.old)) }
+{
+    let mut text = token_text(alloc, table, token, entries)?;
+    pass_on(&mut text, out)?;
+    Ok(())
+}
+
 /// The ledger of one token.
 fn own_text(alloc: Global, books: &[ShardBook], token: Token) -> Result<String, NoMemory>
     requires { 0 < length books.now }
     ensures { IfOk result (λ text. IsLedgerOfBooks books.now (Some token) (string_bytes text)) }
 {
     let table = table_of(books);
-    let clock = table.clock(alloc)?;
     let entries = own_of(alloc, books, token)?;
-    let mut text = String::new(alloc);
-    text.push_str(head_line())?;
-    write_token_lines(&mut text, table, &clock, token, entries.as_slice())?;
+    let text = token_text(alloc, table, token, entries.as_slice())?;
     Ok(text)
 }
 

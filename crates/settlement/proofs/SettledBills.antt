@@ -104,7 +104,7 @@ module _ (uploads : List (List ℕ)) (ends : List UploadEnd) (parts : List (List
       let most = range_below split.bounds (get_or (map fields_of good) i d).token in
       let number = split.number in omega (arith, most, number)
 
-  whole_order : (lists : List (List TapFields)) → AllZip IsCanonical parts lists
+  pub whole_order : (lists : List (List TapFields)) → AllZip IsCanonical parts lists
       → IsCanonical (map fields_of good) (flat_map (λ list. list) lists)
   whole_order lists zip =
       let as_many = zip_length IsCanonical parts lists zip in

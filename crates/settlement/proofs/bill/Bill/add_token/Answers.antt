@@ -16,7 +16,7 @@ use Rattle.shard_book.proofs.SumsLemmas.{sums-append, sums-taps}
 use Rattle.fare_service.specs.Plain.{answered}
 use Rattle.settlement.specs.Bills.{IsCountOf}
 use Rattle.settlement.specs.Posted.{posted, posted_after, token_of_tap, unposted}
-use Rattle.settlement.specs.inside.Replays.{HasPosted}
+use Rattle.settlement.specs.Replays.{HasPosted}
 use Rattle.settlement.proofs.Concats.{by_token_joined}
 use Rattle.settlement.proofs.TokenRuns.{below_same, few_posted, no_tap, one_token_list, posted_length}
 use Rattle.settlement.proofs.TokenRuns.{posted_more, tokens_are}

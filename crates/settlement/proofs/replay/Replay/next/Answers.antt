@@ -11,7 +11,7 @@ use Rattle.shard_book.specs.declared.entry.Entry.{Entry}
 use Rattle.shard_book.proofs.Histories.{taps-push, token_eq-refl}
 use Rattle.fare_service.specs.Plain.{answered, with_reply}
 use Rattle.settlement.specs.Posted.{unposted}
-use Rattle.settlement.specs.inside.Replays.{HasPosted}
+use Rattle.settlement.specs.Replays.{HasPosted}
 use Rattle.settlement.proofs.replay.Replay.next.Goals as goal
 
 pub step-reply-requires-clause-stands : goal.step-reply-requires-clause-stands
