@@ -9,8 +9,9 @@ use Rattle.shard_book.specs.SumsByKey.{all_entries, tokens}
 use Rattle.shard_book.specs.declared.entry.Entry.{Entry}
 use Rattle.fare_table.specs.declared.token.Token.{Token}
 use Rattle.reason_texts.specs.Ledger.{AreLedgerLines, head_text}
-use Rattle.ledger_texts.specs.Ledger.{AreLinesOfEach, IsLedgerOfBooks}
-use Rattle.ledger_texts.specs.inside.Lines.{AreLinesAlong, IsByToken}
+use Rattle.ledger_texts.specs.Ledger.{AreLinesOfEach, IsLedgerOfBooks, IsLedgerOver}
+use Rattle.ledger_texts.specs.Lines.{AreLinesAlong}
+use Rattle.ledger_texts.specs.inside.ByToken.{IsByToken}
 use Rattle.ledger_texts.proofs.ByToken.{every_token}
 
 pub ledger_of_all : (books : List Book) (first : Book) (fares : Fares) (list : List Entry)
@@ -30,25 +31,18 @@ ledger_of_all books first fares list head lines there table by_token along is_he
       };
     }
 
-pub ledger_of_one : (books : List Book) (first : Book) (fares : Fares) (token : Token)
-    (entries : List Entry) (head lines text : List ℕ) → slice_get books 0 ≡ Some first
-    → fares ≡ first.table
-    → entries ≡ own token (all_entries books) → AreLedgerLines fares token entries lines
-    → head ≡ head_text → text ≡ head ++ lines → IsLedgerOfBooks books (Some token) text
-ledger_of_one books first fares token entries head lines text there table is_own are is_head shown =
-    record {
-      first = first;
-      stands_first = there;
-      over = record {
-        lines = lines;
-        of_each = (
-          lines,
-          [],
-          subst (λ (f : Fares). AreLedgerLines f token (own token (all_entries books)) lines) table
-              (subst (λ (es : List Entry). AreLedgerLines fares token es lines) is_own are),
-          refl,
-          sym (append-nil lines),
-        );
-        whole = shown ∙ ap (λ h. h ++ lines) is_head;
-      };
-    }
+pub ledger_of_one : (fares : Fares) (token : Token) (entries : List Entry)
+    (head lines text : List ℕ) → AreLedgerLines fares token entries lines → head ≡ head_text
+    → text ≡ head ++ lines → (history : List Entry) → own token history ≡ entries
+    → IsLedgerOver fares history (Some token) text
+ledger_of_one fares token entries head lines text are is_head shown history is_own = record {
+  lines = lines;
+  of_each = (
+    lines,
+    [],
+    subst (λ (es : List Entry). AreLedgerLines fares token es lines) (sym is_own) are,
+    refl,
+    sym (append-nil lines),
+  );
+  whole = shown ∙ ap (λ h. h ++ lines) is_head;
+}

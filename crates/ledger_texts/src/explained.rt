@@ -54,6 +54,24 @@ fn text_of(
     Ok(text)
 }
 
+/// Writes the explained statement of a token that has these entries under the table, as
+/// `write_explained` does of books.
+pub fn write_explained_of<W: Write>(
+    alloc: Global,
+    table: &FareTable,
+    token: Token,
+    entries: &[Entry],
+    out: &mut W,
+) -> Result<(), PrintFault>
+    ensures ok { OnOk result ((text : List ℕ) × IsExplained table.now token entries.now text
+        × Appends (W.contents out.old) (W.contents out.new) text) }
+    ensures fault { IfErr result (λ fault. KeepsUnlessWrite fault (out.new ≡ out.old)) }
+{
+    let mut text = text_of(alloc, table, token, entries)?;
+    pass_on(&mut text, out)?;
+    Ok(())
+}
+
 /// The explained statement of a token.
 fn explained_text(alloc: Global, books: &[ShardBook], token: Token) -> Result<String, NoMemory>
     requires { 0 < length books.now }

@@ -22,7 +22,7 @@ use Rattle.shard_book.specs.declared.entry.Entry.{Entry}
 use Rattle.shard_book.specs.Plain.{answered, plain_after, unanswered}
 use Rattle.report_texts.specs.declared.upload_end.UploadEnd.{UploadEnd}
 use Rattle.settlement.specs.Bills.{IsBillOf}
-use Rattle.settlement.specs.inside.Posted.{posted, posted_after}
+use Rattle.settlement.specs.Posted.{posted, posted_after}
 use Rattle.settlement.specs.Settled.{IsSettledHistory}
 use Rattle.settlement.specs.inside.SplitUploads.{AreSplit}
 use Rattle.settlement.specs.declared.bill.Bill.{Bill}
@@ -104,7 +104,7 @@ module _ (uploads : List (List ℕ)) (ends : List UploadEnd) (parts : List (List
       let most = range_below split.bounds (get_or (map fields_of good) i d).token in
       let number = split.number in omega (arith, most, number)
 
-  whole_order : (lists : List (List TapFields)) → AllZip IsCanonical parts lists
+  pub whole_order : (lists : List (List TapFields)) → AllZip IsCanonical parts lists
       → IsCanonical (map fields_of good) (flat_map (λ list. list) lists)
   whole_order lists zip =
       let as_many = zip_length IsCanonical parts lists zip in

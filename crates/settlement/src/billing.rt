@@ -5,7 +5,7 @@ ghost use Rattle.settlement.specs.inside.Billing.{ArePartsInOrder, HasBillRoom, 
 ghost use Rattle.settlement.specs.inside.Billing.{IsPartBilled, IsSoundPart};
 
 use crate::bill::Bill;
-use crate::file::append_pieces;
+use crate::part_lists::append_pieces;
 use crate::pieces::Pieces;
 use fare_table::{Clock, FareTable, NoMemory};
 use shard_book::HashSeed;

@@ -1,40 +1,16 @@
 //! The parts' files.
 
-ghost use Rattle.std.specs.Prelude.{◌≡◌, All, flat_map, IfOk, OnOk, map};
+ghost use Rattle.std.specs.Prelude.{All, IfOk, map};
 ghost use Rattle.std.specs.List.{AllZip};
 ghost use Rattle.tap_views.specs.Encoding.{AreEarly};
 ghost use Rattle.settlement.specs.Settled.{IsPartFile};
 
 use crate::memory::release;
+use crate::part_lists::append_pieces;
 use crate::pieces::Pieces;
 use std::alloc::{AllocError, Global};
-use tap_parts::{PartTaps, arrange_into, part_file};
+use tap_parts::{arrange_into, part_file};
 use tap_views::TapFields;
-
-/// How many taps the pieces have.
-fn number_of(pieces: &[PartTaps]) -> usize {
-    let mut number = 0usize;
-    for piece in pieces {
-        number = number.saturating_add(piece.len());
-    }
-    number
-}
-
-/// Writes the taps of all pieces into `taps`, in place of what was there. All room is asked for at
-/// once.
-pub(crate) fn append_pieces(
-    pieces: &[PartTaps],
-    taps: &mut Vec<TapFields>,
-) -> Result<(), AllocError>
-    ensures { OnOk result (taps.new.items ≡ flat_map (λ piece. piece) pieces.now) }
-{
-    taps.clear();
-    taps.reserve(number_of(pieces))?;
-    for piece in pieces {
-        piece.append_to(taps)?;
-    }
-    Ok(())
-}
 
 /// The part's taps in canonical order, as an upload from which they are read again. The memory of
 /// the pieces is given back. `taps` and `list` are room to work in.

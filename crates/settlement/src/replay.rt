@@ -3,13 +3,16 @@
 ghost use Rattle.std.specs.Prelude.{◌≡◌, ◌<◌, List, [], ◌∷◌, ◌++◌, length};
 ghost use Rattle.std.specs.Option.{ForSome};
 ghost use Rattle.fare_table.specs.Fares.{Fares};
-ghost use Rattle.shard_book.specs.Entry.{own, tap_of};
+ghost use Rattle.fare_table.specs.Token.{bytes_of};
+ghost use Rattle.account_rule.specs.TokenRules.{rules_of};
+ghost use Rattle.account_rule.specs.Windows.{last_window};
+ghost use Rattle.shard_book.specs.Entry.{own, tap_of, taps_of};
 ghost use Rattle.shard_book.specs.declared.entry.Entry.{Entry};
 ghost use Rattle.shard_book.specs.Plain.{answered};
-ghost use Rattle.settlement.specs.inside.Posted.{token_of_tap, unposted};
-ghost use Rattle.settlement.specs.inside.Replays.{HasPosted};
+ghost use Rattle.settlement.specs.Posted.{token_of_tap, unposted};
+ghost use Rattle.settlement.specs.Replays.{HasPosted};
 
-use account_rule::{Account, TapIn};
+use account_rule::{Account, TapIn, WindowView};
 use fare_table::{Clock, FareTable};
 use shard_book::{Entry, Token};
 use tap_views::TapFields;
@@ -29,16 +32,16 @@ fn seen(table: &FareTable, tap: &TapFields) -> TapIn
 
 /// A token whose taps are posted, with its account after those posted.
 #[derive(Clone, Copy)]
-pub(crate) struct Replay {
+pub struct Replay {
     /// The token.
-    pub(crate) token: Token,
+    pub token: Token,
     /// Its account.
     account: Account,
 }
 
 impl Replay {
     /// Before the first tap of the token: whatever other tokens' entries there are.
-    pub(crate) fn of(token: Token) -> Self
+    pub fn of(token: Token) -> Self
         ensures token { result.token ≡ token }
         ensures none { (fares : Fares) (earlier : List Entry) → own token earlier ≡ []
             → HasPosted fares result earlier }
@@ -49,9 +52,10 @@ impl Replay {
         }
     }
 
-    /// Posts the token's next tap, and gives its entry.
+    /// Posts the token's next tap, whose moment is in milliseconds since 1970, and gives its entry.
+    /// The clock is the table's.
     #[inline(always)]
-    pub(crate) fn next(&mut self, table: &FareTable, clock: &Clock, tap: &TapFields) -> Entry
+    pub fn next(&mut self, table: &FareTable, clock: &Clock, tap: &TapFields) -> Entry
         requires clock { clock.now ≡ table.now.zone }
         requires early { tap.now.moment < 4_102_444_800_000 }
         requires its { token_of_tap tap.now ≡ self.old.token }
@@ -72,5 +76,14 @@ impl Replay {
             answer: reply.answer,
             cents: reply.cents,
         }
+    }
+
+    /// The token's last window, if it has one.
+    pub fn window(&self) -> Option<WindowView>
+        ensures { (fares : Fares) (entries : List Entry) → HasPosted fares self.now entries
+            → result ≡ last_window (rules_of fares (bytes_of self.now.token))
+            (taps_of fares self.now.token entries) }
+    {
+        self.account.window()
     }
 }

@@ -1,27 +1,32 @@
 //! Uploads, settled.
 
-ghost use Rattle.std.specs.Prelude.{◌<◌, ◌≤◌, ◌^◌, IfOk, List, length, map};
+ghost use Rattle.std.specs.Prelude.{◌≡◌, ◌<◌, ◌≤◌, ◌^◌, All, IfOk, List, flat_map, length, map};
 ghost use Rattle.report_texts.specs.UploadEnds.{ArePlainEnds};
+ghost use Rattle.tap_views.specs.Encoding.{AreEarly};
 ghost use Rattle.shard_book.specs.declared.entry.Entry.{Entry};
 ghost use Rattle.settlement.specs.Bills.{IsBillOf};
+ghost use Rattle.settlement.specs.Posted.{token_of_tap};
 ghost use Rattle.settlement.specs.Settled.{IsSettled, IsSettledHistory};
+ghost use Rattle.settlement.specs.SettledTaps.{AreSettledTaps, AreSettledTapsOf};
 ghost use Rattle.settlement.specs.inside.SplitUploads.{AreSplit};
 
-use crate::arranging::files_by_threads;
+use crate::arranging::{files_by_threads, lists_by_threads};
 use crate::bill::Bill;
 use crate::billing::bill_by_threads;
+use crate::memory::release;
+use crate::own_taps::{OwnTaps, own_by_threads};
 use crate::pieces::{Pieces, pieces_of};
 use crate::splitting::{SplitTaps, bytes_of, split_by_threads};
 use fare_service::UploadEnd;
 use fare_service::laws::plain_history;
 use fare_table::{FareTable, NoMemory};
-use shard_book::HashSeed;
+use shard_book::{HashSeed, Token};
 use std::alloc::{AllocError, Global};
 use std::marker::Sync;
 use std::thread::Threads;
-use tap_parts::TokenRanges;
+use tap_parts::{TokenRanges, arranged};
 use tap_views::laws::one_reading_each;
-use tap_views::push_sample;
+use tap_views::{TapFields, push_sample};
 
 /// How many bytes of uploads go to one part: some 20,000 taps, so that the sort of a part stays in
 /// a processor's near cache.
@@ -32,6 +37,9 @@ const MAX_PARTS: usize = 65_535;
 
 /// How many times the uploads, and then the parts, are halved: four threads share the work.
 const HALVINGS: u32 = 2;
+
+/// The most workers that arrange parts.
+const MAX_WORKERS: u32 = 64;
 
 /// What uploads are settled as.
 #[derive(Drop)]
@@ -136,4 +144,74 @@ pub fn settled_bill<R: Threads + Sync>(
     let SplitUploads { ends, parts } = split(rt, alloc, uploads)?;
     let bill = bill_by_threads(rt, alloc, table, seed, &parts, workers)?;
     Ok(Billed { ends, bill })
+}
+
+/// Uploads whose good taps lie in canonical order.
+#[derive(Drop)]
+pub struct SettledTaps {
+    /// How each upload ends.
+    pub ends: Vec<UploadEnd>,
+    /// The lists, one behind the other, have the good taps in canonical order.
+    pub lists: Vec<Vec<TapFields>>,
+}
+
+/// How many times the parts are halved, so that each of so many workers has some of them: at most
+/// 64 have.
+fn halvings_for(workers: u32) -> u32 {
+    (workers.clamp(1, MAX_WORKERS) * 2 - 1).ilog2()
+}
+
+/// The good taps of uploads in canonical order. Four threads split the taps by part, and so many
+/// workers, 64 at most, put the parts' taps into order; where one is refused, another does its
+/// work. Its one error is want of memory. The bytes of an upload are given back as soon as its taps
+/// are split, and those of a part as soon as its list is made.
+pub fn settled_taps<R: Threads + Sync>(
+    rt: &R,
+    alloc: Global,
+    uploads: Vec<Vec<u8>>,
+    workers: u32,
+) -> Result<SettledTaps, NoMemory>
+    ensures ended { IfOk result (λ made.
+        ArePlainEnds (map (λ upload. upload.items) uploads.items) made.ends.items) }
+    ensures order { IfOk result (λ made.
+        AreSettledTaps (map (λ upload. upload.items) uploads.items)
+        (flat_map (λ list. list.items) made.lists.items)) }
+{
+    let SplitUploads { ends, parts } = split(rt, alloc, uploads)?;
+    let lists = lists_by_threads(rt, alloc, parts, halvings_for(workers))?;
+    Ok(SettledTaps { ends, lists })
+}
+
+/// Uploads, and the taps of one token.
+#[derive(Drop)]
+pub struct TokenTaps {
+    /// How each upload ends.
+    pub ends: Vec<UploadEnd>,
+    /// The token's good taps, in canonical order.
+    pub taps: Vec<TapFields>,
+}
+
+/// The good taps of one token in canonical order: no other tap is kept. Four threads read the
+/// uploads; where one is refused, another does its work. Its one error is want of memory. The bytes
+/// of an upload are given back as soon as it is read.
+pub fn settled_taps_of<R: Threads + Sync>(
+    rt: &R,
+    alloc: Global,
+    uploads: Vec<Vec<u8>>,
+    token: Token,
+) -> Result<TokenTaps, NoMemory>
+    ensures ended { IfOk result (λ made.
+        ArePlainEnds (map (λ upload. upload.items) uploads.items) made.ends.items) }
+    ensures order { IfOk result (λ made.
+        AreSettledTapsOf (map (λ upload. upload.items) uploads.items) token made.taps.items) }
+    ensures early { IfOk result (λ made. AreEarly (λ tap. tap.moment) made.taps.items) }
+    ensures its { IfOk result (λ made. All (λ tap. token_of_tap tap ≡ token) made.taps.items) }
+{
+    // proof: uploads have one reading, and its tokens have 16 bytes
+    one_reading_each(&uploads);
+    plain_history(&uploads);
+    let OwnTaps { taps, ends } = own_by_threads(rt, alloc, token, uploads, HALVINGS)?;
+    let list = arranged(alloc, &taps)?;
+    release(taps);
+    Ok(TokenTaps { ends, taps: list })
 }

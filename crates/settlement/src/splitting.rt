@@ -75,7 +75,7 @@ fn split_uploads(
 }
 
 /// The first so many uploads that have half of the bytes, about, and the others.
-fn halves(uploads: Vec<Vec<u8>>) -> Result<(Vec<Vec<u8>>, Vec<Vec<u8>>), AllocError>
+pub(crate) fn halves(uploads: Vec<Vec<u8>>) -> Result<(Vec<Vec<u8>>, Vec<Vec<u8>>), AllocError>
     ensures { IfOk result (λ halves. uploads.items ≡ halves.0.items ++ halves.1.items) }
 {
     let mut front = uploads;

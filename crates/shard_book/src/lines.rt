@@ -22,6 +22,13 @@ impl Model for Lines {
 }
 
 impl Lines {
+    /// The lines of these entries.
+    pub fn of(entries: Vec<Entry>) -> Self
+        ensures { result ≡ entries.items }
+    {
+        Lines { entries }
+    }
+
     /// How many lines there are.
     pub fn len(&self) -> u64
         ensures { result ≡ length self.now }

@@ -69,7 +69,7 @@ impl ShardBook {
         let window = self.account_of(token).window();
         Ok(Statement {
             token,
-            lines: Lines { entries },
+            lines: Lines::of(entries),
             totals,
             window,
         })

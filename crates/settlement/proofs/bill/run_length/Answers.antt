@@ -6,7 +6,7 @@ use Rattle.tap_views.specs.declared.encoder.TapFields.{TapFields}
 use Rattle.fare_table.specs.Token.{token_eq}
 use Rattle.fare_table.specs.declared.token.Token.{Token}
 use Rattle.shard_book.proofs.Histories.{same_token, token_eq-refl}
-use Rattle.settlement.specs.inside.Posted.{token_of_tap}
+use Rattle.settlement.specs.Posted.{token_of_tap}
 use Rattle.settlement.proofs.TokenRuns.{no_tap}
 use Rattle.settlement.proofs.bill.run_length.Goals as goal
 

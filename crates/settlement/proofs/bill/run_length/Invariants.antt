@@ -1,6 +1,6 @@
 use Rattle.std.proofs.Common.{◌≡◌, ℕ, ◌<◌, get_or}
 use Rattle.tap_views.specs.declared.encoder.TapFields.{TapFields}
-use Rattle.settlement.specs.inside.Posted.{token_of_tap}
+use Rattle.settlement.specs.Posted.{token_of_tap}
 use Rattle.settlement.proofs.bill.run_length.Given as goal
 
 abbrev pub invariant-loop-place : goal.invariant-loop-place

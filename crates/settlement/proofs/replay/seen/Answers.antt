@@ -1,6 +1,6 @@
 use Rattle.std.proofs.Common.{sym}
 use Rattle.shard_book.proofs.Histories.{tap_of-post}
-use Rattle.settlement.specs.inside.Posted.{unposted}
+use Rattle.settlement.specs.Posted.{unposted}
 use Rattle.settlement.proofs.replay.seen.Goals as goal
 
 pub returns-clause-tap : goal.returns-clause-tap

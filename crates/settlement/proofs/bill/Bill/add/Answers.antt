@@ -8,7 +8,7 @@ use Rattle.shard_book.specs.SumsByKey.{sums_by_token}
 use Rattle.shard_book.specs.declared.entry.Entry.{Entry}
 use Rattle.tap_parts.specs.Canonical.{HasTokenBytes}
 use Rattle.settlement.specs.Bills.{IsCountOf}
-use Rattle.settlement.specs.inside.Posted.{HasName, posted, posted_after}
+use Rattle.settlement.specs.Posted.{HasName, posted, posted_after}
 use Rattle.settlement.proofs.Placed.{all_map}
 use Rattle.settlement.proofs.Ranges.{has_name}
 use Rattle.settlement.proofs.Runs.{IsNextRun, next_run, run_below}

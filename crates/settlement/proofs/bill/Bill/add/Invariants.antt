@@ -1,9 +1,9 @@
 use Rattle.std.proofs.Common.{◌≡◌, ◌-◌, ◌≤◌, List, ◌++◌, length, map, take}
 use Rattle.shard_book.specs.SumsByKey.{sums_by_token, token_of}
 use Rattle.shard_book.specs.declared.entry.Entry.{Entry}
-use Rattle.settlement.specs.inside.Apart.{AreBelow}
+use Rattle.settlement.specs.Apart.{AreBelow}
 use Rattle.settlement.specs.Bills.{IsCountOf}
-use Rattle.settlement.specs.inside.Posted.{posted, token_of_tap}
+use Rattle.settlement.specs.Posted.{posted, token_of_tap}
 use Rattle.settlement.specs.inside.Billing.{HasBillRoom}
 use Rattle.settlement.proofs.TokenRuns.{IsEdge}
 use Rattle.settlement.proofs.bill.Bill.add.Given as goal

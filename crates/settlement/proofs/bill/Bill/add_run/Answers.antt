@@ -1,7 +1,7 @@
 use Rattle.std.proofs.Common.{◌<◌, ap, arith, map, take, ◌∙◌}
 use Rattle.std.proofs.lemmas.List.{get_or-take, length-take-le}
 use Rattle.shard_book.specs.SumsByKey.{token_of}
-use Rattle.settlement.specs.inside.Posted.{token_of_tap}
+use Rattle.settlement.specs.Posted.{token_of_tap}
 use Rattle.settlement.proofs.TokenRuns.{below_first}
 use Rattle.settlement.proofs.bill.Bill.add_run.Goals as goal
 

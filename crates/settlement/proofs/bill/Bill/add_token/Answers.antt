@@ -15,8 +15,8 @@ use Rattle.shard_book.specs.declared.sums.tally.Tally.{Tally}
 use Rattle.shard_book.proofs.SumsLemmas.{sums-append, sums-taps}
 use Rattle.shard_book.specs.Plain.{answered}
 use Rattle.settlement.specs.Bills.{IsCountOf}
-use Rattle.settlement.specs.inside.Posted.{posted, posted_after, token_of_tap, unposted}
-use Rattle.settlement.specs.inside.Replays.{HasPosted}
+use Rattle.settlement.specs.Posted.{posted, posted_after, token_of_tap, unposted}
+use Rattle.settlement.specs.Replays.{HasPosted}
 use Rattle.settlement.proofs.Concats.{by_token_joined}
 use Rattle.settlement.proofs.TokenRuns.{below_same, few_posted, no_tap, one_token_list, posted_length}
 use Rattle.settlement.proofs.TokenRuns.{posted_more, tokens_are}

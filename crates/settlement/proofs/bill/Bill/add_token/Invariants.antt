@@ -4,8 +4,8 @@ use Rattle.shard_book.specs.SumsByKey.{validator_of}
 use Rattle.shard_book.specs.TalliesByKey.{AreByKey}
 use Rattle.shard_book.specs.Tally.{sums_of_tally}
 use Rattle.shard_book.specs.declared.entry.Entry.{Entry}
-use Rattle.settlement.specs.inside.Posted.{posted}
-use Rattle.settlement.specs.inside.Replays.{HasPosted}
+use Rattle.settlement.specs.Posted.{posted}
+use Rattle.settlement.specs.Replays.{HasPosted}
 use Rattle.settlement.proofs.bill.Bill.add_token.Given as goal
 
 -- the first taps are posted, and their entries counted

@@ -10,8 +10,8 @@ use Rattle.shard_book.specs.Entry.{tap_of, taps_of}
 use Rattle.shard_book.specs.declared.entry.Entry.{Entry}
 use Rattle.shard_book.proofs.Histories.{taps-push, token_eq-refl}
 use Rattle.shard_book.specs.Plain.{answered, with_reply}
-use Rattle.settlement.specs.inside.Posted.{unposted}
-use Rattle.settlement.specs.inside.Replays.{HasPosted}
+use Rattle.settlement.specs.Posted.{unposted}
+use Rattle.settlement.specs.Replays.{HasPosted}
 use Rattle.settlement.proofs.replay.Replay.next.Goals as goal
 
 pub step-reply-requires-clause-stands : goal.step-reply-requires-clause-stands

@@ -4,7 +4,7 @@ use Rattle.account_rule.specs.TokenRules.{rules_of}
 use Rattle.account_rule.specs.declared.tap.TapIn.{TapIn}
 use Rattle.fare_table.specs.Token.{bytes_of}
 use Rattle.shard_book.specs.Entry.{tap_of, taps_of}
-use Rattle.settlement.specs.inside.Replays.{HasPosted}
+use Rattle.settlement.specs.Replays.{HasPosted}
 use Rattle.settlement.proofs.replay.Replay.of.Goals as goal
 
 pub returns-clause-none : goal.returns-clause-none

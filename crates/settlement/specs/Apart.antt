@@ -6,7 +6,7 @@ use Rattle.fare_table.specs.declared.token.Token.{Token}
 use Rattle.shard_book.specs.Entry.{own}
 use Rattle.shard_book.specs.declared.entry.Entry.{Entry}
 use Rattle.tap_views.specs.declared.encoder.TapFields.{TapFields}
-use Rattle.settlement.specs.inside.Posted.{token_of_tap}
+use Rattle.settlement.specs.Posted.{token_of_tap}
 
 -- none of the entries is of a token of the taps
 abbrev pub AreOthers : List Entry → List TapFields → Type 0

@@ -1,8 +1,8 @@
 -- Taps that are posted in their order, by their fields.
-use Rattle.std.specs.Prelude.{◌≡◌, List, [], ◌∷◌, ◌++◌}
+use Rattle.std.specs.Prelude.{◌≡◌, List, [], ◌∷◌, ◌++◌, filter}
 use Rattle.tap_views.specs.declared.encoder.TapFields.{TapFields}
 use Rattle.fare_table.specs.Fares.{Fares}
-use Rattle.fare_table.specs.Token.{Fits, bytes_of}
+use Rattle.fare_table.specs.Token.{Fits, bytes_of, token_eq}
 use Rattle.fare_table.specs.declared.token.Token.{Token}
 use Rattle.account_rule.specs.declared.reply.Answer.TheVariants.{Unknown}
 use Rattle.shard_book.specs.declared.entry.Entry.{Entry}
@@ -11,6 +11,10 @@ use Rattle.shard_book.specs.Plain.{answered, token_of_bytes}
 -- the token of a tap
 abbrev pub token_of_tap : TapFields → Token
 token_of_tap tap = token_of_bytes tap.token
+
+-- the taps of one token, in their order
+abbrev pub only : Token → List TapFields → List TapFields
+only token taps = filter (λ tap. token_eq (token_of_tap tap) token) taps
 
 -- the fields of a tap, in an entry that has no reply yet
 abbrev pub unposted : TapFields → Entry

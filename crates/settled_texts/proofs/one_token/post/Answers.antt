@@ -1,0 +1,40 @@
+use Rattle.std.proofs.Common.{◌≡◌, ◌+◌, List, [], ◌∷◌, ◌++◌, get_or, length, take, refl, ap, sym, subst, ◌∙◌, arith}
+use Rattle.std.proofs.lemmas.List.{get_or_default, take_all}
+use Rattle.tap_views.specs.declared.encoder.TapFields.{TapFields}
+use Rattle.shard_book.specs.Entry.{own}
+use Rattle.shard_book.specs.declared.entry.Entry.{Entry}
+use Rattle.shard_book.specs.Plain.{answered}
+use Rattle.settlement.specs.Posted.{posted, posted_after, unposted}
+use Rattle.settlement.specs.Replays.{HasPosted}
+use Rattle.settlement.proofs.TokenRuns.{no_tap, posted_more}
+use Rattle.settled_texts.proofs.one_token.post.Goals as goal
+
+pub loop-tap-init : goal.loop-tap-init
+unfolding posted_after own
+loop-tap-init c = record {
+  token = c.of-replay.ensures.token;
+  stands = c.of-replay.ensures.none c.args.table.now [] refl;
+  entries = c.in_ok-entries.ensures.items;
+}
+
+pub loop-tap-preserved : goal.loop-tap-preserved
+loop-tap-preserved c =
+    let fares = c.args.table.now in
+    let taps = c.args.taps.now in
+    let i = c.loop-tap.tap-index in
+    let inv = c.loop-tap.invariant in
+    let inside = c.loop-tap-test.true in
+    let done = posted fares (take i taps) in
+    let tap = get_or taps i no_tap in
+    let entry = c.next.result in
+    let is : entry ≡ answered fares done (unposted tap) = c.next.ensures.entry done inv.stands in
+    let more : posted fares (take (i + 1) taps) ≡ done ++ entry ∷ [] =
+    posted_more fares taps i tap inside (get_or_default taps i tap no_tap inside)
+    ∙ ap (λ (e : Entry). done ++ e ∷ []) (sym is) in
+    record {
+      token = c.next.ensures.token ∙ inv.token;
+      stands = subst (λ (es : List Entry). HasPosted fares c.next.new.self es) (sym more)
+          (c.next.ensures.posted done inv.stands);
+      entries = c.in_ok-push.ensures.items
+          ∙ ap (λ (es : List Entry). es ++ entry ∷ []) inv.entries ∙ sym more;
+    }

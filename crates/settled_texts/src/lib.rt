@@ -1,0 +1,12 @@
+//! The texts of settled taps: the ledger of all tokens, and what is told of one token, from its taps
+//! alone. Each tap is posted and told in one step.
+#![tactic(auto)]
+
+mod ledger;
+mod lines;
+mod one_token;
+mod rounds;
+mod seat;
+
+pub use ledger::write_settled_ledger;
+pub use one_token::{write_token_explained, write_token_ledger, write_token_statement};

@@ -1,0 +1,143 @@
+//! The ledger and the statements of one token, from its settled taps.
+
+ghost use Rattle.std.specs.Prelude.{◌≡◌, ◌<◌, ◌++◌, ◌∷◌, [], ℕ, List, All, Some, IfErr, IfOk, OnOk};
+ghost use Rattle.std.specs.Prelude.{string_bytes};
+ghost use Rattle.std.specs.Io.KnownBytes.{Appends};
+ghost use Rattle.tap_views.specs.Encoding.{AreEarly};
+ghost use Rattle.shard_book.specs.Entry.{own};
+ghost use Rattle.shard_book.specs.declared.entry.Entry.{Entry};
+ghost use Rattle.fare_texts.specs.PrintFaults.{KeepsUnlessWrite};
+ghost use Rattle.report_texts.specs.OverHistory.{IsStatementOver};
+ghost use Rattle.ledger_texts.specs.Explained.{IsExplainedOver};
+ghost use Rattle.ledger_texts.specs.Ledger.{IsLedgerOver};
+ghost use Rattle.settlement.specs.Posted.{posted, token_of_tap};
+ghost use Rattle.settlement.specs.Replays.{HasPosted};
+
+use fare_table::{FareTable, NoMemory, Token};
+use fare_texts::{PrintFault, statement_text, write_out};
+use ledger_texts::{write_explained_of, write_ledger_of};
+use settlement::Replay;
+use shard_book::{Entry, Lines, Statement, totals_of_entries};
+use std::alloc::Global;
+use std::io::Write;
+use tap_views::TapFields;
+
+/// The taps of a token, posted.
+#[derive(Drop)]
+struct PostedTaps {
+    /// Their entries, in order.
+    entries: Vec<Entry>,
+    /// The token, after its last tap.
+    replay: Replay,
+}
+
+/// Posts the taps of the token, one after the other.
+fn post(
+    alloc: Global,
+    table: &FareTable,
+    token: Token,
+    taps: &[TapFields],
+) -> Result<PostedTaps, NoMemory>
+    requires early { AreEarly (λ tap. tap.moment) taps.now }
+    requires its { All (λ tap. token_of_tap tap ≡ token) taps.now }
+    ensures entries { IfOk result (λ made. made.entries.items ≡ posted table.now taps.now) }
+    ensures replay { IfOk result (λ made. HasPosted table.now made.replay made.entries.items) }
+    ensures token { IfOk result (λ made. made.replay.token ≡ token) }
+{
+    let clock = table.clock(alloc)?;
+    let mut entries = Vec::with_capacity(alloc, taps.len())?;
+    let mut replay = Replay::of(token);
+    for tap in taps {
+        entries.push(replay.next(table, &clock, tap))?;
+    }
+    Ok(PostedTaps { entries, replay })
+}
+
+/// Writes the ledger of a token that has these taps, in canonical order. All memory is taken before
+/// the first byte is written: on a fault of memory nothing was.
+pub fn write_token_ledger<W: Write>(
+    alloc: Global,
+    table: &FareTable,
+    token: Token,
+    taps: &[TapFields],
+    out: &mut W,
+) -> Result<(), PrintFault>
+    requires early { AreEarly (λ tap. tap.moment) taps.now }
+    requires its { All (λ tap. token_of_tap tap ≡ token) taps.now }
+    ensures ok { OnOk result ((text : List ℕ)
+        × ((history : List Entry) → own token history ≡ posted table.now taps.now
+        → IsLedgerOver table.now history (Some token) text)
+        × Appends (W.contents out.old) (W.contents out.new) text) }
+    ensures fault { IfErr result (λ fault. KeepsUnlessWrite fault (out.new ≡ out.old)) }
+{
+    let PostedTaps { entries, .. } = post(alloc, table, token, taps)?;
+    write_ledger_of(alloc, table, token, &entries, out)
+}
+
+/// Writes the explained statement of a token that has these taps, in canonical order. All memory is
+/// taken before the first byte is written: on a fault of memory nothing was.
+pub fn write_token_explained<W: Write>(
+    alloc: Global,
+    table: &FareTable,
+    token: Token,
+    taps: &[TapFields],
+    out: &mut W,
+) -> Result<(), PrintFault>
+    requires early { AreEarly (λ tap. tap.moment) taps.now }
+    requires its { All (λ tap. token_of_tap tap ≡ token) taps.now }
+    ensures ok { OnOk result ((text : List ℕ)
+        × ((history : List Entry) → own token history ≡ posted table.now taps.now
+        → IsExplainedOver table.now history token text)
+        × Appends (W.contents out.old) (W.contents out.new) text) }
+    ensures fault { IfErr result (λ fault. KeepsUnlessWrite fault (out.new ≡ out.old)) }
+{
+    let PostedTaps { entries, .. } = post(alloc, table, token, taps)?;
+    write_explained_of(alloc, table, token, &entries, out)
+}
+
+/// The statement of a token that has these taps.
+fn statement_of(
+    alloc: Global,
+    table: &FareTable,
+    token: Token,
+    taps: &[TapFields],
+) -> Result<String, NoMemory>
+    requires early { AreEarly (λ tap. tap.moment) taps.now }
+    requires its { All (λ tap. token_of_tap tap ≡ token) taps.now }
+    ensures { IfOk result (λ text. (history : List Entry)
+        → own token history ≡ posted table.now taps.now
+        → IsStatementOver table.now history token (string_bytes text)) }
+{
+    let PostedTaps { entries, replay } = post(alloc, table, token, taps)?;
+    let totals = totals_of_entries(&entries);
+    let statement = Statement {
+        token,
+        lines: Lines::of(entries),
+        totals,
+        window: replay.window(),
+    };
+    let text = statement_text(alloc, table, &statement)?;
+    Ok(text)
+}
+
+/// Writes the statement of a token that has these taps, in canonical order. All memory is taken
+/// before the first byte is written: on a fault of memory nothing was.
+pub fn write_token_statement<W: Write>(
+    alloc: Global,
+    table: &FareTable,
+    token: Token,
+    taps: &[TapFields],
+    out: &mut W,
+) -> Result<(), PrintFault>
+    requires early { AreEarly (λ tap. tap.moment) taps.now }
+    requires its { All (λ tap. token_of_tap tap ≡ token) taps.now }
+    ensures ok { OnOk result ((text : List ℕ)
+        × ((history : List Entry) → own token history ≡ posted table.now taps.now
+        → IsStatementOver table.now history token text)
+        × Appends (W.contents out.old) (W.contents out.new) text) }
+    ensures fault { IfErr result (λ fault. KeepsUnlessWrite fault (out.new ≡ out.old)) }
+{
+    let text = statement_of(alloc, table, token, taps)?;
+    write_out(text.as_bytes(), out)?;
+    Ok(())
+}

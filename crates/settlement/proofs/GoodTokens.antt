@@ -1,0 +1,48 @@
+-- The good taps of uploads have tokens of 16 bytes.
+use Rattle.std.proofs.Common.{ℕ, List, [], All, None, map, ap, subst, ◌∙◌}
+use Rattle.fare_table.specs.Fares.{Fares}
+use Rattle.shard_book.specs.Visits.{AreEntriesOf}
+use Rattle.shard_book.specs.declared.entry.Entry.{Entry}
+use Rattle.tap_views.specs.Encoding.{fields_of}
+use Rattle.tap_views.specs.Files.{AreGoodTapsOfEach}
+use Rattle.tap_views.specs.Layout.{Tap}
+use Rattle.tap_parts.specs.Canonical.{HasTokenBytes}
+use Rattle.tap_parts.specs.Parts.{taps_of_uploads}
+use Rattle.fare_service.specs.Plain.{IsPlain}
+use Rattle.tap_views.specs.Files.{HasOneReading}
+use Rattle.shard_book.proofs.PlainReplies.{bare, plain_bare}
+use Rattle.settlement.proofs.Own.{IsNamedBy}
+use Rattle.settlement.proofs.Placed.{all_map}
+use Rattle.settlement.proofs.Ranges.{has_token_bytes}
+use Rattle.tap_views.proofs.ReadingLemmas.{one_list}
+use Rattle.settlement.proofs.Told.{fields_named}
+
+-- a table of nothing: taps have the same tokens under any
+some_fares : Fares
+some_fares = record {
+  meaning = record {
+    modes = [];
+    transfers = [];
+    standard = record { fare = 0; rides = 0; ceiling = 0 };
+    ranges = [];
+    riders = [];
+    zone = None;
+  };
+  zone = None;
+}
+
+-- the entries of the plain history, which the uploads have under any table, name the taps' tokens
+pub good_tokens : (uploads : List (List ℕ)) (taps : List (List Tap)) → All HasOneReading uploads
+    → AreGoodTapsOfEach uploads taps
+    → ((fares : Fares) → (history : List Entry) × IsPlain fares uploads history)
+    → ((fares : Fares) (history : List Entry) (plain : IsPlain fares uploads history)
+    → AreEntriesOf (taps_of_uploads plain.taps) history)
+    → All HasTokenBytes (map fields_of (taps_of_uploads taps))
+good_tokens uploads taps one_reading each some fields =
+    let (later, plain) = some some_fares in
+    let names = fields_named (taps_of_uploads plain.taps) later (fields some_fares later plain)
+    (ap (map bare) plain.entries ∙ plain_bare some_fares [] (taps_of_uploads plain.taps)) in
+    subst (λ ts. All HasTokenBytes (map fields_of (taps_of_uploads ts)))
+    (one_list uploads plain.taps taps one_reading plain.each each)
+    (all_map IsNamedBy HasTokenBytes (map fields_of (taps_of_uploads plain.taps)) has_token_bytes
+    names)

@@ -1,0 +1,191 @@
+-- The taps of one token among taps: collected from uploads, and posted alone.
+use Rattle.std.proofs.Common.{◌≡◌, ℕ, Bool, true, false, cond, List, [], ◌∷◌, ◌++◌, map, filter, refl}
+use Rattle.std.proofs.Common.{sym, ap, ◌∙◌, append-nil, append_assoc}
+use Rattle.std.proofs.lemmas.List.{map-append}
+use Rattle.std.proofs.lemmas.List.Concat.{flat_map-append}
+use Rattle.std.proofs.lemmas.List.Elements.{filter-append}
+use Rattle.fare_table.specs.Fares.{Fares}
+use Rattle.fare_table.specs.Token.{bytes_of, token_eq}
+use Rattle.fare_table.specs.declared.token.Token.{Token}
+use Rattle.tap_views.specs.Encoding.{fields_of}
+use Rattle.tap_views.specs.Files.{AreGoodTaps}
+use Rattle.tap_views.specs.Layout.{Tap}
+use Rattle.tap_views.specs.declared.encoder.TapFields.{TapFields}
+use Rattle.account_rule.specs.Replies.{reply}
+use Rattle.account_rule.specs.TokenRules.{rules_of}
+use Rattle.shard_book.specs.Entry.{is_of, own, tap_of, taps_of}
+use Rattle.shard_book.specs.declared.entry.Entry.{Entry}
+use Rattle.shard_book.proofs.Histories.{same_token}
+use Rattle.tap_parts.specs.Parts.{taps_of_uploads}
+use Rattle.report_texts.specs.UploadEnds.{IsPlainEnd}
+use Rattle.shard_book.specs.Plain.{answered, with_reply}
+use Rattle.report_texts.specs.declared.upload_end.UploadEnd.{UploadEnd}
+use Rattle.fare_service.proofs.PlainRuns.{AllZip-append}
+use Rattle.settlement.specs.Posted.{only, posted, posted_after, token_of_tap, unposted}
+use Rattle.settlement.specs.inside.OwnTaps.{AreOwnAdded, AreOwnTaps}
+
+-- ---- taps of one token
+-- whether the tap is of the token
+abbrev pub is_its : Token → TapFields → Bool
+is_its token tap = token_eq (token_of_tap tap) token
+
+pub only_here : (token : Token) (tap : TapFields) (taps : List TapFields) → is_its token tap ≡ true
+    → only token (tap ∷ taps) ≡ tap ∷ only token taps
+only_here token tap taps is = ap (λ b. cond b (tap ∷ only token taps) (only token taps)) is
+
+pub only_not : (token : Token) (tap : TapFields) (taps : List TapFields)
+    → is_its token tap ≡ false → only token (tap ∷ taps) ≡ only token taps
+only_not token tap taps is = ap (λ b. cond b (tap ∷ only token taps) (only token taps)) is
+
+-- the token's taps, by fields, in two lists
+pub only_fields : (token : Token) (xs ys : List Tap)
+    → only token (map fields_of (xs ++ ys))
+    ≡ only token (map fields_of xs) ++ only token (map fields_of ys)
+only_fields token xs ys =
+    ap (only token) (map-append fields_of xs ys)
+    ∙ filter-append (is_its token) (map fields_of xs) (map fields_of ys)
+
+-- one list of its taps, and then more of them
+pub only_more : (token : Token) (old now new : List TapFields) (xs ys : List Tap)
+    → now ≡ old ++ only token (map fields_of xs) → new ≡ now ++ only token (map fields_of ys)
+    → new ≡ old ++ only token (map fields_of (xs ++ ys))
+only_more token old now new xs ys one other =
+    other ∙ ap (λ (ts : List TapFields). ts ++ only token (map fields_of ys)) one
+    ∙ append_assoc old (only token (map fields_of xs)) (only token (map fields_of ys))
+    ∙ ap (λ (ts : List TapFields). old ++ ts) (sym (only_fields token xs ys))
+
+-- the taps of one more batch
+pub only_batch : (token : Token) (old now new : List TapFields) (done : List (List Tap))
+    (batch : List Tap) → now ≡ old ++ only token (map fields_of (taps_of_uploads done))
+    → new ≡ now ++ only token (map fields_of batch)
+    → new ≡ old ++ only token (map fields_of (taps_of_uploads (done ++ batch ∷ [])))
+only_batch token old now new done batch one other =
+    only_more token old now new (taps_of_uploads done) batch one other
+    ∙ ap (λ (ts : List Tap). old ++ only token (map fields_of ts))
+    (sym (flat_map-append (λ (b : List Tap). b) done (batch ∷ [])
+    ∙ ap (λ (ts : List Tap). taps_of_uploads done ++ ts) (append-nil batch)))
+
+-- ---- uploads
+pub no_own : (token : Token) → AreOwnTaps token [] [] []
+no_own token = record { taps = []; of_uploads = tt; are = refl; ended = tt }
+
+-- one run of uploads, and then the next
+pub both_own : (token : Token) (one other : List (List ℕ)) (own more : List TapFields)
+    (ends later : List UploadEnd) → AreOwnTaps token one own ends
+    → AreOwnTaps token other more later
+    → AreOwnTaps token (one ++ other) (own ++ more) (ends ++ later)
+both_own token one other own more ends later front back = record {
+  taps = front.taps ++ back.taps;
+  of_uploads = AllZip-append AreGoodTaps one front.taps other back.taps front.of_uploads
+      back.of_uploads;
+  are = ap (λ (ts : List TapFields). ts ++ more) front.are
+      ∙ ap (λ (ts : List TapFields). only token (map fields_of (taps_of_uploads front.taps)) ++ ts)
+      back.are
+      ∙ sym (only_fields token (taps_of_uploads front.taps) (taps_of_uploads back.taps))
+      ∙ ap (λ (ts : List Tap). only token (map fields_of ts))
+      (sym (flat_map-append (λ (upload : List Tap). upload) front.taps back.taps));
+  ended = AllZip-append IsPlainEnd one ends other later front.ended back.ended;
+}
+
+-- one upload more
+pub upload_own : (token : Token) (uploads : List (List ℕ)) (upload : List ℕ)
+    (old new : List TapFields) (ends : List UploadEnd) (end : UploadEnd)
+    → AreOwnTaps token uploads old ends → AreOwnAdded token upload old new end
+    → AreOwnTaps token (uploads ++ upload ∷ []) new (ends ++ end ∷ [])
+upload_own token uploads upload old new ends end are is = record {
+  taps = are.taps ++ is.taps ∷ [];
+  of_uploads = AllZip-append AreGoodTaps uploads are.taps (upload ∷ []) (is.taps ∷ [])
+      are.of_uploads (is.of_upload, tt);
+  are = only_batch token [] old new are.taps is.taps are.are is.added;
+  ended = AllZip-append IsPlainEnd uploads ends (upload ∷ []) (end ∷ []) are.ended
+      (is.ended, tt);
+}
+
+-- ---- posted alone
+own_here : (token : Token) (entry : Entry) (entries : List Entry) → is_of token entry ≡ true
+    → own token (entry ∷ entries) ≡ entry ∷ own token entries
+unfolding own
+own_here token entry entries is =
+    ap (λ b. cond b (entry ∷ filter (is_of token) entries) (filter (is_of token) entries)) is
+
+own_not : (token : Token) (entry : Entry) (entries : List Entry) → is_of token entry ≡ false
+    → own token (entry ∷ entries) ≡ own token entries
+unfolding own
+own_not token entry entries is =
+    ap (λ b. cond b (entry ∷ filter (is_of token) entries) (filter (is_of token) entries)) is
+
+own_both : (token : Token) (xs ys : List Entry)
+    → own token (xs ++ ys) ≡ own token xs ++ own token ys
+unfolding own
+own_both token xs ys = filter-append (is_of token) xs ys
+
+-- a reply is told by the token's own entries alone
+answered_own : (fares : Fares) (token : Token) (earlier alone : List Entry) (entry : Entry)
+    → entry.token ≡ token → own token earlier ≡ own token alone
+    → answered fares earlier entry ≡ answered fares alone entry
+unfolding answered taps_of
+answered_own fares token earlier alone entry is same =
+    ap (λ (es : List Entry). with_reply entry (reply (rules_of fares (bytes_of entry.token))
+    (map (tap_of fares) es) (tap_of fares entry)))
+    (ap (λ (t : Token). own t earlier) is ∙ same ∙ sym (ap (λ (t : Token). own t alone) is))
+
+answered_of : (fares : Fares) (token : Token) (earlier : List Entry) (tap : TapFields) (b : Bool)
+    → is_its token tap ≡ b → is_of token (answered fares earlier (unposted tap)) ≡ b
+unfolding answered
+answered_of fares token earlier tap b is = is
+
+-- one entry more in both, or of another token in the first
+more_here : (token : Token) (earlier alone : List Entry) (entry : Entry)
+    → own token earlier ≡ own token alone
+    → own token (earlier ++ entry ∷ []) ≡ own token (alone ++ entry ∷ [])
+more_here token earlier alone entry same =
+    own_both token earlier (entry ∷ [])
+    ∙ ap (λ (es : List Entry). es ++ own token (entry ∷ [])) same
+    ∙ sym (own_both token alone (entry ∷ []))
+
+more_not : (token : Token) (earlier alone : List Entry) (entry : Entry)
+    → is_of token entry ≡ false → own token earlier ≡ own token alone
+    → own token (earlier ++ entry ∷ []) ≡ own token alone
+unfolding own
+more_not token earlier alone entry is same =
+    own_both token earlier (entry ∷ [])
+    ∙ ap (λ (es : List Entry). own token earlier ++ es) (own_not token entry [] is)
+    ∙ append-nil (own token earlier) ∙ same
+
+own_after : (fares : Fares) (token : Token) (earlier alone : List Entry) (taps : List TapFields)
+    → own token earlier ≡ own token alone
+    → own token (posted_after fares earlier taps) ≡ posted_after fares alone (only token taps)
+unfolding posted_after own
+own_after fares token earlier alone [] same = refl
+own_after fares token earlier alone (tap ∷ taps) same =
+    by_test (is_its token tap) refl
+    (λ (es others : List Entry) e. own_after fares token es others taps e)
+  where
+    by_test : (b : Bool) → is_its token tap ≡ b
+        → ((es others : List Entry) → own token es ≡ own token others
+        → own token (posted_after fares es taps) ≡ posted_after fares others (only token taps))
+        → own token (posted_after fares earlier (tap ∷ taps))
+        ≡ posted_after fares alone (only token (tap ∷ taps))
+    by_test true is more =
+        let entry = answered fares earlier (unposted tap) in
+        let rest = posted_after fares (earlier ++ entry ∷ []) taps in
+        let e = answered_own fares token earlier alone (unposted tap)
+        (same_token (token_of_tap tap) token is) same in
+        own_here token entry rest (answered_of fares token earlier tap true is)
+        ∙ ap (λ (es : List Entry). entry ∷ es)
+        (more (earlier ++ entry ∷ []) (alone ++ entry ∷ [])
+        (more_here token earlier alone entry same))
+        ∙ ap (λ (n : Entry). n ∷ posted_after fares (alone ++ n ∷ []) (only token taps)) e
+        ∙ sym (ap (λ (ts : List TapFields). posted_after fares alone ts) (only_here token tap taps is))
+    by_test false is more =
+        let entry = answered fares earlier (unposted tap) in
+        let rest = posted_after fares (earlier ++ entry ∷ []) taps in
+        let not = answered_of fares token earlier tap false is in
+        own_not token entry rest not
+        ∙ more (earlier ++ entry ∷ []) alone (more_not token earlier alone entry not same)
+        ∙ sym (ap (λ (ts : List TapFields). posted_after fares alone ts) (only_not token tap taps is))
+
+-- the entries of a token are those of its taps, posted alone
+pub own_posted : (fares : Fares) (token : Token) (taps : List TapFields)
+    → own token (posted fares taps) ≡ posted fares (only token taps)
+own_posted fares token taps = own_after fares token [] [] taps refl

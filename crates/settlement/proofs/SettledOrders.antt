@@ -1,0 +1,121 @@
+-- The good taps of uploads in canonical order: their history, and the taps of one token among them.
+use Rattle.std.proofs.Common.{◌≡◌, ℕ, ◌<◌, List, [], ◌∷◌, ◌++◌, All, cond, map, flat_map, refl, sym, ap, true}
+use Rattle.std.proofs.Common.{◌∙◌, subst, Vec, Global}
+use Rattle.std.specs.List.{AllZip, sum_by}
+use Rattle.std.specs.Ordering.{is_lt}
+use Rattle.std.proofs.lemmas.List.Elements.{All-filter, All-map, filter_passes}
+use Rattle.std.proofs.lemmas.List.Kept.{IsSortedBy-filter}
+use Rattle.std.proofs.lemmas.List.Sorted.{All-permutation, ranks_by, sum_by-IsPermutation}
+use Rattle.fare_table.specs.Fares.{Fares}
+use Rattle.fare_table.specs.declared.token.Token.{Token}
+use Rattle.tap_views.specs.Encoding.{AreEarly, fields_of}
+use Rattle.tap_views.specs.Files.{AreGoodTapsOfEach}
+use Rattle.tap_views.specs.Layout.{Tap, moment_limit}
+use Rattle.tap_views.specs.declared.encoder.TapFields.{TapFields}
+use Rattle.shard_book.proofs.Histories.{same_token}
+use Rattle.tap_parts.specs.Canonical.{HasTokenBytes, IsCanonical, tap_cmp}
+use Rattle.tap_parts.specs.Parts.{taps_of_uploads}
+use Rattle.tap_parts.proofs.Total.{tap_cmp_exact, tap_cmp_total}
+use Rattle.report_texts.specs.declared.upload_end.UploadEnd.{UploadEnd}
+use Rattle.settlement.specs.Posted.{HasName, only, posted, token_of_tap}
+use Rattle.settlement.specs.Settled.{IsSettledHistory}
+use Rattle.settlement.specs.SettledTaps.{AreSettledTaps, AreSettledTapsOf}
+use Rattle.settlement.specs.inside.OwnTaps.{AreOwnTaps}
+use Rattle.settlement.specs.inside.SplitUploads.{AreSplit}
+use Rattle.settlement.proofs.Early.{uploads_early}
+use Rattle.settlement.proofs.Files.{taps_in}
+use Rattle.settlement.proofs.OnlyTaps.{is_its}
+use Rattle.settlement.proofs.Placed.{all_map}
+use Rattle.settlement.proofs.Ranges.{has_name}
+use Rattle.settlement.proofs.Same.{sum_filter}
+use Rattle.settlement.proofs.SettledBills.{posted_of, whole_order}
+use Rattle.settlement.proofs.Sorting.{canonical_order}
+use Rattle.settlement.proofs.Unique.{same_sorted}
+
+pub settled_order : (uploads : List (List ℕ)) (taps : List (List Tap)) (order : List TapFields)
+    → AreGoodTapsOfEach uploads taps → All HasTokenBytes (map fields_of (taps_of_uploads taps))
+    → IsCanonical (map fields_of (taps_of_uploads taps)) order → AreSettledTaps uploads order
+settled_order uploads taps order each tokens canonical =
+    let good = taps_of_uploads taps in
+    record {
+      taps = taps;
+      of_uploads = each;
+      canonical = canonical;
+      early = All-permutation (λ (tap : TapFields). tap.moment < moment_limit) (map fields_of good) order
+          canonical.moved
+          (All-map (λ (tap : TapFields). tap.moment < moment_limit) fields_of good
+          (uploads_early uploads taps each));
+      named = all_map HasTokenBytes HasName order has_name
+          (All-permutation HasTokenBytes (map fields_of good) order canonical.moved tokens);
+    }
+
+lists_joined : (lists : List (Vec TapFields Global))
+    → flat_map (λ list. list) (map taps_in lists) ≡ flat_map taps_in lists
+lists_joined [] = refl
+lists_joined (list ∷ lists) = ap (λ (ts : List TapFields). list.items ++ ts) (lists_joined lists)
+
+-- the lists of parts, one behind the other
+pub lists_settled : (uploads : List (List ℕ)) (ends : List UploadEnd)
+    (parts : List (List TapFields)) (lists : List (Vec TapFields Global))
+    → AreSplit uploads ends parts → AllZip IsCanonical parts (map taps_in lists)
+    → AreSettledTaps uploads (flat_map taps_in lists)
+lists_settled uploads ends parts lists split zip =
+    subst (AreSettledTaps uploads) (lists_joined lists)
+    (settled_order uploads split.taps (flat_map (λ list. list) (map taps_in lists)) split.of_uploads
+    split.tokens (whole_order uploads ends parts split (map taps_in lists) zip))
+
+-- the history of settled taps
+pub posted_history : (fares : Fares) (uploads : List (List ℕ)) (order : List TapFields)
+    → AreSettledTaps uploads order → IsSettledHistory fares uploads (posted fares order)
+posted_history fares uploads order is =
+    let good = map fields_of (taps_of_uploads is.taps) in
+    let list = canonical_order (taps_of_uploads is.taps) in
+    let same : order ≡ map fields_of list.0 =
+    same_sorted tap_cmp tap_cmp_total tap_cmp_exact order (map fields_of list.0) is.canonical.sorted
+    list.1.sorted
+    (λ f. sum_by-IsPermutation f good order is.canonical.moved
+    ∙ sym (sum_by-IsPermutation f good (map fields_of list.0) list.1.moved)) in
+    record {
+      taps = is.taps;
+      of_uploads = is.of_uploads;
+      order = list.0;
+      canonical = list.1;
+      entries = ap (posted fares) same ∙ sym (posted_of fares [] list.0);
+    }
+
+-- the taps of one token
+pub own_settled : (uploads : List (List ℕ)) (token : Token) (own list : List TapFields)
+    (ends : List UploadEnd) → (is : AreOwnTaps token uploads own ends)
+    → All HasTokenBytes (map fields_of (taps_of_uploads is.taps)) → IsCanonical own list
+    → AreSettledTapsOf uploads token list
+own_settled uploads token own list ends is tokens canonical =
+    let p = is_its token in
+    let good = map fields_of (taps_of_uploads is.taps) in
+    let order = canonical_order (taps_of_uploads is.taps) in
+    let ordered = map fields_of order.0 in
+    record {
+      order = ordered;
+      settled = settled_order uploads is.taps ordered is.of_uploads tokens order.1;
+      own = same_sorted tap_cmp tap_cmp_total tap_cmp_exact list (only token ordered) canonical.sorted
+          (IsSortedBy-filter (λ a b. is_lt (tap_cmp a b)) (ranks_by tap_cmp_total (λ (t : TapFields). t))
+          p ordered order.1.sorted)
+          (λ f. sum_by-IsPermutation f own list canonical.moved
+          ∙ ap (sum_by f) is.are
+          ∙ sum_filter p f good
+          ∙ sym (sum_by-IsPermutation (λ x. cond (p x) (f x) 0) good ordered order.1.moved)
+          ∙ sym (sum_filter p f ordered));
+    }
+
+-- such taps are of the token, and have moments before 2100
+module _ (uploads : List (List ℕ)) (token : Token) (taps : List TapFields)
+    (is : AreSettledTapsOf uploads token taps) where
+  pub own_early : AreEarly (λ (tap : TapFields). tap.moment) taps
+  own_early = subst (AreEarly (λ (tap : TapFields). tap.moment)) (sym is.own)
+      (All-filter (is_its token) (λ (tap : TapFields). tap.moment < moment_limit) is.order
+      is.settled.early)
+
+  pub own_its : All (λ tap. token_of_tap tap ≡ token) taps
+  own_its = subst (All (λ tap. token_of_tap tap ≡ token)) (sym is.own)
+      (all_map (λ tap. is_its token tap ≡ true) (λ tap. token_of_tap tap ≡ token) (only token is.order)
+      (λ tap same. same_token (token_of_tap tap) token same)
+      (filter_passes (is_its token) is.order))

@@ -1,0 +1,11 @@
+use Rattle.fare_table.specs.Token.{bytes_of}
+use Rattle.account_rule.specs.TokenRules.{rules_of}
+use Rattle.shard_book.specs.Entry.{taps_of}
+use Rattle.settlement.specs.Replays.{HasPosted}
+use Rattle.settlement.proofs.replay.Replay.window.Goals as goal
+
+pub returns : goal.returns
+unfolding HasPosted
+returns c = λ fares entries posted.
+    c.window.ensures.window (rules_of fares (bytes_of c.args.self.now.token))
+    (taps_of fares c.args.self.now.token entries) posted
