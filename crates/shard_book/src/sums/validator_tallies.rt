@@ -75,7 +75,9 @@ impl ValidatorTallies {
         if add_at(&mut self.tallies, place, entry) {
             return Ok(());
         }
-        self.look_up(entry)
+        // a copy, so that the entry itself stays in registers
+        let unhinted = *entry;
+        self.look_up(&unhinted)
     }
 
     /// Adds an entry whose hint is wrong, and keeps a hint for it.
