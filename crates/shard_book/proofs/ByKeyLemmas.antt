@@ -2,7 +2,9 @@
 use Rattle.std.proofs.Common.{Ordering, take, ◌≡◌, ℕ, ◌+◌, ◌≤◌, ◌^◌, Bool, true, false, cond, ◌||◌, List, [], ◌∷◌, ◌++◌, length, map, Option, Some, None, refl, sym, ap, subst, ◌∙◌, ⊎_elim, arith}
 use Rattle.std.specs.Cmp.{IsEquivalence, IsTotalOrder}
 use Rattle.std.specs.List.{list_any, IsDistinct, slice_get}
-use Rattle.std.specs.HashMap.{HashMap, get, Updates}
+use Rattle.std.specs.HashMap.{HashMap, get, IsUnique, Updates}
+use Rattle.indexmap.specs.IndexMap.{set_value_at}
+use Rattle.indexmap.proofs.CallerLemmas.{updates-with_value_at}
 use Rattle.std.specs.Map.{lookup, keys_of}
 use Rattle.std.specs.List.Sorted.{IsPermutation, IsSorted}
 use Rattle.std.specs.Ordering.{eq_by_cmp, is_eq}
@@ -47,6 +49,18 @@ or-false false = refl
 pub kept-or : (kept : Option Tally) (fresh tally : Tally) → tally ≡ unwrap_or kept fresh → sums_of_tally fresh ≡ sums_of_replies [] → sums_of_tally tally ≡ kept_sums kept
 kept-or None fresh tally is none = ap sums_of_tally is ∙ none
 kept-or (Some kept) fresh tally is none = ap sums_of_tally is
+
+-- the tally of a pair, if there is one
+tally_in : {K : Type 0} → Option (K × Tally) → Tally → Tally
+tally_in None other = other
+tally_in (Some pair) other = pair.1
+
+-- the tally that stands at a key's place holds the sums that are kept for the key
+pub kept-at : {K : Type 0} (pairs : List (K × Tally)) (place : ℕ) (key there : K) (tally kept : Tally) (found : Option Tally) → slice_get pairs place ≡ Some (key, tally) → slice_get pairs place ≡ Some (there, kept) → found ≡ Some tally → sums_of_tally kept ≡ kept_sums found
+unfolding tally_in
+kept-at {K = K} pairs place key there tally kept found at same_place is =
+    let same : tally ≡ kept = ap (λ (o : Option (K × Tally)). tally_in o kept) (sym at ∙ same_place) in
+    ap sums_of_tally (sym same) ∙ sym (ap kept_sums is)
 
 -- a with_key is no longer than the entries
 pub room-kept : {K : Type 0} (eq : K → K → Bool) (key_of : Entry → K) (pairs : List (K × Tally)) (key : K) (taps more : ℕ) → HasRoom eq key_of pairs more → taps ≡ (kept_sums (lookup (eq key) pairs)).taps → taps + more ≤ 2 ^ 95
@@ -122,6 +136,24 @@ module _ {K : Type 0} {eq : K → K → Bool} (laws : IsEquivalence eq) (same : 
       (added
       ∙ ap (λ (s : Sums). add_sums s (sums_of_replies (answered ∷ []))) (kept-or (get eq old key) fresh kept is_kept none ∙ ap (λ (k : K). kept_sums (get eq old k)) is_key)
       ∙ ap (λ (r : Reply). add_sums (kept_sums (get eq old (key_of entry))) (sums_of_replies (r ∷ []))) is_reply)
+      by_key
+
+  -- the same, where the tally at the key's place was written
+  pub by_key-at : {S : Type 0} (before : List Entry) (entry : Entry) (key there : K) (m : HashMap K Tally S) (place : ℕ) (tally kept totals : Tally) (answered : Reply)
+      → key ≡ key_of entry
+      → IsUnique eq m
+      → slice_get m.entries place ≡ Some (key, tally)
+      → get eq m key ≡ Some tally
+      → slice_get m.entries place ≡ Some (there, kept)
+      → answered ≡ reply_of entry
+      → sums_of_tally totals ≡ add_sums (sums_of_tally kept) (sums_of_replies (answered ∷ []))
+      → AreByKey eq key_of before m.entries → AreByKey eq key_of (before ++ entry ∷ []) (set_value_at m.entries place totals)
+  by_key-at before entry key there m place tally kept totals answered is_key unique at is same_place is_reply added by_key =
+      by_key-push before entry m.entries (set_value_at m.entries place totals) totals
+      (λ q. (updates-with_value_at m place totals laws unique key tally at).0 q ∙ ap (λ (k : K). cond (eq k q) (Some totals) (lookup (eq q) m.entries)) is_key)
+      (added
+      ∙ ap (λ (s : Sums). add_sums s (sums_of_replies (answered ∷ []))) (kept-at m.entries place key there tally kept (get eq m key) at same_place is ∙ ap (λ (k : K). kept_sums (get eq m k)) is_key)
+      ∙ ap (λ (r : Reply). add_sums (kept_sums (get eq m (key_of entry))) (sums_of_replies (r ∷ []))) is_reply)
       by_key
 
 -- the keys of the totals, once sorted, are the rising keys of the entries

@@ -1,7 +1,8 @@
 //! Sums of entries by a key, in one scan of the entries and a sort of the keys.
 
 ghost use Rattle.std.specs.Prelude.{◌≡◌, ◌+◌, ◌*◌, ◌<◌, ◌≤◌, ◌^◌, List, [], ◌∷◌, ◌++◌, length, map};
-ghost use Rattle.std.specs.Prelude.{true, IfOk, OnOk};
+ghost use Rattle.std.specs.Prelude.{true, false, slice_get, IfOk, IsTrue, OnOk, Some};
+ghost use Rattle.shard_book.specs.declared.sums.tally.Tally.{Tally};
 ghost use Rattle.shard_book.specs.declared.entry.Entry.{Entry};
 ghost use Rattle.shard_book.specs.SumsByKey.{all_entries};
 ghost use Rattle.shard_book.specs.inside.SumsBy.{sums_by};
@@ -16,8 +17,8 @@ use crate::sums::tally::Tally;
 use crate::sums::totals::Totals;
 use crate::token_hash::HashSeed;
 use fare_table::NoMemory;
+use indexmap::IndexMap;
 use std::alloc::Global;
-use std::collections::HashMap;
 use std::hash::Hash;
 
 /// What entries are summed by.
@@ -46,7 +47,7 @@ pub(crate) trait SumKey: Copy + Ord + Hash + Drop {
 /// Adds one entry to the tally of its key.
 #[inline]
 pub(crate) fn add_entry<K: SumKey>(
-    tallies: &mut HashMap<K, Tally, HashSeed>,
+    tallies: &mut IndexMap<K, Tally, HashSeed>,
     entry: &Entry,
 ) -> Result<(), NoMemory>
     requires { HasRoom K.eq K.key_of tallies.old.entries 1 }
@@ -59,9 +60,44 @@ pub(crate) fn add_entry<K: SumKey>(
     Ok(())
 }
 
+/// Whether the tally of the key stands at the place.
+#[inline(always)]
+fn is_at<K: SumKey>(tallies: &IndexMap<K, Tally, HashSeed>, place: usize, key: K) -> bool
+    ensures { IsTrue result → (tally : Tally)
+        × (slice_get tallies.now.entries place ≡ Some (key, tally))
+        × (get K.eq tallies.now key ≡ Some tally) }
+{
+    match tallies.get_index(place) {
+        Some((there, _)) => *there == key,
+        None => false,
+    }
+}
+
+/// Adds one entry to the tally of its key, if that stands at the place: no look-up is needed then.
+/// Returns whether it does.
+#[inline(always)]
+pub(crate) fn add_at<K: SumKey>(
+    tallies: &mut IndexMap<K, Tally, HashSeed>,
+    place: usize,
+    entry: &Entry,
+) -> bool
+    requires { HasRoom K.eq K.key_of tallies.old.entries 1 }
+    ensures added { IsTrue result → (before : List Entry)
+        → AreByKey K.eq K.key_of before tallies.old.entries
+        → AreByKey K.eq K.key_of (before ++ entry.now ∷ []) tallies.new.entries }
+    ensures unchanged { result ≡ false → tallies.new ≡ tallies.old }
+{
+    if !is_at(tallies, place, K::of(entry)) {
+        return false;
+    }
+    let (_, kept) = tallies.pair_mut(place);
+    kept.add(entry.reply());
+    true
+}
+
 /// Adds the entries of a book to the tallies of their keys.
 fn add_entries<K: SumKey>(
-    tallies: &mut HashMap<K, Tally, HashSeed>,
+    tallies: &mut IndexMap<K, Tally, HashSeed>,
     book: &ShardBook,
 ) -> Result<(), NoMemory>
     requires { HasRoom K.eq K.key_of tallies.old.entries (length book.now.entries) }
@@ -80,7 +116,7 @@ fn add_entries<K: SumKey>(
 /// The keys, rising.
 fn rising_keys<K: SumKey>(
     alloc: Global,
-    tallies: &HashMap<K, Tally, HashSeed>,
+    tallies: &IndexMap<K, Tally, HashSeed>,
 ) -> Result<Vec<K>, NoMemory>
     ensures { IfOk result (λ keys. (entries : List Entry)
         → AreByKey K.eq K.key_of entries tallies.now.entries
@@ -92,7 +128,7 @@ fn rising_keys<K: SumKey>(
 }
 
 /// The totals that are kept for the key, of nothing where there are none.
-fn kept_totals<K: SumKey>(tallies: &HashMap<K, Tally, HashSeed>, key: K) -> Totals
+fn kept_totals<K: SumKey>(tallies: &IndexMap<K, Tally, HashSeed>, key: K) -> Totals
     requires { HasRoom K.eq K.key_of tallies.now.entries 0 }
     ensures { sums_of result ≡ kept_sums (get K.eq tallies.now key) }
 {
@@ -105,7 +141,7 @@ fn kept_totals<K: SumKey>(tallies: &HashMap<K, Tally, HashSeed>, key: K) -> Tota
 /// Each key with its totals, by rising keys.
 pub(crate) fn listed<K: SumKey>(
     alloc: Global,
-    tallies: &HashMap<K, Tally, HashSeed>,
+    tallies: &IndexMap<K, Tally, HashSeed>,
 ) -> Result<Vec<K::Sum>, NoMemory>
     requires { HasRoom K.eq K.key_of tallies.now.entries 0 }
     ensures { IfOk result (λ list. (entries : List Entry)
@@ -125,13 +161,13 @@ pub(crate) fn tallies_of<K: SumKey>(
     alloc: Global,
     seed: HashSeed,
     books: &[ShardBook],
-) -> Result<HashMap<K, Tally, HashSeed>, NoMemory>
+) -> Result<IndexMap<K, Tally, HashSeed>, NoMemory>
     requires { length books.now ≤ 64 }
     ensures by_key { IfOk result
         (λ tallies. AreByKey K.eq K.key_of (all_entries books.now) tallies.entries) }
     ensures few { OnOk result (length (all_entries books.now) ≤ length books.now * 2 ^ 64) }
 {
-    let mut tallies = HashMap::with_hasher(alloc, seed);
+    let mut tallies = IndexMap::with_hasher(alloc, seed);
     for book in books {
         // proof: book.len() < 2^64, so the tallies have room
         let _ = book.len();

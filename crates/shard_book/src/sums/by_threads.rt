@@ -15,8 +15,8 @@ use crate::sums::by_key::{SumKey, tallies_of};
 use crate::sums::tally::Tally;
 use crate::token_hash::HashSeed;
 use fare_table::NoMemory;
+use indexmap::IndexMap;
 use std::alloc::Global;
-use std::collections::HashMap;
 use std::marker::Sync;
 use std::thread;
 use std::thread::Threads;
@@ -27,7 +27,7 @@ const WORTH_THREADS: u64 = 65_536;
 
 /// Adds one tally to that of its key.
 fn add_tally<K: SumKey>(
-    tallies: &mut HashMap<K, Tally, HashSeed>,
+    tallies: &mut IndexMap<K, Tally, HashSeed>,
     key: K,
     tally: &Tally,
 ) -> Result<(), NoMemory>
@@ -46,8 +46,8 @@ fn add_tally<K: SumKey>(
 
 /// Adds the tallies of more entries.
 pub(crate) fn add_tallies<K: SumKey>(
-    tallies: &mut HashMap<K, Tally, HashSeed>,
-    more: &HashMap<K, Tally, HashSeed>,
+    tallies: &mut IndexMap<K, Tally, HashSeed>,
+    more: &IndexMap<K, Tally, HashSeed>,
 ) -> Result<(), NoMemory>
     requires { HaveRoom K.eq K.key_of tallies.old.entries more.now.entries }
     ensures { OnOk result ((before after : List Entry)
@@ -68,7 +68,7 @@ fn tallies_by_four<R: Threads + Sync>(
     alloc: Global,
     seed: HashSeed,
     books: &[ShardBook],
-) -> Result<HashMap<u32, Tally, HashSeed>, NoMemory>
+) -> Result<IndexMap<u32, Tally, HashSeed>, NoMemory>
     requires { length books.now ≤ 64 }
     ensures by_key { IfOk result
         (λ tallies. AreByKey ◌==◌ validator_of (all_entries books.now) tallies.entries) }
@@ -84,7 +84,7 @@ fn tallies_by_four<R: Threads + Sync>(
     )?;
     let mut parts = parts.into_iter();
     let Some(first) = parts.next() else {
-        return Ok(HashMap::with_hasher(alloc, seed));
+        return Ok(IndexMap::with_hasher(alloc, seed));
     };
     let mut tallies = first?;
     for more in parts {
@@ -109,7 +109,7 @@ pub(crate) fn tallies_by_validator<R: Threads + Sync>(
     alloc: Global,
     seed: HashSeed,
     books: &[ShardBook],
-) -> Result<HashMap<u32, Tally, HashSeed>, NoMemory>
+) -> Result<IndexMap<u32, Tally, HashSeed>, NoMemory>
     requires { length books.now ≤ 64 }
     ensures by_key { IfOk result
         (λ tallies. AreByKey ◌==◌ validator_of (all_entries books.now) tallies.entries) }

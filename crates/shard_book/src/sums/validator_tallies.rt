@@ -8,21 +8,36 @@ ghost use Rattle.shard_book.specs.TalliesByKey.{AreByKey, HasRoom, HaveRoom};
 
 use crate::entry::Entry;
 use crate::sums::ValidatorSum;
-use crate::sums::by_key::{add_entry, listed};
+use crate::sums::by_key::{add_at, add_entry, listed};
 use crate::sums::by_threads::add_tallies;
 use crate::sums::tally::Tally;
 use crate::token_hash::HashSeed;
 use fare_table::NoMemory;
+use indexmap::IndexMap;
 use std::alloc::Global;
-use std::collections::HashMap;
 use std::marker::Model;
+
+/// How many hints there are, a power of two.
+const HINTS: usize = 16_384;
+
+/// By how many bits a number is shifted, once it is spread, so that it is below the number of hints.
+const HINT_SHIFT: u32 = 18;
 
 /// The tally of each validator of the entries that were added. Contracts see the validators with
 /// their tallies, in no order.
 #[derive(Drop)]
 pub struct ValidatorTallies {
     /// The tallies, by the number of the validator.
-    tallies: HashMap<u32, Tally, HashSeed>,
+    tallies: IndexMap<u32, Tally, HashSeed>,
+    /// Where the tally of a validator may stand: the place is asked for before the validator is
+    /// looked up. Any places serve. None are kept before the first entry.
+    hints: Vec<u32>,
+}
+
+/// The hint of the validator. The numbers of neighbours spread evenly.
+#[inline(always)]
+fn hint_of(validator: u32) -> usize {
+    (validator.wrapping_mul(0x9e37_79b1) >> HINT_SHIFT) as usize
 }
 
 impl Model for ValidatorTallies {
@@ -40,19 +55,53 @@ impl ValidatorTallies {
         ensures { AreByKey ◌==◌ validator_of [] result }
     {
         ValidatorTallies {
-            tallies: HashMap::with_hasher(alloc, seed),
+            tallies: IndexMap::with_hasher(alloc, seed),
+            hints: Vec::new(alloc),
         }
     }
 
     /// Adds an entry. After want of memory the tallies are of no use.
-    #[inline]
+    #[inline(always)]
     pub fn add(&mut self, entry: &Entry) -> Result<(), NoMemory>
         requires { HasRoom ◌==◌ validator_of self.old 1 }
         ensures { OnOk result ((before : List Entry)
             → AreByKey ◌==◌ validator_of before self.old
             → AreByKey ◌==◌ validator_of (before ++ entry.now ∷ []) self.new) }
     {
-        add_entry(&mut self.tallies, entry)
+        let place = match self.hints.get(hint_of(entry.validator)) {
+            Some(place) => *place as usize,
+            None => 0,
+        };
+        if add_at(&mut self.tallies, place, entry) {
+            return Ok(());
+        }
+        // a copy, so that the entry itself stays in registers
+        let unhinted = *entry;
+        self.look_up(&unhinted)
+    }
+
+    /// Adds an entry whose hint is wrong, and keeps a hint for it.
+    #[inline(never)]
+    fn look_up(&mut self, entry: &Entry) -> Result<(), NoMemory>
+        requires { HasRoom ◌==◌ validator_of self.old 1 }
+        ensures { OnOk result ((before : List Entry)
+            → AreByKey ◌==◌ validator_of before self.old
+            → AreByKey ◌==◌ validator_of (before ++ entry.now ∷ []) self.new) }
+    {
+        add_entry(&mut self.tallies, entry)?;
+        self.keep_hint(entry.validator)
+    }
+
+    /// Keeps the place of the validator's tally as its hint.
+    fn keep_hint(&mut self, validator: u32) -> Result<(), NoMemory>
+        ensures { self.new ≡ self.old }
+    {
+        self.hints.resize(HINTS, 0)?;
+        let place = self.tallies.get_index_of(&validator).unwrap_or(0);
+        if let Some(hint) = self.hints.get_mut(hint_of(validator)) {
+            *hint = place.min(0xffff_ffff) as u32;
+        }
+        Ok(())
     }
 
     /// Adds all entries of other tallies. After want of memory the tallies are of no use.

@@ -1,6 +1,6 @@
 use Rattle.std.proofs.Common.{rules, Option, ap, ◌∙◌, arith}
 use Rattle.std.specs.HashMap.{get}
-use Rattle.std.specs.HashMap.Entry.{map_with_value}
+use Rattle.indexmap.specs.Entry.{map_with_value}
 use Rattle.std.specs.Option.{unwrap_or}
 use Rattle.shard_book.specs.declared.sums.tally.Tally.{Tally}
 use Rattle.shard_book.specs.Sums.{Sums}
