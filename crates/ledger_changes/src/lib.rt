@@ -9,6 +9,7 @@ mod form;
 pub mod laws;
 mod ledger_rows;
 mod row;
+mod token_sums;
 
-pub use both_ledgers::corrections;
+pub use both_ledgers::{corrections, corrections_by_token};
 pub use fault::{Bill, CorrectionsFault};
