@@ -1,7 +1,7 @@
 -- The sums of each token: corrections in order are cut where the token changes.
-use Rattle.std.proofs.Common.{◌≡◌, ◌+◌, ◌<◌, ◌≤◌, ℕ, suc, List, [], ◌∷◌, ◌++◌, Option, Some, None, Bool}
+use Rattle.std.proofs.Common.{◌≡◌, ◌+◌, ℕ, suc, List, [], ◌∷◌, ◌++◌, Option, Some, None, Bool}
 use Rattle.std.proofs.Common.{true, false, cond, refl, sym, ap, subst, ◌∙◌, arith, length, length-append}
-use Rattle.std.proofs.Common.{append_assoc, append-nil, filter, flat_map, get_or, All}
+use Rattle.std.proofs.Common.{append_assoc, append-nil, filter, get_or, All}
 use Rattle.std.specs.Prelude.{⊤, Contains}
 use Rattle.std.specs.Cmp.{IsTotalOrder}
 use Rattle.std.specs.Cmp.Lexicographic.{on_texts}
@@ -24,8 +24,8 @@ use Rattle.ledger_changes.specs.Tokens.{AreTokensOf, IsCorrectionsByTokenText, S
 use Rattle.ledger_changes.specs.Tokens.{is_of_token, of_token, sums_of, token_line, tokens_head}
 use Rattle.ledger_changes.specs.Tokens.{tokens_lines}
 use Rattle.ledger_changes.specs.inside.Standings.{IsKnown, Standing, StandsBefore}
-use Rattle.ledger_changes.specs.inside.Sums.{AreSumsWritten, TokenSum, add_changes, add_sums, ended_line}
-use Rattle.ledger_changes.specs.inside.Sums.{ended_lines, no_sums, sums_after, sums_for, sums_line}
+use Rattle.ledger_changes.specs.inside.Sums.{AreSumsWritten, TokenSum, add_changes, add_sums}
+use Rattle.ledger_changes.specs.inside.Sums.{ended_lines, no_sums, sums_after, sums_line}
 use Rattle.ledger_changes.specs.inside.Written.{AreTold}
 use Rattle.ledger_changes.proofs.Keys.{key_cmp_total, tied}
 use Rattle.ledger_changes.proofs.Merging.{appends_more}
@@ -37,13 +37,13 @@ text_total = on_texts (λ (text : List ℕ). text)
 same_self : (t : List ℕ) → is_same_text t t ≡ true
 same_self t = ap is_eq (tied_itself text_total t)
 
-same_is : (t x : List ℕ) → t ≡ x → is_same_text t x ≡ true
+pub same_is : (t x : List ℕ) → t ≡ x → is_same_text t x ≡ true
 same_is t x is = subst (λ (y : List ℕ). is_same_text t y ≡ true) is (same_self t)
 
 less_same : (a b : List ℕ) → text_cmp a b ≡ Less → is_same_text a b ≡ false
 less_same a b less = ap is_eq less
 
-more_same : (a b : List ℕ) → text_cmp a b ≡ Less → is_same_text b a ≡ false
+pub more_same : (a b : List ℕ) → text_cmp a b ≡ Less → is_same_text b a ≡ false
 more_same a b less = ap is_eq (text_total.antisymm b a ∙ ap ordering_reverse less)
 
 -- the token of the later correction is not below the token

@@ -8,3 +8,4 @@ pub mod Readings
 pub mod Sorted
 pub mod Summing
 pub mod Sums
+pub mod TokensAdd

@@ -3,8 +3,8 @@ use Rattle.std.proofs.Common.{◌≡◌, ◌+◌, ℕ, List, [], ◌∷◌, ◌+
 use Rattle.std.proofs.Common.{cond, not, refl, sym, ap, subst, ◌∙◌, append-nil, append_assoc, arith}
 use Rattle.std.specs.Io.KnownBytes.{Appends}
 use Rattle.std.specs.Option.{option_map}
-use Rattle.ledger_changes.specs.Changes.{Pair, agree, is_changed}
-use Rattle.ledger_changes.specs.inside.LedgerRows.{charge_of, key_of}
+use Rattle.ledger_changes.specs.Changes.{Pair, agree}
+use Rattle.ledger_changes.specs.inside.LedgerRows.{charge_of}
 use Rattle.ledger_changes.specs.Texts.{removed_in}
 use Rattle.ledger_changes.specs.inside.Standings.{Standing}
 use Rattle.ledger_changes.specs.inside.Sums.{AreSummed, AreSumsWritten, TokenSum, add_changes}

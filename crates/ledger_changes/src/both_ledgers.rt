@@ -7,11 +7,9 @@ ghost use Rattle.ledger_changes.specs.Faults.{IsOfLedger};
 ghost use Rattle.ledger_changes.specs.Ledgers.{IsSettledLedger};
 ghost use Rattle.ledger_changes.specs.Rows.{Row};
 ghost use Rattle.ledger_changes.specs.Texts.{IsCorrectionsText, removed_in};
-ghost use Rattle.ledger_changes.specs.Tokens.{IsCorrectionsByTokenText};
 ghost use Rattle.ledger_changes.specs.declared.fault.Bill.{Bill as ABill};
 ghost use Rattle.ledger_changes.specs.declared.fault.Bill.TheVariants.{New, Old};
 ghost use Rattle.ledger_changes.specs.inside.Standings.{HasRows, IsKnown, standing};
-ghost use Rattle.ledger_changes.specs.inside.Sums.{AreSumsWritten};
 ghost use Rattle.ledger_changes.specs.inside.Written.{AreTold, AreWritten, changes_of, next_sides};
 ghost use Rattle.ledger_changes.specs.inside.Written.{row_in};
 
@@ -19,7 +17,6 @@ use crate::correction_text::{write_change, write_text};
 use crate::fault::{Bill, CorrectionsFault};
 use crate::ledger_rows::LedgerRows;
 use crate::row::LedgerRow;
-use crate::token_sums::{TokenSums, sum_change, write_sums};
 use std::alloc::Global;
 use std::cmp::Ordering;
 use std::io::{BufRead, Write};
@@ -28,13 +25,9 @@ use std::io::{BufRead, Write};
 const HEAD_LINE: &[u8] =
     b"token,moment,validator,change,answer_before,cents_before,reason_before,answer_after,cents_after,reason_after,cents_change\n";
 
-/// The head line of the tokens' sums.
-const TOKENS_HEAD_LINE: &[u8] =
-    b"token,added,removed,changed,cents_before,cents_after,cents_change\n";
-
 /// Which of two ledgers have the next row, at these rows of theirs: both do where the keys are the
 /// same. Nothing where both have ended.
-fn next_sides(old: &Option<LedgerRow>, new: &Option<LedgerRow>) -> Option<(bool, bool)>
+pub(crate) fn next_sides(old: &Option<LedgerRow>, new: &Option<LedgerRow>) -> Option<(bool, bool)>
     ensures { MatchOption result (next_sides (row_in old.now) (row_in new.now) ≡ (false, false))
         (λ sides. (sides ≡ next_sides (row_in old.now) (row_in new.now))
         × ¬ (next_sides (row_in old.now) (row_in new.now) ≡ (false, false))) }
@@ -53,7 +46,11 @@ fn next_sides(old: &Option<LedgerRow>, new: &Option<LedgerRow>) -> Option<(bool,
 
 /// The number of removed lines, with this change among them. No ledger has so many lines that
 /// there is none.
-fn count_removed(removed: u64, before: &Option<LedgerRow>, after: &Option<LedgerRow>) -> Option<u64>
+pub(crate) fn count_removed(
+    removed: u64,
+    before: &Option<LedgerRow>,
+    after: &Option<LedgerRow>,
+) -> Option<u64>
     ensures { IfSome result (λ counted. counted
         ≡ removed + removed_in (changes_of (row_in before.now) (row_in after.now))) }
 {
@@ -100,45 +97,6 @@ fn write_changes<R: BufRead + Drop, W: Write>(
     Err(CorrectionsFault::Write)
 }
 
-/// Writes the line of each token that has a correction from the rows of the one ledger to those of
-/// the other. Gives how many lines are removed.
-fn write_token_sums<R: BufRead + Drop, W: Write>(
-    alloc: Global,
-    old: &mut LedgerRows<R>,
-    new: &mut LedgerRows<R>,
-    out: &mut W,
-) -> Result<u64, CorrectionsFault>
-    requires old { old.old.bill ≡ Old }
-    requires new { new.old.bill ≡ New }
-    ensures written { IfOk result (λ removed. IsKnown (standing R.remaining old.old)
-        → IsKnown (standing R.remaining new.old)
-        → AreTold (standing R.remaining old.old) (standing R.remaining new.old)
-        (AreSumsWritten (W.contents out.old) (W.contents out.new) removed)) }
-    ensures refused_old { IfErr result (λ fault. IsOfLedger Old fault
-        → IsKnown (standing R.remaining old.old) → (rows : List Row)
-        → ¬ (HasRows (standing R.remaining old.old) rows)) }
-    ensures refused_new { IfErr result (λ fault. IsOfLedger New fault
-        → IsKnown (standing R.remaining new.old) → (rows : List Row)
-        → ¬ (HasRows (standing R.remaining new.old) rows)) }
-{
-    let mut removed = 0;
-    let mut last = None::<TokenSums>;
-    for _ in 0..u64::MAX {
-        let Some((has_old, has_new)) = next_sides(old.row(), new.row()) else {
-            write_sums(alloc, out, &last)?;
-            return Ok(removed);
-        };
-        let before = old.row_if(alloc, has_old)?;
-        let after = new.row_if(alloc, has_new)?;
-        last = sum_change(alloc, out, last, &before, &after)?;
-        match count_removed(removed, &before, &after) {
-            Some(counted) => removed = counted,
-            None => return Err(CorrectionsFault::Write),
-        }
-    }
-    Err(CorrectionsFault::Write)
-}
-
 /// Writes the corrections from the one settled ledger to the other: the head line, and a line for
 /// each line of either that is charged otherwise in the other. Gives how many lines are removed:
 /// the old ledger has them, and the new one does not. The ledgers are read side by side, a row of
@@ -163,30 +121,4 @@ pub fn corrections<R: BufRead + Drop, W: Write>(
     let mut new = LedgerRows::begin(alloc, new, Bill::New)?;
     write_text(out, HEAD_LINE)?;
     write_changes(alloc, &mut old, &mut new, out)
-}
-
-/// Writes the corrections from the one settled ledger to the other, summed by token: the head line,
-/// and a line for each token that has a correction. Gives how many lines are removed: the old
-/// ledger has them, and the new one does not. The ledgers are read side by side, a row of each and
-/// the sums of one token in memory.
-pub fn corrections_by_token<R: BufRead + Drop, W: Write>(
-    alloc: Global,
-    old: R,
-    new: R,
-    out: &mut W,
-) -> Result<u64, CorrectionsFault>
-    ensures written { IfOk result (λ removed. (old_text new_text : List ℕ)
-        → R.remaining old ≡ Some old_text → R.remaining new ≡ Some new_text
-        → (text : List ℕ) × IsCorrectionsByTokenText old_text new_text text removed
-        × Appends (W.contents out.old) (W.contents out.new) text) }
-    // A fault of a ledger comes only where the text is no settled ledger.
-    ensures refused_old { IfErr result (λ fault. IsOfLedger Old fault → (text : List ℕ)
-        → R.remaining old ≡ Some text → (rows : List Row) → ¬ (IsSettledLedger rows text)) }
-    ensures refused_new { IfErr result (λ fault. IsOfLedger New fault → (text : List ℕ)
-        → R.remaining new ≡ Some text → (rows : List Row) → ¬ (IsSettledLedger rows text)) }
-{
-    let mut old = LedgerRows::begin(alloc, old, Bill::Old)?;
-    let mut new = LedgerRows::begin(alloc, new, Bill::New)?;
-    write_text(out, TOKENS_HEAD_LINE)?;
-    write_token_sums(alloc, &mut old, &mut new, out)
 }

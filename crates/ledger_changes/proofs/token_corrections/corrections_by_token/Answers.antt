@@ -3,7 +3,7 @@ use Rattle.std.proofs.lemmas.Result.{IfOk-weaker, err_from_is_err_and}
 use Rattle.ledger_changes.specs.declared.fault.Bill.TheVariants.{New, Old}
 use Rattle.ledger_changes.specs.inside.Standings.{standing}
 use Rattle.ledger_changes.proofs.ByToken.{finished_by_token}
-use Rattle.ledger_changes.proofs.both_ledgers.corrections_by_token.Goals as goal
+use Rattle.ledger_changes.proofs.token_corrections.corrections_by_token.Goals as goal
 
 pub returns-in_err-old-clause-refused_old : goal.returns-in_err-old-clause-refused_old
 returns-in_err-old-clause-refused_old g c =

@@ -9,7 +9,7 @@ use Rattle.ledger_changes.specs.inside.Written.{changes_of, next_sides, row_in, 
 use Rattle.ledger_changes.proofs.Merging.{going_end, going_next, going_start, refused_new}
 use Rattle.ledger_changes.proofs.Merging.{refused_old}
 use Rattle.ledger_changes.proofs.Summing.{summed_all, summed_more, summed_none, told_so}
-use Rattle.ledger_changes.proofs.both_ledgers.write_token_sums.Goals as goal
+use Rattle.ledger_changes.proofs.token_corrections.write_token_sums.Goals as goal
 
 pub returns-in_err-write_sums-clause-refused_old :
     goal.returns-in_err-write_sums-clause-refused_old

@@ -3,7 +3,7 @@ use Rattle.ledger_changes.specs.declared.fault.Bill.TheVariants.{New, Old}
 use Rattle.ledger_changes.specs.inside.Standings.{standing}
 use Rattle.ledger_changes.specs.inside.Sums.{AreSummed, sum_in}
 use Rattle.ledger_changes.proofs.Merging.{IsGoing}
-use Rattle.ledger_changes.proofs.both_ledgers.write_token_sums.Given as goal
+use Rattle.ledger_changes.proofs.token_corrections.write_token_sums.Given as goal
 
 abbrev pub invariant-loop : goal.invariant-loop
 invariant-loop g l = record {
