@@ -20,7 +20,8 @@ _omny_tools() {
     # the options of the task, and the ending of its files: * is any name
     case $task in
     '') words='-V --version' ;;
-    encode | merge-ledgers | corrections) ending=csv ;;
+    encode | merge-ledgers) ending=csv ;;
+    corrections) words='--tokens' ending=csv ;;
     uploads) words='--good-part --tokens' ;;
     table)
         words='--strict --riders --from'

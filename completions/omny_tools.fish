@@ -31,6 +31,8 @@ complete -c omny_tools -s h -l help -d 'Print help'
 set -l uploads '__fish_seen_subcommand_from uploads'
 complete -c omny_tools -n $uploads -l good-part -r -d 'Make a file of what stands before the fault'
 complete -c omny_tools -n $uploads -l tokens -d 'Tell how many tokens the uploads share'
+complete -c omny_tools -n '__fish_seen_subcommand_from corrections' -l tokens \
+    -d "Write the sums of each token's corrections"
 set -l table '__fish_seen_subcommand_from table'
 complete -c omny_tools -n $table -l strict -d 'Let the status be 1 where there is a warning'
 complete -c omny_tools -n $table -l riders -d 'Tell each rider with its class'

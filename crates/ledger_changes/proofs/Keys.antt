@@ -55,7 +55,7 @@ both : (a b : Bool) → (a && b) ≡ true → (a ≡ true) × (b ≡ true)
 both true b e = (refl, e)
 both false b e = absurd (let h : false ≡ true = e in cc)
 
-tied : (a b : List ℕ) → is_same_text a b ≡ true → a ≡ b
+pub tied : (a b : List ℕ) → is_same_text a b ≡ true → a ≡ b
 tied a b e = by_order (text_cmp a b) refl e
   where
     by_order : (r : Ordering) → text_cmp a b ≡ r → is_eq r ≡ true → a ≡ b

@@ -1,8 +1,11 @@
 pub mod Beside
+pub mod ByToken
 pub mod Keys
 pub mod Listed
 pub mod Merging
 pub mod Nones
 pub mod Readings
 pub mod Sorted
+pub mod Summing
 pub mod Sums
+pub mod TokensAdd

@@ -20,7 +20,8 @@ use Rattle.ledger_changes.specs.Texts.{IsCorrectionsText, correction_line, corre
 use Rattle.ledger_changes.specs.Texts.{corrections_lines, is_removed, removed_in}
 use Rattle.ledger_changes.specs.inside.LedgerRows.{rows_in}
 use Rattle.ledger_changes.specs.inside.Standings.{HasRows, HasRowsAt, IsKnown, IsMoved, Standing, StandsBefore}
-use Rattle.ledger_changes.specs.inside.Written.{AreWritten, changes_of, next_sides, pairs_of, sides_by, taken_if}
+use Rattle.ledger_changes.specs.inside.Written.{AreTold, AreWritten, changes_of, next_sides, pairs_of}
+use Rattle.ledger_changes.specs.inside.Written.{sides_by, taken_if}
 use Rattle.ledger_changes.proofs.Keys.{key_cmp_total, same_key}
 use Rattle.ledger_changes.proofs.Sorted.{Rise, rise_all}
 
@@ -328,40 +329,37 @@ first_of None (Some new) olds news some is also = only_new new olds news also (p
 first_of (Some old) (Some new) olds news some is also =
     first_by old new (key_cmp old.key new.key) refl olds news is also
 
--- ---- how far the ledgers were read, and what was written
-pub record IsWhole (old new : Standing) (done : List ℕ) (removed : ℕ) (pairs : List Pair) : Type 0 where
+-- ---- how far the ledgers were read, and which corrections there were
+pub record IsWhole (old new : Standing) (done pairs : List Pair) : Type 0 where
   pub olds : List Row
   pub are_old : HasRows old olds
   pub news : List Row
   pub are_new : HasRows new news
   pub all : List Pair
   pub paired : IsPaired olds news all
-  pub shown : corrections_lines (filter is_changed all)
-      ≡ done ++ corrections_lines (filter is_changed pairs)
-  pub counted : removed_in (filter is_changed all) ≡ removed + removed_in (filter is_changed pairs)
+  pub shown : filter is_changed all ≡ done ++ filter is_changed pairs
 
-pub record IsWritten (old0 new0 : Standing) (out0 : Option (List ℕ)) (old new : Standing)
-    (out : Option (List ℕ)) (removed : ℕ) : Type 0 where
-  pub done : List ℕ
-  pub appends : Appends out0 out done
+pub record IsDone (old0 new0 old new : Standing) (Told : List Pair → Type 0) : Type 0 where
+  pub done : List Pair
+  pub told : Told done
   pub whole : (olds news : List Row) (pairs : List Pair) → HasRows old olds → HasRows new news
-      → IsPaired olds news pairs → IsWhole old0 new0 done removed pairs
+      → IsPaired olds news pairs → IsWhole old0 new0 done pairs
 
-pub record IsGoing (old0 new0 : Standing) (out0 : Option (List ℕ)) (old new : Standing)
-    (out : Option (List ℕ)) (removed : ℕ) : Type 0 where
+-- the ledgers were read up to here, and this is so of their corrections
+pub record IsGoing (old0 new0 old new : Standing) (Told : List Pair → Type 0) : Type 0 where
   pub known_old : IsKnown old0 → IsKnown old
   pub known_new : IsKnown new0 → IsKnown new
   pub olds : IsKnown old0 → (rows : List Row) → HasRows old0 rows
       → (rest : List Row) × HasRows old rest
   pub news : IsKnown new0 → (rows : List Row) → HasRows new0 rows
       → (rest : List Row) × HasRows new rest
-  pub text : IsKnown old0 → IsKnown new0 → IsWritten old0 new0 out0 old new out removed
+  pub told : IsKnown old0 → IsKnown new0 → IsDone old0 new0 old new Told
 
-appends_none : (out : Option (List ℕ)) → Appends out out []
+pub appends_none : (out : Option (List ℕ)) → Appends out out []
 appends_none None = tt
 appends_none (Some bytes) = sym (append-nil bytes)
 
-appends_more : (a b c : Option (List ℕ)) (x y : List ℕ) → Appends a b x → Appends b c y
+pub appends_more : (a b c : Option (List ℕ)) (x y : List ℕ) → Appends a b x → Appends b c y
     → Appends a c (x ++ y)
 appends_more None b c x y p q = tt
 appends_more (Some xs) None c x y p q = elim p [ ]
@@ -369,15 +367,16 @@ appends_more (Some xs) (Some ys) None x y p q = elim q [ ]
 appends_more (Some xs) (Some ys) (Some zs) x y p q =
     q ∙ ap (λ (bytes : List ℕ). bytes ++ y) p ∙ append_assoc xs x y
 
-pub going_start : (old new : Standing) (out : Option (List ℕ)) → IsGoing old new out old new out 0
-going_start old new out = record {
+pub going_start : (old new : Standing) (Told : List Pair → Type 0) → Told []
+    → IsGoing old new old new Told
+going_start old new Told told = record {
   known_old = λ known. known;
   known_new = λ known. known;
   olds = λ known rows has. (rows, has);
   news = λ known rows has. (rows, has);
-  text = λ known also. record {
+  told = λ known also. record {
     done = [];
-    appends = appends_none out;
+    told = told;
     whole = λ olds news pairs has_olds has_news paired. record {
       olds = olds;
       are_old = has_olds;
@@ -386,7 +385,6 @@ going_start old new out = record {
       all = pairs;
       paired = paired;
       shown = refl;
-      counted = omega arith;
     };
   };
 }
@@ -406,60 +404,32 @@ rest_moved before after is_taken moved rows has =
     let behind = behind_taken is_taken before.row before.left rows has in
     (behind.0, (moved.rows behind.0).1 (subst (HasRows before) behind.1 has))
 
-lines_more : (pair : Pair) (pairs : List Pair)
-    → corrections_lines (filter is_changed (pair ∷ pairs))
-    ≡ corrections_lines (filter is_changed (pair ∷ [])) ++ corrections_lines (filter is_changed pairs)
-lines_more pair pairs =
-    ap corrections_lines (filter-append is_changed (pair ∷ []) pairs)
-    ∙ flat_map-append correction_line (filter is_changed (pair ∷ [])) (filter is_changed pairs)
+whole_more : (old new : Standing) (done : List Pair) (b a : Option Row) (pair : Pair)
+    (pairs : List Pair) → pairs_of b a ≡ pair ∷ [] → IsWhole old new done (pair ∷ pairs)
+    → IsWhole old new (done ++ changes_of b a) pairs
+whole_more old new done b a pair pairs listed whole = record {
+  olds = whole.olds;
+  are_old = whole.are_old;
+  news = whole.news;
+  are_new = whole.are_new;
+  all = whole.all;
+  paired = whole.paired;
+  shown = whole.shown
+      ∙ ap (λ (some : List Pair). done ++ some) (filter-append is_changed (pair ∷ []) pairs)
+      ∙ sym (append_assoc done (filter is_changed (pair ∷ [])) (filter is_changed pairs))
+      ∙ ap (λ (some : List Pair). (done ++ filter is_changed some) ++ filter is_changed pairs)
+      (sym listed);
+}
 
-removed_more : (pair : Pair) (pairs : List Pair)
-    → removed_in (filter is_changed (pair ∷ pairs))
-    ≡ removed_in (filter is_changed (pair ∷ [])) + removed_in (filter is_changed pairs)
-removed_more pair pairs =
-    ap removed_in (filter-append is_changed (pair ∷ []) pairs)
-    ∙ ap length (filter-append is_removed (filter is_changed (pair ∷ [])) (filter is_changed pairs))
-    ∙ length-append (filter is_removed (filter is_changed (pair ∷ [])))
-    (filter is_removed (filter is_changed pairs))
-
-whole_more : (old new : Standing) (done : List ℕ) (removed counted : ℕ) (b a : Option Row) (pair : Pair)
-    (pairs : List Pair) → pairs_of b a ≡ pair ∷ []
-    → counted ≡ removed + removed_in (changes_of b a)
-    → IsWhole old new done removed (pair ∷ pairs)
-    → IsWhole old new (done ++ corrections_lines (changes_of b a)) counted pairs
-whole_more old new done removed counted b a pair pairs listed count whole =
-    let one : changes_of b a ≡ filter is_changed (pair ∷ []) = ap (filter is_changed) listed in
-    let more = removed_more pair pairs in
-    let mine : removed_in (changes_of b a) ≡ removed_in (filter is_changed (pair ∷ [])) =
-    ap removed_in one in
-    let sum = whole.counted in
-    record {
-      olds = whole.olds;
-      are_old = whole.are_old;
-      news = whole.news;
-      are_new = whole.are_new;
-      all = whole.all;
-      paired = whole.paired;
-      shown = whole.shown ∙ ap (λ (text : List ℕ). done ++ text) (lines_more pair pairs)
-          ∙ sym (append_assoc done (corrections_lines (filter is_changed (pair ∷ [])))
-          (corrections_lines (filter is_changed pairs)))
-          ∙ ap (λ (some : List Pair). (done ++ corrections_lines some)
-          ++ corrections_lines (filter is_changed pairs)) (sym one);
-      counted = omega (arith, sum, more, mine, count);
-    }
-
-pub going_next : (old0 new0 : Standing) (out0 : Option (List ℕ)) (old new : Standing)
-    (out : Option (List ℕ)) (removed : ℕ) (old' new' : Standing) (out' : Option (List ℕ))
-    (counted : ℕ) (h k : Bool) (b a : Option Row)
-    → IsGoing old0 new0 out0 old new out removed → (h, k) ≡ next_sides old.row new.row
-    → ¬ (next_sides old.row new.row ≡ (false, false))
+pub going_next : (old0 new0 old new old' new' : Standing) (Told Told' : List Pair → Type 0)
+    (h k : Bool) (b a : Option Row) → IsGoing old0 new0 old new Told
+    → (h, k) ≡ next_sides old.row new.row → ¬ (next_sides old.row new.row ≡ (false, false))
     → b ≡ taken_if h old.row → a ≡ taken_if k new.row
     → (IsKnown old → IsMoved old old' (rows_in b)) → (IsKnown new → IsMoved new new' (rows_in a))
-    → Appends out out' (corrections_lines (changes_of b a))
-    → counted ≡ removed + removed_in (changes_of b a)
-    → IsGoing old0 new0 out0 old' new' out' counted
-going_next old0 new0 out0 old new out removed old' new' out' counted h k b a going sides some is_b is_a
-    moved_old moved_new written count = record {
+    → ((done : List Pair) → Told done → Told' (done ++ changes_of b a))
+    → IsGoing old0 new0 old' new' Told'
+going_next old0 new0 old new old' new' Told Told' h k b a going sides some is_b is_a moved_old moved_new
+    more = record {
       known_old = λ known. (moved_old (going.known_old known)).known;
       known_new = λ known. (moved_new (going.known_new known)).known;
       olds = λ known rows has.
@@ -470,22 +440,20 @@ going_next old0 new0 out0 old new out removed old' new' out' counted h k b a goi
           let rest = going.news known rows has in
           rest_moved new new' k (subst (λ (a : Option Row). IsMoved new new' (rows_in a)) is_a
           (moved_new (going.known_new known))) rest.0 rest.1;
-      text = λ known also.
-          let text = going.text known also in
+      told = λ known also.
+          let so = going.told known also in
           let to_old = moved_old (going.known_old known) in
           let to_new = moved_new (going.known_new also) in
           record {
-            done = text.done ++ corrections_lines (changes_of b a);
-            appends = appends_more out0 out out' text.done (corrections_lines (changes_of b a))
-                text.appends written;
+            done = so.done ++ changes_of b a;
+            told = more so.done so.told;
             whole = λ olds news pairs has_olds has_news paired.
                 let before_olds : HasRows old (rows_in b ++ olds) = (to_old.rows olds).0 has_olds in
                 let before_news : HasRows new (rows_in a ++ news) = (to_new.rows news).0 has_news in
                 let pairing = pairing_of (next_sides old.row new.row) sides olds news
                 (first_of old.row new.row olds news some) before_olds before_news in
-                whole_more old0 new0 text.done removed counted b a pairing.pair pairs
-                pairing.first.listed count
-                (text.whole (rows_in b ++ olds) (rows_in a ++ news) (pairing.pair ∷ pairs) before_olds
+                whole_more old0 new0 so.done b a pairing.pair pairs pairing.first.listed
+                (so.whole (rows_in b ++ olds) (rows_in a ++ news) (pairing.pair ∷ pairs) before_olds
                 before_news
                 (paired_more b a pairing.pair olds news pairs pairing.first paired));
           };
@@ -528,16 +496,14 @@ no_rows (Some old) (Some new) e = by_order (key_cmp old.key new.key) e
 end_rows : (at : Standing) → at.row ≡ None → HasRows at []
 end_rows at none = subst (λ (row : Option Row). HasRowsAt row at.left []) (sym none) refl
 
-pub going_end : (old0 new0 : Standing) (out0 : Option (List ℕ)) (old new : Standing)
-    (out : Option (List ℕ)) (removed : ℕ) → IsGoing old0 new0 out0 old new out removed
-    → next_sides old.row new.row ≡ (false, false) → IsKnown old0 → IsKnown new0
-    → AreWritten old0 new0 out0 out removed
-going_end old0 new0 out0 old new out removed going sides known also =
+pub going_end : (old0 new0 old new : Standing) (Told : List Pair → Type 0)
+    → IsGoing old0 new0 old new Told → next_sides old.row new.row ≡ (false, false)
+    → IsKnown old0 → IsKnown new0 → AreTold old0 new0 Told
+going_end old0 new0 old new Told going sides known also =
     let none = no_rows old.row new.row sides in
-    let text = going.text known also in
-    let whole = text.whole [] [] [] (end_rows old none.0) (end_rows new none.1)
+    let so = going.told known also in
+    let whole = so.whole [] [] [] (end_rows old none.0) (end_rows new none.1)
     (record { order = tt; of_old = refl; of_new = refl }) in
-    let sum = whole.counted in
     record {
       old_rows = whole.olds;
       are_old = whole.are_old;
@@ -549,31 +515,49 @@ going_end old0 new0 out0 old new out removed going sides known also =
         beside = beside whole.olds whole.news whole.all whole.paired;
         listed = refl;
       };
-      written = subst (λ (bytes : List ℕ). Appends out0 out bytes)
-          (sym (whole.shown ∙ append-nil text.done)) text.appends;
-      counted = omega (arith, sum);
+      told = subst Told (sym (whole.shown ∙ append-nil so.done)) so.told;
     }
 
 -- ---- a ledger that goes on with no rows has none
-pub refused_old : (old0 new0 : Standing) (out0 : Option (List ℕ)) (old new : Standing)
-    (out : Option (List ℕ)) (removed : ℕ) → IsGoing old0 new0 out0 old new out removed
-    → (IsKnown old → (rows : List Row) → ¬ (HasRows old rows)) → IsKnown old0
-    → (rows : List Row) → ¬ (HasRows old0 rows)
-refused_old old0 new0 out0 old new out removed going none known rows has =
+pub refused_old : (old0 new0 old new : Standing) (Told : List Pair → Type 0)
+    → IsGoing old0 new0 old new Told → (IsKnown old → (rows : List Row) → ¬ (HasRows old rows))
+    → IsKnown old0 → (rows : List Row) → ¬ (HasRows old0 rows)
+refused_old old0 new0 old new Told going none known rows has =
     let rest = going.olds known rows has in none (going.known_old known) rest.0 rest.1
 
-pub refused_new : (old0 new0 : Standing) (out0 : Option (List ℕ)) (old new : Standing)
-    (out : Option (List ℕ)) (removed : ℕ) → IsGoing old0 new0 out0 old new out removed
-    → (IsKnown new → (rows : List Row) → ¬ (HasRows new rows)) → IsKnown new0
-    → (rows : List Row) → ¬ (HasRows new0 rows)
-refused_new old0 new0 out0 old new out removed going none known rows has =
+pub refused_new : (old0 new0 old new : Standing) (Told : List Pair → Type 0)
+    → IsGoing old0 new0 old new Told → (IsKnown new → (rows : List Row) → ¬ (HasRows new rows))
+    → IsKnown new0 → (rows : List Row) → ¬ (HasRows new0 rows)
+refused_new old0 new0 old new Told going none known rows has =
     let rest = going.news known rows has in none (going.known_new known) rest.0 rest.1
 
--- ---- the whole text
+-- ---- the lines of all corrections
+pub removed_more : (changes more : List Pair)
+    → removed_in (changes ++ more) ≡ removed_in changes + removed_in more
+removed_more changes more =
+    ap length (filter-append is_removed changes more)
+    ∙ length-append (filter is_removed changes) (filter is_removed more)
+
+pub written_none : (out : Option (List ℕ)) → AreWritten out out 0 []
+written_none out = record { written = appends_none out; counted = refl }
+
+pub written_more : (out0 out out' : Option (List ℕ)) (removed counted : ℕ) (more done : List Pair)
+    → Appends out out' (corrections_lines more) → counted ≡ removed + removed_in more
+    → AreWritten out0 out removed done → AreWritten out0 out' counted (done ++ more)
+written_more out0 out out' removed counted more done appends count written =
+    let sum = removed_more done more in
+    let so_far = written.counted in
+    record {
+      written = subst (Appends out0 out') (sym (flat_map-append correction_line done more))
+          (appends_more out0 out out' (corrections_lines done) (corrections_lines more)
+          written.written appends);
+      counted = omega (arith, sum, so_far, count);
+    }
+
 pub finished : (old_text new_text : List ℕ) (old new : Standing) (out mid end : Option (List ℕ))
     (removed : ℕ) → StandsBefore (λ rows. IsSettledLedger rows old_text) old
     → StandsBefore (λ rows. IsSettledLedger rows new_text) new → Appends out mid corrections_head
-    → (IsKnown old → IsKnown new → AreWritten old new mid end removed)
+    → (IsKnown old → IsKnown new → AreTold old new (AreWritten mid end removed))
     → (text : List ℕ) × IsCorrectionsText old_text new_text text removed × Appends out end text
 finished old_text new_text old new out mid end removed begun_old begun_new head written =
     let is = written begun_old.known begun_new.known in (
@@ -586,7 +570,7 @@ finished old_text new_text old new out mid end removed begun_old begun_new head 
         changes = is.changes;
         are = is.are;
         shown = refl;
-        counted = is.counted;
+        counted = is.told.counted;
       },
-      appends_more out mid end corrections_head (corrections_lines is.changes) head is.written,
+      appends_more out mid end corrections_head (corrections_lines is.changes) head is.told.written,
     )

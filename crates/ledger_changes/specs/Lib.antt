@@ -3,4 +3,5 @@ pub mod Faults
 pub mod Ledgers
 pub mod Rows
 pub mod Texts
+pub mod Tokens
 pub mod inside

@@ -2,4 +2,5 @@
 pub mod Fields
 pub mod LedgerRows
 pub mod Standings
+pub mod Sums
 pub mod Written

@@ -10,7 +10,8 @@ ghost use Rattle.ledger_changes.specs.Texts.{IsCorrectionsText, removed_in};
 ghost use Rattle.ledger_changes.specs.declared.fault.Bill.{Bill as ABill};
 ghost use Rattle.ledger_changes.specs.declared.fault.Bill.TheVariants.{New, Old};
 ghost use Rattle.ledger_changes.specs.inside.Standings.{HasRows, IsKnown, standing};
-ghost use Rattle.ledger_changes.specs.inside.Written.{AreWritten, changes_of, next_sides, row_in};
+ghost use Rattle.ledger_changes.specs.inside.Written.{AreTold, AreWritten, changes_of, next_sides};
+ghost use Rattle.ledger_changes.specs.inside.Written.{row_in};
 
 use crate::correction_text::{write_change, write_text};
 use crate::fault::{Bill, CorrectionsFault};
@@ -26,7 +27,7 @@ const HEAD_LINE: &[u8] =
 
 /// Which of two ledgers have the next row, at these rows of theirs: both do where the keys are the
 /// same. Nothing where both have ended.
-fn next_sides(old: &Option<LedgerRow>, new: &Option<LedgerRow>) -> Option<(bool, bool)>
+pub(crate) fn next_sides(old: &Option<LedgerRow>, new: &Option<LedgerRow>) -> Option<(bool, bool)>
     ensures { MatchOption result (next_sides (row_in old.now) (row_in new.now) ≡ (false, false))
         (λ sides. (sides ≡ next_sides (row_in old.now) (row_in new.now))
         × ¬ (next_sides (row_in old.now) (row_in new.now) ≡ (false, false))) }
@@ -45,7 +46,11 @@ fn next_sides(old: &Option<LedgerRow>, new: &Option<LedgerRow>) -> Option<(bool,
 
 /// The number of removed lines, with this change among them. No ledger has so many lines that
 /// there is none.
-fn count_removed(removed: u64, before: &Option<LedgerRow>, after: &Option<LedgerRow>) -> Option<u64>
+pub(crate) fn count_removed(
+    removed: u64,
+    before: &Option<LedgerRow>,
+    after: &Option<LedgerRow>,
+) -> Option<u64>
     ensures { IfSome result (λ counted. counted
         ≡ removed + removed_in (changes_of (row_in before.now) (row_in after.now))) }
 {
@@ -67,8 +72,8 @@ fn write_changes<R: BufRead + Drop, W: Write>(
     requires new { new.old.bill ≡ New }
     ensures written { IfOk result (λ removed. IsKnown (standing R.remaining old.old)
         → IsKnown (standing R.remaining new.old)
-        → AreWritten (standing R.remaining old.old) (standing R.remaining new.old)
-        (W.contents out.old) (W.contents out.new) removed) }
+        → AreTold (standing R.remaining old.old) (standing R.remaining new.old)
+        (AreWritten (W.contents out.old) (W.contents out.new) removed)) }
     ensures refused_old { IfErr result (λ fault. IsOfLedger Old fault
         → IsKnown (standing R.remaining old.old) → (rows : List Row)
         → ¬ (HasRows (standing R.remaining old.old) rows)) }

@@ -19,7 +19,7 @@ use std::alloc::{AllocError, Global};
 use std::io::Write;
 
 /// Whether both bills charge the same.
-fn agree(before: &Option<LedgerRow>, after: &Option<LedgerRow>) -> bool
+pub(crate) fn agree(before: &Option<LedgerRow>, after: &Option<LedgerRow>) -> bool
     ensures { result ≡ agree (option_map charge_of before.now) (option_map charge_of after.now) }
 {
     match (before, after) {
@@ -42,7 +42,7 @@ fn change_word(before: &Option<LedgerRow>, after: &Option<LedgerRow>) -> &'stati
 }
 
 /// The cents of a line, and none where there is no line.
-fn cents_of(row: &Option<LedgerRow>) -> u32
+pub(crate) fn cents_of(row: &Option<LedgerRow>) -> u32
     ensures { result ≡ cents_of (option_map charge_of row.now) }
 {
     match row {
@@ -61,7 +61,7 @@ fn write_field(text: &mut Vec<u8>, field: &[u8]) -> Result<(), AllocError>
 }
 
 /// Appends a comma and the number.
-fn write_number(text: &mut Vec<u8>, number: u32) -> Result<(), AllocError>
+pub(crate) fn write_number(text: &mut Vec<u8>, number: u64) -> Result<(), AllocError>
     ensures { OnOk result (text.new.items ≡ text.old.items ++ (codes "," ++ decimal number)) }
 {
     let mut buffer = Buffer::new();
@@ -76,7 +76,7 @@ fn write_charge(text: &mut Vec<u8>, row: &Option<LedgerRow>) -> Result<(), Alloc
     match row {
         Some(row) => {
             write_field(text, &row.answer)?;
-            write_number(text, row.cents)?;
+            write_number(text, u64::from(row.cents))?;
             write_field(text, &row.reason)
         }
         None => text.extend_from_slice(b",,,"),
@@ -84,7 +84,11 @@ fn write_charge(text: &mut Vec<u8>, row: &Option<LedgerRow>) -> Result<(), Alloc
 }
 
 /// Appends a comma and what the cents of a line are more than before.
-fn write_difference(text: &mut Vec<u8>, before: u32, after: u32) -> Result<(), AllocError>
+pub(crate) fn write_difference(
+    text: &mut Vec<u8>,
+    before: u64,
+    after: u64,
+) -> Result<(), AllocError>
     ensures { OnOk result (text.new.items ≡ text.old.items
         ++ (codes "," ++ difference before after)) }
 {
@@ -114,11 +118,15 @@ fn correction_line(
     let mut line = Vec::new(alloc);
     line.extend_from_slice(&row.token)?;
     write_field(&mut line, &row.moment)?;
-    write_number(&mut line, row.validator)?;
+    write_number(&mut line, u64::from(row.validator))?;
     write_field(&mut line, change_word(before, after))?;
     write_charge(&mut line, before)?;
     write_charge(&mut line, after)?;
-    write_difference(&mut line, cents_of(before), cents_of(after))?;
+    write_difference(
+        &mut line,
+        u64::from(cents_of(before)),
+        u64::from(cents_of(after)),
+    )?;
     line.extend_from_slice(b"\n")?;
     Ok(line)
 }

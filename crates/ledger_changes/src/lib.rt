@@ -9,6 +9,9 @@ mod form;
 pub mod laws;
 mod ledger_rows;
 mod row;
+mod token_corrections;
+mod token_sums;
 
 pub use both_ledgers::corrections;
 pub use fault::{Bill, CorrectionsFault};
+pub use token_corrections::corrections_by_token;

@@ -8,7 +8,7 @@ use crate::words::subcommand;
 use clap::{ArgAction, ArgMatches, Command};
 use ledger_changes::{Bill, CorrectionsFault};
 use part_reports::Wrong;
-use program_manners::positional_arg;
+use program_manners::{flag_arg, positional_arg};
 use std::alloc::{AllocError, Global};
 use std::io::Write;
 
@@ -25,9 +25,10 @@ const CORRECTIONS_ABOUT: &str =
 
 Both are ledgers of omny_cli --settle. A line of the one and a line of the other with the same
 token, moment and validator stand beside each other. A line is written, as CSV, for each that only
-one ledger has, and for each whose answer, cents or reason differ. The ledgers are read as it is
-written, so they may be larger than memory. If OLD has lines that NEW has not, their number is told
-on the standard error.";
+one ledger has, and for each whose answer, cents or reason differ. With --tokens these are counted
+and their cents summed: a line for each token that has one. The ledgers are read as it is written,
+so they may be larger than memory. If OLD has lines that NEW has not, their number is told on the
+standard error.";
 
 /// The help of the old ledger.
 const OLD_HELP: &str = "The ledger of the bill that was issued; - stands for standard input";
@@ -35,13 +36,18 @@ const OLD_HELP: &str = "The ledger of the bill that was issued; - stands for sta
 /// The help of the new ledger.
 const NEW_HELP: &str = "The ledger of the bill that takes its place; - stands for standard input";
 
-/// The two ledgers that corrections lead from and to.
+/// The help of `--tokens`.
+const TOKENS_HELP: &str = "Write the sums of each token's corrections in place of their lines";
+
+/// The two ledgers that corrections lead from and to, and what is written of them.
 #[derive(Drop)]
 pub(crate) struct CorrectionsWords<'a> {
     /// The ledger of the bill that was issued.
     pub(crate) old: Name<'a>,
     /// The ledger of the bill that takes its place.
     pub(crate) new: Name<'a>,
+    /// Whether the corrections are summed by token.
+    pub(crate) is_by_token: bool,
 }
 
 impl<'a> CorrectionsWords<'a> {
@@ -54,11 +60,13 @@ impl<'a> CorrectionsWords<'a> {
     }
 }
 
-/// `corrections OLD NEW`
+/// `corrections [--tokens] OLD NEW`
 pub(crate) fn corrections_command<'a>(alloc: Global) -> Result<Command<'a>, AllocError> {
+    let tokens = flag_arg(alloc, "tokens", TOKENS_HELP);
     let old = positional_arg(alloc, "OLD", ArgAction::Set, OLD_HELP).required(true);
     let new = positional_arg(alloc, "NEW", ArgAction::Set, NEW_HELP).required(true);
     subcommand(alloc, "corrections", CORRECTIONS_ABOUT, CORRECTIONS_STATUS)
+        .arg(tokens)?
         .arg(old)?
         .arg(new)
 }
@@ -72,6 +80,7 @@ pub(crate) fn corrections_words<'a>(matches: &ArgMatches<'a>) -> CorrectionsWord
         new: matches
             .get_str("NEW")
             .map_or(Name::input(), |word| Name(word)),
+        is_by_token: matches.get_flag("tokens"),
     }
 }
 
@@ -92,8 +101,8 @@ fn fault_of<'a, W: Write + Drop>(
     }
 }
 
-/// Writes the corrections from the old ledger to the new one. Where lines are removed, tells how
-/// many on `err`.
+/// Writes the corrections from the old ledger to the new one, or their sums by token. Where lines
+/// are removed, tells how many on `err`.
 pub(crate) fn correct<'a, W: Write + Drop, E: Write>(
     rt: &HostRuntime,
     words: &CorrectionsWords<'a>,
@@ -102,7 +111,12 @@ pub(crate) fn correct<'a, W: Write + Drop, E: Write>(
 ) -> Result<(), Fault<'a>> {
     let old = open_in_pieces(rt, words.old)?;
     let new = open_in_pieces(rt, words.new)?;
-    let removed = match ledger_changes::corrections(rt.alloc(), old, new, out) {
+    let written = if words.is_by_token {
+        ledger_changes::corrections_by_token(rt.alloc(), old, new, out)
+    } else {
+        ledger_changes::corrections(rt.alloc(), old, new, out)
+    };
+    let removed = match written {
         Ok(removed) => removed,
         Err(fault) => return Err(fault_of(words, fault, out)),
     };

@@ -47,15 +47,18 @@ taken_if is_taken row = if is_taken then row else None
 abbrev pub changes_of : Option Row → Option Row → List Pair
 changes_of before after = filter is_changed (pairs_of before after)
 
--- where these rows are those of the ledgers, their corrections were written, and so many of the old
--- one's lines are removed
-pub record AreWritten (old new : Standing) (before after : Option (List ℕ)) (removed : ℕ)
-    : Type 0 where
+-- where these rows are those of the ledgers, this is so of their corrections
+pub record AreTold (old new : Standing) (Told : List Pair → Type 0) : Type 0 where
   pub old_rows : List Row
   pub are_old : HasRows old old_rows
   pub new_rows : List Row
   pub are_new : HasRows new new_rows
   pub changes : List Pair
   pub are : AreCorrections old_rows new_rows changes
+  pub told : Told changes
+
+-- the line of each correction was written, and so many of the old bill's lines are removed
+pub record AreWritten (before after : Option (List ℕ)) (removed : ℕ) (changes : List Pair)
+    : Type 0 where
   pub written : Appends before after (corrections_lines changes)
   pub counted : removed ≡ removed_in changes

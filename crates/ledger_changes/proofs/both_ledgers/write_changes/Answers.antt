@@ -5,13 +5,14 @@ use Rattle.std.proofs.lemmas.Result.{err_from_is_err_and}
 use Rattle.ledger_changes.specs.Rows.{Row}
 use Rattle.ledger_changes.specs.declared.fault.Bill.TheVariants.{New, Old}
 use Rattle.ledger_changes.specs.declared.row.LedgerRow.{LedgerRow}
-use Rattle.ledger_changes.specs.inside.Written.{next_sides, row_in, taken_if}
-use Rattle.ledger_changes.proofs.Merging.{going_end, going_next, refused_new, refused_old}
+use Rattle.ledger_changes.specs.inside.Written.{changes_of, next_sides, row_in, taken_if}
+use Rattle.ledger_changes.proofs.Merging.{going_end, going_next, going_start, refused_new}
+use Rattle.ledger_changes.proofs.Merging.{refused_old, written_more, written_none}
 use Rattle.ledger_changes.proofs.both_ledgers.write_changes.Goals as goal
 
 pub returns-in_default-clause-written : goal.returns-in_default-clause-written
 returns-in_default-clause-written g c =
-    going_end _ _ _ _ _ _ _ c.loop.invariant.going
+    going_end _ _ _ _ _ c.loop.invariant.going
     (ap (λ (row : Option LedgerRow). next_sides (row_in row) (row_in c.loop.new.row))
     (sym c.row.ensures)
     ∙ ap (λ (row : Option LedgerRow). next_sides (row_in c.row.result.now) (row_in row))
@@ -21,7 +22,7 @@ returns-in_default-clause-written g c =
 pub returns-in_err-before-clause-refused_old : goal.returns-in_err-before-clause-refused_old
 returns-in_err-before-clause-refused_old g c =
     let p = err_from_is_err_and c.from_residual.result c.from_residual.ensures.1 in
-    rw (p.1, p.2) (λ of. refused_old _ _ _ _ _ _ _ c.loop.invariant.going
+    rw (p.1, p.2) (λ of. refused_old _ _ _ _ _ c.loop.invariant.going
     (c.in_err-before.ensures.refused Old of).1)
 
 pub returns-in_err-before-clause-refused_new : goal.returns-in_err-before-clause-refused_new
@@ -41,7 +42,7 @@ pub returns-in_err-after-clause-refused_new : goal.returns-in_err-after-clause-r
 returns-in_err-after-clause-refused_new g c =
     let p = err_from_is_err_and c.from_residual-in_err-after.result
     c.from_residual-in_err-after.ensures.1 in
-    rw (p.1, p.2) (λ of. refused_new _ _ _ _ _ _ _ c.loop.invariant.going
+    rw (p.1, p.2) (λ of. refused_new _ _ _ _ _ c.loop.invariant.going
     (c.in_err-after.ensures.refused New of).1)
 
 pub returns-in_err-write_change-clause-refused_old :
@@ -77,11 +78,20 @@ loop-preserved g c =
     record {
       old_bill = c.in_ok-before.ensures.bill ∙ c.loop.invariant.old_bill;
       new_bill = c.in_ok-after.ensures.bill ∙ c.loop.invariant.new_bill;
-      going = going_next _ _ _ _ _ _ _ _ _ _ _ h k (row_in c.in_ok-before.before)
+      going = going_next _ _ _ _ _ _ _ _ h k (row_in c.in_ok-before.before)
           (row_in c.in_ok-after.after) c.loop.invariant.going (c.in-Some.ensures.0 ∙ here)
           (λ end. c.in-Some.ensures.1 (here ∙ end))
           (ap row_in c.in_ok-before.ensures.row ∙ taken_row h c.loop.old.row)
           (ap row_in c.in_ok-after.ensures.row ∙ taken_row k c.loop.new.row)
           c.in_ok-before.ensures.moved c.in_ok-after.ensures.moved
-          c.in_ok-write_change.ensures.written c.in-Some-count_removed.ensures;
+          (λ done told. written_more _ _ _ _ _
+          (changes_of (row_in c.in_ok-before.before) (row_in c.in_ok-after.after)) done
+          c.in_ok-write_change.ensures.written c.in-Some-count_removed.ensures told);
     }
+
+pub loop-init : goal.loop-init
+loop-init g c = record {
+  old_bill = c.requires.old;
+  new_bill = c.requires.new;
+  going = going_start _ _ _ (written_none (g.W.Write.contents c.args.out.now));
+}

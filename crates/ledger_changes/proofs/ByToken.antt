@@ -1,0 +1,416 @@
+-- The sums of each token: corrections in order are cut where the token changes.
+use Rattle.std.proofs.Common.{◌≡◌, ◌+◌, ℕ, suc, List, [], ◌∷◌, ◌++◌, Option, Some, None, Bool}
+use Rattle.std.proofs.Common.{true, false, cond, refl, sym, ap, subst, ◌∙◌, arith, length, length-append}
+use Rattle.std.proofs.Common.{append_assoc, append-nil, filter, get_or, All}
+use Rattle.std.specs.Prelude.{⊤, Contains}
+use Rattle.std.specs.Cmp.{IsTotalOrder}
+use Rattle.std.specs.Cmp.Lexicographic.{on_texts}
+use Rattle.std.specs.Io.KnownBytes.{Appends}
+use Rattle.std.specs.List.{AllByRecursion, sum_by}
+use Rattle.std.specs.List.Sorted.{IsSorted, IsStrictlySortedBy}
+use Rattle.std.specs.Ordering.{is_eq, is_lt, ordering_reverse, ordering_then}
+use Rattle.std.specs.declared.cmp.Ordering.{Ordering}
+use Rattle.std.specs.declared.cmp.Ordering.TheVariants.{Less, Equal, Greater}
+use Rattle.std.proofs.lemmas.Cmp.{tied_itself}
+use Rattle.std.proofs.lemmas.List.Elements.{All-from_recursion, filter-append, recursion_from_All}
+use Rattle.std.proofs.lemmas.List.Kept.{IsSortedBy-filter}
+use Rattle.std.proofs.lemmas.List.Sorted.{ranks_by, sorted_far}
+use Rattle.std.proofs.lemmas.List.Sums.{sum_by-append}
+use Rattle.ledger_changes.specs.Changes.{AreCorrections, Pair, is_changed}
+use Rattle.ledger_changes.specs.Ledgers.{IsSettledLedger}
+use Rattle.ledger_changes.specs.Rows.{Key, Row, is_same_text, key_cmp, text_cmp}
+use Rattle.ledger_changes.specs.Texts.{cents_of, is_removed}
+use Rattle.ledger_changes.specs.Tokens.{AreTokensOf, IsCorrectionsByTokenText, Sums, is_added, is_kept}
+use Rattle.ledger_changes.specs.Tokens.{is_of_token, of_token, sums_of, token_line, tokens_head}
+use Rattle.ledger_changes.specs.Tokens.{tokens_lines}
+use Rattle.ledger_changes.specs.inside.Standings.{IsKnown, Standing, StandsBefore}
+use Rattle.ledger_changes.specs.inside.Sums.{AreSumsWritten, TokenSum, add_changes, add_sums}
+use Rattle.ledger_changes.specs.inside.Sums.{ended_lines, no_sums, sums_after, sums_line}
+use Rattle.ledger_changes.specs.inside.Written.{AreTold}
+use Rattle.ledger_changes.proofs.Keys.{key_cmp_total, tied}
+use Rattle.ledger_changes.proofs.Merging.{appends_more}
+
+-- ---- tokens
+text_total : IsTotalOrder text_cmp
+text_total = on_texts (λ (text : List ℕ). text)
+
+same_self : (t : List ℕ) → is_same_text t t ≡ true
+same_self t = ap is_eq (tied_itself text_total t)
+
+pub same_is : (t x : List ℕ) → t ≡ x → is_same_text t x ≡ true
+same_is t x is = subst (λ (y : List ℕ). is_same_text t y ≡ true) is (same_self t)
+
+less_same : (a b : List ℕ) → text_cmp a b ≡ Less → is_same_text a b ≡ false
+less_same a b less = ap is_eq less
+
+pub more_same : (a b : List ℕ) → text_cmp a b ≡ Less → is_same_text b a ≡ false
+more_same a b less = ap is_eq (text_total.antisymm b a ∙ ap ordering_reverse less)
+
+-- the token of the later correction is not below the token
+abbrev pub NotBelow : List ℕ → Pair → Type 0
+NotBelow t later = is_lt (text_cmp later.key.token t) ≡ false
+
+abbrev pub Above : List ℕ → Pair → Type 0
+Above t later = text_cmp t later.key.token ≡ Less
+
+above_of : (t x : List ℕ) → is_lt (text_cmp x t) ≡ false → is_same_text t x ≡ false
+    → text_cmp t x ≡ Less
+above_of t x not other = by_order (text_cmp x t) refl not
+  where
+    by_order : (r : Ordering) → text_cmp x t ≡ r → is_lt r ≡ false → text_cmp t x ≡ Less
+    by_order Less is not = absurd (let h : true ≡ false = not in cc)
+    by_order Equal is not =
+        absurd (let h : true ≡ false =
+        sym (ap is_eq (text_total.antisymm t x ∙ ap ordering_reverse is)) ∙ other in cc)
+    by_order Greater is not = text_total.antisymm t x ∙ ap ordering_reverse is
+
+-- below a token, and not above another: below that
+below_up : (a b x : List ℕ) → text_cmp a b ≡ Less → is_lt (text_cmp x b) ≡ false
+    → text_cmp a x ≡ Less
+below_up a b x less not = by_order (text_cmp b x) refl
+  where
+    by_order : (r : Ordering) → text_cmp b x ≡ r → text_cmp a x ≡ Less
+    by_order Less is = text_total.trans a b x less is
+    by_order Equal is =
+        text_total.antisymm a x
+        ∙ ap ordering_reverse (sym (text_total.congr b x a is)
+        ∙ text_total.antisymm b a ∙ ap ordering_reverse less)
+    by_order Greater is =
+        absurd (let h : true ≡ false =
+        sym (ap is_lt (text_total.antisymm x b ∙ ap ordering_reverse is)) ∙ not in cc)
+
+-- ---- corrections in order
+abbrev pub Rises : List Pair → Type 0
+Rises [] = ⊤
+Rises (change ∷ changes) = AllByRecursion (NotBelow change.key.token) changes × Rises changes
+
+key_not_below : (key : Key) (later : Pair) → is_lt (key_cmp later.key key) ≡ false
+    → NotBelow key.token later
+key_not_below key later not =
+    by_order (text_cmp later.key.token key.token) refl not
+  where
+    rest : Ordering
+    rest = ordering_then (text_cmp later.key.moment key.moment)
+        (Rattle.std.specs.Ordering.nat_cmp later.key.validator key.validator)
+
+    by_order : (r : Ordering) → text_cmp later.key.token key.token ≡ r
+        → is_lt (ordering_then r rest) ≡ false → is_lt (text_cmp later.key.token key.token) ≡ false
+    by_order Less is not = absurd (let h : true ≡ false = not in cc)
+    by_order Equal is not = ap is_lt is
+    by_order Greater is not = ap is_lt is
+
+all_weaker : {P Q : Pair → Type 0} → ((change : Pair) → P change → Q change) → (changes : List Pair)
+    → AllByRecursion P changes → AllByRecursion Q changes
+all_weaker f [] all = tt
+all_weaker f (change ∷ changes) all = (f change all.0, all_weaker f changes all.1)
+
+abbrev pub InOrder : List Pair → Type 0
+InOrder changes = IsSorted (λ a b. key_cmp a.key b.key) changes
+
+order_tail : (change : Pair) (changes : List Pair) → InOrder (change ∷ changes) → InOrder changes
+order_tail change changes up = λ k d low high.
+    let next : suc k + 1 ≡ suc (k + 1) = omega arith in
+    subst (λ (n : ℕ). is_lt (key_cmp (get_or (change ∷ changes) n d).key (get_or changes k d).key)
+    ≡ false) next (up (suc k) d (omega arith) (omega (arith, high)))
+
+rises : (changes : List Pair) → InOrder changes → Rises changes
+rises [] up = tt
+rises (change ∷ changes) up =
+    let all : All (λ later. is_lt (key_cmp later.key change.key) ≡ false) changes = λ j d high.
+    sorted_far (λ a b. is_lt (key_cmp a.key b.key)) (ranks_by key_cmp_total (λ (p : Pair). p.key))
+    (change ∷ changes) up 0 (suc j) d (omega arith) (omega (arith, high)) in (
+      all_weaker (key_not_below change.key) changes
+          (recursion_from_All (λ later. is_lt (key_cmp later.key change.key) ≡ false) changes all),
+      rises changes (order_tail change changes up),
+    )
+
+corrections_rise : (old new : List Row) (changes : List Pair) → AreCorrections old new changes
+    → Rises changes
+corrections_rise old new changes are =
+    subst Rises (sym are.listed) (rises (filter is_changed are.pairs)
+    (IsSortedBy-filter (λ a b. is_lt (key_cmp a.key b.key))
+    (ranks_by key_cmp_total (λ (p : Pair). p.key)) is_changed are.pairs are.beside.sorted))
+
+-- ---- sums
+count_append : (p : Pair → Bool) (xs ys : List Pair)
+    → length (filter p xs) + length (filter p ys) ≡ length (filter p (xs ++ ys))
+count_append p xs ys =
+    sym (ap length (filter-append p xs ys) ∙ length-append (filter p xs) (filter p ys))
+
+sums_add : (xs ys : List Pair) → add_sums (sums_of xs) (sums_of ys) ≡ sums_of (xs ++ ys)
+sums_add xs ys =
+    let added = count_append is_added xs ys in
+    let removed = count_append is_removed xs ys in
+    let changed = count_append is_kept xs ys in
+    let before = sym (sum_by-append (λ (change : Pair). cents_of change.before) xs ys) in
+    let after = sym (sum_by-append (λ (change : Pair). cents_of change.after) xs ys) in
+    λ i. record {
+      added = added i;
+      removed = removed i;
+      changed = changed i;
+      before = before i;
+      after = after i;
+    }
+
+abbrev pub sum_with : List ℕ → List Pair → TokenSum
+sum_with t changes = record { token = t; sums = sums_of changes }
+
+-- ---- the corrections of a token among all
+none_above : (t : List ℕ) (changes : List Pair) → AllByRecursion (Above t) changes
+    → of_token t changes ≡ []
+none_above t [] all = refl
+none_above t (change ∷ changes) all =
+    ap (λ (b : Bool). cond b (change ∷ of_token t changes) (of_token t changes))
+    (less_same t change.key.token all.0) ∙ none_above t changes all.1
+
+all_of : (t : List ℕ) (run : List Pair) → AllByRecursion (λ change. t ≡ change.key.token) run
+    → of_token t run ≡ run
+all_of t [] all = refl
+all_of t (change ∷ run) all =
+    ap (λ (b : Bool). cond b (change ∷ of_token t run) (of_token t run))
+    (same_is t change.key.token all.0)
+    ∙ ap (λ (rest : List Pair). change ∷ rest) (all_of t run all.1)
+
+none_of_run : (s t : List ℕ) (run : List Pair) → text_cmp t s ≡ Less
+    → AllByRecursion (λ change. t ≡ change.key.token) run → of_token s run ≡ []
+none_of_run s t [] less all = refl
+none_of_run s t (change ∷ run) less all =
+    ap (λ (b : Bool). cond b (change ∷ of_token s run) (of_token s run))
+    (subst (λ (x : List ℕ). is_same_text s x ≡ false) all.0 (more_same t s less))
+    ∙ none_of_run s t run less all.1
+
+-- behind a run of a lower token a token has the corrections that it has without the run
+past_run : (s t : List ℕ) (run rest : List Pair) → text_cmp t s ≡ Less
+    → AllByRecursion (λ change. t ≡ change.key.token) run
+    → of_token s rest ≡ of_token s (run ++ rest)
+past_run s t run rest less all =
+    sym (filter-append (is_of_token s) run rest
+    ∙ ap (λ (some : List Pair). some ++ of_token s rest) (none_of_run s t run less all))
+
+run_only : (t : List ℕ) (run rest : List Pair)
+    → AllByRecursion (λ change. t ≡ change.key.token) run → AllByRecursion (Above t) rest
+    → of_token t (run ++ rest) ≡ run
+run_only t run rest all above =
+    filter-append (is_of_token t) run rest
+    ∙ ap (λ (some : List Pair). some ++ of_token t rest) (all_of t run all)
+    ∙ ap (λ (some : List Pair). run ++ some) (none_above t rest above) ∙ append-nil run
+
+-- ---- lists of tokens
+here : (t : List ℕ) (tokens : List (List ℕ)) → Contains (t ∷ tokens) t
+here t tokens = (0, omega arith, refl)
+
+there : (t x : List ℕ) (tokens : List (List ℕ)) → Contains tokens x → Contains (t ∷ tokens) x
+there t x tokens is = (suc is.0, omega (arith, is.1), is.2)
+
+abbrev pub Listed : List (List ℕ) → Pair → Type 0
+Listed tokens change = Contains tokens change.key.token
+
+listed_run : (t : List ℕ) (tokens : List (List ℕ)) (run : List Pair)
+    → AllByRecursion (λ change. t ≡ change.key.token) run → AllByRecursion (Listed (t ∷ tokens)) run
+listed_run t tokens run all =
+    all_weaker (λ change is. subst (Contains (t ∷ tokens)) is (here t tokens)) run all
+
+all_append : (P : Pair → Type 0) (xs ys : List Pair) → AllByRecursion P xs → AllByRecursion P ys
+    → AllByRecursion P (xs ++ ys)
+all_append P [] ys one two = two
+all_append P (x ∷ xs) ys one two = (one.0, all_append P xs ys one.1 two)
+
+tokens_above : (t s : List ℕ) (tokens : List (List ℕ)) → text_cmp t s ≡ Less
+    → AllByRecursion (λ later. text_cmp s later ≡ Less) tokens
+    → AllByRecursion (λ later. text_cmp t later ≡ Less) tokens
+tokens_above t s [] less all = tt
+tokens_above t s (later ∷ tokens) less all =
+    (text_total.trans t s later less all.0, tokens_above t s tokens less all.1)
+
+abbrev pub Has : List Pair → List ℕ → Type 0
+Has changes token = ¬ (of_token token changes ≡ [])
+
+-- behind a run of a lower token these tokens have the lines that they have without the run
+lines_past : (t : List ℕ) (run rest : List Pair)
+    → AllByRecursion (λ change. t ≡ change.key.token) run → (tokens : List (List ℕ))
+    → AllByRecursion (λ later. text_cmp t later ≡ Less) tokens
+    → tokens_lines rest tokens ≡ tokens_lines (run ++ rest) tokens
+lines_past t run rest all [] above = refl
+lines_past t run rest all (s ∷ tokens) above =
+    ap (λ (some : List Pair). token_line s (sums_of some) ++ tokens_lines rest tokens)
+    (past_run s t run rest above.0 all)
+    ∙ ap (λ (lines : List ℕ). token_line s (sums_of (of_token s (run ++ rest))) ++ lines)
+    (lines_past t run rest all tokens above.1)
+
+has_past : (t : List ℕ) (run rest : List Pair)
+    → AllByRecursion (λ change. t ≡ change.key.token) run → (tokens : List (List ℕ))
+    → AllByRecursion (λ later. text_cmp t later ≡ Less) tokens
+    → AllByRecursion (Has rest) tokens → AllByRecursion (Has (run ++ rest)) tokens
+has_past t run rest all [] above has = tt
+has_past t run rest all (s ∷ tokens) above has = (
+  λ none. has.0 (past_run s t run rest above.0 all ∙ none),
+  has_past t run rest all tokens above.1 has.1,
+)
+
+-- ---- from a run of a token on
+pub record IsCut (t : List ℕ) (changes : List Pair) (text : List ℕ) : Type 0 where
+  pub more : List (List ℕ)
+  pub above : AllByRecursion (λ later. text_cmp t later ≡ Less) more
+  pub rising : IsStrictlySortedBy text_cmp more
+  pub some : AllByRecursion (Has changes) (t ∷ more)
+  pub all : AllByRecursion (Listed (t ∷ more)) changes
+  pub shown : text ≡ tokens_lines changes (t ∷ more)
+
+not_nil : (change : Pair) (changes : List Pair) → change ∷ changes ≡ [] → ⊥
+not_nil change changes e = cc
+
+-- the text from these open sums on
+abbrev pub text_from : TokenSum → List Pair → List ℕ
+text_from sum rest = ended_lines (Some sum) rest ++ sums_line (sums_after (Some sum) rest)
+
+cut_last : (t : List ℕ) (run : List Pair) → AllByRecursion (λ change. t ≡ change.key.token) run
+    → ¬ (run ≡ []) → IsCut t run (token_line t (sums_of run))
+unfolding IsStrictlySortedBy
+cut_last t run all some = record {
+  more = [];
+  above = tt;
+  rising = tt;
+  some = (λ none. some (sym (all_of t run all) ∙ none), tt);
+  all = listed_run t [] run all;
+  shown = ap (λ (some : List Pair). token_line t (sums_of some)) (sym (all_of t run all))
+      ∙ sym (append-nil (token_line t (sums_of (of_token t run))));
+}
+
+-- a run, and what follows from the run of a higher token on
+cut_more : (t : List ℕ) (run rest : List Pair) (s text : List ℕ)
+    → AllByRecursion (λ change. t ≡ change.key.token) run → ¬ (run ≡ [])
+    → text_cmp t s ≡ Less → AllByRecursion (Above t) rest → IsCut s rest text
+    → IsCut t (run ++ rest) (token_line t (sums_of run) ++ text)
+unfolding IsStrictlySortedBy
+cut_more t run rest s text all some less above cut =
+    let tokens = s ∷ cut.more in
+    let higher : AllByRecursion (λ later. text_cmp t later ≡ Less) tokens =
+    (less, tokens_above t s cut.more less cut.above) in
+    let mine = run_only t run rest all above in
+    record {
+      more = tokens;
+      above = higher;
+      rising = (cut.above, cut.rising);
+      some = (λ none. some (sym mine ∙ none), has_past t run rest all tokens higher cut.some);
+      all = all_append (Listed (t ∷ tokens)) run rest (listed_run t tokens run all)
+          (all_weaker (λ change is. there t change.key.token tokens is) rest cut.all);
+      shown = ap (λ (lines : List ℕ). token_line t (sums_of run) ++ lines)
+          (cut.shown ∙ lines_past t run rest all tokens higher)
+          ∙ ap (λ (some : List Pair). token_line t (sums_of some)
+          ++ tokens_lines (run ++ rest) tokens) (sym mine);
+    }
+
+all_above : (t s : List ℕ) (rest : List Pair) → text_cmp t s ≡ Less
+    → AllByRecursion (NotBelow s) rest → AllByRecursion (Above t) rest
+all_above t s rest less all =
+    all_weaker (λ change not. below_up t s change.key.token less not) rest all
+
+run_longer : (run : List Pair) (change : Pair) → ¬ (run ++ change ∷ [] ≡ [])
+run_longer [] change = not_nil change []
+run_longer (first ∷ run) change = not_nil first (run ++ change ∷ [])
+
+cut : (t : List ℕ) (run rest : List Pair) → AllByRecursion (λ change. t ≡ change.key.token) run
+    → ¬ (run ≡ []) → AllByRecursion (NotBelow t) rest → Rises rest
+    → IsCut t (run ++ rest) (text_from (sum_with t run) rest)
+cut t run [] all some up order =
+    subst (λ (changes : List Pair). IsCut t changes (token_line t (sums_of run)))
+    (sym (append-nil run)) (cut_last t run all some)
+cut t run (change ∷ rest) all some up order =
+    by_test (is_same_text t change.key.token) refl
+    (λ is. cut t (run ++ change ∷ []) rest
+    (all_append (λ change. t ≡ change.key.token) run (change ∷ []) all (is, tt))
+    (run_longer run change) up.1 order.1)
+    (cut change.key.token (change ∷ []) rest (refl, tt) (not_nil change []) order.0 order.1)
+  where
+    one : List Pair
+    one = change ∷ []
+
+    s : List ℕ
+    s = change.key.token
+
+    by_test : (b : Bool) → is_same_text t s ≡ b
+        → (t ≡ s → IsCut t ((run ++ one) ++ rest) (text_from (sum_with t (run ++ one)) rest))
+        → IsCut s (one ++ rest) (text_from (sum_with s one) rest)
+        → IsCut t (run ++ change ∷ rest)
+        ((cond b [] (token_line t (sums_of run))
+        ++ ended_lines (Some (add_changes (cond b (sum_with t run) (no_sums s)) one)) rest)
+        ++ sums_line (sums_after (Some (add_changes (cond b (sum_with t run) (no_sums s)) one)) rest))
+    by_test true is same other =
+        subst (λ (changes : List Pair).
+        IsCut t changes (text_from (add_changes (sum_with t run) one) rest))
+        (append_assoc run one rest)
+        (subst (λ (sums : Sums). IsCut t ((run ++ one) ++ rest)
+        (text_from (record { token = t; sums = sums }) rest)) (sym (sums_add run one))
+        (same (tied t s is)))
+    by_test false is same other =
+        let less = above_of t s up.0 is in
+        let line = token_line t (sums_of run) in
+        let sum = add_changes (no_sums s) one in
+        subst (IsCut t (run ++ change ∷ rest))
+        (sym (append_assoc line (ended_lines (Some sum) rest)
+        (sums_line (sums_after (Some sum) rest))))
+        (cut_more t run (change ∷ rest) s (text_from sum rest) all some less
+        (less, all_above t s rest less order.0)
+        (subst (λ (sums : Sums). IsCut s (one ++ rest)
+        (text_from (record { token = s; sums = sums }) rest)) (sym (sums_add [] one)) other))
+
+-- ---- all corrections
+pub record HasTokens (changes : List Pair) (text : List ℕ) : Type 0 where
+  pub tokens : List (List ℕ)
+  pub are : AreTokensOf changes tokens
+  pub shown : text ≡ tokens_lines changes tokens
+
+tokens_by : (changes : List Pair) → Rises changes
+    → HasTokens changes (ended_lines None changes ++ sums_line (sums_after None changes))
+unfolding IsStrictlySortedBy
+tokens_by [] order = record {
+  tokens = [];
+  are = record {
+    rising = tt;
+    some = All-from_recursion (Has []) [] tt;
+    all = All-from_recursion (Listed []) [] tt;
+  };
+  shown = refl;
+}
+tokens_by (change ∷ changes) order =
+    let s = change.key.token in
+    let one = change ∷ [] in
+    let from = subst (λ (sums : Sums). IsCut s (change ∷ changes)
+    (text_from (record { token = s; sums = sums }) changes)) (sym (sums_add [] one))
+    (cut s one changes (refl, tt) (not_nil change []) order.0 order.1) in
+    record {
+      tokens = s ∷ from.more;
+      are = record {
+        rising = (from.above, from.rising);
+        some = All-from_recursion (Has (change ∷ changes)) (s ∷ from.more) from.some;
+        all = All-from_recursion (Listed (s ∷ from.more)) (change ∷ changes) from.all;
+      };
+      shown = from.shown;
+    }
+
+pub finished_by_token : (old_text new_text : List ℕ) (old new : Standing)
+    (out mid end : Option (List ℕ)) (removed : ℕ)
+    → StandsBefore (λ rows. IsSettledLedger rows old_text) old
+    → StandsBefore (λ rows. IsSettledLedger rows new_text) new → Appends out mid tokens_head
+    → (IsKnown old → IsKnown new → AreTold old new (AreSumsWritten mid end removed))
+    → (text : List ℕ) × IsCorrectionsByTokenText old_text new_text text removed
+    × Appends out end text
+finished_by_token old_text new_text old new out mid end removed begun_old begun_new head written =
+    let is = written begun_old.known begun_new.known in
+    let by = tokens_by is.changes (corrections_rise is.old_rows is.new_rows is.changes is.are) in (
+      tokens_head ++ tokens_lines is.changes by.tokens,
+      record {
+        old_rows = is.old_rows;
+        is_old = (begun_old.rows is.old_rows).0 is.are_old;
+        new_rows = is.new_rows;
+        is_new = (begun_new.rows is.new_rows).0 is.are_new;
+        changes = is.changes;
+        are = is.are;
+        tokens = by.tokens;
+        are_tokens = by.are;
+        shown = refl;
+        counted = is.told.counted;
+      },
+      appends_more out mid end tokens_head (tokens_lines is.changes by.tokens) head
+          (subst (Appends mid end) by.shown is.told.written),
+    )

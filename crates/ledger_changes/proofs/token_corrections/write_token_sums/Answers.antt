@@ -1,0 +1,115 @@
+use Rattle.std.proofs.Common.{◌≡◌, ◌∙◌, refl, sym, ap, Bool, true, false, Option, None}
+use Rattle.std.specs.Prelude.{if◌then◌else◌}
+use Rattle.std.proofs.lemmas.Option.{MatchOption-at_none}
+use Rattle.std.proofs.lemmas.Result.{err_from_is_err_and}
+use Rattle.ledger_changes.specs.Rows.{Row}
+use Rattle.ledger_changes.specs.declared.fault.Bill.TheVariants.{New, Old}
+use Rattle.ledger_changes.specs.declared.row.LedgerRow.{LedgerRow}
+use Rattle.ledger_changes.specs.inside.Written.{changes_of, next_sides, row_in, taken_if}
+use Rattle.ledger_changes.proofs.Merging.{going_end, going_next, going_start, refused_new}
+use Rattle.ledger_changes.proofs.Merging.{refused_old}
+use Rattle.ledger_changes.proofs.Summing.{summed_all, summed_more, summed_none, told_so}
+use Rattle.ledger_changes.proofs.token_corrections.write_token_sums.Goals as goal
+
+pub returns-in_err-write_sums-clause-refused_old :
+    goal.returns-in_err-write_sums-clause-refused_old
+returns-in_err-write_sums-clause-refused_old g c =
+    let p = err_from_is_err_and c.from_residual.result c.from_residual.ensures.1 in
+    rw (p.1, p.2) (λ of. absurd (c.in_err-write_sums.ensures.fault Old of))
+
+pub returns-in_err-write_sums-clause-refused_new :
+    goal.returns-in_err-write_sums-clause-refused_new
+returns-in_err-write_sums-clause-refused_new g c =
+    let p = err_from_is_err_and c.from_residual.result c.from_residual.ensures.1 in
+    rw (p.1, p.2) (λ of. absurd (c.in_err-write_sums.ensures.fault New of))
+
+pub returns-in_default-clause-written : goal.returns-in_default-clause-written
+returns-in_default-clause-written g c =
+    λ known also. told_so _ _ _ _
+    (λ changes summed. summed_all _ _ _ _ _ changes c.in_ok-write_sums.ensures.written summed)
+    (going_end _ _ _ _ _ c.loop.invariant.going
+    (ap (λ (row : Option LedgerRow). next_sides (row_in row) (row_in c.loop.new.row))
+    (sym c.row.ensures)
+    ∙ ap (λ (row : Option LedgerRow). next_sides (row_in c.row.result.now) (row_in row))
+    (sym c.row-in-loop.ensures)
+    ∙ MatchOption-at_none _ _ c.in_default.is c.next_sides.ensures) known also)
+
+pub returns-in_err-before-clause-refused_old : goal.returns-in_err-before-clause-refused_old
+returns-in_err-before-clause-refused_old g c =
+    let p = err_from_is_err_and c.from_residual-in_err-before.result
+    c.from_residual-in_err-before.ensures.1 in
+    rw (p.1, p.2) (λ of. refused_old _ _ _ _ _ c.loop.invariant.going
+    (c.in_err-before.ensures.refused Old of).1)
+
+pub returns-in_err-before-clause-refused_new : goal.returns-in_err-before-clause-refused_new
+returns-in_err-before-clause-refused_new g c =
+    let p = err_from_is_err_and c.from_residual-in_err-before.result
+    c.from_residual-in_err-before.ensures.1 in
+    rw (p.1, p.2) (λ of. absurd (let e : Old ≡ New =
+    sym c.loop.invariant.old_bill ∙ (c.in_err-before.ensures.refused New of).0 in cc))
+
+pub returns-in_err-after-clause-refused_old : goal.returns-in_err-after-clause-refused_old
+returns-in_err-after-clause-refused_old g c =
+    let p = err_from_is_err_and c.from_residual-in_err-after.result
+    c.from_residual-in_err-after.ensures.1 in
+    rw (p.1, p.2) (λ of. absurd (let e : New ≡ Old =
+    sym c.loop.invariant.new_bill ∙ (c.in_err-after.ensures.refused Old of).0 in cc))
+
+pub returns-in_err-after-clause-refused_new : goal.returns-in_err-after-clause-refused_new
+returns-in_err-after-clause-refused_new g c =
+    let p = err_from_is_err_and c.from_residual-in_err-after.result
+    c.from_residual-in_err-after.ensures.1 in
+    rw (p.1, p.2) (λ of. refused_new _ _ _ _ _ c.loop.invariant.going
+    (c.in_err-after.ensures.refused New of).1)
+
+pub returns-in_err-last-clause-refused_old :
+    goal.returns-in_err-last-clause-refused_old
+returns-in_err-last-clause-refused_old g c =
+    let p = err_from_is_err_and c.from_residual-in_err-last.result
+    c.from_residual-in_err-last.ensures.1 in
+    rw (p.1, p.2) (λ of. absurd (c.in_err-last.ensures.fault Old of))
+
+pub returns-in_err-last-clause-refused_new :
+    goal.returns-in_err-last-clause-refused_new
+returns-in_err-last-clause-refused_new g c =
+    let p = err_from_is_err_and c.from_residual-in_err-last.result
+    c.from_residual-in_err-last.ensures.1 in
+    rw (p.1, p.2) (λ of. absurd (c.in_err-last.ensures.fault New of))
+
+taken_row : (is_taken : Bool) (row : Option LedgerRow)
+    → row_in (if is_taken then row else None) ≡ taken_if is_taken (row_in row)
+taken_row true row = refl
+taken_row false row = refl
+
+pub loop-preserved : goal.loop-preserved
+loop-preserved g c =
+    let h = c.in-Some.has_old in
+    let k = c.in-Some.has_new in
+    let old : row_in c.row.result.now ≡ row_in c.loop.old.row = ap row_in c.row.ensures in
+    let new : row_in c.row-in-loop.result.now ≡ row_in c.loop.new.row =
+    ap row_in c.row-in-loop.ensures in
+    let here : next_sides (row_in c.row.result.now) (row_in c.row-in-loop.result.now)
+    ≡ next_sides (row_in c.loop.old.row) (row_in c.loop.new.row) =
+    ap (λ (row : Option Row). next_sides row (row_in c.row-in-loop.result.now)) old
+    ∙ ap (λ (row : Option Row). next_sides (row_in c.loop.old.row) row) new in
+    record {
+      old_bill = c.in_ok-before.ensures.bill ∙ c.loop.invariant.old_bill;
+      new_bill = c.in_ok-after.ensures.bill ∙ c.loop.invariant.new_bill;
+      going = going_next _ _ _ _ _ _ _ _ h k (row_in c.in_ok-before.before)
+          (row_in c.in_ok-after.after) c.loop.invariant.going (c.in-Some.ensures.0 ∙ here)
+          (λ end. c.in-Some.ensures.1 (here ∙ end))
+          (ap row_in c.in_ok-before.ensures.row ∙ taken_row h c.loop.old.row)
+          (ap row_in c.in_ok-after.ensures.row ∙ taken_row k c.loop.new.row)
+          c.in_ok-before.ensures.moved c.in_ok-after.ensures.moved
+          (λ done told. summed_more _ _ _ _ _ _ _
+          (changes_of (row_in c.in_ok-before.before) (row_in c.in_ok-after.after)) done
+          c.in_ok-last.ensures.written c.in_ok-last.ensures.sums
+          c.in-Some-count_removed.ensures told);
+    }
+
+pub loop-init : goal.loop-init
+loop-init g c = record {
+  old_bill = c.requires.old;
+  new_bill = c.requires.new;
+  going = going_start _ _ _ (summed_none (g.W.Write.contents c.args.out.now));
+}
