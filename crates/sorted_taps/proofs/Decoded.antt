@@ -11,7 +11,7 @@ use Rattle.tap_views.specs.Faults.{IsFault}
 use Rattle.tap_views.specs.Layout.{Tap, IsBatch}
 use Rattle.tap_views.specs.declared.encoder.TapFields.{TapFields}
 use Rattle.tap_views.proofs.Reading.{batch_some}
-use Rattle.upload_facts.specs.Facts.{taps_of_batches}
+use Rattle.tap_views.specs.Files.{taps_of_batches}
 use Rattle.sorted_taps.specs.Fronts.{AreBatches}
 use Rattle.sorted_taps.specs.inside.Decoding.{AreFrontTaps}
 use Rattle.sorted_taps.proofs.Batches.{batches_more}

@@ -3,7 +3,7 @@ use Rattle.std.specs.Prelude.{◌≡◌, ℕ, List, ◌++◌, map, drop}
 use Rattle.tap_views.specs.Encoding.{fields_of}
 use Rattle.tap_views.specs.Layout.{Tap}
 use Rattle.tap_views.specs.declared.encoder.TapFields.{TapFields}
-use Rattle.upload_facts.specs.Facts.{taps_of_batches}
+use Rattle.tap_views.specs.Files.{taps_of_batches}
 use Rattle.sorted_taps.specs.Fronts.{AreBatches}
 
 -- the bytes of the longest batch: a header of 8, and 4,096 taps of 28

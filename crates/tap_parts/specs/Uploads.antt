@@ -2,7 +2,7 @@
 use Rattle.std.specs.Prelude.{◌≡◌, ℕ, List, length}
 use Rattle.tap_views.specs.Layout.{Tap}
 use Rattle.tap_views.specs.declared.encoder.TapFields.{TapFields}
-use Rattle.upload_facts.specs.Facts.{IsReadAs, taps_of_batches}
+use Rattle.tap_views.specs.Files.{IsReadAs, taps_of_batches}
 use Rattle.tap_parts.specs.Parts.{AreAddedBy, part_of_token}
 use Rattle.tap_parts.specs.declared.upload.UploadTaps.{UploadTaps}
 

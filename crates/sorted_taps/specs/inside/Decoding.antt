@@ -6,7 +6,7 @@ use Rattle.tap_views.specs.Faults.{IsFault}
 use Rattle.tap_views.specs.Layout.{Tap}
 use Rattle.tap_views.specs.declared.encoder.TapFields.{TapFields}
 use Rattle.tap_views.specs.declared.fault.LayoutFault.{LayoutFault}
-use Rattle.upload_facts.specs.Facts.{taps_of_batches}
+use Rattle.tap_views.specs.Files.{taps_of_batches}
 use Rattle.sorted_taps.specs.Fronts.{AreBatches}
 use Rattle.sorted_taps.specs.Reading.{AreTapsBetween}
 use Rattle.sorted_taps.specs.declared.decoding.Decoded.{Decoded}

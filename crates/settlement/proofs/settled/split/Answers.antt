@@ -1,8 +1,7 @@
 use Rattle.std.proofs.Common.{◌<◌, [], All, map, sym, ap, ◌∙◌, subst, arith, None}
 use Rattle.tap_views.specs.Encoding.{fields_of}
 use Rattle.fare_table.specs.Fares.{Fares}
-use Rattle.fare_service.specs.Plain.{HasOneReading}
-use Rattle.tap_views.specs.Files.{AreGoodTapsOfEach}
+use Rattle.tap_views.specs.Files.{AreGoodTapsOfEach, HasOneReading}
 use Rattle.fare_service.proofs.PlainReplies.{bare, plain_bare}
 use Rattle.tap_parts.specs.Canonical.{HasTokenBytes}
 use Rattle.tap_parts.specs.Parts.{taps_of_uploads}
@@ -10,7 +9,7 @@ use Rattle.settlement.proofs.Files.{bytes_in}
 use Rattle.settlement.proofs.Own.{IsNamedBy}
 use Rattle.settlement.proofs.Placed.{all_map}
 use Rattle.settlement.proofs.Ranges.{has_token_bytes}
-use Rattle.settlement.proofs.Same.{one_list}
+use Rattle.tap_views.proofs.ReadingLemmas.{one_list}
 use Rattle.settlement.proofs.Told.{fields_named}
 use Rattle.settlement.proofs.settled.split.Goals as goal
 
