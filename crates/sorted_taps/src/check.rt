@@ -15,9 +15,10 @@ use std::alloc::Global;
 /// `WINDOW_BYTES` at least, is for the bytes.
 pub fn check_file<F: Placed>(alloc: Global, file: &F, window: &mut [u8]) -> Result<u64, SortedFault>
     requires { window_bytes ≤ length window.old }
-    ensures sorted { IfSome (F.bytes file.now) (λ all. IfOk result (λ count.
-        (taps : List TapFields) × IsSortedFile all taps × (count ≡ length taps))) }
-    ensures fault { IfSome (F.bytes file.now) (λ all. IfErr result (IsSortedFault all)) }
+    ensures sorted { IfOk result (λ count. IfSome (F.bytes file.now)
+        (λ all. (taps : List TapFields) × IsSortedFile all taps × (count ≡ length taps))) }
+    ensures fault { IfErr result (λ fault. IfSome (F.bytes file.now)
+        (λ all. IsSortedFault all fault)) }
 {
     let mut reader = TapReader::at(alloc, file, 0, window)?;
     for _ in 0..u64::MAX {

@@ -42,9 +42,10 @@ impl TapReader {
         window: &mut [u8],
     ) -> Result<Self, SortedFault>
         requires { window_bytes ≤ length window.old }
-        ensures stands { IfSome (F.bytes file.now) (λ all. IfOk result (StandsIn all offset [])) }
-        ensures fault { IfSome (F.bytes file.now)
-            (λ all. IfErr result (IsBehindFault all offset)) }
+        ensures stands { IfOk result (λ reader. IfSome (F.bytes file.now)
+            (λ all. StandsIn all offset [] reader)) }
+        ensures fault { IfErr result (λ fault. IfSome (F.bytes file.now)
+            (λ all. IsBehindFault all offset fault)) }
     {
         let mut reader = TapReader {
             offset,
@@ -77,10 +78,10 @@ impl TapReader {
     pub fn advance<F: Placed>(&mut self, file: &F, window: &mut [u8]) -> Result<(), SortedFault>
         requires window { window_bytes ≤ length window.old }
         requires head { 0 < length (ahead self.old) }
-        ensures kept { IfSome (F.bytes file.now)
-            (λ all. OnOk result (IsAdvanced all self.old self.new)) }
-        ensures fault { IfSome (F.bytes file.now)
-            (λ all. IfErr result (IsStepFault all self.old)) }
+        ensures kept { OnOk result (IfSome (F.bytes file.now)
+            (λ all. IsAdvanced all self.old self.new)) }
+        ensures fault { IfErr result (λ fault. IfSome (F.bytes file.now)
+            (λ all. IsStepFault all self.old fault)) }
     {
         let last = self.taps[self.next];
         let Some(passed) = self.passed.checked_add(1) else {
@@ -111,10 +112,10 @@ impl TapReader {
     /// Reads on behind the taps in memory, none of which is wanted any more.
     fn refill<F: Placed>(&mut self, file: &F, window: &mut [u8]) -> Result<(), SortedFault>
         requires { window_bytes ≤ length window.old }
-        ensures kept { IfSome (F.bytes file.now)
-            (λ all. OnOk result (IsRefilled all self.old self.new)) }
-        ensures fault { IfSome (F.bytes file.now)
-            (λ all. IfErr result (IsBehindFault all self.old.offset)) }
+        ensures kept { OnOk result (IfSome (F.bytes file.now)
+            (λ all. IsRefilled all self.old self.new)) }
+        ensures fault { IfErr result (λ fault. IfSome (F.bytes file.now)
+            (λ all. IsBehindFault all self.old.offset fault)) }
     {
         self.next = 0;
         for _ in 0..u64::MAX {

@@ -3,7 +3,7 @@
 ghost use Rattle.std.specs.Prelude.{◌≡◌, ◌+◌, ◌<◌, ◌≤◌, ◌^◌, length, IfOk, IfErr, IfSome, OnOk};
 ghost use Rattle.placed_files.specs.Placed.{IsFilledFrom};
 ghost use Rattle.sorted_taps.specs.Reading.{window_bytes};
-ghost use Rattle.sorted_taps.specs.inside.Decoding.{IsDecodedAt, IsReadOn, IsReadFault};
+ghost use Rattle.sorted_taps.specs.inside.Decoding.{IsDecodedAt, IsNoLayoutFault, IsReadOn, IsReadFault};
 
 use crate::decoding::{Decoded, decode};
 use crate::fault::SortedFault;
@@ -20,8 +20,8 @@ pub const WINDOW_BYTES: usize = TAP1_HEADER_BYTES + MAX_TAPS * TAP1_TAP_BYTES;
 fn fill_at<F: Placed>(file: &F, buffer: &mut [u8], offset: u64) -> Result<usize, Unread>
     ensures fits { OnOk result (offset + length buffer.new < 2 ^ 64) }
     ensures most { IfOk result (λ count. count ≤ length buffer.new) }
-    ensures bytes { IfSome (F.bytes file.now)
-        (λ all. IfOk result (λ count. IsFilledFrom all offset buffer.new count)) }
+    ensures bytes { IfOk result (λ count. IfSome (F.bytes file.now)
+        (λ all. IsFilledFrom all offset buffer.new count)) }
 {
     if offset >= u64::MAX - buffer.len() as u64 {
         return Err(Unread);
@@ -29,18 +29,21 @@ fn fill_at<F: Placed>(file: &F, buffer: &mut [u8], offset: u64) -> Result<usize,
     fill_from(file, buffer, offset)
 }
 
-/// Decodes the batches that begin at this offset into the list, of so many bytes as the buffer has.
+/// Decodes the batches that begin at this offset into the list, of so many bytes as are told.
 fn decode_at<F: Placed>(
     file: &F,
-    buffer: &mut [u8],
+    window: &mut [u8],
+    room: usize,
     offset: u64,
     taps: &mut Vec<TapFields>,
 ) -> Result<Decoded, SortedFault>
+    requires { room ≤ length window.old }
     ensures fits { IfOk result (λ decoded. offset + decoded.used < 2 ^ 64) }
-    ensures batches { IfSome (F.bytes file.now) (λ all. IfOk result
-        (IsDecodedAt all offset (length buffer.new) taps.new.items)) }
-    ensures fault { IfSome (F.bytes file.now) (λ all. IfErr result (IsReadFault all offset)) }
+    ensures batches { IfOk result (λ decoded. IfSome (F.bytes file.now)
+        (λ all. IsDecodedAt all offset room taps.new.items decoded)) }
+    ensures fault { IfErr result IsNoLayoutFault }
 {
+    let buffer = &mut window[..room];
     let count = fill_at(file, buffer, offset)?;
     Ok(decode(&buffer[..count], taps)?)
 }
@@ -55,15 +58,16 @@ pub(crate) fn read_batches<F: Placed>(
 ) -> Result<u64, SortedFault>
     requires { window_bytes ≤ length window.old }
     ensures fits { IfOk result (λ used. offset + used < 2 ^ 64) }
-    ensures batches { IfSome (F.bytes file.now) (λ all. IfOk result
-        (IsReadOn all offset taps.new.items)) }
-    ensures fault { IfSome (F.bytes file.now) (λ all. IfErr result (IsReadFault all offset)) }
+    ensures batches { IfOk result (λ used. IfSome (F.bytes file.now)
+        (λ all. IsReadOn all offset taps.new.items used)) }
+    ensures fault { IfErr result (λ fault. IfSome (F.bytes file.now)
+        (λ all. IsReadFault all offset fault)) }
 {
-    let first = decode_at(file, &mut window[..FIRST_READ_BYTES], offset, taps)?;
+    let first = decode_at(file, window, FIRST_READ_BYTES, offset, taps)?;
     if first.used > 0 {
         return Ok(first.used as u64);
     }
-    let longer = decode_at(file, &mut window[..WINDOW_BYTES], offset, taps)?;
+    let longer = decode_at(file, window, WINDOW_BYTES, offset, taps)?;
     match longer.fault {
         Some(fault) if longer.used == 0 => Err(SortedFault::Layout { offset, fault }),
         _ => Ok(longer.used as u64),

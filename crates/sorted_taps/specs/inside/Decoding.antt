@@ -44,6 +44,12 @@ pub record IsReadOn (all : List ℕ) (offset : ℕ) (taps : List TapFields) (use
   pub between : AreTapsBetween all offset (offset + used) taps
   pub end : used ≡ 0 → drop offset all ≡ []
 
+-- a read failed, or memory was refused
+abbrev pub IsNoLayoutFault : SortedFault → Type 0
+IsNoLayoutFault (OutOfOrder tap) = ⊥
+IsNoLayoutFault (Layout offset fault) = ⊥
+IsNoLayoutFault fault = Unit {0}
+
 -- the bytes from this offset on have the layout fault
 abbrev pub IsReadFault : List ℕ → ℕ → SortedFault → Type 0
 IsReadFault all offset (Layout at fault) =

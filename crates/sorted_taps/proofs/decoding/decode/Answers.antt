@@ -1,4 +1,5 @@
-use Rattle.std.proofs.Common.{◌≡◌, ◌⊎◌, ◌≤◌, [], length, sym, subst, arith, tt, inl, inr}
+use Rattle.std.proofs.Common.{◌≡◌, ◌⊎◌, ◌≤◌, ◌+◌, ◌-◌, None, [], length, sym, subst, arith, inl, inr}
+use Rattle.std.proofs.lemmas.List.{nil_from_length}
 use Rattle.sorted_taps.specs.inside.Decoding.{AreFrontTaps, IsDecoded}
 use Rattle.sorted_taps.proofs.Decoded.{front_none, front_more, front_size, end_of, shorter}
 use Rattle.sorted_taps.proofs.decoding.decode.Goals.{then-loop-taps-test+else-len-lt-ENOUGH_TAPS, else-loop-taps-test}
@@ -20,4 +21,20 @@ loop-taps-preserved c =
 
 -- src/decoding.rt:34:1
 pub returns : goal.returns
-returns c = ?
+returns c =
+    let bytes = c.args.bytes.now in
+    let left = c.loop-taps.left.now in
+    let taps = c.loop-taps.taps.items in
+    let size = front_size bytes left taps c.loop-taps.invariant in
+    let done : (left ≡ []) ⊎ (512 ≤ length taps) = elim c.loop-taps-test.branch [
+      | then-loop-taps-test+else-len-lt-ENOUGH_TAPS w ↦ let h = w.if-len-lt-ENOUGH_TAPS.false in
+          let e = w.len.ensures in inr (omega (arith, h, e))
+      | else-loop-taps-test w ↦ inl (nil_from_length left (let e = c.is_empty.ensures in let t = w.loop-taps-test.false in grind arith))
+    ] in
+    record {
+      rest = left;
+      front_taps = c.loop-taps.invariant;
+      size = omega (arith, size);
+      fault = tt;
+      some = λ used none. end_of bytes left taps c.loop-taps.invariant done used;
+    }
