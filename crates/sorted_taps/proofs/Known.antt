@@ -1,5 +1,5 @@
 -- What holds of bytes where they are known.
-use Rattle.std.specs.Prelude.{Option, None, Some, IfSome}
+use Rattle.std.specs.Prelude.{Option, None, Some, IfSome, Result, Ok, Err, OnOk}
 
 -- each fact of the first kind gives one of the second
 pub known_map : {A : Type 0} (P Q : A → Type 0) (known : Option A) → ((a : A) → P a → Q a)
@@ -18,3 +18,9 @@ pub known_map2 : {A : Type 0} (P Q R : A → Type 0) (known : Option A)
     → ((a : A) → P a → Q a → R a) → IfSome known P → IfSome known Q → IfSome known R
 known_map2 P Q R None f one two = tt
 known_map2 P Q R (Some a) f one two = f a one two
+
+-- what holds after success gives more
+pub on_ok : {T E : Type 0} (P Q : Type 0) (result : Result T E) → (P → Q) → OnOk result P
+    → OnOk result Q
+on_ok P Q (Ok value) f given = f given
+on_ok P Q (Err fault) f given = tt

@@ -26,29 +26,33 @@ pub record StandsIn (all : List ℕ) (from : ℕ) (passed : List TapFields) (rea
   pub end : ahead reader ≡ [] → drop reader.offset all ≡ []
   pub number : reader.passed ≡ length passed
 
--- the reader has passed the tap at which it stood, which is in order with the next one
+-- the reader has passed the tap at which it stood, which is in order with the next one; behind the
+-- taps in memory come those of the file
 pub record IsAdvanced (all : List ℕ) (old new : TapReader) : Type 0 where
   pub tap : TapFields
+  pub behind : List TapFields
   pub read : List TapFields
+  pub stood : ahead old ≡ tap ∷ behind
   pub between : AreTapsBetween all old.offset new.offset read
-  pub goes_on : ahead old ++ read ≡ tap ∷ ahead new
+  pub goes_on : ahead new ≡ behind ++ read
   pub order : BeginsNotBefore tap (ahead new)
   pub end : ahead new ≡ [] → drop new.offset all ≡ []
   pub number : new.passed ≡ old.passed + 1
 
--- the list's second tap is before its first
-abbrev pub SecondIsBefore : List TapFields → Type 0
-SecondIsBefore [] = ⊥
-SecondIsBefore (first ∷ []) = ⊥
-SecondIsBefore (first ∷ second ∷ rest) = is_lt (tap_cmp second first) ≡ true
-
--- the file goes on behind the tap at which the reader stood with one that is before it
-pub record IsNextBefore (all : List ℕ) (old : TapReader) (tap : ℕ) : Type 0 where
+-- the file goes on behind the tap at which the reader stood with one that is before it, and which
+-- has this number
+pub record IsNextBefore (all : List ℕ) (old : TapReader) (number : ℕ) : Type 0 where
   pub to : ℕ
+  pub tap : TapFields
+  pub behind : List TapFields
   pub read : List TapFields
+  pub next : TapFields
+  pub later : List TapFields
+  pub stood : ahead old ≡ tap ∷ behind
   pub between : AreTapsBetween all old.offset to read
-  pub earlier : SecondIsBefore (ahead old ++ read)
-  pub number : tap ≡ old.passed + 1
+  pub goes_on : behind ++ read ≡ next ∷ later
+  pub before : is_lt (tap_cmp next tap) ≡ true
+  pub counted : number ≡ old.passed + 1
 
 -- behind the offset are batches of no taps, and then bytes with this layout fault
 pub record IsDamagedBehind (all : List ℕ) (from at : ℕ) (fault : LayoutFault) : Type 0 where
@@ -65,7 +69,7 @@ IsBehindFault all from fault = Unit {0}
 -- why a reader does not go on: the next tap is before the one at which it stands, or it stands at
 -- the last tap in front of a layout fault
 abbrev pub IsStepFault : List ℕ → TapReader → SortedFault → Type 0
-IsStepFault all old (OutOfOrder tap) = IsNextBefore all old tap
+IsStepFault all old (OutOfOrder number) = IsNextBefore all old number
 IsStepFault all old (Layout at fault) =
     (length (ahead old) ≡ 1) × IsDamagedBehind all old.offset at fault
 IsStepFault all old fault = Unit {0}

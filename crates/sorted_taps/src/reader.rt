@@ -6,7 +6,7 @@ ghost use Rattle.tap_views.specs.declared.encoder.TapFields.{TapFields};
 ghost use Rattle.sorted_taps.specs.Reading.{window_bytes};
 ghost use Rattle.sorted_taps.specs.Merged.{BeginsNotBefore};
 ghost use Rattle.sorted_taps.specs.Readers.{ahead, StandsIn, IsAdvanced, IsBehindFault, IsStepFault};
-ghost use Rattle.sorted_taps.specs.inside.Steps.{BeginsBefore, IsRefilled};
+ghost use Rattle.sorted_taps.specs.inside.Steps.{BeginsBefore, IsMovedOn, IsRefilled};
 
 use crate::fault::SortedFault;
 use crate::reading::read_batches;
@@ -87,15 +87,28 @@ impl TapReader {
         let Some(passed) = self.passed.checked_add(1) else {
             return Err(SortedFault::Unread);
         };
-        self.next += 1;
-        if self.next >= self.taps.len() {
-            self.refill(file, window)?;
-        }
+        self.move_on(file, window)?;
         if self.is_before(&last) {
             return Err(SortedFault::OutOfOrder { tap: passed });
         }
         self.passed = passed;
         Ok(())
+    }
+
+    /// Goes on to the next tap, in whatever order, or to the file's end.
+    fn move_on<F: Placed>(&mut self, file: &F, window: &mut [u8]) -> Result<(), SortedFault>
+        requires window { window_bytes ≤ length window.old }
+        requires head { 0 < length (ahead self.old) }
+        ensures kept { OnOk result (IfSome (F.bytes file.now)
+            (λ all. IsMovedOn all self.old self.new)) }
+        ensures fault { IfErr result (λ fault. IfSome (F.bytes file.now)
+            (λ all. (length (ahead self.old) ≡ 1) × IsBehindFault all self.old.offset fault)) }
+    {
+        self.next += 1;
+        if self.next < self.taps.len() {
+            return Ok(());
+        }
+        self.refill(file, window)
     }
 
     /// Whether the tap at which it stands, if there is one, is before this tap.
