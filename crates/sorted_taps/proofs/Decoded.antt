@@ -1,13 +1,11 @@
 -- Batches that are decoded from the front of some bytes.
-use Rattle.std.proofs.Common.{◌≡◌, ℕ, ◌+◌, ◌<◌, ◌≤◌, List, [], ◌∷◌, ◌++◌, length, map, take, drop}
-use Rattle.std.proofs.Common.{refl, sym, ap, subst, ◌∙◌, arith, IfSome, Some, None, length-append}
+use Rattle.std.proofs.Common.{◌≡◌, ℕ, ◌<◌, ◌≤◌, List, [], ◌∷◌, ◌++◌, length, map}
+use Rattle.std.proofs.Common.{refl, sym, ap, subst, ◌∙◌, arith, length-append}
 use Rattle.std.proofs.Common.{append-nil, append_assoc, ◌-◌, ◌⊎◌, inl, inr}
-use Rattle.std.specs.Prelude.{Option, flat_map}
-use Rattle.std.proofs.lemmas.List.{map-append, take-append-drop, length-drop, drop-drop}
+use Rattle.std.proofs.lemmas.List.{map-append}
 use Rattle.std.proofs.lemmas.List.{nil_from_length}
 use Rattle.std.proofs.lemmas.List.Concat.{flat_map-append}
 use Rattle.tap_views.specs.Encoding.{fields_of}
-use Rattle.tap_views.specs.Faults.{IsFault}
 use Rattle.tap_views.specs.Layout.{Tap, IsBatch}
 use Rattle.tap_views.specs.declared.encoder.TapFields.{TapFields}
 use Rattle.tap_views.proofs.Reading.{batch_some}

@@ -1,5 +1,7 @@
 -- What holds of bytes where they are known.
-use Rattle.std.specs.Prelude.{Option, None, Some, IfSome, Result, Ok, Err, OnOk}
+use Rattle.std.specs.Prelude.{◌≡◌, Option, None, Some, IfSome, MatchOption, Result, Ok, Err, OnOk}
+use Rattle.std.specs.Prelude.{true, false}
+use Rattle.std.specs.Option.{is_some}
 
 -- each fact of the first kind gives one of the second
 pub known_map : {A : Type 0} (P Q : A → Type 0) (known : Option A) → ((a : A) → P a → Q a)
@@ -24,3 +26,9 @@ pub on_ok : {T E : Type 0} (P Q : Type 0) (result : Result T E) → (P → Q) �
     → OnOk result Q
 on_ok P Q (Ok value) f given = f given
 on_ok P Q (Err fault) f given = tt
+
+-- what holds where there is no value
+pub at_none : {A : Type 0} (P : Type 0) (Q : A → Type 0) (answer : Option A)
+    → is_some answer ≡ false → MatchOption answer P Q → P
+at_none P Q None none is = is
+at_none P Q (Some a) none is = absurd (let h : true ≡ false = none in cc)

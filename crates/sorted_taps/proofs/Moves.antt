@@ -1,10 +1,8 @@
 -- Steps of a reader.
-use Rattle.std.proofs.Common.{◌≡◌, ℕ, suc, zero, ◌+◌, ◌<◌, ◌≤◌, List, [], ◌∷◌, ◌++◌, length, take, drop}
-use Rattle.std.proofs.Common.{refl, sym, ap, subst, ◌∙◌, arith, true, false, append-nil, get_or}
+use Rattle.std.proofs.Common.{◌≡◌, ℕ, suc, zero, ◌+◌, ◌<◌, ◌≤◌, List, [], ◌∷◌, ◌++◌, length, drop}
+use Rattle.std.proofs.Common.{refl, sym, ap, subst, ◌∙◌, arith, append-nil, get_or}
 use Rattle.std.proofs.lemmas.List.{drop-drop, length-drop, nil_from_length}
-use Rattle.std.specs.Ordering.{is_lt}
 use Rattle.tap_views.specs.declared.encoder.TapFields.{TapFields}
-use Rattle.tap_parts.specs.Canonical.{tap_cmp}
 use Rattle.sorted_taps.specs.Readers.{ahead, IsAdvanced, IsNextBefore}
 use Rattle.sorted_taps.specs.Merged.{BeginsNotBefore}
 use Rattle.sorted_taps.specs.Reading.{AreTapsBetween}

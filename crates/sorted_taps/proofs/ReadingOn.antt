@@ -1,24 +1,20 @@
 -- Batches that are decoded at an offset of a file.
-use Rattle.std.proofs.Common.{◌≡◌, ◌⊎◌, ℕ, ◌+◌, ◌*◌, ◌<◌, ◌≤◌, List, [], ◌∷◌, ◌++◌, length, map, take, drop}
+use Rattle.std.proofs.Common.{◌≡◌, ◌⊎◌, ℕ, ◌+◌, ◌*◌, ◌<◌, ◌≤◌, List, [], ◌∷◌, ◌++◌, length, take, drop}
 use Rattle.std.proofs.Common.{refl, sym, ap, subst, ◌∙◌, arith, inl, inr, None, Some, length-append}
 use Rattle.std.proofs.Common.{append_assoc, IfSome}
 use Rattle.std.specs.Prelude.{Option}
 use Rattle.std.proofs.lemmas.Bool.{cases_lt}
-use Rattle.std.proofs.lemmas.List.{map-append, take-append-drop, length-take-le, drop-drop}
+use Rattle.std.proofs.lemmas.List.{take-append-drop, length-take-le, drop-drop}
 use Rattle.std.proofs.lemmas.List.{nil_from_length}
-use Rattle.std.proofs.lemmas.List.Concat.{flat_map-append}
-use Rattle.tap_views.specs.Encoding.{fields_of}
-use Rattle.tap_views.specs.Faults.{IsFault, header, width, layout_in, count_in, size_in}
-use Rattle.tap_views.specs.Files.{taps_of_batches}
-use Rattle.tap_views.specs.Layout.{Tap, Layout, Tap1, Tap2}
+use Rattle.tap_views.specs.Faults.{IsFault, header, width, layout_in, count_in}
+use Rattle.tap_views.specs.Layout.{Layout, Tap1, Tap2}
 use Rattle.tap_views.specs.declared.encoder.TapFields.{TapFields}
 use Rattle.tap_views.specs.declared.fault.LayoutFault.{LayoutFault}
 use Rattle.tap_views.specs.declared.fault.LayoutFault.TheVariants.{Short, Magic, Flags, TooMany}
 use Rattle.tap_views.specs.declared.fault.LayoutFault.TheVariants.{Length, Moment}
-use Rattle.sorted_taps.specs.Fronts.{AreBatches, IsFinal}
-use Rattle.sorted_taps.specs.Reading.{AreTapsBetween}
+use Rattle.sorted_taps.specs.Fronts.{IsFinal}
 use Rattle.sorted_taps.specs.declared.decoding.Decoded.{Decoded}
-use Rattle.sorted_taps.specs.inside.Decoding.{IsDecoded, IsDecodedAt, IsReadOn}
+use Rattle.sorted_taps.specs.inside.Decoding.{IsDecodedAt, IsReadOn}
 use Rattle.sorted_taps.proofs.Fronts.{fault_of_front}
 
 header_most : (layout : Layout) → header layout ≤ 12
@@ -138,6 +134,8 @@ module _ (all : List ℕ) (offset room : ℕ) (taps : List TapFields) (decoded :
           take_all (x ∷ xs) = ap (λ l. x ∷ l) (take_all xs)
       by_count (inr full) =
           let r = read in
-          let final = long_decides (take at.count left) fault found.0 (omega (arith, r, full, much)) in
-          (subst (λ l. IsFault l fault) (take-append-drop at.count left)
-              (fault_of_front (take at.count left) (drop at.count left) fault final found.0), some)
+          let final = long_decides (take at.count left) fault found.0 (omega (arith, r, full, much)) in (
+            subst (λ l. IsFault l fault) (take-append-drop at.count left)
+                (fault_of_front (take at.count left) (drop at.count left) fault final found.0),
+            some,
+          )

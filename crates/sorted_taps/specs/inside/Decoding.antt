@@ -1,11 +1,10 @@
 -- Batches that are decoded from the front of some bytes.
 use Rattle.std.specs.Prelude.{◌≡◌, ℕ, ◌+◌, ◌<◌, ◌≤◌, List, [], ◌++◌, length, map, take, drop}
-use Rattle.std.specs.Prelude.{Option, None, IfSome}
+use Rattle.std.specs.Prelude.{None, IfSome}
 use Rattle.tap_views.specs.Encoding.{fields_of}
 use Rattle.tap_views.specs.Faults.{IsFault}
 use Rattle.tap_views.specs.Layout.{Tap}
 use Rattle.tap_views.specs.declared.encoder.TapFields.{TapFields}
-use Rattle.tap_views.specs.declared.fault.LayoutFault.{LayoutFault}
 use Rattle.tap_views.specs.Files.{taps_of_batches}
 use Rattle.sorted_taps.specs.Fronts.{AreBatches}
 use Rattle.sorted_taps.specs.Reading.{AreTapsBetween}

@@ -1,7 +1,7 @@
-use Rattle.std.proofs.Common.{◌≡◌, ◌⊎◌, ◌≤◌, ◌+◌, ◌-◌, None, [], length, sym, subst, arith, inl, inr}
+use Rattle.std.proofs.Common.{◌≡◌, ◌⊎◌, ◌≤◌, [], length, sym, subst, arith, inl, inr}
 use Rattle.std.proofs.lemmas.List.{nil_from_length}
-use Rattle.sorted_taps.specs.inside.Decoding.{AreFrontTaps, IsDecoded}
-use Rattle.sorted_taps.proofs.Decoded.{front_none, front_more, front_size, end_of, shorter}
+use Rattle.sorted_taps.specs.inside.Decoding.{AreFrontTaps}
+use Rattle.sorted_taps.proofs.Decoded.{front_none, front_more, front_size, end_of}
 use Rattle.sorted_taps.proofs.decoding.decode.Goals.{then-loop-taps-test+else-len-lt-ENOUGH_TAPS, else-loop-taps-test}
 use Rattle.sorted_taps.proofs.decoding.decode.Goals as goal
 

@@ -1,6 +1,6 @@
-use Rattle.std.proofs.Common.{rules, ◌≡◌, ◌<◌, ◌≤◌, refl, IfSome, arith, sym}
+use Rattle.std.proofs.Common.{refl, arith}
 use Rattle.std.proofs.lemmas.Result.{IfOk-from_err}
-use Rattle.sorted_taps.specs.inside.Decoding.{IsDecodedAt, IsReadOn, IsReadFault}
+use Rattle.sorted_taps.specs.inside.Decoding.{IsDecodedAt, IsReadOn}
 use Rattle.sorted_taps.proofs.Known.{known_map}
 use Rattle.sorted_taps.proofs.ReadingOn.{read_on, read_fault}
 use Rattle.sorted_taps.proofs.reading.read_batches.Goals as goal

@@ -1,6 +1,5 @@
-use Rattle.std.proofs.Common.{rules, ◌≡◌, ◌<◌, ◌≤◌, ◌+◌, ◌∷◌, length, drop, refl, ap, arith, IfSome}
+use Rattle.std.proofs.Common.{◌≡◌, ◌∷◌, drop, arith}
 use Rattle.std.proofs.lemmas.List.{length-drop}
-use Rattle.sorted_taps.specs.Merged.{BeginsNotBefore}
 use Rattle.sorted_taps.specs.Readers.{ahead, IsAdvanced, IsNextBefore}
 use Rattle.sorted_taps.specs.inside.Steps.{IsMovedOn}
 use Rattle.sorted_taps.proofs.Known.{known_map}

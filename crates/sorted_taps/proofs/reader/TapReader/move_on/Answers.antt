@@ -1,4 +1,4 @@
-use Rattle.std.proofs.Common.{rules, ◌≡◌, ◌<◌, ◌≤◌, ◌+◌, length, refl, arith, IfSome}
+use Rattle.std.proofs.Common.{◌+◌, refl, arith, IfSome}
 use Rattle.sorted_taps.specs.inside.Steps.{IsMovedOn, IsRefilled}
 use Rattle.sorted_taps.proofs.Known.{known_all, known_map, on_ok}
 use Rattle.sorted_taps.proofs.Moves.{next_moved, refill_moved}

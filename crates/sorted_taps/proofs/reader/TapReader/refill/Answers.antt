@@ -1,8 +1,7 @@
-use Rattle.std.proofs.Common.{rules, ◌≡◌, ◌⊎◌, ◌<◌, ◌≤◌, ◌+◌, [], length, refl, sym, subst, arith, inl, inr, IfSome}
+use Rattle.std.proofs.Common.{◌≡◌, ◌⊎◌, ◌<◌, ◌+◌, [], length, refl, subst, arith, inl, inr}
 use Rattle.std.proofs.lemmas.List.{nil_from_length}
 use Rattle.sorted_taps.specs.Reading.{AreTapsBetween}
 use Rattle.sorted_taps.specs.inside.Decoding.{IsReadOn}
-use Rattle.sorted_taps.specs.inside.Steps.{IsRefilled}
 use Rattle.sorted_taps.proofs.Known.{known_all, known_map2}
 use Rattle.sorted_taps.proofs.Between.{between_none, read_behind, end_behind}
 use Rattle.sorted_taps.proofs.reader.TapReader.refill.Goals.{then-used-eq0-via-then-used-eq0, then-used-eq0-via-else-used-eq0+then-not-is_empty}
