@@ -16,10 +16,9 @@ use std::cmp::Ordering;
 use tap_parts::compare;
 use tap_views::TapFields;
 
-/// A place in a file's taps: it stands at a tap, or at the file's end. The batches that it read
-/// last are in memory, 512 taps or one batch, if that has more; of the file it keeps nothing else.
-/// Each call that goes on gets the file, always the same one, and a window that readers of many
-/// files may share.
+/// A place in a file's taps: it stands at a tap, or at the file's end. It keeps the batches that it
+/// read last, some 600 taps at most, or one batch if that has more. Each call that goes on gets the
+/// file, always the same one, and a window that readers of many files may share.
 #[derive(Drop)]
 pub struct TapReader {
     /// The offset of the first byte that was not decoded.
