@@ -8,7 +8,7 @@ use Rattle.std.specs.List.Sorted.{IsSorted}
 use Rattle.std.specs.Ordering.{is_lt}
 use Rattle.tap_views.specs.Encoding.{fields_of}
 use Rattle.tap_views.specs.Faults.{IsFault}
-use Rattle.tap_views.specs.Files.{IsFile, taps_of_batches}
+use Rattle.tap_views.specs.Files.{IsFile, IsFileOf, taps_of_batches}
 use Rattle.tap_views.specs.declared.encoder.TapFields.{TapFields}
 use Rattle.tap_views.specs.declared.fault.LayoutFault.{LayoutFault}
 use Rattle.tap_views.proofs.Reading.{no_batch}
@@ -77,25 +77,29 @@ stands_on all from passed old new stands is =
       number = omega (arith, long, before, after);
     }
 
+-- taps up to the file's end are the file's
+pub whole_file : (all : List ℕ) (to : ℕ) (taps : List TapFields) → AreTapsBetween all 0 to taps
+    → drop to all ≡ [] → IsFileOf all taps
+whole_file all to taps between end =
+    let whole : all ≡ between.front ++ [] = between.cut ∙ ap (λ l. between.front ++ l) end in
+    record {
+      batches = between.batches ++ [];
+      is_file = subst (λ l. IsFile l (between.batches ++ []) []) (sym whole)
+          (batches_join between.front [] [] between.batches [] between.are (refl, no_bytes));
+      read = ap (λ l. map fields_of (taps_of_batches l)) (append-nil between.batches)
+          ∙ between.read;
+    }
+
 -- a reader that came to the end of its file has passed all taps
 pub sorted_at_end : (all : List ℕ) (passed : List TapFields) (reader : TapReader)
     → StandsIn all 0 passed reader → ahead reader ≡ [] → IsSortedFile all passed
-sorted_at_end all passed reader stands none =
-    let b = stands.between in
-    let e : drop reader.offset all ≡ [] = stands.end none in
-    let whole : all ≡ b.front ++ [] = b.cut ∙ ap (λ l. b.front ++ l) e in
-    let taps : passed ++ ahead reader ≡ passed =
-    ap (λ l. passed ++ l) none ∙ append-nil passed in
-    record {
-      read = record {
-        batches = b.batches ++ [];
-        is_file = subst (λ l. IsFile l (b.batches ++ []) []) (sym whole)
-            (batches_join b.front [] [] b.batches [] b.are (refl, no_bytes));
-        read = ap (λ l. map fields_of (taps_of_batches l)) (append-nil b.batches) ∙ b.read ∙ taps;
-      };
-      sorted = subst (λ l. IsSorted tap_cmp l)
-          (ap (λ l. passed ++ take 1 l) none ∙ append-nil passed) stands.sorted;
-    }
+sorted_at_end all passed reader stands none = record {
+  read = whole_file all reader.offset passed
+      (subst (λ l. AreTapsBetween all 0 reader.offset l)
+      (ap (λ l. passed ++ l) none ∙ append-nil passed) stands.between) (stands.end none);
+  sorted = subst (λ l. IsSorted tap_cmp l)
+      (ap (λ l. passed ++ take 1 l) none ∙ append-nil passed) stands.sorted;
+}
 
 -- taps in order, and then a layout fault
 damaged : (all : List ℕ) (at : ℕ) (taps : List TapFields) (fault : LayoutFault)

@@ -41,6 +41,17 @@ impl From<AllocError> for SortedFault {
     }
 }
 
+impl<T: Drop> From<AllocFailed<T>> for SortedFault {
+    ghost use Rattle.std.specs.Prelude.{◌≡◌};
+    ghost use Rattle.sorted_taps.specs.declared.fault.SortedFault.TheVariants.{NoMemory};
+
+    ghost from_gives = { λ _ fault. fault ≡ NoMemory };
+
+    fn from(_refused: AllocFailed<T>) -> SortedFault {
+        SortedFault::NoMemory
+    }
+}
+
 impl From<Unread> for SortedFault {
     ghost use Rattle.std.specs.Prelude.{◌≡◌};
     ghost use Rattle.sorted_taps.specs.declared.fault.SortedFault.TheVariants.{Unread};
