@@ -9,4 +9,6 @@ mod checking;
 #[cfg(test)]
 mod filling;
 #[cfg(test)]
+mod merging;
+#[cfg(test)]
 mod slow;
