@@ -16,7 +16,8 @@
 # make hostile  memory, reads, writes, threads and the seed refused one at a time, in every place
 # make bench    one table of speed and memory beside Rust without proofs, within ten minutes
 # make audit    the checkers of ledgers over the example, a generated week and 20 spoilt ledgers
-# make sql      the example's ledger in SQLite and in PostgreSQL, and an auditor's questions
+# make sql      the example's ledger in SQLite and in PostgreSQL, an auditor's questions, and journals
+#               for hledger
 # make viewer   the page that shows a ledger, in headless Chromium
 # make cluster  3 million taps over 8 parts: on this machine, on Slurm and on Dask, with a machine
 #               lost in the middle; then what may go wrong. docs/CLUSTER.md says more

@@ -2,7 +2,6 @@
 use Rattle.std.specs.Prelude.{ℕ, ◌≡◌, ◌↔◌, ◌<◌, List, [], ◌∷◌, ◌++◌, length, map, All, Some, slice_get}
 use Rattle.std.specs.List.{flat_map}
 use Rattle.std.proofs.Common.{refl, sym, ◌∙◌, ap, subst, arith, get_or, mod-lt}
-use Rattle.std.proofs.lemmas.List.Elements.{All-head, All-tail}
 use Rattle.std.proofs.lemmas.Option.{slice_get-get_or}
 use Rattle.account_rule.specs.TokenRules.{rules_of}
 use Rattle.account_rule.specs.Windows.{last_window}
@@ -19,14 +18,14 @@ use Rattle.shard_book.specs.Statement.{IsStatement}
 use Rattle.shard_book.specs.Sums.{sums}
 use Rattle.fare_table.specs.Token.{bytes_of}
 use Rattle.fare_service.specs.Outcomes.{OutcomeView}
-use Rattle.tap_views.specs.Files.{AreGoodTaps, AreGoodTapsOfEach, HasOneReading}
+use Rattle.tap_views.proofs.ReadingLemmas.{one_list}
+use Rattle.tap_views.specs.Files.{AreGoodTapsOfEach, HasOneReading}
 use Rattle.fare_service.specs.Plain.{IsNamed, IsPlain, IsUncutGathering, IsStatementOver, plain}
 use Rattle.fare_service.specs.Printed.{IsStatementOf}
 use Rattle.fare_texts.specs.StatementText.{IsStatementText}
 use Rattle.fare_service.proofs.HeadlineLemmas.{gathered_of}
 use Rattle.fare_service.proofs.PlainBooks.{Stands, own_plain}
 use Rattle.fare_service.proofs.PlainReplies.{plain_legal}
-use Rattle.fare_service.proofs.PlainRuns.{AllZip-append}
 use Rattle.fare_service.proofs.GatheredWork.{Given}
 
 pub one_plain : (fares : Fares) (files : List (List ℕ)) (history other : List Entry) → All HasOneReading files → IsPlain fares files history → IsPlain fares files other → history ≡ other

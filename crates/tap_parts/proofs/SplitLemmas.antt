@@ -10,13 +10,19 @@ use Rattle.tap_parts.specs.Parts.{of_part, part_of_token}
 use Rattle.tap_parts.proofs.Adding.{fields-append}
 use Rattle.tap_parts.proofs.Early.{Early, file_early, part_early}
 use Rattle.tap_views.proofs.ReadingLemmas.{each_more, taps_more}
-use Rattle.tap_views.specs.Files.{AreGoodTaps, AreGoodTapsOfEach, taps_of_batches}
+use Rattle.tap_views.specs.Files.{AreGoodTaps, taps_of_batches}
 use Rattle.tap_parts.specs.Split.{AreSplit, AreAllEarly}
 use Rattle.tap_parts.specs.Parts.{taps_of_uploads}
 use Rattle.tap_parts.specs.Parts.{part_by, parts_of}
-use Rattle.tap_parts.specs.Uploads.{IsUploadAdded, IsUploadAddedBy}
+use Rattle.tap_parts.specs.Uploads.{IsUploadAddedBy}
 use Rattle.tap_parts.specs.declared.part.EqualParts.{EqualParts}
 use Rattle.tap_parts.specs.declared.upload.UploadTaps.{UploadTaps}
+
+-- the upload's taps before its first layout fault were added, each to its part
+abbrev pub IsUploadAdded : List ℕ → List (List TapFields) → List (List TapFields) → UploadTaps
+    → Type 0
+IsUploadAdded upload old new end =
+    IsUploadAddedBy (λ token. part_of_token token (length old)) upload old new end
 
 abbrev AreFieldsEarly : List TapFields → Type 0
 AreFieldsEarly taps = AreEarly (λ (tap : TapFields). tap.moment) taps
