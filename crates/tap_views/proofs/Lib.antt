@@ -5,7 +5,7 @@ mod Finding
 mod Fronts
 mod Grammar
 mod Numbers
-mod Reading
+pub mod Reading
 pub mod ReadingLemmas
 mod RunLemmas
 mod Sorted

@@ -1,0 +1,51 @@
+-- Files whose bytes are known.
+use Rattle.std.proofs.Common.{◌≡◌, ℕ, zero, suc, ◌<◌, ◌≤◌, ◌⊎◌, List, [], ◌∷◌, ◌++◌, length, map, get_or}
+use Rattle.std.proofs.Common.{refl, sym, ap, subst, ◌∙◌, arith, inl, inr, Some, IfSome, length-append}
+use Rattle.std.specs.Prelude.{Option}
+use Rattle.std.proofs.Math.ListN.{get_or-append}
+use Rattle.std.proofs.Math.Seq.{get_or-append_seam}
+use Rattle.std.proofs.lemmas.Bool.{cases_lt}
+
+-- the bytes of one of the files
+pub known_at : {X : Type 0} (known : X → Option (List ℕ)) (files : List X) (all : List (List ℕ))
+    (k : ℕ) (file : X) → map known files ≡ map Some all → k < length files
+    → file ≡ get_or files k file → known file ≡ Some (get_or all k [])
+known_at known [] all k file are within is = absurd (omega (arith, within))
+known_at known (x ∷ xs) [] k file are within is =
+    absurd (let long = ap length are in omega (arith, long))
+known_at known (x ∷ xs) (a ∷ bs) zero file are within is =
+    let here : known x ≡ Some a = cc in ap known is ∙ here
+known_at known (x ∷ xs) (a ∷ bs) (suc k) file are within is =
+    let rest : map known xs ≡ map Some bs = cc in
+    known_at known xs bs k file rest (omega (arith, within)) is
+
+-- as many files as are known
+pub known_number : {X : Type 0} (known : X → Option (List ℕ)) (files : List X)
+    (all : List (List ℕ)) → map known files ≡ map Some all → length files ≡ length all
+known_number known [] [] are = refl
+known_number known [] (a ∷ bs) are = absurd (let long = ap length are in omega (arith, long))
+known_number known (x ∷ xs) [] are = absurd (let long = ap length are in omega (arith, long))
+known_number known (x ∷ xs) (a ∷ bs) are =
+    let rest : map known xs ≡ map Some bs = cc in
+    let same = known_number known xs bs rest in
+    omega (arith, same)
+
+-- what holds of known bytes
+pub if_known : {A : Type 0} (P : A → Type 0) (known : Option A) (a : A) → known ≡ Some a
+    → IfSome known P → P a
+if_known P known a is holds = subst (λ o. IfSome o P) is holds
+
+-- what holds at each index holds at one more
+pub each_more : {X : Type 0} (P : ℕ → X → Type 0) (xs : List X) (x : X)
+    → ((k : ℕ) (d : X) → k < length xs → P k (get_or xs k d)) → P (length xs) x
+    → (k : ℕ) (d : X) → k < length (xs ++ x ∷ []) → P k (get_or (xs ++ x ∷ []) k d)
+each_more P xs x before now k d within = by_case (cases_lt k (length xs))
+  where
+    by_case : (k < length xs) ⊎ (length xs ≤ k) → P k (get_or (xs ++ x ∷ []) k d)
+    by_case (inl less) =
+        subst (P k) (sym (get_or-append xs (x ∷ []) d k less)) (before k d less)
+    by_case (inr last) =
+        let long = length-append xs (x ∷ []) in
+        let same : length xs ≡ k = omega (arith, long, last, within) in
+        subst (λ n. P n (get_or (xs ++ x ∷ []) n d)) same
+        (subst (P (length xs)) (sym (get_or-append_seam xs x [] d)) now)

@@ -1,0 +1,75 @@
+-- Readers of a file's taps: where one stands, and how it goes on.
+use Rattle.std.specs.Prelude.{◌≡◌, ℕ, ◌+◌, ◌<◌, List, [], ◌∷◌, ◌++◌, length, take, drop, true}
+use Rattle.std.specs.List.Sorted.{IsSorted}
+use Rattle.std.specs.Ordering.{is_lt}
+use Rattle.tap_views.specs.Faults.{IsFault}
+use Rattle.tap_views.specs.declared.encoder.TapFields.{TapFields}
+use Rattle.tap_views.specs.declared.fault.LayoutFault.{LayoutFault}
+use Rattle.tap_parts.specs.Canonical.{tap_cmp}
+use Rattle.sorted_taps.specs.Merged.{BeginsNotBefore}
+use Rattle.sorted_taps.specs.Reading.{AreTapsBetween}
+use Rattle.sorted_taps.specs.declared.fault.SortedFault.{SortedFault}
+use Rattle.sorted_taps.specs.declared.fault.SortedFault.TheVariants.{Layout, OutOfOrder}
+use Rattle.sorted_taps.specs.declared.reader.TapReader.{TapReader}
+
+-- the taps in memory from the one on at which the reader stands
+abbrev pub ahead : TapReader → List TapFields
+ahead reader = drop reader.next reader.taps.items
+
+-- the reader began at an offset and has passed these taps: they and those in memory are the taps of
+-- the file up to the reader's offset, and none is before its predecessor up to the one at which it
+-- stands; it stands at none only at the file's end
+pub record StandsIn (all : List ℕ) (from : ℕ) (passed : List TapFields) (reader : TapReader)
+    : Type 0 where
+  pub between : AreTapsBetween all from reader.offset (passed ++ ahead reader)
+  pub sorted : IsSorted tap_cmp (passed ++ take 1 (ahead reader))
+  pub end : ahead reader ≡ [] → drop reader.offset all ≡ []
+  pub number : reader.passed ≡ length passed
+
+-- the reader has passed the tap at which it stood, which is in order with the next one; behind the
+-- taps in memory come those of the file
+pub record IsAdvanced (all : List ℕ) (old new : TapReader) : Type 0 where
+  pub tap : TapFields
+  pub behind : List TapFields
+  pub read : List TapFields
+  pub stood : ahead old ≡ tap ∷ behind
+  pub between : AreTapsBetween all old.offset new.offset read
+  pub goes_on : ahead new ≡ behind ++ read
+  pub order : BeginsNotBefore tap (ahead new)
+  pub end : ahead new ≡ [] → drop new.offset all ≡ []
+  pub number : new.passed ≡ old.passed + 1
+
+-- the file goes on behind the tap at which the reader stood with one that is before it, and which
+-- has this number
+pub record IsNextBefore (all : List ℕ) (old : TapReader) (number : ℕ) : Type 0 where
+  pub to : ℕ
+  pub tap : TapFields
+  pub behind : List TapFields
+  pub read : List TapFields
+  pub next : TapFields
+  pub later : List TapFields
+  pub stood : ahead old ≡ tap ∷ behind
+  pub between : AreTapsBetween all old.offset to read
+  pub goes_on : behind ++ read ≡ next ∷ later
+  pub before : is_lt (tap_cmp next tap) ≡ true
+  pub counted : number ≡ old.passed + 1
+
+-- behind the offset are batches of no taps, and then bytes with this layout fault
+pub record IsDamagedBehind (all : List ℕ) (from at : ℕ) (fault : LayoutFault) : Type 0 where
+  pub between : AreTapsBetween all from at []
+  pub some : 0 < length (drop at all)
+  pub is_fault : IsFault (drop at all) fault
+
+-- why a reader does not come to a tap behind this offset
+abbrev pub IsBehindFault : List ℕ → ℕ → SortedFault → Type 0
+IsBehindFault all from (OutOfOrder tap) = ⊥
+IsBehindFault all from (Layout at fault) = IsDamagedBehind all from at fault
+IsBehindFault all from fault = Unit {0}
+
+-- why a reader does not go on: the next tap is before the one at which it stands, or it stands at
+-- the last tap in front of a layout fault
+abbrev pub IsStepFault : List ℕ → TapReader → SortedFault → Type 0
+IsStepFault all old (OutOfOrder number) = IsNextBefore all old number
+IsStepFault all old (Layout at fault) =
+    (length (ahead old) ≡ 1) × IsDamagedBehind all old.offset at fault
+IsStepFault all old fault = Unit {0}

@@ -1,0 +1,4 @@
+-- What only private functions cite. Who reads the contracts of public calls need not read it.
+pub mod Decoding
+pub mod Least
+pub mod Steps

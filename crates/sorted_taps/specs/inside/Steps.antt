@@ -1,0 +1,28 @@
+-- Steps of a reader: what private functions alone cite.
+use Rattle.std.specs.Prelude.{◌≡◌, ℕ, List, [], ◌∷◌, ◌++◌, drop, true}
+use Rattle.std.specs.Ordering.{is_lt}
+use Rattle.tap_views.specs.declared.encoder.TapFields.{TapFields}
+use Rattle.tap_parts.specs.Canonical.{tap_cmp}
+use Rattle.sorted_taps.specs.Readers.{ahead}
+use Rattle.sorted_taps.specs.Reading.{AreTapsBetween}
+use Rattle.sorted_taps.specs.declared.reader.TapReader.{TapReader}
+
+-- the list has a first tap, which is before this tap
+abbrev pub BeginsBefore : TapFields → List TapFields → Type 0
+BeginsBefore tap [] = ⊥
+BeginsBefore tap (head ∷ rest) = is_lt (tap_cmp head tap) ≡ true
+
+-- the reader's taps are those of the file from its old offset on; it has none only at the file's end
+pub record IsRefilled (all : List ℕ) (old new : TapReader) : Type 0 where
+  pub between : AreTapsBetween all old.offset new.offset new.taps.items
+  pub first : new.next ≡ 0
+  pub end : new.taps.items ≡ [] → drop new.offset all ≡ []
+  pub number : new.passed ≡ old.passed
+
+-- the reader goes on behind the tap at which it stood, with taps of the file from its old offset on
+pub record IsMovedOn (all : List ℕ) (old new : TapReader) : Type 0 where
+  pub read : List TapFields
+  pub between : AreTapsBetween all old.offset new.offset read
+  pub goes_on : ahead new ≡ drop 1 (ahead old) ++ read
+  pub end : ahead new ≡ [] → drop new.offset all ≡ []
+  pub number : new.passed ≡ old.passed

@@ -1,0 +1,64 @@
+//! Why a file is not read as taps in canonical order.
+
+use placed_files::Unread;
+use std::alloc::{AllocError, AllocFailed};
+use tap_views::LayoutFault;
+use thiserror::Error;
+
+/// Why a file is not read as taps in canonical order.
+#[derive(Clone, Copy, Debug, PartialEq, Eq, Error)]
+pub enum SortedFault {
+    /// A tap is before its predecessor in canonical order.
+    #[error("tap {tap} is out of order")]
+    OutOfOrder {
+        /// The first such tap, counted from 0 where the reader began.
+        tap: u64,
+    },
+    /// The bytes begin with no batch.
+    #[error("{fault} at byte {offset}")]
+    Layout {
+        /// The offset of these bytes in the file.
+        offset: u64,
+        /// The layout fault.
+        fault: LayoutFault,
+    },
+    /// A read failed.
+    #[error("the file cannot be read")]
+    Unread,
+    /// Memory was refused.
+    #[error("out of memory")]
+    NoMemory,
+}
+
+impl From<AllocError> for SortedFault {
+    ghost use Rattle.std.specs.Prelude.{◌≡◌};
+    ghost use Rattle.sorted_taps.specs.declared.fault.SortedFault.TheVariants.{NoMemory};
+
+    ghost from_gives = { λ _ fault. fault ≡ NoMemory };
+
+    fn from(_refused: AllocError) -> SortedFault {
+        SortedFault::NoMemory
+    }
+}
+
+impl<T: Drop> From<AllocFailed<T>> for SortedFault {
+    ghost use Rattle.std.specs.Prelude.{◌≡◌};
+    ghost use Rattle.sorted_taps.specs.declared.fault.SortedFault.TheVariants.{NoMemory};
+
+    ghost from_gives = { λ _ fault. fault ≡ NoMemory };
+
+    fn from(_refused: AllocFailed<T>) -> SortedFault {
+        SortedFault::NoMemory
+    }
+}
+
+impl From<Unread> for SortedFault {
+    ghost use Rattle.std.specs.Prelude.{◌≡◌};
+    ghost use Rattle.sorted_taps.specs.declared.fault.SortedFault.TheVariants.{Unread};
+
+    ghost from_gives = { λ _ fault. fault ≡ Unread };
+
+    fn from(_failed: Unread) -> SortedFault {
+        SortedFault::Unread
+    }
+}

@@ -1,0 +1,142 @@
+//! A reader of a file's taps.
+
+ghost use Rattle.std.specs.Prelude.{◌≡◌, ◌<◌, ◌≤◌, ◌∷◌, [], List, length, IfOk, IfErr, OnOk};
+ghost use Rattle.std.specs.Prelude.{IfSome, MatchOption, true, false};
+ghost use Rattle.tap_views.specs.declared.encoder.TapFields.{TapFields};
+ghost use Rattle.sorted_taps.specs.Reading.{window_bytes};
+ghost use Rattle.sorted_taps.specs.Merged.{BeginsNotBefore};
+ghost use Rattle.sorted_taps.specs.Readers.{ahead, StandsIn, IsAdvanced, IsBehindFault, IsStepFault};
+ghost use Rattle.sorted_taps.specs.inside.Steps.{BeginsBefore, IsMovedOn, IsRefilled};
+
+use crate::fault::SortedFault;
+use crate::reading::read_batches;
+use placed_files::Placed;
+use std::alloc::Global;
+use std::cmp::Ordering;
+use tap_parts::compare;
+use tap_views::TapFields;
+
+/// A place in a file's taps: it stands at a tap, or at the file's end. It keeps the batches that it
+/// read last, some 600 taps at most, or one batch if that has more. Each call that goes on gets the
+/// file, always the same one, and a window that readers of many files may share.
+#[derive(Drop)]
+pub struct TapReader {
+    /// The offset of the first byte that was not decoded.
+    offset: u64,
+    /// Taps in front of that byte.
+    taps: Vec<TapFields>,
+    /// The index among them of the tap at which it stands: their number at the file's end.
+    next: usize,
+    /// How many taps it has passed since it began.
+    passed: u64,
+}
+
+impl TapReader {
+    /// At the first tap of the batches that begin at this offset, or at the file's end if there is
+    /// none. The window has `WINDOW_BYTES` at least.
+    pub fn at<F: Placed>(
+        alloc: Global,
+        file: &F,
+        offset: u64,
+        window: &mut [u8],
+    ) -> Result<Self, SortedFault>
+        requires { window_bytes ≤ length window.old }
+        ensures stands { IfOk result (λ reader. IfSome (F.bytes file.now)
+            (λ all. StandsIn all offset [] reader)) }
+        ensures fault { IfErr result (λ fault. IfSome (F.bytes file.now)
+            (λ all. IsBehindFault all offset fault)) }
+    {
+        let mut reader = TapReader {
+            offset,
+            taps: Vec::new(alloc),
+            next: 0,
+            passed: 0,
+        };
+        reader.refill(file, window)?;
+        Ok(reader)
+    }
+
+    /// The tap at which it stands, or none at the file's end.
+    pub fn head(&self) -> Option<&TapFields>
+        ensures { MatchOption result (ahead self.now ≡ [])
+            (λ tap. (rest : List TapFields) × (ahead self.now ≡ tap.now ∷ rest)) }
+    {
+        self.taps.get(self.next)
+    }
+
+    /// How many taps it has passed since it began.
+    pub fn passed(&self) -> u64
+        ensures { result ≡ self.now.passed }
+    {
+        self.passed
+    }
+
+    /// Goes on to the next tap, or to the file's end. If that tap is before the one at which it
+    /// stood, or the file goes on with no batch, this is the fault. After a fault the reader is of
+    /// no use. The window has `WINDOW_BYTES` at least.
+    pub fn advance<F: Placed>(&mut self, file: &F, window: &mut [u8]) -> Result<(), SortedFault>
+        requires window { window_bytes ≤ length window.old }
+        requires head { 0 < length (ahead self.old) }
+        ensures kept { OnOk result (IfSome (F.bytes file.now)
+            (λ all. IsAdvanced all self.old self.new)) }
+        ensures fault { IfErr result (λ fault. IfSome (F.bytes file.now)
+            (λ all. IsStepFault all self.old fault)) }
+    {
+        let last = self.taps[self.next];
+        let Some(passed) = self.passed.checked_add(1) else {
+            return Err(SortedFault::Unread);
+        };
+        self.move_on(file, window)?;
+        if self.is_before(&last) {
+            return Err(SortedFault::OutOfOrder { tap: passed });
+        }
+        self.passed = passed;
+        Ok(())
+    }
+
+    /// Goes on to the next tap, in whatever order, or to the file's end.
+    fn move_on<F: Placed>(&mut self, file: &F, window: &mut [u8]) -> Result<(), SortedFault>
+        requires window { window_bytes ≤ length window.old }
+        requires head { 0 < length (ahead self.old) }
+        ensures kept { OnOk result (IfSome (F.bytes file.now)
+            (λ all. IsMovedOn all self.old self.new)) }
+        ensures fault { IfErr result (λ fault. IfSome (F.bytes file.now)
+            (λ all. (length (ahead self.old) ≡ 1) × IsBehindFault all self.old.offset fault)) }
+    {
+        self.next += 1;
+        if self.next < self.taps.len() {
+            return Ok(());
+        }
+        self.refill(file, window)
+    }
+
+    /// Whether the tap at which it stands, if there is one, is before this tap.
+    fn is_before(&self, last: &TapFields) -> bool
+        ensures no { result ≡ false → BeginsNotBefore last.now (ahead self.now) }
+        ensures yes { result ≡ true → BeginsBefore last.now (ahead self.now) }
+    {
+        match self.head() {
+            Some(tap) => compare(tap, last) == Ordering::Less,
+            None => false,
+        }
+    }
+
+    /// Reads on behind the taps in memory, none of which is wanted any more.
+    fn refill<F: Placed>(&mut self, file: &F, window: &mut [u8]) -> Result<(), SortedFault>
+        requires { window_bytes ≤ length window.old }
+        ensures kept { OnOk result (IfSome (F.bytes file.now)
+            (λ all. IsRefilled all self.old self.new)) }
+        ensures fault { IfErr result (λ fault. IfSome (F.bytes file.now)
+            (λ all. IsBehindFault all self.old.offset fault)) }
+    {
+        self.next = 0;
+        for _ in 0..u64::MAX {
+            let used = read_batches(file, window, self.offset, &mut self.taps)?;
+            self.offset += used;
+            if used == 0 || !self.taps.is_empty() {
+                return Ok(());
+            }
+        }
+        Err(SortedFault::Unread)
+    }
+}
