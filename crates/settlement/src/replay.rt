@@ -30,6 +30,18 @@ fn seen(table: &FareTable, tap: &TapFields) -> TapIn
     }
 }
 
+/// The bytes of the token, as they stand in the tap that names it: no bytes are put together.
+#[inline(always)]
+fn named_bytes<'a>(token: Token, tap: &'a TapFields) -> &'a [u8]
+    requires { token_of_tap tap.now ≡ token }
+    ensures bytes { result.now ≡ bytes_of token }
+    ensures long { length result.now ≡ 16 }
+{
+    // proof: these bytes name a token
+    let _named = Token::of(&tap.token);
+    &tap.token
+}
+
 /// A token whose taps are posted, with its account after those posted.
 #[derive(Clone, Copy)]
 pub struct Replay {
@@ -66,9 +78,9 @@ impl Replay {
             → HasPosted table.now self.new (earlier ++ result ∷ []) }
         ensures token { self.new.token ≡ self.old.token }
     {
-        let bytes = self.token.bytes();
+        let bytes = named_bytes(self.token, tap);
         let seen = seen(table, tap);
-        let reply = self.account.step(table, clock, &bytes, seen);
+        let reply = self.account.step(table, clock, bytes, seen);
         Entry {
             token: self.token,
             validator: tap.validator,

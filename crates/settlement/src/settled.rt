@@ -28,9 +28,9 @@ use tap_parts::{TokenRanges, arranged};
 use tap_views::laws::one_reading_each;
 use tap_views::{TapFields, push_sample};
 
-/// How many bytes of uploads go to one part: some 20,000 taps, so that the sort of a part stays in
-/// a processor's near cache.
-const BYTES_OF_PART: usize = 560_000;
+/// How many bytes of uploads go to one part: some 40,000 taps. More parts make the split slower,
+/// larger ones the order.
+const BYTES_OF_PART: usize = 1_120_000;
 
 /// The most parts, since a service takes no more uploads.
 const MAX_PARTS: usize = 65_535;

@@ -17,7 +17,7 @@ use Rattle.settlement.proofs.replay.Replay.next.Goals as goal
 pub step-reply-requires-clause-stands : goal.step-reply-requires-clause-stands
 unfolding StandsForSome HasPosted
 step-reply-requires-clause-stands c =
-    rw c.bytes-bytes.ensures
+    rw c.named_bytes-bytes.ensures.bytes
     (taps_of c.args.table.now c.args.self.now.token c.requires.posted.0, c.requires.posted.1)
 
 pub returns-clause-entry : goal.returns-clause-entry
@@ -29,7 +29,7 @@ returns-clause-entry c = λ earlier posted.
     let of = rules_of fares (bytes_of token) in
     let taps = taps_of fares token earlier in
     let replied : c.step-reply.result ≡ reply of taps (tap_of fares tap) =
-    (rw c.bytes-bytes.ensures at c.step-reply.ensures.reply) taps posted
+    (rw c.named_bytes-bytes.ensures.bytes at c.step-reply.ensures.reply) taps posted
     ∙ ap (λ (t : TapIn). reply of taps t) c.seen-seen.ensures.tap in
     let named : Entry = record {
       token = token;
@@ -60,4 +60,4 @@ returns-clause-posted c = λ earlier posted.
     ∙ ap (λ b. cond b (taps ++ tap_of fares (unposted c.args.tap.now) ∷ []) taps)
     (token_eq-refl token)) in
     subst (λ (ts : List TapIn). Stands of c.step-reply.new.self ts) longer
-    ((rw c.bytes-bytes.ensures at c.step-reply.ensures.stands) taps posted)
+    ((rw c.named_bytes-bytes.ensures.bytes at c.step-reply.ensures.stands) taps posted)
