@@ -292,7 +292,7 @@ decided false true c place fare left = refl
 decided false false true place fare left = refl
 decided false false false place fare left = refl
 
-charged-charge : (terms : Terms) (place : ℕ)
+pub charged-charge : (terms : Terms) (place : ℕ)
     → charge terms place ≡ charged_by (charge_by terms place)
 unfolding charge charge_by
 charged-charge terms place =

@@ -20,8 +20,9 @@ use Rattle.shard_book.proofs.RisingLemmas.{rising-only}
 use Rattle.shard_book.proofs.TokenLemmas.{token_cmp-total, token_cmp-ties}
 use Rattle.reason_texts.specs.Ledger.{AreLedgerLinesAfter, AreLedgerLines, IsLedgerLine, reason_after}
 use Rattle.ledger_texts.specs.Ledger.{AreLinesOfEach}
-use Rattle.ledger_texts.specs.inside.Lines.{AreLinesAlong, AreUpTo, IsByToken, IsLineAfter, IsUpTo}
-use Rattle.ledger_texts.specs.inside.Lines.{NoFall, NoFallFrom}
+use Rattle.ledger_texts.specs.Lines.{AreLinesAlong, AreUpTo, IsLineAfter, IsUpTo}
+use Rattle.ledger_texts.specs.inside.ByToken.{IsByToken}
+use Rattle.ledger_texts.specs.Lines.{NoFall, NoFallFrom}
 use Rattle.ledger_texts.proofs.Rising.{none_above, none_below, own_both, own_here, own_none}
 use Rattle.ledger_texts.proofs.Rising.{own_not, own_push, up_apart, up_itself, up_push, up_weaker}
 

@@ -3,6 +3,7 @@ pub mod ByToken
 pub mod Sorting
 pub mod Writing
 pub mod Whole
+pub mod Along
 pub mod Collecting
 pub mod Closing
 pub mod ExplainedLines

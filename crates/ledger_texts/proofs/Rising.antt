@@ -16,7 +16,7 @@ use Rattle.shard_book.specs.declared.entry.Entry.{Entry}
 use Rattle.fare_table.specs.declared.token.Token.{Token}
 use Rattle.shard_book.proofs.Histories.{same_token, token_eq-refl}
 use Rattle.shard_book.proofs.TokenLemmas.{token_cmp-total, token_cmp-ties}
-use Rattle.ledger_texts.specs.inside.Lines.{AreUpTo, IsUpTo, NoFallFrom}
+use Rattle.ledger_texts.specs.Lines.{AreUpTo, IsUpTo, NoFallFrom}
 
 -- ---- the order of tokens
 ranked : IsStrictWeakOrder (λ (a b : Token). is_lt (token_cmp a b))

@@ -10,7 +10,8 @@ use Rattle.shard_book.specs.declared.entry.Entry.{Entry}
 use Rattle.fare_table.specs.declared.token.Token.{Token}
 use Rattle.reason_texts.specs.Ledger.{AreLedgerLines, head_text}
 use Rattle.ledger_texts.specs.Ledger.{AreLinesOfEach, IsLedgerOfBooks, IsLedgerOver}
-use Rattle.ledger_texts.specs.inside.Lines.{AreLinesAlong, IsByToken}
+use Rattle.ledger_texts.specs.Lines.{AreLinesAlong}
+use Rattle.ledger_texts.specs.inside.ByToken.{IsByToken}
 use Rattle.ledger_texts.proofs.ByToken.{every_token}
 
 pub ledger_of_all : (books : List Book) (first : Book) (fares : Fares) (list : List Entry)

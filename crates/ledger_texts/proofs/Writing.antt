@@ -11,7 +11,7 @@ use Rattle.shard_book.specs.declared.entry.Entry.{Entry}
 use Rattle.fare_table.specs.declared.token.Token.{Token}
 use Rattle.shard_book.proofs.Histories.{token_eq-refl}
 use Rattle.reason_texts.specs.Tellers.{HasTold}
-use Rattle.ledger_texts.specs.inside.Lines.{AreLinesAlong, AreUpTo, HasCome, IsLineAfter, IsUpTo, NoFall, NoFallFrom}
+use Rattle.ledger_texts.specs.Lines.{AreLinesAlong, AreUpTo, HasCome, IsLineAfter, IsUpTo, NoFall, NoFallFrom}
 use Rattle.ledger_texts.specs.inside.Spots.{entry_at_spot, entries_at_spots}
 use Rattle.ledger_texts.specs.declared.spot.Spot.{Spot}
 use Rattle.shard_book.specs.Book.{Book}
@@ -47,6 +47,23 @@ come_next fares old new earlier entry same token come told =
     }
 
 -- ---- the lines
+-- the lines of entries, and of others behind them
+pub along_append : (fares : Fares) (earlier xs ys : List Entry) (text more : List ℕ)
+    → AreLinesAlong fares earlier xs text → AreLinesAlong fares (earlier ++ xs) ys more
+    → AreLinesAlong fares earlier (xs ++ ys) (text ++ more)
+along_append fares earlier [] ys text more empty along =
+    subst (λ (t : List ℕ). AreLinesAlong fares earlier ys (t ++ more)) (sym empty)
+    (subst (λ (es : List Entry). AreLinesAlong fares es ys more) (append-nil earlier) along)
+along_append fares earlier (x ∷ xs) ys text more (line, rest, is, front, shown) along = (
+  line,
+  rest ++ more,
+  is,
+  along_append fares (earlier ++ x ∷ []) xs ys rest more front
+      (subst (λ (es : List Entry). AreLinesAlong fares es ys more)
+      (sym (append_assoc earlier (x ∷ []) xs)) along),
+  ap (λ (t : List ℕ). t ++ more) shown ∙ append_assoc line rest more,
+)
+
 pub along_push : (fares : Fares) (earlier entries : List Entry) (entry : Entry) (text line : List ℕ) → AreLinesAlong fares earlier entries text
     → IsLineAfter fares (earlier ++ entries) entry line → AreLinesAlong fares earlier (entries ++ entry ∷ []) (text ++ line)
 along_push fares earlier [] entry text line empty is = (

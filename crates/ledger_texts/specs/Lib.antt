@@ -1,3 +1,4 @@
 pub mod Explained
 pub mod Ledger
+pub mod Lines
 pub mod inside

@@ -4,7 +4,7 @@ ghost use Rattle.std.specs.Prelude.{◌≡◌, ◌++◌, IfOk, OnOk, Some};
 ghost use Rattle.std.specs.Prelude.{slice_get};
 ghost use Rattle.shard_book.specs.Entry.{own};
 ghost use Rattle.shard_book.specs.SumsByKey.{all_entries};
-ghost use Rattle.ledger_texts.specs.inside.Lines.{IsByToken};
+ghost use Rattle.ledger_texts.specs.inside.ByToken.{IsByToken};
 ghost use Rattle.ledger_texts.specs.inside.Spots.{entries_at_spots};
 
 use crate::spot::Spot;

@@ -1,6 +1,6 @@
 //! The ledger of books.
 
-ghost use Rattle.std.specs.Prelude.{◌≡◌, ◌<◌, ℕ, List, ◌++◌, IfErr, IfOk, OnOk};
+ghost use Rattle.std.specs.Prelude.{◌≡◌, ◌^◌, ◌<◌, ℕ, List, ◌++◌, IfErr, IfOk, OnOk};
 ghost use Rattle.std.specs.Prelude.{None, Some, length};
 ghost use Rattle.std.specs.Prelude.{slice_get, string_bytes};
 ghost use Rattle.std.specs.Io.KnownBytes.{Appends};
@@ -11,7 +11,7 @@ ghost use Rattle.shard_book.specs.SumsByKey.{all_entries};
 ghost use Rattle.shard_book.specs.declared.entry.Entry.{Entry};
 ghost use Rattle.reason_texts.specs.Ledger.{head_text};
 ghost use Rattle.ledger_texts.specs.Ledger.{IsLedgerOfBooks, IsLedgerOver};
-ghost use Rattle.ledger_texts.specs.inside.Lines.{IsByToken};
+ghost use Rattle.ledger_texts.specs.inside.ByToken.{IsByToken};
 ghost use Rattle.ledger_texts.specs.inside.Spots.{entries_at_spots};
 
 use crate::entries::{by_token, own_of};
@@ -25,7 +25,7 @@ use std::alloc::Global;
 use std::io::Write;
 
 /// More bytes than a line has.
-const LINE_ROOM_BYTES: usize = 1_024;
+pub const LINE_ROOM_BYTES: usize = 1_024;
 
 /// The fare table of the first book, which is that of all books of a service.
 pub(crate) fn table_of(books: &[ShardBook]) -> &FareTable
@@ -33,6 +33,17 @@ pub(crate) fn table_of(books: &[ShardBook]) -> &FareTable
     ensures { (first : Book) × (slice_get books.now 0 ≡ Some first) × (result.now ≡ first.table) }
 {
     books[0].table()
+}
+
+/// The head line, in a text with room for a piece and so many bytes more.
+pub fn head_with_room(alloc: Global, more: usize) -> Result<String, NoMemory>
+    requires { more < 2 ^ 32 }
+    ensures { IfOk result (λ text. string_bytes text ≡ head_text) }
+{
+    let mut text = String::new(alloc);
+    text.reserve(PIECE_BYTES + more)?;
+    text.push_str(head_line())?;
+    Ok(text)
 }
 
 /// The head line in a text with room for a piece and a line more, and the spots of the entries of
@@ -43,9 +54,7 @@ fn begun(alloc: Global, books: &[ShardBook]) -> Result<(String, Vec<Spot>), NoMe
         (λ begun. IsByToken (all_entries books.now) (entries_at_spots books.now begun.1.items)) }
 {
     let spots = by_token(alloc, books)?;
-    let mut text = String::new(alloc);
-    text.reserve(PIECE_BYTES + LINE_ROOM_BYTES)?;
-    text.push_str(head_line())?;
+    let text = head_with_room(alloc, LINE_ROOM_BYTES)?;
     Ok((text, spots))
 }
 

@@ -9,4 +9,5 @@ mod lines;
 mod spot;
 
 pub use explained::{write_explained, write_explained_of};
-pub use ledger::{write_ledger, write_ledger_of};
+pub use ledger::{LINE_ROOM_BYTES, head_with_room, write_ledger, write_ledger_of};
+pub use lines::{PIECE_BYTES, go_on_to, pass_on, pass_piece};

@@ -3,8 +3,8 @@
 ghost use Rattle.std.specs.Prelude.{◌≡◌, ◌≤◌, ℕ, List, [], ◌++◌, IfErr, OnOk, string_bytes};
 ghost use Rattle.std.specs.Io.KnownBytes.{Appends, Keeps, append_known};
 ghost use Rattle.fare_texts.specs.declared.print_fault.PrintFault.TheVariants.{Write as ForWrite};
-ghost use Rattle.ledger_texts.specs.inside.Lines.{AreLinesAlong, HasCome, IsUpTo, NoFall};
-ghost use Rattle.ledger_texts.specs.inside.Lines.{NoFallFrom};
+ghost use Rattle.ledger_texts.specs.Lines.{AreLinesAlong, HasCome, IsUpTo, NoFall};
+ghost use Rattle.ledger_texts.specs.Lines.{NoFallFrom};
 ghost use Rattle.ledger_texts.specs.inside.Spots.{entries_at_spots};
 ghost use Rattle.fare_table.specs.Fares.{Fares};
 ghost use Rattle.fare_table.specs.declared.token.Token.{Token};
@@ -19,10 +19,10 @@ use std::io::Write;
 
 /// How many bytes wait at least before they are written out: so many that a write is little beside
 /// them.
-pub(crate) const PIECE_BYTES: usize = 65_536;
+pub const PIECE_BYTES: usize = 65_536;
 
 /// Writes out what waits in the text, whose room stays.
-pub(crate) fn pass_on<W: Write>(text: &mut String, out: &mut W) -> Result<(), PrintFault>
+pub fn pass_on<W: Write>(text: &mut String, out: &mut W) -> Result<(), PrintFault>
     ensures kept { OnOk result (Keeps (append_known (W.contents out.old) (string_bytes text.old))
         (append_known (W.contents out.new) (string_bytes text.new))) }
     ensures empty { OnOk result (string_bytes text.new ≡ []) }
@@ -33,8 +33,8 @@ pub(crate) fn pass_on<W: Write>(text: &mut String, out: &mut W) -> Result<(), Pr
     Ok(())
 }
 
-/// Writes out what waits in the text, where it is a piece.
-fn pass_piece<W: Write>(text: &mut String, out: &mut W) -> Result<(), PrintFault>
+/// Writes out what waits in the text, where it is a piece: `PIECE_BYTES` or more.
+pub fn pass_piece<W: Write>(text: &mut String, out: &mut W) -> Result<(), PrintFault>
     ensures kept { OnOk result (Keeps (append_known (W.contents out.old) (string_bytes text.old))
         (append_known (W.contents out.new) (string_bytes text.new))) }
     ensures fault { IfErr result (λ fault. fault ≡ ForWrite) }
@@ -45,8 +45,10 @@ fn pass_piece<W: Write>(text: &mut String, out: &mut W) -> Result<(), PrintFault
     pass_on(text, out)
 }
 
-/// Goes on with the token of the next entry, which is not below its own.
-fn go_on_to(teller: &mut Teller, token: Token)
+/// Goes on with the token of the next entry, which is not below the teller's own: another token
+/// begins afresh.
+#[inline]
+pub fn go_on_to(teller: &mut Teller, token: Token)
     ensures come { (fares : Fares) (earlier : List Entry) → HasCome fares teller.old earlier
         → IsUpTo teller.old.token token → HasCome fares teller.new earlier }
     ensures token { teller.new.token ≡ token }

@@ -10,13 +10,14 @@ ghost use Rattle.fare_table.specs.Token.{bytes_of};
 ghost use Rattle.shard_book.specs.Entry.{tap_of};
 ghost use Rattle.shard_book.specs.declared.entry.Entry.{Entry};
 ghost use Rattle.reason_texts.specs.Ledger.{IsLedgerLineAfter, reason_after};
-ghost use Rattle.reason_texts.specs.Tellers.{HasTold};
+ghost use Rattle.reason_texts.specs.Tellers.{HasTold, next_entry};
 ghost use Rattle.reason_texts.specs.ReasonWords.{HasModeOf};
 
 use crate::line::write_line;
 use account_rule::{Account, Reason, TapIn, WindowView};
 use fare_table::{Clock, FareTable, NoMemory};
 use shard_book::{Entry, Token};
+use std::alloc::AllocError;
 use tap_views::MOMENT_LIMIT_MS;
 
 /// The tap of an entry, as the account rule sees it. It takes no memory, and refuses an entry alone
@@ -98,10 +99,84 @@ impl Teller {
     {
         let bytes = self.token.bytes();
         let tap = tap_of(table, entry)?;
-        let reason = self.account.explain(table, clock, &bytes, tap);
-        self.account.step(table, clock, &bytes, tap);
+        let reason = self.account.explain_step(table, clock, &bytes, tap);
         self.number += 1;
         Ok(reason)
+    }
+
+    /// Posts the token's next tap, at the validator and the moment, and returns its entry with the
+    /// account rule's reason for it after the entries told before. It takes no memory.
+    pub fn post_next(
+        &mut self,
+        table: &FareTable,
+        clock: &Clock,
+        validator: u32,
+        moment: u64,
+    ) -> (Entry, Reason)
+        requires clock { clock.now ≡ table.now.zone }
+        requires early { moment < 4_102_444_800_000 }
+        requires told { (earlier : List Entry) × HasTold table.now self.old earlier }
+        requires room { self.old.number + 1 < 2 ^ 64 }
+
+        // After all entries that it has told.
+        ensures entry { (earlier : List Entry) → HasTold table.now self.old earlier
+            → result.0 ≡ next_entry table.now self.old.token earlier validator moment }
+        ensures reason { (earlier : List Entry) → HasTold table.now self.old earlier
+            → result.1 ≡ reason_after table.now self.old.token earlier result.0 }
+        ensures told { (earlier : List Entry) → HasTold table.now self.old earlier
+            → HasTold table.now self.new (earlier ++ result.0 ∷ []) }
+        ensures token { self.new.token ≡ self.old.token }
+        ensures number { self.new.number ≡ self.old.number + 1 }
+    {
+        // proof: each reply is the one that follows from the reason
+        account_rule::laws::replies_follow_reasons();
+        let bytes = self.token.bytes();
+        let tap = TapIn {
+            moment,
+            mode: table.mode_of(validator),
+        };
+        let reason = self.account.explain_step(table, clock, &bytes, tap);
+        self.number += 1;
+        let reply = reason.reply();
+        let entry = Entry {
+            token: self.token,
+            validator,
+            moment,
+            answer: reply.answer,
+            cents: reply.cents,
+        };
+        (entry, reason)
+    }
+
+    /// Posts the token's next tap, at the validator and the moment, and appends its line. The text
+    /// alone grows. If memory is refused, the tap is posted, but its line is not whole.
+    pub fn write_posted(
+        &mut self,
+        text: &mut String,
+        table: &FareTable,
+        clock: &Clock,
+        validator: u32,
+        moment: u64,
+    ) -> Result<(), AllocError>
+        requires clock { clock.now ≡ table.now.zone }
+        requires early { moment < 4_102_444_800_000 }
+        requires told { (earlier : List Entry) × HasTold table.now self.old earlier }
+        requires room { self.old.number + 1 < 2 ^ 64 }
+
+        // After all entries that it has told.
+        ensures line { OnOk result ((earlier : List Entry) → HasTold table.now self.old earlier
+            → (line : List ℕ) × IsLedgerLineAfter table.now self.old.token earlier
+                (next_entry table.now self.old.token earlier validator moment) line
+            × (string_bytes text.new ≡ string_bytes text.old ++ line)) }
+        ensures told { (earlier : List Entry) → HasTold table.now self.old earlier
+            → HasTold table.now self.new
+                (earlier ++ next_entry table.now self.old.token earlier validator moment ∷ []) }
+        ensures token { self.new.token ≡ self.old.token }
+        ensures number { self.new.number ≡ self.old.number + 1 }
+    {
+        let posted = self.post_next(table, clock, validator, moment);
+        write_line(text, table, self.token, self.number, &posted.0, &posted.1)?;
+        Ok(())
     }
 
     /// Takes the token's next entry, and appends its line. The text alone grows. It refuses an

@@ -1,1 +1,4 @@
+pub mod Joined
 pub mod OwnEntries
+pub mod Rows
+pub mod Tellings

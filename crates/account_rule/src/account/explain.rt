@@ -1,11 +1,12 @@
 //! Why an account answers a tap as it does.
 
-ghost use Rattle.std.specs.Prelude.{◌≡◌, ◌<◌, List, length, option_map, Some};
+ghost use Rattle.std.specs.Prelude.{◌≡◌, ◌<◌, ◌≤◌, ◌++◌, ◌∷◌, [], List, length, option_map, Some};
 ghost use Rattle.std.specs.Option.{ForSome};
+ghost use Rattle.fare_table.specs.Terms.{AreBoundedTerms};
 ghost use Rattle.fare_table.specs.Until.{window_end_in};
 ghost use Rattle.account_rule.specs.declared.tap.TapIn.{TapIn};
-ghost use Rattle.account_rule.specs.inside.Kept.{window_at};
-ghost use Rattle.account_rule.specs.Reasons.{given_by, reason};
+ghost use Rattle.account_rule.specs.inside.Kept.{IsRoomy, next_reason, window_at, with_ride};
+ghost use Rattle.account_rule.specs.Reasons.{given_by, reason, replied_by};
 ghost use Rattle.account_rule.specs.TokenRules.{rules_of};
 ghost use Rattle.account_rule.specs.Stands.{Stands, StandsForSome};
 ghost use Rattle.account_rule.specs.Taps.{live_at};
@@ -14,36 +15,52 @@ use super::Account;
 use crate::reason::Reason;
 use crate::tap::TapIn;
 use crate::window::Window;
-use fare_table::{Clock, FareTable};
+use fare_table::{Clock, FareTable, Mode};
 
 impl Account {
-    /// Why `step` would answer the tap as it does. The account stays as it is.
+    /// Takes one more tap of the token, as `step` does, and returns why the rule replies to it as
+    /// it does.
     ///
     /// Table, clock, token and tap are those of `step`. It takes no memory.
-    pub fn explain(&self, table: &FareTable, clock: &Clock, token: &[u8], tap: TapIn) -> Reason
+    pub fn explain_step(
+        &mut self,
+        table: &FareTable,
+        clock: &Clock,
+        token: &[u8],
+        tap: TapIn,
+    ) -> Reason
         requires clock { clock.now ≡ table.now.zone }
         requires token { length token.now ≡ 16 }
         requires mode { ForSome tap.mode (λ mode. mode.place < length table.now.meaning.modes) }
         requires early { tap.moment < 4_102_444_800_000 }
-        requires stands { StandsForSome (rules_of table.now token.now) self.now }
+        requires stands { StandsForSome (rules_of table.now token.now) self.old }
 
-        // Of every list for which the account stands.
-        ensures { (taps : List TapIn) → Stands (rules_of table.now token.now) self.now taps
+        // Of every list for which the account stood.
+        ensures reason { (taps : List TapIn) → Stands (rules_of table.now token.now) self.old taps
             → result ≡ reason (rules_of table.now token.now) taps tap }
+        ensures stands { (taps : List TapIn) → Stands (rules_of table.now token.now) self.old taps
+            → Stands (rules_of table.now token.now) self.new (taps ++ tap ∷ []) }
+        ensures some { StandsForSome (rules_of table.now token.now) self.new }
+        ensures few { (replied_by result).cents ≤ 100_000 }
     {
         let Some(mode) = tap.mode else {
             return Reason::Unknown;
         };
         if !self.has_window {
-            return Window::opened(clock, tap.moment).next_reason(table.terms_of(token));
+            let first = Window::opened(clock, tap.moment).next_reason(table.terms_of(token));
+            self.first_ride(table, clock, token, mode, tap.moment);
+            return first;
         }
         if tap.moment <= self.last {
             return Reason::Stale { latest: self.last };
         }
         if self.gives_transfer(table, tap.moment, mode) {
-            return self.given();
+            let given = self.given();
+            self.last = tap.moment;
+            self.giver = None;
+            return given;
         }
-        self.window_at(clock, tap.moment).next_reason(self.terms)
+        self.explain_ride(clock, mode, tap.moment)
     }
 
     /// Why a tap is a transfer: the last live tap gives it.
@@ -60,17 +77,30 @@ impl Account {
         }
     }
 
-    /// The window to which a ride at the moment belongs, without that ride.
+    /// Takes a live tap at the moment, on the mode, as a ride, and returns why it costs what it
+    /// costs.
     #[tactic(auto, unfolding(crate::specs::inside::Kept::window_at))]
-    fn window_at(&self, clock: &Clock, moment: u64) -> Window
-        requires { moment < 4_102_444_800_000 }
-        ensures { result
-            ≡ window_at (Some self.now.window) moment (window_end_in clock.now moment) }
+    fn explain_ride(&mut self, clock: &Clock, mode: Mode, moment: u64) -> Reason
+        requires early { moment < 4_102_444_800_000 }
+        requires bounds { AreBoundedTerms self.old.terms }
+        requires room { IsRoomy self.old.terms
+            (window_at (Some self.old.window) moment (window_end_in clock.now moment)) }
+        ensures reason { result ≡ next_reason self.old.terms
+            (window_at (Some self.old.window) moment (window_end_in clock.now moment)) }
+        ensures last { self.new.last ≡ moment }
+        ensures has_window { self.new.has_window ≡ self.old.has_window }
+        ensures giver { self.new.giver ≡ Some mode }
+        ensures terms { self.new.terms ≡ self.old.terms }
+        ensures window { self.new.window ≡ with_ride self.old.terms
+            (window_at (Some self.old.window) moment (window_end_in clock.now moment)) }
     {
         if moment >= self.window.until {
-            Window::opened(clock, moment)
-        } else {
-            self.window
+            self.window = Window::opened(clock, moment);
         }
+        let reason = self.window.next_reason(self.terms);
+        self.window.add_ride(self.terms);
+        self.last = moment;
+        self.giver = Some(mode);
+        reason
     }
 }

@@ -1,5 +1,5 @@
 use Rattle.std.proofs.Common.{List, [], ◌++◌, subst, string_bytes}
-use Rattle.ledger_texts.specs.inside.Lines.{AreLinesAlong}
+use Rattle.ledger_texts.specs.Lines.{AreLinesAlong}
 use Rattle.ledger_texts.specs.inside.Spots.{entries_at_spots}
 use Rattle.ledger_texts.specs.declared.spot.Spot.{Spot}
 use Rattle.ledger_texts.proofs.Whole.{ledger_of_all}

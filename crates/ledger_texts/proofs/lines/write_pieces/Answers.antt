@@ -6,7 +6,7 @@ use Rattle.shard_book.specs.Entry.{own}
 use Rattle.shard_book.specs.declared.entry.Entry.{Entry}
 use Rattle.fare_table.specs.declared.token.Token.{Token}
 use Rattle.reason_texts.specs.Ledger.{IsLedgerLineAfter}
-use Rattle.ledger_texts.specs.inside.Lines.{AreLinesAlong, HasCome, IsLineAfter, IsUpTo, NoFallFrom}
+use Rattle.ledger_texts.specs.Lines.{AreLinesAlong, HasCome, IsLineAfter, IsUpTo, NoFallFrom}
 use Rattle.ledger_texts.specs.inside.Spots.{entries_at_spots}
 use Rattle.ledger_texts.proofs.Writing.{along_push, come_first, come_next, grown, rise_here}
 use Rattle.ledger_texts.proofs.Writing.{rise_on, seen_taken}

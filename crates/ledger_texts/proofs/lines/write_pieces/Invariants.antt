@@ -1,6 +1,6 @@
 use Rattle.std.proofs.Common.{ℕ, List, [], ◌≤◌, drop, take, string_bytes}
 use Rattle.std.specs.Io.KnownBytes.{Appends, append_known}
-use Rattle.ledger_texts.specs.inside.Lines.{AreLinesAlong, HasCome, NoFallFrom}
+use Rattle.ledger_texts.specs.Lines.{AreLinesAlong, HasCome, NoFallFrom}
 use Rattle.ledger_texts.specs.inside.Spots.{entries_at_spots}
 use Rattle.ledger_texts.proofs.lines.write_pieces.Given as goal
 

@@ -1,6 +1,6 @@
 use Rattle.std.proofs.Common.{sym, subst}
 use Rattle.shard_book.specs.declared.entry.Entry.{Entry}
-use Rattle.ledger_texts.specs.inside.Lines.{NoFallFrom}
+use Rattle.ledger_texts.specs.Lines.{NoFallFrom}
 use Rattle.ledger_texts.specs.inside.Spots.{entries_at_spots}
 use Rattle.ledger_texts.proofs.Writing.{rise_first}
 use Rattle.ledger_texts.proofs.lines.write_some.Goals as goal

@@ -11,15 +11,9 @@ use Rattle.fare_table.specs.Token.{bytes_of}
 use Rattle.reason_texts.proofs.Modes.{has_mode}
 use Rattle.reason_texts.proofs.teller.Teller.explain_next.Goals as goal
 
-pub explain-reason-requires-clause-stands : goal.explain-reason-requires-clause-stands
+pub explain_step-reason-requires-clause-stands : goal.explain_step-reason-requires-clause-stands
 unfolding StandsForSome
-explain-reason-requires-clause-stands c =
-    rw c.bytes-bytes.ensures
-    (map (tap_of c.args.table.now) c.requires.told.0, c.requires.told.1.stands)
-
-pub step-requires-clause-stands : goal.step-requires-clause-stands
-unfolding StandsForSome
-step-requires-clause-stands c =
+explain_step-reason-requires-clause-stands c =
     rw c.bytes-bytes.ensures
     (map (tap_of c.args.table.now) c.requires.told.0, c.requires.told.1.stands)
 
@@ -27,7 +21,7 @@ pub returns-clause-reason : goal.returns-clause-reason
 returns-clause-reason c = λ earlier told.
     let of = rules_of c.args.table.now (bytes_of c.args.self.now.token) in
     let taps = map (tap_of c.args.table.now) earlier in
-    (rw c.bytes-bytes.ensures at c.explain-reason.ensures) taps told.stands
+    (rw c.bytes-bytes.ensures at c.explain_step-reason.ensures.reason) taps told.stands
     ∙ ap (λ (t : TapIn). reason of taps t) c.in_ok-tap.ensures.tap
 
 pub returns-clause-mode : goal.returns-clause-mode
@@ -35,7 +29,7 @@ returns-clause-mode c =
     let taps = map (tap_of c.args.table.now) c.requires.told.0 in
     let stands = c.requires.told.1.stands in
     has_mode c.args.table.now (bytes_of c.args.self.now.token) c.args.self.now.account taps _ _
-    stands ((rw c.bytes-bytes.ensures at c.explain-reason.ensures) taps stands)
+    stands ((rw c.bytes-bytes.ensures at c.explain_step-reason.ensures.reason) taps stands)
 
 pub returns-clause-told : goal.returns-clause-told
 returns-clause-told c = λ earlier told.
@@ -45,7 +39,7 @@ returns-clause-told c = λ earlier told.
     let longer = ap (λ (t : TapIn). taps ++ t ∷ []) c.in_ok-tap.ensures.tap
     ∙ sym (map-append tap earlier (c.args.entry.now ∷ [])) in
     record {
-      stands = subst (λ (ts : List TapIn). Stands of c.step.new.self ts) longer
-          ((rw c.bytes-bytes.ensures at c.step.ensures.stands) taps told.stands);
+      stands = subst (λ (ts : List TapIn). Stands of c.explain_step-reason.new.self ts) longer
+          ((rw c.bytes-bytes.ensures at c.explain_step-reason.ensures.stands) taps told.stands);
       counted = ap (λ n. n + 1) told.counted ∙ sym (length-append earlier (c.args.entry.now ∷ []));
     }

@@ -1,6 +1,5 @@
--- The lines of entries in order of token. Private functions alone cite this.
+-- The lines of entries in order of token, as they are written one after another.
 use Rattle.std.specs.Prelude.{◌≡◌, ℕ, false, List, [], ◌∷◌, ◌++◌}
-use Rattle.std.specs.List.Sorted.{IsPermutation}
 use Rattle.std.specs.Ordering.{is_lt}
 use Rattle.fare_table.specs.Fares.{Fares}
 use Rattle.shard_book.specs.Entry.{own}
@@ -29,12 +28,6 @@ NoFallFrom token (entry ∷ entries) = IsUpTo token entry.token × NoFallFrom en
 abbrev pub NoFall : List Entry → Type 0
 NoFall [] = Unit {0}
 NoFall (entry ∷ entries) = NoFallFrom entry.token entries
-
--- the list has these entries in order of token, and those of each token as they stood
-pub record IsByToken (entries list : List Entry) : Type 0 where
-  pub moved : IsPermutation entries list
-  pub no_fall : NoFall list
-  pub kept : (token : Token) → own token list ≡ own token entries
 
 -- the line of an entry that stands after these: the one that it has among the entries of its token
 abbrev pub IsLineAfter : Fares → List Entry → Entry → List ℕ → Type 0

@@ -1,0 +1,201 @@
+-- Each way out is one of the rule's four cases: unknown, stale, transfer, ride. The reason is that
+-- case's, and the account then stands for one tap more, as after a step.
+use Rattle.std.proofs.Common.{List, [], ◌∷◌, ◌++◌, Some, refl, sym, ap, ◌∙◌, arith}
+use Rattle.fare_table.specs.Until.{window_end_in}
+use Rattle.account_rule.specs.Replies.{reply_with, ride_reply}
+use Rattle.account_rule.specs.Windows.{charge}
+use Rattle.account_rule.specs.inside.Kept.{window_at}
+use Rattle.account_rule.specs.Kept.{kept_giver, kept_numbers, kept_of}
+use Rattle.account_rule.specs.TokenRules.{rules_of}
+use Rattle.account_rule.specs.Stands.{Stands, StandsForSome}
+use Rattle.account_rule.specs.Taps.{live_at}
+use Rattle.account_rule.specs.declared.tap.TapIn.{TapIn}
+use Rattle.account_rule.proofs.ReasonLemmas.{reason_unknown, why_ride, why_stale, why_transfer}
+use Rattle.account_rule.proofs.StepLemmas.{IsStep, at_fresh, at_kept, first_ride, gives_none-fresh}
+use Rattle.account_rule.proofs.StepLemmas.{gives_none-state, kept-fresh, kept-open, kept_terms}
+use Rattle.account_rule.proofs.StepLemmas.{next_ride, room, stale, stands-open, transfer, unknown}
+use Rattle.account_rule.proofs.FareLemmas.{given-few, ride_reason-few}
+use Rattle.account_rule.proofs.account.Account.explain_step.Goals as goal
+use Rattle.account_rule.proofs.account.Account.explain_step.Goals.{After-explain_ride, After-first_ride}
+
+-- the tap's validator is not known
+
+pub returns-in_default-clause-reason : goal.returns-in_default-clause-reason
+returns-in_default-clause-reason c = λ taps stands. sym (reason_unknown _ taps c.args.tap c.in_default.is)
+
+pub returns-in_default-clause-stands : goal.returns-in_default-clause-stands
+unfolding Stands
+returns-in_default-clause-stands c =
+    λ taps stands. (unknown _ (kept_of c.args.self.now) taps c.args.tap stands
+    c.in_default.is).stands
+
+-- the tap is the first ride
+
+pub next_reason-first-requires-clause-room : goal.next_reason-first-requires-clause-room
+unfolding StandsForSome Stands rules_of
+next_reason-first-requires-clause-room c =
+    room (rules_of c.args.table.now c.args.token.now) (kept_of c.args.self.now) c.requires.stands.0
+    _ _ _ _ c.requires.stands.1
+    (c.opened.ensures ∙ at_fresh _ _ _ (kept-fresh _ c.if-not-self.true)) c.terms_of.ensures.terms c.terms_of.ensures.bounds
+
+pub returns-then-not-self-clause-reason : goal.returns-then-not-self-clause-reason
+unfolding Stands rules_of
+returns-then-not-self-clause-reason c =
+    λ taps stands. c.next_reason-first.ensures
+    ∙ why_ride (rules_of c.args.table.now c.args.token.now) (kept_of c.args.self.now) taps
+    c.args.tap c.in-Some.mode _ _ _ stands c.in-Some.is
+    (ap (λ zone. window_end_in zone c.args.tap.moment) c.requires.clock)
+    (gives_none-fresh _ _ c.args.tap c.in-Some.mode (kept-fresh _ c.if-not-self.true))
+    c.terms_of.ensures.terms
+    (c.opened.ensures ∙ at_fresh _ _ _ (kept-fresh _ c.if-not-self.true))
+
+is_first_ride : (c : After-first_ride) (taps : List TapIn)
+    → Stands (rules_of c.args.table.now c.args.token.now) c.args.self.now taps
+    → IsStep (rules_of c.args.table.now c.args.token.now) taps c.args.tap c.first_ride.result
+    (kept_of c.first_ride.new.self)
+unfolding rules_of Stands
+is_first_ride c taps stands =
+    first_ride (rules_of c.args.table.now c.args.token.now) (kept_of c.args.self.now) _ taps
+    c.args.tap c.in-Some.mode _ _ (kept-fresh _ c.if-not-self.true) stands c.in-Some.is
+    (c.requires.mode _ c.in-Some.is)
+    (ap (λ zone. window_end_in zone c.args.tap.moment) c.requires.clock) c.first_ride.ensures.bounds
+    c.first_ride.ensures.reply c.first_ride.ensures.state
+
+pub returns-then-not-self-clause-stands : goal.returns-then-not-self-clause-stands
+unfolding Stands
+returns-then-not-self-clause-stands c = λ taps stands. (is_first_ride c taps stands).stands
+
+pub returns-then-not-self-clause-some : goal.returns-then-not-self-clause-some
+unfolding StandsForSome
+returns-then-not-self-clause-some c = (
+  c.requires.stands.0 ++ c.args.tap ∷ [],
+  returns-then-not-self-clause-stands c c.requires.stands.0 c.requires.stands.1,
+)
+
+-- the tap is not later than the last
+
+pub returns-then-tap-self-clause-reason : goal.returns-then-tap-self-clause-reason
+unfolding Stands
+returns-then-tap-self-clause-reason c =
+    λ taps stands. why_stale _ _ _ taps c.args.tap _ (kept-open _ c.if-not-self.false) stands
+    c.in-Some.is c.if-tap-self.true
+
+pub returns-then-tap-self-clause-stands : goal.returns-then-tap-self-clause-stands
+unfolding Stands
+returns-then-tap-self-clause-stands c =
+    λ taps stands. stands-open _ _ _ c.if-not-self.false
+    (stale _ _ _ taps c.args.tap _ (kept-open _ c.if-not-self.false) stands c.in-Some.is
+    c.if-tap-self.true).stands
+
+-- the last tap gives a transfer
+
+pub gives_transfer-requires-clause-giver : goal.gives_transfer-requires-clause-giver
+unfolding StandsForSome Stands kept_giver rules_of live_at
+gives_transfer-requires-clause-giver c =
+    λ giver kept. c.requires.stands.1.mode (live_at c.args.self.now.last giver)
+    (rw (kept-open c.args.self.now c.if-not-self.false, kept) refl)
+
+pub returns-then-gives_transfer-clause-reason : goal.returns-then-gives_transfer-clause-reason
+unfolding rules_of Stands
+returns-then-gives_transfer-clause-reason c =
+    λ taps stands. c.given-given.ensures
+    ∙ why_transfer (rules_of c.args.table.now c.args.token.now) _ _ taps c.args.tap c.in-Some.mode
+    (kept-open _ c.if-not-self.false) stands c.in-Some.is
+    c.if-tap-self.false (sym c.gives_transfer.ensures ∙ c.if-gives_transfer.true)
+
+pub returns-then-gives_transfer-clause-stands : goal.returns-then-gives_transfer-clause-stands
+unfolding rules_of Stands
+returns-then-gives_transfer-clause-stands c =
+    λ taps stands. stands-open _ _ _ c.if-not-self.false
+    (transfer (rules_of c.args.table.now c.args.token.now) _ _ taps c.args.tap c.in-Some.mode
+    (kept-open _ c.if-not-self.false) stands c.in-Some.is
+    c.if-tap-self.false (sym c.gives_transfer.ensures ∙ c.if-gives_transfer.true)).stands
+
+pub returns-then-gives_transfer-clause-some : goal.returns-then-gives_transfer-clause-some
+unfolding StandsForSome
+returns-then-gives_transfer-clause-some c = (
+  c.requires.stands.0 ++ c.args.tap ∷ [],
+  returns-then-gives_transfer-clause-stands c c.requires.stands.0 c.requires.stands.1,
+)
+
+-- the tap is a later ride
+
+pub explain_ride-requires-clause-bounds : goal.explain_ride-requires-clause-bounds
+unfolding StandsForSome Stands
+explain_ride-requires-clause-bounds c =
+    (kept_terms _ (kept_of c.args.self.now) _ c.requires.stands.0 (kept-open _ c.if-not-self.false)
+    c.requires.stands.1).bounds
+
+pub explain_ride-requires-clause-room : goal.explain_ride-requires-clause-room
+unfolding StandsForSome Stands rules_of
+explain_ride-requires-clause-room c =
+    let kept = kept_terms _ (kept_of c.args.self.now) _ c.requires.stands.0
+    (kept-open _ c.if-not-self.false) c.requires.stands.1 in
+    room (rules_of c.args.table.now c.args.token.now) (kept_of c.args.self.now) c.requires.stands.0
+    _ _ _ _ c.requires.stands.1 (at_kept _ _ _ _ (kept-open _ c.if-not-self.false)) kept.same
+    kept.bounds
+
+pub returns-clause-reason : goal.returns-clause-reason
+unfolding rules_of Stands
+returns-clause-reason c =
+    λ taps stands. c.explain_ride.ensures.reason
+    ∙ why_ride (rules_of c.args.table.now c.args.token.now) (kept_of c.args.self.now) taps
+    c.args.tap c.in-Some.mode _ _ _ stands c.in-Some.is
+    (ap (λ zone. window_end_in zone c.args.tap.moment) c.requires.clock)
+    (gives_none-state _ _ _ c.args.tap _ (kept-open _ c.if-not-self.false) c.if-tap-self.false
+    (sym c.gives_transfer.ensures ∙ c.if-gives_transfer.false))
+    (kept_terms _ (kept_of c.args.self.now) _ taps (kept-open _ c.if-not-self.false) stands).same
+    (at_kept _ _ _ _ (kept-open _ c.if-not-self.false))
+
+is_next_ride : (c : After-explain_ride) (taps : List TapIn)
+    → Stands (rules_of c.args.table.now c.args.token.now) c.args.self.now taps
+    → IsStep (rules_of c.args.table.now c.args.token.now) taps c.args.tap
+    (ride_reply (charge c.args.self.now.terms (window_at (Some c.args.self.now.window)
+    c.args.tap.moment (window_end_in c.args.clock.now c.args.tap.moment)).rides))
+    (Some (kept_numbers c.explain_ride.new.self))
+unfolding rules_of Stands
+is_next_ride c taps stands =
+    next_ride (rules_of c.args.table.now c.args.token.now) (kept_of c.args.self.now) _ _ taps
+    c.args.tap c.in-Some.mode _ _ (kept-open _ c.if-not-self.false) stands c.in-Some.is
+    (c.requires.mode _ c.in-Some.is)
+    (ap (λ zone. window_end_in zone c.args.tap.moment) c.requires.clock)
+    (gives_none-state _ _ _ c.args.tap _ (kept-open _ c.if-not-self.false) c.if-tap-self.false
+    (sym c.gives_transfer.ensures ∙ c.if-gives_transfer.false))
+    refl c.explain_ride.ensures.last c.explain_ride.ensures.giver
+    c.explain_ride.ensures.terms c.explain_ride.ensures.window
+
+pub returns-clause-stands : goal.returns-clause-stands
+returns-clause-stands c =
+    λ taps stands. stands-open _ _ _ (c.explain_ride.ensures.has_window
+    ∙ c.if-not-self.false) (is_next_ride c taps stands).stands
+
+pub returns-clause-some : goal.returns-clause-some
+unfolding StandsForSome
+returns-clause-some c = (
+  c.requires.stands.0 ++ c.args.tap ∷ [],
+  returns-clause-stands c c.requires.stands.0 c.requires.stands.1,
+)
+
+-- no reply costs more than the greatest fare
+
+pub returns-in_default-clause-few : goal.returns-in_default-clause-few
+unfolding reply_with
+returns-in_default-clause-few c = omega arith
+
+pub returns-then-not-self-clause-few : goal.returns-then-not-self-clause-few
+returns-then-not-self-clause-few c =
+    ride_reason-few _ _ _ c.terms_of.ensures.bounds c.next_reason-first.ensures
+
+pub returns-then-tap-self-clause-few : goal.returns-then-tap-self-clause-few
+unfolding reply_with
+returns-then-tap-self-clause-few c = omega arith
+
+pub returns-then-gives_transfer-clause-few : goal.returns-then-gives_transfer-clause-few
+returns-then-gives_transfer-clause-few c = given-few _ _ c.given-given.ensures
+
+pub returns-clause-few : goal.returns-clause-few
+unfolding StandsForSome Stands
+returns-clause-few c =
+    let bounds = (kept_terms _ (kept_of c.args.self.now) _ c.requires.stands.0
+    (kept-open _ c.if-not-self.false) c.requires.stands.1).bounds in
+    ride_reason-few _ _ _ bounds c.explain_ride.ensures.reason

@@ -1,0 +1,94 @@
+-- Lists one behind the other, and what goes out at once.
+use Rattle.std.proofs.Common.{◌≡◌, ℕ, ◌+◌, ◌<◌, List, [], ◌∷◌, ◌++◌, All, Option, Some, None, length}
+use Rattle.std.proofs.Common.{take, drop, get_or, flat_map, refl, sym, ap, subst, ◌∙◌, append-nil}
+use Rattle.std.proofs.Common.{add-one, drop-cons, Vec, Global, Bor}
+use Rattle.std.specs.Prelude.{IfSome, slice_get}
+use Rattle.std.specs.Slice.{IsItemAt}
+use Rattle.std.proofs.lemmas.Option.{slice_get-get_or}
+use Rattle.std.specs.Io.KnownBytes.{Appends, Keeps, append_known}
+use Rattle.std.proofs.lemmas.List.{take-append-drop}
+use Rattle.std.proofs.lemmas.List.Concat.{flat_map-append}
+use Rattle.std.proofs.lemmas.List.Elements.{All-cons, All-head, All-nil, All-tail}
+use Rattle.fare_table.specs.declared.token.Token.{Token}
+use Rattle.tap_views.specs.Layout.{moment_limit}
+use Rattle.tap_views.specs.declared.encoder.TapFields.{TapFields}
+use Rattle.settled_texts.specs.inside.Seats.{IsSoundList}
+use Rattle.settled_texts.specs.inside.Telling.{NoTapFallsFrom, last_token}
+use Rattle.settled_texts.proofs.Tellings.{fall_within, taken}
+
+-- the taps of lists, one list behind the other
+abbrev pub joined : List (Vec TapFields Global) → List TapFields
+joined lists = flat_map (λ (list : Vec TapFields Global). list.items) lists
+
+abbrev pub Early : TapFields → Type 0
+Early tap = tap.moment < moment_limit
+
+pub both : {A : Type 0} (P : A → Type 0) (xs ys : List A) → All P (xs ++ ys) → All P xs × All P ys
+both P [] ys all = (All-nil P, all)
+both P (x ∷ xs) ys all =
+    let rest = both P xs ys (All-tail P x (xs ++ ys) all) in
+    (All-cons P x xs (All-head P x (xs ++ ys) all) rest.0, rest.1)
+
+-- one list more
+pub joined_more : (lists : List (Vec TapFields Global)) (place : ℕ) (other : Vec TapFields Global)
+    → place < length lists
+    → joined (take (place + 1) lists)
+    ≡ joined (take place lists) ++ (get_or lists place other).items
+joined_more lists place other within =
+    let f : Vec TapFields Global → List TapFields = λ list. list.items in
+    ap (flat_map f) (taken lists place other within)
+    ∙ flat_map-append f (take place lists) (get_or lists place other ∷ [])
+    ∙ ap (λ ts. joined (take place lists) ++ ts) (append-nil (get_or lists place other).items)
+
+-- the lists before one, that one and those behind it
+pub joined_at : (lists : List (Vec TapFields Global)) (place : ℕ) (other : Vec TapFields Global)
+    → place < length lists
+    → joined (take place lists) ++ ((get_or lists place other).items ++ joined (drop (place + 1) lists))
+    ≡ joined lists
+joined_at lists place other within =
+    let f : Vec TapFields Global → List TapFields = λ list. list.items in
+    let at : drop place lists ≡ get_or lists place other ∷ drop (place + 1) lists =
+    rw (add-one) (drop-cons lists place other within) in
+    ap (λ ts. joined (take place lists) ++ ts) (sym (ap (flat_map f) at))
+    ∙ sym (flat_map-append f (take place lists) (drop place lists))
+    ∙ ap (flat_map f) (take-append-drop place lists)
+
+-- each of the lists is sound
+pub sound_at : (token : Token) (lists : List (Vec TapFields Global)) (place : ℕ)
+    (other : Vec TapFields Global) → place < length lists
+    → All Early (joined lists) → NoTapFallsFrom token (joined lists)
+    → IsSoundList (get_or lists place other).items
+sound_at token lists place other within early no_fall =
+    let whole = joined_at lists place other within in
+    let before = joined (take place lists) in
+    let here = (get_or lists place other).items in
+    let behind = joined (drop (place + 1) lists) in
+    record {
+      early = (both Early here behind (both Early before (here ++ behind)
+          (subst (λ (ts : List TapFields). All Early ts) (sym whole) early)).1).0;
+      from = last_token token before;
+      no_fall = fall_within token (last_token token before) before here behind (joined lists) whole
+          no_fall refl;
+    }
+
+-- what waits goes out, and then bytes
+pub passed_on : (a b c : Option (List ℕ)) (text left bytes : List ℕ)
+    → Keeps (append_known a text) (append_known b left) → left ≡ [] → Appends b c bytes
+    → Appends (append_known a text) (append_known c left) bytes
+passed_on None b c text left bytes p e q = tt
+passed_on (Some x) None c text left bytes p e q = absurd p
+passed_on (Some x) (Some y) None text left bytes p e q = absurd q
+passed_on (Some x) (Some y) (Some z) text left bytes p e q =
+    ap (λ t. z ++ t) e ∙ append-nil z ∙ q
+    ∙ ap (λ t. t ++ bytes) (sym (append-nil y) ∙ ap (λ t. y ++ t) (sym e) ∙ p)
+
+pub joined_append : (xs ys : List (Vec TapFields Global)) → joined (xs ++ ys) ≡ joined xs ++ joined ys
+joined_append xs ys = flat_map-append (λ (list : Vec TapFields Global). list.items) xs ys
+
+-- what holds of the element at a place holds of the one that is lent there
+pub at_lent : {A : Type 0} (P : A → Type 0) (xs : List A) (place : ℕ) (lent : Option (Bor A))
+    → IsItemAt xs place lent → ((x : A) → slice_get xs place ≡ Some x → P x)
+    → IfSome lent (λ x. P x.now)
+at_lent P xs place None is holds = tt
+at_lent P xs place (Some x) is holds =
+    holds x.now (slice_get-get_or xs place x.now is.3.0 ∙ ap Some (sym is.1))

@@ -1,0 +1,161 @@
+-- What is told of taps, and of more taps behind them.
+use Rattle.std.proofs.Common.{◌≡◌, ℕ, ◌+◌, ◌<◌, List, [], ◌∷◌, ◌++◌, length, take, drop, get_or, Some}
+use Rattle.std.specs.Prelude.{slice_get}
+use Rattle.std.proofs.Common.{refl, sym, ap, subst, ◌∙◌, append-nil, append_assoc, add-one}
+use Rattle.std.proofs.Common.{drop-cons}
+use Rattle.std.proofs.lemmas.List.{take-append-drop}
+use Rattle.std.proofs.Math.Seq.{take-suc}
+use Rattle.fare_table.specs.Fares.{Fares}
+use Rattle.fare_table.specs.declared.token.Token.{Token}
+use Rattle.tap_views.specs.declared.encoder.TapFields.{TapFields}
+use Rattle.shard_book.specs.Entry.{own, taps_of}
+use Rattle.shard_book.specs.declared.entry.Entry.{Entry}
+use Rattle.reason_texts.specs.Tellers.{HasTold, next_entry}
+use Rattle.reason_texts.specs.Ledger.{IsLedgerLineAfter}
+use Rattle.reason_texts.specs.declared.teller.Teller.{Teller}
+use Rattle.fare_service.specs.Plain.{answered}
+use Rattle.ledger_texts.specs.Lines.{AreLinesAlong, AreUpTo, HasCome, IsUpTo}
+use Rattle.ledger_texts.proofs.Rising.{up_itself}
+use Rattle.ledger_texts.proofs.Writing.{along_append, come_next}
+use Rattle.settlement.specs.Posted.{posted_after, token_of_tap, unposted}
+use Rattle.settlement.proofs.Concats.{posted_append}
+use Rattle.settled_texts.specs.inside.Telling.{AreTold, NoTapFallsFrom, last_token}
+
+-- ---- the tokens
+
+pub fall_append : (token : Token) (xs ys : List TapFields) → NoTapFallsFrom token (xs ++ ys)
+    → NoTapFallsFrom token xs × NoTapFallsFrom (last_token token xs) ys
+fall_append token [] ys no_fall = (tt, no_fall)
+fall_append token (x ∷ xs) ys (up, no_fall) =
+    let both = fall_append (token_of_tap x) xs ys no_fall in ((up, both.0), both.1)
+
+pub last_append : (token : Token) (xs ys : List TapFields)
+    → last_token token (xs ++ ys) ≡ last_token (last_token token xs) ys
+last_append token [] ys = refl
+last_append token (x ∷ xs) ys = last_append (token_of_tap x) xs ys
+
+-- ---- the lines
+
+pub none_told : (fares : Fares) (earlier : List Entry) (teller : Teller)
+    → HasCome fares teller earlier → AreTold fares earlier [] teller []
+unfolding posted_after
+none_told fares earlier teller come = record {
+  are = refl;
+  come = subst (λ (es : List Entry). HasCome fares teller es) (sym (append-nil earlier)) come;
+}
+
+pub told_append : (fares : Fares) (earlier : List Entry) (xs ys : List TapFields)
+    (teller next : Teller) (lines more : List ℕ) → AreTold fares earlier xs teller lines
+    → AreTold fares (earlier ++ posted_after fares earlier xs) ys next more
+    → AreTold fares earlier (xs ++ ys) next (lines ++ more)
+told_append fares earlier xs ys teller next lines more front back =
+    let first = posted_after fares earlier xs in
+    let second = posted_after fares (earlier ++ first) ys in
+    let joined = posted_append fares earlier xs ys in
+    record {
+      are = subst (λ (es : List Entry). AreLinesAlong fares earlier es (lines ++ more)) (sym joined)
+          (along_append fares earlier first second lines more front.are back.are);
+      come = subst (λ (es : List Entry). HasCome fares next (earlier ++ es)) (sym joined)
+          (subst (λ (es : List Entry). HasCome fares next es) (append_assoc earlier first second)
+          back.come);
+    }
+
+-- the next entry of the token is what the tap is answered
+next_answered : (fares : Fares) (earlier : List Entry) (tap : TapFields) (token : Token)
+    → token ≡ token_of_tap tap
+    → next_entry fares token (own token earlier) tap.validator tap.moment
+    ≡ answered fares earlier (unposted tap)
+unfolding answered taps_of
+next_answered fares earlier tap token is =
+    ap (λ (t : Token). next_entry fares t (own t earlier) tap.validator tap.moment) is
+
+answered_token : (fares : Fares) (earlier : List Entry) (tap : TapFields)
+    → (answered fares earlier (unposted tap)).token ≡ token_of_tap tap
+unfolding answered
+answered_token fares earlier tap = refl
+
+-- the line of one tap
+pub one_told : (fares : Fares) (earlier : List Entry) (tap : TapFields) (teller next : Teller)
+    (line : List ℕ) → teller.token ≡ token_of_tap tap → next.token ≡ teller.token
+    → HasCome fares teller earlier
+    → IsLedgerLineAfter fares teller.token (own teller.token earlier)
+    (next_entry fares teller.token (own teller.token earlier) tap.validator tap.moment) line
+    → HasTold fares next (own teller.token earlier
+    ++ next_entry fares teller.token (own teller.token earlier) tap.validator tap.moment ∷ [])
+    → AreTold fares earlier (tap ∷ []) next line
+unfolding posted_after
+one_told fares earlier tap teller next line its same come is told =
+    let entry = answered fares earlier (unposted tap) in
+    let of = next_answered fares earlier tap teller.token its in
+    let here : teller.token ≡ entry.token = its ∙ sym (answered_token fares earlier tap) in
+    record {
+      are = (
+        line,
+        [],
+        subst (λ (t : Token). IsLedgerLineAfter fares t (own t earlier) entry line) here
+            (subst (λ (e : Entry). IsLedgerLineAfter fares teller.token (own teller.token earlier) e line)
+            of is),
+        refl,
+        sym (append-nil line),
+      );
+      come = come_next fares teller next earlier entry here same come
+          (subst (λ (e : Entry). HasTold fares next (own teller.token earlier ++ e ∷ [])) of told);
+    }
+
+-- one more of the first
+pub taken : {A : Type 0} (xs : List A) (place : ℕ) (other : A) → place < length xs
+    → take (place + 1) xs ≡ take place xs ++ get_or xs place other ∷ []
+taken xs place other within = rw (add-one) (take-suc xs place other within)
+
+-- a tap is not below the token of the taps before it
+pub fall_here : (from token : Token) (taps : List TapFields) (place : ℕ) (other : TapFields)
+    → place < length taps → NoTapFallsFrom from taps → token ≡ last_token from (take place taps)
+    → IsUpTo token (token_of_tap (get_or taps place other))
+fall_here from token taps place other within no_fall is =
+    let parts : take place taps ++ get_or taps place other ∷ drop (place + 1) taps ≡ taps =
+    ap (λ (ts : List TapFields). take place taps ++ ts)
+    (sym (rw (add-one) (drop-cons taps place other within))) ∙ take-append-drop place taps in
+    subst (λ (t : Token). IsUpTo t (token_of_tap (get_or taps place other))) (sym is)
+    (fall_append from (take place taps) (get_or taps place other ∷ drop (place + 1) taps)
+    (subst (λ (ts : List TapFields). NoTapFallsFrom from ts) (sym parts) no_fall)).1.0
+
+-- taps in the middle do not fall from the token before them
+pub fall_within : (from token : Token) (done some behind taps : List TapFields)
+    → done ++ (some ++ behind) ≡ taps → NoTapFallsFrom from taps → token ≡ last_token from done
+    → NoTapFallsFrom token some
+fall_within from token done some behind taps whole no_fall is =
+    let rest = fall_append from done (some ++ behind)
+    (subst (λ (ts : List TapFields). NoTapFallsFrom from ts) (sym whole) no_fall) in
+    subst (λ (t : Token). NoTapFallsFrom t some) (sym is)
+    (fall_append (last_token from done) some behind rest.1).0
+
+-- the front of a list and what stands behind it
+pub halves_of : {A : Type 0} (n : ℕ) (xs front back : List A) → front ≡ take n xs → back ≡ drop n xs
+    → front ++ back ≡ xs
+halves_of n xs front back is_front is_back =
+    ap (λ ys. ys ++ back) is_front ∙ ap (λ ys. take n xs ++ ys) is_back ∙ take-append-drop n xs
+
+-- taps that do not fall from a token do not fall from the first one's, which is not below it
+pub fall_first : (token : Token) (taps : List TapFields) (first : TapFields)
+    → slice_get taps 0 ≡ Some first → NoTapFallsFrom token taps
+    → IsUpTo token (token_of_tap first) × NoTapFallsFrom (token_of_tap first) taps
+fall_first token [] first is no_fall = cc
+fall_first token (tap ∷ taps) first is (up, no_fall) =
+    let same : tap ≡ first = cc in
+    subst (λ (t : TapFields). IsUpTo token (token_of_tap t) × NoTapFallsFrom (token_of_tap t) (tap ∷ taps))
+    same (up, (up_itself (token_of_tap tap), no_fall))
+
+-- where there is a tap, the last token does not depend on the one before
+pub last_first : (token other : Token) (taps : List TapFields) (first : TapFields)
+    → slice_get taps 0 ≡ Some first → last_token token taps ≡ last_token other taps
+last_first token other [] first is = cc
+last_first token other (tap ∷ taps) first is = refl
+
+-- a fresh teller has come past entries that are none of its token, and not above it
+pub come_fresh : (fares : Fares) (teller : Teller) (earlier : List Entry)
+    → own teller.token earlier ≡ [] → AreUpTo earlier teller.token → HasTold fares teller []
+    → HasCome fares teller earlier
+come_fresh fares teller earlier none up fresh = record {
+  told = subst (λ (es : List Entry). HasTold fares teller es) (sym none) fresh;
+  up = up;
+}

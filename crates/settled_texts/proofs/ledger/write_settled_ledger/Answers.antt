@@ -1,0 +1,38 @@
+-- The lines of the taps stand behind the head line, and no token falls.
+use Rattle.std.proofs.Common.{ℕ, List, [], ◌++◌, string_bytes, subst, ◌∙◌}
+use Rattle.std.specs.Io.KnownBytes.{Appends}
+use Rattle.reason_texts.specs.Ledger.{head_text}
+use Rattle.ledger_texts.proofs.Along.{ledger_along}
+use Rattle.ledger_texts.proofs.Writing.{come_first, last_out}
+use Rattle.settlement.specs.Posted.{posted}
+use Rattle.settled_texts.proofs.Joined.{joined}
+use Rattle.settled_texts.proofs.Rows.{canonical_falls, posted_falls}
+use Rattle.settled_texts.proofs.ledger.write_settled_ledger.Goals as goal
+
+pub write_lists-requires-clause-no_fall : goal.write_lists-requires-clause-no_fall
+write_lists-requires-clause-no_fall g c κs within =
+    canonical_falls c.of-teller.result.token (joined c.args.lists.now)
+    (c.of-teller.ensures.token ∙ c.least_token.ensures) c.requires.named c.requires.sorted
+
+pub write_lists-requires-clause-come : goal.write_lists-requires-clause-come
+write_lists-requires-clause-come g c κs within =
+    ([], come_first c.args.table.now c.of-teller.result (c.of-teller.ensures.told c.args.table.now))
+
+pub returns-clause-ok : goal.returns-clause-ok
+returns-clause-ok g c =
+    let fares = c.args.table.now in
+    let taps = joined c.args.lists.now in
+    let told = c.in_ok-write_lists.ensures.told []
+    (come_first fares c.of-teller.result (c.of-teller.ensures.told fares)) in
+    let no_fall = canonical_falls c.of-teller.result.token taps
+    (c.of-teller.ensures.token ∙ c.least_token.ensures) c.requires.named c.requires.sorted in (
+      head_text ++ told.0,
+      ledger_along fares (posted fares taps) told.0 (posted_falls fares c.of-teller.result.token taps
+          no_fall) told.1.are,
+      subst (λ (head : List ℕ). Appends (g.W.Write.contents c.args.out.now)
+          (g.W.Write.contents c.pass_on.new.out) (head ++ told.0)) c.in_ok-text.ensures
+          (last_out (g.W.Write.contents c.args.out.now) (g.W.Write.contents c.write_lists.new.out)
+          (g.W.Write.contents c.pass_on.new.out) (string_bytes c.in_ok-text.text)
+          (string_bytes c.write_lists.new.text) (string_bytes c.pass_on.new.text) told.0 told.2
+          c.in_ok-pass_on.ensures.kept c.in_ok-pass_on.ensures.empty),
+    )

@@ -1,0 +1,28 @@
+-- The teller goes on to the tap's token, and posts the tap.
+use Rattle.std.proofs.Common.{sym, subst, ◌∙◌}
+use Rattle.fare_table.specs.declared.token.Token.{Token}
+use Rattle.shard_book.specs.Entry.{own}
+use Rattle.ledger_texts.specs.Lines.{IsUpTo}
+use Rattle.settled_texts.proofs.Tellings.{one_told}
+use Rattle.settled_texts.proofs.lines.tell_tap.Goals as goal
+
+pub write_posted-requires-clause-told : goal.write_posted-requires-clause-told
+write_posted-requires-clause-told c =
+    let up = subst (λ (t : Token). IsUpTo c.args.teller.now.token t) (sym c.token_of.ensures)
+    c.requires.up in
+    let come = c.go_on_to.ensures.come c.args.table.now c.requires.come.0 c.requires.come.1 up in
+    (own c.go_on_to.new.teller.token c.requires.come.0, come.told)
+
+pub returns-clause-told : goal.returns-clause-told
+returns-clause-told c = λ earlier come.
+    let up = subst (λ (t : Token). IsUpTo c.args.teller.now.token t) (sym c.token_of.ensures)
+    c.requires.up in
+    let gone = c.go_on_to.ensures.come c.args.table.now earlier come up in
+    let own_earlier = own c.go_on_to.new.teller.token earlier in
+    let line = c.in_ok-write_posted.ensures.line own_earlier gone.told in (
+      line.0,
+      one_told c.args.table.now earlier c.args.tap.now c.go_on_to.new.teller c.write_posted.new.self
+          line.0 (c.go_on_to.ensures.token ∙ c.token_of.ensures) c.write_posted.ensures.token gone
+          line.1 (c.in_ok-write_posted.ensures.told own_earlier gone.told),
+      line.2,
+    )

@@ -1,0 +1,58 @@
+-- Each round tells one tap more.
+use Rattle.std.proofs.Common.{List, [], ◌∷◌, ◌++◌, take, string_bytes}
+use Rattle.std.proofs.Common.{refl, sym, ap, subst, ◌∙◌, append_assoc, append-nil, arith}
+use Rattle.tap_views.specs.declared.encoder.TapFields.{TapFields}
+use Rattle.settlement.specs.Posted.{posted_after}
+use Rattle.settled_texts.specs.inside.Telling.{AreTold, last_token}
+use Rattle.settled_texts.proofs.Tellings.{fall_here, last_append, none_told, taken, told_append}
+use Rattle.settled_texts.proofs.lines.tell_taps.Goals as goal
+
+pub loop-tap-init : goal.loop-tap-init
+loop-tap-init c = record {
+  told = λ earlier come. (
+    [],
+    none_told c.args.table.now earlier c.args.teller.now come,
+    sym (append-nil (string_bytes c.args.text.now)),
+  );
+  token = refl;
+  few = omega arith;
+}
+
+pub tell_tap-requires-clause-up : goal.tell_tap-requires-clause-up
+tell_tap-requires-clause-up c =
+    fall_here c.args.teller.now.token c.loop-tap.teller.token c.args.taps.now c.loop-tap.tap-index _
+    c.loop-tap-test.true c.requires.no_fall c.loop-tap.invariant.token
+
+pub tell_tap-requires-clause-come : goal.tell_tap-requires-clause-come
+tell_tap-requires-clause-come c =
+    let earlier = c.requires.come.0 in
+    let done = take c.loop-tap.tap-index c.args.taps.now in (
+      earlier ++ posted_after c.args.table.now earlier done,
+      (c.loop-tap.invariant.told earlier c.requires.come.1).1.come,
+    )
+
+pub loop-tap-preserved : goal.loop-tap-preserved
+loop-tap-preserved c =
+    let fares = c.args.table.now in
+    let taps = c.args.taps.now in
+    let i = c.loop-tap.tap-index in
+    let done = take i taps in
+    let inv = c.loop-tap.invariant in
+    let more = taken taps i _ c.loop-tap-test.true in
+    record {
+      told = λ earlier come.
+          let so_far = inv.told earlier come in
+          let line = c.in_ok-tell_tap.ensures.told (earlier ++ posted_after fares earlier done)
+          so_far.1.come in (
+            so_far.0 ++ line.0,
+            subst (λ (ts : List TapFields). AreTold fares earlier ts c.tell_tap.new.teller (so_far.0 ++ line.0))
+                (sym more) (told_append fares earlier done (_ ∷ []) c.loop-tap.teller
+                c.tell_tap.new.teller so_far.0 line.0 so_far.1 line.1),
+            line.2 ∙ ap (λ t. t ++ line.0) so_far.2
+                ∙ append_assoc (string_bytes c.args.text.now) so_far.0 line.0,
+          );
+      token = c.tell_tap.ensures.token
+          ∙ sym (ap (last_token c.args.teller.now.token) more
+          ∙ last_append c.args.teller.now.token done (_ ∷ []));
+      few = omega (arith, c.tell_tap.ensures.few, inv.few);
+    }

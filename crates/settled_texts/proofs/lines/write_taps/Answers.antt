@@ -1,0 +1,140 @@
+-- Each round tells a stride more.
+use Rattle.std.proofs.Common.{◌≡◌, ◌<◌, ◌++◌, ◌==◌, false, true, List, [], length}
+use Rattle.std.proofs.Common.{string_bytes, refl, sym, ap, subst, ◌∙◌, append_assoc, append-nil}
+use Rattle.std.proofs.Common.{arith, length-append}
+use Rattle.std.specs.Io.KnownBytes.{append_known}
+use Rattle.std.proofs.KnownBytes.{Appends-kept, Appends-nil}
+use Rattle.std.proofs.lemmas.Bool.{eqb-true}
+use Rattle.std.proofs.lemmas.Bool.Decides.{nat_tests}
+use Rattle.std.proofs.lemmas.List.{nil_from_length}
+use Rattle.std.proofs.lemmas.List.Elements.{All-drop, All-same, All-take}
+use Rattle.fare_table.specs.declared.token.Token.{Token}
+use Rattle.tap_views.specs.Layout.{moment_limit}
+use Rattle.tap_views.specs.declared.encoder.TapFields.{TapFields}
+use Rattle.ledger_texts.proofs.Writing.{grown}
+use Rattle.settlement.specs.Posted.{posted_after}
+use Rattle.settled_texts.specs.inside.Telling.{AreTold, last_token}
+use Rattle.settled_texts.proofs.Tellings.{fall_within, halves_of, last_append, none_told}
+use Rattle.settled_texts.proofs.Tellings.{told_append}
+use Rattle.settled_texts.proofs.lines.write_taps.Goals as goal
+
+abbrev Early : TapFields → Type 0
+Early tap = tap.moment < moment_limit
+
+pub loop-rest-init : goal.loop-rest-init
+loop-rest-init g c = record {
+  done = [];
+  whole = refl;
+  early = c.requires.early;
+  told = λ earlier come. (
+    [],
+    none_told c.args.table.now earlier c.args.teller.now come,
+    Appends-nil (append_known (g.W.Write.contents c.args.out.now) (string_bytes c.args.text.now)),
+  );
+  token = refl;
+  few = omega arith;
+}
+
+pub loop-rest-smaller : goal.loop-rest-smaller
+loop-rest-smaller g c =
+    let left = c.loop-rest.rest.now in
+    let test : (length left == 0) ≡ false = sym c.is_empty.ensures ∙ c.loop-rest-test.true in
+    let some : 0 < length left = grind (arith, nat_tests, test) in
+    let least = c.min.ensures in
+    let back = c.split_at.ensures.back_len in
+    let less : length c.split_at.result.1.now < length left = omega (arith, some, least, back) in
+    less
+
+pub tell_taps-requires-clause-early : goal.tell_taps-requires-clause-early
+tell_taps-requires-clause-early g c =
+    All-same Early _ _ c.split_at.ensures.front
+    (All-take Early c.min.result c.loop-rest.rest.now c.loop-rest.invariant.early)
+
+pub tell_taps-requires-clause-no_fall : goal.tell_taps-requires-clause-no_fall
+tell_taps-requires-clause-no_fall g c =
+    let inv = c.loop-rest.invariant in
+    let halves = halves_of c.min.result c.loop-rest.rest.now c.split_at.result.0.now
+    c.split_at.result.1.now c.split_at.ensures.front c.split_at.ensures.back in
+    fall_within c.args.teller.now.token c.loop-rest.teller.token inv.done c.split_at.result.0.now
+    c.split_at.result.1.now c.args.taps.now (ap (λ ts. inv.done ++ ts) halves ∙ inv.whole)
+    c.requires.no_fall inv.token
+
+pub tell_taps-requires-clause-come : goal.tell_taps-requires-clause-come
+tell_taps-requires-clause-come g c =
+    let earlier = c.requires.come.0 in (
+      earlier ++ posted_after c.args.table.now earlier c.loop-rest.invariant.done,
+      (c.loop-rest.invariant.told earlier c.requires.come.1).1.come,
+    )
+
+pub tell_taps-requires-clause-room : goal.tell_taps-requires-clause-room
+tell_taps-requires-clause-room g c =
+    let inv = c.loop-rest.invariant in
+    let halves = halves_of c.min.result c.loop-rest.rest.now c.split_at.result.0.now
+    c.split_at.result.1.now c.split_at.ensures.front c.split_at.ensures.back in
+    let all = ap length inv.whole in
+    let parts = length-append inv.done c.loop-rest.rest.now in
+    let both = ap length halves in
+    let strides = length-append c.split_at.result.0.now c.split_at.result.1.now in
+    omega (arith, all, parts, both, strides, inv.few, c.requires.room)
+
+pub loop-rest-preserved : goal.loop-rest-preserved
+loop-rest-preserved g c =
+    let fares = c.args.table.now in
+    let inv = c.loop-rest.invariant in
+    let stride = c.split_at.result.0.now in
+    let behind = c.split_at.result.1.now in
+    let halves = halves_of c.min.result c.loop-rest.rest.now stride behind c.split_at.ensures.front
+    c.split_at.ensures.back in
+    let next = c.in-Ok.ensures in
+    let parts = length-append inv.done stride in
+    record {
+      done = inv.done ++ stride;
+      whole = append_assoc inv.done stride behind ∙ ap (λ ts. inv.done ++ ts) halves ∙ inv.whole;
+      early = All-same Early _ _ c.split_at.ensures.back
+          (All-drop Early c.min.result c.loop-rest.rest.now inv.early);
+      told = λ earlier come.
+          let so_far = inv.told earlier come in
+          let more = next.told (earlier ++ posted_after fares earlier inv.done) so_far.1.come in (
+            so_far.0 ++ more.0,
+            told_append fares earlier inv.done stride c.loop-rest.teller c.tell_taps.new.teller so_far.0
+                more.0 so_far.1 more.1,
+            Appends-kept _ _ _ (so_far.0 ++ more.0) (grown _ (g.W.Write.contents c.loop-rest.out)
+                (string_bytes c.loop-rest.text) _ so_far.0 more.0 so_far.2 more.2)
+                c.in_ok-pass_piece.ensures.kept,
+          );
+      token = next.token ∙ ap (λ (t : Token). last_token t stride) inv.token
+          ∙ sym (last_append c.args.teller.now.token inv.done stride);
+      few = omega (arith, next.few, inv.few, parts);
+    }
+
+-- all is done where nothing is left
+all_done : (done left taps : List TapFields) → done ++ left ≡ taps → (length left == 0) ≡ true
+    → done ≡ taps
+all_done done left taps all test =
+    sym (append-nil done) ∙ ap (λ more. done ++ more) (sym (nil_from_length left (eqb-true (length left) 0 test)))
+    ∙ all
+
+pub returns-clause-told : goal.returns-clause-told
+returns-clause-told g c = λ earlier come.
+    let inv = c.loop-rest.invariant in
+    let so_far = inv.told earlier come in
+    let same = all_done inv.done c.loop-rest.rest.now _ inv.whole
+    (sym c.is_empty.ensures ∙ c.loop-rest-test.false) in (
+      so_far.0,
+      subst (λ (ts : List TapFields). AreTold c.args.table.now earlier ts c.loop-rest.teller so_far.0) same
+          so_far.1,
+      so_far.2,
+    )
+
+pub returns-clause-token : goal.returns-clause-token
+returns-clause-token g c =
+    let inv = c.loop-rest.invariant in
+    inv.token ∙ ap (last_token c.args.teller.now.token) (all_done inv.done c.loop-rest.rest.now _ inv.whole
+    (sym c.is_empty.ensures ∙ c.loop-rest-test.false))
+
+pub returns-clause-few : goal.returns-clause-few
+returns-clause-few g c =
+    let inv = c.loop-rest.invariant in
+    let same = ap length (all_done inv.done c.loop-rest.rest.now _ inv.whole
+    (sym c.is_empty.ensures ∙ c.loop-rest-test.false)) in
+    omega (arith, inv.few, same)

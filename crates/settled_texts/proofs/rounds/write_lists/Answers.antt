@@ -1,0 +1,137 @@
+-- Each turn writes a round more.
+use Rattle.std.proofs.Common.{◌≡◌, ◌==◌, true, All, List, [], ◌++◌, length, string_bytes, refl, sym, ap}
+use Rattle.std.proofs.Common.{subst, ◌∙◌, append_assoc, append-nil, arith, length-append, Vec, Global}
+use Rattle.std.specs.Io.KnownBytes.{append_known}
+use Rattle.std.proofs.KnownBytes.{Appends-nil, Appends-trans}
+use Rattle.std.proofs.lemmas.Bool.{eqb-true}
+use Rattle.std.proofs.lemmas.List.{nil_from_length}
+use Rattle.fare_table.specs.declared.token.Token.{Token}
+use Rattle.tap_views.specs.declared.encoder.TapFields.{TapFields}
+use Rattle.settlement.specs.Posted.{posted_after}
+use Rattle.settled_texts.specs.inside.Telling.{AreTold, last_token}
+use Rattle.settled_texts.proofs.Joined.{Early, both, joined, joined_append}
+use Rattle.settled_texts.proofs.Tellings.{fall_within, halves_of, last_append, none_told}
+use Rattle.settled_texts.proofs.Tellings.{told_append}
+use Rattle.settled_texts.proofs.rounds.write_lists.Goals as goal
+
+-- the taps of a round, and of the lists behind it
+joined_halves : (rest round behind : List (Vec TapFields Global)) → round ++ behind ≡ rest
+    → joined round ++ joined behind ≡ joined rest
+joined_halves rest round behind whole =
+    sym (joined_append round behind) ∙ ap (λ lists. joined lists) whole
+
+joined_whole : (done rest round behind lists : List (Vec TapFields Global)) → done ++ rest ≡ lists
+    → round ++ behind ≡ rest → joined done ++ (joined round ++ joined behind) ≡ joined lists
+joined_whole done rest round behind lists all whole =
+    ap (λ taps. joined done ++ taps) (joined_halves rest round behind whole)
+    ∙ sym (joined_append done rest) ∙ ap (λ each. joined each) all
+
+pub loop-rest-init : goal.loop-rest-init
+loop-rest-init g c = record {
+  done = [];
+  whole = refl;
+  early = c.requires.early;
+  told = λ earlier come. (
+    [],
+    none_told c.args.table.now earlier c.args.teller.now come,
+    Appends-nil (append_known (g.W.Write.contents c.args.out.now) (string_bytes c.args.text.now)),
+  );
+  token = refl;
+  few = omega arith;
+}
+
+pub write_round-requires-clause-early : goal.write_round-requires-clause-early
+write_round-requires-clause-early g c κs within =
+    let round = c.split_at.result.0.now in
+    let behind = c.split_at.result.1.now in
+    let halves = halves_of c.min.result c.loop-rest.rest.now round behind c.split_at.ensures.front
+    c.split_at.ensures.back in
+    (both Early (joined round) (joined behind)
+    (subst (λ (taps : List TapFields). All Early taps)
+    (sym (joined_halves c.loop-rest.rest.now round behind halves)) c.loop-rest.invariant.early)).0
+
+pub write_round-requires-clause-no_fall : goal.write_round-requires-clause-no_fall
+write_round-requires-clause-no_fall g c κs within =
+    let inv = c.loop-rest.invariant in
+    let round = c.split_at.result.0.now in
+    let behind = c.split_at.result.1.now in
+    let halves = halves_of c.min.result c.loop-rest.rest.now round behind c.split_at.ensures.front
+    c.split_at.ensures.back in
+    fall_within c.args.teller.now.token c.loop-rest.teller.token (joined inv.done) (joined round)
+    (joined behind) (joined c.args.lists.now)
+    (joined_whole inv.done c.loop-rest.rest.now round behind c.args.lists.now inv.whole halves)
+    c.requires.no_fall inv.token
+
+pub write_round-requires-clause-come : goal.write_round-requires-clause-come
+write_round-requires-clause-come g c κs within =
+    let earlier = c.requires.come.0 in (
+      earlier ++ posted_after c.args.table.now earlier (joined c.loop-rest.invariant.done),
+      (c.loop-rest.invariant.told earlier c.requires.come.1).1.come,
+    )
+
+pub write_round-requires-clause-room : goal.write_round-requires-clause-room
+write_round-requires-clause-room g c κs within =
+    let inv = c.loop-rest.invariant in
+    let round = c.split_at.result.0.now in
+    let behind = c.split_at.result.1.now in
+    let halves = halves_of c.min.result c.loop-rest.rest.now round behind c.split_at.ensures.front
+    c.split_at.ensures.back in
+    let all = ap length (joined_whole inv.done c.loop-rest.rest.now round behind c.args.lists.now
+    inv.whole halves) in
+    let parts = length-append (joined inv.done) (joined round ++ joined behind) in
+    let rest = length-append (joined round) (joined behind) in
+    omega (arith, all, parts, rest, inv.few, c.requires.room)
+
+pub loop-rest-preserved : goal.loop-rest-preserved
+loop-rest-preserved g c =
+    let fares = c.args.table.now in
+    let inv = c.loop-rest.invariant in
+    let round = c.split_at.result.0.now in
+    let behind = c.split_at.result.1.now in
+    let halves = halves_of c.min.result c.loop-rest.rest.now round behind c.split_at.ensures.front
+    c.split_at.ensures.back in
+    let next = c.in_ok-write_round.ensures in
+    let more = joined_append inv.done round in
+    let long = ap length more in
+    let parts = length-append (joined inv.done) (joined round) in
+    record {
+      done = inv.done ++ round;
+      whole = append_assoc inv.done round behind ∙ ap (λ lists. inv.done ++ lists) halves ∙ inv.whole;
+      early = (both Early (joined round) (joined behind)
+          (subst (λ (taps : List TapFields). All Early taps)
+          (sym (joined_halves c.loop-rest.rest.now round behind halves)) inv.early)).1;
+      told = λ earlier come.
+          let so_far = inv.told earlier come in
+          let lines = next.told (earlier ++ posted_after fares earlier (joined inv.done))
+          so_far.1.come in (
+            so_far.0 ++ lines.0,
+            subst (λ (taps : List TapFields). AreTold fares earlier taps c.write_round.new.teller
+                (so_far.0 ++ lines.0)) (sym more) (told_append fares earlier (joined inv.done)
+                (joined round) c.loop-rest.teller c.write_round.new.teller so_far.0 lines.0 so_far.1
+                lines.1),
+            Appends-trans _ _ _ so_far.0 lines.0 so_far.2 lines.2,
+          );
+      token = next.token ∙ ap (λ (t : Token). last_token t (joined round)) inv.token
+          ∙ sym (ap (last_token c.args.teller.now.token) more
+          ∙ last_append c.args.teller.now.token (joined inv.done) (joined round));
+      few = omega (arith, next.few, inv.few, long, parts);
+    }
+
+-- all is done where nothing is left
+all_done : (done left lists : List (Vec TapFields Global)) → done ++ left ≡ lists
+    → (length left == 0) ≡ true → done ≡ lists
+all_done done left lists all test =
+    sym (append-nil done)
+    ∙ ap (λ more. done ++ more) (sym (nil_from_length left (eqb-true (length left) 0 test))) ∙ all
+
+pub returns-clause-told : goal.returns-clause-told
+returns-clause-told g c = λ earlier come.
+    let inv = c.loop-rest.invariant in
+    let so_far = inv.told earlier come in
+    let same = all_done inv.done c.loop-rest.rest.now _ inv.whole
+    (sym c.is_empty.ensures ∙ c.loop-rest-test.false) in (
+      so_far.0,
+      subst (λ (lists : List (Vec TapFields Global)). AreTold c.args.table.now earlier (joined lists)
+          c.loop-rest.teller so_far.0) same so_far.1,
+      so_far.2,
+    )

@@ -1,0 +1,25 @@
+use Rattle.std.proofs.Common.{◌≡◌, ℕ, ◌+◌, ◌≤◌, List, ◌++◌, length, string_bytes, All, Vec, Global}
+use Rattle.std.specs.Io.KnownBytes.{Appends, append_known}
+use Rattle.tap_views.specs.declared.encoder.TapFields.{TapFields}
+use Rattle.shard_book.specs.declared.entry.Entry.{Entry}
+use Rattle.ledger_texts.specs.Lines.{HasCome}
+use Rattle.settled_texts.specs.inside.Telling.{AreTold, last_token}
+use Rattle.settled_texts.proofs.Joined.{Early, joined}
+use Rattle.settled_texts.proofs.rounds.write_lists.Given as goal
+
+-- the taps of the lists before the rest were told, after whatever entries the teller had come past
+abbrev pub invariant-loop-rest : goal.invariant-loop-rest
+invariant-loop-rest g l = record {
+  done : List (Vec TapFields Global);
+  whole : done ++ l.rest ≡ l.fn.lists;
+  early : All Early (joined l.rest);
+  told : (earlier : List Entry) → HasCome l.table l.fn.teller earlier
+      → (lines : List ℕ) × AreTold l.table earlier (joined done) l.teller lines
+      × Appends (append_known (g.W.Write.contents l.fn.out) (string_bytes l.fn.text))
+      (append_known (g.W.Write.contents l.out) (string_bytes l.text)) lines;
+  token : l.teller.token ≡ last_token l.fn.teller.token (joined done);
+  few : l.teller.number ≤ l.fn.teller.number + length (joined done);
+}
+
+abbrev pub decreases-loop-rest : goal.decreases-loop-rest
+decreases-loop-rest g l = length l.rest

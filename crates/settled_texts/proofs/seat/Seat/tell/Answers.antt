@@ -1,0 +1,39 @@
+-- The first token's account is fresh, so the lines are those of the taps wherever it has no entry.
+use Rattle.std.proofs.Common.{◌≡◌, ℕ, List, [], ◌++◌, sym, ap, subst, ◌∙◌, arith}
+use Rattle.shard_book.specs.Entry.{own}
+use Rattle.fare_table.specs.declared.token.Token.{Token}
+use Rattle.ledger_texts.specs.Lines.{AreUpTo, IsUpTo}
+use Rattle.ledger_texts.proofs.Writing.{come_first}
+use Rattle.settled_texts.specs.inside.Telling.{AreTold, NoTapFallsFrom}
+use Rattle.settled_texts.proofs.Tellings.{come_fresh, fall_first, last_first}
+use Rattle.settled_texts.proofs.seat.Seat.tell.Goals as goal
+
+pub tell_taps-requires-clause-no_fall : goal.tell_taps-requires-clause-no_fall
+tell_taps-requires-clause-no_fall c =
+    subst (λ (t : Token). NoTapFallsFrom t c.args.list.now)
+    (sym (c.of-self.ensures.token ∙ c.token_of-self.ensures))
+    (fall_first c.requires.sound.from c.args.list.now _ (sym c.in-Some.ensures.value)
+    c.requires.sound.no_fall).1
+
+pub tell_taps-requires-clause-come : goal.tell_taps-requires-clause-come
+tell_taps-requires-clause-come c =
+    ([], come_first c.args.table.now c.of-self.result (c.of-self.ensures.told c.args.table.now))
+
+pub returns : goal.returns
+returns c = λ whole.
+    let fares = c.args.table.now in
+    let list = c.args.list.now in
+    let its = c.of-self.ensures.token in
+    let there = sym c.in-Some.ensures.value in
+    record {
+      first = λ token no_fall. subst (λ (t : Token). IsUpTo token t) (sym c.token_of-self.ensures)
+          (fall_first token list _ there no_fall).0;
+      told = λ earlier none up.
+          let told = c.in-Ok.ensures.told earlier (come_fresh fares c.of-self.result earlier
+          (subst (λ (t : Token). own t earlier ≡ []) (sym its) none)
+          (subst (λ (t : Token). AreUpTo earlier t) (sym its) up) (c.of-self.ensures.told fares)) in
+          subst (λ (bytes : List ℕ). AreTold fares earlier list c.tell_taps.new.teller bytes)
+          (sym (told.2 ∙ ap (λ (front : List ℕ). front ++ told.0) c.clear.ensures.bytes)) told.1;
+      token = λ from. c.in-Ok.ensures.token ∙ last_first c.of-self.result.token from list _ there;
+      few = omega (arith, c.in-Ok.ensures.few, c.of-self.ensures.none);
+    }

@@ -1,0 +1,30 @@
+-- What a thread makes of a list of taps. Private functions alone cite this.
+use Rattle.std.specs.Prelude.{◌≡◌, ◌≤◌, true, List, [], length, string_bytes}
+use Rattle.fare_table.specs.Fares.{Fares}
+use Rattle.fare_table.specs.declared.token.Token.{Token}
+use Rattle.tap_views.specs.Encoding.{AreEarly}
+use Rattle.tap_views.specs.declared.encoder.TapFields.{TapFields}
+use Rattle.shard_book.specs.Entry.{own}
+use Rattle.shard_book.specs.declared.entry.Entry.{Entry}
+use Rattle.ledger_texts.specs.Lines.{AreUpTo, IsUpTo}
+use Rattle.settled_texts.specs.declared.seat.Seat.{Seat}
+use Rattle.settled_texts.specs.inside.Telling.{AreTold, NoTapFallsFrom, last_token}
+
+-- the taps' moments are before 2100, and their tokens never fall
+pub record IsSoundList (taps : List TapFields) : Type 0 where
+  pub early : AreEarly (λ (tap : TapFields). tap.moment) taps
+  pub from : Token
+  pub no_fall : NoTapFallsFrom from taps
+
+-- the seat's text has the lines of the taps, after whatever entries have tokens below the first
+-- tap's
+pub record IsWhole (fares : Fares) (taps : List TapFields) (seat : Seat) : Type 0 where
+  pub first : (token : Token) → NoTapFallsFrom token taps → IsUpTo token seat.first
+  pub told : (earlier : List Entry) → own seat.first earlier ≡ [] → AreUpTo earlier seat.first
+      → AreTold fares earlier taps seat.teller (string_bytes seat.text)
+  pub token : (from : Token) → seat.teller.token ≡ last_token from taps
+  pub few : seat.teller.number ≤ length taps
+
+-- the seat's text has all lines of the taps, where the seat says so
+abbrev pub HasSat : Fares → List TapFields → Seat → Type 0
+HasSat fares taps seat = seat.is_whole ≡ true → IsWhole fares taps seat

@@ -1,0 +1,98 @@
+//! The ledger of settled taps.
+
+ghost use Rattle.std.specs.Prelude.{◌≡◌, ◌+◌, ◌*◌, ◌^◌, ◌<◌, ◌++◌, ℕ, All, List, None, IfErr, IfOk};
+ghost use Rattle.std.specs.Prelude.{OnOk, flat_map, length};
+ghost use Rattle.std.specs.List.Sorted.{IsSorted};
+ghost use Rattle.std.specs.Io.KnownBytes.{Appends};
+ghost use Rattle.tap_views.specs.Encoding.{AreEarly};
+ghost use Rattle.tap_parts.specs.Canonical.{tap_cmp};
+ghost use Rattle.fare_texts.specs.PrintFaults.{KeepsUnlessWrite};
+ghost use Rattle.ledger_texts.specs.Ledger.{IsLedgerOver};
+ghost use Rattle.settlement.specs.Posted.{HasName, posted};
+
+use crate::lines::STRIDE_ROOM_BYTES;
+use crate::rounds::write_lists;
+use crate::seat::Seat;
+use fare_table::{FareTable, NoMemory};
+use fare_texts::PrintFault;
+use ledger_texts::{head_with_room, pass_on};
+use reason_texts::Teller;
+use shard_book::Token;
+use std::alloc::Global;
+use std::io::Write;
+use std::marker::Sync;
+use std::thread::Threads;
+use tap_views::TapFields;
+
+/// Counts the taps of the lists. As many as no memory can hold are told as want of memory.
+fn count(lists: &[Vec<TapFields>]) -> Result<u64, NoMemory>
+    ensures count { IfOk result (λ count. count ≡ length (flat_map (λ list. list.items) lists.now)) }
+{
+    let mut count: u64 = 0;
+    for list in lists {
+        count = count.checked_add(list.len() as u64).ok_or(NoMemory)?;
+    }
+    Ok(count)
+}
+
+/// The least token.
+fn least_token() -> Token
+    ensures { result ≡ record { high = 0; low = 0 } }
+{
+    // proof: the token of 16 zero bytes is that of two zero numbers
+    shard_book::laws::same_bytes_same_token();
+    Token::of(&[0; 16])
+}
+
+/// A seat for each worker, where there are two or more.
+fn seats_of(alloc: Global, workers: u32) -> Result<Vec<Seat>, NoMemory> {
+    let mut seats = Vec::new(alloc);
+    if workers > 1 {
+        for _ in 0..workers {
+            seats.push(Seat::new(alloc))?;
+        }
+    }
+    Ok(seats)
+}
+
+/// Writes the ledger of taps in canonical order, which lie in lists one behind the other: the head
+/// line, and a line for each tap, with the reply and the reason that the account rule has for it
+/// after the earlier taps of its token. Nothing is kept of a tap but its token's account. So many
+/// workers make the lines of a list each, and these go out in order; where a thread or its memory
+/// is refused, and where a token has taps in two lists, this thread makes the lines itself, with
+/// the room that it took at first. So on a fault of memory nothing was written.
+pub fn write_settled_ledger<R: Threads + Sync, W: Write>(
+    rt: &R,
+    alloc: Global,
+    table: &FareTable,
+    lists: &[Vec<TapFields>],
+    workers: u32,
+    out: &mut W,
+) -> Result<(), PrintFault>
+    requires sorted { IsSorted tap_cmp (flat_map (λ list. list.items) lists.now) }
+    requires early { AreEarly (λ tap. tap.moment) (flat_map (λ list. list.items) lists.now) }
+    requires named { All HasName (flat_map (λ list. list.items) lists.now) }
+    ensures ok { OnOk result ((text : List ℕ) × IsLedgerOver table.now
+        (posted table.now (flat_map (λ list. list.items) lists.now)) None text
+        × Appends (W.contents out.old) (W.contents out.new) text) }
+    ensures fault { IfErr result (λ fault. KeepsUnlessWrite fault (out.new ≡ out.old)) }
+{
+    // proof: the taps can be counted
+    let _count = count(lists)?;
+    let clock = table.clock(alloc)?;
+    let mut text = head_with_room(alloc, STRIDE_ROOM_BYTES)?;
+    let mut seats = seats_of(alloc, workers)?;
+    let mut teller = Teller::of(least_token());
+    write_lists(
+        rt,
+        &mut text,
+        table,
+        &clock,
+        &mut teller,
+        &mut seats,
+        lists,
+        out,
+    )?;
+    pass_on(&mut text, out)?;
+    Ok(())
+}

@@ -1,0 +1,128 @@
+//! The lines of taps whose tokens do not fall.
+
+ghost use Rattle.std.specs.Prelude.{◌≡◌, ◌+◌, ◌^◌, ◌<◌, ◌≤◌, ◌++◌, ◌∷◌, [], ℕ, List, IfErr, OnOk};
+ghost use Rattle.std.specs.Prelude.{length, string_bytes};
+ghost use Rattle.std.specs.Io.KnownBytes.{Appends, append_known};
+ghost use Rattle.tap_views.specs.Encoding.{AreEarly};
+ghost use Rattle.shard_book.specs.declared.entry.Entry.{Entry};
+ghost use Rattle.fare_texts.specs.declared.print_fault.PrintFault.TheVariants.{Write as ForWrite};
+ghost use Rattle.ledger_texts.specs.Lines.{HasCome, IsUpTo};
+ghost use Rattle.settlement.specs.Posted.{token_of_tap};
+ghost use Rattle.settled_texts.specs.inside.Telling.{AreTold, NoTapFallsFrom, last_token};
+
+use fare_table::{Clock, FareTable};
+use fare_texts::PrintFault;
+use ledger_texts::{LINE_ROOM_BYTES, go_on_to, pass_piece};
+use reason_texts::Teller;
+use shard_book::Token;
+use std::alloc::AllocError;
+use std::io::Write;
+use tap_views::TapFields;
+
+/// How many taps are told before their lines may go out.
+const STRIDE_TAPS: usize = 64;
+
+/// More bytes than the lines of a stride have.
+pub(crate) const STRIDE_ROOM_BYTES: usize = STRIDE_TAPS * LINE_ROOM_BYTES;
+
+/// The token of a tap.
+#[inline(always)]
+pub(crate) fn token_of(tap: &TapFields) -> Token
+    ensures { result ≡ token_of_tap tap.now }
+{
+    Token::of(&tap.token)
+}
+
+/// Posts a tap, whose token is not below the teller's, and appends its line. If memory is refused,
+/// the line is not whole.
+#[inline(always)]
+fn tell_tap(
+    text: &mut String,
+    table: &FareTable,
+    clock: &Clock,
+    teller: &mut Teller,
+    tap: &TapFields,
+) -> Result<(), AllocError>
+    requires clock { clock.now ≡ table.now.zone }
+    requires early { tap.now.moment < 4_102_444_800_000 }
+    requires up { IsUpTo teller.old.token (token_of_tap tap.now) }
+    requires come { (earlier : List Entry) × HasCome table.now teller.old earlier }
+    requires room { teller.old.number + 1 < 2 ^ 64 }
+
+    // After all entries that the teller has come past.
+    ensures told { OnOk result ((earlier : List Entry) → HasCome table.now teller.old earlier
+        → (line : List ℕ) × AreTold table.now earlier (tap.now ∷ []) teller.new line
+        × (string_bytes text.new ≡ string_bytes text.old ++ line)) }
+    ensures token { teller.new.token ≡ token_of_tap tap.now }
+    ensures few { teller.new.number ≤ teller.old.number + 1 }
+{
+    go_on_to(teller, token_of(tap));
+    teller.write_posted(text, table, clock, tap.validator, tap.moment)?;
+    Ok(())
+}
+
+/// Posts the taps, whose tokens do not fall from the teller's on, and appends their lines. If
+/// memory is refused, the lines are not whole.
+pub(crate) fn tell_taps(
+    text: &mut String,
+    table: &FareTable,
+    clock: &Clock,
+    teller: &mut Teller,
+    taps: &[TapFields],
+) -> Result<(), AllocError>
+    requires clock { clock.now ≡ table.now.zone }
+    requires early { AreEarly (λ tap. tap.moment) taps.now }
+    requires no_fall { NoTapFallsFrom teller.old.token taps.now }
+    requires come { (earlier : List Entry) × HasCome table.now teller.old earlier }
+    requires room { teller.old.number + length taps.now < 2 ^ 64 }
+
+    // After all entries that the teller has come past.
+    ensures told { OnOk result ((earlier : List Entry) → HasCome table.now teller.old earlier
+        → (lines : List ℕ) × AreTold table.now earlier taps.now teller.new lines
+        × (string_bytes text.new ≡ string_bytes text.old ++ lines)) }
+    ensures token { OnOk result (teller.new.token ≡ last_token teller.old.token taps.now) }
+    ensures few { OnOk result (teller.new.number ≤ teller.old.number + length taps.now) }
+{
+    for tap in taps {
+        tell_tap(text, table, clock, teller, tap)?;
+    }
+    Ok(())
+}
+
+/// Posts the taps as `tell_taps` does, in strides, between which what waits in the text goes out
+/// where it is a piece. The text has room for a piece and a stride.
+pub(crate) fn write_taps<W: Write>(
+    text: &mut String,
+    table: &FareTable,
+    clock: &Clock,
+    teller: &mut Teller,
+    taps: &[TapFields],
+    out: &mut W,
+) -> Result<(), PrintFault>
+    requires clock { clock.now ≡ table.now.zone }
+    requires early { AreEarly (λ tap. tap.moment) taps.now }
+    requires no_fall { NoTapFallsFrom teller.old.token taps.now }
+    requires come { (earlier : List Entry) × HasCome table.now teller.old earlier }
+    requires room { teller.old.number + length taps.now < 2 ^ 64 }
+
+    // After all entries that the teller has come past.
+    ensures told { OnOk result ((earlier : List Entry) → HasCome table.now teller.old earlier
+        → (lines : List ℕ) × AreTold table.now earlier taps.now teller.new lines
+        × Appends (append_known (W.contents out.old) (string_bytes text.old))
+        (append_known (W.contents out.new) (string_bytes text.new)) lines) }
+    ensures token { OnOk result (teller.new.token ≡ last_token teller.old.token taps.now) }
+    ensures few { OnOk result (teller.new.number ≤ teller.old.number + length taps.now) }
+    ensures fault { IfErr result (λ fault. fault ≡ ForWrite) }
+{
+    let mut rest = taps;
+    while !rest.is_empty() {
+        let (stride, behind) = rest.split_at(rest.len().min(STRIDE_TAPS));
+        // The text has room for a stride, so that none is refused.
+        let Ok(()) = tell_taps(text, table, clock, teller, stride) else {
+            return Err(PrintFault::Write);
+        };
+        pass_piece(text, out)?;
+        rest = behind;
+    }
+    Ok(())
+}

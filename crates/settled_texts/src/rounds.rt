@@ -1,0 +1,164 @@
+//! The lines of lists, in rounds of a list a thread.
+
+ghost use Rattle.std.specs.Prelude.{◌≡◌, ◌+◌, ◌^◌, ◌<◌, ◌≤◌, ◌++◌, [], ℕ, All, List, IfErr, IfSome};
+ghost use Rattle.std.specs.Prelude.{OnOk, Some, flat_map, length, map, slice_get, string_bytes};
+ghost use Rattle.std.specs.Io.KnownBytes.{Appends, append_known};
+ghost use Rattle.tap_views.specs.Encoding.{AreEarly};
+ghost use Rattle.tap_views.specs.declared.encoder.TapFields.{TapFields};
+ghost use Rattle.shard_book.specs.declared.entry.Entry.{Entry};
+ghost use Rattle.fare_texts.specs.declared.print_fault.PrintFault.TheVariants.{Write as ForWrite};
+ghost use Rattle.ledger_texts.specs.Lines.{HasCome};
+ghost use Rattle.settled_texts.specs.declared.seat.Seat.{Seat};
+ghost use Rattle.settled_texts.specs.inside.Seats.{HasSat, IsSoundList};
+ghost use Rattle.settled_texts.specs.inside.Telling.{AreTold, NoTapFallsFrom, last_token};
+
+use crate::lines::write_taps;
+use crate::seat::Seat;
+use fare_table::{Clock, FareTable};
+use fare_texts::{PrintFault, write_out};
+use ledger_texts::pass_on;
+use reason_texts::Teller;
+use std::io::Write;
+use std::marker::Sync;
+use std::thread;
+use std::thread::Threads;
+use tap_views::TapFields;
+
+/// Lets each seat make the lines of the list at its place.
+fn sit<R: Threads + Sync>(
+    rt: &R,
+    table: &FareTable,
+    clock: &Clock,
+    seats: &mut [Seat],
+    round: &[Vec<TapFields>],
+)
+    requires clock { clock.now ≡ table.now.zone }
+    requires sound { All (λ list. IsSoundList list.items) round.now }
+    ensures len { length seats.new ≡ length seats.old }
+    ensures sat { (place : ℕ) (seat : Seat) (list : List TapFields)
+        → slice_get seats.new place ≡ Some seat
+        → slice_get (map (λ list. list.items) round.now) place ≡ Some list
+        → HasSat table.now list seat }
+{
+    let threads = seats.len().max(1);
+    thread::for_each_mut(
+        rt,
+        seats,
+        threads,
+        &|place: usize, seat: &mut Seat|
+            requires { (clock.now ≡ table.now.zone)
+                × All (λ list. IsSoundList list.items) round.now }
+            ensures { (list : List TapFields)
+                → slice_get (map (λ list. list.items) round.entry.now) place ≡ Some list
+                → HasSat table.entry.now list seat.new }
+        { seat.take(table, clock, round, place) },
+    );
+}
+
+/// Writes the lines of a list: those that a seat has made, where they are whole and no earlier tap
+/// has the list's first token, and else by pieces.
+fn write_list<W: Write>(
+    text: &mut String,
+    table: &FareTable,
+    clock: &Clock,
+    teller: &mut Teller,
+    seat: Option<&Seat>,
+    list: &[TapFields],
+    out: &mut W,
+) -> Result<(), PrintFault>
+    requires clock { clock.now ≡ table.now.zone }
+    requires early { AreEarly (λ tap. tap.moment) list.now }
+    requires no_fall { NoTapFallsFrom teller.old.token list.now }
+    requires come { (earlier : List Entry) × HasCome table.now teller.old earlier }
+    requires room { teller.old.number + length list.now < 2 ^ 64 }
+    requires sat { IfSome seat (λ seat. HasSat table.now list.now seat.now) }
+
+    // After all entries that the teller has come past.
+    ensures told { OnOk result ((earlier : List Entry) → HasCome table.now teller.old earlier
+        → (lines : List ℕ) × AreTold table.now earlier list.now teller.new lines
+        × Appends (append_known (W.contents out.old) (string_bytes text.old))
+        (append_known (W.contents out.new) (string_bytes text.new)) lines) }
+    ensures token { OnOk result (teller.new.token ≡ last_token teller.old.token list.now) }
+    ensures few { OnOk result (teller.new.number ≤ teller.old.number + length list.now) }
+    ensures fault { IfErr result (λ fault. fault ≡ ForWrite) }
+{
+    let Some(seat) = seat else {
+        return write_taps(text, table, clock, teller, list, out);
+    };
+    if !seat.is_whole || teller.token == seat.first {
+        return write_taps(text, table, clock, teller, list, out);
+    }
+    pass_on(text, out)?;
+    write_out(seat.text.as_bytes(), out)?;
+    *teller = seat.teller;
+    Ok(())
+}
+
+/// Writes the lines of a round of lists, a list a seat.
+fn write_round<R: Threads + Sync, W: Write>(
+    rt: &R,
+    text: &mut String,
+    table: &FareTable,
+    clock: &Clock,
+    teller: &mut Teller,
+    seats: &mut [Seat],
+    round: &[Vec<TapFields>],
+    out: &mut W,
+) -> Result<(), PrintFault>
+    requires clock { clock.now ≡ table.now.zone }
+    requires early { AreEarly (λ tap. tap.moment) (flat_map (λ list. list.items) round.now) }
+    requires no_fall { NoTapFallsFrom teller.old.token (flat_map (λ list. list.items) round.now) }
+    requires come { (earlier : List Entry) × HasCome table.now teller.old earlier }
+    requires room { teller.old.number + length (flat_map (λ list. list.items) round.now) < 2 ^ 64 }
+
+    // After all entries that the teller has come past.
+    ensures told { OnOk result ((earlier : List Entry) → HasCome table.now teller.old earlier
+        → (lines : List ℕ) × AreTold table.now earlier (flat_map (λ list. list.items) round.now) teller.new lines
+        × Appends (append_known (W.contents out.old) (string_bytes text.old))
+        (append_known (W.contents out.new) (string_bytes text.new)) lines) }
+    ensures token { OnOk result
+        (teller.new.token ≡ last_token teller.old.token (flat_map (λ list. list.items) round.now)) }
+    ensures few { OnOk result
+        (teller.new.number ≤ teller.old.number + length (flat_map (λ list. list.items) round.now)) }
+    ensures fault { IfErr result (λ fault. fault ≡ ForWrite) }
+{
+    sit(rt, table, clock, seats, round);
+    for place in 0..round.len() {
+        let seat = seats.get(place);
+        write_list(text, table, clock, teller, seat, &round[place], out)?;
+    }
+    Ok(())
+}
+
+/// Writes the lines of all lists, in rounds of as many lists as there are seats.
+pub(crate) fn write_lists<R: Threads + Sync, W: Write>(
+    rt: &R,
+    text: &mut String,
+    table: &FareTable,
+    clock: &Clock,
+    teller: &mut Teller,
+    seats: &mut [Seat],
+    lists: &[Vec<TapFields>],
+    out: &mut W,
+) -> Result<(), PrintFault>
+    requires clock { clock.now ≡ table.now.zone }
+    requires early { AreEarly (λ tap. tap.moment) (flat_map (λ list. list.items) lists.now) }
+    requires no_fall { NoTapFallsFrom teller.old.token (flat_map (λ list. list.items) lists.now) }
+    requires come { (earlier : List Entry) × HasCome table.now teller.old earlier }
+    requires room { teller.old.number + length (flat_map (λ list. list.items) lists.now) < 2 ^ 64 }
+
+    // After all entries that the teller has come past.
+    ensures told { OnOk result ((earlier : List Entry) → HasCome table.now teller.old earlier
+        → (lines : List ℕ) × AreTold table.now earlier (flat_map (λ list. list.items) lists.now) teller.new lines
+        × Appends (append_known (W.contents out.old) (string_bytes text.old))
+        (append_known (W.contents out.new) (string_bytes text.new)) lines) }
+    ensures fault { IfErr result (λ fault. fault ≡ ForWrite) }
+{
+    let mut rest = lists;
+    while !rest.is_empty() {
+        let (round, behind) = rest.split_at(rest.len().min(seats.len().max(1)));
+        write_round(rt, text, table, clock, teller, seats, round, out)?;
+        rest = behind;
+    }
+    Ok(())
+}

@@ -1,0 +1,85 @@
+//! The lines of one list, made by a thread of its own.
+
+ghost use Rattle.std.specs.Prelude.{◌≡◌, All, List, Some, map, slice_get};
+ghost use Rattle.tap_views.specs.Encoding.{AreEarly};
+ghost use Rattle.tap_views.specs.declared.encoder.TapFields.{TapFields};
+ghost use Rattle.settled_texts.specs.inside.Seats.{HasSat, IsSoundList};
+
+use crate::lines::{tell_taps, token_of};
+use fare_table::{Clock, FareTable};
+use reason_texts::Teller;
+use shard_book::Token;
+use std::alloc::Global;
+use tap_views::TapFields;
+
+/// The most taps of a list that a seat takes, so that its text stays small.
+const SEAT_TAPS: usize = 65_536;
+
+/// What one thread made of one list.
+#[derive(Drop)]
+pub(crate) struct Seat {
+    /// The token of the list's first tap.
+    pub(crate) first: Token,
+    /// The last token of the list, with its account after the list.
+    pub(crate) teller: Teller,
+    /// The lines.
+    pub(crate) text: String,
+    /// Whether these are the lines of all taps of the list, where its first token had none before.
+    pub(crate) is_whole: bool,
+}
+
+impl Seat {
+    /// A seat that has no list.
+    pub(crate) fn new(alloc: Global) -> Self {
+        let first = Token::of(&[0; 16]);
+        Seat {
+            first,
+            teller: Teller::of(first),
+            text: String::new(alloc),
+            is_whole: false,
+        }
+    }
+
+    /// Posts the taps of a list, the first token anew, and keeps their lines. A list that is too
+    /// long or empty, or for which memory is refused, is left to the caller.
+    fn tell(&mut self, table: &FareTable, clock: &Clock, list: &[TapFields])
+        requires clock { clock.now ≡ table.now.zone }
+        requires sound { IsSoundList list.now }
+        ensures { HasSat table.now list.now self.new }
+    {
+        self.is_whole = false;
+        if list.len() > SEAT_TAPS {
+            return;
+        }
+        let Some(first) = list.first() else {
+            return;
+        };
+        self.first = token_of(first);
+        self.teller = Teller::of(self.first);
+        self.text.clear();
+        let Ok(()) = tell_taps(&mut self.text, table, clock, &mut self.teller, list) else {
+            return;
+        };
+        self.is_whole = true;
+    }
+
+    /// Takes the list at the place, if there is one.
+    pub(crate) fn take(
+        &mut self,
+        table: &FareTable,
+        clock: &Clock,
+        lists: &[Vec<TapFields>],
+        place: usize,
+    )
+        requires clock { clock.now ≡ table.now.zone }
+        requires sound { All (λ list. IsSoundList list.items) lists.now }
+        ensures { (list : List TapFields)
+            → slice_get (map (λ list. list.items) lists.now) place ≡ Some list
+            → HasSat table.now list self.new }
+    {
+        match lists.get(place) {
+            Some(list) => self.tell(table, clock, list),
+            None => self.is_whole = false,
+        }
+    }
+}
