@@ -14,9 +14,13 @@
 # make model    the turn protocol of a shared book in Spin: no worker sleeps for ever, and one at a
 #               time has the book. model/README.md says what the model has
 # make hostile  memory, reads, writes, threads and the seed refused one at a time, in every place
-# make bench    one table of speed and memory beside Rust without proofs, within ten minutes
-# make audit    the checkers of ledgers over the example, a generated week and 20 spoilt ledgers
-# make sql      the example's ledger in SQLite and in PostgreSQL, and an auditor's questions
+# make bench    one table of speed and memory, live and settled, beside Rust without proofs, within
+#               ten minutes, and a tap's instructions if valgrind is there. If no proved program is
+#               there, a trial is built and measured, and it says so
+# make audit    the checkers of ledgers over the example, some zones, a generated week and spoilt
+#               ledgers
+# make sql      the example's ledger in SQLite and in PostgreSQL, an auditor's questions, and journals
+#               for hledger
 # make viewer   the page that shows a ledger, in headless Chromium
 # make cluster  3 million taps over 8 parts: on this machine, on Slurm and on Dask, with a machine
 #               lost in the middle; then what may go wrong. docs/CLUSTER.md says more

@@ -19,6 +19,9 @@ NUMBER, WORD = "(?:0|[1-9][0-9]*)", "[a-z-]{0,16}"
 MOMENT = "[0-9]{4}-[0-9]{2}-[0-9]{2}T(?:[01][0-9]|2[0-3])(?::[0-5][0-9]){2}[.][0-9]{3}Z"
 LINE = re.compile(f"([0-9a-f]{{32}}),({NUMBER}),({MOMENT}),({NUMBER}),{WORD},{WORD},({NUMBER}),"
                   f"({MOMENT}|),({MOMENT}|),({NUMBER}|),{WORD},({MOMENT}|)\n")
+# days of a POSIX rule that zoneinfo takes for others: `n`, and J59
+RULE_DAY = re.compile("(?<=.),(J59|[0-2]?[0-9]{1,2}|3[0-5][0-9]|36[0-5])"
+                      "(/([+-]?)([0-9]{1,3})(?::([0-5][0-9]))?(?::([0-5][0-9]))?)?(?=,|$)")
 
 @lru_cache(1024)
 def day_ms(text):
@@ -34,9 +37,23 @@ def moment_text(ms):
     """The moment of these milliseconds, as a ledger has it."""
     return f"{datetime.fromtimestamp(ms // 1000, timezone.utc):%Y-%m-%dT%H:%M:%S}.{ms % 1000:03}Z"
 
+def rule_day(found):
+    """The day of a rule as zoneinfo must be given it. A rule counts day `n` from zero, zoneinfo
+    from one. In leap years zoneinfo takes J59, 28 February, for the day after it."""
+    day, time, sign, *numbers = found.groups()
+    if day.isdigit() and int(day) < 365:
+        return f",{int(day) + 1}{time or ''}"
+    # what zoneinfo takes for the day before, and 24 hours more
+    hours, minutes, seconds = (int(number or 0) for number in (numbers if time else (2, 0, 0)))
+    clock = (hours * 3600 + minutes * 60 + seconds) * (-1 if sign == "-" else 1) + 86_400
+    minutes, seconds = divmod(abs(clock), 60)
+    sign = "-" if clock < 0 else ""
+    return f",{'J58' if day == 'J59' else day}/{sign}{minutes // 60}:{minutes % 60:02}:{seconds:02}"
+
 def zone_of(rule):
     """The zone of a POSIX rule text: a zone file without changes whose last line is the rule."""
     head = lambda version: b"TZif" + version + bytes(15) + struct.pack(">6I", 0, 0, 0, 0, 1, 1)
+    rule = RULE_DAY.sub(rule_day, rule)
     file = (head(b"2") + bytes(7)) * 2 + b"\n" + rule.encode() + b"\n"
     return ZoneInfo.from_file(io.BytesIO(file))
 

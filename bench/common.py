@@ -1,7 +1,7 @@
 """What `compare` needs: building, running, medians, tables."""
 
 import os
-import shutil
+import re
 import statistics
 import subprocess
 import sys
@@ -31,38 +31,53 @@ def build_rust(name):
     return str(built)
 
 
-def build_rattle(name):
-    """The program crate NAME as `rt run` builds it. Its check is from what earlier ones kept."""
-    crate = ROOT / "crates" / name
-    built = crate / "out" / name
-    sources = [path for path in (ROOT / "crates").glob("*/src/**/*.rt")]
-    newest = max((path.stat().st_mtime for path in sources), default=0)
-    if not built.exists() or built.stat().st_mtime < newest:
-        if not crate.is_dir() or shutil.which("rt") is None:
-            sys.exit(f"{built} is not there and can't be built")
-        print(f"building {name} by rt run ..", flush=True)
-        # What the program itself answers without words is of no interest here.
-        subprocess.run(["rt", "run", "--jobs", "2"], cwd=crate, stdin=subprocess.DEVNULL, stdout=subprocess.DEVNULL)
-        if not built.exists():
-            sys.exit(f"{name} is not proved, so it is not built: rt check in {crate} says why")
-    return str(built)
+class Program:
+    """The built omny_cli: the one that was given, else the proved one if it is newer than its sources, else a trial."""
+
+    def __init__(self, given):
+        self.is_trial = False
+        if given:
+            self.path, self.what = str(Path(given).resolve()), "as given"
+            return
+        proved = subprocess.run([str(ROOT / "scripts/proved_program"), "omny_cli"], capture_output=True, text=True)
+        if proved.returncode == 0:
+            self.path, self.what = proved.stdout.strip(), "proved"
+            return
+        self.is_trial = True
+        self.path = str(ROOT / "out/trial/omny_cli")
+        print(f"no proved program: {proved.stderr.strip()}. A trial is built, and measured in its place", flush=True)
+        if subprocess.run([str(ROOT / "scripts/build_trial"), "omny_cli"]).returncode != 0:
+            sys.exit("there is no program to measure")
+        self.what = "A TRIAL: nothing is proved of it, and its checks make it slow and large. These are not the program's figures"
 
 
 class Run:
-    """One run of a program: wall and processor seconds, peak memory in KiB, exit status."""
+    """One run of a program in a folder: wall and processor seconds, peak memory in KiB, exit status."""
 
-    def __init__(self, words, out):
+    def __init__(self, words, out, folder):
         # The text of the run before is dropped first, which is no part of a run.
         with open(out, "wb") as file:
+            # In their folder files have short names, so that 65,535 of them fit on a command line.
+            os.chdir(folder)
             start = time.perf_counter()
             # A child made by posix_spawn shares no page of this script, so that its peak is its own.
             pid = os.posix_spawn(words[0], words, os.environ,
                                  file_actions=[(os.POSIX_SPAWN_DUP2, file.fileno(), 1)])
             _, status, usage = os.wait4(pid, 0)
-        self.seconds = time.perf_counter() - start
+            self.seconds = time.perf_counter() - start
+            os.chdir(ROOT)
         self.status = os.waitstatus_to_exitcode(status)
         self.busy = usage.ru_utime + usage.ru_stime
         self.memory = usage.ru_maxrss
+
+
+def instructions(words, folder):
+    """The instructions of a run in a folder, of all threads, as valgrind counts them. None if it gives no count."""
+    log = Path(folder) / "valgrind.log"
+    command = ["valgrind", "--tool=callgrind", "--callgrind-out-file=/dev/null", f"--log-file={log}", *words]
+    ran = subprocess.run(command, cwd=folder, stdin=subprocess.DEVNULL, stdout=subprocess.DEVNULL, stderr=subprocess.DEVNULL)
+    found = re.search(r"Collected : (\d+)", log.read_text()) if log.exists() else None
+    return int(found[1]) if found and ran.returncode == 0 else None
 
 
 def median(values):

@@ -7,6 +7,10 @@ SELECT * FROM totals;
 SELECT 'revenue by civil day and mode' AS question;
 SELECT * FROM revenue ORDER BY day, mode;
 
+SELECT 'postings by civil day and account' AS question;
+SELECT day, account, count(*) AS postings, sum(cents) AS cents FROM posting GROUP BY day, account
+  ORDER BY day, account;
+
 SELECT 'riders at the cap: the ten with most free rides' AS question;
 SELECT * FROM riders_at_cap ORDER BY free_rides DESC, token, window_start LIMIT 10;
 

@@ -51,3 +51,11 @@ CREATE VIEW stale_taps AS
   SELECT validator, day, count(*) AS taps, count(CASE answer WHEN 'stale' THEN 1 END) AS stale,
          count(CASE answer WHEN 'stale' THEN 1 END) * 100 / count(*) AS percent
   FROM line GROUP BY validator, day HAVING count(CASE answer WHEN 'stale' THEN 1 END) > 0;
+
+-- The postings of a journal by civil day: riders owe what is charged (debits, one for each token),
+-- and modes earn it (credits, below 0). A day's postings add up to 0.
+CREATE VIEW posting AS
+  SELECT day, 'assets:receivable' AS account, token, sum(cents) AS cents
+  FROM line WHERE cents > 0 GROUP BY day, token
+  UNION ALL
+  SELECT day, 'revenue:rides:' || mode, NULL, -cents FROM revenue WHERE cents > 0;

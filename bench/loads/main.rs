@@ -1,10 +1,12 @@
 //! Makes loads: tap files, and the fare table that goes with them. The same words give the same bytes.
 //!
 //! `loads --out FOLDER [--taps N] [--tokens N] [--uploads N] [--batch N] [--layout 1|2|both] [--skewed] [--own-tokens]
-//! [--colliding] [--again N] [--ranges N] [--riders N] [--seed N]` writes `table.toml` and `000.tap`, `001.tap`, .. into the folder, and prints
-//! the names of the tap files in order.
+//! [--once] [--colliding] [--again N] [--ranges N] [--riders N] [--seed N]` writes `table.toml` and `000.tap`, `001.tap`, .. into the folder,
+//! and prints the names of the tap files in order.
 //!
 //! `--again` tells the first upload's last tap so many times more: its token has as many stale taps.
+//! `--own-tokens`: no two uploads share a token, so there are at most as many uploads as tokens.
+//! `--once`: each token has one tap, so there are as many tokens as taps, whatever `--tokens` says.
 //!
 //! The taps of an upload rise in time. Of 64 taps about 16 are of a token that tapped within the last hour (so that
 //! there are transfers), one is of no known validator and one is told twice (so that there are unknown and stale taps).
@@ -35,6 +37,7 @@ struct Words {
     layout: Layout,
     skewed: bool,
     own_tokens: bool,
+    once: bool,
     colliding: bool,
     again: u64,
     ranges: u32,
@@ -59,6 +62,7 @@ fn words() -> Option<Words> {
         layout: Layout::First,
         skewed: false,
         own_tokens: false,
+        once: false,
         colliding: false,
         again: 0,
         ranges: 300,
@@ -79,6 +83,7 @@ fn words() -> Option<Words> {
             "--seed" => words.seed = number()?,
             "--skewed" => words.skewed = true,
             "--own-tokens" => words.own_tokens = true,
+            "--once" => words.once = true,
             "--colliding" => words.colliding = true,
             "--out" => words.out = args.next()?,
             "--layout" => {
@@ -92,12 +97,18 @@ fn words() -> Option<Words> {
             _ => return None,
         }
     }
-    // So many uploads that no file is over the limit, and each has a token of its own.
+    if words.once {
+        words.tokens = words.taps;
+    }
+    if words.own_tokens {
+        words.uploads = words.uploads.min(words.tokens);
+    }
+    // So many uploads that no file is over the limit.
     let most = FILE_LIMIT / (28 * words.batch + 12) * words.batch;
     words.uploads = words.uploads.max(words.taps.div_ceil(most.max(1))).max(1);
     let fits = !words.out.is_empty()
         && (1..=4096).contains(&words.batch)
-        && words.tokens >= words.uploads
+        && words.tokens >= if words.own_tokens { words.uploads } else { 1 }
         && (3..=100_000_000).contains(&words.ranges);
     fits.then_some(words)
 }
@@ -222,19 +233,27 @@ impl<'a> Taps<'a> {
         }
     }
 
+    /// The place of the tap that is due among those of all uploads.
+    fn place(&self) -> u64 {
+        let words = self.words;
+        let extra = self.upload.min(words.taps % words.uploads);
+        self.upload * (words.taps / words.uploads) + extra + self.number
+    }
+
     /// The moment of the tap that is due: uploads with tokens of their own run side by side, others in turn.
     fn moment(&self) -> u64 {
         let words = self.words;
         if words.own_tokens {
             START + (self.number as u128 * SPAN as u128 / self.count as u128) as u64
         } else {
-            let extra = self.upload.min(words.taps % words.uploads);
-            let before = self.upload * (words.taps / words.uploads) + extra;
-            START + ((before + self.number) as u128 * SPAN as u128 / words.taps as u128) as u64
+            START + (self.place() as u128 * SPAN as u128 / words.taps as u128) as u64
         }
     }
 
     fn token(&mut self) -> u64 {
+        if self.words.once {
+            return self.place();
+        }
         if !self.recent.is_empty() && self.numbers.below(4) == 0 {
             return self.recent[self.numbers.below(self.recent.len() as u64) as usize];
         }
@@ -271,7 +290,7 @@ impl<'a> Taps<'a> {
 
     fn next(&mut self) -> Tap {
         let moment = self.moment();
-        let again = self.number > 0 && self.numbers.below(64) == 0;
+        let again = self.number > 0 && self.numbers.below(64) == 0 && !self.words.once;
         if !again {
             let token = self.token();
             self.last = Tap {
@@ -344,7 +363,7 @@ fn main() -> ExitCode {
             "usage: loads --out FOLDER [--taps N] [--tokens N] [--uploads N] [--batch N] [--layout 1|2|both]"
         );
         eprintln!(
-            "             [--skewed] [--own-tokens] [--colliding] [--again N] [--ranges N] [--riders N] [--seed N]"
+            "             [--skewed] [--own-tokens] [--once] [--colliding] [--again N] [--ranges N] [--riders N] [--seed N]"
         );
         return ExitCode::from(2);
     };

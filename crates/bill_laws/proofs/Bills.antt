@@ -11,7 +11,7 @@ use Rattle.std.proofs.lemmas.List.Elements.{Contains-append_left}
 use Rattle.std.proofs.lemmas.List.Sorted.{Contains-permutation, IsPermutation-sym}
 use Rattle.std.proofs.lemmas.List.Sums.{sum_by-cons}
 use Rattle.tap_views.specs.Encoding.{fields_of}
-use Rattle.tap_views.specs.Files.{AreGoodTaps}
+use Rattle.tap_views.specs.Files.{AreGoodTaps, HasOneReading}
 use Rattle.tap_views.specs.Layout.{Tap}
 use Rattle.tap_views.specs.declared.encoder.TapFields.{TapFields}
 use Rattle.fare_table.specs.Fares.{Fares}
@@ -29,13 +29,13 @@ use Rattle.shard_book.specs.Entry.{is_at, is_of, own, reply_of, tap_of, taps_of}
 use Rattle.shard_book.specs.Sums.{is_capped, is_paid, is_transfer, sums, sums_of_replies}
 use Rattle.shard_book.specs.SumsByKey.{entries_of_validator}
 use Rattle.shard_book.specs.declared.entry.Entry.{Entry}
-use Rattle.fare_service.specs.Plain.{HasOneReading, answered}
+use Rattle.fare_service.specs.Plain.{answered}
 use Rattle.fare_service.proofs.PlainLists.{filter-filter}
 use Rattle.fare_service.proofs.PlainRuns.{AllZip-append}
 use Rattle.tap_parts.specs.Parts.{taps_of_uploads}
 use Rattle.settlement.specs.Settled.{IsSettledHistory}
 use Rattle.settlement.proofs.Histories.{entry_of}
-use Rattle.settlement.proofs.Same.{one_list}
+use Rattle.tap_views.proofs.ReadingLemmas.{one_list}
 use Rattle.bill_laws.specs.Bills.{BillAlike, ChargeAlike, is_live, is_live_answer, live_entries}
 use Rattle.bill_laws.specs.TapSets.{AreSentAgain, HaveSameSetOfTaps, fields_of_uploads}
 use Rattle.bill_laws.proofs.Posts.{SameBill, after, plain_is_after}

@@ -21,7 +21,8 @@ use Rattle.shard_book.specs.Entry.{is_of, own, tap_of, taps_of}
 use Rattle.shard_book.specs.Keys.{same_token}
 use Rattle.shard_book.specs.declared.entry.Entry.{Entry}
 use Rattle.shard_book.proofs.Histories.{taps-push}
-use Rattle.fare_service.specs.Plain.{HasOneReading, answered, token_of_bytes, with_reply}
+use Rattle.fare_service.specs.Plain.{answered, token_of_bytes, with_reply}
+use Rattle.tap_views.specs.Files.{HasOneReading}
 use Rattle.fare_service.proofs.PlacedVisits.{filter_none}
 use Rattle.tap_parts.specs.Canonical.{tap_cmp}
 use Rattle.tap_parts.proofs.Total.{tap_cmp_total}
@@ -30,7 +31,7 @@ use Rattle.settlement.proofs.Histories.{entry_of}
 use Rattle.settlement.proofs.Contained.{kept_there, was_there}
 use Rattle.settlement.proofs.Own.{IsNamedBy, one_token}
 use Rattle.settlement.proofs.Placed.{NotLess, Pairs, no_earlier, sorted_pairs}
-use Rattle.settlement.proofs.Same.{one_list}
+use Rattle.tap_views.proofs.ReadingLemmas.{one_list}
 use Rattle.bill_laws.specs.Bills.{bill_before, live_entries}
 use Rattle.bill_laws.specs.TapSets.{HaveSameTapsBefore, fields_of_uploads, is_before}
 use Rattle.bill_laws.proofs.Once.{Among}

@@ -9,7 +9,8 @@ ghost use Rattle.settlement.specs.Settled.{IsSettledHistory};
 ghost use Rattle.bill_laws.specs.Bills.{BillAlike, bill_before};
 ghost use Rattle.bill_laws.specs.TapSets.{AreSentAgain, HaveSameSetOfTaps, HaveSameTapsBefore};
 
-use fare_service::laws::{one_reading_each, plain_history};
+use fare_service::laws::plain_history;
+use tap_views::laws::one_reading_each;
 
 /// A settled bill is a function of the set of good taps: a tap is charged once, however often it
 /// comes. Uploads with the same set of taps have the same rides and transfers, the same charges in

@@ -20,6 +20,7 @@ use std::marker::Sync;
 use std::random::RandomSource;
 use std::sync::Wait;
 use std::thread::Threads;
+use tap_views::laws::one_reading_each;
 
 /// What the service comes to over these uploads, by this table.
 pub(crate) fn outcome_of<'a, R: Threads + Wait + RandomSource + Sync>(
@@ -54,7 +55,7 @@ fn shows_plain(files: &[Vec<u8>], outcome: &Outcome)
 {
     let _ = outcome.shards();
     laws::tokens_are_named(outcome);
-    laws::one_reading_each(files);
+    one_reading_each(files);
     laws::report_is_plain(files, outcome);
     laws::statements_are_plain(files, outcome);
 }

@@ -13,7 +13,6 @@ pub mod Parts
 pub mod PlaceLemmas
 pub mod PlacedVisits
 pub mod PlacingLemmas
-pub mod ReadingLemmas
 pub mod RunLemmas
 pub mod RunVisits
 pub mod ShareLemmas
@@ -32,3 +31,4 @@ pub mod PlainRuns
 pub mod PlainSame
 pub mod PlainSums
 pub mod PlainUploads
+pub mod PostedBatches

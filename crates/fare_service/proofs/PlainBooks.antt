@@ -21,8 +21,8 @@ use Rattle.fare_service.specs.declared.upload_end.UploadEnd.{UploadEnd}
 use Rattle.fare_service.specs.declared.upload_end.UploadEnd.TheVariants.{Posted, Refused, Cut, Undrawn}
 use Rattle.fare_service.specs.Headline.{Signed, by_worker, end_of}
 use Rattle.fare_service.specs.Outcomes.{OutcomeView}
-use Rattle.tap_views.specs.Files.{AreGoodTaps, AreGoodTapsOfEach}
-use Rattle.fare_service.specs.Plain.{AreApart, HasOneReading, IsNamed, WasNotCut, unanswered, token_of_bytes, plain}
+use Rattle.tap_views.specs.Files.{AreGoodTaps, AreGoodTapsOfEach, HasOneReading}
+use Rattle.fare_service.specs.Plain.{AreApart, IsNamed, WasNotCut, unanswered, token_of_bytes, plain}
 use Rattle.fare_service.specs.Runs.{RunVisit, ArePostedWhole, runs_of, entries_to}
 use Rattle.fare_service.specs.Shares.{Worked, all_visits, IsWorkOf, IsEndOf, all_works, file_at}
 use Rattle.fare_service.proofs.PlainLists.{All-split, All-flat, flat-All, All-at, mapped_at, flat_map-map, count, count_same, count_other, DoTheirs, done_alone, done_none, flat_alone, flat_none, HasOne, none_or_one}

@@ -13,8 +13,8 @@ use Rattle.shard_book.specs.SumsByKey.{sums_by_validator, sums_by_token}
 use Rattle.shard_book.specs.Sums.{sums}
 use Rattle.fare_service.specs.declared.upload_end.UploadEnd.{UploadEnd}
 use Rattle.fare_service.specs.EndsOfUploads.{end_by}
-use Rattle.fare_service.specs.Plain.{HasOneReading, IsPlainEnd, ArePlainEnds, IsReportOver}
-use Rattle.tap_views.specs.Files.{IsEndAfterBatches}
+use Rattle.fare_service.specs.Plain.{IsPlainEnd, ArePlainEnds, IsReportOver}
+use Rattle.tap_views.specs.Files.{IsEndAfterBatches, HasOneReading}
 use Rattle.fare_service.specs.Text.{report}
 
 -- faults of one row of the table are the same

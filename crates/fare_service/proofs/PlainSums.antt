@@ -20,7 +20,8 @@ use Rattle.shard_book.specs.Rising.{rising, IsRising}
 use Rattle.shard_book.specs.Sums.{sums, sums_of_replies, is_paid, is_transfer, is_capped, is_stale, is_unknown}
 use Rattle.fare_table.specs.Token.{bytes_of, token_cmp, token_eq}
 use Rattle.fare_service.specs.Outcomes.{OutcomeView}
-use Rattle.fare_service.specs.Plain.{HasOneReading, IsUncutGathering, IsReportOver}
+use Rattle.fare_service.specs.Plain.{IsUncutGathering, IsReportOver}
+use Rattle.tap_views.specs.Files.{HasOneReading}
 use Rattle.fare_service.specs.Printed.{report_of, report_with}
 use Rattle.fare_service.specs.Text.{report}
 use Rattle.fare_service.specs.declared.upload_end.UploadEnd.{UploadEnd}

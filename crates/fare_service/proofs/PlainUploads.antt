@@ -2,7 +2,6 @@
 use Rattle.std.specs.Prelude.{ℕ, ◌≡◌, ◌↔◌, ◌<◌, List, [], ◌∷◌, ◌++◌, length, map, All, Some, slice_get}
 use Rattle.std.specs.List.{flat_map}
 use Rattle.std.proofs.Common.{refl, sym, ◌∙◌, ap, subst, arith, get_or, mod-lt}
-use Rattle.std.proofs.lemmas.List.Elements.{All-head, All-tail}
 use Rattle.std.proofs.lemmas.Option.{slice_get-get_or}
 use Rattle.account_rule.specs.TokenRules.{rules_of}
 use Rattle.account_rule.specs.Windows.{last_window}
@@ -19,31 +18,15 @@ use Rattle.shard_book.specs.Statement.{IsStatement}
 use Rattle.shard_book.specs.Sums.{sums}
 use Rattle.fare_table.specs.Token.{bytes_of}
 use Rattle.fare_service.specs.Outcomes.{OutcomeView}
-use Rattle.tap_views.specs.Files.{AreGoodTaps, AreGoodTapsOfEach}
-use Rattle.fare_service.specs.Plain.{HasOneReading, IsNamed, IsPlain, IsUncutGathering, IsStatementOver, plain}
+use Rattle.tap_views.proofs.ReadingLemmas.{one_list}
+use Rattle.tap_views.specs.Files.{AreGoodTapsOfEach, HasOneReading}
+use Rattle.fare_service.specs.Plain.{IsNamed, IsPlain, IsUncutGathering, IsStatementOver, plain}
 use Rattle.fare_service.specs.Printed.{IsStatementOf}
 use Rattle.fare_texts.specs.StatementText.{IsStatementText}
 use Rattle.fare_service.proofs.HeadlineLemmas.{gathered_of}
 use Rattle.fare_service.proofs.PlainBooks.{Stands, own_plain}
 use Rattle.fare_service.proofs.PlainReplies.{plain_legal}
-use Rattle.fare_service.proofs.PlainRuns.{AllZip-append}
 use Rattle.fare_service.proofs.GatheredWork.{Given}
-
--- one upload more
-pub each_more : (files : List (List ℕ)) (taps : List (List Tap)) (file : List ℕ) (ts : List Tap) → AreGoodTapsOfEach files taps → AreGoodTaps file ts → AreGoodTapsOfEach (files ++ file ∷ []) (taps ++ ts ∷ [])
-each_more files taps file ts each is = AllZip-append AreGoodTaps files taps (file ∷ []) (ts ∷ []) each (is, tt)
-
--- files with one cut have one list of taps each
-one_list : (files : List (List ℕ)) (taps others : List (List Tap)) → All HasOneReading files → AreGoodTapsOfEach files taps → AreGoodTapsOfEach files others → taps ≡ others
-one_list [] [] [] cuts each other = refl
-one_list [] [] (o ∷ others) cuts each other = absurd other
-one_list [] (t ∷ taps) others cuts each other = absurd each
-one_list (file ∷ files) [] others cuts each other = absurd each
-one_list (file ∷ files) (t ∷ taps) [] cuts each other = absurd other
-one_list (file ∷ files) (t ∷ taps) (o ∷ others) cuts each other =
-    let same = All-head HasOneReading file files cuts each.0.batches other.0.batches each.0.rest other.0.rest each.0.is_file other.0.is_file in
-    let here : t ≡ o = each.0.all ∙ ap (flat_map (λ (batch : List Tap). batch)) same.0 ∙ sym other.0.all in
-    ap (λ x. x ∷ taps) here ∙ ap (λ xs. o ∷ xs) (one_list files taps others (All-tail HasOneReading file files cuts) each.1 other.1)
 
 pub one_plain : (fares : Fares) (files : List (List ℕ)) (history other : List Entry) → All HasOneReading files → IsPlain fares files history → IsPlain fares files other → history ≡ other
 one_plain fares files history other cuts a b =

@@ -1,14 +1,14 @@
 -- How many taps visits post: no more than the batches have, which their file has room for.
 use Rattle.std.specs.Prelude.{ℕ, zero, suc, ◌≡◌, ◌⊎◌, ◌+◌, ◌*◌, ◌<◌, ◌≤◌, ◌==◌, nat_lt, Bool, true, false, cond, List, [], ◌∷◌, ◌++◌, length, map, filter, take, sum_by, All}
-use Rattle.std.specs.List.{flat_map, AllByRecursion}
 use Rattle.std.proofs.Common.{refl, sym, ◌∙◌, ap, inl, inr, arith, length-append, length-take, add-zero}
 use Rattle.std.proofs.lemmas.List.{length-map}
 use Rattle.std.proofs.lemmas.List.Sums.{sum_by-append, sum_by-cons}
 use Rattle.std.proofs.lemmas.List.Elements.{All-head, All-tail}
 use Rattle.std.proofs.lemmas.Bool.Decides.{nat_tests}
-use Rattle.tap_views.specs.Layout.{Tap, IsBatch, Layout, Tap1, Tap2, IsTapOf, spelling, magic, shared}
+use Rattle.tap_views.specs.Layout.{Tap}
 use Rattle.tap_views.specs.Files.{IsFile}
 use Rattle.tap_views.specs.Shards.{shard_of_token}
+use Rattle.tap_views.proofs.ReadingLemmas.{batch_room}
 use Rattle.shard_book.specs.Entry.{IsEntryOf}
 use Rattle.fare_service.specs.Runs.{PlacedTap, placed_from, taps_of_placed, of_shard, PlacedRun, placed_run, if_any, runs_below, runs_of, RunVisit, IsEntered, run_of_visit, ArePostedWhole, AreCut, entries_of, taps_posted}
 use Rattle.fare_service.proofs.RunVisits.{AllZip-length}
@@ -127,31 +127,11 @@ runs_few shards place (batch ∷ batches) =
     let all : batches_taps (batch ∷ batches) ≡ length batch + batches_taps batches = sum_by-cons (λ (b : List Tap). length b) batch batches in
     omega arith
 
--- a batch has 24 bytes at least for each tap
-spelt_room : (layout : Layout) (taps : List Tap) → AllByRecursion (IsTapOf layout) taps → 24 * length taps ≤ length (flat_map (spelling layout) taps)
-spelt_room layout [] all = omega arith
-spelt_room layout (tap ∷ taps) all =
-    let rest : 24 * length taps ≤ length (flat_map (spelling layout) taps) = spelt_room layout taps all.1 in
-    let here : 24 ≤ length (spelling layout tap) = wide layout tap all.0 in
-    let both : length (spelling layout tap ++ flat_map (spelling layout) taps) ≡ length (spelling layout tap) + length (flat_map (spelling layout) taps) = length-append (spelling layout tap) (flat_map (spelling layout) taps) in
-    omega arith
-  where
-    wide : (l : Layout) (t : Tap) → IsTapOf l t → 24 ≤ length (spelling l t)
-    wide Tap1 t is = omega (arith, length-append t.token (t.validator ++ t.moment), length-append t.validator t.moment, is.token, is.validator, is.moment)
-    wide (Tap2 v) t is = omega (arith, length-append t.token t.moment, is.0.token, is.0.moment)
-
-pub batch_room : (front : List ℕ) (taps : List Tap) → IsBatch front taps → 24 * length taps ≤ length front
-batch_room front taps (layout, b) =
-    let spelt = ap length b.spelt in
-    let room = spelt_room layout taps b.each in
-    let spells = flat_map (spelling layout) taps in
-    omega (arith, length-append (magic layout) (b.count ++ (0 ∷ 0 ∷ (shared layout ++ spells))), length-append b.count (0 ∷ 0 ∷ (shared layout ++ spells)), length-append (shared layout) spells)
-
 -- a file has 24 bytes at least for each tap of its batches
 pub file_room : (file : List ℕ) (batches : List (List Tap)) (rest : List ℕ) → IsFile file batches rest → 24 * batches_taps batches ≤ length file
 file_room file [] rest is = omega arith
 file_room file (batch ∷ batches) rest (front, back, is_batch, whole, is) =
-    let first : 24 * length batch ≤ length front = batch_room front batch is_batch in
+    let first : 24 * length batch + 8 ≤ length front = batch_room front batch is_batch in
     let then : 24 * batches_taps batches ≤ length back = file_room back batches rest is in
     let all : batches_taps (batch ∷ batches) ≡ length batch + batches_taps batches = sum_by-cons (λ (b : List Tap). length b) batch batches in
     omega (arith, ap length whole, length-append front back)

@@ -18,7 +18,7 @@ use Rattle.fare_service.specs.Runs.{RunVisit, runs_of, ArePostedWhole, taps_post
 use Rattle.fare_service.specs.inside.Runs.{ArePostedOrCut}
 use Rattle.fare_service.specs.Shares.{HasVisited, IsWorked, IsEndOf}
 use Rattle.fare_service.specs.inside.Shares.{worked}
-use Rattle.fare_service.proofs.ReadingLemmas.{counted_taps}
+use Rattle.fare_service.proofs.PostedBatches.{counted_taps}
 
 -- what is known of an upload whose batches were posted
 abbrev pub Ended : ℕ → List ℕ → List PassView → List PassView → Sums → Sums → Result (Option (ℕ × LayoutFault)) Stop → Type 0

@@ -99,12 +99,6 @@ WasNotCut (Refused taps offset fault) = Unit {0}
 WasNotCut (Cut taps) = ⊥
 WasNotCut Undrawn = ⊥
 
--- the file is read as batches in one way at most
-abbrev pub HasOneReading : List ℕ → Type 0
-HasOneReading file =
-    (batches others : List (List Tap)) (rest left : List ℕ) → IsFile file batches rest
-    → IsFile file others left → (batches ≡ others) × (rest ≡ left)
-
 -- The headline holds, no upload was cut or left undrawn, and no token has taps in two uploads. The
 -- history is the plain one of the uploads.
 pub record IsUncutGathering (fares : Fares) (shards : ℕ) (uploads : List (List ℕ))

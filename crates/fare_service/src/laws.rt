@@ -5,6 +5,6 @@ mod schedules;
 
 pub use places::{posted_taps, posting_order};
 pub use schedules::{
-    none_was_cut, one_reading_each, plain_history, report_is_plain, same_texts,
-    statements_are_plain, tokens_are_named, uncut_ends_are_plain,
+    none_was_cut, plain_history, report_is_plain, same_texts, statements_are_plain,
+    tokens_are_named, uncut_ends_are_plain,
 };

@@ -8,7 +8,7 @@ use crate::progress::Progress;
 use std::alloc::{AllocError, Global};
 use std::io::Write;
 use std::{fs, io};
-use upload_parts::{Split, UploadTaps};
+use tap_parts::{Split, UploadTaps};
 
 /// The most parts.
 pub(crate) const MAX_PARTS: u32 = 65_535;

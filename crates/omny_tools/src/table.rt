@@ -37,8 +37,8 @@ use places::Places;
 use std::alloc::{AllocError, Global};
 use std::io::Write;
 use table_facts::SeenValidators;
+use tap_views::facts_of;
 use toml::Table;
-use upload_facts::facts_of;
 use warnings::{Told, warnings_of};
 use wrong::Wrong;
 

@@ -11,7 +11,7 @@ use fare_texts::write_moment;
 use std::alloc::{AllocError, Global};
 use std::fs;
 use std::io::{ErrorKind, Write};
-use upload_facts::{Facts, facts_of, good_part};
+use tap_views::{Facts, facts_of, good_part};
 
 /// Appends a moment, or `-` where there is none.
 fn push_moment(text: &mut String, moment: Option<u64>) -> Result<(), AllocError> {

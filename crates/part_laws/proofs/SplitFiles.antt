@@ -11,14 +11,13 @@ use Rattle.tap_views.specs.Encoding.{fields_of}
 use Rattle.tap_views.specs.Layout.{Tap}
 use Rattle.tap_views.specs.declared.encoder.TapFields.{TapFields}
 use Rattle.tap_parts.specs.Parts.{part_of_token, of_part}
-use Rattle.tap_views.specs.Files.{AreGoodTaps, AreGoodTapsOfEach}
-use Rattle.upload_parts.specs.Split.{IsSplitFile}
-use Rattle.fare_service.specs.Plain.{HasOneReading}
+use Rattle.tap_views.specs.Files.{AreGoodTaps, AreGoodTapsOfEach, HasOneReading}
+use Rattle.tap_parts.specs.Split.{IsSplitFile}
 use Rattle.fare_service.proofs.PlainRuns.{AllZip-append}
 use Rattle.tap_parts.specs.Parts.{taps_of_uploads}
 use Rattle.part_laws.specs.Files.{HasNoFault}
 use Rattle.settlement.proofs.Histories.{read_fields}
-use Rattle.settlement.proofs.Same.{one_list}
+use Rattle.tap_views.proofs.ReadingLemmas.{one_list}
 
 -- the uploads of all groups, group after group
 abbrev pub all_of : List (List (List ℕ)) → List (List ℕ)

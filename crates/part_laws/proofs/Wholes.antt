@@ -26,8 +26,8 @@ use Rattle.shard_book.specs.SumsByKey.{validator_of, validators}
 use Rattle.shard_book.specs.Rising.{rising}
 use Rattle.shard_book.specs.Sums.{Sums, add_all, sums, sums_of_replies}
 use Rattle.fare_service.specs.EndsOfUploads.{end_by}
-use Rattle.tap_views.specs.Files.{AreGoodTaps, AreGoodTapsOfEach, IsEndAfterBatches}
-use Rattle.fare_service.specs.Plain.{ArePlainEnds, HasOneReading, IsPlainEnd}
+use Rattle.tap_views.specs.Files.{AreGoodTaps, AreGoodTapsOfEach, IsEndAfterBatches, HasOneReading}
+use Rattle.fare_service.specs.Plain.{ArePlainEnds, IsPlainEnd}
 use Rattle.fare_service.specs.Plain.{IsReportOver, WasNotCut, unanswered}
 use Rattle.fare_service.specs.declared.upload_end.UploadEnd.{UploadEnd}
 use Rattle.fare_service.proofs.PlainLists.{All-split}

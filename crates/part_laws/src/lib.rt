@@ -12,24 +12,24 @@ ghost use Rattle.shard_book.specs.Entry.{own};
 ghost use Rattle.shard_book.specs.SumsByKey.{sums_by_token, sums_by_validator};
 ghost use Rattle.shard_book.specs.Sums.{Sums, add_all, sums};
 ghost use Rattle.fare_table.specs.Token.{bytes_of};
-ghost use Rattle.tap_views.specs.Files.{AreGoodTapsOfEach};
-ghost use Rattle.fare_service.specs.Plain.{ArePlainEnds, HasOneReading};
+ghost use Rattle.tap_views.specs.Files.{AreGoodTapsOfEach, HasOneReading};
+ghost use Rattle.fare_service.specs.Plain.{ArePlainEnds};
 ghost use Rattle.fare_service.specs.Plain.{IsReportOver, IsStatementOver};
 ghost use Rattle.fare_service.specs.Text.{report, upload_lines};
 ghost use Rattle.fare_service.specs.declared.upload_end.UploadEnd.{UploadEnd};
 ghost use Rattle.tap_parts.specs.Parts.{part_of_token};
 ghost use Rattle.settlement.specs.Settled.{IsSettledHistory};
 ghost use Rattle.tap_parts.specs.Parts.{taps_of_uploads};
-ghost use Rattle.upload_parts.specs.Split.{IsSplitFile};
+ghost use Rattle.tap_parts.specs.Split.{IsSplitFile};
 ghost use Rattle.part_reports.specs.Reports.{IsMerged};
 ghost use Rattle.part_laws.specs.Files.{HasNoFault, ends_texts};
 ghost use Rattle.part_laws.specs.Sizes.{CanBeWritten, HasSize, HaveBoundedTerms};
 ghost use Rattle.part_laws.specs.Split.{AreTokensOf, AreValidatorsOf, IsPartOf, IsSplit, Part};
 ghost use Rattle.part_laws.specs.Split.{entries_of_parts, part_with};
 
-use fare_service::laws::one_reading_each;
 use part_reports::laws::texts_differ;
 use shard_book::laws::{one_rising_list, sums_add_up};
+use tap_views::laws::one_reading_each;
 
 /// Uploads were split in groups, each into the same number of parts. The files that one part has of
 /// all groups, settled by a run of their own, are that part in the sense of the laws below.

@@ -2,8 +2,7 @@
 use Rattle.std.proofs.Common.{◌≡◌, ℕ, List, refl, ap}
 use Rattle.std.proofs.Common.{◌∙◌}
 use Rattle.tap_views.specs.declared.encoder.TapFields.{TapFields}
-use Rattle.tap_views.specs.Files.{AreGoodTaps}
-use Rattle.upload_facts.specs.Facts.{taps_of_batches}
+use Rattle.tap_views.specs.Files.{AreGoodTaps, taps_of_batches}
 use Rattle.tap_parts.specs.Uploads.{IsUploadAddedBy}
 use Rattle.tap_parts.specs.declared.upload.UploadTaps.{UploadTaps}
 use Rattle.fare_service.specs.EndsOfUploads.{end_by}

@@ -7,9 +7,8 @@ use Rattle.tap_views.specs.Layout.{Tap}
 use Rattle.tap_views.specs.declared.encoder.TapFields.{TapFields}
 use Rattle.account_rule.specs.declared.reply.Answer.TheVariants.{Unknown}
 use Rattle.shard_book.specs.declared.entry.Entry.{Entry}
-use Rattle.tap_parts.specs.Parts.{IsFileOf}
-use Rattle.tap_views.specs.Files.{AreGoodTaps}
-use Rattle.fare_service.specs.Plain.{HasOneReading, token_of_bytes, unanswered, answered}
+use Rattle.tap_views.specs.Files.{AreGoodTaps, IsFileOf, HasOneReading}
+use Rattle.fare_service.specs.Plain.{token_of_bytes, unanswered, answered}
 use Rattle.fare_service.specs.Plain.{plain_after}
 
 -- a file's taps have the fields that it is read as

@@ -18,8 +18,8 @@ use Rattle.tap_views.specs.Encoding.{fields_of}
 use Rattle.tap_views.specs.Layout.{Tap}
 use Rattle.tap_views.specs.declared.encoder.TapFields.{TapFields}
 use Rattle.tap_parts.specs.Parts.{taps_at}
-use Rattle.tap_views.specs.Files.{AreGoodTaps, AreGoodTapsOfEach}
-use Rattle.fare_service.specs.Plain.{AreApart, HasOneReading}
+use Rattle.tap_views.specs.Files.{AreGoodTaps, AreGoodTapsOfEach, HasOneReading}
+use Rattle.fare_service.specs.Plain.{AreApart}
 use Rattle.fare_service.specs.declared.upload_end.UploadEnd.{UploadEnd}
 use Rattle.tap_parts.specs.Canonical.{tap_cmp}
 use Rattle.settlement.specs.Settled.{IsPartFile, IsSettled}

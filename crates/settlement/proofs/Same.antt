@@ -1,14 +1,11 @@
 -- Uploads with the same taps are settled as files that read alike.
-use Rattle.std.proofs.Common.{◌≡◌, ℕ, ◌+◌, ◌==◌, List, [], ◌∷◌, map, filter, flat_map, Bool, true}
-use Rattle.std.proofs.Common.{false, cond, refl, sym, ap, ◌∙◌, arith, All}
+use Rattle.std.proofs.Common.{◌≡◌, ℕ, ◌+◌, ◌==◌, List, [], ◌∷◌, map, filter, Bool, true}
+use Rattle.std.proofs.Common.{false, cond, refl, sym, ap, ◌∙◌, arith}
 use Rattle.std.specs.List.{sum_by}
-use Rattle.std.proofs.lemmas.List.Elements.{All-head, All-tail}
 use Rattle.std.proofs.lemmas.List.Sums.{sum_by-cons}
 use Rattle.tap_views.specs.Encoding.{fields_of}
 use Rattle.tap_views.specs.Layout.{Tap}
 use Rattle.tap_parts.specs.Parts.{taps_at}
-use Rattle.tap_views.specs.Files.{AreGoodTapsOfEach}
-use Rattle.fare_service.specs.Plain.{HasOneReading}
 
 -- ---- parts of lists
 pub sum_filter : {X : Type 0} (p : X → Bool) (f : X → ℕ) (xs : List X)
@@ -44,20 +41,3 @@ part_fields part_of part (tap ∷ taps) =
         ≡ filter (λ f. part_of f.token == part) (map fields_of (tap ∷ taps))
     by_test true e rest = rw e (ap (λ fs. fields_of tap ∷ fs) rest)
     by_test false e rest = rw e rest
-
--- ---- the files
-pub one_list : (files : List (List ℕ)) (taps others : List (List Tap)) → All HasOneReading files
-    → AreGoodTapsOfEach files taps → AreGoodTapsOfEach files others → taps ≡ others
-one_list [] [] [] cuts each other = refl
-one_list [] [] (o ∷ others) cuts each other = absurd other
-one_list [] (t ∷ taps) others cuts each other = absurd each
-one_list (file ∷ files) [] others cuts each other = absurd each
-one_list (file ∷ files) (t ∷ taps) [] cuts each other = absurd other
-one_list (file ∷ files) (t ∷ taps) (o ∷ others) cuts each other =
-    let same = All-head HasOneReading file files cuts each.0.batches other.0.batches each.0.rest
-    other.0.rest each.0.is_file other.0.is_file in
-    let here : t ≡ o = each.0.all ∙ ap (flat_map (λ (batch : List Tap). batch)) same.0
-    ∙ sym other.0.all in
-    ap (λ x. x ∷ taps) here
-    ∙ ap (λ xs. o ∷ xs) (one_list files taps others (All-tail HasOneReading file files cuts) each.1
-    other.1)

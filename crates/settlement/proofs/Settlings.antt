@@ -14,8 +14,8 @@ use Rattle.shard_book.specs.Sums.{sums}
 use Rattle.fare_table.specs.Token.{bytes_of}
 use Rattle.shard_book.specs.Visits.{AreEntriesOf}
 use Rattle.shard_book.specs.declared.entry.Entry.{Entry}
-use Rattle.tap_views.specs.Files.{AreGoodTapsOfEach}
-use Rattle.fare_service.specs.Plain.{HasOneReading, IsPlain, IsReportOver, plain}
+use Rattle.tap_views.specs.Files.{AreGoodTapsOfEach, HasOneReading}
+use Rattle.fare_service.specs.Plain.{IsPlain, IsReportOver, plain}
 use Rattle.fare_service.specs.Plain.{plain_after, answered, unanswered}
 use Rattle.fare_service.specs.Text.{report, validators_section, tokens_section}
 use Rattle.fare_texts.specs.Counts.{totals_line}
@@ -28,7 +28,7 @@ use Rattle.settlement.specs.Twins.{HasTwin, IsInTimeOrder}
 use Rattle.settlement.proofs.Histories.{same_after}
 use Rattle.settlement.proofs.Own.{IsNamedBy}
 use Rattle.settlement.proofs.Placed.{all_rising, no_earlier, Pairs, Rises}
-use Rattle.settlement.proofs.Same.{one_list}
+use Rattle.tap_views.proofs.ReadingLemmas.{one_list}
 use Rattle.settlement.proofs.Sorting.{canonical_order}
 use Rattle.settlement.proofs.Stale.{before_rises, fields, has_twin, same_fields}
 use Rattle.settlement.proofs.Told.{fields_named}

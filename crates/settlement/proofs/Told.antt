@@ -23,8 +23,8 @@ use Rattle.fare_table.specs.declared.token.Token.{Token}
 use Rattle.tap_parts.specs.Parts.{taps_at}
 use Rattle.fare_service.specs.Headline.{Headline}
 use Rattle.fare_service.specs.Outcomes.{OutcomeView}
-use Rattle.tap_views.specs.Files.{AreGoodTapsOfEach}
-use Rattle.fare_service.specs.Plain.{HasOneReading, IsPlain, IsStatementOver}
+use Rattle.tap_views.specs.Files.{AreGoodTapsOfEach, HasOneReading}
+use Rattle.fare_service.specs.Plain.{IsPlain, IsStatementOver}
 use Rattle.fare_service.specs.Plain.{IsUncutGathering, WasNotCut, plain, unanswered}
 use Rattle.fare_service.specs.Shares.{Worked}
 use Rattle.fare_service.specs.Text.{report}

@@ -5,8 +5,8 @@ use Rattle.tap_views.specs.Layout.{Tap}
 use Rattle.tap_views.specs.declared.encoder.TapFields.{TapFields}
 use Rattle.fare_table.specs.Fares.{Fares}
 use Rattle.shard_book.specs.declared.entry.Entry.{Entry}
-use Rattle.tap_parts.specs.Parts.{taps_at, IsFileOf, taps_of_uploads}
-use Rattle.tap_views.specs.Files.{AreGoodTapsOfEach}
+use Rattle.tap_parts.specs.Parts.{taps_at, taps_of_uploads}
+use Rattle.tap_views.specs.Files.{AreGoodTapsOfEach, IsFileOf}
 use Rattle.fare_service.specs.Plain.{ArePlainEnds, plain}
 use Rattle.fare_service.specs.declared.upload_end.UploadEnd.{UploadEnd}
 use Rattle.tap_parts.specs.Canonical.{IsCanonical}

@@ -18,13 +18,14 @@ use crate::own_taps::{OwnTaps, own_by_threads};
 use crate::pieces::{Pieces, pieces_of};
 use crate::splitting::{SplitTaps, bytes_of, split_by_threads};
 use fare_service::UploadEnd;
-use fare_service::laws::{one_reading_each, plain_history};
+use fare_service::laws::plain_history;
 use fare_table::{FareTable, NoMemory};
 use shard_book::{HashSeed, Token};
 use std::alloc::{AllocError, Global};
 use std::marker::Sync;
 use std::thread::Threads;
 use tap_parts::{TokenRanges, arranged};
+use tap_views::laws::one_reading_each;
 use tap_views::{TapFields, push_sample};
 
 /// How many bytes of uploads go to one part: some 20,000 taps, so that the sort of a part stays in

@@ -1,9 +1,8 @@
 -- The validators of some uploads.
 use Rattle.std.specs.Prelude.{◌≡◌, ℕ, ◌||◌, Bool, List, nat_eq}
 use Rattle.std.specs.List.{list_any}
-use Rattle.tap_views.specs.Files.{IsFile}
+use Rattle.tap_views.specs.Files.{IsFile, taps_of_batches}
 use Rattle.tap_views.specs.Layout.{Tap, num}
-use Rattle.upload_facts.specs.Facts.{taps_of_batches}
 
 -- the validator is one of these
 abbrev pub is_among : List ℕ → ℕ → Bool

@@ -6,7 +6,7 @@ use Rattle.std.proofs.lemmas.List.Concat.{flat_map-append}
 use Rattle.tap_views.specs.Encoding.{Encodes}
 use Rattle.tap_views.specs.declared.encoder.TapFields.{TapFields}
 use Rattle.tap_parts.specs.Parts.{AreFilled, IsInFullBatches}
-use Rattle.tap_parts.proofs.Texts.{batch_size, few_taps}
+use Rattle.tap_views.proofs.Texts.{batch_size, few_taps}
 
 abbrev IsFull : List TapFields → Type 0
 IsFull batch = length batch ≡ 4096

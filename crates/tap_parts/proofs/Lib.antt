@@ -4,6 +4,6 @@ pub mod Early
 pub mod FullBatches
 pub mod Places
 pub mod RangeLemmas
-pub mod Texts
+mod SplitLemmas
 pub mod TokenOrder
 pub mod Total

@@ -2,8 +2,8 @@
 use Rattle.std.specs.Prelude.{◌≡◌, ℕ, List, length}
 use Rattle.tap_views.specs.Layout.{Tap}
 use Rattle.tap_views.specs.declared.encoder.TapFields.{TapFields}
-use Rattle.upload_facts.specs.Facts.{IsReadAs, taps_of_batches}
-use Rattle.tap_parts.specs.Parts.{AreAddedBy, part_of_token}
+use Rattle.tap_views.specs.Files.{IsReadAs, taps_of_batches}
+use Rattle.tap_parts.specs.Parts.{AreAddedBy}
 use Rattle.tap_parts.specs.declared.upload.UploadTaps.{UploadTaps}
 
 -- the upload's taps before its first layout fault were added, each at its place: they are so many,
@@ -14,9 +14,3 @@ pub record IsUploadAddedBy (place_of : List ℕ → ℕ) (upload : List ℕ)
   pub read : IsReadAs upload batches end.fault
   pub number : end.taps ≡ length (taps_of_batches batches)
   pub added : AreAddedBy place_of (taps_of_batches batches) old new
-
--- the upload's taps before its first layout fault were added, each to its part
-abbrev pub IsUploadAdded : List ℕ → List (List TapFields) → List (List TapFields) → UploadTaps
-    → Type 0
-IsUploadAdded upload old new end =
-    IsUploadAddedBy (λ token. part_of_token token (length old)) upload old new end

@@ -2,7 +2,8 @@
 
 ghost use Rattle.std.specs.Prelude.{◌≡◌, ◌+◌, ◌*◌, ◌/◌, IfOk, length};
 ghost use Rattle.tap_views.specs.Encoding.{AreEarly};
-ghost use Rattle.tap_parts.specs.Parts.{IsFileOf, IsInFullBatches};
+ghost use Rattle.tap_parts.specs.Parts.{IsInFullBatches};
+ghost use Rattle.tap_views.specs.Files.{IsFileOf};
 
 use std::alloc::{AllocError, Global};
 use tap_views::{MAX_TAPS, TAP1_HEADER_BYTES, TAP1_TAP_BYTES, TapFields, put_batch};

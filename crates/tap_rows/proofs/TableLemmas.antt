@@ -11,10 +11,9 @@ use Rattle.std.specs.Prelude.{All, IsSome, IsSomeAnd, slice_get, slice_index_or}
 use Rattle.tap_views.specs.Encoding.{fields_of, AreEncodable, IsRefused as IsFaultOf}
 use Rattle.tap_views.specs.declared.encoder.EncodeFault.{EncodeFault}
 use Rattle.tap_views.specs.declared.encoder.EncodeFault.TheVariants.{TooMany, Moment, NoMemory as ForMemory}
-use Rattle.tap_views.specs.Files.{IsFile}
+use Rattle.tap_views.specs.Files.{IsFile, IsFileOf}
 use Rattle.tap_views.specs.Layout.{Tap}
-use Rattle.tap_parts.specs.Parts.{IsFileOf}
-use Rattle.tap_parts.proofs.Texts.{no_text}
+use Rattle.tap_views.proofs.Texts.{no_text}
 use Rattle.tap_rows.specs.Rows.{IsTapRow, IsNoTapRow}
 use Rattle.tap_rows.specs.TapTables.{IsHead, BeginsWithRows, IsTapTable, IsRowsFault, IsEncoded, IsOfTapTable}
 use Rattle.tap_rows.specs.inside.TapTables.{IsEncodedAs, IsNextRow, IsTapTableOf}

@@ -4,7 +4,7 @@ use Rattle.tap_views.specs.Encoding.{fields_of}
 use Rattle.tap_views.specs.Layout.{Tap}
 use Rattle.tap_views.specs.declared.fault.LayoutFault.{LayoutFault}
 use Rattle.tap_views.specs.declared.encoder.TapFields.{TapFields}
-use Rattle.upload_facts.specs.Facts.{IsReadAs, taps_of_batches}
+use Rattle.tap_views.specs.Files.{IsReadAs, taps_of_batches}
 use Rattle.tap_rows.specs.Rows.{rows_text}
 
 -- the fields of all taps of these batches, in their order

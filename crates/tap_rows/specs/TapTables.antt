@@ -4,7 +4,7 @@ use Rattle.std.specs.Prelude.{◌≡◌, ℕ, ◌+◌, List, [], ◌∷◌, ◌+
 use Rattle.std.specs.Io.BufRead.{first_line, drop_through}
 use Rattle.std.specs.Io.KnownBytes.{Appends}
 use Rattle.tap_views.specs.declared.encoder.TapFields.{TapFields}
-use Rattle.tap_parts.specs.Parts.{IsFileOf}
+use Rattle.tap_views.specs.Files.{IsFileOf}
 use Rattle.tap_rows.specs.Fields.{AreFields, FieldStandsFor}
 use Rattle.tap_rows.specs.Rows.{IsTapRow, IsNoTapRow, rows_text}
 use Rattle.tap_rows.specs.declared.column.Column.{Column}

@@ -4,7 +4,7 @@ ghost use Rattle.std.specs.Prelude.{◌≡◌, ◌<◌, ◌≤◌, ℕ, List, []
 ghost use Rattle.std.specs.Prelude.{IfSome, IsSome};
 ghost use Rattle.std.specs.Prelude.{IsErrOf, OnOk, length};
 ghost use Rattle.std.specs.Io.KnownBytes.{Appends};
-ghost use Rattle.tap_parts.specs.Parts.{IsFileOf};
+ghost use Rattle.tap_views.specs.Files.{IsFileOf};
 ghost use Rattle.tap_rows.specs.TapTables.{IsEncoded, IsOfTapTable, IsRowsFault};
 ghost use Rattle.tap_rows.specs.inside.TapTables.{IsBatchFault, IsEncodedAs};
 ghost use Rattle.tap_views.specs.Encoding.{AreEncodable};

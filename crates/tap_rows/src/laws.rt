@@ -4,7 +4,7 @@
 ghost use Rattle.std.specs.Prelude.{◌≡◌, ◌<◌, ℕ, List, None, Option};
 ghost use Rattle.std.specs.List.{AllByRecursion};
 ghost use Rattle.fare_texts.specs.Moments.{IsCivilText};
-ghost use Rattle.tap_parts.specs.Parts.{IsFileOf};
+ghost use Rattle.tap_views.specs.Files.{IsFileOf, IsReadAs};
 ghost use Rattle.tap_rows.specs.Decoded.{fields_in};
 ghost use Rattle.tap_rows.specs.Moments.{IsMoment, IsSecondText};
 ghost use Rattle.tap_rows.specs.Rows.{IsNoTapRow, IsTapRow, IsTapFields};
@@ -13,7 +13,6 @@ ghost use Rattle.tap_rows.specs.declared.column.Column.{Column};
 ghost use Rattle.tap_views.specs.Layout.{Tap, moment_limit};
 ghost use Rattle.tap_views.specs.declared.encoder.TapFields.{TapFields};
 ghost use Rattle.tap_views.specs.declared.fault.LayoutFault.{LayoutFault};
-ghost use Rattle.upload_facts.specs.Facts.{IsReadAs};
 
 /// A line is the row of at most one tap, and then it is no bad row.
 pub fn one_row()

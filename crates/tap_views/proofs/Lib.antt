@@ -2,8 +2,12 @@ mod Cuts
 mod Deciding
 mod Encodings
 mod Finding
+mod Fronts
 mod Grammar
 mod Numbers
 mod Reading
+pub mod ReadingLemmas
 mod RunLemmas
 mod Sorted
+mod Spans
+pub mod Texts

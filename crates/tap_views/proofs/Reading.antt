@@ -10,6 +10,7 @@ use Rattle.tap_views.specs.Faults.{header, width, layout_in, count_in, size_in, 
 use Rattle.tap_views.specs.inside.Faults.{AllEarly}
 use Rattle.tap_views.specs.declared.fault.LayoutFault.{LayoutFault}
 use Rattle.tap_views.specs.Files.{HasNoBatch, IsFile, Item, IsEnd, IsReading}
+use Rattle.tap_views.proofs.ReadingLemmas.{no_bytes, rest_short}
 use Rattle.tap_views.proofs.Grammar.{begins, no_row}
 use Rattle.tap_views.specs.inside.Readings.{found_fault, first_taps, items_within, items_from}
 use Rattle.tap_views.proofs.Finding.{first_fault-none, first_fault-some}
@@ -48,10 +49,6 @@ one_batch bytes front front' rest rest' taps taps' batch is batch' is' =
 pub no_batch : (bytes : List ℕ) (fault : LayoutFault) → IsFault bytes fault → HasNoBatch bytes
 no_batch bytes fault is front rest taps batch whole =
     no_row bytes taps rest fault (begins batch.0 front taps rest bytes batch.1 whole) is.holds
-
-empty_no_batch : HasNoBatch []
-empty_no_batch front rest taps batch whole =
-    omega (arith, batch_some front taps batch, ap length whole, length-append front rest)
 
 -- ---- the items that are given of bytes at an offset
 abbrev pub Gives : ℕ → List ℕ → List Item → Type 0
@@ -186,12 +183,6 @@ step-fault offset bytes fault some is =
     ∙ ap (λ (xs : List Item). Err (offset, fault) ∷ xs) (sym (step-none offset))
 
 -- ---- the items are the file's batches and its end
-rest_within : (file : List ℕ) (batches : List (List Tap)) (rest : List ℕ) → IsFile file batches rest
-    → length rest ≤ length file
-rest_within file [] rest is = omega (arith, ap length is.0)
-rest_within file (batch ∷ batches) rest is =
-    omega (arith, rest_within is.1 batches rest is.4, ap length is.3, length-append is.0 is.1)
-
 record IsReadFrom (offset : ℕ) (file : List ℕ) (items : List Item) : Type 0 where
   pub batches : List (List Tap)
   pub rest : List ℕ
@@ -215,7 +206,7 @@ read_from offset bytes [] gives = record {
   batches = [];
   rest = [];
   last = [];
-  is_file = (gives, empty_no_batch);
+  is_file = (gives, no_bytes);
   is_end = refl;
   given = refl;
 }
@@ -225,7 +216,7 @@ read_from offset bytes (Ok taps ∷ items) gives =
     ≡ offset + (length bytes - length more.rest) =
     omega (
       arith,
-      rest_within gives.1 more.batches more.rest more.is_file,
+      rest_short gives.1 more.batches more.rest more.is_file,
       ap length gives.3,
       length-append gives.0 gives.1,
     ) in

@@ -1,9 +1,12 @@
--- A file: batches one after the other, and what is left, which begins with no batch.
+-- A file, as an upload is one: batches one after the other, and what is left, which begins with no
+-- batch. All that a file is read as stands here.
 use Rattle.std.specs.Prelude.{◌≡◌, ℕ, ◌+◌, ◌-◌, ◌<◌, List, [], ◌∷◌, ◌++◌, length, map, Option}
 use Rattle.std.specs.Prelude.{None, Some, Result, Ok, Err}
 use Rattle.std.specs.List.{flat_map, AllZip}
+use Rattle.tap_views.specs.Encoding.{fields_of}
 use Rattle.tap_views.specs.Layout.{Tap, IsBatch}
 use Rattle.tap_views.specs.Faults.{IsFault}
+use Rattle.tap_views.specs.declared.encoder.TapFields.{TapFields}
 use Rattle.tap_views.specs.declared.fault.LayoutFault.{LayoutFault}
 
 -- no beginning of the bytes is a batch
@@ -29,16 +32,39 @@ abbrev pub IsEndAfterBatches : List ℕ → List ℕ → Option (ℕ × LayoutFa
 IsEndAfterBatches file rest None = rest ≡ []
 IsEndAfterBatches file rest (Some (offset, fault)) = IsFaultAt file rest offset fault
 
+-- the file is read as these batches, one after the other, and then ends so
+pub record IsReadAs (file : List ℕ) (batches : List (List Tap)) (fault : Option (ℕ × LayoutFault))
+    : Type 0 where
+  pub rest : List ℕ
+  pub is_file : IsFile file batches rest
+  pub is_end : IsEndAfterBatches file rest fault
+
+-- the taps of all batches, in their order
+abbrev pub taps_of_batches : List (List Tap) → List Tap
+taps_of_batches batches = flat_map (λ batch. batch) batches
+
 -- the good taps of a file: those of all its batches before its first layout fault, in order
 pub record AreGoodTaps (file : List ℕ) (taps : List Tap) : Type 0 where
   pub batches : List (List Tap)
   pub rest : List ℕ
   pub is_file : IsFile file batches rest
-  pub all : taps ≡ flat_map (λ batch. batch) batches
+  pub all : taps ≡ taps_of_batches batches
 
 -- the good taps of each file
 abbrev pub AreGoodTapsOfEach : List (List ℕ) → List (List Tap) → Type 0
 AreGoodTapsOfEach files taps = AllZip AreGoodTaps files taps
+
+-- a reader of the file is given these taps, and no fault
+pub record IsFileOf (file : List ℕ) (fields : List TapFields) : Type 0 where
+  pub batches : List (List Tap)
+  pub is_file : IsFile file batches []
+  pub read : map fields_of (taps_of_batches batches) ≡ fields
+
+-- the file is read as batches in one way at most
+abbrev pub HasOneReading : List ℕ → Type 0
+HasOneReading file =
+    (batches others : List (List Tap)) (rest left : List ℕ) → IsFile file batches rest
+    → IsFile file others left → (batches ≡ others) × (rest ≡ left)
 
 -- what a reader of a file is given: a batch, or where the file's rest begins and its fault
 abbrev pub Item : Type 0

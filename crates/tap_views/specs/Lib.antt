@@ -1,4 +1,5 @@
 pub mod Encoding
+pub mod Facts
 pub mod Faults
 pub mod Files
 pub mod Layout

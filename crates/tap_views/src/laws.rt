@@ -1,11 +1,11 @@
 //! What the grammar promises whoever reads bytes by it. Each law is the contract of a function,
-//! which does nothing at run time, `round_trip` apart; call it where a proof needs its law.
+//! which changes and gives nothing, `round_trip` apart; call it where a proof needs its law.
 
-ghost use Rattle.std.specs.Prelude.{◌≡◌, ◌++◌, ℕ, List, map, MatchResult};
+ghost use Rattle.std.specs.Prelude.{◌≡◌, ◌++◌, ℕ, List, map, All, MatchResult};
 ghost use Rattle.tap_views.specs.Layout.{Tap, IsBatch};
 ghost use Rattle.tap_views.specs.Faults.{IsFault};
 ghost use Rattle.tap_views.specs.declared.fault.LayoutFault.{LayoutFault};
-ghost use Rattle.tap_views.specs.Files.{IsFile};
+ghost use Rattle.tap_views.specs.Files.{HasOneReading, IsFile};
 ghost use Rattle.tap_views.specs.Encoding.{Encodes, Encodes2, fields_of, with_validator};
 ghost use Rattle.tap_views.specs.declared.encoder.TapFields.{TapFields};
 ghost use Rattle.tap_views.specs.declared.encoder.Tap2Fields.{Tap2Fields};
@@ -32,6 +32,15 @@ pub fn one_reading(file: &[u8])
         → IsFile file.now batches rest → IsFile file.now batches' rest' → (batches ≡ batches')
         × (rest ≡ rest') }
 {}
+
+/// Each upload is read as batches in one way at most.
+pub fn one_reading_each(uploads: &[Vec<u8>])
+    ensures { All HasOneReading (map (λ upload. upload.items) uploads.now) }
+{
+    for upload in uploads {
+        one_reading(upload.as_slice());
+    }
+}
 
 /// The round trip: of the bytes that `encode` or `encode_tap2` gave for some taps, and any bytes
 /// behind them, the first batch is these taps, and the bytes left are those behind them. It is

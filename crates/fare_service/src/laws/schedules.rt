@@ -14,7 +14,7 @@ ghost use Rattle.fare_table.specs.Token.{bytes_of};
 ghost use Rattle.shard_book.specs.Visits.{AreEntriesOf};
 ghost use Rattle.fare_service.specs.Headline.{Headline};
 ghost use Rattle.tap_views.specs.Files.{AreGoodTaps};
-ghost use Rattle.fare_service.specs.Plain.{ArePlainEnds, HasOneReading, IsNamed};
+ghost use Rattle.fare_service.specs.Plain.{ArePlainEnds, IsNamed};
 ghost use Rattle.fare_service.specs.Plain.{IsPlain, IsReportOver, IsStatementOver};
 ghost use Rattle.fare_service.specs.Plain.{IsUncutGathering, WasNotCut};
 ghost use Rattle.fare_service.specs.Printed.{IsStatementOf, report_of};
@@ -23,7 +23,7 @@ ghost use Rattle.fare_service.specs.Shares.{Worked};
 use crate::outcome::Outcome;
 use crate::upload_end::UploadEnd;
 use shard_book::laws::one_rising_list;
-use tap_views::laws::one_reading;
+use tap_views::laws::one_reading_each;
 
 /// The tokens of an outcome's books are those that their bytes name, and are of their book's shard.
 /// Reads no entry.
@@ -36,15 +36,6 @@ pub fn tokens_are_named(outcome: &Outcome)
     for shard in 0..outcome.shards() {
         // proof: the length of a book says what holds of its entries' tokens
         let _ = outcome.book(shard).len();
-    }
-}
-
-/// Each upload is read as batches in one way at most.
-pub fn one_reading_each(uploads: &[Vec<u8>])
-    ensures { All HasOneReading (map (λ upload. upload.items) uploads.now) }
-{
-    for upload in uploads {
-        one_reading(upload.as_slice());
     }
 }
 

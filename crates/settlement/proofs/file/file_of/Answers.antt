@@ -4,7 +4,7 @@ use Rattle.tap_views.specs.Encoding.{AreEarly}
 use Rattle.tap_views.specs.Layout.{moment_limit}
 use Rattle.tap_views.specs.declared.encoder.TapFields.{TapFields}
 use Rattle.tap_parts.specs.Canonical.{IsCanonical}
-use Rattle.tap_parts.specs.Parts.{IsFileOf}
+use Rattle.tap_views.specs.Files.{IsFileOf}
 use Rattle.settlement.proofs.file.file_of.Goals as goal
 
 pub part_file-requires : goal.part_file-requires

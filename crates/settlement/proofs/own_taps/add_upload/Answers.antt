@@ -4,9 +4,9 @@ use Rattle.std.proofs.Common.{length-append}
 use Rattle.std.proofs.lemmas.List.Concat.{flat_map-append}
 use Rattle.tap_views.specs.Layout.{Tap}
 use Rattle.tap_views.specs.Files.{Item, IsReading}
-use Rattle.upload_facts.specs.Facts.{taps_of_batches}
-use Rattle.upload_facts.proofs.ReadingLemmas.{same_items, read_all, read_fault, read_batch, few}
-use Rattle.upload_facts.proofs.ReadingLemmas.{taps_more, yielded_more}
+use Rattle.tap_views.specs.Files.{taps_of_batches}
+use Rattle.tap_views.proofs.ReadingLemmas.{same_items, read_all, read_fault, read_batch, few}
+use Rattle.tap_views.proofs.ReadingLemmas.{taps_more, yielded_more}
 use Rattle.fare_service.specs.EndsOfUploads.{end_by}
 use Rattle.settlement.proofs.OnlyTaps.{only_batch}
 use Rattle.settlement.proofs.own_taps.add_upload.Goals as goal

@@ -2,7 +2,7 @@ use Rattle.std.proofs.Common.{◌≡◌, List, ◌++◌, length, map, Ok}
 use Rattle.tap_views.specs.Encoding.{fields_of}
 use Rattle.tap_views.specs.Layout.{Tap}
 use Rattle.tap_views.specs.Files.{IsReading}
-use Rattle.upload_facts.specs.Facts.{taps_of_batches}
+use Rattle.tap_views.specs.Files.{taps_of_batches}
 use Rattle.settlement.specs.Posted.{only}
 use Rattle.settlement.proofs.own_taps.add_upload.Given as goal
 

@@ -1,6 +1,5 @@
 use Rattle.std.proofs.Common.{All, map, sym, ◌∙◌, subst}
-use Rattle.tap_views.specs.Files.{AreGoodTapsOfEach}
-use Rattle.fare_service.specs.Plain.{HasOneReading}
+use Rattle.tap_views.specs.Files.{AreGoodTapsOfEach, HasOneReading}
 use Rattle.tap_parts.specs.Canonical.{IsCanonical}
 use Rattle.settlement.proofs.Files.{bytes_in}
 use Rattle.settlement.proofs.SettledOrders.{own_early, own_its, own_settled}

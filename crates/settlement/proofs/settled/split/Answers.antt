@@ -1,6 +1,5 @@
 use Rattle.std.proofs.Common.{◌<◌, All, map, sym, ◌∙◌, subst, arith}
-use Rattle.fare_service.specs.Plain.{HasOneReading}
-use Rattle.tap_views.specs.Files.{AreGoodTapsOfEach}
+use Rattle.tap_views.specs.Files.{AreGoodTapsOfEach, HasOneReading}
 use Rattle.settlement.proofs.Files.{bytes_in}
 use Rattle.settlement.proofs.GoodTokens.{good_tokens}
 use Rattle.settlement.proofs.settled.split.Goals as goal

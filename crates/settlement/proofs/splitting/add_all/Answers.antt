@@ -3,15 +3,14 @@ use Rattle.std.proofs.Common.{◌∙◌, subst, arith, append_assoc, append-nil}
 use Rattle.std.proofs.lemmas.List.{map-append}
 use Rattle.std.specs.Vec.Iter.{into_iter_items}
 use Rattle.fare_service.specs.declared.upload_end.UploadEnd.{UploadEnd}
-use Rattle.tap_views.specs.Files.{AreGoodTapsOfEach}
+use Rattle.tap_views.specs.Files.{AreGoodTapsOfEach, taps_of_batches}
 use Rattle.fare_service.specs.Plain.{IsPlainEnd, ArePlainEnds}
-use Rattle.fare_service.proofs.PlainUploads.{each_more}
+use Rattle.tap_views.proofs.ReadingLemmas.{each_more}
 use Rattle.fare_service.proofs.PlainRuns.{AllZip-append}
 use Rattle.tap_parts.proofs.Adding.{none_added, batch_added}
 use Rattle.tap_parts.proofs.RangeLemmas.{range_below}
 use Rattle.tap_parts.specs.Ranges.{range_of_token}
 use Rattle.tap_parts.specs.Uploads.{IsUploadAddedBy}
-use Rattle.upload_facts.specs.Facts.{taps_of_batches}
 use Rattle.settlement.proofs.Ends.{plain_end, taps_added}
 use Rattle.settlement.proofs.splitting.add_all.Goals as goal
 

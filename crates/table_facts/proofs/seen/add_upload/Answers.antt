@@ -1,11 +1,10 @@
-use Rattle.std.proofs.Common.{◌≡◌, ◌||◌, ℕ, List, [], ◌++◌, ◌∷◌, Ok, Err, ap, ◌∙◌, sym, refl, subst}
+use Rattle.std.proofs.Common.{List, [], ◌++◌, ◌∷◌, Err, ap, ◌∙◌, sym, refl, subst}
 use Rattle.std.proofs.Common.{append_assoc, append-nil}
-use Rattle.tap_views.specs.Files.{Item, IsReading}
-use Rattle.upload_facts.specs.Facts.{taps_of_batches}
-use Rattle.upload_facts.proofs.ReadingLemmas.{same_items, read_all, read_fault, taps_more}
-use Rattle.upload_facts.proofs.ReadingLemmas.{yielded_more}
+use Rattle.tap_views.specs.Files.{Item, IsReading, taps_of_batches}
+use Rattle.tap_views.proofs.ReadingLemmas.{same_items, read_all, read_fault, taps_more}
+use Rattle.tap_views.proofs.ReadingLemmas.{yielded_more}
 use Rattle.table_facts.proofs.SeenLemmas.{no_tap, one_batch}
-use Rattle.table_facts.specs.SeenValidators.{has_tap_at, is_among}
+use Rattle.table_facts.specs.SeenValidators.{is_among}
 use Rattle.table_facts.proofs.seen.add_upload.Goals as goal
 
 pub loop-item-init : goal.loop-item-init

@@ -1,7 +1,6 @@
 use Rattle.std.proofs.Common.{◌≡◌, ◌++◌, ◌||◌, ℕ, List, map, Ok}
 use Rattle.tap_views.specs.Layout.{Tap}
-use Rattle.tap_views.specs.Files.{IsReading}
-use Rattle.upload_facts.specs.Facts.{taps_of_batches}
+use Rattle.tap_views.specs.Files.{IsReading, taps_of_batches}
 use Rattle.table_facts.specs.SeenValidators.{has_tap_at, is_among}
 use Rattle.table_facts.proofs.seen.add_upload.Given as goal
 

@@ -6,9 +6,10 @@ use Rattle.std.proofs.lemmas.List.{take-append-drop}
 use Rattle.std.proofs.lemmas.List.Elements.{All-drop, All-same}
 use Rattle.tap_views.specs.Layout.{moment_limit}
 use Rattle.tap_views.specs.declared.encoder.TapFields.{TapFields}
-use Rattle.tap_parts.specs.Parts.{IsFileOf, IsInFullBatches}
+use Rattle.tap_parts.specs.Parts.{IsInFullBatches}
+use Rattle.tap_views.specs.Files.{IsFileOf}
 use Rattle.tap_parts.proofs.FullBatches.{AreInBatches, full_size, more_batches, no_batches}
-use Rattle.tap_parts.proofs.Texts.{more_text, no_text}
+use Rattle.tap_views.proofs.Texts.{more_text, no_text}
 use Rattle.tap_parts.proofs.file.part_file.Goals as goal
 
 abbrev Early : TapFields → Type 0

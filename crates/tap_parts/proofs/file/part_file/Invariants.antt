@@ -1,7 +1,7 @@
 use Rattle.std.proofs.Common.{◌≡◌, ◌++◌, List, length}
 use Rattle.tap_views.specs.declared.encoder.TapFields.{TapFields}
 use Rattle.tap_views.specs.Encoding.{AreEarly}
-use Rattle.tap_parts.specs.Parts.{IsFileOf}
+use Rattle.tap_views.specs.Files.{IsFileOf}
 use Rattle.tap_parts.proofs.FullBatches.{AreInBatches}
 use Rattle.tap_parts.proofs.file.part_file.Given as goal
 

@@ -3,9 +3,8 @@ use Rattle.std.proofs.lemmas.List.{map-append}
 use Rattle.std.specs.Io.KnownBytes.{Appends}
 use Rattle.tap_views.specs.Encoding.{fields_of}
 use Rattle.tap_views.specs.Layout.{Tap}
-use Rattle.tap_views.specs.Files.{Item, IsReading}
-use Rattle.upload_facts.specs.Facts.{taps_of_batches}
-use Rattle.upload_facts.proofs.ReadingLemmas.{same_items, read_all, read_fault, taps_more, yielded_more}
+use Rattle.tap_views.specs.Files.{Item, IsReading, taps_of_batches}
+use Rattle.tap_views.proofs.ReadingLemmas.{same_items, read_all, read_fault, taps_more, yielded_more}
 use Rattle.tap_rows.specs.Decoded.{fields_in}
 use Rattle.tap_rows.specs.Rows.{rows_text}
 use Rattle.tap_rows.proofs.RowLemmas.{rows_joined}

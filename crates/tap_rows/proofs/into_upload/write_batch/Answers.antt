@@ -1,8 +1,8 @@
 use Rattle.std.proofs.Common.{◌≡◌, ◌∙◌, [], sym, subst}
 use Rattle.std.specs.Io.KnownBytes.{Appends}
 use Rattle.std.proofs.lemmas.Bool.{eqb-true}
-use Rattle.tap_parts.specs.Parts.{IsFileOf}
-use Rattle.tap_parts.proofs.Texts.{no_text, more_text}
+use Rattle.tap_views.specs.Files.{IsFileOf}
+use Rattle.tap_views.proofs.Texts.{no_text, more_text}
 use Rattle.tap_rows.proofs.TableLemmas.{appends_nothing, nothing, only_memory}
 use Rattle.tap_rows.proofs.into_upload.write_batch.Goals as goal
 

@@ -1,4 +1,4 @@
-use Rattle.std.proofs.Common.{◌≡◌, ℕ, List, ◌++◌, ◌∷◌, [], length, flat_map, take_all, ap, subst}
+use Rattle.std.proofs.Common.{ℕ, List, ◌++◌, ◌∷◌, [], length, flat_map, take_all, ap, subst}
 use Rattle.std.proofs.Common.{◌∙◌, append_assoc, refl}
 use Rattle.std.specs.Prelude.{All}
 use Rattle.std.proofs.lemmas.List.Elements.{All-more}

@@ -3,7 +3,8 @@ use Rattle.std.proofs.lemmas.List.{map_more}
 use Rattle.std.proofs.lemmas.List.Elements.{All-map, All-more}
 use Rattle.tap_views.specs.Files.{AreGoodTaps, AreGoodTapsOfEach}
 use Rattle.fare_service.proofs.PlainFields.{AreBytes, plain_fields}
-use Rattle.fare_service.proofs.PlainUploads.{each_more, some_plain, one_plain, legal_plain}
+use Rattle.fare_service.proofs.PlainUploads.{some_plain, one_plain, legal_plain}
+use Rattle.tap_views.proofs.ReadingLemmas.{each_more}
 use Rattle.fare_service.proofs.laws.schedules.plain_history.Goals as goal
 
 abbrev bytes_in : Vec ℕ Global → List ℕ

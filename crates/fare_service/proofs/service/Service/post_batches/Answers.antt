@@ -6,7 +6,9 @@ use Rattle.shard_book.specs.Sums.{sums_of}
 use Rattle.fare_service.specs.ServiceView.{shards_of}
 use Rattle.fare_service.proofs.VisitLemmas.{made_none}
 use Rattle.fare_service.proofs.TapCounts.{batches_taps}
-use Rattle.fare_service.proofs.ReadingLemmas.{same_items, read_all, read_fault, read_batch, done_room, posted_few, batches_more, batches_cut, cut_upload}
+use Rattle.tap_views.proofs.ReadingLemmas.{same_items, read_all, read_fault, read_batch}
+use Rattle.fare_service.proofs.PostedBatches.{done_room, posted_few, batches_more, batches_cut}
+use Rattle.fare_service.proofs.PostedBatches.{cut_upload}
 use Rattle.fare_service.proofs.FullLemmas.{handed_on, tells_ok, the_error}
 use Rattle.fare_service.proofs.service.Service.post_batches.Goals as goal
 

@@ -2,12 +2,11 @@ use Rattle.std.proofs.Common.{List, [], ◌++◌, ◌∷◌, map, Err, ap, ◌�
 use Rattle.std.proofs.Common.{refl, subst, append_assoc, append-nil}
 use Rattle.std.proofs.lemmas.List.{map-append}
 use Rattle.tap_views.specs.Encoding.{fields_of}
-use Rattle.tap_views.specs.Files.{Item, IsReading}
+use Rattle.tap_views.specs.Files.{Item, IsReading, taps_of_batches}
 use Rattle.tap_views.specs.Layout.{Tap}
 use Rattle.tap_views.specs.declared.encoder.TapFields.{TapFields}
-use Rattle.upload_facts.specs.Facts.{taps_of_batches}
-use Rattle.upload_facts.proofs.ReadingLemmas.{read_all, read_fault, same_items, taps_more}
-use Rattle.upload_facts.proofs.ReadingLemmas.{yielded_more}
+use Rattle.tap_views.proofs.ReadingLemmas.{read_all, read_fault, same_items, taps_more}
+use Rattle.tap_views.proofs.ReadingLemmas.{yielded_more}
 use Rattle.tap_balance.specs.Balances.{IsBalance}
 use Rattle.tap_balance.proofs.balance.Balance.add_upload.Goals as goal
 

@@ -1,9 +1,8 @@
 use Rattle.std.proofs.Common.{◌≡◌, List, [], ◌++◌, map, Ok}
 use Rattle.tap_views.specs.Encoding.{fields_of}
-use Rattle.tap_views.specs.Files.{IsReading}
+use Rattle.tap_views.specs.Files.{IsReading, taps_of_batches}
 use Rattle.tap_views.specs.Layout.{Tap}
 use Rattle.tap_views.specs.declared.encoder.TapFields.{TapFields}
-use Rattle.upload_facts.specs.Facts.{taps_of_batches}
 use Rattle.tap_balance.specs.Balances.{IsBalance}
 use Rattle.tap_balance.proofs.balance.Balance.add_upload.Given as goal
 

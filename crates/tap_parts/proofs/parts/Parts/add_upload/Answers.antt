@@ -1,41 +1,11 @@
-use Rattle.std.proofs.Common.{ℕ, ◌+◌, ◌*◌, ◌≤◌, List, [], ◌++◌, ◌∷◌, length, Ok, Err}
+use Rattle.std.proofs.Common.{List, [], ◌++◌, ◌∷◌, length, Ok, Err}
 use Rattle.std.proofs.Common.{ap, ◌∙◌, sym, refl, subst, append_assoc, append-nil, arith}
 use Rattle.std.proofs.Common.{length-append}
-use Rattle.tap_views.specs.Layout.{Tap}
-use Rattle.tap_views.specs.Files.{Item, IsReading}
+use Rattle.tap_views.specs.Files.{Item, IsReading, taps_of_batches}
 use Rattle.tap_parts.proofs.Adding.{none_added, batch_added}
-use Rattle.upload_facts.specs.Facts.{taps_of_batches}
-use Rattle.upload_facts.proofs.ReadingLemmas.{same_items, read_all, read_fault, read_batch, few}
-use Rattle.upload_facts.proofs.ReadingLemmas.{taps_more, yielded_more}
+use Rattle.tap_views.proofs.ReadingLemmas.{same_items, read_all, read_fault, read_batch, read_room}
+use Rattle.tap_views.proofs.ReadingLemmas.{taps_more, yielded_more}
 use Rattle.tap_parts.proofs.parts.Parts.add_upload.Goals as goal
-
--- the room that is left for a batch, and for its taps
-room : (file : List ℕ) (done more : List (List Tap)) (rest : List ℕ) (batch : List Tap)
-    → length (taps_of_batches ((done ++ batch ∷ []) ++ more)) + 2 * length ((done ++ batch ∷ []) ++ more)
-    ≤ length file
-    → (length (taps_of_batches done) + length batch ≤ length file) × (length done + 1 ≤ length file)
-room file [] more rest batch fits =
-    (omega (arith, fits, length-append batch (taps_of_batches more)), omega (arith, fits))
-room file (first ∷ done) more rest batch fits =
-    let all = length-append first (taps_of_batches ((done ++ batch ∷ []) ++ more)) in
-    let some = length-append first (taps_of_batches done) in
-    let tail = counts done more batch in
-    (omega (arith, fits, all, some, tail.0), omega (arith, fits, tail.1))
-  where
-    counts : (done more : List (List Tap)) (batch : List Tap)
-        → (length (taps_of_batches done) + length batch ≤ length (taps_of_batches ((done ++ batch ∷ []) ++ more)))
-        × (length done + 1 ≤ length ((done ++ batch ∷ []) ++ more))
-    counts [] more batch = (omega (arith, length-append batch (taps_of_batches more)), omega arith)
-    counts (first ∷ done) more batch =
-        let tail = counts done more batch in (
-          omega (
-            arith,
-            tail.0,
-            length-append first (taps_of_batches done),
-            length-append first (taps_of_batches ((done ++ batch ∷ []) ++ more)),
-          ),
-          omega (arith, tail.1),
-        )
 
 pub loop-item-init : goal.loop-item-init
 loop-item-init g c =
@@ -80,8 +50,7 @@ overflow_add-taps g c =
     let read = read_batch c.args.upload.now made.0 c.in-Ok.batch c.next.new.self
     (same_items c.args.upload.now c.loop-item.yielded c.next.new.self made.0 (Ok c.in-Ok.batch)
     c.loop-item.item-iterator c.loop-item.invariant.reading made.1 step) in
-    let fits = few c.args.upload.now ((made.0 ++ c.in-Ok.batch ∷ []) ++ read.1) read.0 read.2 in
-    let left = room c.args.upload.now made.0 read.1 read.0 c.in-Ok.batch fits in
+    let left = read_room c.args.upload.now made.0 read.1 read.0 c.in-Ok.batch read.2 in
     omega (arith, left.0, made.3, c.len.ensures.number)
 
 pub returns-in-Err : goal.returns-in-Err

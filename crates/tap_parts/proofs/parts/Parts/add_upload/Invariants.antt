@@ -1,8 +1,7 @@
 use Rattle.std.proofs.Common.{◌≡◌, List, ◌++◌, length, map, Ok}
 use Rattle.tap_views.specs.Layout.{Tap}
-use Rattle.tap_views.specs.Files.{IsReading}
+use Rattle.tap_views.specs.Files.{IsReading, taps_of_batches}
 use Rattle.tap_parts.specs.Parts.{AreAddedBy}
-use Rattle.upload_facts.specs.Facts.{taps_of_batches}
 use Rattle.tap_parts.proofs.parts.Parts.add_upload.Given as goal
 
 abbrev pub invariant-loop-item : goal.invariant-loop-item

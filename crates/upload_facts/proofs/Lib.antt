@@ -1,3 +1,0 @@
-pub mod ReadingLemmas
-mod Fronts
-mod Spans
