@@ -12,6 +12,7 @@
 //! | `run` | a run of the service |
 //! | `settle` | taps that are put into their one order before they are posted |
 //! | `bill` | the report of settled files, account by account |
+//! | `settled_token` | what is asked for of one token of settled files |
 //! | `posting` | files that are posted, settled or not, and the text that is asked for |
 //! | `output` | texts written out whole |
 //! | `fault` | why the program gives up, and the line that says so |
@@ -31,6 +32,7 @@ mod posting;
 mod program;
 mod run;
 mod settle;
+mod settled_token;
 mod source;
 mod uploads;
 

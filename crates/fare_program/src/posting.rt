@@ -12,6 +12,7 @@ use crate::options::Options;
 use crate::output::flush;
 use crate::run::{are_posted, post_live};
 use crate::settle::post_settled;
+use crate::settled_token::write_token;
 use fare_service::{Outcome, UploadEnd};
 use fare_table::FareTable;
 use ledger_texts::{write_explained, write_ledger};
@@ -156,6 +157,11 @@ pub(crate) fn charge<'a, R: Threads + Wait + RandomSource + Sync, W: Write>(
 {
     if options.settle && !options.ledger && token.is_none() {
         return write_bill(rt, alloc, &table, options.workers, files, out);
+    }
+    if options.settle {
+        if let Some(token) = token {
+            return write_token(rt, alloc, options, &table, token, files, out);
+        }
     }
     let posted = post(rt, alloc, table, options, files)?;
     let ends = posted.ends();

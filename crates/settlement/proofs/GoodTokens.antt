@@ -4,12 +4,11 @@ use Rattle.fare_table.specs.Fares.{Fares}
 use Rattle.shard_book.specs.Visits.{AreEntriesOf}
 use Rattle.shard_book.specs.declared.entry.Entry.{Entry}
 use Rattle.tap_views.specs.Encoding.{fields_of}
-use Rattle.tap_views.specs.Files.{AreGoodTapsOfEach}
+use Rattle.tap_views.specs.Files.{AreGoodTapsOfEach, HasOneReading}
 use Rattle.tap_views.specs.Layout.{Tap}
 use Rattle.tap_parts.specs.Canonical.{HasTokenBytes}
 use Rattle.tap_parts.specs.Parts.{taps_of_uploads}
 use Rattle.fare_service.specs.Plain.{IsPlain}
-use Rattle.tap_views.specs.Files.{HasOneReading}
 use Rattle.shard_book.proofs.PlainReplies.{bare, plain_bare}
 use Rattle.settlement.proofs.Own.{IsNamedBy}
 use Rattle.settlement.proofs.Placed.{all_map}

@@ -1,14 +1,12 @@
 use Rattle.std.proofs.Common.{List, [], ◌++◌, ◌∷◌, length, Ok, Err, Some, None}
 use Rattle.std.proofs.Common.{ap, ◌∙◌, sym, refl, subst, append_assoc, append-nil, arith}
 use Rattle.std.proofs.Common.{length-append}
-use Rattle.std.proofs.lemmas.List.Concat.{flat_map-append}
-use Rattle.tap_views.specs.Layout.{Tap}
 use Rattle.tap_views.specs.Files.{Item, IsReading}
 use Rattle.tap_views.specs.Files.{taps_of_batches}
 use Rattle.tap_views.proofs.ReadingLemmas.{same_items, read_all, read_fault, read_batch}
-use Rattle.shared_books.proofs.Numbers.{few}
 use Rattle.tap_views.proofs.ReadingLemmas.{taps_more, yielded_more}
 use Rattle.report_texts.specs.UploadEnds.{end_by}
+use Rattle.tap_views.proofs.ReadingLemmas.{read_room}
 use Rattle.settlement.proofs.OnlyTaps.{only_batch}
 use Rattle.settlement.proofs.own_taps.add_upload.Goals as goal
 
@@ -55,13 +53,8 @@ overflow_add-number c =
     let read = read_batch c.args.upload.now made.0 c.in-Ok.batch c.next.new.self
     (same_items c.args.upload.now c.loop-item.yielded c.next.new.self made.0 (Ok c.in-Ok.batch)
     c.loop-item.item-iterator c.loop-item.invariant.reading made.1 step) in
-    let done = made.0 ++ c.in-Ok.batch ∷ [] in
-    let fits = few c.args.upload.now (done ++ read.1) read.0 read.2 in
-    let all = ap length (flat_map-append (λ (b : List Tap). b) done read.1)
-    ∙ length-append (taps_of_batches done) (taps_of_batches read.1) in
-    let some = ap length (taps_more made.0 c.in-Ok.batch)
-    ∙ length-append (taps_of_batches made.0) c.in-Ok.batch in
-    omega (arith, fits, all, some, made.3, c.len.ensures.number)
+    let left = read_room c.args.upload.now made.0 read.1 read.0 c.in-Ok.batch read.2 in
+    omega (arith, left.0, made.3, c.len.ensures.number)
 
 pub returns-in-Err : goal.returns-in-Err
 returns-in-Err c =

@@ -1,0 +1,109 @@
+//! What is told of one token of settled files, from its taps alone.
+ghost use Rattle.std.specs.Prelude.{◌≡◌, ◌≢◌, ℕ, List, All, Some, IfErr, IfOk, MatchBool, OnOk, map};
+ghost use Rattle.std.specs.Io.KnownBytes.{Appends, Keeps};
+ghost use Rattle.tap_views.specs.Encoding.{AreEarly};
+ghost use Rattle.shard_book.specs.Entry.{own};
+ghost use Rattle.shard_book.specs.declared.entry.Entry.{Entry};
+ghost use Rattle.report_texts.specs.OverHistory.{IsStatementOver};
+ghost use Rattle.ledger_texts.specs.Explained.{IsExplainedOver};
+ghost use Rattle.settlement.specs.Posted.{posted, token_of_tap};
+ghost use Rattle.fare_program.specs.Fault.{status_of};
+ghost use Rattle.fare_program.specs.Settling.{ShowsOver, ShowsSettled};
+ghost use Rattle.fare_program.specs.inside.Options.{asked_of};
+
+use crate::fault::Fault;
+use crate::options::Options;
+use crate::output::flush;
+use crate::run::are_posted;
+use fare_table::FareTable;
+use settled_texts::{write_token_explained, write_token_ledger, write_token_statement};
+use settlement::{TokenTaps, laws, settled_taps_of};
+use shard_book::Token;
+use std::alloc::Global;
+use std::io::Write;
+use std::marker::Sync;
+use std::thread::Threads;
+use tap_views::TapFields;
+
+/// Writes the statement of a token that has these taps, explained where that is asked for.
+fn write_statement<'a, W: Write>(
+    alloc: Global,
+    explain: bool,
+    table: &FareTable,
+    token: Token,
+    taps: &[TapFields],
+    out: &mut W,
+) -> Result<(), Fault<'a>>
+    requires early { AreEarly (λ tap. tap.moment) taps.now }
+    requires its { All (λ tap. token_of_tap tap ≡ token) taps.now }
+    ensures ok { OnOk result ((text : List ℕ)
+        × ((history : List Entry) → own token history ≡ posted table.now taps.now
+        → MatchBool explain (IsExplainedOver table.now history token text)
+        (IsStatementOver table.now history token text))
+        × Appends (W.contents out.old) (W.contents out.new) text) }
+    ensures status { IfErr result (λ fault. status_of fault ≡ 1) }
+    ensures fault { IfErr result (λ fault. fault ≢ Fault.Write
+        → Keeps (W.contents out.old) (W.contents out.new)) }
+{
+    if explain {
+        write_token_explained(alloc, table, token, taps, out)?;
+    } else {
+        write_token_statement(alloc, table, token, taps, out)?;
+    }
+    Ok(())
+}
+
+/// Writes the ledger of a token that has these taps, or its statement, explained where that is
+/// asked for.
+fn write_text<'a, W: Write>(
+    alloc: Global,
+    options: &Options<'a>,
+    table: &FareTable,
+    token: Token,
+    taps: &[TapFields],
+    out: &mut W,
+) -> Result<(), Fault<'a>>
+    requires early { AreEarly (λ tap. tap.moment) taps.now }
+    requires its { All (λ tap. token_of_tap tap ≡ token) taps.now }
+    ensures ok { OnOk result ((text : List ℕ)
+        × ((files : List (List ℕ)) (history : List Entry)
+        → own token history ≡ posted table.now taps.now
+        → ShowsOver (asked_of options.now) (Some token) table.now files history text)
+        × Appends (W.contents out.old) (W.contents out.new) text) }
+    ensures status { IfErr result (λ fault. status_of fault ≡ 1) }
+    ensures fault { IfErr result (λ fault. fault ≢ Fault.Write
+        → Keeps (W.contents out.old) (W.contents out.new)) }
+{
+    if options.ledger {
+        write_token_ledger(alloc, table, token, taps, out)?;
+    } else {
+        write_statement(alloc, options.explain, table, token, taps, out)?;
+    }
+    Ok(())
+}
+
+/// Writes what is asked for of the token: of the taps of the files no others are kept. Says whether
+/// each file was posted whole.
+pub(crate) fn write_token<'a, R: Threads + Sync, W: Write>(
+    rt: &R,
+    alloc: Global,
+    options: &Options<'a>,
+    table: &FareTable,
+    token: Token,
+    files: Vec<Vec<u8>>,
+    out: &mut W,
+) -> Result<bool, Fault<'a>>
+    ensures ok { IfOk result (λ well. (text : List ℕ)
+        × ShowsSettled (asked_of options.now) table.now (map (λ f. f.items) files.items)
+        (Some token) text well × Appends (W.contents out.old) (W.contents out.new) text) }
+    ensures status { IfErr result (λ fault. status_of fault ≡ 1) }
+    ensures fault { IfErr result (λ fault. fault ≢ Fault.Write
+        → Keeps (W.contents out.old) (W.contents out.new)) }
+{
+    let TokenTaps { ends, taps } = settled_taps_of(rt, alloc, files, token)?;
+    // proof: the taps, posted alone, are the token's entries in the settled history
+    laws::posted_taps();
+    write_text(alloc, options, table, token, &taps, out)?;
+    flush(out)?;
+    Ok(are_posted(&ends))
+}
