@@ -1,5 +1,3 @@
-//! The texts of settled taps: the ledger of all tokens, and what is told of one token, from its taps
-//! alone. Each tap is posted and told in one step.
 //! The texts of settled taps, which are posted account by account. The ledger of all tokens tells
 //! each tap in the step that posts it: no entry is kept, and nothing is sorted. The texts of one token
 //! are made from its taps alone.
