@@ -166,11 +166,11 @@ impl Teller {
         // After all entries that it has told.
         ensures line { OnOk result ((earlier : List Entry) → HasTold table.now self.old earlier
             → (line : List ℕ) × IsLedgerLineAfter table.now self.old.token earlier
-                (next_entry table.now self.old.token earlier validator moment) line
+            (next_entry table.now self.old.token earlier validator moment) line
             × (string_bytes text.new ≡ string_bytes text.old ++ line)) }
         ensures told { (earlier : List Entry) → HasTold table.now self.old earlier
             → HasTold table.now self.new
-                (earlier ++ next_entry table.now self.old.token earlier validator moment ∷ []) }
+            (earlier ++ next_entry table.now self.old.token earlier validator moment ∷ []) }
         ensures token { self.new.token ≡ self.old.token }
         ensures number { self.new.number ≡ self.old.number + 1 }
     {
