@@ -27,7 +27,7 @@ use Rattle.shard_book.proofs.RisingLemmas.{rising-is, rising-only}
 use Rattle.shard_book.proofs.TokenLemmas.{token_cmp-total, token_cmp-ties}
 use Rattle.shard_book.specs.Plain.{answered, with_reply}
 use Rattle.settlement.specs.Posted.{posted, posted_after, unposted}
-use Rattle.settlement.specs.Apart.{AreBelow, AreOthers}
+use Rattle.settlement.specs.inside.Apart.{AreBelow, AreOthers}
 use Rattle.settlement.proofs.Placed.{all_by, all_map}
 
 -- entries of other tokens decide no reply

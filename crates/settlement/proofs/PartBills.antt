@@ -18,7 +18,7 @@ use Rattle.shard_book.specs.SumsByKey.{token_of}
 use Rattle.shard_book.specs.declared.entry.Entry.{Entry}
 use Rattle.fare_service.proofs.PlainLists.{All-split}
 use Rattle.fare_service.proofs.PlainRuns.{AllZip-append}
-use Rattle.settlement.specs.Apart.{AreBelow}
+use Rattle.settlement.specs.inside.Apart.{AreBelow}
 use Rattle.settlement.specs.Bills.{IsBillOf}
 use Rattle.settlement.specs.Posted.{posted, token_of_tap}
 use Rattle.settlement.specs.declared.bill.Bill.{Bill}

@@ -27,7 +27,7 @@ use Rattle.shard_book.specs.SumsByKey.{token_of}
 use Rattle.shard_book.specs.declared.entry.Entry.{Entry}
 use Rattle.shard_book.proofs.Histories.{token_eq-sym}
 use Rattle.shard_book.specs.Plain.{token_of_bytes}
-use Rattle.settlement.specs.Apart.{AreBelow, AreOthers}
+use Rattle.settlement.specs.inside.Apart.{AreBelow, AreOthers}
 use Rattle.settlement.specs.Posted.{HasName, posted, posted_after, token_of_tap}
 use Rattle.settlement.specs.inside.Billing.{ArePartsInOrder}
 use Rattle.settlement.proofs.TokenRuns.{tokens_posted}

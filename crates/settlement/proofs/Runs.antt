@@ -15,7 +15,7 @@ use Rattle.tap_views.specs.declared.encoder.TapFields.{TapFields}
 use Rattle.tap_parts.specs.Canonical.{tap_cmp}
 use Rattle.shard_book.specs.SumsByKey.{token_of}
 use Rattle.shard_book.specs.declared.entry.Entry.{Entry}
-use Rattle.settlement.specs.Apart.{AreBelow}
+use Rattle.settlement.specs.inside.Apart.{AreBelow}
 use Rattle.settlement.specs.Posted.{HasName, posted, token_of_tap}
 use Rattle.settlement.specs.inside.Billing.{IsRun}
 use Rattle.settlement.proofs.Placed.{all_map}

@@ -28,7 +28,7 @@ use Rattle.shard_book.proofs.Histories.{token_eq-refl}
 use Rattle.shard_book.proofs.RisingLemmas.{rising-only}
 use Rattle.shard_book.proofs.TokenLemmas.{high_back, low_back, token_cmp-total, token_cmp-ties}
 use Rattle.shard_book.specs.Plain.{answered, token_of_bytes}
-use Rattle.settlement.specs.Apart.{AreBelow}
+use Rattle.settlement.specs.inside.Apart.{AreBelow}
 use Rattle.settlement.specs.Posted.{HasName, posted, posted_after, token_of_tap, unposted}
 use Rattle.settlement.proofs.Placed.{all_map}
 use Rattle.settlement.proofs.Concats.{posted_append}

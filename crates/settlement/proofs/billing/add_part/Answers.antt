@@ -6,7 +6,7 @@ use Rattle.tap_views.specs.declared.encoder.TapFields.{TapFields}
 use Rattle.tap_parts.specs.Canonical.{HasTokenBytes, IsCanonical}
 use Rattle.shard_book.specs.SumsByKey.{sums_by_token, token_of}
 use Rattle.shard_book.specs.declared.entry.Entry.{Entry}
-use Rattle.settlement.specs.Apart.{AreBelow}
+use Rattle.settlement.specs.inside.Apart.{AreBelow}
 use Rattle.settlement.specs.Bills.{IsCountOf}
 use Rattle.settlement.specs.Posted.{posted, token_of_tap}
 use Rattle.settlement.proofs.billing.add_part.Goals as goal
