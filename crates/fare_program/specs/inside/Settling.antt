@@ -2,19 +2,11 @@
 use Rattle.std.specs.Prelude.{◌≡◌, ℕ, Bool, List}
 use Rattle.shard_book.specs.declared.entry.Entry.{Entry}
 use Rattle.fare_table.specs.Fares.{Fares}
-use Rattle.fare_service.specs.Outcomes.{OutcomeView}
 use Rattle.report_texts.specs.UploadEnds.{are_posted}
 use Rattle.report_texts.specs.UploadEnds.{ArePlainEnds}
 use Rattle.report_texts.specs.OverHistory.{IsReportOver}
 use Rattle.report_texts.specs.declared.upload_end.UploadEnd.{UploadEnd}
 use Rattle.settlement.specs.Settled.{IsSettledHistory}
-use Rattle.settlement.specs.SettledTexts.{HasSettledTexts}
-
--- The files ended so, and the outcome tells their settled history.
-pub record IsOutcomeOf (fares : Fares) (files : List (List ℕ)) (ends : List UploadEnd)
-    (outcome : OutcomeView) : Type 0 where
-  pub ended : ArePlainEnds files ends
-  pub tells : HasSettledTexts fares files ends outcome
 
 -- The text is the report of the settled history of the files. It is well where each file ends posted
 -- whole.
