@@ -1,19 +1,18 @@
 -- The report of a bill is what is asked for of settled files.
-use Rattle.std.proofs.Common.{◌≡◌, ℕ, List, Bool, true, false, Option, None, Some, refl, sym, subst}
-use Rattle.std.specs.Prelude.{MatchBool, is_some}
+use Rattle.std.proofs.Common.{◌≡◌, ℕ, List, Bool, false, Option, None, Some, refl, sym, subst}
+use Rattle.std.specs.Prelude.{MatchBool}
 use Rattle.fare_table.specs.Fares.{Fares}
 use Rattle.fare_table.specs.declared.token.Token.{Token}
 use Rattle.fare_program.specs.Options.{Asked}
-use Rattle.fare_program.specs.Program.{ShowsAsked, ShowsLiveRun}
 use Rattle.fare_program.specs.Settling.{IsTextOver, ShowsSettled}
 use Rattle.fare_program.specs.inside.Settling.{ShowsBill}
 use Rattle.ledger_texts.specs.Ledger.{IsLedgerOver}
 
 pub shows_bill : (asked : Asked) (fares : Fares) (files : List (List ℕ)) (token : Option Token)
-    (text : List ℕ) (well : Bool) → asked.settle ≡ true → asked.ledger ≡ false → token ≡ None
-    → ShowsBill fares files text well → ShowsAsked asked fares files token text well
-shows_bill asked fares files token text well settle ledger none is =
-    let shown : ShowsSettled asked fares files token text well = record {
+    (text : List ℕ) (well : Bool) → asked.ledger ≡ false → token ≡ None
+    → ShowsBill fares files text well → ShowsSettled asked fares files token text well
+shows_bill asked fares files token text well ledger none is =
+    record {
       history = is.history;
       is_settled = is.is_settled;
       shows = subst (λ (b : Bool). MatchBool b (IsLedgerOver fares is.history token text)
@@ -23,10 +22,4 @@ shows_bill asked fares files token text well settle ledger none is =
       ends = is.ends;
       ended = is.ended;
       is_well = is.is_well;
-    } in
-    subst (λ (b : Bool). MatchBool b (ShowsSettled asked fares files token text well)
-    (ShowsLiveRun asked fares files token text well)) (sym settle) shown
-
-pub no_token : (token : Option Token) → is_some token ≡ false → token ≡ None
-no_token None none = refl
-no_token (Some token) none = absurd (cc)
+    }

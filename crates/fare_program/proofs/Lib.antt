@@ -5,7 +5,6 @@ pub mod Going
 pub mod LastMoments
 pub mod Loads
 pub mod PostedTexts
-pub mod Settled
 pub mod Sizes
 pub mod Ledgers
 pub mod Explains

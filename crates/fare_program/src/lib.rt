@@ -10,10 +10,9 @@
 //! | `listing` | the liveness of each tap, from those before it |
 //! | `lines`, `uploads` | the text of a listing |
 //! | `run` | a run of the service |
-//! | `settle` | taps that are put into their one order before they are posted |
-//! | `bill` | the report of settled files, account by account |
+//! | `settle`, `bill` | what is asked for of settled files, whose taps are charged in one order |
 //! | `settled_token` | what is asked for of one token of settled files |
-//! | `posting` | files that are posted, settled or not, and the text that is asked for |
+//! | `posting` | the text that is asked for of files, posted as they are or settled |
 //! | `output` | texts written out whole |
 //! | `fault` | why the program gives up, and the line that says so |
 //! | `program` | the whole |

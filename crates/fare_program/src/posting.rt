@@ -1,19 +1,16 @@
-//! Files that are posted, settled or not, and the text that is asked for of what came of it.
+//! The text that is asked for of files, which are posted as they are or settled.
 ghost use Rattle.std.specs.Prelude.{◌≡◌, ◌≢◌, ℕ, List, IfErr, IfOk, OnOk, map};
 ghost use Rattle.std.specs.Io.KnownBytes.{Appends, Keeps};
 ghost use Rattle.fare_program.specs.Fault.{status_of};
 ghost use Rattle.fare_program.specs.inside.Options.{asked_of};
 ghost use Rattle.fare_program.specs.Program.{ShowsAsked, ShowsOf, ShowsStatement, ShowsWith};
-ghost use Rattle.fare_program.specs.inside.PostedFiles.{IsAskedOutcome, ends_of};
 
-use crate::bill::write_bill;
 use crate::fault::Fault;
 use crate::options::Options;
 use crate::output::flush;
 use crate::run::{are_posted, post_live};
-use crate::settle::post_settled;
-use crate::settled_token::write_token;
-use fare_service::{Outcome, UploadEnd};
+use crate::settle::charge_settled;
+use fare_service::Outcome;
 use fare_table::FareTable;
 use ledger_texts::{write_explained, write_ledger};
 use shard_book::Token;
@@ -23,47 +20,6 @@ use std::marker::Sync;
 use std::random::RandomSource;
 use std::sync::Wait;
 use std::thread::Threads;
-
-/// What came of posting files.
-#[derive(Drop)]
-pub(crate) struct Posted {
-    /// What the service came to.
-    pub(crate) outcome: Outcome,
-    /// How the files ended, where other files were posted in their place.
-    pub(crate) given: Option<Vec<UploadEnd>>,
-}
-
-impl Posted {
-    /// How each file ended.
-    pub(crate) fn ends(&self) -> &[UploadEnd]
-        ensures { result.now ≡ ends_of self.now }
-    {
-        match &self.given {
-            Some(given) => given.as_slice(),
-            None => self.outcome.ends(),
-        }
-    }
-}
-
-/// Posts the files, settled where that is asked for. Their bytes are given back.
-fn post<'a, R: Threads + Wait + RandomSource + Sync>(
-    rt: &R,
-    alloc: Global,
-    table: FareTable,
-    options: &Options<'a>,
-    files: Vec<Vec<u8>>,
-) -> Result<Posted, Fault<'a>>
-    ensures posted { IfOk result
-        (λ posted. IsAskedOutcome (asked_of options.now) table (map (λ f. f.items) files.items)
-        (ends_of posted) posted.outcome) }
-    ensures status { IfErr result (λ fault. status_of fault ≡ 1) }
-{
-    if options.settle {
-        post_settled(rt, alloc, table, options, files)
-    } else {
-        post_live(rt, alloc, table, options, files)
-    }
-}
 
 /// Prints the statement of the token, explained where that is asked for.
 fn print_statement<'a, W: Write>(
@@ -87,43 +43,41 @@ fn print_statement<'a, W: Write>(
     Ok(())
 }
 
-/// Prints the report with these ends of uploads, or the statement of the token where one is asked
-/// for, explained where that is asked for.
+/// Prints the report, or the statement of the token where one is asked for, explained where that is
+/// asked for.
 fn print<'a, R: Threads + Sync, W: Write>(
     rt: &R,
     alloc: Global,
     explain: bool,
     outcome: &Outcome,
-    ends: &[UploadEnd],
     token: Option<Token>,
     out: &mut W,
 ) -> Result<(), Fault<'a>>
-    ensures ok { OnOk result ((text : List ℕ) × ShowsWith explain token ends.now outcome.now text
+    ensures ok { OnOk result ((text : List ℕ) × ShowsWith explain token outcome.now.ends outcome.now text
         × Appends (W.contents out.old) (W.contents out.new) text) }
     ensures status { IfErr result (λ fault. status_of fault ≡ 1) }
     ensures fault { IfErr result (λ fault. fault ≢ Fault.Write
         → Keeps (W.contents out.old) (W.contents out.new)) }
 {
     match token {
-        None => outcome.write_report_with(rt, alloc, ends, out)?,
+        None => outcome.write_report(rt, alloc, out)?,
         Some(token) => print_statement(alloc, explain, outcome, token, out)?,
     }
     Ok(())
 }
 
-/// Prints what is asked for: the ledger, or that of the token; else the report with these ends of
-/// uploads, or the statement of the token, explained where that is asked for.
+/// Prints what is asked for: the ledger, or that of the token; else the report, or the statement of
+/// the token, explained where that is asked for.
 fn print_asked<'a, R: Threads + Sync, W: Write>(
     rt: &R,
     alloc: Global,
     options: &Options<'a>,
     outcome: &Outcome,
-    ends: &[UploadEnd],
     token: Option<Token>,
     out: &mut W,
 ) -> Result<(), Fault<'a>>
     ensures ok { OnOk result ((text : List ℕ)
-        × ShowsOf (asked_of options.now) token ends.now outcome.now text
+        × ShowsOf (asked_of options.now) token outcome.now.ends outcome.now text
         × Appends (W.contents out.old) (W.contents out.new) text) }
     ensures status { IfErr result (λ fault. status_of fault ≡ 1) }
     ensures fault { IfErr result (λ fault. fault ≢ Fault.Write
@@ -132,7 +86,7 @@ fn print_asked<'a, R: Threads + Sync, W: Write>(
     if options.ledger {
         write_ledger(alloc, outcome.books(), token, out)?;
     } else {
-        print(rt, alloc, options.explain, outcome, ends, token, out)?;
+        print(rt, alloc, options.explain, outcome, token, out)?;
     }
     Ok(())
 }
@@ -155,17 +109,11 @@ pub(crate) fn charge<'a, R: Threads + Wait + RandomSource + Sync, W: Write>(
     ensures fault { IfErr result (λ fault. fault ≢ Fault.Write
         → Keeps (W.contents out.old) (W.contents out.new)) }
 {
-    if options.settle && !options.ledger && token.is_none() {
-        return write_bill(rt, alloc, &table, options.workers, files, out);
-    }
     if options.settle {
-        if let Some(token) = token {
-            return write_token(rt, alloc, options, &table, token, files, out);
-        }
+        return charge_settled(rt, alloc, options, &table, token, files, out);
     }
-    let posted = post(rt, alloc, table, options, files)?;
-    let ends = posted.ends();
-    print_asked(rt, alloc, options, &posted.outcome, ends, token, out)?;
+    let outcome = post_live(rt, alloc, table, options, files)?;
+    print_asked(rt, alloc, options, &outcome, token, out)?;
     flush(out)?;
-    Ok(are_posted(ends))
+    Ok(are_posted(outcome.ends()))
 }

@@ -8,11 +8,10 @@ ghost use Rattle.fare_program.specs.Posted.{are_posted, is_posted};
 ghost use Rattle.fare_program.specs.Options.{Asked};
 ghost use Rattle.fare_program.specs.Program.{ShowsOf, ShowsPlain};
 ghost use Rattle.fare_service.specs.Headline.{HasRun};
-ghost use Rattle.fare_program.specs.inside.PostedFiles.{IsLiveRun, ends_of};
+ghost use Rattle.fare_program.specs.inside.PostedFiles.{IsLiveRun};
 
 use crate::fault::Fault;
 use crate::options::Options;
-use crate::posting::Posted;
 use fare_service::{OpenGate, Outcome, Service, UploadEnd, laws};
 use fare_table::FareTable;
 use std::alloc::Global;
@@ -67,20 +66,16 @@ pub(crate) fn post_live<'a, R: Threads + Wait + RandomSource + Sync>(
     table: FareTable,
     options: &Options<'a>,
     files: Vec<Vec<u8>>,
-) -> Result<Posted, Fault<'a>>
-    ensures live { IfOk result
-        (λ posted. IsLiveRun table options.now.shards options.now.workers
-        (map (λ f. f.items) files.items) (ends_of posted) posted.outcome) }
+) -> Result<Outcome, Fault<'a>>
+    ensures live { IfOk result (IsLiveRun table options.now.shards options.now.workers
+        (map (λ f. f.items) files.items)) }
     ensures status { IfErr result (λ fault. status_of fault ≡ 1) }
 {
     let uploads = files.as_slice();
     let outcome = outcome_of(rt, alloc, table, options, uploads)?;
     // proof: where no token has taps in two files, what is shown does not depend on the schedule
     shows_plain(uploads, &outcome);
-    Ok(Posted {
-        outcome,
-        given: None,
-    })
+    Ok(outcome)
 }
 
 /// Whether the upload was posted whole.

@@ -1,67 +1,95 @@
-//! Taps that are put into canonical order before they are posted.
-ghost use Rattle.std.specs.Prelude.{◌≡◌, All, IfErr, IfOk, map};
-ghost use Rattle.fare_service.specs.Plain.{WasNotCut};
+//! What is asked for of settled files, whose taps are charged account by account in one order.
+ghost use Rattle.std.specs.Prelude.{◌≡◌, ◌≢◌, ℕ, true, List, None, IfErr, IfOk, map};
+ghost use Rattle.std.specs.Io.KnownBytes.{Appends, Keeps};
 ghost use Rattle.fare_program.specs.Fault.{status_of};
-ghost use Rattle.fare_service.specs.Headline.{HasRun};
-ghost use Rattle.fare_program.specs.inside.Settling.{IsOutcomeOf};
-ghost use Rattle.fare_program.specs.inside.PostedFiles.{ends_of};
+ghost use Rattle.fare_program.specs.Options.{Asked};
+ghost use Rattle.fare_program.specs.Settling.{ShowsSettled};
+ghost use Rattle.fare_program.specs.inside.Options.{asked_of};
 
+use crate::bill::write_bill;
 use crate::fault::Fault;
 use crate::options::Options;
-use crate::posting::Posted;
-use crate::run::outcome_of;
-use fare_service::Outcome;
-use fare_service::laws::none_was_cut;
+use crate::output::flush;
+use crate::run::are_posted;
+use crate::settled_token::write_token;
 use fare_table::FareTable;
-use settlement::{Settled, laws, settle};
+use settled_texts::write_settled_ledger;
+use settlement::{SettledTaps, laws, settled_taps};
+use shard_book::Token;
 use std::alloc::Global;
+use std::io::Write;
 use std::marker::Sync;
 use std::random::RandomSource;
-use std::sync::Wait;
 use std::thread::Threads;
 
-/// Runs the service over these uploads. There is no outcome of a part of them: where memory cut
-/// one, it is want of memory.
-fn uncut_outcome_of<'a, R: Threads + Wait + RandomSource + Sync>(
+/// Writes the ledger of the settled history of the files, which so many workers make. Says whether
+/// each file was posted whole.
+fn write_ledger<'a, R: Threads + Sync, W: Write>(
     rt: &R,
     alloc: Global,
-    table: FareTable,
-    options: &Options<'a>,
-    files: &[Vec<u8>],
-) -> Result<Outcome, Fault<'a>>
-    ensures run { IfOk result (λ outcome. HasRun table options.now.shards
-        (map (λ f. f.items) files.now) options.now.workers outcome) }
-    ensures whole { IfOk result (λ outcome. All WasNotCut outcome.ends) }
+    table: &FareTable,
+    workers: u32,
+    files: Vec<Vec<u8>>,
+    out: &mut W,
+) -> Result<bool, Fault<'a>>
+    ensures ok { IfOk result (λ well. (text : List ℕ)
+        × ((asked : Asked) → asked.ledger ≡ true
+        → ShowsSettled asked table.now (map (λ f. f.items) files.items) None text well)
+        × Appends (W.contents out.old) (W.contents out.new) text) }
     ensures status { IfErr result (λ fault. status_of fault ≡ 1) }
+    ensures fault { IfErr result (λ fault. fault ≢ Fault.Write
+        → Keeps (W.contents out.old) (W.contents out.new)) }
 {
-    let outcome = outcome_of(rt, alloc, table, options, files)?;
-    if !none_was_cut(&outcome) {
-        return Err(Fault::NoMemory);
-    }
-    Ok(outcome)
+    let SettledTaps { ends, lists } = settled_taps(rt, alloc, files, workers)?;
+    // proof: the taps, posted in their order, are the settled history
+    laws::posted_taps();
+    write_settled_ledger(rt, alloc, table, &lists, workers, out)?;
+    flush(out)?;
+    Ok(are_posted(&ends))
 }
 
-/// Posts the taps of the files in canonical order. How the files ended is told of those that were
-/// given.
-pub(crate) fn post_settled<'a, R: Threads + Wait + RandomSource + Sync>(
+/// Writes what is asked for of all tokens: the ledger, or the report. Says whether each file was
+/// posted whole.
+fn charge_all<'a, R: Threads + RandomSource + Sync, W: Write>(
     rt: &R,
     alloc: Global,
-    table: FareTable,
     options: &Options<'a>,
+    table: &FareTable,
     files: Vec<Vec<u8>>,
-) -> Result<Posted, Fault<'a>>
-    ensures settled { IfOk result
-        (λ posted. IsOutcomeOf table (map (λ f. f.items) files.items) (ends_of posted)
-        posted.outcome) }
+    out: &mut W,
+) -> Result<bool, Fault<'a>>
+    ensures ok { IfOk result (λ well. (text : List ℕ)
+        × ShowsSettled (asked_of options.now) table.now (map (λ f. f.items) files.items) None text
+        well × Appends (W.contents out.old) (W.contents out.new) text) }
     ensures status { IfErr result (λ fault. status_of fault ≡ 1) }
+    ensures fault { IfErr result (λ fault. fault ≢ Fault.Write
+        → Keeps (W.contents out.old) (W.contents out.new)) }
 {
-    let Settled { ends, files } = settle(rt, alloc, files)?;
-    let settled = files.as_slice();
-    let outcome = uncut_outcome_of(rt, alloc, table, options, settled)?;
-    // proof: the outcome tells the settled history of the files that were given
-    laws::outcome_is_settled(settled, &outcome);
-    Ok(Posted {
-        outcome,
-        given: Some(ends),
-    })
+    if options.ledger {
+        return write_ledger(rt, alloc, table, options.workers, files, out);
+    }
+    write_bill(rt, alloc, table, options.workers, files, out)
+}
+
+/// Settles the files, and writes what is asked for. Says whether each file was posted whole.
+pub(crate) fn charge_settled<'a, R: Threads + RandomSource + Sync, W: Write>(
+    rt: &R,
+    alloc: Global,
+    options: &Options<'a>,
+    table: &FareTable,
+    token: Option<Token>,
+    files: Vec<Vec<u8>>,
+    out: &mut W,
+) -> Result<bool, Fault<'a>>
+    ensures ok { IfOk result (λ well. (text : List ℕ)
+        × ShowsSettled (asked_of options.now) table.now (map (λ f. f.items) files.items) token
+        text well × Appends (W.contents out.old) (W.contents out.new) text) }
+    ensures status { IfErr result (λ fault. status_of fault ≡ 1) }
+    ensures fault { IfErr result (λ fault. fault ≢ Fault.Write
+        → Keeps (W.contents out.old) (W.contents out.new)) }
+{
+    match token {
+        Some(token) => write_token(rt, alloc, options, table, token, files, out),
+        None => charge_all(rt, alloc, options, table, files, out),
+    }
 }

@@ -2,18 +2,10 @@
 use Rattle.std.specs.Prelude.{◌≡◌, ℕ, Bool, List}
 use Rattle.shard_book.specs.declared.entry.Entry.{Entry}
 use Rattle.fare_table.specs.Fares.{Fares}
-use Rattle.fare_service.specs.Outcomes.{OutcomeView}
 use Rattle.fare_program.specs.Posted.{are_posted}
 use Rattle.fare_service.specs.Plain.{ArePlainEnds, IsReportOver}
 use Rattle.fare_service.specs.declared.upload_end.UploadEnd.{UploadEnd}
 use Rattle.settlement.specs.Settled.{IsSettledHistory}
-use Rattle.settlement.specs.SettledTexts.{HasSettledTexts}
-
--- The files ended so, and the outcome tells their settled history.
-pub record IsOutcomeOf (fares : Fares) (files : List (List ℕ)) (ends : List UploadEnd)
-    (outcome : OutcomeView) : Type 0 where
-  pub ended : ArePlainEnds files ends
-  pub tells : HasSettledTexts fares files ends outcome
 
 -- The text is the report of the settled history of the files. It is well where each file ends posted
 -- whole.

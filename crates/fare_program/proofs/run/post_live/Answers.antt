@@ -1,4 +1,4 @@
-use Rattle.std.proofs.Common.{ℕ, List, Vec, Global, map, refl, subst}
+use Rattle.std.proofs.Common.{ℕ, List, Vec, Global, map, subst}
 use Rattle.fare_program.specs.Program.{ShowsPlain}
 use Rattle.fare_service.specs.Headline.{HasRun}
 use Rattle.fare_program.proofs.run.post_live.Goals as goal
@@ -12,7 +12,6 @@ returns-clause-live g c =
     let value = c.as_slice-uploads.ensures.value in
     record {
       run = subst R value run;
-      ended = refl;
       plain = λ asked token text posted shows.
           let P : List (Vec ℕ Global) → Type 0 = λ fs. ShowsPlain asked c.args.table (map (λ f. f.items) fs) token text in
           subst P value (c.shows_plain.ensures _ _ _ asked token text run posted shows);

@@ -1,0 +1,60 @@
+use Rattle.std.proofs.Common.{◌≡◌, ℕ, Bool, List, None, All, Vec, Global, ap, flat_map, map, subst, sym, ◌∙◌}
+use Rattle.std.specs.Prelude.{MatchBool}
+use Rattle.std.specs.List.Sorted.{IsSorted}
+use Rattle.std.proofs.KnownBytes.{Appends-kept}
+use Rattle.tap_views.specs.Encoding.{AreEarly}
+use Rattle.tap_views.specs.declared.encoder.TapFields.{TapFields}
+use Rattle.tap_parts.specs.Canonical.{tap_cmp}
+use Rattle.ledger_texts.specs.Ledger.{IsLedgerOver}
+use Rattle.settlement.specs.Posted.{HasName, posted}
+use Rattle.fare_program.specs.Posted.{are_posted}
+use Rattle.fare_program.specs.Settling.{IsTextOver}
+use Rattle.fare_program.proofs.settle.write_ledger.Goals as goal
+
+abbrev taps_in : Vec TapFields Global → List TapFields
+taps_in list = list.items
+
+abbrev joined : List (Vec TapFields Global) → List TapFields
+joined lists = flat_map taps_in lists
+
+pub write_settled_ledger-requires-clause-sorted : goal.write_settled_ledger-requires-clause-sorted
+write_settled_ledger-requires-clause-sorted g c κs within =
+    let made = c.in_ok-ends.ensures.order in
+    subst (λ (ls : List (Vec TapFields Global)). IsSorted tap_cmp (joined ls)) (sym c.deref.ensures.value)
+    made.canonical.sorted
+
+pub write_settled_ledger-requires-clause-early : goal.write_settled_ledger-requires-clause-early
+write_settled_ledger-requires-clause-early g c κs within =
+    let made = c.in_ok-ends.ensures.order in
+    subst (λ (ls : List (Vec TapFields Global)). AreEarly (λ (tap : TapFields). tap.moment) (joined ls))
+    (sym c.deref.ensures.value) made.early
+
+pub write_settled_ledger-requires-clause-named : goal.write_settled_ledger-requires-clause-named
+write_settled_ledger-requires-clause-named g c κs within =
+    let made = c.in_ok-ends.ensures.order in
+    subst (λ (ls : List (Vec TapFields Global)). All HasName (joined ls)) (sym c.deref.ensures.value)
+    made.named
+
+pub returns-clause-ok : goal.returns-clause-ok
+returns-clause-ok g c =
+    let fares = c.args.table.now in
+    let files = map (λ (f : Vec ℕ Global). f.items) c.args.files.items in
+    let order = joined c.in_ok-ends.field-0.lists.items in
+    let history = posted fares order in
+    let written = c.in_ok-write_settled_ledger.ensures.ok in
+    let text = written.0 in
+    let is : IsLedgerOver fares history None text =
+    subst (λ (ls : List (Vec TapFields Global)). IsLedgerOver fares (posted fares (joined ls)) None text)
+    c.deref.ensures.value written.1 in (
+      text,
+      λ asked ledger. record {
+        history = history;
+        is_settled = c.posted_taps.ensures.history fares files order c.in_ok-ends.ensures.order;
+        shows = subst (λ (b : Bool). MatchBool b (IsLedgerOver fares history None text)
+            (IsTextOver asked.explain None fares files history text)) (sym ledger) is;
+        ends = c.in_ok-ends.field-0.ends.items;
+        ended = c.in_ok-ends.ensures.ended;
+        is_well = c.are_posted.ensures ∙ ap are_posted c.deref-2.ensures.value;
+      },
+      Appends-kept _ _ _ text written.2 c.flush.ensures.kept,
+    )
