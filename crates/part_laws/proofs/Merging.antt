@@ -37,7 +37,7 @@ use Rattle.tap_parts.specs.Parts.{taps_of_uploads}
 use Rattle.settlement.proofs.Histories.{same_after}
 use Rattle.settlement.proofs.Own.{IsNamedBy}
 use Rattle.settlement.proofs.Same.{part_fields, sum_filter}
-use Rattle.settlement.proofs.Told.{fields_named, same_plain}
+use Rattle.settlement.proofs.OwnEntries.{fields_named, same_plain}
 use Rattle.tap_parts.proofs.Total.{tap_cmp_total, tap_cmp_exact}
 use Rattle.settlement.proofs.Unique.{same_sorted}
 use Rattle.fare_service.proofs.PlainFields.{plain_fields}

@@ -1,5 +1,5 @@
 -- The good taps of uploads have tokens of 16 bytes.
-use Rattle.std.proofs.Common.{ℕ, List, [], All, None, map, ap, subst, ◌∙◌}
+use Rattle.std.proofs.Common.{ℕ, List, All, None, map, ap, subst, ◌∙◌}
 use Rattle.fare_table.specs.Fares.{Fares}
 use Rattle.shard_book.specs.Visits.{AreEntriesOf}
 use Rattle.shard_book.specs.declared.entry.Entry.{Entry}
@@ -14,7 +14,7 @@ use Rattle.settlement.proofs.Own.{IsNamedBy}
 use Rattle.settlement.proofs.Placed.{all_map}
 use Rattle.settlement.proofs.Ranges.{has_token_bytes}
 use Rattle.tap_views.proofs.ReadingLemmas.{one_list}
-use Rattle.settlement.proofs.Told.{fields_named}
+use Rattle.settlement.proofs.OwnEntries.{fields_named}
 
 -- a table of nothing: taps have the same tokens under any
 some_fares : Fares

@@ -1,31 +1,19 @@
 -- Settled files: whose taps are where, and in which order.
-use Rattle.std.proofs.Common.{◌≡◌, ℕ, zero, suc, ◌+◌, ◌<◌, ◌≤◌, ◌==◌, List, [], ◌∷◌, ◌++◌, length}
-use Rattle.std.proofs.Common.{map, get_or, Bool, true, false, cond, refl, sym, ap, subst, ◌∙◌}
-use Rattle.std.proofs.Common.{arith, Some, All, inl, inr}
-use Rattle.std.specs.Prelude.{slice_get, ◌⊎◌, Contains}
+use Rattle.std.proofs.Common.{◌≡◌, ℕ, suc, ◌+◌, ◌<◌, ◌≤◌, ◌==◌, List, ◌∷◌, ◌++◌, length}
+use Rattle.std.proofs.Common.{get_or, true, false, cond, sym, ap, ◌∙◌}
+use Rattle.std.proofs.Common.{arith, All, inl, inr}
+use Rattle.std.specs.Prelude.{◌⊎◌}
 use Rattle.std.specs.Cmp.Lexicographic.{slice_cmp}
 use Rattle.std.specs.List.Sorted.{IsSorted}
 use Rattle.std.specs.Ordering.{nat_cmp, is_lt, ordering_then}
 use Rattle.std.specs.declared.cmp.Ordering.TheVariants.{Less, Equal, Greater}
 use Rattle.std.specs.Cmp.{tied_itself}
-use Rattle.std.proofs.lemmas.Bool.{cases_lt, eqb-true, lt-ltb}
+use Rattle.std.proofs.lemmas.Bool.{cases_lt, lt-ltb}
 use Rattle.std.proofs.lemmas.Cmp.{nat_list_cmp_total}
-use Rattle.std.proofs.lemmas.List.{map-append}
 use Rattle.std.proofs.lemmas.List.Elements.{All-head, All-tail, All-nil, All-cons, All-append}
-use Rattle.std.proofs.lemmas.List.Elements.{All-contains, filter_passes}
-use Rattle.std.proofs.lemmas.List.Sorted.{All-permutation, ranks_by, sorted_far}
-use Rattle.tap_views.specs.Encoding.{fields_of}
-use Rattle.tap_views.specs.Layout.{Tap}
+use Rattle.std.proofs.lemmas.List.Sorted.{ranks_by, sorted_far}
 use Rattle.tap_views.specs.declared.encoder.TapFields.{TapFields}
-use Rattle.tap_parts.specs.Parts.{taps_at}
-use Rattle.tap_views.specs.Files.{AreGoodTaps, AreGoodTapsOfEach, HasOneReading}
-use Rattle.fare_service.specs.Plain.{AreApart}
-use Rattle.report_texts.specs.declared.upload_end.UploadEnd.{UploadEnd}
 use Rattle.tap_parts.specs.Canonical.{tap_cmp}
-use Rattle.settlement.specs.Settled.{IsPartFile, IsSettled}
-use Rattle.tap_parts.specs.Parts.{taps_of_uploads}
-use Rattle.settlement.proofs.Histories.{read_fields}
-use Rattle.settlement.proofs.Same.{part_fields}
 use Rattle.tap_parts.proofs.Total.{tap_cmp_total, tap_cmp_exact}
 use Rattle.settlement.proofs.Unique.{tail}
 
@@ -96,116 +84,3 @@ pairs_map R S (x ∷ xs) f pairs = (all_map (R x) (S x) xs (f x) pairs.0, pairs_
 -- in order, and so in order within each token
 pub all_rising : (xs : List TapFields) → IsSorted tap_cmp xs → Pairs Rises xs
 all_rising xs up = pairs_map NotLess Rises xs (λ x y not same. not) (sorted_pairs xs up)
-
--- the fields are of taps of this part
-abbrev pub IsIn : (List ℕ → ℕ) → ℕ → TapFields → Type 0
-IsIn part_of part f = part_of f.token ≡ part
-
--- what is told of the taps of one file
-abbrev pub IsPlaced : (List ℕ → ℕ) → ℕ → List Tap → Type 0
-IsPlaced part_of part taps =
-    All (IsIn part_of part) (map fields_of taps) × Pairs Rises (map fields_of taps)
-
-placed : (part_of : List ℕ → ℕ) (part : ℕ) (all : List Tap) (file : List ℕ) (taps : List Tap) → HasOneReading file
-    → AreGoodTaps file taps → IsPartFile (map fields_of (taps_at part_of part all)) file
-    → IsPlaced part_of part taps
-placed part_of part all file taps cut of is =
-    let same : is.list ≡ map fields_of taps = sym (read_fields file taps is.list cut of is.reads) in
-    let p : TapFields → Bool = λ f. part_of f.token == part in
-    let P : List TapFields → Type 0 = λ fs. All (λ f. p f ≡ true) fs in
-    let Q : List TapFields → Type 0 = λ fs. All (IsIn part_of part) fs × Pairs Rises fs in
-    let passes = subst P (sym (part_fields part_of part all)) (filter_passes p (map fields_of all)) in
-    let moved = All-permutation (λ f. p f ≡ true) (map fields_of (taps_at part_of part all)) is.list
-    is.canonical.moved passes in
-    subst Q same (
-      all_map (λ f. p f ≡ true) (IsIn part_of part) is.list (λ f e.
-          eqb-true (part_of f.token) part e) moved,
-      all_rising is.list
-          is.canonical.sorted,
-    )
-
-pub file_at : (files : List (List ℕ)) (taps : List (List Tap)) (i : ℕ) (ts : List Tap)
-    → All HasOneReading files → AreGoodTapsOfEach files taps → slice_get taps i ≡ Some ts
-    → (file : List ℕ) × (slice_get files i ≡ Some file) × AreGoodTaps file ts × HasOneReading file
-file_at [] [] i ts cuts each there = absurd (cc)
-file_at [] (t ∷ taps) i ts cuts each there = absurd each
-file_at (f ∷ files) [] i ts cuts each there = absurd each
-file_at (f ∷ files) (t ∷ taps) zero ts cuts each there =
-    let same : t ≡ ts = cc in
-    (f, refl, subst (λ x. AreGoodTaps f x) same each.0, All-head HasOneReading f files cuts)
-file_at (f ∷ files) (t ∷ taps) (suc i) ts cuts each there =
-    file_at files taps i ts (All-tail HasOneReading f files cuts) each.1 there
-
-pub all_placed : (uploads : List (List ℕ)) (ends : List UploadEnd) (files : List (List ℕ))
-    (taps : List (List Tap)) → All HasOneReading files → (is : IsSettled uploads ends files)
-    → AreGoodTapsOfEach files taps
-    → (i : ℕ) (ts : List Tap) → slice_get taps i ≡ Some ts → IsPlaced is.part_of i ts
-all_placed uploads ends files taps cuts is each i ts there =
-    let (file, at, of, cut) = file_at files taps i ts cuts each there in
-    placed is.part_of i (taps_of_uploads is.taps) file ts cut of (is.each i file at)
-
--- ---- no token has taps in two files
-in_its_part : (part_of : List ℕ → ℕ) (part : ℕ) (taps : List Tap) (tap : Tap)
-    → All (IsIn part_of part) (map fields_of taps) → Contains taps tap
-    → part_of tap.token ≡ part
-in_its_part part_of part taps tap all there =
-    All-contains (λ t. part_of t.token ≡ part) taps tap (unmapped taps all) there
-  where
-    unmapped : (ts : List Tap) → All (IsIn part_of part) (map fields_of ts)
-        → All (λ (t : Tap). part_of t.token ≡ part) ts
-    unmapped [] every = All-nil (λ (t : Tap). part_of t.token ≡ part)
-    unmapped (t ∷ ts) every =
-        All-cons (λ (x : Tap). part_of x.token ≡ part) t ts
-        (All-head (IsIn part_of part) (fields_of t) (map fields_of ts) every)
-        (unmapped ts (All-tail (IsIn part_of part) (fields_of t) (map fields_of ts) every))
-
-pub apart : (uploads : List (List ℕ)) (ends : List UploadEnd) (files : List (List ℕ))
-    (taps : List (List Tap)) → All HasOneReading files → IsSettled uploads ends files
-    → AreGoodTapsOfEach files taps → AreApart taps
-apart uploads ends files taps cuts is each =
-    λ first second ones others tap other at_first at_second has has_other same.
-    let one = (all_placed uploads ends files taps cuts is each first ones at_first).0 in
-    let two = (all_placed uploads ends files taps cuts is each second others at_second).0 in
-    sym (in_its_part is.part_of first ones tap one has)
-    ∙ ap is.part_of same
-    ∙ in_its_part is.part_of second others other two has_other
-
--- ---- one file after the other
-later : (part_of : List ℕ → ℕ) (n : ℕ) (taps : List (List Tap))
-    → ((i : ℕ) (ts : List Tap) → slice_get taps i ≡ Some ts → IsPlaced part_of (n + i) ts)
-    → All (λ (f : TapFields). n ≤ part_of f.token) (map fields_of (taps_of_uploads taps))
-later part_of n [] each = All-nil (λ (f : TapFields). n ≤ part_of f.token)
-later part_of n (t ∷ taps) each =
-    let P : TapFields → Type 0 = λ f. n ≤ part_of f.token in
-    let Q : List TapFields → Type 0 =
-    λ fs. All (λ (f : TapFields). n ≤ part_of f.token) fs in
-    let here = all_map (IsIn part_of (n + 0)) P (map fields_of t) (λ f e. omega (arith, e))
-    (each 0 t refl).0 in
-    let next = later part_of (n + 1) taps (λ i ts there.
-    subst (λ k. IsPlaced part_of k ts) (omega arith) (each (suc i) ts there)) in
-    let rest = all_map (λ (f : TapFields). n + 1 ≤ part_of f.token) P
-    (map fields_of (taps_of_uploads taps)) (λ f e. omega (arith, e)) next in
-    subst Q (sym (map-append fields_of t (taps_of_uploads taps)))
-    (All-append P (map fields_of t) (map fields_of (taps_of_uploads taps)) here rest)
-
-pub all_rise : (part_of : List ℕ → ℕ) (n : ℕ) (taps : List (List Tap))
-    → ((i : ℕ) (ts : List Tap) → slice_get taps i ≡ Some ts → IsPlaced part_of (n + i) ts)
-    → Pairs Rises (map fields_of (taps_of_uploads taps))
-all_rise part_of n [] each = tt
-all_rise part_of n (t ∷ taps) each =
-    let Q : List TapFields → Type 0 = λ fs. Pairs Rises fs in
-    let shift : (i : ℕ) (ts : List Tap) → slice_get taps i ≡ Some ts
-    → IsPlaced part_of (n + 1 + i) ts =
-    λ i ts there. subst (λ k. IsPlaced part_of k ts) (omega arith) (each (suc i) ts there) in
-    let here = each 0 t refl in
-    let rest = all_rise part_of (n + 1) taps shift in
-    let behind = later part_of (n + 1) taps shift in
-    let cross = all_map (IsIn part_of (n + 0)) (λ f. All (Rises f) (map fields_of (taps_of_uploads taps)))
-    (map fields_of t)
-    (λ f e. all_map (λ (g : TapFields). n + 1 ≤ part_of g.token) (Rises f)
-    (map fields_of (taps_of_uploads taps))
-    (λ g far same. absurd (let h : part_of f.token
-    ≡ part_of g.token = ap (λ t. part_of t) same in
-    omega (arith, e, far, h))) behind) here.0 in
-    subst Q (sym (map-append fields_of t (taps_of_uploads taps)))
-    (pairs_append Rises (map fields_of t) (map fields_of (taps_of_uploads taps)) here.1 rest cross)

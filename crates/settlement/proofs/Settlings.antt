@@ -1,5 +1,5 @@
 -- Laws of settled histories.
-use Rattle.std.proofs.Common.{◌≡◌, ℕ, List, [], ◌∷◌, ◌++◌, map, refl, sym, ap, subst, ◌∙◌, All}
+use Rattle.std.proofs.Common.{◌≡◌, ℕ, List, ◌∷◌, ◌++◌, map, refl, sym, ap, subst, ◌∙◌, All}
 use Rattle.std.specs.List.Sorted.{IsPermutation}
 use Rattle.std.proofs.lemmas.List.Elements.{All-head, All-tail, All-contains}
 use Rattle.std.proofs.lemmas.List.Sorted.{All-permutation, sum_by-IsPermutation}
@@ -33,7 +33,7 @@ use Rattle.settlement.proofs.Placed.{all_rising, no_earlier, Pairs, Rises}
 use Rattle.tap_views.proofs.ReadingLemmas.{one_list}
 use Rattle.settlement.proofs.Sorting.{canonical_order}
 use Rattle.settlement.proofs.Stale.{before_rises, fields, has_twin, same_fields}
-use Rattle.settlement.proofs.Told.{fields_named}
+use Rattle.settlement.proofs.OwnEntries.{fields_named}
 use Rattle.tap_parts.proofs.Total.{tap_cmp_total, tap_cmp_exact}
 use Rattle.settlement.proofs.Unique.{same_sorted}
 

@@ -1,5 +1,5 @@
 -- The histories and the sums of taps that are posted token by token.
-use Rattle.std.proofs.Common.{◌≡◌, ◌≢◌, ℕ, suc, ◌+◌, ◌<◌, ◌≤◌, Bool, true, false, ◌||◌, List, [], ◌∷◌, ◌++◌}
+use Rattle.std.proofs.Common.{◌≡◌, ◌≢◌, ℕ, suc, ◌+◌, ◌<◌, ◌≤◌, Bool, true, false, ◌||◌, List, ◌∷◌, ◌++◌}
 use Rattle.std.proofs.Common.{length, get_or, take, map, filter, cond, refl, sym, ap, ◌∙◌}
 use Rattle.std.proofs.Common.{arith, All, inl, inr}
 use Rattle.std.specs.Prelude.{◌⊎◌}

@@ -1,6 +1,6 @@
 //! The bill of all parts, made by several threads.
 
-ghost use Rattle.std.specs.Prelude.{◌≡◌, ◌+◌, ◌^◌, ◌≤◌, ◌++◌, All, List, length, map, IfOk, OnOk};
+ghost use Rattle.std.specs.Prelude.{◌≡◌, ◌+◌, ◌^◌, ◌≤◌, All, length, IfOk, OnOk};
 ghost use Rattle.settlement.specs.inside.Billing.{ArePartsInOrder, HasBillRoom, IsBillOfParts};
 ghost use Rattle.settlement.specs.inside.Billing.{IsPartBilled, IsSoundPart};
 

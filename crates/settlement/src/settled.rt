@@ -6,11 +6,11 @@ ghost use Rattle.tap_views.specs.Encoding.{AreEarly};
 ghost use Rattle.shard_book.specs.declared.entry.Entry.{Entry};
 ghost use Rattle.settlement.specs.Bills.{IsBillOf};
 ghost use Rattle.settlement.specs.Posted.{token_of_tap};
-ghost use Rattle.settlement.specs.Settled.{IsSettled, IsSettledHistory};
+ghost use Rattle.settlement.specs.Settled.{IsSettledHistory};
 ghost use Rattle.settlement.specs.SettledTaps.{AreSettledTaps, AreSettledTapsOf};
 ghost use Rattle.settlement.specs.inside.SplitUploads.{AreSplit};
 
-use crate::arranging::{files_by_threads, lists_by_threads};
+use crate::arranging::lists_by_threads;
 use crate::bill::Bill;
 use crate::billing::bill_by_threads;
 use crate::memory::release;
@@ -32,23 +32,14 @@ use tap_views::{TapFields, push_sample};
 /// larger ones the order.
 const BYTES_OF_PART: usize = 1_120_000;
 
-/// The most parts, since a service takes no more uploads.
+/// The most parts.
 const MAX_PARTS: usize = 65_535;
 
-/// How many times the uploads, and then the parts, are halved: four threads share the work.
+/// How many times the uploads are halved: four threads share the work.
 const HALVINGS: u32 = 2;
 
 /// The most workers that arrange parts.
 const MAX_WORKERS: u32 = 64;
-
-/// What uploads are settled as.
-#[derive(Drop)]
-pub struct Settled {
-    /// How each given upload ends.
-    pub ends: Vec<UploadEnd>,
-    /// The upload of each part: the part's taps, in canonical order.
-    pub files: Vec<Vec<u8>>,
-}
 
 /// How many parts there are to be. They are counted by the uploads' bytes, whatever these are.
 fn parts_for(uploads: &[Vec<u8>]) -> u32
@@ -97,23 +88,6 @@ fn split<R: Threads + Sync>(
     let SplitTaps { lists, ends } = split_by_threads(rt, alloc, &ranges, uploads, HALVINGS)?;
     let parts = pieces_of(alloc, lists, ranges.len())?;
     Ok(SplitUploads { ends, parts })
-}
-
-/// Settles uploads. Four threads split the taps by part, and four put the parts' taps into order;
-/// where one is refused, another does its work. Its one error is want of memory. The bytes of an
-/// upload are given back as soon as its taps are split, and the taps of a part as soon as its
-/// upload is made.
-pub fn settle<R: Threads + Sync>(
-    rt: &R,
-    alloc: Global,
-    uploads: Vec<Vec<u8>>,
-) -> Result<Settled, NoMemory>
-    ensures { IfOk result (λ made. IsSettled (map (λ upload. upload.items) uploads.items)
-        made.ends.items (map (λ file. file.items) made.files.items)) }
-{
-    let SplitUploads { ends, parts } = split(rt, alloc, uploads)?;
-    let files = files_by_threads(rt, alloc, parts, HALVINGS)?;
-    Ok(Settled { ends, files })
 }
 
 /// Uploads and their bill.

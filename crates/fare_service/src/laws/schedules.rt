@@ -23,7 +23,7 @@ ghost use Rattle.fare_service.specs.Printed.{IsStatementOf, report_of};
 ghost use Rattle.fare_service.specs.Shares.{Worked};
 
 use crate::outcome::Outcome;
-use crate::upload_end::UploadEnd;
+use report_texts::UploadEnd;
 use shard_book::laws::one_rising_list;
 use tap_views::laws::one_reading_each;
 
