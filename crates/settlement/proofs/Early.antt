@@ -1,5 +1,5 @@
 -- The taps of uploads have moments that a file can have.
-use Rattle.std.proofs.Common.{ℕ, List, ◌∷◌, sym, subst, All}
+use Rattle.std.proofs.Common.{ℕ, List, ◌∷◌, sym, subst, All, []}
 use Rattle.std.proofs.lemmas.List.Elements.{All-nil, All-append}
 use Rattle.tap_views.specs.Layout.{Tap}
 use Rattle.tap_parts.specs.Parts.{taps_of_uploads}

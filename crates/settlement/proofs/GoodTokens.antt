@@ -1,5 +1,5 @@
 -- The good taps of uploads have tokens of 16 bytes.
-use Rattle.std.proofs.Common.{ℕ, List, All, None, map, ap, subst, ◌∙◌}
+use Rattle.std.proofs.Common.{ℕ, List, All, None, map, ap, subst, ◌∙◌, []}
 use Rattle.fare_table.specs.Fares.{Fares}
 use Rattle.shard_book.specs.Visits.{AreEntriesOf}
 use Rattle.shard_book.specs.declared.entry.Entry.{Entry}

@@ -1,5 +1,5 @@
 -- The taps of one token, in two lists that have the same taps and are in order within each token.
-use Rattle.std.proofs.Common.{◌≡◌, List, ◌∷◌, map, filter, cond, Bool, true, false, refl, sym}
+use Rattle.std.proofs.Common.{◌≡◌, List, ◌∷◌, map, filter, cond, Bool, true, false, refl, sym, []}
 use Rattle.std.proofs.Common.{ap, ◌∙◌, All, arith}
 use Rattle.std.specs.List.Sorted.{IsSorted}
 use Rattle.std.specs.Ordering.{is_lt}

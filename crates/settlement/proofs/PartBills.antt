@@ -1,7 +1,7 @@
 -- Bills of parts, and of chunks of parts, one behind the other.
 use Rattle.std.proofs.Common.{◌≡◌, ℕ, suc, ◌+◌, ◌*◌, ◌/◌, ◌%◌, min, ◌<◌, ◌≤◌, ◌^◌, List, ◌∷◌, ◌++◌}
 use Rattle.std.proofs.Common.{length, map, flat_map, take, drop, refl, sym, ap, subst, ◌∙◌, arith, All}
-use Rattle.std.proofs.Common.{append-nil, append_assoc, length-append, drop-drop}
+use Rattle.std.proofs.Common.{append-nil, append_assoc, length-append, drop-drop, []}
 use Rattle.std.specs.Prelude.{Result, Ok, IfOk, slice_index_or}
 use Rattle.std.specs.declared.cmp.Ordering.TheVariants.{Less}
 use Rattle.std.proofs.lemmas.Grind.{div_ceil_times}

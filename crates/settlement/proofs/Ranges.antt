@@ -1,5 +1,5 @@
 -- Parts that are ranges of tokens: their histories, one behind the other, are that of all taps.
-use Rattle.std.proofs.Common.{◌≡◌, ℕ, zero, suc, ◌<◌, ◌≤◌, false, List, ◌∷◌, ◌++◌}
+use Rattle.std.proofs.Common.{◌≡◌, ℕ, zero, suc, ◌<◌, ◌≤◌, false, List, ◌∷◌, ◌++◌, []}
 use Rattle.std.proofs.Common.{length, get_or, map, flat_map, refl, sym, ap, subst, ◌∙◌, arith, All}
 use Rattle.std.proofs.Common.{inl, inr, w64, take, drop, ◌^◌}
 use Rattle.std.specs.Prelude.{◌⊎◌}

@@ -1,6 +1,6 @@
 -- The bill of the parts of uploads is that of their settled history.
 use Rattle.std.proofs.Common.{◌≡◌, ◌==◌, ℕ, zero, suc, ◌^◌, ◌<◌, ◌≤◌, List, ◌∷◌, ◌++◌, All, Bool}
-use Rattle.std.proofs.Common.{length, get_or, map, flat_map, refl, sym, ap, subst, ◌∙◌, arith}
+use Rattle.std.proofs.Common.{length, get_or, map, flat_map, refl, sym, ap, subst, ◌∙◌, arith, []}
 use Rattle.std.specs.List.{AllZip}
 use Rattle.std.proofs.lemmas.Bool.{eqb-true}
 use Rattle.std.proofs.lemmas.List.{get_or_default}

@@ -1,5 +1,5 @@
 -- Lists that are taken apart from the front.
-use Rattle.std.proofs.Common.{◌≡◌, List, ◌∷◌, ◌++◌, length, arith, All, refl}
+use Rattle.std.proofs.Common.{◌≡◌, List, ◌∷◌, ◌++◌, length, arith, All, refl, []}
 use Rattle.std.proofs.lemmas.List.Elements.{All-head, All-tail, All-nil, All-cons}
 
 pub nothing : {X : Type 0} (xs : List X) → length xs ≡ 0 → xs ≡ []

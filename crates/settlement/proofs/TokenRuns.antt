@@ -1,6 +1,6 @@
 -- The histories and the sums of taps that are posted token by token.
 use Rattle.std.proofs.Common.{◌≡◌, ◌≢◌, ℕ, suc, ◌+◌, ◌<◌, ◌≤◌, Bool, true, false, ◌||◌, List, ◌∷◌, ◌++◌}
-use Rattle.std.proofs.Common.{length, get_or, take, map, filter, cond, refl, sym, ap, ◌∙◌}
+use Rattle.std.proofs.Common.{length, get_or, take, map, filter, cond, refl, sym, ap, ◌∙◌, []}
 use Rattle.std.proofs.Common.{arith, All, inl, inr}
 use Rattle.std.specs.Prelude.{◌⊎◌}
 use Rattle.std.specs.Cmp.Lexicographic.{slice_cmp}

@@ -1,5 +1,5 @@
 -- Taps that are posted in their order, by their fields.
-use Rattle.std.specs.Prelude.{◌≡◌, List, ◌∷◌, ◌++◌, filter}
+use Rattle.std.specs.Prelude.{◌≡◌, List, ◌∷◌, ◌++◌, filter, []}
 use Rattle.tap_views.specs.declared.encoder.TapFields.{TapFields}
 use Rattle.fare_table.specs.Fares.{Fares}
 use Rattle.fare_table.specs.Token.{Fits, bytes_of, token_eq}

@@ -1,6 +1,6 @@
 //! The bill of settled taps: their sums, which each token's account gives in turn.
 
-ghost use Rattle.std.specs.Prelude.{◌≡◌, ◌≢◌, ◌<◌, ◌≤◌, ◌++◌, ◌∷◌, ℕ, List, All, length, map};
+ghost use Rattle.std.specs.Prelude.{◌≡◌, ◌≢◌, ◌<◌, ◌≤◌, ◌++◌, ◌∷◌, ℕ, List, All, length, map, []};
 ghost use Rattle.std.specs.Prelude.{slice_index_or, take, IfOk, OnOk};
 ghost use Rattle.std.specs.List.Sorted.{IsSorted};
 ghost use Rattle.fare_table.specs.declared.token.Token.{Token};

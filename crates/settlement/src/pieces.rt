@@ -1,6 +1,6 @@
 //! The taps of each part, in the pieces that several threads made of it.
 
-ghost use Rattle.std.specs.Prelude.{◌≡◌, ◌<◌, ◌++◌, ℕ, All, flat_map, length, IfOk, OnOk};
+ghost use Rattle.std.specs.Prelude.{◌≡◌, ◌<◌, ◌++◌, ℕ, All, flat_map, length, IfOk, OnOk, []};
 ghost use Rattle.std.specs.Prelude.{slice_index_or};
 ghost use Rattle.settlement.specs.inside.SplitTaps.{ArePiecesAdded, in_part};
 

@@ -1,5 +1,5 @@
 -- Lists that share no token.
-use Rattle.std.specs.Prelude.{◌≡◌, List, ◌∷◌, All}
+use Rattle.std.specs.Prelude.{◌≡◌, List, ◌∷◌, All, []}
 use Rattle.std.specs.declared.cmp.Ordering.TheVariants.{Less}
 use Rattle.fare_table.specs.Token.{token_cmp}
 use Rattle.fare_table.specs.declared.token.Token.{Token}

@@ -1,6 +1,6 @@
 -- What is known of a bill while more taps are posted.
 use Rattle.std.specs.Prelude.{◌≡◌, ◌≢◌, ◌+◌, ◌*◌, ◌^◌, ◌<◌, ◌≤◌, ℕ, List, ◌∷◌, ◌++◌, All, flat_map}
-use Rattle.std.specs.Prelude.{length, map, slice_index_or}
+use Rattle.std.specs.Prelude.{length, map, slice_index_or, []}
 use Rattle.std.specs.List.{AllZip}
 use Rattle.fare_table.specs.Fares.{Fares}
 use Rattle.tap_views.specs.declared.encoder.TapFields.{TapFields}

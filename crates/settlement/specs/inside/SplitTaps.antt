@@ -1,5 +1,5 @@
 -- What is known of uploads whose taps were split into parts. Private functions alone cite this.
-use Rattle.std.specs.Prelude.{◌≡◌, ◌<◌, ◌++◌, ℕ, List, All, length, map, flat_map}
+use Rattle.std.specs.Prelude.{◌≡◌, ◌<◌, ◌++◌, ℕ, List, All, length, map, flat_map, []}
 use Rattle.std.specs.Prelude.{slice_index_or}
 use Rattle.tap_views.specs.Encoding.{fields_of}
 use Rattle.tap_views.specs.Layout.{Tap}

@@ -1,3 +1,4 @@
+use Rattle.std.proofs.Common.{[]}
 use Rattle.std.proofs.Common.{◌<◌, List, ◌∷◌, length, drop, refl, sym, ap, subst, ◌∙◌, arith, All, rules}
 use Rattle.std.specs.Prelude.{slice_index_or, IfOk}
 use Rattle.std.proofs.lemmas.List.{nil_from_length}

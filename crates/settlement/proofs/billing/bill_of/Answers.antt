@@ -1,4 +1,4 @@
-use Rattle.std.proofs.Common.{◌+◌, List, ◌∷◌, ◌++◌, take, sym, ap, subst, ◌∙◌, arith}
+use Rattle.std.proofs.Common.{◌+◌, List, ◌∷◌, ◌++◌, take, sym, ap, subst, ◌∙◌, arith, []}
 use Rattle.std.proofs.lemmas.List.{length-take, take_all, take_more}
 use Rattle.tap_views.specs.declared.encoder.TapFields.{TapFields}
 use Rattle.settlement.specs.inside.Billing.{ArePartsInOrder, IsBillOfParts, IsSoundPart}

@@ -1,4 +1,4 @@
-use Rattle.std.proofs.Common.{◌≡◌, List, ◌∷◌, ◌++◌, append-nil, append_assoc, sym, ap, ◌∙◌}
+use Rattle.std.proofs.Common.{◌≡◌, List, ◌∷◌, ◌++◌, append-nil, append_assoc, sym, ap, ◌∙◌, []}
 use Rattle.std.proofs.Common.{true, false}
 use Rattle.fare_table.specs.Token.{token_eq}
 use Rattle.fare_table.specs.declared.token.Token.{Token}

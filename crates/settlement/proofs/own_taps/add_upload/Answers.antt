@@ -1,4 +1,4 @@
-use Rattle.std.proofs.Common.{List, ◌++◌, ◌∷◌, length, Ok, Err, Some, None}
+use Rattle.std.proofs.Common.{List, ◌++◌, ◌∷◌, length, Ok, Err, Some, None, []}
 use Rattle.std.proofs.Common.{ap, ◌∙◌, sym, refl, subst, append_assoc, append-nil, arith}
 use Rattle.std.proofs.Common.{length-append}
 use Rattle.tap_views.specs.Files.{Item, IsReading}

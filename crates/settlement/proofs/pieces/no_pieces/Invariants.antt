@@ -1,4 +1,4 @@
-use Rattle.std.proofs.Common.{◌≡◌, ℕ, ◌<◌, length, get_or}
+use Rattle.std.proofs.Common.{◌≡◌, ℕ, ◌<◌, length, get_or, []}
 use Rattle.settlement.proofs.pieces.no_pieces.Given as goal
 
 abbrev pub invariant-loop : goal.invariant-loop
