@@ -1,5 +1,5 @@
 -- The tokens of taps that are posted, and the entries of one token.
-use Rattle.std.proofs.Common.{◌≡◌, List, ◌∷◌, map, sym, ap, ◌∙◌, All}
+use Rattle.std.proofs.Common.{◌≡◌, List, [], ◌∷◌, map, sym, ap, ◌∙◌, All}
 use Rattle.std.proofs.lemmas.List.Elements.{All-nil, All-cons}
 use Rattle.fare_table.specs.Fares.{Fares}
 use Rattle.fare_table.specs.Token.{bytes_of}
